@@ -1,0 +1,17 @@
+-- What was read is the front of the reader's bytes, and isn't too long yet.
+use Rattle.std.proofs.Common.{◌≡◌, ◌+◌, ◌-◌, ◌≤◌, length, vec_len, vec_items}
+use Rattle.std.specs.Io.KnownBytes.{Consumes}
+use Rattle.isort_cmd.specs.Metered.{inner_of, last_of}
+use Rattle.isort_cmd.specs.declared.metered.Last.TheVariants.{Fine}
+use Rattle.isort_cmd.proofs.read.read_text.Given as goal
+
+abbrev pub invariant-pieces : goal.invariant-pieces
+invariant-pieces g l = record {
+  fine : last_of l.reader ≡ Fine;
+  within : vec_len l.text ≤ l.max;
+  room : length l.piece ≡ 65536;
+  front : Consumes (g.R.Read.remaining (inner_of l.initial.reader)) (g.R.Read.remaining (inner_of l.reader)) (vec_items l.text);
+}
+
+abbrev pub decreases-pieces : goal.decreases-pieces
+decreases-pieces g l = l.max + 1 - vec_len l.text

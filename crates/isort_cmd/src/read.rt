@@ -1,0 +1,63 @@
+ghost use Rattle.std.specs.Prelude.{◌≡◌, ◌<◌, ◌≤◌, ◌^◌, IfOk, OnOk, IfErr, IfSome, length};
+ghost use Rattle.std.specs.Io.{ReadsAtMost};
+ghost use Rattle.std.specs.Io.KnownBytes.{IsAtEnd, ReadConsumes};
+ghost use Rattle.isort_cmd.specs.Metered.{inner_of, last_of};
+ghost use Rattle.isort_cmd.specs.Steps.{IsInputError, IsReadError};
+
+use crate::error::RunError;
+use crate::metered::{Last, MOST_INTERRUPTIONS, Metered};
+use std::alloc::Global;
+use std::io::Read;
+
+// How many bytes a read asks for.
+const PIECE: usize = 65536;
+
+// One read, tried again where it was interrupted fewer than 1000 times in a row.
+fn read_piece<R: Read>(reader: &mut Metered<R>, piece: &mut [u8]) -> Result<usize, RunError>
+    requires { last_of reader.old ≡ Last.Fine }
+    ensures bound { ReadsAtMost result piece.new }
+    ensures bytes { ReadConsumes (R.remaining (inner_of reader.old)) (R.remaining (inner_of reader.new)) result piece.new }
+    ensures fine { OnOk result (last_of reader.new ≡ Last.Fine) }
+    ensures err { IfErr result (λ e. IsReadError e (last_of reader.new)) }
+{
+    'tries: loop {
+        if let Ok(count) = reader.read(piece) {
+            return Ok(count);
+        }
+        match reader.last() {
+            Last::Interrupted(count) if count < MOST_INTERRUPTIONS => {}
+            Last::Interrupted(_) => return Err(RunError::NeverEnds),
+            _ => return Err(RunError::Read),
+        }
+    }
+}
+
+// All bytes of the reader, of which there are at most `max`.
+pub(crate) fn read_text<R: Read>(
+    alloc: Global,
+    reader: &mut Metered<R>,
+    max: u64,
+) -> Result<Vec<u8>, RunError>
+    requires fine { last_of reader.old ≡ Last.Fine }
+    requires small { max ≤ 2 ^ 62 }
+    ensures within { IfOk result (λ text. length text.items ≤ max) }
+    ensures whole { IfOk result (λ text. IfSome (R.remaining (inner_of reader.old)) (λ all. all ≡ text.items)) }
+    ensures end { OnOk result (IsAtEnd (R.remaining (inner_of reader.new))) }
+    ensures errors { IfErr result IsInputError }
+    ensures read { result ≡ Err RunError.Read → last_of reader.new ≡ Last.Failed }
+    ensures never_ends { result ≡ Err RunError.NeverEnds → last_of reader.new ≡ Last.Interrupted 1000 }
+    ensures too_long { result ≡ Err RunError.TooLong → IfSome (R.remaining (inner_of reader.old)) (λ all. max < length all) }
+{
+    let mut text = Vec::new(alloc);
+    let mut piece = [0u8; PIECE];
+    'pieces: loop {
+        let count = read_piece(reader, &mut piece)?;
+        if count == 0 {
+            return Ok(text);
+        }
+        text.extend_from_slice(&piece[..count])?;
+        if text.len() as u64 > max {
+            return Err(RunError::TooLong);
+        }
+    }
+}

@@ -1,0 +1,207 @@
+ghost use Rattle.std.specs.Prelude.{◌≤◌, ◌^◌};
+
+use super::*;
+use py_lines::{Fault, FaultKind};
+use std::alloc::Global;
+use std::io;
+use std::io::{ErrorKind, Read, Write};
+use std::test::Fail;
+
+const ALL: FindOptions = FindOptions {
+    unique: None,
+    top_only: false,
+};
+
+const FIRST: &str = "import os, sys as s  # import x\n\"import a\"\nimport os.path\n";
+
+const FIRST_LINES: &str = "-:1 import os\n-:1 import sys as s\n-:3 import os.path\n";
+
+const fn fault(kind: FaultKind, offset: u64, line: u64) -> RunError {
+    RunError::Fault(Fault { kind, offset, line })
+}
+
+// Lists a text from memory into memory.
+fn listed(alloc: Global, text: &str, out: &mut Vec<u8>, max: u64) -> Result<(), RunError>
+    requires { max ≤ 2 ^ 62 }
+{
+    let mut reader = Metered::new(text.as_bytes());
+    let mut writer = Metered::new(Vec::new(alloc));
+    let result = identify(alloc, &mut reader, &mut writer, "-", ALL, max);
+    *out = writer.into_inner();
+    result
+}
+
+#[test]
+fn lists_texts(rt: HostRuntime) -> Result<(), Fail> {
+    let cases = [
+        (FIRST, FIRST_LINES, Ok(())),
+        ("", "", Ok(())),
+        (
+            "import a.b as c, d",
+            "-:1 import a.b as c\n-:1 import d\n",
+            Ok(()),
+        ),
+        ("  import a\n", "-:1 indented import a\n", Ok(())),
+        (
+            "import a\nfrom b import c\n",
+            "-:1 import a\n",
+            Err(fault(FaultKind::BadImport, 9, 2)),
+        ),
+        (
+            "import a\nx = (1)\n",
+            "-:1 import a\n",
+            Err(fault(FaultKind::BadChar, 13, 2)),
+        ),
+        ("import as\n", "", Err(fault(FaultKind::BadImport, 0, 1))),
+        ("import a,\n", "", Err(fault(FaultKind::BadImport, 0, 1))),
+        ("import a . b\n", "-:1 import a.b\n", Ok(())),
+        ("x = \"a\n", "", Err(fault(FaultKind::OpenString, 4, 1))),
+        ("r\"a\"", "", Err(fault(FaultKind::BadChar, 1, 1))),
+    ];
+    for (text, lines, want) in cases {
+        let mut out = Vec::new(rt.alloc());
+        let got = listed(rt.alloc(), text, &mut out, 1000);
+        assert_eq!(rt; got, want, "{text:?}");
+        assert_eq!(rt; out.as_slice(), lines.as_bytes(), "{text:?}");
+    }
+    Ok(())
+}
+
+#[test]
+fn takes_at_most_max(rt: HostRuntime) -> Result<(), Fail> {
+    let mut out = Vec::new(rt.alloc());
+    assert_eq!(rt;
+        listed(rt.alloc(), "a = 1\n", &mut out, 5),
+        Err(RunError::TooLong)
+    );
+    assert!(rt; out.is_empty());
+    assert_eq!(rt; listed(rt.alloc(), "a = 1\n", &mut out, 6), Ok(()));
+    Ok(())
+}
+
+// A writer that takes at most `piece` bytes a call, and `room` bytes in all; then it fails.
+#[derive(Drop)]
+struct Narrow {
+    taken: Vec<u8>,
+    piece: usize,
+    room: usize,
+}
+
+impl Write for Narrow {
+    fn write(&mut self, buf: &[u8]) -> io::Result<usize> {
+        let count = buf.len().min(self.piece).min(self.room);
+        if count == 0 {
+            return Err(io::Error::from(ErrorKind::Other));
+        }
+        self.taken.extend_from_slice(&buf[..count])?;
+        self.room -= count;
+        Ok(count)
+    }
+
+    fn flush(&mut self) -> io::Result<()> {
+        Ok(())
+    }
+}
+
+#[test]
+fn writes_in_pieces(rt: HostRuntime) -> Result<(), Fail> {
+    let cases = [
+        (1000, 5, "-:1 i", Err(RunError::Write), Last::Failed),
+        (1, 1000, FIRST_LINES, Ok(()), Last::Fine),
+    ];
+    for (piece, room, lines, want, last) in cases {
+        let mut reader = Metered::new(FIRST.as_bytes());
+        let mut writer = Metered::new(Narrow {
+            taken: Vec::new(rt.alloc()),
+            piece,
+            room,
+        });
+        let got = identify(rt.alloc(), &mut reader, &mut writer, "-", ALL, 1000);
+        assert_eq!(rt; got, want);
+        assert_eq!(rt; writer.last(), last);
+        assert_eq!(rt; writer.into_inner().taken.as_slice(), lines.as_bytes());
+    }
+    Ok(())
+}
+
+// A reader whose every call ends in this error.
+#[derive(Drop)]
+struct Broken {
+    kind: ErrorKind,
+}
+
+impl Read for Broken {
+    fn read(&mut self, _buf: &mut [u8]) -> io::Result<usize> {
+        Err(io::Error::from(self.kind))
+    }
+}
+
+#[test]
+fn gives_up_reading(rt: HostRuntime) -> Result<(), Fail> {
+    let cases = [
+        (ErrorKind::Other, RunError::Read, Last::Failed),
+        (
+            ErrorKind::Interrupted,
+            RunError::NeverEnds,
+            Last::Interrupted(1000),
+        ),
+    ];
+    for (kind, want, last) in cases {
+        let mut reader = Metered::new(Broken { kind });
+        let mut writer = Metered::new(Vec::new(rt.alloc()));
+        let got = identify(rt.alloc(), &mut reader, &mut writer, "-", ALL, 1000);
+        assert_eq!(rt; got, Err(want));
+        assert_eq!(rt; reader.last(), last);
+        assert!(rt; writer.into_inner().is_empty());
+    }
+    Ok(())
+}
+
+#[test]
+fn notes_how_calls_end(rt: HostRuntime) -> Result<(), Fail> {
+    let mut reader = Metered::new(Broken {
+        kind: ErrorKind::Interrupted,
+    });
+    let mut piece = [0u8; 4];
+    assert!(rt; reader.read(&mut piece).is_err());
+    assert!(rt; reader.read(&mut piece).is_err());
+    assert_eq!(rt; reader.last(), Last::Interrupted(2));
+    let mut writer = Metered::new([0u8; 0]).into_inner();
+    let mut full = Metered::new(&mut writer[..]);
+    assert_eq!(rt; full.write(b"a")?, 0);
+    assert_eq!(rt; full.last(), Last::Empty);
+    assert_eq!(rt; full.write(b"")?, 0);
+    assert_eq!(rt; full.last(), Last::Fine);
+    full.flush()?;
+    Ok(())
+}
+
+#[test]
+fn tells_errors(rt: HostRuntime) -> Result<(), Fail> {
+    let cases = [
+        (fault(FaultKind::BadUtf8, 1, 1), "-:1: F1 not UTF-8\n"),
+        (
+            fault(FaultKind::BadChar, 13, 2),
+            "-:2: F2 unexpected character\n",
+        ),
+        (
+            fault(FaultKind::OpenString, 4, 1),
+            "-:1: F3 string not closed\n",
+        ),
+        (
+            fault(FaultKind::BadImport, 9, 2),
+            "-:2: F9 import statement not understood\n",
+        ),
+        (RunError::Read, "isort: -: R1 cannot be read\n"),
+        (RunError::TooLong, "isort: -: R2 is too long\n"),
+        (RunError::Write, "isort: -: R3 cannot be written\n"),
+        (RunError::Memory, "isort: -: R5 out of memory\n"),
+        (RunError::NeverEnds, "isort: -: R6 reader never ends\n"),
+    ];
+    for (error, want) in cases {
+        let text = fault_text(rt.alloc(), "-", &error)?;
+        assert_eq!(rt; text.as_str(), want);
+    }
+    binds_one_list();
+    Ok(())
+}

@@ -1,0 +1,5 @@
+pub mod Documents
+pub mod KeyLaws
+pub mod Prefixes
+pub mod Readings
+pub mod Table

@@ -1,0 +1,8 @@
+-- The list in the code is the one that the definition names.
+use Rattle.std.proofs.Common.{rules}
+use Rattle.isort_settings.specs.Keys.{standard_library}
+use Rattle.isort_settings.proofs.standard_library.modules.Goals as goal
+
+pub returns : goal.returns
+unfolding standard_library
+returns c = search rules

@@ -1,0 +1,5 @@
+pub mod Keys
+pub mod Values
+pub mod Reading
+pub mod Pyproject
+pub mod Sections

@@ -1,0 +1,45 @@
+-- The section of a module: the first pair of a dotted prefix, longest first, and a list that holds it.
+use Rattle.std.specs.Prelude.{ℕ, ◌==◌, Bool, if◌then◌else◌, List, [], ◌∷◌, ◌++◌, map, filter, length, take, slice_index, Option, option_map, find, flat_map, bytes_eq, zero, suc}
+use Rattle.std.specs.List.{list_any}
+use Rattle.std.specs.Option.{option_map_or}
+use Rattle.std.specs.Str.{byte}
+use Rattle.isort_settings.specs.declared.section.Section.{Section}
+use Rattle.isort_settings.specs.declared.section.Section.TheVariants.{Future, Stdlib, ThirdParty, FirstParty, LocalFolder}
+use Rattle.isort_settings.specs.Values.{Values}
+
+-- the sections with their lists, in the order in which they are looked up
+abbrev pub lists_of : Values → List (Section × List (List ℕ))
+lists_of v =
+    (LocalFolder, v.known_local_folder) ∷ (FirstParty, v.known_first_party) ∷ (ThirdParty, v.known_third_party)
+    ∷ (Stdlib, v.known_standard_library ++ v.extra_standard_library) ∷ (Future, v.known_future_library) ∷ []
+
+-- the numbers below n, the largest first
+abbrev pub below : ℕ → List ℕ
+below zero = []
+below (suc n) = n ∷ below n
+
+-- the dotted prefixes of a module: all of it, and what stands before each dot, longest first
+abbrev pub dotted_prefixes : List ℕ → List (List ℕ)
+dotted_prefixes name = name ∷ map (λ i. take i name) (filter (λ i. slice_index name i == byte ".") (below (length name)))
+
+-- the list holds the text
+abbrev pub holds : List (List ℕ) → List ℕ → Bool
+holds texts text = list_any (λ t. bytes_eq t text) texts
+
+-- the section of the first of some lists that holds a text
+abbrev pub section_holding : List (Section × List (List ℕ)) → List ℕ → Option Section
+section_holding lists text = option_map (λ l. l.0) (find (λ l. holds l.1 text) lists)
+
+-- each prefix with each list, prefix by prefix
+abbrev pub pairs_of : Values → List ℕ → List (List ℕ × (Section × List (List ℕ)))
+pairs_of v name = flat_map (λ prefix. map (λ l. (prefix, l)) (lists_of v)) (dotted_prefixes name)
+
+-- the section of the first pair whose list holds the prefix, if there is one
+abbrev pub section_listed : Values → List ℕ → Option Section
+section_listed v name = option_map (λ p. p.1.0) (find (λ p. holds p.1.1 p.0) (pairs_of v name))
+
+-- the section of a module: the local folder after a leading dot, the first pair's, or the default section
+abbrev pub section_in : Values → List ℕ → Section
+section_in v name =
+    if slice_index name 0 == byte "." then LocalFolder
+    else option_map_or (λ s. s) (section_listed v name) v.default_section

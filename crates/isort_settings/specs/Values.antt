@@ -1,0 +1,117 @@
+-- The values of settings, one for each key that a field keeps.
+use Rattle.std.specs.Prelude.{ℕ, ℤ, Bool, List, map, string_bytes}
+use Rattle.isort_settings.specs.declared.key.SettingKey.{SettingKey}
+use Rattle.isort_settings.specs.declared.key.SettingKey.TheVariants as key
+use Rattle.isort_settings.specs.declared.section.Section.{Section}
+use Rattle.isort_settings.specs.declared.settings.Settings.{Settings}
+use Rattle.isort_settings.specs.Keys.{Meaning, row_of}
+
+-- what settings say: a value for each key, the lists as lists of bytes
+pub record Values : Type 0 where
+  pub line_length : ℕ
+  pub multi_line_output : ℕ
+  pub include_trailing_comma : Bool
+  pub force_grid_wrap : ℕ
+  pub use_parentheses : Bool
+  pub ensure_newline_before_comments : Bool
+  pub force_single_line : Bool
+  pub force_sort_within_sections : Bool
+  pub case_sensitive : Bool
+  pub combine_as_imports : Bool
+  pub order_by_type : Bool
+  pub lines_between_sections : ℕ
+  pub lines_between_types : ℕ
+  pub lines_after_imports : ℤ
+  pub default_section : Section
+  pub known_standard_library : List (List ℕ)
+  pub extra_standard_library : List (List ℕ)
+  pub known_third_party : List (List ℕ)
+  pub known_first_party : List (List ℕ)
+  pub known_local_folder : List (List ℕ)
+  pub known_future_library : List (List ℕ)
+
+-- the values of some settings
+abbrev pub values : Settings → Values
+values s = record {
+  line_length = s.line_length;
+  multi_line_output = s.multi_line_output;
+  include_trailing_comma = s.include_trailing_comma;
+  force_grid_wrap = s.force_grid_wrap;
+  use_parentheses = s.use_parentheses;
+  ensure_newline_before_comments = s.ensure_newline_before_comments;
+  force_single_line = s.force_single_line;
+  force_sort_within_sections = s.force_sort_within_sections;
+  case_sensitive = s.case_sensitive;
+  combine_as_imports = s.combine_as_imports;
+  order_by_type = s.order_by_type;
+  lines_between_sections = s.lines_between_sections;
+  lines_between_types = s.lines_between_types;
+  lines_after_imports = s.lines_after_imports;
+  default_section = s.default_section;
+  known_standard_library = map string_bytes s.known_standard_library.items;
+  extra_standard_library = map string_bytes s.extra_standard_library.items;
+  known_third_party = map string_bytes s.known_third_party.items;
+  known_first_party = map string_bytes s.known_first_party.items;
+  known_local_folder = map string_bytes s.known_local_folder.items;
+  known_future_library = map string_bytes s.known_future_library.items;
+}
+
+-- the values that a rule gives to the keys
+abbrev pub values_from : ((k : SettingKey) → Meaning (row_of k).kind) → Values
+values_from value = record {
+  line_length = value key.LineLength;
+  multi_line_output = value key.MultiLineOutput;
+  include_trailing_comma = value key.IncludeTrailingComma;
+  force_grid_wrap = value key.ForceGridWrap;
+  use_parentheses = value key.UseParentheses;
+  ensure_newline_before_comments = value key.EnsureNewlineBeforeComments;
+  force_single_line = value key.ForceSingleLine;
+  force_sort_within_sections = value key.ForceSortWithinSections;
+  case_sensitive = value key.CaseSensitive;
+  combine_as_imports = value key.CombineAsImports;
+  order_by_type = value key.OrderByType;
+  lines_between_sections = value key.LinesBetweenSections;
+  lines_between_types = value key.LinesBetweenTypes;
+  lines_after_imports = value key.LinesAfterImports;
+  default_section = value key.DefaultSection;
+  known_standard_library = value key.KnownStandardLibrary;
+  extra_standard_library = value key.ExtraStandardLibrary;
+  known_third_party = value key.KnownThirdParty;
+  known_first_party = value key.KnownFirstParty;
+  known_local_folder = value key.KnownLocalFolder;
+  known_future_library = value key.KnownFutureLibrary;
+}
+
+-- each key's default, and each key's value under the profile `black`
+abbrev pub plain_values : Values
+plain_values = values_from (λ k. (row_of k).plain)
+
+abbrev pub black_values : Values
+black_values = values_from (λ k. (row_of k).black)
+
+-- the values with another one for a key
+abbrev pub with_value : (k : SettingKey) → Meaning (row_of k).kind → Values → Values
+with_value key.LineLength x v = record v { line_length = x }
+with_value key.MultiLineOutput x v = record v { multi_line_output = x }
+with_value key.IncludeTrailingComma x v = record v { include_trailing_comma = x }
+with_value key.ForceGridWrap x v = record v { force_grid_wrap = x }
+with_value key.UseParentheses x v = record v { use_parentheses = x }
+with_value key.EnsureNewlineBeforeComments x v = record v { ensure_newline_before_comments = x }
+with_value key.ForceSingleLine x v = record v { force_single_line = x }
+with_value key.ForceSortWithinSections x v = record v { force_sort_within_sections = x }
+with_value key.CaseSensitive x v = record v { case_sensitive = x }
+with_value key.CombineAsImports x v = record v { combine_as_imports = x }
+with_value key.OrderByType x v = record v { order_by_type = x }
+with_value key.LinesBetweenSections x v = record v { lines_between_sections = x }
+with_value key.LinesBetweenTypes x v = record v { lines_between_types = x }
+with_value key.LinesAfterImports x v = record v { lines_after_imports = x }
+with_value key.DefaultSection x v = record v { default_section = x }
+with_value key.KnownStandardLibrary x v = record v { known_standard_library = x }
+with_value key.ExtraStandardLibrary x v = record v { extra_standard_library = x }
+with_value key.KnownThirdParty x v = record v { known_third_party = x }
+with_value key.KnownFirstParty x v = record v { known_first_party = x }
+with_value key.KnownLocalFolder x v = record v { known_local_folder = x }
+with_value key.KnownFutureLibrary x v = record v { known_future_library = x }
+with_value key.Profile x v = v
+with_value key.Tool x v = v
+with_value key.ToolIsort x v = v

@@ -1,0 +1,121 @@
+//! The keys of the settings table.
+ghost use Rattle.std.specs.Prelude.{◌≡◌, bytes_eq};
+ghost use Rattle.isort_settings.specs.Keys.{name_of, keys_in_order, is_known};
+
+/// A key of the table `[tool.isort]`, or one of the two tables around it.
+#[derive(Clone, Copy, Debug, PartialEq, Eq)]
+pub enum SettingKey {
+    Tool,
+    ToolIsort,
+    Profile,
+    CaseSensitive,
+    CombineAsImports,
+    DefaultSection,
+    EnsureNewlineBeforeComments,
+    ExtraStandardLibrary,
+    ForceGridWrap,
+    ForceSingleLine,
+    ForceSortWithinSections,
+    IncludeTrailingComma,
+    KnownFirstParty,
+    KnownFutureLibrary,
+    KnownLocalFolder,
+    KnownStandardLibrary,
+    KnownThirdParty,
+    LineLength,
+    LinesAfterImports,
+    LinesBetweenSections,
+    LinesBetweenTypes,
+    MultiLineOutput,
+    OrderByType,
+    UseParentheses,
+}
+
+/// The keys that a field of the settings keeps, by the bytes of their names.
+const IN_ORDER: [SettingKey; 21] = [
+    SettingKey::CaseSensitive,
+    SettingKey::CombineAsImports,
+    SettingKey::DefaultSection,
+    SettingKey::EnsureNewlineBeforeComments,
+    SettingKey::ExtraStandardLibrary,
+    SettingKey::ForceGridWrap,
+    SettingKey::ForceSingleLine,
+    SettingKey::ForceSortWithinSections,
+    SettingKey::IncludeTrailingComma,
+    SettingKey::KnownFirstParty,
+    SettingKey::KnownFutureLibrary,
+    SettingKey::KnownLocalFolder,
+    SettingKey::KnownStandardLibrary,
+    SettingKey::KnownThirdParty,
+    SettingKey::LineLength,
+    SettingKey::LinesAfterImports,
+    SettingKey::LinesBetweenSections,
+    SettingKey::LinesBetweenTypes,
+    SettingKey::MultiLineOutput,
+    SettingKey::OrderByType,
+    SettingKey::UseParentheses,
+];
+
+impl SettingKey {
+    /// The key as the table spells it; `tool` and `tool.isort` for the tables.
+    pub fn name(&self) -> &str
+        ensures { result.now ≡ name_of self.now }
+    {
+        match self {
+            SettingKey::Tool => "tool",
+            SettingKey::ToolIsort => "tool.isort",
+            SettingKey::Profile => "profile",
+            SettingKey::CaseSensitive => "case_sensitive",
+            SettingKey::CombineAsImports => "combine_as_imports",
+            SettingKey::DefaultSection => "default_section",
+            SettingKey::EnsureNewlineBeforeComments => "ensure_newline_before_comments",
+            SettingKey::ExtraStandardLibrary => "extra_standard_library",
+            SettingKey::ForceGridWrap => "force_grid_wrap",
+            SettingKey::ForceSingleLine => "force_single_line",
+            SettingKey::ForceSortWithinSections => "force_sort_within_sections",
+            SettingKey::IncludeTrailingComma => "include_trailing_comma",
+            SettingKey::KnownFirstParty => "known_first_party",
+            SettingKey::KnownFutureLibrary => "known_future_library",
+            SettingKey::KnownLocalFolder => "known_local_folder",
+            SettingKey::KnownStandardLibrary => "known_standard_library",
+            SettingKey::KnownThirdParty => "known_third_party",
+            SettingKey::LineLength => "line_length",
+            SettingKey::LinesAfterImports => "lines_after_imports",
+            SettingKey::LinesBetweenSections => "lines_between_sections",
+            SettingKey::LinesBetweenTypes => "lines_between_types",
+            SettingKey::MultiLineOutput => "multi_line_output",
+            SettingKey::OrderByType => "order_by_type",
+            SettingKey::UseParentheses => "use_parentheses",
+        }
+    }
+
+    /// Whether the table spells the key so.
+    fn is_spelled(&self, name: &str) -> bool
+        ensures { result ≡ bytes_eq (name_of self.now) name.now }
+    {
+        self.name() == name
+    }
+
+    /// The keys that a field of the settings keeps, by the bytes of their names.
+    pub(crate) fn in_order() -> &'static [SettingKey]
+        ensures { result.now ≡ keys_in_order }
+    {
+        &IN_ORDER
+    }
+
+    /// Whether a key is spelled so.
+    pub(crate) fn is_known(name: &str) -> bool
+        ensures { result ≡ is_known name.now }
+    {
+        if SettingKey::Profile.is_spelled(name) {
+            return true;
+        }
+        let keys = SettingKey::in_order();
+        for key in keys {
+            if key.is_spelled(name) {
+                return true;
+            }
+        }
+        false
+    }
+}

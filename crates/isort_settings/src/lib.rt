@@ -1,0 +1,22 @@
+//! The settings of isort: what the table `[tool.isort]` of a `pyproject.toml` says, and the section of a module.
+#![tactic(auto)]
+
+mod error;
+mod key;
+pub mod laws;
+mod profile;
+mod pyproject;
+mod section;
+mod settings;
+mod standard_library;
+mod text_list;
+mod value;
+
+pub use error::SettingsError;
+pub use key::SettingKey;
+pub use profile::Profile;
+pub use section::Section;
+pub use settings::Settings;
+
+#[cfg(test)]
+mod tests;

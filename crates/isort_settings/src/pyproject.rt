@@ -1,0 +1,99 @@
+//! Reading a `pyproject.toml` down to the table `[tool.isort]`.
+ghost use Rattle.std.specs.Prelude.{◌≡◌, ◌≢◌, IfOk, IfErr, Ok, Err, map, option_map, string_bytes};
+ghost use Rattle.std.specs.BTreeMap.{IsEmpty};
+ghost use Rattle.toml.specs.Data.{get_member};
+ghost use Rattle.toml.specs.View.{view, table_view};
+ghost use Rattle.isort_settings.specs.Keys.{Ascends};
+ghost use Rattle.isort_settings.specs.Pyproject.{document_of, table_value, table_in, profile_of, unknown_names};
+
+use crate::error::SettingsError;
+use crate::key::SettingKey;
+use crate::profile::Profile;
+use std::alloc::{AllocError, Global};
+use toml::{Table, Value};
+
+/// The table that the text is. Whatever else it is than TOML in UTF-8 is refused.
+pub fn document(alloc: Global, text: &[u8]) -> Result<Table, SettingsError>
+    ensures ok { IfOk result (λ t. document_of text.now ≡ Ok (table_view t)) }
+    ensures refused { IfErr result (λ e. e ≢ SettingsError.Memory → document_of text.now ≡ Err e) }
+{
+    match toml::table_from_slice(alloc, text) {
+        Ok(table) => Ok(table),
+        Err(error) => Err(if error.is_memory() {
+            SettingsError::Memory
+        } else {
+            SettingsError::BadToml
+        }),
+    }
+}
+
+/// The value under a name, if the name is there.
+pub fn member<'t>(table: &'t Table, name: &str) -> Option<&'t Value>
+    ensures { option_map (λ v. view v.now) result ≡ get_member name.now (table_view table.now) }
+{
+    table.get(name)
+}
+
+/// The table under a name, if the name is there.
+fn inner_table<'t>(
+    outer: &'t Table,
+    name: &str,
+    key: SettingKey,
+) -> Result<Option<&'t Table>, SettingsError>
+    ensures ok { IfOk result (λ t. table_value key (get_member name.now (table_view outer.now))
+        ≡ Ok (option_map (λ m. table_view m.now) t)) }
+    ensures refused { IfErr result (λ e. table_value key (get_member name.now (table_view outer.now))
+        ≡ Err e) }
+{
+    match member(outer, name) {
+        Some(value) => match value.as_table() {
+            Some(inner) => Ok(Some(inner)),
+            None => Err(SettingsError::BadValue(key)),
+        },
+        None => Ok(None),
+    }
+}
+
+/// The table `isort` in the table `tool`, each read as `none` where it is absent.
+pub fn settings_table<'t>(document: &'t Table, none: &'t Table) -> Result<&'t Table, SettingsError>
+    requires { IsEmpty none.now }
+    ensures ok { IfOk result (λ t. table_in (table_view document.now) ≡ Ok (table_view t.now)) }
+    ensures refused { IfErr result (λ e. table_in (table_view document.now) ≡ Err e) }
+{
+    let tool = inner_table(document, "tool", SettingKey::Tool)?.unwrap_or(none);
+    let isort = inner_table(tool, "isort", SettingKey::ToolIsort)?.unwrap_or(none);
+    Ok(isort)
+}
+
+/// The profile that is handed in, or else the one that the table names, if it names one.
+pub fn chosen_profile(
+    handed_in: Option<Profile>,
+    table: &Table,
+) -> Result<Option<Profile>, SettingsError>
+    ensures { result ≡ profile_of handed_in (table_view table.now) }
+{
+    if handed_in.is_some() {
+        return Ok(handed_in);
+    }
+    match member(table, SettingKey::Profile.name()) {
+        Some(value) => match value.as_str() {
+            Some(name) => Ok(Some(Profile::read(name)?)),
+            None => Err(SettingsError::BadValue(SettingKey::Profile)),
+        },
+        None => Ok(None),
+    }
+}
+
+/// The names in the table that are no key.
+pub fn unknown_keys(alloc: Global, table: &Table) -> Result<Vec<String>, AllocError>
+    ensures names { IfOk result (λ v. map string_bytes v.items ≡ unknown_names (table_view table.now)) }
+    ensures ascend { IfOk result (λ v. Ascends (map string_bytes v.items)) }
+{
+    let mut unknown = Vec::new(alloc);
+    for name in table.keys() {
+        if !SettingKey::is_known(name.as_str()) {
+            unknown.push(name.clone()?)?;
+        }
+    }
+    Ok(unknown)
+}

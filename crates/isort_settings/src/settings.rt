@@ -1,0 +1,274 @@
+//! The settings, one field for each key.
+ghost use Rattle.std.specs.Prelude.{◌≡◌, ◌==◌, ◌≤◌, ◌≤ℤ◌, pos, negsuc, slice_index};
+ghost use Rattle.std.specs.Str.{byte};
+
+use crate::error::SettingsError;
+use crate::key::SettingKey as Key;
+use crate::profile::Profile;
+use crate::section::Section;
+use crate::value::{boolean, count_in, entries, mode, section, whole_in};
+use crate::{pyproject, standard_library, text_list};
+use std::alloc::Global;
+use toml::{Table, Value};
+
+/// Settings: a value for each key of the table `[tool.isort]` but `profile`.
+#[derive(Debug, Drop, PartialEq, Eq)]
+pub struct Settings {
+    pub line_length: u32,
+    pub multi_line_output: u32,
+    pub include_trailing_comma: bool,
+    pub force_grid_wrap: u32,
+    pub use_parentheses: bool,
+    pub ensure_newline_before_comments: bool,
+    pub force_single_line: bool,
+    pub force_sort_within_sections: bool,
+    pub case_sensitive: bool,
+    pub combine_as_imports: bool,
+    pub order_by_type: bool,
+    pub lines_between_sections: u32,
+    pub lines_between_types: u32,
+    pub lines_after_imports: i32,
+    pub default_section: Section,
+    pub known_standard_library: Vec<String>,
+    pub extra_standard_library: Vec<String>,
+    pub known_third_party: Vec<String>,
+    pub known_first_party: Vec<String>,
+    pub known_local_folder: Vec<String>,
+    pub known_future_library: Vec<String>,
+    pub ghost some_line_length: { 1 ≤ line_length },
+    pub ghost line_length_in_range: { line_length ≤ 10000 },
+    pub ghost mode_in_range: { multi_line_output ≤ 3 },
+    pub ghost grid_wrap_in_range: { force_grid_wrap ≤ 10000 },
+    pub ghost section_gap_in_range: { lines_between_sections ≤ 100 },
+    pub ghost type_gap_in_range: { lines_between_types ≤ 100 },
+    pub ghost no_low_end_gap: { negsuc 0 ≤ℤ lines_after_imports },
+    pub ghost end_gap_in_range: { lines_after_imports ≤ℤ pos 100 },
+}
+
+impl Settings {
+    ghost use Rattle.std.specs.Prelude.{◌≡◌, ◌≢◌, ◌≤◌, ◌↔◌, IsOk, IfOk, IfErr, IsOkAnd, OnOk, OnErr, IsOkUnless, Ok, Err, Some, None, map, string_bytes};
+    ghost use Rattle.toml.specs.View.{view, table_view};
+    ghost use Rattle.isort_settings.specs.Keys.{row_of, Ascends};
+    ghost use Rattle.isort_settings.specs.Pyproject.{settings_of, base_value, first_refusal, values_in};
+    ghost use Rattle.isort_settings.specs.Reading.{read_value};
+    ghost use Rattle.isort_settings.specs.Sections.{lists_of, section_holding, section_in};
+    ghost use Rattle.isort_settings.specs.Values.{values, values_from, with_value, plain_values, black_values};
+
+    /// The settings that hold where nothing else is said.
+    pub fn plain(alloc: Global) -> Result<Settings, SettingsError>
+        ensures ok { IfOk result (λ s. values s ≡ plain_values) }
+        ensures err { IsOkUnless result SettingsError.Memory }
+    {
+        Ok(Settings {
+            line_length: 79,
+            multi_line_output: 0,
+            include_trailing_comma: false,
+            force_grid_wrap: 0,
+            use_parentheses: false,
+            ensure_newline_before_comments: false,
+            force_single_line: false,
+            force_sort_within_sections: false,
+            case_sensitive: false,
+            combine_as_imports: false,
+            order_by_type: true,
+            lines_between_sections: 1,
+            lines_between_types: 0,
+            lines_after_imports: -1,
+            default_section: Section::ThirdParty,
+            known_standard_library: standard_library::modules(alloc)?,
+            extra_standard_library: Vec::new(alloc),
+            known_third_party: Vec::new(alloc),
+            known_first_party: Vec::new(alloc),
+            known_local_folder: Vec::new(alloc),
+            known_future_library: text_list::from_texts(alloc, &["__future__"])?,
+        })
+    }
+
+    /// The settings of the profile `black`.
+    pub fn black(alloc: Global) -> Result<Settings, SettingsError>
+        ensures ok { IfOk result (λ s. values s ≡ black_values) }
+        ensures err { IsOkUnless result SettingsError.Memory }
+    {
+        let mut settings = Settings::plain(alloc)?;
+        settings.line_length = 88;
+        settings.multi_line_output = 3;
+        settings.include_trailing_comma = true;
+        settings.use_parentheses = true;
+        settings.ensure_newline_before_comments = true;
+        Ok(settings)
+    }
+
+    /// The settings that the table `[tool.isort]` of the text stands for, and the names of its unknown keys.
+    ///
+    /// A profile that is handed in replaces the table's `profile`, which isn't read then.
+    pub fn from_pyproject(
+        alloc: Global,
+        text: &[u8],
+        profile: Option<Profile>,
+    ) -> Result<(Settings, Vec<String>), SettingsError>
+        ensures ok { IfOk result (λ r.
+            settings_of text.now profile ≡ Ok (values r.0, map string_bytes r.1.items)) }
+        ensures unknown_ascend { IfOk result (λ r. Ascends (map string_bytes r.1.items)) }
+
+        // Each refusal but want of memory is the one that the definition gives.
+        ensures refused { IfErr result (λ e. e ≢ SettingsError.Memory
+            → settings_of text.now profile ≡ Err e) }
+    {
+        let document = pyproject::document(alloc, text)?;
+        let none = Table::new(alloc);
+        let table = pyproject::settings_table(&document, &none)?;
+        let profile = pyproject::chosen_profile(profile, table)?;
+        let settings = Settings::from_table(alloc, table, profile)?;
+        let unknown = pyproject::unknown_keys(alloc, table)?;
+        Ok((settings, unknown))
+    }
+
+    /// The settings that hold where the table says nothing.
+    fn of_profile(alloc: Global, profile: Option<Profile>) -> Result<Settings, SettingsError>
+        ensures ok { IfOk result (λ s. values s ≡ values_from (base_value profile)) }
+        ensures err { IsOkUnless result SettingsError.Memory }
+    {
+        match profile {
+            Some(Profile::Black) => Settings::black(alloc),
+            None => Settings::plain(alloc),
+        }
+    }
+
+    /// The settings of a profile, if there is one, with what the table says.
+    fn from_table(
+        alloc: Global,
+        table: &Table,
+        profile: Option<Profile>,
+    ) -> Result<Settings, SettingsError>
+        ensures unrefused { OnOk result (first_refusal (table_view table.now) ≡ None) }
+        ensures ok { IfOk result (λ s. values s ≡ values_in (table_view table.now) profile) }
+        ensures refused { IfErr result (λ e. e ≢ SettingsError.Memory
+            → first_refusal (table_view table.now) ≡ Some e) }
+    {
+        let mut settings = Settings::of_profile(alloc, profile)?;
+        let keys = Key::in_order();
+        for key in keys {
+            if let Some(value) = pyproject::member(table, key.name()) {
+                settings.take_value(alloc, *key, value)?;
+            }
+        }
+        Ok(settings)
+    }
+
+    /// Takes a key's value from the table.
+    fn take_value(&mut self, alloc: Global, key: Key, value: &Value) -> Result<(), SettingsError>
+        ensures ok { OnOk result (IsOkAnd (read_value (row_of key).kind key (view value.now))
+            (λ x. values self.new ≡ with_value key x (values self.old))) }
+        ensures refused { IfErr result (λ e. e ≢ SettingsError.Memory
+            → read_value (row_of key).kind key (view value.now) ≡ Err e) }
+    {
+        match key {
+            Key::CaseSensitive => self.case_sensitive = boolean(key, value)?,
+            Key::CombineAsImports => self.combine_as_imports = boolean(key, value)?,
+            Key::DefaultSection => self.default_section = section(key, value)?,
+            Key::EnsureNewlineBeforeComments => self.ensure_newline_before_comments = boolean(
+                key, value,
+            )?,
+            Key::ExtraStandardLibrary => self.extra_standard_library = entries(alloc, key, value)?,
+            Key::ForceGridWrap => self.force_grid_wrap = count_in(key, value, 0, 10_000)?,
+            Key::ForceSingleLine => self.force_single_line = boolean(key, value)?,
+            Key::ForceSortWithinSections => self.force_sort_within_sections = boolean(key, value)?,
+            Key::IncludeTrailingComma => self.include_trailing_comma = boolean(key, value)?,
+            Key::KnownFirstParty => self.known_first_party = entries(alloc, key, value)?,
+            Key::KnownFutureLibrary => self.known_future_library = entries(alloc, key, value)?,
+            Key::KnownLocalFolder => self.known_local_folder = entries(alloc, key, value)?,
+            Key::KnownStandardLibrary => self.known_standard_library = entries(alloc, key, value)?,
+            Key::KnownThirdParty => self.known_third_party = entries(alloc, key, value)?,
+            Key::LineLength => self.line_length = count_in(key, value, 1, 10_000)?,
+            Key::LinesAfterImports => self.lines_after_imports = whole_in(key, value, -1, 100)?,
+            Key::LinesBetweenSections => self.lines_between_sections = count_in(
+                key, value, 0, 100,
+            )?,
+            Key::LinesBetweenTypes => self.lines_between_types = count_in(key, value, 0, 100)?,
+            Key::MultiLineOutput => self.multi_line_output = mode(key, value)?,
+            Key::OrderByType => self.order_by_type = boolean(key, value)?,
+            Key::UseParentheses => self.use_parentheses = boolean(key, value)?,
+            Key::Tool | Key::ToolIsort | Key::Profile => {}
+        }
+        Ok(())
+    }
+
+    /// Changes the line length, or refuses one outside 1 to 10000.
+    pub fn set_line_length(&mut self, n: u32) -> Result<(), SettingsError>
+        ensures accepted { IsOk result ↔ ((1 ≤ n) × (n ≤ 10000)) }
+        ensures ok { OnOk result (values self.new ≡ record (values self.old) { line_length = n }) }
+        ensures refused { IfErr result (λ e. e ≡ SettingsError.BadValue Key.LineLength) }
+        ensures unchanged { OnErr result (values self.new ≡ values self.old) }
+    {
+        if n < 1 || n > 10_000 {
+            return Err(SettingsError::BadValue(Key::LineLength));
+        }
+        self.line_length = n;
+        Ok(())
+    }
+
+    /// Changes the wrap mode, or refuses one above 3.
+    pub fn set_mode(&mut self, n: u32) -> Result<(), SettingsError>
+        ensures accepted { IsOk result ↔ (n ≤ 3) }
+        ensures ok { OnOk result (values self.new ≡ record (values self.old) { multi_line_output = n }) }
+        ensures refused { IfErr result (λ e. e ≡ SettingsError.UnsupportedMode) }
+        ensures unchanged { OnErr result (values self.new ≡ values self.old) }
+    {
+        if n > 3 {
+            return Err(SettingsError::UnsupportedMode);
+        }
+        self.multi_line_output = n;
+        Ok(())
+    }
+
+    /// The section of a module: `LocalFolder` after a leading dot; else the longest dotted prefix that a list holds
+    /// decides, and among lists that hold it the first of local folder, first party, third party, standard library,
+    /// future; else the default section.
+    pub fn section_of(&self, module: &str) -> Section
+        ensures { result ≡ section_in (values self.now) «module».now }
+    {
+        let name = module.as_bytes();
+        if is_relative(name) {
+            return Section::LocalFolder;
+        }
+        if let Some(section) = self.listed(name) {
+            return section;
+        }
+        for stop in (0..name.len()).rev() {
+            if name[stop] == b'.' {
+                if let Some(section) = self.listed(&name[..stop]) {
+                    return section;
+                }
+            }
+        }
+        self.default_section
+    }
+
+    /// The section of the first list that holds the prefix.
+    fn listed(&self, prefix: &[u8]) -> Option<Section>
+        ensures { result ≡ section_holding (lists_of (values self.now)) prefix.now }
+    {
+        if text_list::holds(&self.known_local_folder, prefix) {
+            Some(Section::LocalFolder)
+        } else if text_list::holds(&self.known_first_party, prefix) {
+            Some(Section::FirstParty)
+        } else if text_list::holds(&self.known_third_party, prefix) {
+            Some(Section::ThirdParty)
+        } else if text_list::holds(&self.known_standard_library, prefix)
+            || text_list::holds(&self.extra_standard_library, prefix)
+        {
+            Some(Section::Stdlib)
+        } else if text_list::holds(&self.known_future_library, prefix) {
+            Some(Section::Future)
+        } else {
+            None
+        }
+    }
+}
+
+/// Whether the module begins with a dot.
+fn is_relative(name: &[u8]) -> bool
+    ensures { result ≡ (slice_index name.now 0 == byte ".") }
+{
+    !name.is_empty() && name[0] == b'.'
+}

@@ -1,0 +1,101 @@
+-- A word's spelling, as the machine keeps it, says whether the word is the prefix of a string.
+use Rattle.std.proofs.Common.{◌≡◌, ℕ, Bool, true, false, cond, ◌&&◌, ◌||◌, Some, List, [], ◌∷◌, ◌++◌, refl, sym, ap, ◌∙◌, ⊎_elim, inl, inr, ◌⊎◌}
+use Rattle.std.proofs.lemmas.Bool.{cond_both}
+use Rattle.py_lines.specs.Character.{is_digit}
+use Rattle.py_lines.specs.Piece.{is_r, is_b_or_f, is_u, is_prefix}
+use Rattle.py_lines.specs.declared.mode.Spelling.{Spelling}
+use Rattle.py_lines.specs.declared.mode.Spelling.TheVariants as spellings
+use Rattle.py_lines.specs.declared.mode.Mode.TheVariants as modes
+use Rattle.py_lines.specs.declared.token.TokKind.TheVariants as kind
+use Rattle.py_lines.specs.Machine.{spelling_of, spelling_with, is_prefix_spelling, spelling_on, token_of}
+use Rattle.py_lines.proofs.Tests.{r-not-digit, b_or_f-not-digit, b_or_f-not-r, u-not-digit, excluded}
+
+name_stays : (cs : List ℕ) → spelling_on spellings.Name cs ≡ spellings.Name
+unfolding spelling_with
+name_stays [] = refl
+name_stays (c ∷ cs) = name_stays cs
+
+number_stays : (cs : List ℕ) → spelling_on spellings.Number cs ≡ spellings.Number
+unfolding spelling_with
+number_stays [] = refl
+number_stays (c ∷ cs) = number_stays cs
+
+-- a word of three characters is no prefix
+third : (s : Spelling) (b c : ℕ) → (spelling_with (spelling_with s b) c ≡ spellings.Number) ⊎ (spelling_with (spelling_with s b) c ≡ spellings.Name)
+unfolding spelling_with
+third spellings.Number b c = inl refl
+third spellings.R b c = cond_both (is_b_or_f b) spellings.Prefix spellings.Name (λ s. (spelling_with s c ≡ spellings.Number) ⊎ (spelling_with s c ≡ spellings.Name)) (λ h. inr refl) (λ h. inr refl)
+third spellings.BOrF b c = cond_both (is_r b) spellings.Prefix spellings.Name (λ s. (spelling_with s c ≡ spellings.Number) ⊎ (spelling_with s c ≡ spellings.Name)) (λ h. inr refl) (λ h. inr refl)
+third spellings.Prefix b c = inr refl
+third spellings.Name b c = inr refl
+
+one_letter : (a : ℕ) → is_prefix (a ∷ []) ≡ is_prefix_spelling (spelling_of a)
+unfolding spelling_of
+one_letter a =
+    let P : Spelling → Type 0 = λ s. is_r a || is_b_or_f a || is_u a ≡ is_prefix_spelling s in
+    cond_both (is_digit a) _ _ P
+    (λ digit. rw (excluded is_digit is_r a (r-not-digit a) digit, excluded is_digit is_b_or_f a (b_or_f-not-digit a) digit, excluded is_digit is_u a (u-not-digit a) digit))
+    (λ n. cond_both (is_r a) _ _ P (λ r. rw r)
+    (λ not_r. cond_both (is_b_or_f a) _ _ P (λ b. rw (not_r, b))
+    (λ not_b. cond_both (is_u a) _ _ P (λ u. rw (not_r, not_b, u)) (λ not_u. rw (not_r, not_b, not_u)))))
+
+two_letters : (a b : ℕ) → is_prefix (a ∷ b ∷ []) ≡ is_prefix_spelling (spelling_with (spelling_of a) b)
+unfolding spelling_of spelling_with
+two_letters a b =
+    let P : Spelling → Type 0 = λ s. (is_r a && is_b_or_f b) || (is_b_or_f a && is_r b) ≡ is_prefix_spelling (spelling_with s b) in
+    cond_both (is_digit a) _ _ P
+    (λ digit. rw (excluded is_digit is_r a (r-not-digit a) digit, excluded is_digit is_b_or_f a (b_or_f-not-digit a) digit))
+    (λ n. cond_both (is_r a) _ _ P
+    (λ r. rw (r, excluded is_r is_b_or_f a (b_or_f-not-r a) r) (cond_both (is_b_or_f b) spellings.Prefix spellings.Name (λ s. is_b_or_f b || false ≡ is_prefix_spelling s) (λ h. rw h) (λ h. rw h)))
+    (λ not_r. cond_both (is_b_or_f a) _ _ P
+    (λ f. rw (not_r, f) (cond_both (is_r b) spellings.Prefix spellings.Name (λ s. is_r b ≡ is_prefix_spelling s) (λ h. rw h) (λ h. rw h)))
+    (λ not_b. cond_both (is_u a) _ _ P (λ u. rw (not_r, not_b)) (λ not_u. rw (not_r, not_b)))))
+
+-- a word is a prefix exactly where its spelling says so
+pub prefix_spelling : (first : ℕ) (others : List ℕ) → is_prefix (first ∷ others) ≡ is_prefix_spelling (spelling_on (spelling_of first) others)
+prefix_spelling first [] = one_letter first
+prefix_spelling first (b ∷ []) = two_letters first b
+prefix_spelling first (b ∷ c ∷ cs) =
+    ⊎_elim
+    (λ is. sym (ap is_prefix_spelling (ap (λ s. spelling_on s cs) is ∙ number_stays cs)))
+    (λ is. sym (ap is_prefix_spelling (ap (λ s. spelling_on s cs) is ∙ name_stays cs))) (third (spelling_of first) b c)
+
+pub spelling_on-push : (s : Spelling) (cs : List ℕ) (c : ℕ) → spelling_on s (cs ++ c ∷ []) ≡ spelling_with (spelling_on s cs) c
+spelling_on-push s [] c = refl
+spelling_on-push s (d ∷ cs) c = spelling_on-push (spelling_with s d) cs c
+
+-- whether the spelling is that of a number
+abbrev is_number : Spelling → Bool
+is_number spellings.Number = true
+is_number other = false
+
+never_number : (s : Spelling) (c : ℕ) → is_number s ≡ false → is_number (spelling_with s c) ≡ false
+unfolding spelling_with
+never_number spellings.Number c h = absurd (cc)
+never_number spellings.R c h = cond_both (is_b_or_f c) spellings.Prefix spellings.Name (λ s. is_number s ≡ false) (λ _. refl) (λ _. refl)
+never_number spellings.BOrF c h = cond_both (is_r c) spellings.Prefix spellings.Name (λ s. is_number s ≡ false) (λ _. refl) (λ _. refl)
+never_number spellings.Prefix c h = refl
+never_number spellings.Name c h = refl
+
+name_on : (s : Spelling) (cs : List ℕ) → is_number s ≡ false → is_number (spelling_on s cs) ≡ false
+name_on s [] h = h
+name_on s (c ∷ cs) h = name_on (spelling_with s c) cs (never_number s c h)
+
+name_token : (s : Spelling) → is_number s ≡ false → token_of (modes.Word s) ≡ Some kind.Name
+name_token spellings.Number h = absurd (cc)
+name_token spellings.R h = refl
+name_token spellings.BOrF h = refl
+name_token spellings.Prefix h = refl
+name_token spellings.Name h = refl
+
+-- a word is a number exactly where it begins with a digit
+pub word_token : (first : ℕ) (others : List ℕ) → token_of (modes.Word (spelling_on (spelling_of first) others)) ≡ Some (cond (is_digit first) kind.Number kind.Name)
+unfolding spelling_of
+word_token first others =
+    let P : Spelling → Type 0 = λ s. (is_digit first ≡ false → token_of (modes.Word (spelling_on s others)) ≡ Some (cond (is_digit first) kind.Number kind.Name)) in
+    let name : (s : Spelling) → is_number s ≡ false → P s = λ s h digit. name_token (spelling_on s others) (name_on s others h) ∙ rw digit in
+    let Q : Spelling → Type 0 = λ s. token_of (modes.Word (spelling_on s others)) ≡ Some (cond (is_digit first) kind.Number kind.Name) in
+    cond_both (is_digit first) _ _ Q (λ digit. ap (λ s. token_of (modes.Word s)) (number_stays others) ∙ rw digit)
+    (λ n. cond_both (is_r first) _ _ Q (λ _. name spellings.R refl n)
+    (λ _. cond_both (is_b_or_f first) _ _ Q (λ _. name spellings.BOrF refl n)
+    (λ _. cond_both (is_u first) _ _ Q (λ _. name spellings.Prefix refl n) (λ _. name spellings.Name refl n))))

@@ -1,0 +1,12 @@
+use Rattle.std.proofs.Common.{length, sym, ap, ◌∙◌, subst, arith, length-take-le}
+use Rattle.std.specs.Str.{IsValidUpTo}
+use Rattle.py_lines.proofs.Utf8.{whole_text, front_text}
+use Rattle.py_lines.proofs.source.utf8_front.Goals as goal
+
+pub returns-in-Ok-clause-bad : goal.returns-in-Ok-clause-bad
+returns-in-Ok-clause-bad c = whole_text c.in-Ok.text.now c.args.bytes.now c.in-Ok.ensures.cases.0
+
+pub returns-in-Ok-from_utf8-clause-bad : goal.returns-in-Ok-from_utf8-clause-bad
+returns-in-Ok-from_utf8-clause-bad c =
+    let longest = subst (IsValidUpTo c.args.bytes.now) (sym c.valid_up_to.ensures) c.in-Err.ensures.cases.1 in
+    front_text c.in-Ok-from_utf8.text.now c.args.bytes.now c.valid_up_to.result longest (ap length c.in-Ok-from_utf8.ensures.cases.0 ∙ length-take-le c.valid_up_to.result c.args.bytes.now (omega (arith, longest.short)))

@@ -1,0 +1,12 @@
+pub mod Character
+pub mod Piece
+pub mod Balance
+pub mod LogicalLine
+pub mod Lexed
+pub mod Reader
+pub mod Token
+pub mod UnitLine
+pub mod Lines
+pub mod Machine
+pub mod Scan
+pub mod Source

@@ -1,0 +1,25 @@
+-- What a `Lines` is to its callers, and what each call of `next_unit` leaves.
+use Rattle.std.specs.Prelude.{Option, None, Some, Result, Ok, Err, [], ⊤}
+use Rattle.std.specs.Borrow.{follows_so, MutBor, Fml}
+use mathlib.Core.Option.{none}
+use mir.Syntax.{named}
+use Rattle.py_lines.specs.Reader.{Reader, Continues, Ends, Fails, RunsOut}
+use Rattle.py_lines.specs.declared.fault.LexError.{LexError}
+use Rattle.py_lines.specs.declared.fault.LexError.TheVariants as lex
+use Rattle.py_lines.specs.declared.unit.Unit as unit
+pub use Rattle.py_lines.specs.UnitLine.{line_in}
+use Rattle.py_lines.specs.declared.lines.Lines as lines
+use Rattle.py_lines.specs.contracts.lines.Lines as lines_rows
+
+-- What a call that reads the next unit answers, from one state to the next. A unit continues the lines given so
+-- far; None is the end, and a fault is the text's, behind the lines given; Memory leaves all as it was.
+abbrev pub ReadsNext : Reader → Result (Option unit.Unit) LexError → Reader → Type 0
+ReadsNext old (Ok (Some u)) new = Continues old (line_in u) new
+ReadsNext old (Ok None) new = Ends old new
+ReadsNext old (Err (lex.Fault f)) new = Fails old f new
+ReadsNext old (Err lex.Memory) new = RunsOut old new
+
+abbrev pub LeavesNext : MutBor lines.Lines → Result (Option unit.Unit) LexError → Fml
+LeavesNext self result =
+    let row = lines_rows.the_row (record { mir = named 0; lft = [] }) in
+    follows_so row row self.ghost_name none (λ _ _. ⊤) (λ new. ReadsNext self.now result new)

@@ -1,0 +1,68 @@
+-- The state of a reader of logical lines: the text, how far it has been given, on which line, and its fault once met.
+use Rattle.std.specs.Prelude.{◌≡◌, ℕ, ◌+◌, ◌<◌, ◌≤◌, ◌⊎◌, Option, None, Some, List, [], ◌∷◌, ◌++◌, length}
+use Rattle.py_lines.specs.Piece.{Piece, spelled, AreReadBefore}
+use Rattle.py_lines.specs.Balance.{IsBalanced, IsShallow}
+use Rattle.py_lines.specs.LogicalLine.{LogicalLine, lines_of, byte_len, line_ends}
+use Rattle.py_lines.specs.Lexed.{Decodes, EndsLine, IsLexed}
+use Rattle.py_lines.specs.declared.fault.Fault.{Fault}
+
+-- `place` is the byte up to which units were given, and `line` is its line
+pub record Reader : Type 0 where
+  pub text : List ℕ
+  pub place : ℕ
+  pub line : ℕ
+  pub fault : Option Fault
+
+-- a reader at the text's start
+abbrev pub at_start : List ℕ → Reader
+at_start text = record { text = text; place = 0; line = 1; fault = None }
+
+-- These are the first logical lines of the reader's text, up to its place: they are cut from pieces that are
+-- read before the rest of the text, and end a line or the text. No fault was met yet.
+pub record HasGiven (reader : Reader) (lines : List LogicalLine) : Type 0 where
+  pub characters : List ℕ
+  pub tail : List ℕ
+  pub pieces : List Piece
+  pub rest : List ℕ
+  pub decodes : Decodes reader.text characters tail
+  pub spell : spelled pieces ++ rest ≡ characters
+  pub fit : AreReadBefore pieces rest
+  pub balanced : IsBalanced pieces
+  pub shallow : IsShallow 0 pieces
+  pub ended : EndsLine pieces ⊎ (rest ++ tail ≡ [])
+  pub place : reader.place ≡ byte_len (spelled pieces)
+  pub line : reader.line ≡ 1 + line_ends (spelled pieces)
+  pub no_fault : reader.fault ≡ None
+  pub cut : lines ≡ lines_of pieces
+
+-- one more logical line is given
+pub record Continues (old : Reader) (line : LogicalLine) (new : Reader) : Type 0 where
+  pub given : (lines : List LogicalLine) → HasGiven old lines → HasGiven new (lines ++ line ∷ [])
+  pub text : new.text ≡ old.text
+  pub place : new.place ≡ old.place + length line.text
+  pub some_text : 0 < length line.text
+  pub within : new.place ≤ length new.text
+  pub fault : old.fault ≡ None
+  pub no_fault : new.fault ≡ None
+
+-- all logical lines were given, and the text has no fault
+pub record Ends (old new : Reader) : Type 0 where
+  pub all : (lines : List LogicalLine) → HasGiven old lines → IsLexed old.text lines None
+  pub place : old.place ≡ length old.text
+  pub fault : old.fault ≡ None
+  pub same : new ≡ old
+
+-- all logical lines before the fault were given, and it is the text's; it is kept for good
+pub record Fails (old : Reader) (fault : Fault) (new : Reader) : Type 0 where
+  pub all : (lines : List LogicalLine) → HasGiven old lines → IsLexed old.text lines (Some fault)
+  pub again : (first : Fault) → old.fault ≡ Some first → fault ≡ first
+  pub text : new.text ≡ old.text
+  pub place : new.place ≡ old.place
+  pub kept : new.fault ≡ Some fault
+
+-- There was no memory for the next logical line: nothing changed. It is answered before the text's end alone, and
+-- not where the fault is known.
+pub record RunsOut (old new : Reader) : Type 0 where
+  pub same : new ≡ old
+  pub more : old.place < length old.text
+  pub fault : old.fault ≡ None

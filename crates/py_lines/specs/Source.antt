@@ -1,0 +1,59 @@
+-- What the reader behind `Lines` holds: the logical line that it last read. It serves the contracts of private functions.
+use Rattle.std.specs.Prelude.{◌≡◌, ℕ, ◌+◌, ◌-◌, ◌<◌, None, Some, Result, Ok, Err, Bool, true, false, length, take, drop}
+use Rattle.py_lines.specs.LogicalLine.{LogicalLine}
+use Rattle.py_lines.specs.Token.{EachLiesIn}
+use Rattle.py_lines.specs.Reader.{Reader, Continues, Ends, Fails, RunsOut}
+use Rattle.py_lines.specs.declared.fault.Fault.{Fault}
+use Rattle.py_lines.specs.declared.fault.LexError.{LexError}
+use Rattle.py_lines.specs.declared.fault.LexError.TheVariants as lex
+use Rattle.py_lines.specs.Scan.{Scans}
+use Rattle.py_lines.specs.declared.scan.Stop.{Stop}
+use Rattle.py_lines.specs.declared.source.Source.{Source}
+
+-- the state that callers of `Lines` see
+abbrev pub reader_of : Source → Reader
+reader_of s = record { text = s.bytes.now; place = s.place; line = s.line; fault = s.fault }
+
+-- the logical line that was read last
+abbrev pub line_of_source : Source → LogicalLine
+line_of_source s = record {
+  kind = s.scan.kind;
+  text = take (s.place - s.start) (drop s.start s.characters.now);
+  tokens = s.scan.tokens.items;
+  offset = s.start;
+  line = s.scan.line;
+  indent = s.scan.indent;
+  end_len = s.end_len;
+}
+
+-- the line that was read last reaches to where the scan stopped, with so many bytes of line end
+pub record Gives (old : Source) (end_len : ℕ) (new : Source) : Type 0 where
+  pub bytes : new.bytes ≡ old.bytes
+  pub characters : new.characters ≡ old.characters
+  pub start : new.start ≡ old.place
+  pub place : new.place ≡ old.place + old.scan.stop
+  pub line : new.line ≡ old.line + end_len
+  pub ends : new.end_len ≡ end_len
+  pub fault : new.fault ≡ old.fault
+  pub scan : new.scan ≡ old.scan
+
+-- the text has this fault from now on
+pub record FailsAt (old : Source) (fault : Fault) (new : Source) : Type 0 where
+  pub bytes : new.bytes ≡ old.bytes
+  pub place : new.place ≡ old.place
+  pub line : new.line ≡ old.line
+  pub kept : new.fault ≡ Some fault
+
+-- the scan of the next line has stopped so
+pub record HasScanned (s : Source) (stop : Stop) : Type 0 where
+  pub more : s.place < length s.bytes.now
+  pub no_fault : s.fault ≡ None
+  pub line : s.scan.line ≡ s.line
+  pub scans : Scans (drop s.place s.characters.now) s.scan stop
+
+-- what a call that reads the next line answers and leaves
+abbrev pub Advances : Source → Result Bool LexError → Source → Type 0
+Advances old (Ok true) new = Continues (reader_of old) (line_of_source new) (reader_of new) × EachLiesIn (line_of_source new).text new.scan.tokens.items
+Advances old (Ok false) new = Ends (reader_of old) (reader_of new)
+Advances old (Err (lex.Fault f)) new = Fails (reader_of old) f (reader_of new)
+Advances old (Err lex.Memory) new = RunsOut (reader_of old) (reader_of new)

@@ -1,0 +1,47 @@
+ghost use Rattle.std.specs.Prelude.{◌≡◌, ℕ, ◌<◌, Some, length, slice_get, slice_range};
+ghost use Rattle.py_lines.specs.Token.{EachLiesIn};
+ghost use Rattle.py_lines.specs.declared.token.Token.{Token};
+
+use crate::token::Token;
+
+/// What a logical line holds (Python Language Reference, 2.1).
+#[derive(Clone, Copy, Debug, PartialEq, Eq)]
+pub enum UnitKind {
+    /// A token other than a comment.
+    Code,
+    /// A comment alone.
+    Comment,
+    /// No token.
+    Blank,
+}
+
+/// One logical line: the bytes up to and with the line end that closes it, or the text's end. All of it is
+/// lent out of the text and the reader.
+#[derive(Clone, Copy, Debug)]
+pub struct Unit<'s> {
+    pub kind: UnitKind,
+    /// The line with its line end.
+    pub text: &'s str,
+    /// The words, strings, operators and comments, in order.
+    pub tokens: &'s [Token],
+    /// The byte of the whole text at which the unit begins.
+    pub offset: u64,
+    /// The line of its first byte, from 1.
+    pub line: u64,
+    /// The bytes of space that it begins with.
+    pub indent: usize,
+    /// The bytes of its closing line end: 0 at the text's end.
+    pub end_len: usize,
+    pub ghost tokens_lie_in: { EachLiesIn text.now tokens.now },
+}
+
+impl<'s> Unit<'s> {
+    /// The text of the token at place `i`, a slice of the unit's text.
+    pub fn word(&self, i: usize) -> &'s str
+        requires { i < length self.now.tokens.now }
+        ensures { (t : Token) → slice_get self.now.tokens.now i ≡ Some t → result.now ≡ slice_range self.now.text.now t.start t.stop }
+    {
+        let token = self.tokens[i];
+        &self.text[token.start..token.stop]
+    }
+}
