@@ -43,6 +43,11 @@ fn fault_words(kind: FaultKind) -> &'static str
         FaultKind::BadUtf8 => "F1 not UTF-8",
         FaultKind::BadChar => "F2 unexpected character",
         FaultKind::OpenString => "F3 string not closed",
+        FaultKind::OpenTriple => "F4 triple-quoted string not closed",
+        FaultKind::WrongClose => "F5 closing bracket without its opening",
+        FaultKind::OpenBracket => "F6 bracket not closed",
+        FaultKind::BadJoin => "F7 backslash not before a line end",
+        FaultKind::TooDeep => "F8 more than 200 brackets open",
         FaultKind::BadImport => "F9 import statement not understood",
     }
 }

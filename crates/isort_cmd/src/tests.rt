@@ -47,16 +47,37 @@ fn lists_texts(rt: HostRuntime) -> Result<(), Fail> {
             "-:1 import a\n",
             Err(fault(FaultKind::BadImport, 9, 2)),
         ),
+        ("import a\nx = (1)\n", "-:1 import a\n", Ok(())),
         (
-            "import a\nx = (1)\n",
-            "-:1 import a\n",
-            Err(fault(FaultKind::BadChar, 13, 2)),
+            "import a\nimport b\nx = (1,",
+            "-:1 import a\n-:2 import b\n",
+            Err(fault(FaultKind::OpenBracket, 22, 3)),
         ),
+        (
+            "x = 'import a'  # import b\nimport c",
+            "-:2 import c\n",
+            Ok(()),
+        ),
+        (
+            "\"\"\"a \\\" import a\nimport b\n\"\"\"\ny = \"\"\nimport c\n",
+            "-:5 import c\n",
+            Ok(()),
+        ),
+        (
+            "import a; import\n",
+            "",
+            Err(fault(FaultKind::BadImport, 0, 1)),
+        ),
+        ("x = )", "", Err(fault(FaultKind::WrongClose, 4, 1))),
+        ("\"\"\"a", "", Err(fault(FaultKind::OpenTriple, 0, 1))),
+        ("x = \\ 1\n", "", Err(fault(FaultKind::BadJoin, 4, 1))),
+        ("import é", "-:1 import é\n", Ok(())),
+        ("$", "", Err(fault(FaultKind::BadChar, 0, 1))),
         ("import as\n", "", Err(fault(FaultKind::BadImport, 0, 1))),
         ("import a,\n", "", Err(fault(FaultKind::BadImport, 0, 1))),
         ("import a . b\n", "-:1 import a.b\n", Ok(())),
         ("x = \"a\n", "", Err(fault(FaultKind::OpenString, 4, 1))),
-        ("r\"a\"", "", Err(fault(FaultKind::BadChar, 1, 1))),
+        ("r\"a\"", "", Ok(())),
     ];
     for (text, lines, want) in cases {
         let mut out = Vec::new(rt.alloc());

@@ -1,195 +1,155 @@
 -- A text that the machine doesn't go through, or may not stop at the end of, has the fault that the reader names.
-use Rattle.std.proofs.Common.{◌≡◌, ℕ, ◌+◌, ◌<◌, ◌≤◌, true, false, None, Some, List, [], ◌∷◌, ◌++◌, length, refl, sym, ap, ◌∙◌, subst, inl, inr, append_assoc, append-nil, arith, length-drop}
-use Rattle.std.specs.Prelude.{encode_utf8_all}
+use Rattle.std.proofs.Common.{◌≡◌, ℕ, zero, suc, ◌+◌, ◌-◌, ◌<◌, ◌≤◌, Bool, true, false, not, ◌&&◌, ◌||◌, Option, None, Some, List, [], ◌∷◌, ◌++◌, length, take, drop, refl, sym, ap, ◌∙◌, subst, append_assoc, append-nil, add_assoc, arith, length-append, length-drop}
+use Rattle.std.specs.Prelude.{encode_utf8_all, IsUtf8, if◌then◌else◌}
 use Rattle.std.specs.Borrow.{Bor}
-use Rattle.std.proofs.lemmas.Bool.{both_ways}
-use Rattle.std.proofs.lemmas.List.{append_cancel_left, drop_all}
+use Rattle.std.proofs.lemmas.Bool.{both_ways, cond_both, cases_Bool}
+use Rattle.std.proofs.lemmas.List.{drop_all}
 use Rattle.std.proofs.lemmas.Str.{encodes_same}
-use Rattle.py_lines.specs.Character.{is_line_end}
-use Rattle.py_lines.specs.Piece.{Piece, spelled, AreReadBefore}
-use Rattle.py_lines.specs.LogicalLine.{LogicalLine, byte_len, line_ends}
-use Rattle.py_lines.specs.Lexed.{IsReading, IsLive, InShortString, DiesAt, IsFaultAt, IsLexicalFault, IsLexed}
+use Rattle.std.proofs.Math.Seq.{take-append_seam}
+use Rattle.py_lines.specs.Character.{is_line_feed}
+use Rattle.py_lines.specs.Piece.{Class, line_end, Piece, spelled, AreReadBefore}
+use Rattle.py_lines.specs.LogicalLine.{LogicalLine, byte_len, line_ends, lines_of}
+use Rattle.py_lines.specs.Lexed.{IsLexed, IsRefused, IsLive, IsReading, EndsLine}
 use Rattle.py_lines.specs.Reader.{Reader, HasGiven, Fails}
 use Rattle.py_lines.specs.declared.fault.Fault.{Fault}
-use Rattle.py_lines.specs.declared.fault.FaultKind.TheVariants.{BadUtf8, BadChar, OpenString}
+use Rattle.py_lines.specs.declared.fault.FaultKind.{FaultKind}
+use Rattle.py_lines.specs.declared.fault.LexError.{LexError}
+use Rattle.py_lines.specs.declared.mode.Mode.{Mode}
+use Rattle.py_lines.specs.declared.mode.Mode.TheVariants as modes
+use Rattle.py_lines.specs.declared.mode.Move.{Move}
+use Rattle.py_lines.specs.declared.mode.Move.TheVariants as moves
 use Rattle.py_lines.specs.declared.scan.Scan.{Scan}
+use Rattle.py_lines.specs.declared.scan.Stop.{Stop}
 use Rattle.py_lines.specs.declared.scan.Stop.TheVariants as stops
 use Rattle.py_lines.specs.declared.source.Source.{Source}
-use Rattle.py_lines.specs.Machine.{Scanned, fresh, step, run_from, is_final}
-use Rattle.py_lines.specs.Scan.{IsUnderWay}
-use Rattle.py_lines.specs.Source.{reader_of, HasScanned, FailsAt}
-use Rattle.py_lines.proofs.Utf8.{shorter_front}
-use Rattle.py_lines.proofs.Tally.{byte_len-append, line_ends-append}
-use Rattle.py_lines.proofs.Pieces.{spelled-append}
-use Rattle.py_lines.proofs.Running.{sound_run}
-use Rattle.py_lines.proofs.Reading.{live, dead, is_found, refusal, in_string, string_mode, found}
-use Rattle.py_lines.proofs.Frame.{behind, behind_if, step-behind}
-use Rattle.py_lines.proofs.Fronts.{IsStuck, run_behind, front}
-use Rattle.py_lines.proofs.Complete.{run_from-append}
-use Rattle.py_lines.proofs.Given.{Situation}
-use Rattle.py_lines.proofs.Outcomes.{way_line, way_places}
-use Rattle.py_lines.proofs.Advancing.{situation, all_taken}
-
-module _ {r : Reader} {bytes : List ℕ} {lines : List LogicalLine} {read rest : List ℕ} (s : Situation r bytes lines read rest) where
-  -- all characters of the text
-  whole : spelled s.given.pieces ++ (read ++ s.after) ≡ s.given.characters
-  whole = ap (λ t. spelled s.given.pieces ++ t) (sym s.split) ∙ s.given.spell
-
-  fit : AreReadBefore s.given.pieces (read ++ s.after)
-  fit = subst (AreReadBefore s.given.pieces) s.split s.given.fit
-
-  -- the line of a place in the line that was being read
-  fault_line : line_ends read ≡ 0 → (k : ℕ) → k ≤ byte_len read → (before after : List ℕ) → before ++ after ≡ s.given.characters → byte_len before ≡ r.place + k → r.line ≡ 1 + line_ends before
-  fault_line one_line k within before after spell place =
-      let first = shorter_front (spelled s.given.pieces) before (read ++ s.after) after (whole ∙ sym spell) (omega (arith, s.given.place, place)) in
-      let second = shorter_front before (spelled s.given.pieces ++ read) after s.after (spell ∙ sym whole ∙ sym (append_assoc (spelled s.given.pieces) read s.after)) (omega (arith, s.given.place, place, within, byte_len-append (spelled s.given.pieces) read)) in
-      let parts : read ≡ first.0 ++ second.0 = append_cancel_left (spelled s.given.pieces) read (first.0 ++ second.0) (second.1 ∙ ap (λ t. t ++ second.0) first.1 ∙ append_assoc (spelled s.given.pieces) first.0 second.0) in
-      omega (arith, s.given.line, ap line_ends first.1, line_ends-append (spelled s.given.pieces) first.0, ap line_ends parts, line_ends-append first.0 second.0, one_line)
-
-  -- the machine over the whole text so far
-  run_here : (t : Scanned) → run_from (Some (fresh [])) read ≡ Some t → run_from (Some (fresh [])) (spelled s.given.pieces ++ read) ≡ Some (behind s.given.pieces t)
-  run_here t runs = run_behind s.given.pieces (read ++ s.after) fit s.ends read (Some t) runs
-
-  -- the fault of a text with these lines before it
-  refused_so : (f : Fault) (scan : Scan) (way : IsUnderWay scan read) → IsStuck way.state s.after → IsLexicalFault s.given.characters s.given.tail f → IsLexed r.text lines (Some f)
-  refused_so f scan way stuck fault = record {
-    characters = s.given.characters;
-    tail = s.given.tail;
-    pieces = s.given.pieces;
-    decodes = s.given.decodes;
-    front = front s.given.pieces s.given.characters read s.after way.state fit s.ends way.runs way.one_line stuck whole;
-    refused = fault;
-    cut = s.given.cut;
-  }
+use Rattle.py_lines.specs.Machine.{Scanned, fresh, step, moved, move_of, run_from, in_short, is_behind_slash, character_kind, character_place, Bracket, brackets_of, IsSound}
+use Rattle.py_lines.specs.Scan.{begun, EndsNoLine, IsUnderWay, is_none, is_return_mode, is_returned, stack_of, stack_if, refused_place}
+use Rattle.py_lines.specs.Source.{reader_of, first_mode, HasScanned, StandsAt, FailsAt, Advances}
+use Rattle.py_lines.proofs.Pieces.{piece}
+use Rattle.py_lines.proofs.Runs.{scanned, pieces_at}
+use Rattle.py_lines.proofs.Live.{keeps}
+use Rattle.py_lines.proofs.Stacks.{stack-from_balanced}
+use Rattle.py_lines.proofs.Lexing.{IsLineOf, HasFront, refused_at_character, refused_at_bytes}
+use Rattle.py_lines.proofs.Cuts.{byte_len-append}
+use Rattle.py_lines.proofs.Pushing.{closed_one_line}
+use Rattle.py_lines.proofs.Running.{sound_run, way_stop}
+use Rattle.py_lines.proofs.Joining.{begun_sound, base_of, Joined, joined, dead_at}
+use Rattle.py_lines.proofs.Given.{Situation, base_lines}
+use Rattle.py_lines.proofs.Advancing.{situation, Within, front_spells, all_within}
 
 -- the reader failed
-fails : (old new : Source) (f : Fault) → old.fault ≡ None → FailsAt old f new → ((lines : List LogicalLine) → HasGiven (reader_of old) lines → IsLexed old.bytes.now lines (Some f)) → Fails (reader_of old) f (reader_of new)
-fails old new f no_fault at all = record {
+pub fails : (old new : Source) (kind : FaultKind) (behind : ℕ) (error : LexError) (at : FailsAt old kind behind error new) → old.fault ≡ None → ((lines : List LogicalLine) → HasGiven (reader_of old) lines → IsLexed old.bytes.now lines (Some at.fault)) → Fails (reader_of old) at.fault (reader_of new)
+fails old new kind behind error at no_fault all = record {
   all = all;
   again = λ first known. absurd (let clash = sym no_fault ∙ known in cc);
   text = ap (λ (b : Bor (List ℕ)). b.now) at.bytes;
-  place = at.place;
+  place = at.here;
   kept = at.kept;
 }
 
-module _ {r : Reader} {bytes : List ℕ} {lines : List LogicalLine} {read rest : List ℕ} (s : Situation r bytes lines read rest) (scan : Scan) (way : IsUnderWay scan read) where
-  here : run_from (Some (fresh [])) (spelled s.given.pieces ++ read) ≡ Some (behind s.given.pieces way.state)
-  here = run_here s way.state way.runs
+-- a CR that a line ends with isn't refused its next character
+pub open_return : (m : Mode) (done : List Piece) (held : List ℕ) (c : ℕ) (st : List Bracket) → brackets_of done ≡ Some st → stack_if (step (scanned done m held) c) ≡ None → (is_return_mode m && is_none st) && not (is_line_feed c) ≡ false → m ≡ modes.Return → is_none st ≡ false
+unfolding move_of
+open_return modes.Return done held c (b ∷ bs) stacked refuses not_yet is = refl
+open_return modes.Return done held c [] stacked refuses not_yet is =
+    absurd (cond_both (is_line_feed c) _ _ (λ (v : Move). stack_if (moved (scanned done modes.Return held) c v) ≡ None → ⊥)
+    (λ feeds none. let clash : Some [] ≡ None = sym (keeps done (piece line_end (held ++ c ∷ [])) [] refl refl stacked) ∙ none in cc)
+    (λ other none. both_ways _ not_yet (ap not other)) refuses)
+open_return m done held c st stacked refuses not_yet is = absurd (cc)
 
-  live_here : IsLive (spelled s.given.pieces ++ read)
-  live_here = live (s.given.pieces ++ way.state.done) way.state.mode way.state.held (spelled s.given.pieces ++ read) here
+same_kind : (m n : Mode) (c : ℕ) → in_short m ≡ in_short n → is_behind_slash m ≡ is_behind_slash n → character_kind m c ≡ character_kind n c
+same_kind m n c short slash = rw (short, slash) refl
 
-  -- the open string begins where the scan says
-  string_start : r.place + scan.start ≡ byte_len (spelled (s.given.pieces ++ way.state.done))
-  string_start = omega (arith, s.given.place, way.tallies.start, ap byte_len (spelled-append s.given.pieces way.state.done), byte_len-append (spelled s.given.pieces) (spelled way.state.done))
+place_by : (b : Bool) (place k start stop done whole : ℕ) → place ≡ k → (b ≡ true → done ≡ k + start) → whole ≡ k + stop → place + (if b then start else stop) ≡ (if b then done else whole)
+place_by true place k start stop done whole here first second = ap (λ (n : ℕ). n + start) here ∙ sym (first refl)
+place_by false place k start stop done whole here first second = ap (λ (n : ℕ). n + stop) here ∙ sym second
 
-  scan_stop : scan.stop ≡ byte_len read
-  scan_stop = (way_places scan read way).1
+module _ (old : Source) (stop : Stop) (has : HasScanned old stop) where
+  pub start_sound : IsSound (begun (first_mode old.place)) []
+  start_sound = begun_sound old.place
 
-  start_within : scan.start ≤ byte_len read
-  start_within = (way_places scan read way).0
+  abbrev pub here : (lines : List LogicalLine) → HasGiven (reader_of old) lines → Situation (reader_of old) old.characters.now lines has.scans.read has.scans.rest
+  here lines given = situation old stop lines has given
 
-  open_string : is_final way.state.mode ≡ false → InShortString (spelled s.given.pieces ++ read) (spelled (s.given.pieces ++ way.state.done))
-  open_string unfinished = in_string (s.given.pieces ++ way.state.done) way.state.mode way.state.held (spelled s.given.pieces ++ read) (sound_run (spelled s.given.pieces ++ read) (behind s.given.pieces way.state) here) unfinished
+  pub base_fit : (lines : List LogicalLine) (given : HasGiven (reader_of old) lines) → AreReadBefore (here lines given).given.pieces (has.scans.read ++ (here lines given).after)
+  base_fit lines given = subst (AreReadBefore (here lines given).given.pieces) (here lines given).split (here lines given).given.fit
 
-  module _ (c : ℕ) (after : List ℕ) (follows : s.after ≡ c ∷ after) (refuses : step way.state c ≡ None) where
-    refused_here : step (behind s.given.pieces way.state) c ≡ None
-    refused_here = step-behind s.given.pieces way.state c ∙ ap (behind_if s.given.pieces) refuses
+  pub level : (lines : List LogicalLine) (given : HasGiven (reader_of old) lines) → brackets_of (here lines given).given.pieces ≡ Some []
+  level lines given = stack-from_balanced (here lines given).given.pieces (here lines given).given.balanced (here lines given).given.shallow
 
-    spell_here : (spelled s.given.pieces ++ read) ++ c ∷ after ≡ s.given.characters
-    spell_here = append_assoc (spelled s.given.pieces) read (c ∷ after) ∙ ap (λ t. spelled s.given.pieces ++ (read ++ t)) (sym follows) ∙ whole s
+  -- the machine over the whole text so far
+  pub joins : (lines : List LogicalLine) (given : HasGiven (reader_of old) lines) (way : IsUnderWay (first_mode old.place) old.scan has.scans.read) → Joined (here lines given).given.pieces has.scans.read way.state (stack_of old.scan.brackets) (here lines given).after
+  joins lines given way =
+      let s = here lines given in
+      joined old.place s.given.pieces s.after (level lines given) has.scans.read way.state (stack_of old.scan.brackets) (base_fit lines given)
+      (base_of old.place s.given.pieces (has.scans.read ++ s.after) (base_fit lines given) s.ends s.given.place) way.runs way.stacked
 
-    dies : DiesAt s.given.characters (spelled s.given.pieces ++ read) c
-    dies = record {
-      after = after;
-      spell = spell_here;
-      live = live_here;
-      dead = dead (spelled s.given.pieces ++ read) (behind s.given.pieces way.state) c here refused_here;
-    }
+  pub whole : (lines : List LogicalLine) (given : HasGiven (reader_of old) lines) → (spelled (here lines given).given.pieces ++ has.scans.read) ++ (here lines given).after ≡ (here lines given).given.characters
+  whole lines given =
+      let s = here lines given in
+      append_assoc (spelled s.given.pieces) has.scans.read s.after ∙ ap (λ t. spelled s.given.pieces ++ t) (sym s.split) ∙ s.given.spell
 
-    unread : (pieces : List Piece) → ¬ (IsReading pieces s.given.characters)
-    unread pieces is =
-        let finds = found pieces [] is.fit in
-        let goes : run_from (Some (fresh [])) s.given.characters ≡ None
-        = ap (run_from (Some (fresh []))) (sym spell_here) ∙ run_from-append (Some (fresh [])) (spelled s.given.pieces ++ read) (c ∷ after) ∙ ap (λ o. run_from o (c ∷ after)) here ∙ ap (λ o. run_from o after) refused_here in
-        let clash = sym goes ∙ ap (run_from (Some (fresh []))) (sym is.spell) ∙ finds.runs in
-        cc
+  -- the line of a place in the line that was being read
+  pub line_of_fault : (lines : List LogicalLine) (given : HasGiven (reader_of old) lines) (kind : FaultKind) (behind : ℕ) (fault : Fault) → StandsAt old kind behind fault → Within has.scans.read behind → IsLineOf fault (here lines given).given.characters
+  line_of_fault lines given kind behind fault at w =
+      let s = here lines given in
+      let base = s.given.pieces in
+      let taken : encode_utf8_all w.front ≡ take behind (drop old.place old.characters.now)
+      = sym (ap (take behind) (sym (front_spells old stop has behind w)) ∙ ap (λ (n : ℕ). take n (encode_utf8_all w.front ++ (encode_utf8_all w.later ++ has.scans.rest))) w.size ∙ take-append_seam (encode_utf8_all w.front) (encode_utf8_all w.later ++ has.scans.rest)) in
+      let split : w.front ++ (w.later ++ s.after) ≡ has.scans.read ++ s.after = sym (append_assoc w.front w.later s.after) ∙ ap (λ t. t ++ s.after) w.split in
+      record {
+        front = spelled base ++ w.front;
+        rest = w.later ++ s.after;
+        spell = append_assoc (spelled base) w.front (w.later ++ s.after) ∙ ap (λ t. spelled base ++ t) split ∙ sym (append_assoc (spelled base) has.scans.read s.after) ∙ whole lines given;
+        place = omega (arith, at.place, w.size, s.given.place, byte_len-append (spelled base) w.front);
+        line = omega (arith, at.line w.front taken, s.given.line, base_lines base w.front (w.later ++ s.after) (subst (AreReadBefore base) (sym split) (base_fit lines given)));
+      }
 
-    refused_fault : (f : Fault) (k : ℕ) → f.line ≡ r.line → f.offset ≡ r.place + k → k ≤ byte_len read → IsFaultAt f.kind s.given.characters s.given.tail f.offset → IsLexed r.text lines (Some f)
-    refused_fault f k line offset within place =
-        refused_so s f scan way (inr (c, after, follows, refuses)) (record {
-          unread = λ _. unread;
-          place = place;
-          line = λ front rest' spell size. line ∙ fault_line s (way_line scan read way) k within front rest' spell (size ∙ offset);
-        })
+  -- the lines given are the front
+  pub has_front : (lines : List LogicalLine) (given : HasGiven (reader_of old) lines) (way : IsUnderWay (first_mode old.place) old.scan has.scans.read) → (way.state.mode ≡ modes.Return → is_none (stack_of old.scan.brackets) ≡ false) → HasFront (joins lines given way).state (here lines given).given.pieces
+  has_front lines given way open_yet = record {
+    others = pieces_at way.state;
+    spell = (joins lines given way).pieces;
+    ended = (here lines given).ends;
+    none = closed_one_line way.state.mode way.state.done way.state.held (stack_of old.scan.brackets) way.stacked way.one_line open_yet;
+  }
 
-  -- a line end in an open string, or any other character
-  refused_string : (c : ℕ) (after : List ℕ) → s.after ≡ c ∷ after → step way.state c ≡ None → is_line_end c ≡ true → is_final way.state.mode ≡ false → IsLexed r.text lines (Some (record { kind = OpenString; offset = r.place + scan.start; line = r.line }))
-  refused_string c after follows refuses breaks unfinished =
-      refused_fault c after follows refuses (record { kind = OpenString; offset = r.place + scan.start; line = r.line }) scan.start refl refl start_within
-      (inl (record { before = spelled s.given.pieces ++ read; c = c; start = spelled (s.given.pieces ++ way.state.done); dies = dies c after follows refuses; breaks = breaks; inside = open_string unfinished; place = string_start }))
+  pub refused_within : (way : IsUnderWay (first_mode old.place) old.scan has.scans.read) → Within has.scans.read (refused_place old.scan)
+  refused_within way =
+      let sound = sound_run (first_mode old.place) has.scans.read way.state start_sound way.runs in
+      cond_both (in_short old.scan.mode || is_behind_slash old.scan.mode) old.scan.start old.scan.stop (Within has.scans.read)
+      (λ h. record { front = spelled way.state.done; later = way.state.held; split = sound.spell; size = way.tallies.start })
+      (λ h. all_within has.scans.read old.scan.stop (way_stop (first_mode old.place) old.scan has.scans.read way start_sound))
 
-  refused_character : (c : ℕ) (after : List ℕ) → s.after ≡ c ∷ after → step way.state c ≡ None → (is_line_end c ≡ true → is_final way.state.mode ≡ true) → IsLexed r.text lines (Some (record { kind = BadChar; offset = r.place + scan.stop; line = r.line }))
-  refused_character c after follows refuses other =
-      refused_fault c after follows refuses (record { kind = BadChar; offset = r.place + scan.stop; line = r.line }) scan.stop refl refl (omega (arith, scan_stop))
-      (record {
-        before = spelled s.given.pieces ++ read;
-        c = c;
-        dies = dies c after follows refuses;
-        other = λ breaks start inside. both_ways _ (string_mode (spelled s.given.pieces ++ read) start (behind s.given.pieces way.state) here inside) (other breaks);
-        place = omega (arith, s.given.place, scan_stop, byte_len-append (spelled s.given.pieces) read);
-      })
-
-  -- all characters were taken
-  all_read : s.after ≡ [] → s.given.characters ≡ spelled s.given.pieces ++ read
-  all_read none = sym (whole s) ∙ ap (λ t. spelled s.given.pieces ++ (read ++ t)) none ∙ ap (λ t. spelled s.given.pieces ++ t) (append-nil read)
-
-  -- bytes that begin no character
-  undecodable : s.after ≡ [] → ¬ (s.given.tail ≡ []) → IsLexed r.text lines (Some (record { kind = BadUtf8; offset = length bytes; line = r.line }))
-  undecodable none some =
-      let size : length bytes ≡ byte_len s.given.characters = ap length (sym s.spells) in
-      refused_so s (record { kind = BadUtf8; offset = length bytes; line = r.line }) scan way (inl none) (record {
-        unread = λ empty. absurd (some empty);
-        place = record { bad = some; live = subst IsLive (sym (all_read none)) live_here; place = size };
-        line = λ front rest' spell at. fault_line s (way_line scan read way) (byte_len read) (omega arith) front rest' spell (at ∙ size ∙ omega (arith, s.given.place, ap byte_len (all_read none), byte_len-append (spelled s.given.pieces) read));
-      })
-
-  -- the text's end in an open string
-  ends_in_string : s.after ≡ [] → s.given.tail ≡ [] → is_final way.state.mode ≡ false → IsLexed r.text lines (Some (record { kind = OpenString; offset = r.place + scan.start; line = r.line }))
-  ends_in_string none empty unfinished =
-      let all = all_read none in
-      refused_so s (record { kind = OpenString; offset = r.place + scan.start; line = r.line }) scan way (inl none) (record {
-        unread = λ _ pieces is. both_ways _ unfinished (is_found pieces s.given.characters (behind s.given.pieces way.state) (ap (run_from (Some (fresh []))) all ∙ here) is).1;
-        place = inr (record { start = spelled (s.given.pieces ++ way.state.done); whole = empty; live = subst IsLive (sym all) live_here; inside = subst (λ t. InShortString t (spelled (s.given.pieces ++ way.state.done))) (sym all) (open_string unfinished); place = string_start });
-        line = λ front rest' spell at. fault_line s (way_line scan read way) scan.start start_within front rest' spell at;
-      })
+  refused_offset : (lines : List LogicalLine) (given : HasGiven (reader_of old) lines) (way : IsUnderWay (first_mode old.place) old.scan has.scans.read) → old.place + refused_place old.scan ≡ character_place (joins lines given way).state (spelled (here lines given).given.pieces ++ has.scans.read)
+  refused_offset lines given way =
+      let j = joins lines given way in
+      let s = here lines given in
+      let base = s.given.pieces in
+      let flags : in_short old.scan.mode || is_behind_slash old.scan.mode ≡ in_short way.state.mode || is_behind_slash way.state.mode = ap (λ (m : Mode). in_short m || is_behind_slash m) way.tallies.mode in
+      let state_flags : in_short way.state.mode || is_behind_slash way.state.mode ≡ in_short j.state.mode || is_behind_slash j.state.mode = ap (λ (b : Bool). b || is_behind_slash way.state.mode) (sym j.short) ∙ ap (λ (b : Bool). in_short j.state.mode || b) (sym j.slash) in
+      ap (λ (b : Bool). old.place + (if b then old.scan.start else old.scan.stop)) flags
+      ∙ place_by (in_short way.state.mode || is_behind_slash way.state.mode) old.place (byte_len (spelled base)) old.scan.start old.scan.stop (byte_len (spelled j.state.done)) (byte_len (spelled base ++ has.scans.read)) s.given.place
+      (λ h. j.start h ∙ ap (λ (n : ℕ). byte_len (spelled base) + n) (sym way.tallies.start))
+      (byte_len-append (spelled base) has.scans.read ∙ ap (λ (n : ℕ). byte_len (spelled base) + n) (sym (way_stop (first_mode old.place) old.scan has.scans.read way start_sound)))
+      ∙ ap (λ (b : Bool). if b then byte_len (spelled j.state.done) else byte_len (spelled base ++ has.scans.read)) state_flags
 
 -- the next character was refused
-follows_so : (after rest : List ℕ) (c : ℕ) (more : List ℕ) → encode_utf8_all after ≡ rest → rest ≡ encode_utf8_all (c ∷ more) → after ≡ c ∷ more
-follows_so after rest c more is spells = encodes_same after (c ∷ more) (is ∙ spells)
-
-pub fails_in_string : (old new : Source) (c : ℕ) (has : HasScanned old (stops.Refused c)) → is_line_end c ≡ true → is_final has.scans.stops.0.state.mode ≡ false → FailsAt old (record { kind = OpenString; offset = old.place + old.scan.start; line = old.line }) new → Fails (reader_of old) (record { kind = OpenString; offset = old.place + old.scan.start; line = old.line }) (reader_of new)
-fails_in_string old new c has breaks unfinished at =
+pub fails_at_character : (old new : Source) (c : ℕ) (kind : FaultKind) (error : LexError) (has : HasScanned old (stops.Refused c)) (at : FailsAt old kind (refused_place old.scan) error new) → kind ≡ character_kind old.scan.mode c → Fails (reader_of old) at.fault (reader_of new)
+fails_at_character old new c kind error has at kind_is =
+    let stop : Stop = stops.Refused c in
     let way = has.scans.stops.0 in
-    fails old new _ has.no_fault at (λ lines given.
-    let s = situation old (stops.Refused c) lines has given in
-    refused_string s old.scan way c has.scans.stops.1 (follows_so s.after has.scans.rest c has.scans.stops.1 s.follow has.scans.stops.2) (refusal way.state c _ has.scans.stops.3) breaks unfinished)
-
-pub fails_at_character : (old new : Source) (c : ℕ) (has : HasScanned old (stops.Refused c)) → (is_line_end c ≡ true → is_final has.scans.stops.0.state.mode ≡ true) → FailsAt old (record { kind = BadChar; offset = old.place + old.scan.stop; line = old.line }) new → Fails (reader_of old) (record { kind = BadChar; offset = old.place + old.scan.stop; line = old.line }) (reader_of new)
-fails_at_character old new c has other at =
-    let way = has.scans.stops.0 in
-    fails old new _ has.no_fault at (λ lines given.
-    let s = situation old (stops.Refused c) lines has given in
-    refused_character s old.scan way c has.scans.stops.1 (follows_so s.after has.scans.rest c has.scans.stops.1 s.follow has.scans.stops.2) (refusal way.state c _ has.scans.stops.3) other)
-
-pub fails_at_bytes : (old new : Source) (has : HasScanned old stops.TextEnd) → length old.characters.now < length old.bytes.now → FailsAt old (record { kind = BadUtf8; offset = length old.characters.now; line = old.line }) new → Fails (reader_of old) (record { kind = BadUtf8; offset = length old.characters.now; line = old.line }) (reader_of new)
-fails_at_bytes old new has more at =
-    fails old new _ has.no_fault at (λ lines given.
-    let s = situation old stops.TextEnd lines has given in
-    undecodable s old.scan has.scans.stops.0 (all_taken s.after has.scans.rest s.follow has.scans.stops.1) (λ none. omega (arith, ap length (sym s.tail_is ∙ none), length-drop (length old.characters.now) old.bytes.now, more)))
-
-pub fails_at_end : (old new : Source) (has : HasScanned old stops.TextEnd) → length old.bytes.now ≤ length old.characters.now → is_final has.scans.stops.0.state.mode ≡ false → FailsAt old (record { kind = OpenString; offset = old.place + old.scan.start; line = old.line }) new → Fails (reader_of old) (record { kind = OpenString; offset = old.place + old.scan.start; line = old.line }) (reader_of new)
-fails_at_end old new has whole_text unfinished at =
-    fails old new _ has.no_fault at (λ lines given.
-    let s = situation old stops.TextEnd lines has given in
-    ends_in_string s old.scan has.scans.stops.0 (all_taken s.after has.scans.rest s.follow has.scans.stops.1) (s.tail_is ∙ drop_all (length old.characters.now) old.bytes.now whole_text) unfinished)
+    let more = has.scans.stops.1 in
+    fails old new kind (refused_place old.scan) error at has.no_fault (λ lines given.
+    let s = situation old stop lines has given in
+    let j = joins old stop has lines given way in
+    let follows : s.after ≡ c ∷ more = encodes_same s.after (c ∷ more) (s.follow ∙ has.scans.stops.2) in
+    let open_yet = open_return way.state.mode way.state.done way.state.held c (stack_of old.scan.brackets) way.stacked has.scans.stops.3 (ap (λ (m : Mode). (is_return_mode m && is_none (stack_of old.scan.brackets)) && not (is_line_feed c)) (sym way.tallies.mode) ∙ has.scans.stops.4) in
+    let spell = ap (λ t. (spelled s.given.pieces ++ has.scans.read) ++ t) (sym follows) ∙ whole old stop has lines given in
+    subst (λ l. IsRefused old.bytes.now l at.fault) (sym s.given.cut)
+    (refused_at_character old.bytes.now s.given.characters s.given.tail (spelled s.given.pieces ++ has.scans.read) more c j.state j.st s.given.pieces at.fault s.given.decodes spell j.runs
+    (dead_at s.given.pieces has.scans.read s.after more way.state (stack_of old.scan.brackets) c j (level old stop has lines given) follows has.scans.stops.3)
+    (has_front old stop has lines given way open_yet)
+    (at.at.is ∙ kind_is ∙ ap (λ (m : Mode). character_kind m c) way.tallies.mode ∙ same_kind way.state.mode j.state.mode c (sym j.short) (sym j.slash))
+    (at.at.place ∙ refused_offset old stop has lines given way)
+    (line_of_fault old stop has lines given kind (refused_place old.scan) at.fault at.at (refused_within old stop has way))))

@@ -1,103 +1,114 @@
 -- The scan of a line's characters, one after another.
-use Rattle.std.proofs.Common.{◌≡◌, ℕ, true, false, Option, None, Some, Ok, List, [], ◌∷◌, ◌++◌, refl, sym, ap, ◌∙◌, subst, append_assoc, append-nil}
-use Rattle.std.specs.Prelude.{encode_utf8_all, encode_utf8, IsUtf8}
+use Rattle.std.proofs.Common.{◌≡◌, ℕ, ◌+◌, ◌<◌, ◌≤◌, Bool, true, false, not, ◌&&◌, Option, None, Some, Result, Ok, List, [], ◌∷◌, ◌++◌, length, refl, sym, ap, ◌∙◌, subst, append_assoc, append-nil, arith}
+use Rattle.std.specs.Prelude.{encode_utf8_all, encode_utf8}
 use Rattle.std.specs.Str.{all_scalars}
-use Rattle.std.proofs.lemmas.Str.{encodes-append}
-use Rattle.std.proofs.lemmas.Bool.{or_from}
-use Rattle.py_lines.specs.Piece.{Class, string, operator, Piece}
-use Rattle.py_lines.specs.LogicalLine.{is_line_end_class}
-use Rattle.py_lines.specs.declared.mode.Move.{Move}
-use Rattle.py_lines.specs.declared.mode.Move.TheVariants as moves
-use Rattle.py_lines.specs.declared.mode.Start.{Start}
-use Rattle.py_lines.specs.declared.mode.Start.TheVariants as starts
+use Rattle.std.proofs.lemmas.Bool.{both_ways, and_right}
+use Rattle.std.proofs.lemmas.Str.{encodes_same}
+use Rattle.py_lines.specs.Character.{is_line_feed, is_return}
+use Rattle.py_lines.specs.Piece.{Class, line_end, Piece, ends, begins, MayPrecede, return, spelled, AreReadBefore}
+use Rattle.py_lines.specs.LogicalLine.{byte_len, line_ends}
+use Rattle.py_lines.specs.declared.mode.Mode.{Mode}
+use Rattle.py_lines.specs.declared.mode.Mode.TheVariants as modes
+use Rattle.py_lines.specs.declared.scan.Progress.{Progress}
 use Rattle.py_lines.specs.declared.scan.Progress.TheVariants as progress
 use Rattle.py_lines.specs.declared.scan.Scan.{Scan}
-use Rattle.py_lines.specs.Machine.{Scanned, fresh, closed, step, moved, started, run_from, start_of, IsSound, has_line_end}
-use Rattle.py_lines.specs.Scan.{Tallies, TalliesIf, Takes, progress_of, progress_at, IsUnderWay, IsAtLineEnd, StopsSo}
 use Rattle.py_lines.specs.declared.scan.Stop.TheVariants as stops
-use Rattle.py_lines.proofs.Utf8.{front_chars, all_scalars-parts}
-use Rattle.py_lines.proofs.Pieces.{piece}
-use Rattle.py_lines.proofs.Complete.{scanned, run_from-append}
-use Rattle.py_lines.proofs.Sound.{SoundIf, run_sound, fresh_sound}
-use Rattle.py_lines.proofs.Closing.{any_push, closed_one_line}
+use Rattle.py_lines.specs.Machine.{Scanned, fresh, closed, step, run_from, IsSound, Bracket, brackets_of}
+use Rattle.py_lines.specs.Scan.{Tallies, IsStacked, Takes, Closes, begun, stack_of, is_none, is_returned, is_return_mode, EndsNoLine, AreLine, IsUnderWay, IsAtLineEnd, StopsSo}
+use Rattle.py_lines.proofs.Pieces.{piece, spelled-push, AreReadBefore-push, follows_any}
+use Rattle.py_lines.proofs.Tests.{return_is}
+use Rattle.py_lines.proofs.Runs.{scanned, run_from-append}
+use Rattle.py_lines.proofs.Stacks.{stands}
+use Rattle.py_lines.proofs.Sound.{SoundIf, run_sound}
+use Rattle.py_lines.proofs.Closing.{closes_shut}
+use Rattle.py_lines.proofs.Pushing.{one_return, none_level, none_stack}
+use Rattle.py_lines.proofs.Cuts.{byte_len-append}
 
 -- where the machine has come, it is sound
-pub sound_run : (read : List ℕ) (s : Scanned) → run_from (Some (fresh [])) read ≡ Some s → IsSound s read
-sound_run read s runs = subst (λ o. SoundIf o read) runs (run_sound (fresh []) [] read fresh_sound)
+pub sound_run : (m : Mode) (read : List ℕ) (s : Scanned) → IsSound (begun m) [] → run_from (Some (begun m)) read ≡ Some s → IsSound s read
+sound_run m read s start runs = subst (λ o. SoundIf o read) runs (run_sound (begun m) [] read start)
 
 -- one character more
-pub run_push : (read : List ℕ) (s : Scanned) (c : ℕ) → run_from (Some (fresh [])) read ≡ Some s → run_from (Some (fresh [])) (read ++ c ∷ []) ≡ step s c
-run_push read s c runs = run_from-append (Some (fresh [])) read (c ∷ []) ∙ ap (λ o. run_from o (c ∷ [])) runs ∙ whole (step s c)
+pub run_push : (from : Scanned) (read : List ℕ) (s : Scanned) (c : ℕ) → run_from (Some from) read ≡ Some s → run_from (Some from) (read ++ c ∷ []) ≡ step s c
+run_push from read s c runs = run_from-append (Some from) read (c ∷ []) ∙ ap (λ o. run_from o (c ∷ [])) runs ∙ whole (step s c)
   where
     whole : (o : Option Scanned) → run_from o [] ≡ o
     whole None = refl
     whole (Some t) = refl
 
--- the machine went on in the same line
-pub record GoesOn (s : Scanned) (c : ℕ) (o : Option Scanned) : Type 0 where
-  pub next : Scanned
-  pub is : o ≡ Some next
-  pub one_line : has_line_end next.done ≡ false
-
-same_line : (ps : List Piece) (class : Class) (text : List ℕ) → has_line_end ps ≡ false → is_line_end_class class ≡ false → has_line_end (ps ++ piece class text ∷ []) ≡ false
-same_line ps class text none other = any_push (λ p. is_line_end_class p.class) ps (piece class text) ∙ or_from _ _ none (or_from _ false other refl)
-
-on_start : (s : Scanned) (done : List Piece) (c : ℕ) (st : Start) → progress_at st ≡ progress.Going → has_line_end done ≡ false → GoesOn s c (started done c st)
-on_start s done c (starts.Open m) going none = record { next = scanned done m (c ∷ []); is = refl; one_line = none }
-on_start s done c starts.Operator going none = record { next = fresh (done ++ piece operator (c ∷ []) ∷ []); is = refl; one_line = same_line done operator (c ∷ []) none refl }
-on_start s done c starts.LineEnd going none = absurd (cc)
-on_start s done c starts.Nothing going none = absurd (cc)
-
-on_move : (s : Scanned) (c : ℕ) (v : Move) → progress_of v c ≡ progress.Going → has_line_end s.done ≡ false → GoesOn s c (moved s c v)
-on_move s c (moves.Grows m) going none = record { next = scanned s.done m (s.held ++ c ∷ []); is = refl; one_line = none }
-on_move s c moves.Closes going none = record { next = fresh (s.done ++ piece string (s.held ++ c ∷ []) ∷ []); is = refl; one_line = same_line s.done string (s.held ++ c ∷ []) none refl }
-on_move s c moves.Breaks going none = on_start s (closed s.mode s.done s.held) c (start_of c) going (closed_one_line s.done s.mode s.held none)
-on_move s c moves.Refused going none = absurd (cc)
-
 -- a character that was taken, and ended no line
-pub under_way : (old new : Scan) (read : List ℕ) (c : ℕ) (way : IsUnderWay old read) → Takes old way.state c (Ok progress.Going) new → IsUnderWay new (read ++ c ∷ [])
-under_way old new read c way takes =
-    let on = on_move way.state c _ takes.0 way.one_line in
-    record {
-      state = on.next;
-      runs = run_push read way.state c way.runs ∙ on.is;
-      tallies = subst (TalliesIf new) on.is takes.1;
-      one_line = on.one_line;
-    }
-
--- a character that ended the line
-pub at_line_end : (old new : Scan) (read : List ℕ) (c : ℕ) (way : IsUnderWay old read) → Takes old way.state c (Ok progress.LineEnded) new → IsAtLineEnd new (read ++ c ∷ [])
-at_line_end old new read c way takes = record {
-  before = read;
-  c = c;
-  state = way.state;
-  last = refl;
-  runs = way.runs;
-  one_line = way.one_line;
-  ends = takes.0;
-  tallies = takes.1;
+pub under_way : (m : Mode) (old new : Scan) (read : List ℕ) (c : ℕ) (way : IsUnderWay m old read) → Takes old way.state c (Ok progress.Going) new → IsUnderWay m new (read ++ c ∷ [])
+under_way m old new read c way takes = record {
+  state = takes.0.next;
+  runs = run_push (begun m) read way.state c way.runs ∙ takes.0.goes;
+  tallies = takes.0.tallies;
+  stacked = takes.0.stacked;
+  one_line = takes.0.one_line;
 }
 
--- the iterator gave one character more of a text
-pub record Advances (text read : List ℕ) (c : ℕ) (rest : List ℕ) : Type 0 where
-  pub spell : encode_utf8_all (read ++ c ∷ []) ++ rest ≡ text
-  pub scalars : all_scalars (read ++ c ∷ []) ≡ true
-  pub after : List ℕ
-  pub follow : rest ≡ encode_utf8_all after
-
-pub advances : (text read : List ℕ) (c : ℕ) (old rest : List ℕ) → IsUtf8 text → encode_utf8_all read ++ old ≡ text → old ≡ encode_utf8 c ++ rest → Advances text read c rest
-advances text read c old rest utf8 spell is =
-    let here : encode_utf8_all (read ++ c ∷ []) ++ rest ≡ text = ap (λ t. t ++ rest) (encodes-append read (c ∷ [])) ∙ append_assoc (encode_utf8_all read) (encode_utf8_all (c ∷ [])) rest ∙ ap (λ t. encode_utf8_all read ++ (t ++ rest)) (append-nil (encode_utf8 c)) ∙ ap (λ t. encode_utf8_all read ++ t) (sym is) ∙ spell in
-    let split = front_chars (read ++ c ∷ []) utf8.0 rest (utf8.1.1 ∙ sym here) in
+-- a character that ended the line
+pub at_line_end : (m : Mode) (old new : Scan) (read rest : List ℕ) (c len : ℕ) (way : IsUnderWay m old read) → IsSound (begun m) [] → Takes old way.state c (Ok (progress.LineEnded len)) new → IsAtLineEnd m new (read ++ c ∷ []) rest len
+at_line_end m old new read rest c len way start takes =
+    let ended = takes.0 in
+    let sound = sound_run m (read ++ c ∷ []) (fresh (ended.body ++ ended.last ∷ [])) start (run_push (begun m) read way.state c way.runs ∙ ended.goes) in
     record {
-      spell = here;
-      scalars = (all_scalars-parts (read ++ c ∷ []) split.0 (ap all_scalars (sym split.1) ∙ utf8.1.0)).0;
-      after = split.0;
-      follow = sym split.2;
+      body = ended.body;
+      last = ended.last;
+      are = ended.are;
+      to = fresh (ended.body ++ ended.last ∷ []);
+      runs = run_push (begun m) read way.state c way.runs ∙ ended.goes;
+      spell = sym (append-nil (spelled (ended.body ++ ended.last ∷ []))) ∙ sound.spell;
+      fit = λ after is. sound.fit after;
+      tallies = ended.tallies;
     }
 
 -- a character that was refused
-pub refused : (old new : Scan) (read : List ℕ) (c : ℕ) (after rest : List ℕ) (way : IsUnderWay old read) → Takes old way.state c (Ok progress.Refused) new → rest ≡ encode_utf8_all (c ∷ after) → StopsSo new (stops.Refused c) read rest
-refused old new read c after rest way takes is =
-    let kept : IsUnderWay new read = record { state = way.state; runs = way.runs; tallies = subst (λ (s : Scan). Tallies s way.state) (sym takes.1) way.tallies; one_line = way.one_line } in
-    (kept, after, is, takes.0)
+pub refused : (m : Mode) (old new : Scan) (read : List ℕ) (c : ℕ) (after rest : List ℕ) (way : IsUnderWay m old read) → is_returned old && not (is_line_feed c) ≡ false → Takes old way.state c (Ok progress.Refused) new → rest ≡ encode_utf8_all (c ∷ after) → StopsSo m new (stops.Refused c) read rest
+refused m old new read c after rest way not_yet takes is =
+    let kept : IsUnderWay m new read = record { state = way.state; runs = way.runs; tallies = subst (λ (s : Scan). Tallies s way.state) (sym takes.1) way.tallies; stacked = subst (λ (s : Scan). IsStacked s way.state) (sym takes.1) way.stacked; one_line = way.one_line } in
+    (kept, after, is, takes.0, subst (λ (s : Scan). is_returned s && not (is_line_feed c) ≡ false) (sym takes.1) not_yet)
+
+-- CR that no LF follows
+no_feed : (text rest : List ℕ) → begins is_line_feed rest ≡ false → ends is_return text && begins is_line_feed rest ≡ false
+no_feed text rest none = and_right _ _ none
+
+returned_as : (m : Mode) (old new : Scan) (read rest : List ℕ) (s : Scanned) → run_from (Some (begun m)) read ≡ Some s → IsSound s read → Tallies old s → IsStacked old s → EndsNoLine 0 s.done → (n : Mode) → n ≡ s.mode → is_return_mode n ≡ true → is_none (stack_of old.brackets) ≡ true → Closes old new → ((after : List ℕ) → encode_utf8_all after ≡ rest → begins is_line_feed after ≡ false) → IsAtLineEnd m new read rest 1
+returned_as m old new read rest s runs sound tallies stacked none modes.Return is returns empty closes follows = go s.mode is s.done s.held sound tallies stacked none
+  where
+    go : (k : Mode) → modes.Return ≡ k → (done : List Piece) (held : List ℕ) → IsSound (scanned done k held) read → Tallies old (scanned done k held) → IsStacked old (scanned done k held) → EndsNoLine 0 done → IsAtLineEnd m new read rest 1
+    go modes.Return same done held sound' tallies' stacked' none' =
+        let r = sound'.holds.0 in
+        let text : held ≡ 13 ∷ [] = sound'.holds.1 ∙ ap (λ d. d ∷ []) (return_is r sound'.holds.2) in
+        record {
+          body = done;
+          last = piece line_end held;
+          are = record { one_line = none'; class = refl; level = none_level done (stack_of old.brackets) stacked' empty; paired = none_stack done (stack_of old.brackets) stacked' empty; size = one_return r sound'.holds.2 ∙ ap byte_len (sym sound'.holds.1) };
+          to = s;
+          runs = runs;
+          spell = spelled-push done line_end held ∙ sound'.spell;
+          fit = λ after is_rest. AreReadBefore-push done line_end held after (sound'.fit after) (return text) (no_feed held after (follows after is_rest)) (follows_any done line_end held refl);
+          tallies = closes_shut old new done modes.Return held read closes sound' tallies';
+        }
+    go k same done held sound' tallies' stacked' none' = absurd (cc)
+returned_as m old new read rest s runs sound tallies stacked none n is returns empty closes follows = absurd (both_ways _ refl returns)
+
+pub returned : (m : Mode) (old new : Scan) (read rest : List ℕ) (way : IsUnderWay m old read) → IsSound (begun m) [] → is_return_mode old.mode ≡ true → is_none (stack_of old.brackets) ≡ true → Closes old new → ((after : List ℕ) → encode_utf8_all after ≡ rest → begins is_line_feed after ≡ false) → IsAtLineEnd m new read rest 1
+returned m old new read rest way start returns empty closes follows =
+    returned_as m old new read rest way.state way.runs (sound_run m read way.state start way.runs) way.tallies way.stacked way.one_line old.mode way.tallies.mode returns empty closes follows
+
+-- what follows begins with another character, or is nothing
+pub follows_other : (c : ℕ) (more rest after : List ℕ) → rest ≡ encode_utf8_all (c ∷ more) → is_line_feed c ≡ false → encode_utf8_all after ≡ rest → begins is_line_feed after ≡ false
+follows_other c more rest after is other spells = ap (begins is_line_feed) (encodes_same after (c ∷ more) (spells ∙ is)) ∙ other
+
+pub follows_nothing : (rest after : List ℕ) → rest ≡ [] → encode_utf8_all after ≡ rest → begins is_line_feed after ≡ false
+follows_nothing rest after none spells = ap (begins is_line_feed) (encodes_same after [] (spells ∙ none))
+
+-- where the scan of a line under way stands
+pub way_order : (scan : Scan) (s : Scanned) → Tallies scan s → scan.start ≤ scan.stop
+way_order scan s tallies = omega (arith, tallies.start, tallies.stop, byte_len-append (spelled s.done) s.held)
+
+pub way_stop : (m : Mode) (scan : Scan) (read : List ℕ) (way : IsUnderWay m scan read) → IsSound (begun m) [] → scan.stop ≡ byte_len read
+way_stop m scan read way start = way.tallies.stop ∙ ap byte_len (sound_run m read way.state start way.runs).spell
+
+pub way_here : (m : Mode) (scan : Scan) (read : List ℕ) (way : IsUnderWay m scan read) → IsSound (begun m) [] → scan.count.line ≡ scan.line + line_ends read
+way_here m scan read way start = way.tallies.here ∙ ap (λ t. scan.line + line_ends t) (sound_run m read way.state start way.runs).spell

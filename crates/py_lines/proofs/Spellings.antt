@@ -1,13 +1,11 @@
 -- A word's spelling, as the machine keeps it, says whether the word is the prefix of a string.
-use Rattle.std.proofs.Common.{◌≡◌, ℕ, Bool, true, false, cond, ◌&&◌, ◌||◌, Some, List, [], ◌∷◌, ◌++◌, refl, sym, ap, ◌∙◌, ⊎_elim, inl, inr, ◌⊎◌}
+use Rattle.std.proofs.Common.{◌≡◌, ℕ, Bool, true, false, cond, ◌&&◌, ◌||◌, List, [], ◌∷◌, ◌++◌, refl, sym, ap, ◌∙◌, ⊎_elim, inl, inr, ◌⊎◌}
 use Rattle.std.proofs.lemmas.Bool.{cond_both}
-use Rattle.py_lines.specs.Character.{is_digit}
-use Rattle.py_lines.specs.Piece.{is_r, is_b_or_f, is_u, is_prefix}
+use Rattle.py_lines.specs.Character.{is_digit, is_r, is_b_or_f, is_u}
+use Rattle.py_lines.specs.Piece.{is_prefix}
 use Rattle.py_lines.specs.declared.mode.Spelling.{Spelling}
 use Rattle.py_lines.specs.declared.mode.Spelling.TheVariants as spellings
-use Rattle.py_lines.specs.declared.mode.Mode.TheVariants as modes
-use Rattle.py_lines.specs.declared.token.TokKind.TheVariants as kind
-use Rattle.py_lines.specs.Machine.{spelling_of, spelling_with, is_prefix_spelling, spelling_on, token_of}
+use Rattle.py_lines.specs.Machine.{spelling_of, spelling_with, is_prefix_spelling, spelling_on}
 use Rattle.py_lines.proofs.Tests.{r-not-digit, b_or_f-not-digit, b_or_f-not-r, u-not-digit, excluded}
 
 name_stays : (cs : List ℕ) → spelling_on spellings.Name cs ≡ spellings.Name
@@ -63,39 +61,3 @@ prefix_spelling first (b ∷ c ∷ cs) =
 pub spelling_on-push : (s : Spelling) (cs : List ℕ) (c : ℕ) → spelling_on s (cs ++ c ∷ []) ≡ spelling_with (spelling_on s cs) c
 spelling_on-push s [] c = refl
 spelling_on-push s (d ∷ cs) c = spelling_on-push (spelling_with s d) cs c
-
--- whether the spelling is that of a number
-abbrev is_number : Spelling → Bool
-is_number spellings.Number = true
-is_number other = false
-
-never_number : (s : Spelling) (c : ℕ) → is_number s ≡ false → is_number (spelling_with s c) ≡ false
-unfolding spelling_with
-never_number spellings.Number c h = absurd (cc)
-never_number spellings.R c h = cond_both (is_b_or_f c) spellings.Prefix spellings.Name (λ s. is_number s ≡ false) (λ _. refl) (λ _. refl)
-never_number spellings.BOrF c h = cond_both (is_r c) spellings.Prefix spellings.Name (λ s. is_number s ≡ false) (λ _. refl) (λ _. refl)
-never_number spellings.Prefix c h = refl
-never_number spellings.Name c h = refl
-
-name_on : (s : Spelling) (cs : List ℕ) → is_number s ≡ false → is_number (spelling_on s cs) ≡ false
-name_on s [] h = h
-name_on s (c ∷ cs) h = name_on (spelling_with s c) cs (never_number s c h)
-
-name_token : (s : Spelling) → is_number s ≡ false → token_of (modes.Word s) ≡ Some kind.Name
-name_token spellings.Number h = absurd (cc)
-name_token spellings.R h = refl
-name_token spellings.BOrF h = refl
-name_token spellings.Prefix h = refl
-name_token spellings.Name h = refl
-
--- a word is a number exactly where it begins with a digit
-pub word_token : (first : ℕ) (others : List ℕ) → token_of (modes.Word (spelling_on (spelling_of first) others)) ≡ Some (cond (is_digit first) kind.Number kind.Name)
-unfolding spelling_of
-word_token first others =
-    let P : Spelling → Type 0 = λ s. (is_digit first ≡ false → token_of (modes.Word (spelling_on s others)) ≡ Some (cond (is_digit first) kind.Number kind.Name)) in
-    let name : (s : Spelling) → is_number s ≡ false → P s = λ s h digit. name_token (spelling_on s others) (name_on s others h) ∙ rw digit in
-    let Q : Spelling → Type 0 = λ s. token_of (modes.Word (spelling_on s others)) ≡ Some (cond (is_digit first) kind.Number kind.Name) in
-    cond_both (is_digit first) _ _ Q (λ digit. ap (λ s. token_of (modes.Word s)) (number_stays others) ∙ rw digit)
-    (λ n. cond_both (is_r first) _ _ Q (λ _. name spellings.R refl n)
-    (λ _. cond_both (is_b_or_f first) _ _ Q (λ _. name spellings.BOrF refl n)
-    (λ _. cond_both (is_u first) _ _ Q (λ _. name spellings.Prefix refl n) (λ _. name spellings.Name refl n))))

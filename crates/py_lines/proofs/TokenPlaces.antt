@@ -4,13 +4,13 @@ use Rattle.std.specs.Prelude.{encode_utf8_all}
 use Rattle.std.specs.Str.{all_scalars, IsCharBoundary}
 use Rattle.std.proofs.lemmas.Option.{slice_get-get_or, same_Some}
 use Rattle.std.proofs.lemmas.Str.{encodes-append, IsCharBoundary-at_seam}
-use Rattle.py_lines.specs.Piece.{Class, space, word, string, operator, comment, line_end, Piece, spelled}
+use Rattle.py_lines.specs.Piece.{Class, mark, space, word, string, operator, comment, join, line_end, Piece, spelled}
 use Rattle.py_lines.specs.LogicalLine.{byte_len, line_ends, tokens_of_piece, tokens_from}
 use Rattle.py_lines.specs.Token.{EachLiesIn, LiesIn}
 use Rattle.py_lines.specs.declared.token.Token.{Token}
 use Rattle.py_lines.specs.declared.token.TokKind.{TokKind}
 use Rattle.py_lines.proofs.Utf8.{all_scalars-parts}
-use Rattle.py_lines.proofs.Tally.{byte_len-append}
+use Rattle.py_lines.proofs.Cuts.{byte_len-append}
 
 -- a token at a place of the list lies in the text
 pub lies_at : (text : List ℕ) (tokens : List Token) (i : ℕ) (t : Token) → EachLiesIn text tokens → i < length tokens → LiesIn text (get_or tokens i t)
@@ -30,6 +30,8 @@ seam before after scalars = IsCharBoundary-at_seam (encode_utf8_all (before ++ a
 
 -- one piece's token, if it has one
 each_piece : (text : List ℕ) (start stop line : ℕ) (class : Class) (piece_text : List ℕ) (ts : List Token) → ((k : TokKind) → LiesIn text (record { kind = k; start = start; stop = stop; line = line })) → EachLiesIn text ts → EachLiesIn text (tokens_of_piece start stop line class piece_text ++ ts)
+each_piece text start stop line mark p ts lies others = others
+each_piece text start stop line join p ts lies others = others
 each_piece text start stop line space p ts lies others = others
 each_piece text start stop line word p ts lies others = each_cons text _ ts (lies _) others
 each_piece text start stop line string p ts lies others = each_cons text _ ts (lies _) others

@@ -1,13 +1,13 @@
 -- Which texts are read, their logical lines, and the fault of the others.
 use Rattle.std.specs.Prelude.{◌≡◌, ℕ, ◌+◌, ◌≤◌, ◌⊎◌, true, false, Option, None, Some, List, [], ◌∷◌, ◌++◌, length, encode_utf8_all}
 use Rattle.std.specs.Str.{all_scalars, StartsWithNoChar}
-use Rattle.std.specs.List.{list_any}
-use Rattle.py_lines.specs.Character.{is_line_end, is_quote, is_barred}
-use Rattle.py_lines.specs.Piece.{line_end, Piece, spelled, AreReadBefore}
-use Rattle.py_lines.specs.Balance.{IsBalanced, IsShallow, depth_through}
+use Rattle.std.specs.List.{list_all}
+use Rattle.py_lines.specs.Character.{is_break, is_quote, is_backslash}
+use Rattle.py_lines.specs.Piece.{Class, line_end, Piece, IsPrefix, is_item, is_short_item, joined, has_triple, spelled, AreReadBefore}
+use Rattle.py_lines.specs.Balance.{is_opening, is_closing, is_opener, IsBalanced, IsShallow, depth_through}
 use Rattle.py_lines.specs.LogicalLine.{LogicalLine, lines_of, byte_len, line_ends}
 use Rattle.py_lines.specs.declared.fault.FaultKind.{FaultKind}
-use Rattle.py_lines.specs.declared.fault.FaultKind.TheVariants.{BadUtf8, BadChar, OpenString, BadImport}
+use Rattle.py_lines.specs.declared.fault.FaultKind.TheVariants.{BadUtf8, BadChar, OpenString, OpenTriple, WrongClose, OpenBracket, BadJoin, TooDeep, BadImport}
 use Rattle.py_lines.specs.declared.fault.Fault.{Fault}
 
 -- the bytes are the UTF-8 of these characters, and then `tail`, which begins with no character
@@ -42,16 +42,80 @@ pub record IsFront (pieces : List Piece) (characters : List ℕ) : Type 0 where
   pub ended : EndsLine pieces
   pub longest : (others : List Piece) (after : List ℕ) → spelled others ++ after ≡ characters → IsReading others (spelled others) → EndsLine others → length (spelled others) ≤ length (spelled pieces)
 
+-- the items of an open string may have a backslash behind them that has nothing to escape yet
+abbrev pub IsUnescaped : List ℕ → Type 0
+IsUnescaped last = (last ≡ []) ⊎ ((slash : ℕ) × (last ≡ slash ∷ []) × (is_backslash slash ≡ true))
+
+-- the front of a short string, up to where it is still open (2.4.1)
+pub record IsShortFront (text : List ℕ) : Type 0 where
+  pub prefix : List ℕ
+  pub quote : ℕ
+  pub items : List (List ℕ)
+  pub last : List ℕ
+  pub spell : text ≡ prefix ++ (quote ∷ joined items ++ last)
+  pub begun : IsPrefix prefix
+  pub opens : is_quote quote ≡ true
+  pub each : list_all (is_short_item quote) items ≡ true
+  pub escapes : IsUnescaped last
+
+-- the front of a long string, up to where it is still open (2.4.1)
+pub record IsLongFront (text : List ℕ) : Type 0 where
+  pub prefix : List ℕ
+  pub quote : ℕ
+  pub items : List (List ℕ)
+  pub last : List ℕ
+  pub spell : text ≡ prefix ++ (quote ∷ quote ∷ quote ∷ joined items ++ last)
+  pub begun : IsPrefix prefix
+  pub opens : is_quote quote ≡ true
+  pub each : list_all is_item items ≡ true
+  pub open_yet : has_triple quote items ≡ false
+  pub escapes : IsUnescaped last
+
 -- pieces that spell `start`, and then a short string that is still open
 pub record InShortString (characters start : List ℕ) : Type 0 where
   pub pieces : List Piece
-  pub quote : ℕ
-  pub body : List ℕ
-  pub spell : start ++ quote ∷ body ≡ characters
+  pub front : List ℕ
+  pub spell : start ++ front ≡ characters
   pub before : spelled pieces ≡ start
-  pub fit : AreReadBefore pieces (quote ∷ body)
-  pub opens : is_quote quote ≡ true
-  pub open_yet : list_any (is_barred quote) body ≡ false
+  pub fit : AreReadBefore pieces front
+  pub inside : IsShortFront front
+
+-- pieces that spell `start`, and then a long string that is still open
+pub record InLongString (characters start : List ℕ) : Type 0 where
+  pub pieces : List Piece
+  pub front : List ℕ
+  pub spell : start ++ front ≡ characters
+  pub before : spelled pieces ≡ start
+  pub fit : AreReadBefore pieces front
+  pub inside : IsLongFront front
+
+-- pieces that spell `start`, and then a backslash, which stands in no string and no comment
+pub record BehindBackslash (characters start : List ℕ) : Type 0 where
+  pub pieces : List Piece
+  pub slash : ℕ
+  pub spell : start ++ slash ∷ [] ≡ characters
+  pub before : spelled pieces ≡ start
+  pub fit : AreReadBefore pieces (slash ∷ [])
+  pub slashes : is_backslash slash ≡ true
+
+-- pieces that read the characters before `c`, with this many brackets open
+pub record IsAtDepth (characters : List ℕ) (c depth : ℕ) : Type 0 where
+  pub pieces : List Piece
+  pub spell : spelled pieces ≡ characters
+  pub fit : AreReadBefore pieces (c ∷ [])
+  pub deep : depth_through 0 pieces ≡ depth
+
+-- pieces that read the characters to their end, with an open bracket behind `start`: what follows it is balanced,
+-- so it is the innermost one
+pub record InBracket (characters start : List ℕ) : Type 0 where
+  pub outer : List Piece
+  pub opener : Piece
+  pub inner : List Piece
+  pub spell : spelled (outer ++ opener ∷ inner) ≡ characters
+  pub fit : AreReadBefore (outer ++ opener ∷ inner) []
+  pub opens : is_opener opener ≡ true
+  pub balanced : IsBalanced inner
+  pub before : spelled outer ≡ start
 
 -- a character through which the text isn't live, although it is before that character
 pub record DiesAt (characters before : List ℕ) (c : ℕ) : Type 0 where
@@ -60,31 +124,75 @@ pub record DiesAt (characters before : List ℕ) (c : ℕ) : Type 0 where
   pub live : IsLive before
   pub dead : ¬ (IsLive (before ++ c ∷ []))
 
--- a bare line end in an open short string, whose start is at this byte
-pub record BreaksString (characters : List ℕ) (offset : ℕ) : Type 0 where
-  pub before : List ℕ
-  pub c : ℕ
+-- F3 at a character: a bare line end in an open short string, which starts at this byte
+pub record BreaksString (before : List ℕ) (c offset : ℕ) : Type 0 where
   pub start : List ℕ
-  pub dies : DiesAt characters before c
-  pub breaks : is_line_end c ≡ true
+  pub breaks : is_break c ≡ true
   pub inside : InShortString before start
   pub place : offset ≡ byte_len start
 
--- the end of a text that is UTF-8 and live, in an open short string whose start is at this byte
-pub record EndsInString (characters tail : List ℕ) (offset : ℕ) : Type 0 where
+-- F7 at a character: a backslash outside strings and comments stands directly before it, at this byte
+pub record BreaksJoin (before : List ℕ) (offset : ℕ) : Type 0 where
   pub start : List ℕ
-  pub whole : tail ≡ []
-  pub live : IsLive characters
-  pub inside : InShortString characters start
+  pub behind : BehindBackslash before start
   pub place : offset ≡ byte_len start
 
--- any other character through which the text isn't live
-pub record IsUnexpected (characters : List ℕ) (offset : ℕ) : Type 0 where
+-- F5 at a character: a closing bracket
+pub record ClosesWrong (before : List ℕ) (c offset : ℕ) : Type 0 where
+  pub closes : is_closing c ≡ true
+  pub place : offset ≡ byte_len before
+
+-- F8 at a character: an opening bracket at depth 200
+pub record OpensTooDeep (before : List ℕ) (c offset : ℕ) : Type 0 where
+  pub opens : is_opening c ≡ true
+  pub deep : IsAtDepth before c 200
+  pub place : offset ≡ byte_len before
+
+-- What fits a character through which the text isn't live, kind by kind; `IsCharacterFault` takes the first.
+abbrev pub FitsCharacter : FaultKind → List ℕ → ℕ → ℕ → Type 0
+FitsCharacter OpenString before c offset = BreaksString before c offset
+FitsCharacter BadJoin before c offset = BreaksJoin before offset
+FitsCharacter WrongClose before c offset = ClosesWrong before c offset
+FitsCharacter TooDeep before c offset = OpensTooDeep before c offset
+FitsCharacter BadChar before c offset = offset ≡ byte_len before
+FitsCharacter other before c offset = ⊥
+
+-- the kinds that go before this one where several fit a character: F3, F7, F5, F8, F2
+abbrev pub kinds_before : FaultKind → List FaultKind
+kinds_before BadJoin = OpenString ∷ []
+kinds_before WrongClose = OpenString ∷ BadJoin ∷ []
+kinds_before TooDeep = OpenString ∷ BadJoin ∷ WrongClose ∷ []
+kinds_before BadChar = OpenString ∷ BadJoin ∷ WrongClose ∷ TooDeep ∷ []
+kinds_before other = []
+
+-- none of these kinds fits the character, at any byte
+abbrev pub NoneFits : List FaultKind → List ℕ → ℕ → Type 0
+NoneFits [] before c = Unit {0}
+NoneFits (kind ∷ kinds) before c = ((offset : ℕ) → ¬ (FitsCharacter kind before c offset)) × NoneFits kinds before c
+
+-- the fault of a text at the first character through which it isn't live
+pub record IsCharacterFault (kind : FaultKind) (characters : List ℕ) (offset : ℕ) : Type 0 where
   pub before : List ℕ
   pub c : ℕ
   pub dies : DiesAt characters before c
-  pub other : is_line_end c ≡ true → (start : List ℕ) → ¬ (InShortString before start)
-  pub place : offset ≡ byte_len before
+  pub fits : FitsCharacter kind before c offset
+  pub first : NoneFits (kinds_before kind) before c
+
+-- what is open at the end of the text, and where it starts: what was opened last decides
+abbrev pub IsOpenAtEnd : FaultKind → List ℕ → List ℕ → Type 0
+IsOpenAtEnd OpenString characters start = InShortString characters start
+IsOpenAtEnd OpenTriple characters start = InLongString characters start
+IsOpenAtEnd BadJoin characters start = BehindBackslash characters start
+IsOpenAtEnd OpenBracket characters start = InBracket characters start
+IsOpenAtEnd other characters start = ⊥
+
+-- the fault of a text that is UTF-8 and live, but has no reading
+pub record IsEndFault (kind : FaultKind) (characters tail : List ℕ) (offset : ℕ) : Type 0 where
+  pub start : List ℕ
+  pub whole : tail ≡ []
+  pub live : IsLive characters
+  pub ends_in : IsOpenAtEnd kind characters start
+  pub place : offset ≡ byte_len start
 
 -- bytes that begin no character, behind a text that is live up to them
 pub record IsUndecodable (characters tail : List ℕ) (offset : ℕ) : Type 0 where
@@ -96,9 +204,11 @@ pub record IsUndecodable (characters tail : List ℕ) (offset : ℕ) : Type 0 wh
 -- before the first bytes that begin no character; else those bytes; else the text's end.
 abbrev pub IsFaultAt : FaultKind → List ℕ → List ℕ → ℕ → Type 0
 IsFaultAt BadUtf8 characters tail offset = IsUndecodable characters tail offset
-IsFaultAt BadChar characters tail offset = IsUnexpected characters offset
-IsFaultAt OpenString characters tail offset = BreaksString characters offset ⊎ EndsInString characters tail offset
-IsFaultAt BadImport characters tail offset = ⊥
+IsFaultAt kind characters tail offset = IsCharacterFault kind characters offset ⊎ IsEndFault kind characters tail offset
+
+-- the text is read whole, or has a lexical fault
+abbrev pub IsReadOrFaulty : List ℕ → List ℕ → Type 0
+IsReadOrFaulty characters tail = ((tail ≡ []) × ((pieces : List Piece) × IsReading pieces characters)) ⊎ ((kind : FaultKind) × (offset : ℕ) × IsFaultAt kind characters tail offset)
 
 -- the text has no reading, and this is its lexical fault: its line is that of its offset
 pub record IsLexicalFault (characters tail : List ℕ) (fault : Fault) : Type 0 where

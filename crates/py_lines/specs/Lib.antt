@@ -5,8 +5,8 @@ pub mod LogicalLine
 pub mod Lexed
 pub mod Reader
 pub mod Token
-pub mod UnitLine
-pub mod Lines
 pub mod Machine
+pub mod UnitLine
 pub mod Scan
 pub mod Source
+pub mod Lines

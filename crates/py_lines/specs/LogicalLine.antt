@@ -1,9 +1,10 @@
 -- Logical lines: what a text is cut into after each line end outside brackets. Python Language Reference, 2.1.
-use Rattle.std.specs.Prelude.{ℕ, ◌+◌, Bool, true, false, ◌==◌, ◌&&◌, List, [], ◌∷◌, ◌++◌, length, if◌then◌else◌, encode_utf8_all}
+use Rattle.std.specs.Prelude.{◌≡◌, ℕ, ◌+◌, Bool, true, false, not, ◌==◌, ◌&&◌, ◌||◌, List, [], ◌∷◌, ◌++◌, length, if◌then◌else◌, encode_utf8_all}
 use Rattle.std.specs.List.{list_any}
-use Rattle.py_lines.specs.Character.{is_digit, is_line_end}
-use Rattle.py_lines.specs.Piece.{Class, space, word, string, operator, comment, line_end, Piece, begins, spelled}
+use Rattle.py_lines.specs.Character.{is_digit, is_line_feed, is_return}
+use Rattle.py_lines.specs.Piece.{Class, mark, space, word, string, operator, comment, join, line_end, Piece, begins, is_mark_class, spelled}
 use Rattle.py_lines.specs.Balance.{depth_after}
+use Rattle.py_lines.specs.declared.token.TokKind.{TokKind}
 use Rattle.py_lines.specs.declared.token.TokKind.TheVariants as kind
 use Rattle.py_lines.specs.declared.token.Token.{Token}
 use Rattle.py_lines.specs.declared.unit.UnitKind.{UnitKind}
@@ -28,10 +29,14 @@ cut depth (p ∷ ps) = if is_line_end_class p.class && (depth == 0) then (p ∷ 
 abbrev pub byte_len : List ℕ → ℕ
 byte_len characters = length (encode_utf8_all characters)
 
--- how many line ends the characters hold
+-- whether a line end ends at the character before these: LF, or CR that isn't before LF (2.1.2)
+abbrev pub ends_line : ℕ → List ℕ → Bool
+ends_line c rest = is_line_feed c || (is_return c && not (begins is_line_feed rest))
+
+-- how many line ends the characters hold, in strings and joins too; CR LF is one
 abbrev pub line_ends : List ℕ → ℕ
 line_ends [] = 0
-line_ends (c ∷ cs) = (if is_line_end c then 1 else 0) + line_ends cs
+line_ends (c ∷ cs) = (if ends_line c cs then 1 else 0) + line_ends cs
 
 -- the first character, if there is one
 abbrev pub first_or_zero : List ℕ → ℕ
@@ -40,11 +45,13 @@ first_or_zero (c ∷ cs) = c
 
 -- a piece as a token, if its class has tokens: its places in the unit's bytes, and its line
 abbrev pub tokens_of_piece : ℕ → ℕ → ℕ → Class → List ℕ → List Token
+tokens_of_piece start stop line mark text = []
 tokens_of_piece start stop line space text = []
 tokens_of_piece start stop line word text = record { kind = if begins is_digit text then kind.Number else kind.Name; start = start; stop = stop; line = line } ∷ []
 tokens_of_piece start stop line string text = record { kind = kind.Str; start = start; stop = stop; line = line } ∷ []
 tokens_of_piece start stop line operator text = record { kind = kind.Op (first_or_zero text); start = start; stop = stop; line = line } ∷ []
 tokens_of_piece start stop line comment text = record { kind = kind.Remark; start = start; stop = stop; line = line } ∷ []
+tokens_of_piece start stop line join text = []
 tokens_of_piece start stop line line_end text = []
 
 -- the tokens of pieces that begin at this byte of their unit, on this line
@@ -52,8 +59,9 @@ abbrev pub tokens_from : ℕ → ℕ → List Piece → List Token
 tokens_from start line [] = []
 tokens_from start line (p ∷ ps) = tokens_of_piece start (start + byte_len p.text) line p.class p.text ++ tokens_from (start + byte_len p.text) (line + line_ends p.text) ps
 
--- words, strings and operators
+-- words, strings, operators and joins
 abbrev pub is_code_class : Class → Bool
+is_code_class mark = false
 is_code_class space = false
 is_code_class comment = false
 is_code_class line_end = false
@@ -63,19 +71,20 @@ abbrev pub is_comment_class : Class → Bool
 is_comment_class comment = true
 is_comment_class other = false
 
--- Code with a token other than a comment, Comment with comments alone, Blank with no token
+-- Code with a token other than a comment or a join, Comment with comments alone, Blank with no token
 abbrev pub kind_of : List Piece → UnitKind
 kind_of pieces = if list_any (λ p. is_code_class p.class) pieces then unit_kind.Code else (if list_any (λ p. is_comment_class p.class) pieces then unit_kind.Comment else unit_kind.Blank)
 
--- the bytes of a piece of space, and 0 for another piece
+-- the bytes of the piece, if it is space
 abbrev pub space_len : Class → List ℕ → ℕ
 space_len space text = byte_len text
 space_len other text = 0
 
--- the bytes of space that the pieces begin with
+-- the bytes of space that the pieces begin with, behind a mark
 abbrev pub indent_of : List Piece → ℕ
 indent_of [] = 0
-indent_of (p ∷ ps) = space_len p.class p.text
+indent_of (p ∷ []) = space_len p.class p.text
+indent_of (p ∷ q ∷ ps) = if is_mark_class p.class then space_len q.class q.text else space_len p.class p.text
 
 -- the bytes of the line end that the pieces end with
 abbrev pub end_len_of : List Piece → ℕ

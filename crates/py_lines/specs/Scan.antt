@@ -1,27 +1,58 @@
 -- What the scan of one logical line holds, in the words of the machine. It serves the contracts of private functions.
-use Rattle.std.specs.Prelude.{◌≡◌, ℕ, ◌+◌, true, false, Option, None, Some, zero, Result, Ok, Err, List, [], ◌∷◌, ◌++◌, encode_utf8_all}
+use Rattle.std.specs.Prelude.{◌≡◌, ℕ, ◌+◌, ◌-◌, ◌<◌, ◌==◌, ◌&&◌, ◌||◌, not, Bool, true, false, Option, None, Some, Result, Ok, Err, List, [], ◌∷◌, ◌++◌, encode_utf8_all, if◌then◌else◌}
 use Rattle.std.specs.Str.{all_scalars}
 use Rattle.std.specs.Char.{len_utf8}
 use Rattle.std.specs.declared.alloc.AllocError.{AllocError}
-use Rattle.py_lines.specs.Piece.{spelled}
-use Rattle.py_lines.specs.LogicalLine.{byte_len, tokens_from, indent_of, kind_of}
-use Rattle.py_lines.specs.Machine.{Scanned, fresh, step, run_from, move_of, start_of, token_of, has_line_end}
+use Rattle.py_lines.specs.Character.{is_return, is_line_feed}
+use Rattle.py_lines.specs.Piece.{Class, operator, line_end, Piece, ends, is_mark_class, spelled, AreReadBefore}
+use Rattle.py_lines.specs.Balance.{depth_after, depth_through}
+use Rattle.py_lines.specs.LogicalLine.{byte_len, line_ends, tokens_from, indent_of, kind_of, is_line_end_class}
+use Rattle.py_lines.specs.Machine.{Scanned, fresh, step, run_from, token_of, Bracket, brackets_behind, brackets_of, IsSound, in_short, is_behind_slash}
 use Rattle.py_lines.specs.declared.token.Token.{Token}
 use Rattle.py_lines.specs.declared.mode.Mode.{Mode}
 use Rattle.py_lines.specs.declared.mode.Mode.TheVariants as modes
-use Rattle.py_lines.specs.declared.mode.Move.{Move}
-use Rattle.py_lines.specs.declared.mode.Move.TheVariants as moves
 use Rattle.py_lines.specs.declared.mode.Start.{Start}
 use Rattle.py_lines.specs.declared.mode.Start.TheVariants as starts
 use Rattle.py_lines.specs.declared.token.TokKind.{TokKind}
 use Rattle.py_lines.specs.declared.token.TokKind.TheVariants as kind
 use Rattle.py_lines.specs.declared.unit.UnitKind.{UnitKind}
 use Rattle.py_lines.specs.declared.unit.UnitKind.TheVariants as unit_kind
+use Rattle.py_lines.specs.declared.count.Count.{Count}
+use Rattle.py_lines.specs.declared.brackets.OpenBracket.{OpenBracket}
+use Rattle.py_lines.specs.declared.brackets.Brackets.{Brackets}
 use Rattle.py_lines.specs.declared.scan.Progress.{Progress}
 use Rattle.py_lines.specs.declared.scan.Progress.TheVariants as progress
 use Rattle.py_lines.specs.declared.scan.Stop.{Stop}
 use Rattle.py_lines.specs.declared.scan.Stop.TheVariants as stops
 use Rattle.py_lines.specs.declared.scan.Scan.{Scan}
+
+-- what one more character counts behind others: CR counts at once, and LF unless CR stands before it
+unfoldable pub counts_behind : Bool → ℕ → ℕ
+counts_behind after_return c = if is_return c then 1 else (if is_line_feed c && not after_return then 1 else 0)
+
+-- no line end stands at depth 0 in the pieces, which begin at this depth
+abbrev pub EndsNoLine : ℕ → List Piece → Type 0
+EndsNoLine d [] = Unit {0}
+EndsNoLine d (p ∷ ps) = (is_line_end_class p.class && (d == 0) ≡ false) × EndsNoLine (depth_after d p) ps
+
+-- a stack of open brackets, which the code keeps with the innermost last
+abbrev pub stack : List OpenBracket → List Bracket
+stack [] = []
+stack (b ∷ bs) = stack bs ++ record { opener = b.opener; place = b.place } ∷ []
+
+abbrev pub stack_of : Brackets → List Bracket
+stack_of b = stack b.open.items
+
+-- the innermost bracket, if one is open
+abbrev pub IsInnermost : Option OpenBracket → List Bracket → Type 0
+IsInnermost None st = st ≡ []
+IsInnermost (Some b) st = (others : List Bracket) × (st ≡ record { opener = b.opener; place = b.place } ∷ others)
+
+-- an operator at this byte goes into the stack, or may not stand there
+abbrev pub Meets : Brackets → ℕ → ℕ → Result Bool AllocError → Brackets → Type 0
+Meets old c place (Ok true) new = brackets_behind (stack_of old) place (record { class = operator; text = c ∷ [] }) ≡ Some (stack_of new)
+Meets old c place (Ok false) new = (brackets_behind (stack_of old) place (record { class = operator; text = c ∷ [] }) ≡ None) × (new ≡ old)
+Meets old c place (Err e) new = Unit {0}
 
 -- the kind of a line with one more token
 abbrev pub kind_with : UnitKind → TokKind → UnitKind
@@ -31,121 +62,245 @@ kind_with k other = unit_kind.Code
 
 -- the open piece became a token of this kind
 pub record Emits (old : Scan) (k : TokKind) (new : Scan) : Type 0 where
-  pub tokens : new.tokens.items ≡ old.tokens.items ++ record { kind = k; start = old.start; stop = old.stop; line = old.line } ∷ []
+  pub tokens : new.tokens.items ≡ old.tokens.items ++ record { kind = k; start = old.start; stop = old.stop; line = old.piece_line } ∷ []
   pub kind : new.kind ≡ kind_with old.kind k
   pub mode : new.mode ≡ old.mode
   pub start : new.start ≡ old.start
   pub stop : new.stop ≡ old.stop
+  pub piece_line : new.piece_line ≡ old.piece_line
   pub line : new.line ≡ old.line
+  pub count : new.count ≡ old.count
+  pub margin : new.margin ≡ old.margin
   pub indent : new.indent ≡ old.indent
+  pub brackets : new.brackets ≡ old.brackets
 
 -- a token from the open piece, if it is one
 abbrev pub tokens_with : Option TokKind → ℕ → ℕ → ℕ → List Token
 tokens_with None start stop line = []
 tokens_with (Some k) start stop line = record { kind = k; start = start; stop = stop; line = line } ∷ []
 
+-- whether the open piece is a backslash, with or without its line end
+abbrev pub is_join_mode : Mode → Bool
+is_join_mode modes.Backslash = true
+is_join_mode modes.JoinReturn = true
+is_join_mode other = false
+
+-- whether no piece is open, or a mark
+abbrev pub holds_nothing : Mode → Bool
+holds_nothing modes.Start = true
+holds_nothing modes.Free = true
+holds_nothing other = false
+
 abbrev pub kind_through : UnitKind → Option TokKind → UnitKind
 kind_through old None = old
 kind_through old (Some k) = kind_with old k
 
--- space at the line's start is its indentation
-abbrev pub indent_through : ℕ → Mode → ℕ → ℕ → ℕ
-indent_through old modes.Space zero stop = stop
-indent_through old other start stop = old
+-- the kind of a line whose open piece is closed
+abbrev pub kind_closed : UnitKind → Mode → UnitKind
+kind_closed old m = if is_join_mode m then unit_kind.Code else kind_through old (token_of m)
+
+-- space behind nothing but a mark is the indentation
+abbrev pub indent_closed : ℕ → Mode → Bool → ℕ → ℕ
+indent_closed old modes.Space true size = size
+indent_closed old other margin size = old
 
 -- the open piece is closed
 pub record Closes (old new : Scan) : Type 0 where
-  pub tokens : new.tokens.items ≡ old.tokens.items ++ tokens_with (token_of old.mode) old.start old.stop old.line
-  pub kind : new.kind ≡ kind_through old.kind (token_of old.mode)
-  pub indent : new.indent ≡ indent_through old.indent old.mode old.start old.stop
+  pub tokens : new.tokens.items ≡ old.tokens.items ++ tokens_with (token_of old.mode) old.start old.stop old.piece_line
+  pub kind : new.kind ≡ kind_closed old.kind old.mode
+  pub indent : new.indent ≡ indent_closed old.indent old.mode old.margin (old.stop - old.start)
+  pub margin : new.margin ≡ old.margin && holds_nothing old.mode
   pub mode : new.mode ≡ modes.Free
   pub start : new.start ≡ old.stop
   pub stop : new.stop ≡ old.stop
+  pub piece_line : new.piece_line ≡ old.count.line
   pub line : new.line ≡ old.line
+  pub count : new.count ≡ old.count
+  pub brackets : new.brackets ≡ old.brackets
 
--- A character began a piece: the open one was closed, and then a piece opened, or was whole at once.
-pub record Opens (closed new : Scan) (c : ℕ) (m : Mode) : Type 0 where
-  pub mode : new.mode ≡ m
-  pub start : new.start ≡ closed.start
-  pub stop : new.stop ≡ closed.stop + len_utf8 c
-  pub line : new.line ≡ closed.line
-  pub tokens : new.tokens.items ≡ closed.tokens.items
-  pub indent : new.indent ≡ closed.indent
-  pub kind : new.kind ≡ closed.kind
+-- the count of lines behind one more character
+pub record Counts (old : Count) (c : ℕ) (new : Count) : Type 0 where
+  pub line : new.line ≡ old.line + counts_behind old.after_return c
+  pub after : new.after_return ≡ is_return c
 
+-- one more character is read
+pub record Reads (old : Scan) (c : ℕ) (new : Scan) : Type 0 where
+  pub stop : new.stop ≡ old.stop + len_utf8 c
+  pub count : Counts old.count c new.count
+  pub mode : new.mode ≡ old.mode
+  pub start : new.start ≡ old.start
+  pub piece_line : new.piece_line ≡ old.piece_line
+  pub line : new.line ≡ old.line
+  pub margin : new.margin ≡ old.margin
+  pub indent : new.indent ≡ old.indent
+  pub kind : new.kind ≡ old.kind
+  pub tokens : new.tokens ≡ old.tokens
+  pub brackets : new.brackets ≡ old.brackets
+
+-- A character of one piece was taken, behind closed ones: an operator, or a line end.
 pub record Stands (closed new : Scan) (c : ℕ) (k : Option TokKind) : Type 0 where
   pub mode : new.mode ≡ modes.Free
   pub start : new.start ≡ closed.stop + len_utf8 c
   pub stop : new.stop ≡ closed.stop + len_utf8 c
+  pub count : Counts closed.count c new.count
+  pub piece_line : new.piece_line ≡ new.count.line
   pub line : new.line ≡ closed.line
-  pub tokens : new.tokens.items ≡ closed.tokens.items ++ tokens_with k closed.start (closed.stop + len_utf8 c) closed.line
+  pub margin : new.margin ≡ false
   pub indent : new.indent ≡ closed.indent
   pub kind : new.kind ≡ kind_through closed.kind k
+  pub tokens : new.tokens.items ≡ closed.tokens.items ++ tokens_with k closed.start (closed.stop + len_utf8 c) closed.piece_line
+  pub brackets : new.brackets ≡ closed.brackets
 
+pub record StandsBehind (old : Scan) (c : ℕ) (k : Option TokKind) (new : Scan) : Type 0 where
+  pub mid : Scan
+  pub closes : Closes old mid
+  pub stands : Stands mid new c k
+
+-- the scan in another mode
+abbrev pub in_mode : Scan → Mode → Scan
+in_mode old m = record old { mode = m }
+
+-- a piece opened with a character, behind the open one
+pub record OpensBehind (old : Scan) (c : ℕ) (m : Mode) (new : Scan) : Type 0 where
+  pub mid : Scan
+  pub read : Scan
+  pub closes : Closes old mid
+  pub reads : Reads mid c read
+  pub is : new ≡ in_mode read m
+
+-- whether no bracket is open
+abbrev pub is_none : List Bracket → Bool
+is_none [] = true
+is_none (b ∷ bs) = false
+
+-- what a line end comes to
+abbrev pub line_end_progress : Bool → ℕ → Progress
+line_end_progress true len = progress.LineEnded len
+line_end_progress false len = progress.Going
+
+-- the scan with other brackets
+abbrev pub with_brackets : Scan → Brackets → Scan
+with_brackets old b = record old { brackets = b }
+
+-- an operator came behind the open piece, or may not stand there
+abbrev pub Operates : Scan → ℕ → Result Progress AllocError → Scan → Type 0
+Operates old c (Ok progress.Refused) new = (brackets_behind (stack_of old.brackets) old.stop (record { class = operator; text = c ∷ [] }) ≡ None) × (new ≡ old)
+Operates old c (Ok progress.Going) new = (met : Brackets) × (brackets_behind (stack_of old.brackets) old.stop (record { class = operator; text = c ∷ [] }) ≡ Some (stack_of met)) × StandsBehind (with_brackets old met) c (Some (kind.Op c)) new
+Operates old c (Ok (progress.LineEnded len)) new = ⊥
+Operates old c (Err e) new = Unit {0}
+
+-- a character began a piece: the open one was closed, and then a piece opened, or was whole at once
 abbrev pub Begins : Scan → ℕ → Start → Result Progress AllocError → Scan → Type 0
-Begins old c (starts.Open m) r new = (r ≡ Ok progress.Going) × ((closed : Scan) × Closes old closed × Opens closed new c m)
-Begins old c starts.Operator r new = (r ≡ Ok progress.Going) × ((closed : Scan) × Closes old closed × Stands closed new c (Some (kind.Op c)))
-Begins old c starts.LineEnd r new = (r ≡ Ok progress.LineEnded) × ((closed : Scan) × Closes old closed × Stands closed new c None)
+Begins old c (starts.Open m) r new = (r ≡ Ok progress.Going) × OpensBehind old c m new
+Begins old c starts.Operator r new = Operates old c r new
+Begins old c starts.LineEnd r new = (r ≡ Ok (line_end_progress (is_none (stack_of old.brackets)) 1)) × StandsBehind old c None new
 Begins old c starts.Nothing r new = (r ≡ Ok progress.Refused) × (new ≡ old)
+
+-- whether nothing but a mark stands before
+abbrev pub is_margin : List Piece → Bool
+is_margin [] = true
+is_margin (p ∷ []) = is_mark_class p.class
+is_margin (p ∷ q ∷ ps) = false
 
 -- the scan keeps count of what the machine has found in its line
 pub record Tallies (scan : Scan) (s : Scanned) : Type 0 where
   pub mode : scan.mode ≡ s.mode
   pub start : scan.start ≡ byte_len (spelled s.done)
   pub stop : scan.stop ≡ byte_len (spelled s.done ++ s.held)
-  pub tokens : scan.tokens.items ≡ tokens_from 0 scan.line s.done
+  pub piece_line : scan.piece_line ≡ scan.line + line_ends (spelled s.done)
+  pub here : scan.count.line ≡ scan.line + line_ends (spelled s.done ++ s.held)
+  pub after : scan.count.after_return ≡ ends is_return (spelled s.done ++ s.held)
+  pub margin : scan.margin ≡ is_margin s.done
   pub indent : scan.indent ≡ indent_of s.done
   pub kind : scan.kind ≡ kind_of s.done
+  pub tokens : scan.tokens.items ≡ tokens_from 0 scan.line s.done
 
-abbrev pub TalliesIf : Scan → Option Scanned → Type 0
-TalliesIf scan (Some s) = Tallies scan s
-TalliesIf scan None = Unit {0}
+-- and it keeps the machine's open brackets
+abbrev pub IsStacked : Scan → Scanned → Type 0
+IsStacked scan s = brackets_of s.done ≡ Some (stack_of scan.brackets)
 
--- what a character comes to
-abbrev pub progress_at : Start → Progress
-progress_at starts.LineEnd = progress.LineEnded
-progress_at starts.Nothing = progress.Refused
-progress_at other = progress.Going
+-- nothing is read, and this mode is open
+abbrev pub begun : Mode → Scanned
+begun m = record { done = []; mode = m; held = [] }
 
-abbrev pub progress_of : Move → ℕ → Progress
-progress_of moves.Breaks c = progress_at (start_of c)
-progress_of moves.Refused c = progress.Refused
-progress_of other c = progress.Going
+-- the open brackets where the machine comes to
+abbrev pub stack_if : Option Scanned → Option (List Bracket)
+stack_if None = None
+stack_if (Some s) = brackets_of s.done
 
--- a scan that took a character follows the machine; one that refused it is as it was
+-- the machine goes on in the line
+pub record GoesOn (s : Scanned) (c : ℕ) (new : Scan) : Type 0 where
+  pub next : Scanned
+  pub goes : step s c ≡ Some next
+  pub tallies : Tallies new next
+  pub stacked : IsStacked new next
+  pub one_line : EndsNoLine 0 next.done
+
+-- pieces of one line, which the last ends
+pub record AreLine (body : List Piece) (last : Piece) (len : ℕ) : Type 0 where
+  pub one_line : EndsNoLine 0 body
+  pub class : last.class ≡ line_end
+  pub level : depth_through 0 body ≡ 0
+  pub paired : brackets_of body ≡ Some []
+  pub size : len ≡ byte_len last.text
+
+-- the machine comes to the line's end, with so many bytes of line end
+pub record ComesToEnd (s : Scanned) (c len : ℕ) (new : Scan) : Type 0 where
+  pub body : List Piece
+  pub last : Piece
+  pub goes : step s c ≡ Some (fresh (body ++ last ∷ []))
+  pub tallies : Tallies new (fresh (body ++ last ∷ []))
+  pub are : AreLine body last len
+
+-- what one more character comes to: a scan that refused it is as it was
 abbrev pub Takes : Scan → Scanned → ℕ → Result Progress AllocError → Scan → Type 0
-Takes old s c (Ok progress.Refused) new = (progress_of (move_of s.mode c) c ≡ progress.Refused) × (new ≡ old)
-Takes old s c (Ok p) new = (progress_of (move_of s.mode c) c ≡ p) × TalliesIf new (step s c) × (new.line ≡ old.line)
+Takes old s c (Ok progress.Going) new = GoesOn s c new × (new.line ≡ old.line)
+Takes old s c (Ok (progress.LineEnded len)) new = ComesToEnd s c len new × (new.line ≡ old.line)
+Takes old s c (Ok progress.Refused) new = (stack_if (step s c) ≡ None) × (new ≡ old)
 Takes old s c (Err e) new = Unit {0}
 
--- the machine has gone through these characters of its line, none of which ended it
-pub record IsUnderWay (scan : Scan) (read : List ℕ) : Type 0 where
-  pub state : Scanned
-  pub runs : run_from (Some (fresh [])) read ≡ Some state
-  pub tallies : Tallies scan state
-  pub one_line : has_line_end state.done ≡ false
+-- whether a CR that ends a line was read last
+abbrev pub is_return_mode : Mode → Bool
+is_return_mode modes.Return = true
+is_return_mode other = false
 
--- the last of these characters ended the line
-pub record IsAtLineEnd (scan : Scan) (read : List ℕ) : Type 0 where
-  pub before : List ℕ
-  pub c : ℕ
+-- the machine has gone through these characters of its line, none of which ended it
+pub record IsUnderWay (m : Mode) (scan : Scan) (read : List ℕ) : Type 0 where
   pub state : Scanned
-  pub last : before ++ c ∷ [] ≡ read
-  pub runs : run_from (Some (fresh [])) before ≡ Some state
-  pub one_line : has_line_end state.done ≡ false
-  pub ends : progress_of (move_of state.mode c) c ≡ progress.LineEnded
-  pub tallies : TalliesIf scan (step state c)
+  pub runs : run_from (Some (begun m)) read ≡ Some state
+  pub tallies : Tallies scan state
+  pub stacked : IsStacked scan state
+  pub one_line : EndsNoLine 0 state.done
+
+-- these characters are a line with its line end, and may stand before what follows
+pub record IsAtLineEnd (m : Mode) (scan : Scan) (read rest : List ℕ) (len : ℕ) : Type 0 where
+  pub body : List Piece
+  pub last : Piece
+  pub are : AreLine body last len
+  pub to : Scanned
+  pub runs : run_from (Some (begun m)) read ≡ Some to
+  pub spell : spelled (body ++ last ∷ []) ≡ read
+  pub fit : (after : List ℕ) → encode_utf8_all after ≡ rest → AreReadBefore (body ++ last ∷ []) after
+  pub tallies : Tallies scan (fresh (body ++ last ∷ []))
+
+-- whether the CR of a line end was read last, outside brackets
+abbrev pub is_returned : Scan → Bool
+is_returned scan = is_return_mode scan.mode && is_none (stack_of scan.brackets)
 
 -- the scan of a line's characters stops behind these, with `rest` after them
-abbrev pub StopsSo : Scan → Stop → List ℕ → List ℕ → Type 0
-StopsSo scan stops.TextEnd read rest = IsUnderWay scan read × (rest ≡ [])
-StopsSo scan stops.LineEnd read rest = IsAtLineEnd scan read
-StopsSo scan (stops.Refused c) read rest = (way : IsUnderWay scan read) × (after : List ℕ) × (rest ≡ encode_utf8_all (c ∷ after)) × (progress_of (move_of way.state.mode c) c ≡ progress.Refused)
+abbrev pub StopsSo : Mode → Scan → Stop → List ℕ → List ℕ → Type 0
+StopsSo m scan stops.TextEnd read rest = IsUnderWay m scan read × (rest ≡ []) × (is_returned scan ≡ false)
+StopsSo m scan (stops.LineEnd len) read rest = IsAtLineEnd m scan read rest len
+StopsSo m scan (stops.Refused c) read rest = (way : IsUnderWay m scan read) × (after : List ℕ) × (rest ≡ encode_utf8_all (c ∷ after)) × (stack_if (step way.state c) ≡ None) × (is_returned scan && not (is_line_feed c) ≡ false)
 
 -- where the scan of a text stops: behind some of its characters
-pub record Scans (text : List ℕ) (scan : Scan) (stop : Stop) : Type 0 where
+pub record Scans (m : Mode) (text : List ℕ) (scan : Scan) (stop : Stop) : Type 0 where
   pub read : List ℕ
   pub rest : List ℕ
   pub scalars : all_scalars read ≡ true
   pub spell : encode_utf8_all read ++ rest ≡ text
-  pub stops : StopsSo scan stop read rest
+  pub stops : StopsSo m scan stop read rest
+
+-- where the fault of a refused character stands
+abbrev pub refused_place : Scan → ℕ
+refused_place scan = if in_short scan.mode || is_behind_slash scan.mode then scan.start else scan.stop

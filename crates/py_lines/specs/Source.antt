@@ -1,12 +1,17 @@
 -- What the reader behind `Lines` holds: the logical line that it last read. It serves the contracts of private functions.
-use Rattle.std.specs.Prelude.{◌≡◌, ℕ, ◌+◌, ◌-◌, ◌<◌, None, Some, Result, Ok, Err, Bool, true, false, length, take, drop}
-use Rattle.py_lines.specs.LogicalLine.{LogicalLine}
+use Rattle.std.specs.Prelude.{◌≡◌, ℕ, zero, suc, ◌+◌, ◌-◌, ◌<◌, ◌⊎◌, Option, None, Some, Result, Ok, Err, Bool, true, false, List, [], ◌∷◌, length, take, drop, encode_utf8_all}
+use Rattle.py_lines.specs.LogicalLine.{LogicalLine, line_ends}
 use Rattle.py_lines.specs.Token.{EachLiesIn}
 use Rattle.py_lines.specs.Reader.{Reader, Continues, Ends, Fails, RunsOut}
 use Rattle.py_lines.specs.declared.fault.Fault.{Fault}
 use Rattle.py_lines.specs.declared.fault.LexError.{LexError}
 use Rattle.py_lines.specs.declared.fault.LexError.TheVariants as lex
-use Rattle.py_lines.specs.Scan.{Scans}
+use Rattle.py_lines.specs.Machine.{is_final, Bracket}
+use Rattle.py_lines.specs.Scan.{Scans, stack_of}
+use Rattle.py_lines.specs.declared.fault.FaultKind.{FaultKind}
+use Rattle.py_lines.specs.declared.mode.Mode.{Mode}
+use Rattle.py_lines.specs.declared.mode.Mode.TheVariants as modes
+use Rattle.py_lines.specs.declared.scan.Scan.{Scan}
 use Rattle.py_lines.specs.declared.scan.Stop.{Stop}
 use Rattle.py_lines.specs.declared.source.Source.{Source}
 
@@ -32,24 +37,43 @@ pub record Gives (old : Source) (end_len : ℕ) (new : Source) : Type 0 where
   pub characters : new.characters ≡ old.characters
   pub start : new.start ≡ old.place
   pub place : new.place ≡ old.place + old.scan.stop
-  pub line : new.line ≡ old.line + end_len
+  pub line : new.line ≡ old.scan.count.line
   pub ends : new.end_len ≡ end_len
   pub fault : new.fault ≡ old.fault
   pub scan : new.scan ≡ old.scan
 
+-- the line of a place so many bytes behind the lines that were read
+pub record StandsAt (old : Source) (kind : FaultKind) (behind : ℕ) (fault : Fault) : Type 0 where
+  pub is : fault.kind ≡ kind
+  pub place : fault.offset ≡ old.place + behind
+  pub line : (front : List ℕ) → encode_utf8_all front ≡ take behind (drop old.place old.characters.now) → fault.line ≡ old.line + line_ends front
+
 -- the text has this fault from now on
-pub record FailsAt (old : Source) (fault : Fault) (new : Source) : Type 0 where
+pub record FailsAt (old : Source) (kind : FaultKind) (behind : ℕ) (error : LexError) (new : Source) : Type 0 where
+  pub fault : Fault
+  pub error_is : error ≡ lex.Fault fault
+  pub at : StandsAt old kind behind fault
   pub bytes : new.bytes ≡ old.bytes
-  pub place : new.place ≡ old.place
-  pub line : new.line ≡ old.line
+  pub here : new.place ≡ old.place
+  pub same_line : new.line ≡ old.line
   pub kept : new.fault ≡ Some fault
+
+-- where the text may not end
+abbrev pub IsUnfinished : Scan → Option ℕ → Type 0
+IsUnfinished scan None = (is_final scan.mode ≡ true) × (stack_of scan.brackets ≡ [])
+IsUnfinished scan (Some behind) = ((is_final scan.mode ≡ false) × (behind ≡ scan.start)) ⊎ ((is_final scan.mode ≡ true) × ((b : Bracket) × (others : List Bracket) × (stack_of scan.brackets ≡ b ∷ others) × (behind ≡ b.place)))
+
+-- what is open where a line begins
+abbrev pub first_mode : ℕ → Mode
+first_mode zero = modes.Start
+first_mode (suc n) = modes.Free
 
 -- the scan of the next line has stopped so
 pub record HasScanned (s : Source) (stop : Stop) : Type 0 where
   pub more : s.place < length s.bytes.now
   pub no_fault : s.fault ≡ None
   pub line : s.scan.line ≡ s.line
-  pub scans : Scans (drop s.place s.characters.now) s.scan stop
+  pub scans : Scans (first_mode s.place) (drop s.place s.characters.now) s.scan stop
 
 -- what a call that reads the next line answers and leaves
 abbrev pub Advances : Source → Result Bool LexError → Source → Type 0

@@ -2,6 +2,7 @@ ghost use Rattle.std.specs.Prelude.{◌≡◌};
 ghost use Rattle.py_lines.specs.declared.fault.LexError.TheVariants.{Memory};
 
 use std::alloc::AllocError;
+use std::fmt;
 use thiserror::Error;
 
 /// What is wrong with a text.
@@ -16,18 +17,40 @@ pub enum FaultKind {
     /// A line end or the text's end in a short string.
     #[error("F3 string not closed")]
     OpenString,
+    /// The text's end in a long string.
+    #[error("F4 triple-quoted string not closed")]
+    OpenTriple,
+    /// A closing bracket without its opening one.
+    #[error("F5 closing bracket without its opening")]
+    WrongClose,
+    /// The text's end inside brackets.
+    #[error("F6 bracket not closed")]
+    OpenBracket,
+    /// A backslash outside strings and comments that isn't before a line end.
+    #[error("F7 backslash not before a line end")]
+    BadJoin,
+    /// An opening bracket where 200 are open.
+    #[error("F8 more than 200 brackets open")]
+    TooDeep,
     /// An import statement that isn't in the import grammar.
     #[error("F9 import statement not understood")]
     BadImport,
 }
 
 /// A fault and its place: bytes from the text's start, and lines from 1.
-#[derive(Clone, Copy, Debug, PartialEq, Eq, Error)]
-#[error("line {line}: {kind}")]
+#[derive(Clone, Copy, Debug, PartialEq, Eq)]
 pub struct Fault {
     pub kind: FaultKind,
     pub offset: u64,
     pub line: u64,
+}
+
+impl fmt::Display for Fault {
+    fn fmt<W: fmt::Write>(&self, f: &mut fmt::Formatter<W>) -> fmt::Result {
+        let kind = self.kind;
+        let line = self.line;
+        write!(f, "line {line}: {kind}")
+    }
 }
 
 /// Why no logical line was given.

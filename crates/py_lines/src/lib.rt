@@ -1,6 +1,8 @@
 //! The logical lines of a Python text, with their tokens.
 #![tactic(auto)]
 
+mod brackets;
+mod count;
 mod fault;
 pub mod laws;
 mod lines;

@@ -61,46 +61,115 @@ mod tests {
 
     #[test]
     fn reads_units(rt: HostRuntime) -> Result<(), Fail> {
-        let text = b"  import a, b2 # c\n\n# d\nx = 'y'";
-        let mut lines = Lines::new(rt.alloc(), text)?;
-        let units = [
-            (UnitKind::Code, "  import a, b2 # c\n", 0, 1, 2, 1, 5),
-            (UnitKind::Blank, "\n", 19, 2, 0, 1, 0),
-            (UnitKind::Comment, "# d\n", 20, 3, 0, 1, 1),
-            (UnitKind::Code, "x = 'y'", 24, 4, 0, 0, 3),
+        let texts: [&[u8]; 13] = [
+            b"a = [\n1]\n\n# c\n",
+            b"'''a\r\nb'''\rx",
+            b"rb'x' u\"y\"",
+            b"ab'x'",
+            b"1if x",
+            b"\\\n",
+            b"",
+            b"\xef\xbb\xbf",
+            b"x = \"import a\"  # import b\nimport c",
+            b"\"\"\"a \\\" import a\nimport b\n\"\"\"\ny = \"\"\nimport c\n",
+            b"x = 1 + \\\r\n  2\r\nfrom . .x import y\r\n",
+            b"\xef\xbb\xbf  a\r\rb\n",
+            b"(\r\n\r'\\\r\n' \\\r\na)\r\n\n",
         ];
-        for (kind, text, offset, line, indent, end_len, tokens) in units {
-            let unit = lines.next_unit()?.ok_or("a unit is missing")?;
-            assert_eq!(rt; unit.kind, kind);
-            assert_eq!(rt; unit.text, text);
-            assert_eq!(rt; unit.offset, offset);
-            assert_eq!(rt; unit.line, line);
-            assert_eq!(rt; unit.indent, indent);
-            assert_eq!(rt; unit.end_len, end_len);
-            assert_eq!(rt; unit.tokens.len(), tokens);
+        let units = [
+            (0, UnitKind::Code, "a = [\n1]\n", 0, 1, 0, 1, 5),
+            (0, UnitKind::Blank, "\n", 9, 3, 0, 1, 0),
+            (0, UnitKind::Comment, "# c\n", 10, 4, 0, 1, 1),
+            (1, UnitKind::Code, "'''a\r\nb'''\r", 0, 1, 0, 1, 1),
+            (1, UnitKind::Code, "x", 11, 3, 0, 0, 1),
+            (2, UnitKind::Code, "rb'x' u\"y\"", 0, 1, 0, 0, 2),
+            (3, UnitKind::Code, "ab'x'", 0, 1, 0, 0, 2),
+            (4, UnitKind::Code, "1if x", 0, 1, 0, 0, 2),
+            (5, UnitKind::Code, "\\\n", 0, 1, 0, 0, 0),
+            (7, UnitKind::Blank, "\u{feff}", 0, 1, 0, 0, 0),
+            (
+                8,
+                UnitKind::Code,
+                "x = \"import a\"  # import b\n",
+                0,
+                1,
+                0,
+                1,
+                4,
+            ),
+            (8, UnitKind::Code, "import c", 27, 2, 0, 0, 2),
+            (
+                9,
+                UnitKind::Code,
+                "\"\"\"a \\\" import a\nimport b\n\"\"\"\n",
+                0,
+                1,
+                0,
+                1,
+                1,
+            ),
+            (9, UnitKind::Code, "y = \"\"\n", 30, 4, 0, 1, 3),
+            (9, UnitKind::Code, "import c\n", 37, 5, 0, 1, 2),
+            (10, UnitKind::Code, "x = 1 + \\\r\n  2\r\n", 0, 1, 0, 2, 5),
+            (10, UnitKind::Code, "from . .x import y\r\n", 16, 3, 0, 2, 6),
+            (11, UnitKind::Code, "\u{feff}  a\r", 0, 1, 2, 1, 1),
+            (11, UnitKind::Blank, "\r", 7, 2, 0, 1, 0),
+            (11, UnitKind::Code, "b\n", 8, 3, 0, 1, 1),
+            (
+                12,
+                UnitKind::Code,
+                "(\r\n\r'\\\r\n' \\\r\na)\r\n",
+                0,
+                1,
+                0,
+                2,
+                4,
+            ),
+            (12, UnitKind::Blank, "\n", 17, 6, 0, 1, 0),
+        ];
+        for (at, text) in texts.iter().enumerate() {
+            let mut lines = Lines::new(rt.alloc(), *text)?;
+            for (of, kind, line_text, offset, line, indent, end_len, tokens) in units {
+                if of == at {
+                    let unit = lines.next_unit()?.ok_or("a unit is missing")?;
+                    assert_eq!(rt; unit.kind, kind);
+                    assert_eq!(rt; unit.text, line_text);
+                    assert_eq!(rt; unit.offset, offset);
+                    assert_eq!(rt; unit.line, line);
+                    assert_eq!(rt; unit.indent, indent);
+                    assert_eq!(rt; unit.end_len, end_len);
+                    assert_eq!(rt; unit.tokens.len(), tokens);
+                }
+            }
+            assert!(rt; lines.next_unit()?.is_none());
+            assert!(rt; lines.next_unit()?.is_none());
         }
-        assert!(rt; lines.next_unit()?.is_none());
-        assert!(rt; lines.next_unit()?.is_none());
         Ok(())
     }
 
     #[test]
     fn names_tokens(rt: HostRuntime) -> Result<(), Fail> {
-        let mut lines = Lines::new(rt.alloc(), b"a1 = 2b + \"'\" # n\n")?;
+        let text = b"rb'x' u\"y\" ab'x' 1if [\n# n\n'''\n''' x]\n";
+        let mut lines = Lines::new(rt.alloc(), text)?;
         let unit = lines.next_unit()?.ok_or("a unit is missing")?;
         let tokens = [
-            (TokKind::Name, "a1"),
-            (TokKind::Op(b'='), "="),
-            (TokKind::Number, "2b"),
-            (TokKind::Op(b'+'), "+"),
-            (TokKind::Str, "\"'\""),
-            (TokKind::Remark, "# n"),
+            (TokKind::Str, "rb'x'", 1),
+            (TokKind::Str, "u\"y\"", 1),
+            (TokKind::Name, "ab", 1),
+            (TokKind::Str, "'x'", 1),
+            (TokKind::Number, "1if", 1),
+            (TokKind::Op(b'['), "[", 1),
+            (TokKind::Remark, "# n", 2),
+            (TokKind::Str, "'''\n'''", 3),
+            (TokKind::Name, "x", 4),
+            (TokKind::Op(b']'), "]", 4),
         ];
         assert_eq!(rt; unit.tokens.len(), tokens.len());
-        for (i, (kind, word)) in tokens.iter().enumerate() {
+        for (i, (kind, word, line)) in tokens.iter().enumerate() {
             if i < unit.tokens.len() {
                 assert_eq!(rt; unit.tokens[i].kind, *kind);
                 assert_eq!(rt; unit.word(i), *word);
+                assert_eq!(rt; unit.tokens[i].line, *line);
             }
         }
         Ok(())
@@ -108,14 +177,35 @@ mod tests {
 
     #[test]
     fn keeps_its_fault(rt: HostRuntime) -> Result<(), Fail> {
-        let texts: [(&[u8], usize, FaultKind, u64, u64); 7] = [
-            (b"import a\nx = (1)\n", 1, FaultKind::BadChar, 13, 2),
-            (b"x = \"a\n", 0, FaultKind::OpenString, 4, 1),
-            (b"r\"a\"", 0, FaultKind::BadChar, 1, 1),
+        let texts: [(&[u8], usize, FaultKind, u64, u64); 16] = [
+            (b"x = 'abc\n", 0, FaultKind::OpenString, 4, 1),
+            (b"\"\"\"a", 0, FaultKind::OpenTriple, 0, 1),
+            (b"x = )", 0, FaultKind::WrongClose, 4, 1),
+            (b"x = \\ 1\n", 0, FaultKind::BadJoin, 4, 1),
+            (b"$", 0, FaultKind::BadChar, 0, 1),
             (b"a\xff", 0, FaultKind::BadUtf8, 1, 1),
-            (b"a\n$\xff", 1, FaultKind::BadChar, 2, 2),
-            (b"a\r\n", 0, FaultKind::BadChar, 1, 1),
-            (b"'' + '\xc3", 0, FaultKind::BadUtf8, 6, 1),
+            (b"a\r\xff", 1, FaultKind::BadUtf8, 2, 2),
+            (
+                b"import a\nimport b\nx = (1,",
+                2,
+                FaultKind::OpenBracket,
+                22,
+                3,
+            ),
+            (
+                b"import a\nif a:\n    def f(): pass\n    import b\n@d\nx = (\n",
+                5,
+                FaultKind::OpenBracket,
+                53,
+                6,
+            ),
+            (b"import a\n\xef\xbb\xbf", 1, FaultKind::BadChar, 9, 2),
+            (b"x = (\r\n]", 0, FaultKind::WrongClose, 7, 2),
+            (b"(\r\r'''a\n[", 0, FaultKind::OpenTriple, 3, 3),
+            (b"([)]", 0, FaultKind::WrongClose, 2, 1),
+            (b"(\n[\n", 0, FaultKind::OpenBracket, 2, 2),
+            (b"r\"a", 0, FaultKind::OpenString, 0, 1),
+            (b"a\n\\", 1, FaultKind::BadJoin, 2, 2),
         ];
         for (text, units, kind, offset, line) in texts {
             let mut lines = Lines::new(rt.alloc(), text)?;
@@ -128,6 +218,34 @@ mod tests {
                     Err(error) => assert_eq!(rt; error, LexError::Fault(fault)),
                     Ok(_) => return Err(Fail::from("no fault")),
                 }
+            }
+        }
+        Ok(())
+    }
+
+    #[test]
+    fn counts_brackets(rt: HostRuntime) -> Result<(), Fail> {
+        let mut text = [b'('; 400];
+        for byte in text[200..].iter_mut() {
+            *byte = b')';
+        }
+        let mut lines = Lines::new(rt.alloc(), &text)?;
+        assert!(rt; lines.next_unit()?.is_some());
+        assert!(rt; lines.next_unit()?.is_none());
+        for (len, kind, offset) in [
+            (200, FaultKind::OpenBracket, 199),
+            (201, FaultKind::TooDeep, 200),
+        ] {
+            let deep = [b'('; 201];
+            let mut lines = Lines::new(rt.alloc(), &deep[..len])?;
+            let fault = Fault {
+                kind,
+                offset,
+                line: 1,
+            };
+            match lines.next_unit() {
+                Err(error) => assert_eq!(rt; error, LexError::Fault(fault)),
+                Ok(_) => return Err(Fail::from("no fault")),
             }
         }
         Ok(())

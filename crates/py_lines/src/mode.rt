@@ -1,47 +1,71 @@
-//! The machine behind `Lines`: what each character does to the piece of text that is open.
+//! The machine that reads a text one character at a time.
 
-ghost use Rattle.std.specs.Prelude.{◌≡◌};
-ghost use Rattle.py_lines.specs.Character.{is_space, is_word_character, is_digit, is_quote, is_operator, is_line_end, is_hash, is_break, is_barred};
-ghost use Rattle.py_lines.specs.Piece.{is_r, is_b_or_f, is_u};
-ghost use Rattle.py_lines.specs.Machine.{spelling_of, spelling_with, is_prefix_spelling, move_of, start_of, token_of, is_final};
+ghost use Rattle.std.specs.Prelude.{◌≡◌, ◌==◌, ◌||◌, ◌&&◌};
+ghost use Rattle.py_lines.specs.Character.{is_mark, is_space, is_word_character, is_word_start, is_digit, is_quote, is_operator, is_line_feed, is_return, is_break, is_hash, is_backslash, is_r, is_b_or_f, is_u};
+ghost use Rattle.py_lines.specs.Balance.{is_opening, is_closing};
+ghost use Rattle.py_lines.specs.Machine.{spelling_of, spelling_with, is_prefix_spelling, token_of, is_final, short_move, long_move, move_of, start_of, in_short, in_long, is_behind_slash, character_kind, end_kind};
+ghost use Rattle.py_lines.specs.Scan.{is_join_mode, is_return_mode, holds_nothing};
 
+use crate::fault::FaultKind;
 use crate::token::TokKind;
 
-/// What a word spells so far: a number, a name, or what may be the prefix of a string.
+/// Whether a word may be the prefix of a string, as far as it goes.
 #[derive(Clone, Copy, Debug, PartialEq, Eq)]
 pub enum Spelling {
+    /// A digit came first.
     Number,
+    /// `r`: a prefix, and with `b` or `f` behind it one of two letters.
     R,
+    /// `b` or `f`: a prefix, and with `r` behind it one of two letters.
     BOrF,
+    /// Any other prefix.
     Prefix,
+    /// No prefix.
     Name,
 }
 
-/// The piece that is open: none, a run, a comment, or a string with its quote.
+/// The piece that is open, and how far it has come. A `char` is the quote of the string.
 #[derive(Clone, Copy, Debug, PartialEq, Eq)]
 pub enum Mode {
+    /// At the text's start, where a mark may stand.
+    Start,
+    /// No piece is open.
     Free,
     Space,
     Word(Spelling),
     Comment,
-    /// The opening quote alone.
+    /// Behind one quote.
     Opened(char),
-    /// A quote and characters behind it.
+    /// In a short string that holds something.
     Inside(char),
-    /// Two quotes: an empty string, unless a third one follows.
+    /// Behind a backslash in a short string.
+    Escape(char),
+    /// Behind a backslash and CR in a short string: LF may belong to them.
+    EscapeReturn(char),
+    /// Behind two quotes.
     Empty(char),
+    /// In a long string, not behind a quote of its kind.
+    Long(char),
+    /// In a long string, behind one quote of its kind.
+    LongOne(char),
+    /// In a long string, behind two quotes of its kind.
+    LongTwo(char),
+    /// Behind a backslash in a long string.
+    LongEscape(char),
+    /// Behind a backslash outside strings and comments.
+    Backslash,
+    /// Behind a backslash and CR: LF may belong to them.
+    JoinReturn,
+    /// Behind CR: LF may belong to it.
+    Return,
 }
 
 /// What a character does to the piece that is open.
 #[derive(Clone, Copy, Debug, PartialEq, Eq)]
 pub enum Move {
-    /// It joins the piece.
     Grows(Mode),
-    /// It joins the piece and ends it.
     Closes,
-    /// The piece ends before it.
     Breaks,
-    /// The piece can neither take it nor end before it.
     Refused,
 }
 
@@ -52,6 +76,13 @@ pub enum Start {
     Operator,
     LineEnd,
     Nothing,
+}
+
+#[tactic(auto, unfolding(crate::specs::Character::is_mark))]
+fn is_mark(c: char) -> bool
+    ensures { result ≡ is_mark c }
+{
+    c == '\u{feff}'
 }
 
 #[tactic(auto, unfolding(crate::specs::Character::is_space))]
@@ -65,7 +96,7 @@ fn is_space(c: char) -> bool
 fn is_word_character(c: char) -> bool
     ensures { result ≡ is_word_character c }
 {
-    matches!(c, '0'..='9' | 'A'..='Z' | '_' | 'a'..='z')
+    unicode_ident::is_xid_continue(c)
 }
 
 #[tactic(auto, unfolding(crate::specs::Character::is_digit))]
@@ -73,6 +104,13 @@ fn is_digit(c: char) -> bool
     ensures { result ≡ is_digit c }
 {
     matches!(c, '0'..='9')
+}
+
+#[tactic(auto, unfolding(crate::specs::Character::is_word_start))]
+fn is_word_start(c: char) -> bool
+    ensures { result ≡ is_word_start c }
+{
+    unicode_ident::is_xid_start(c) || c == '_' || is_digit(c)
 }
 
 #[tactic(auto, unfolding(crate::specs::Character::is_quote))]
@@ -101,23 +139,31 @@ fn is_operator(c: char) -> bool
             | '>'
             | '='
             | '!'
+            | '('
+            | ')'
+            | '['
+            | ']'
+            | '{'
+            | '}'
             | ','
+            | ':'
             | '.'
+            | ';'
     )
 }
 
-#[tactic(auto, unfolding(crate::specs::Character::is_line_end))]
-pub fn is_line_end(c: char) -> bool
-    ensures { result ≡ is_line_end c }
+#[tactic(auto, unfolding(crate::specs::Character::is_line_feed))]
+pub fn is_line_feed(c: char) -> bool
+    ensures { result ≡ is_line_feed c }
 {
     c == '\n'
 }
 
-#[tactic(auto, unfolding(crate::specs::Character::is_hash))]
-fn is_hash(c: char) -> bool
-    ensures { result ≡ is_hash c }
+#[tactic(auto, unfolding(crate::specs::Character::is_return))]
+pub fn is_return(c: char) -> bool
+    ensures { result ≡ is_return c }
 {
-    c == '#'
+    c == '\r'
 }
 
 #[tactic(auto, unfolding(crate::specs::Character::is_break))]
@@ -127,32 +173,53 @@ fn is_break(c: char) -> bool
     matches!(c, '\n' | '\r')
 }
 
-#[tactic(auto, unfolding(crate::specs::Character::is_barred))]
-fn is_barred(quote: char, c: char) -> bool
-    ensures { result ≡ is_barred quote c }
+#[tactic(auto, unfolding(crate::specs::Character::is_hash))]
+fn is_hash(c: char) -> bool
+    ensures { result ≡ is_hash c }
 {
-    c == quote || matches!(c, '\\' | '\n' | '\r')
+    c == '#'
 }
 
-#[tactic(auto, unfolding(crate::specs::Piece::is_r))]
+#[tactic(auto, unfolding(crate::specs::Character::is_backslash))]
+fn is_backslash(c: char) -> bool
+    ensures { result ≡ is_backslash c }
+{
+    c == '\\'
+}
+
+#[tactic(auto, unfolding(crate::specs::Character::is_r))]
 fn is_r(c: char) -> bool
     ensures { result ≡ is_r c }
 {
     matches!(c, 'r' | 'R')
 }
 
-#[tactic(auto, unfolding(crate::specs::Piece::is_b_or_f))]
+#[tactic(auto, unfolding(crate::specs::Character::is_b_or_f))]
 fn is_b_or_f(c: char) -> bool
     ensures { result ≡ is_b_or_f c }
 {
     matches!(c, 'b' | 'B' | 'f' | 'F')
 }
 
-#[tactic(auto, unfolding(crate::specs::Piece::is_u))]
+#[tactic(auto, unfolding(crate::specs::Character::is_u))]
 fn is_u(c: char) -> bool
     ensures { result ≡ is_u c }
 {
     matches!(c, 'u' | 'U')
+}
+
+#[tactic(auto, unfolding(crate::specs::Balance::is_opening))]
+pub fn is_opening(c: char) -> bool
+    ensures { result ≡ is_opening c }
+{
+    matches!(c, '(' | '[' | '{')
+}
+
+#[tactic(auto, unfolding(crate::specs::Balance::is_closing))]
+pub fn is_closing(c: char) -> bool
+    ensures { result ≡ is_closing c }
+{
+    matches!(c, ')' | ']' | '}')
 }
 
 impl Spelling {
@@ -195,25 +262,132 @@ impl Spelling {
     }
 }
 
+/// What a character that doesn't close the string does in a short string.
+#[tactic(auto, unfolding(crate::specs::Machine::short_move))]
+fn short_move(quote: char, c: char) -> Move
+    ensures { result ≡ short_move quote c }
+{
+    if is_backslash(c) {
+        Move::Grows(Mode::Escape(quote))
+    } else if is_break(c) {
+        Move::Refused
+    } else {
+        Move::Grows(Mode::Inside(quote))
+    }
+}
+
+/// What a character other than the quote does in a long string.
+#[tactic(auto, unfolding(crate::specs::Machine::long_move))]
+fn long_move(quote: char, c: char) -> Move
+    ensures { result ≡ long_move quote c }
+{
+    if is_backslash(c) {
+        Move::Grows(Mode::LongEscape(quote))
+    } else {
+        Move::Grows(Mode::Long(quote))
+    }
+}
+
 impl Mode {
     /// The token that the open piece is, if it is one.
     pub fn token(self) -> Option<TokKind>
         ensures { result ≡ token_of self }
     {
         match self {
-            Mode::Free | Mode::Space => None,
+            Mode::Start | Mode::Free | Mode::Space => None,
+            Mode::Backslash | Mode::JoinReturn | Mode::Return => None,
             Mode::Word(Spelling::Number) => Some(TokKind::Number),
             Mode::Word(_) => Some(TokKind::Name),
             Mode::Comment => Some(TokKind::Remark),
-            Mode::Opened(_) | Mode::Inside(_) | Mode::Empty(_) => Some(TokKind::Str),
+            _ => Some(TokKind::Str),
         }
     }
 
-    /// Whether the open piece may end where the text does. Only an open string may not.
+    /// Whether the open piece is a backslash, with or without its line end.
+    pub fn is_join(self) -> bool
+        ensures { result ≡ is_join_mode self }
+    {
+        matches!(self, Mode::Backslash | Mode::JoinReturn)
+    }
+
+    /// Whether the open piece is the CR of a line end.
+    pub fn is_return(self) -> bool
+        ensures { result ≡ is_return_mode self }
+    {
+        matches!(self, Mode::Return)
+    }
+
+    /// Whether no piece is open, or a mark.
+    pub fn holds_nothing(self) -> bool
+        ensures { result ≡ holds_nothing self }
+    {
+        matches!(self, Mode::Start | Mode::Free)
+    }
+
+    /// Whether a short string is open.
+    pub fn in_short(self) -> bool
+        ensures { result ≡ in_short self }
+    {
+        matches!(
+            self,
+            Mode::Opened(_) | Mode::Inside(_) | Mode::Escape(_) | Mode::EscapeReturn(_)
+        )
+    }
+
+    /// Whether a long string is open.
+    pub fn in_long(self) -> bool
+        ensures { result ≡ in_long self }
+    {
+        matches!(
+            self,
+            Mode::Long(_) | Mode::LongOne(_) | Mode::LongTwo(_) | Mode::LongEscape(_)
+        )
+    }
+
+    /// Whether a backslash stands directly before, outside strings and comments.
+    pub fn is_behind_slash(self) -> bool
+        ensures { result ≡ is_behind_slash self }
+    {
+        matches!(self, Mode::Backslash)
+    }
+
+    /// Whether the open piece may end where the text does: not an open string, nor a backslash alone.
     pub fn is_final(self) -> bool
         ensures { result ≡ is_final self }
     {
-        !matches!(self, Mode::Opened(_) | Mode::Inside(_))
+        !self.in_short() && !self.in_long() && !self.is_behind_slash()
+    }
+
+    /// The fault of a character that is refused here.
+    pub fn character_kind(self, c: char) -> FaultKind
+        ensures { result ≡ character_kind self c }
+    {
+        if self.in_short() {
+            FaultKind::OpenString
+        } else if self.is_behind_slash() {
+            FaultKind::BadJoin
+        } else if is_closing(c) {
+            FaultKind::WrongClose
+        } else if is_opening(c) {
+            FaultKind::TooDeep
+        } else {
+            FaultKind::BadChar
+        }
+    }
+
+    /// The fault of a text that may not end here.
+    pub fn end_kind(self) -> FaultKind
+        ensures { result ≡ end_kind self }
+    {
+        if self.in_short() {
+            FaultKind::OpenString
+        } else if self.in_long() {
+            FaultKind::OpenTriple
+        } else if self.is_behind_slash() {
+            FaultKind::BadJoin
+        } else {
+            FaultKind::OpenBracket
+        }
     }
 
     /// What the next character does to the open piece.
@@ -222,23 +396,43 @@ impl Mode {
         ensures { result ≡ move_of self c }
     {
         match self {
+            Mode::Start if is_mark(c) => Move::Closes,
+            Mode::Start => Move::Breaks,
             Mode::Free => Move::Breaks,
             Mode::Space if is_space(c) => Move::Grows(Mode::Space),
             Mode::Space => Move::Breaks,
             Mode::Word(spelling) if is_word_character(c) => Move::Grows(Mode::Word(spelling.with(
                 c,
             ))),
-            Mode::Word(spelling) if spelling.is_prefix() && is_quote(c) => Move::Refused,
+            Mode::Word(spelling) if spelling.is_prefix() && is_quote(c) => {
+                Move::Grows(Mode::Opened(c))
+            }
             Mode::Word(_) => Move::Breaks,
-            Mode::Comment if is_line_end(c) => Move::Breaks,
-            Mode::Comment if is_break(c) => Move::Refused,
+            Mode::Comment if is_break(c) => Move::Breaks,
             Mode::Comment => Move::Grows(Mode::Comment),
             Mode::Opened(quote) if c == quote => Move::Grows(Mode::Empty(quote)),
+            Mode::Opened(quote) => short_move(quote, c),
             Mode::Inside(quote) if c == quote => Move::Closes,
-            Mode::Opened(quote) | Mode::Inside(quote) if is_barred(quote, c) => Move::Refused,
-            Mode::Opened(quote) | Mode::Inside(quote) => Move::Grows(Mode::Inside(quote)),
-            Mode::Empty(quote) if c == quote => Move::Refused,
+            Mode::Inside(quote) => short_move(quote, c),
+            Mode::Escape(quote) if is_return(c) => Move::Grows(Mode::EscapeReturn(quote)),
+            Mode::Escape(quote) => Move::Grows(Mode::Inside(quote)),
+            Mode::EscapeReturn(quote) if is_line_feed(c) => Move::Grows(Mode::Inside(quote)),
+            Mode::EscapeReturn(quote) if c == quote => Move::Closes,
+            Mode::EscapeReturn(quote) => short_move(quote, c),
+            Mode::Empty(quote) if c == quote => Move::Grows(Mode::Long(quote)),
             Mode::Empty(_) => Move::Breaks,
+            Mode::Long(quote) if c == quote => Move::Grows(Mode::LongOne(quote)),
+            Mode::Long(quote) => long_move(quote, c),
+            Mode::LongOne(quote) if c == quote => Move::Grows(Mode::LongTwo(quote)),
+            Mode::LongOne(quote) => long_move(quote, c),
+            Mode::LongTwo(quote) if c == quote => Move::Closes,
+            Mode::LongTwo(quote) => long_move(quote, c),
+            Mode::LongEscape(quote) => Move::Grows(Mode::Long(quote)),
+            Mode::Backslash if is_line_feed(c) => Move::Closes,
+            Mode::Backslash if is_return(c) => Move::Grows(Mode::JoinReturn),
+            Mode::Backslash => Move::Refused,
+            Mode::JoinReturn | Mode::Return if is_line_feed(c) => Move::Closes,
+            Mode::JoinReturn | Mode::Return => Move::Breaks,
         }
     }
 }
@@ -249,18 +443,22 @@ impl Start {
     pub fn of(c: char) -> Start
         ensures { result ≡ start_of c }
     {
-        if is_space(c) {
-            Start::Open(Mode::Space)
-        } else if is_word_character(c) {
+        if is_word_start(c) {
             Start::Open(Mode::Word(Spelling::of(c)))
+        } else if is_space(c) {
+            Start::Open(Mode::Space)
         } else if is_operator(c) {
             Start::Operator
-        } else if is_line_end(c) {
+        } else if is_line_feed(c) {
             Start::LineEnd
+        } else if is_return(c) {
+            Start::Open(Mode::Return)
         } else if is_quote(c) {
             Start::Open(Mode::Opened(c))
         } else if is_hash(c) {
             Start::Open(Mode::Comment)
+        } else if is_backslash(c) {
+            Start::Open(Mode::Backslash)
         } else {
             Start::Nothing
         }

@@ -1,12 +1,15 @@
-//! The scan of one logical line: the machine, and the tokens that it has found.
+//! The scan of one logical line: the machine, and what it has found.
 
-ghost use Rattle.std.specs.Prelude.{◌≡◌, ℕ, ◌+◌, ◌<◌, ◌≤◌, ◌^◌, false, List, [], ◌∷◌, ◌++◌, length, encode_utf8_all, OnOk, IfOk};
+ghost use Rattle.std.specs.Prelude.{◌≡◌, ℕ, ◌+◌, ◌<◌, ◌≤◌, ◌^◌, ◌&&◌, not, false, Some, None, List, [], length, OnOk, IfOk};
 ghost use Rattle.std.specs.Char.{len_utf8};
-ghost use Rattle.py_lines.specs.declared.token.Token.{Token};
-ghost use Rattle.py_lines.specs.Machine.{Scanned, fresh, shut, IsSound, has_line_end, start_of};
-ghost use Rattle.py_lines.specs.Scan.{Emits, Closes, Begins, Tallies, Takes, Scans};
+ghost use Rattle.py_lines.specs.Character.{is_line_feed};
+ghost use Rattle.py_lines.specs.Machine.{Scanned, IsSound, start_of};
+ghost use Rattle.py_lines.specs.Scan.{Emits, Closes, Reads, Begins, Tallies, IsStacked, Takes, Scans, EndsNoLine, begun, is_returned, is_none, stack_of, line_end_progress, StandsBehind};
+ghost use Rattle.py_lines.specs.declared.token.TokKind.TheVariants.{Op};
 
-use crate::mode::{Mode, Move, Start};
+use crate::brackets::Brackets;
+use crate::count::Count;
+use crate::mode::{Mode, Move, Start, is_line_feed};
 use crate::token::{TokKind, Token};
 use crate::unit::UnitKind;
 use std::alloc::{AllocError, Global};
@@ -15,14 +18,15 @@ use std::alloc::{AllocError, Global};
 #[derive(Clone, Copy, Debug, PartialEq, Eq)]
 pub enum Progress {
     Going,
-    LineEnded,
+    /// The line ended with it: so many bytes are its line end.
+    LineEnded(usize),
     Refused,
 }
 
 /// Where the scan of a line stopped.
 #[derive(Clone, Copy, Debug, PartialEq, Eq)]
 pub enum Stop {
-    LineEnd,
+    LineEnd(usize),
     TextEnd,
     Refused(char),
 }
@@ -30,45 +34,66 @@ pub enum Stop {
 /// What is known of the line so far. Places are bytes from the line's start.
 #[derive(Drop)]
 pub struct Scan {
-    /// The piece that is open, and where it begins and stops.
+    /// The piece that is open, where it begins and stops, and on which line it begins.
     pub mode: Mode,
     pub start: usize,
     pub stop: usize,
-    /// The line on which the scan began, from 1.
+    pub piece_line: u64,
+    /// The line on which the scan began, from 1, and the one that it has reached.
     pub line: u64,
+    pub count: Count,
+    /// Whether no piece but a mark was closed.
+    pub margin: bool,
     pub indent: usize,
     pub kind: UnitKind,
     pub tokens: Vec<Token>,
+    pub brackets: Brackets,
 }
 
 impl Scan {
-    /// Where no line has been begun yet.
-    pub fn new(alloc: Global) -> Scan
-        ensures { Tallies result (fresh []) }
-    {
+    pub fn new(alloc: Global) -> Scan {
         Scan {
-            mode: Mode::Free,
+            mode: Mode::Start,
             start: 0,
             stop: 0,
+            piece_line: 1,
             line: 1,
+            count: Count::from(1),
+            margin: true,
             indent: 0,
             kind: UnitKind::Blank,
             tokens: Vec::new(alloc),
+            brackets: Brackets::new(alloc),
         }
     }
 
-    /// Begins a line anew; the tokens' memory is kept.
-    pub fn restart(&mut self, line: u64)
-        ensures start { Tallies self.new (fresh []) }
+    /// Begins a line anew; the memory is kept.
+    pub fn restart(&mut self, mode: Mode, line: u64)
+        ensures start { Tallies self.new (begun mode) }
+        ensures stacked { IsStacked self.new (begun mode) }
         ensures line { self.new.line ≡ line }
     {
-        self.mode = Mode::Free;
+        self.mode = mode;
         self.start = 0;
         self.stop = 0;
+        self.piece_line = line;
         self.line = line;
+        self.count = Count::from(line);
+        self.margin = true;
         self.indent = 0;
         self.kind = UnitKind::Blank;
         self.tokens.clear();
+        self.brackets.clear();
+    }
+
+    /// One more character is read.
+    fn read(&mut self, c: char)
+        requires bytes { self.old.stop + len_utf8 c < 2 ^ 64 }
+        requires lines { self.old.count.line + 1 < 2 ^ 64 }
+        ensures { Reads self.old c self.new }
+    {
+        self.stop += c.len_utf8();
+        self.count.push(c);
     }
 
     /// The open piece becomes a token.
@@ -79,7 +104,7 @@ impl Scan {
             kind,
             start: self.start,
             stop: self.stop,
-            line: self.line,
+            line: self.piece_line,
         })?;
         if kind != TokKind::Remark {
             self.kind = UnitKind::Code;
@@ -91,43 +116,90 @@ impl Scan {
 
     /// Ends the open piece where it stops.
     pub fn close(&mut self) -> Result<(), AllocError>
+        requires { self.old.start ≤ self.old.stop }
         ensures { OnOk result (Closes self.old self.new) }
     {
         if let Some(kind) = self.mode.token() {
             self.emit(kind)?;
-        } else if self.mode == Mode::Space && self.start == 0 {
-            self.indent = self.stop;
+        } else if self.mode.is_join() {
+            self.kind = UnitKind::Code;
+        } else if self.mode == Mode::Space && self.margin {
+            self.indent = self.stop - self.start;
         }
+        self.margin = self.margin && self.mode.holds_nothing();
         self.mode = Mode::Free;
         self.start = self.stop;
+        self.piece_line = self.count.line;
+        Ok(())
+    }
+
+    /// What a line end of so many bytes comes to: in brackets the line goes on.
+    fn line_end(&self, len: usize) -> Progress
+        ensures { result ≡ line_end_progress (is_none (stack_of self.now.brackets)) len }
+    {
+        if self.brackets.is_empty() {
+            Progress::LineEnded(len)
+        } else {
+            Progress::Going
+        }
+    }
+
+    /// Takes an operator, which its brackets have met, behind the open piece.
+    fn stand(&mut self, c: char) -> Result<(), AllocError>
+        requires order { self.old.start ≤ self.old.stop }
+        requires bytes { self.old.stop + len_utf8 c < 2 ^ 64 }
+        requires lines { self.old.count.line + 1 < 2 ^ 64 }
+        requires ascii { c < 128 }
+        ensures { OnOk result (StandsBehind self.old c (Some (Op c)) self.new) }
+    {
+        self.close()?;
+        self.read(c);
+        self.emit(TokKind::Op(c as u8))?;
+        self.margin = false;
+        self.start = self.stop;
+        self.piece_line = self.count.line;
+        Ok(())
+    }
+
+    /// Takes a line feed behind the open piece.
+    fn feed(&mut self, c: char) -> Result<(), AllocError>
+        requires order { self.old.start ≤ self.old.stop }
+        requires bytes { self.old.stop + len_utf8 c < 2 ^ 64 }
+        requires lines { self.old.count.line + 1 < 2 ^ 64 }
+        ensures { OnOk result (StandsBehind self.old c None self.new) }
+    {
+        self.close()?;
+        self.read(c);
+        self.margin = false;
+        self.start = self.stop;
+        self.piece_line = self.count.line;
         Ok(())
     }
 
     /// Takes a character that begins a piece behind the open one.
     fn begin(&mut self, c: char) -> Result<Progress, AllocError>
-        requires { self.old.stop + len_utf8 c < 2 ^ 64 }
+        requires order { self.old.start ≤ self.old.stop }
+        requires bytes { self.old.stop + len_utf8 c < 2 ^ 64 }
+        requires lines { self.old.count.line + 1 < 2 ^ 64 }
         ensures { OnOk result (Begins self.old c (start_of c) result self.new) }
     {
-        let len = c.len_utf8();
         match Start::of(c) {
             Start::Open(mode) => {
                 self.close()?;
+                self.read(c);
                 self.mode = mode;
-                self.stop += len;
                 Ok(Progress::Going)
             }
             Start::Operator => {
-                self.close()?;
-                self.stop += len;
-                self.emit(TokKind::Op(c as u8))?;
-                self.start = self.stop;
+                if !self.brackets.meet(c, self.stop)? {
+                    return Ok(Progress::Refused);
+                }
+                self.stand(c)?;
                 Ok(Progress::Going)
             }
             Start::LineEnd => {
-                self.close()?;
-                self.stop += len;
-                self.start = self.stop;
-                Ok(Progress::LineEnded)
+                self.feed(c)?;
+                Ok(self.line_end(1))
             }
             Start::Nothing => Ok(Progress::Refused),
         }
@@ -135,38 +207,71 @@ impl Scan {
 
     /// Takes the next character of the line.
     pub fn push(&mut self, c: char) -> Result<Progress, AllocError>
-        requires { self.old.stop + len_utf8 c < 2 ^ 64 }
-        ensures { (s : Scanned) (read : List ℕ) → IsSound s read → has_line_end s.done ≡ false → Tallies self.old s → Takes self.old s c result self.new }
+        requires order { self.old.start ≤ self.old.stop }
+        requires bytes { self.old.stop + len_utf8 c < 2 ^ 64 }
+        requires lines { self.old.count.line + 1 < 2 ^ 64 }
+        ensures { (s : Scanned) (read : List ℕ) → IsSound s read → EndsNoLine 0 s.done → is_returned self.old && not (is_line_feed c) ≡ false → Tallies self.old s → IsStacked self.old s → Takes self.old s c result self.new }
     {
         match self.mode.meet(c) {
             Move::Grows(mode) => {
+                self.read(c);
                 self.mode = mode;
-                self.stop += c.len_utf8();
                 Ok(Progress::Going)
             }
             Move::Closes => {
-                self.stop += c.len_utf8();
+                let returned = self.mode.is_return();
+                self.read(c);
                 self.close()?;
-                Ok(Progress::Going)
+                if returned {
+                    Ok(self.line_end(2))
+                } else {
+                    Ok(Progress::Going)
+                }
             }
             Move::Breaks => self.begin(c),
             Move::Refused => Ok(Progress::Refused),
         }
     }
 
+    /// Whether the line ended with the CR just read, unless LF follows.
+    fn is_returned(&self) -> bool
+        ensures { result ≡ is_returned self.now }
+    {
+        self.mode.is_return() && self.brackets.is_empty()
+    }
+
+    /// Whether the line ended before `c`, with the CR just read.
+    fn ends_before(&self, c: char) -> bool
+        ensures { result ≡ (is_returned self.now && not (is_line_feed c)) }
+    {
+        self.is_returned() && !is_line_feed(c)
+    }
+
     /// Takes characters up to the line's end, the text's end, or one that is refused.
     pub fn run(&mut self, text: &str) -> Result<Stop, AllocError>
-        requires { Tallies self.old (fresh []) }
-        ensures stops { IfOk result (Scans text.now self.new) }
+        requires start { Tallies self.old (begun self.old.mode) }
+        requires stacked { IsStacked self.old (begun self.old.mode) }
+        requires sound { IsSound (begun self.old.mode) [] }
+        requires lines { self.old.line + length text.now + 1 < 2 ^ 64 }
+        ensures stops { IfOk result (Scans self.old.mode text.now self.new) }
         ensures line { OnOk result (self.new.line ≡ self.old.line) }
     {
         for c in text.chars() {
+            if self.ends_before(c) {
+                self.close()?;
+                return Ok(Stop::LineEnd(1));
+            }
             match self.push(c)? {
                 Progress::Going => {}
-                Progress::LineEnded => return Ok(Stop::LineEnd),
+                Progress::LineEnded(len) => return Ok(Stop::LineEnd(len)),
                 Progress::Refused => return Ok(Stop::Refused(c)),
             }
         }
-        Ok(Stop::TextEnd)
+        if self.is_returned() {
+            self.close()?;
+            Ok(Stop::LineEnd(1))
+        } else {
+            Ok(Stop::TextEnd)
+        }
     }
 }

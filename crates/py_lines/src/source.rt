@@ -4,8 +4,9 @@ ghost use Rattle.std.specs.Prelude.{◌≡◌, ℕ, ◌+◌, ◌<◌, ◌≤◌,
 ghost use Rattle.std.specs.Str.{IsCharBoundary, StartsWithNoChar};
 ghost use Rattle.py_lines.specs.declared.fault.Fault.{Fault};
 
+use crate::count::line_behind;
 use crate::fault::{Fault, FaultKind, LexError};
-use crate::mode::is_line_end;
+use crate::mode::Mode;
 use crate::scan::{Scan, Stop};
 use crate::unit::Unit;
 use std::alloc::Global;
@@ -49,7 +50,8 @@ pub struct Source<'t> {
 }
 
 impl<'t> Source<'t> {
-    ghost use Rattle.py_lines.specs.Source.{reader_of, line_of_source, Gives, FailsAt, HasScanned, Advances};
+    ghost use Rattle.py_lines.specs.Source.{reader_of, line_of_source, Gives, FailsAt, HasScanned, Advances, first_mode, IsUnfinished};
+    ghost use Rattle.py_lines.specs.Scan.{refused_place};
     ghost use Rattle.py_lines.specs.Reader.{at_start};
     ghost use Rattle.py_lines.specs.Token.{EachLiesIn};
     ghost use Rattle.py_lines.specs.UnitLine.{line_in};
@@ -73,49 +75,69 @@ impl<'t> Source<'t> {
     fn give(&mut self, end_len: usize)
         requires within { self.old.place + self.old.scan.stop ≤ length self.old.characters.now }
         requires boundary { IsCharBoundary self.old.characters.now (self.old.place + self.old.scan.stop) }
-        requires lines { end_len ≤ self.old.scan.stop }
-        requires one { end_len ≤ 1 }
+        requires lines { self.old.scan.count.line ≤ self.old.place + self.old.scan.stop + 1 }
         ensures { Gives self.old end_len self.new }
     {
         self.start = self.place;
         self.place += self.scan.stop;
-        self.line += end_len as u64;
+        self.line = self.scan.count.line;
         self.end_len = end_len;
     }
 
-    /// The text has this fault, from now on.
-    fn fail(&mut self, kind: FaultKind, offset: usize) -> LexError
-        ensures error { result ≡ LexError.Fault (record { kind = kind; offset = offset; line = self.old.line }) }
-        ensures kept { FailsAt self.old (record { kind = kind; offset = offset; line = self.old.line }) self.new }
+    /// The text has this fault, from now on. It stands so many bytes behind the lines that were read.
+    fn fail(&mut self, kind: FaultKind, behind: usize) -> LexError
+        requires within { self.old.place + behind ≤ length self.old.characters.now }
+        requires boundary { IsCharBoundary self.old.characters.now (self.old.place + behind) }
+        ensures { FailsAt self.old kind behind result self.new }
     {
+        let offset = self.place + behind;
         let fault = Fault {
             kind,
             offset: offset as u64,
-            line: self.line,
+            line: line_behind(self.line, &self.characters[self.place..offset]),
         };
         self.fault = Some(fault);
         LexError::Fault(fault)
     }
 
-    /// The fault of a text whose next character is refused: a line end in an open string, or a character that is
-    /// unexpected.
+    /// Where the fault of a refused character stands: an open string's and a backslash's where they begin.
+    fn refused_place(&self) -> usize
+        ensures { result ≡ refused_place self.now.scan }
+    {
+        let mode = self.scan.mode;
+        if mode.in_short() || mode.is_behind_slash() {
+            self.scan.start
+        } else {
+            self.scan.stop
+        }
+    }
+
+    /// The fault of a text whose next character is refused.
     fn refuse(&mut self, c: char) -> LexError
         requires { HasScanned self.old (Stop.Refused c) }
         ensures { Advances self.old (Err result) self.new }
     {
-        if is_line_end(c) && !self.scan.mode.is_final() {
-            self.fail(FaultKind::OpenString, self.place + self.scan.start)
+        let behind = self.refused_place();
+        self.fail(self.scan.mode.character_kind(c), behind)
+    }
+
+    /// Where the text may not end: the open string or backslash, or else the innermost bracket.
+    fn unfinished(&self) -> Option<usize>
+        ensures { IsUnfinished self.now.scan result }
+    {
+        if self.scan.mode.is_final() {
+            self.scan.brackets.innermost().map(|bracket| bracket.place)
         } else {
-            self.fail(FaultKind::BadChar, self.place + self.scan.stop)
+            Some(self.scan.start)
         }
     }
 
     /// The line that its line end closed.
-    fn end_line(&mut self)
-        requires { HasScanned self.old Stop.LineEnd }
+    fn end_line(&mut self, len: usize)
+        requires { HasScanned self.old (Stop.LineEnd len) }
         ensures { Advances self.old (Ok true) self.new }
     {
-        self.give(1);
+        self.give(len);
     }
 
     /// The last line of the text, or the fault that stands at its end.
@@ -124,14 +146,25 @@ impl<'t> Source<'t> {
         ensures { Advances self.old result self.new }
     {
         if self.characters.len() < self.bytes.len() {
-            return Err(self.fail(FaultKind::BadUtf8, self.characters.len()));
+            return Err(self.fail(FaultKind::BadUtf8, self.scan.stop));
         }
-        if !self.scan.mode.is_final() {
-            return Err(self.fail(FaultKind::OpenString, self.place + self.scan.start));
+        if let Some(behind) = self.unfinished() {
+            return Err(self.fail(self.scan.mode.end_kind(), behind));
         }
         self.scan.close()?;
         self.give(0);
         Ok(true)
+    }
+
+    /// What is open where a line begins: a mark may stand at the text's start.
+    fn first_mode(&self) -> Mode
+        ensures { result ≡ first_mode self.now.place }
+    {
+        if self.place == 0 {
+            Mode::Start
+        } else {
+            Mode::Free
+        }
     }
 
     /// Reads the next logical line: whether there is one.
@@ -144,10 +177,11 @@ impl<'t> Source<'t> {
         if self.place == self.bytes.len() {
             return Ok(false);
         }
-        self.scan.restart(self.line);
+        let mode = self.first_mode();
+        self.scan.restart(mode, self.line);
         match self.scan.run(&self.characters[self.place..])? {
-            Stop::LineEnd => {
-                self.end_line();
+            Stop::LineEnd(len) => {
+                self.end_line(len);
                 Ok(true)
             }
             Stop::TextEnd => self.end_text(),

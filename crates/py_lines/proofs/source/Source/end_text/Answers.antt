@@ -1,51 +1,65 @@
-use Rattle.std.proofs.Common.{ℕ, ◌+◌, Err, sym, ap, ◌∙◌, subst, refl, arith}
+use Rattle.std.proofs.Common.{◌≡◌, ℕ, ◌+◌, ◌≤◌, length, Err, Some, sym, ap, ◌∙◌, subst, refl, arith}
 use Rattle.std.specs.Str.{IsCharBoundary}
 use Rattle.py_lines.specs.declared.fault.LexError.{LexError}
 use Rattle.py_lines.specs.declared.mode.Mode.{Mode}
 use Rattle.py_lines.specs.declared.scan.Stop.TheVariants.{TextEnd}
 use Rattle.py_lines.specs.Machine.{is_final}
-use Rattle.py_lines.specs.Source.{Advances}
-use Rattle.py_lines.proofs.Outcomes.{way_places}
-use Rattle.py_lines.proofs.Running.{sound_run}
-use Rattle.py_lines.proofs.Closing.{closes_shut}
-use Rattle.py_lines.proofs.Advancing.{scan_room, scan_boundary, continues_text}
-use Rattle.py_lines.proofs.Failing.{fails_at_bytes, fails_at_end}
+use Rattle.py_lines.specs.Source.{Advances, FailsAt, IsUnfinished}
+use Rattle.py_lines.proofs.Running.{way_order}
+use Rattle.py_lines.proofs.Advancing.{all_within, place_room, place_boundary}
+use Rattle.py_lines.proofs.Ending.{stop_size, fails_at_bytes, fails_at_end, unfinished_within, continues_text, few_lines_text}
 use Rattle.py_lines.proofs.source.Source.end_text.Goals as goal
+
+pub fail-requires-clause-within : goal.fail-requires-clause-within
+fail-requires-clause-within c =
+    let s = c.args.self.now in
+    place_room s TextEnd c.requires s.scan.stop (all_within c.requires.scans.read s.scan.stop (stop_size s c.requires))
+
+pub fail-requires-clause-boundary : goal.fail-requires-clause-boundary
+fail-requires-clause-boundary c =
+    let s = c.args.self.now in
+    place_boundary s TextEnd c.requires s.scan.stop (all_within c.requires.scans.read s.scan.stop (stop_size s c.requires))
 
 pub returns-then-self : goal.returns-then-self
 returns-then-self c =
     let s = c.args.self.now in
-    subst (λ (e : LexError). Advances s (Err e) c.fail.new.self) (sym c.fail.ensures.error) (fails_at_bytes s c.fail.new.self c.requires c.if-self.true c.fail.ensures.kept)
+    let at = c.fail.ensures in
+    subst (λ (e : LexError). Advances s (Err e) c.fail.new.self) (sym at.error_is) (fails_at_bytes s c.requires c.fail.new.self c.fail.result at c.if-self.true)
 
-pub overflow_add-self : goal.overflow_add-self
-overflow_add-self c =
+pub fail-requires-in-Some-clause-within : goal.fail-requires-in-Some-clause-within
+fail-requires-in-Some-clause-within c =
     let s = c.args.self.now in
-    let places = way_places s.scan c.requires.scans.read c.requires.scans.stops.0 in
-    omega (arith, scan_room s TextEnd c.requires, places.0)
+    place_room s TextEnd c.requires c.in-Some.behind (unfinished_within s c.requires c.in-Some.behind c.in-Some.ensures)
 
-pub returns-then-not-is_final : goal.returns-then-not-is_final
-returns-then-not-is_final c =
+pub fail-requires-in-Some-clause-boundary : goal.fail-requires-in-Some-clause-boundary
+fail-requires-in-Some-clause-boundary c =
     let s = c.args.self.now in
-    let way = c.requires.scans.stops.0 in
-    subst (λ (e : LexError). Advances s (Err e) c.fail-then-not-is_final.new.self) (sym c.fail-then-not-is_final.ensures.error)
-    (fails_at_end s c.fail-then-not-is_final.new.self c.requires c.if-self.false (ap (λ (m : Mode). is_final m) (sym way.tallies.mode) ∙ sym c.if-not-is_final.ensures) c.fail-then-not-is_final.ensures.kept)
+    place_boundary s TextEnd c.requires c.in-Some.behind (unfinished_within s c.requires c.in-Some.behind c.in-Some.ensures)
+
+pub returns-in-Some : goal.returns-in-Some
+returns-in-Some c =
+    let s = c.args.self.now in
+    let at = c.fail-in-Some.ensures in
+    subst (λ (e : LexError). Advances s (Err e) c.fail-in-Some.new.self) (sym at.error_is) (fails_at_end s c.requires c.fail-in-Some.new.self c.end_kind.result c.in-Some.behind c.fail-in-Some.result at c.end_kind.ensures c.in-Some.ensures c.if-self.false)
+
+pub close-requires : goal.close-requires
+close-requires c = way_order c.args.self.now.scan c.requires.scans.stops.0.state c.requires.scans.stops.0.tallies
 
 pub give-requires-clause-within : goal.give-requires-clause-within
 give-requires-clause-within c =
     let s = c.args.self.now in
-    let places = way_places s.scan c.requires.scans.read c.requires.scans.stops.0 in
-    omega (arith, scan_room s TextEnd c.requires, places.1, c.in_ok-close.ensures.stop)
+    omega (arith, place_room s TextEnd c.requires s.scan.stop (all_within c.requires.scans.read s.scan.stop (stop_size s c.requires)), c.in_ok-close.ensures.stop)
 
 pub give-requires-clause-boundary : goal.give-requires-clause-boundary
 give-requires-clause-boundary c =
     let s = c.args.self.now in
-    let places = way_places s.scan c.requires.scans.read c.requires.scans.stops.0 in
-    subst (λ (n : ℕ). IsCharBoundary s.characters.now (s.place + n)) (sym (c.in_ok-close.ensures.stop ∙ places.1)) (scan_boundary s TextEnd c.requires)
+    subst (λ (n : ℕ). IsCharBoundary s.characters.now (s.place + n)) (sym c.in_ok-close.ensures.stop) (place_boundary s TextEnd c.requires s.scan.stop (all_within c.requires.scans.read s.scan.stop (stop_size s c.requires)))
+
+pub give-requires-clause-lines : goal.give-requires-clause-lines
+give-requires-clause-lines c = few_lines_text c.args.self.now c.requires c.close.new.self c.in_ok-close.ensures
 
 pub returns : goal.returns
 returns c =
     let s = c.args.self.now in
-    let way = c.requires.scans.stops.0 in
-    let sound = sound_run c.requires.scans.read way.state way.runs in
-    let tallies = closes_shut s.scan c.close.new.self way.state.done way.state.mode way.state.held c.requires.scans.read c.in_ok-close.ensures sound way.one_line way.tallies in
-    continues_text s _ c.give.new.self c.requires (ap (λ (m : Mode). is_final m) (sym way.tallies.mode) ∙ sym c.if-not-is_final.ensures) tallies refl refl refl refl refl c.in_ok-close.ensures.line c.if-self.false c.give.ensures
+    let done = c.in_default.ensures in
+    continues_text s c.requires _ c.give.new.self (ap (λ (m : Mode). is_final m) (sym c.requires.scans.stops.0.tallies.mode) ∙ done.0) done.1 c.in_ok-close.ensures refl refl refl refl c.if-self.false c.give.ensures

@@ -1,0 +1,17 @@
+-- Two hundred brackets may be open, and no more.
+use Rattle.std.proofs.Common.{◌≡◌, ℕ, List, [], ◌∷◌, ◌++◌, refl, Option, Some, None, replicate}
+use Rattle.py_lines.specs.declared.fault.FaultKind.TheVariants as faults
+use Rattle.py_lines.proofs.Decided.{Found, fault_of}
+use Rattle.py_lines.proofs.Faulty.{tested}
+
+one_more : fault_of (replicate 201 40) ≡ Some (record { kind = faults.TooDeep; place = 200 })
+unfolding tested
+one_more = refl
+
+all_open : fault_of (replicate 200 40) ≡ Some (record { kind = faults.OpenBracket; place = 199 })
+unfolding tested
+all_open = refl
+
+all_closed : fault_of (replicate 200 40 ++ replicate 200 41) ≡ None
+unfolding tested
+all_closed = refl

@@ -1,0 +1,29 @@
+use Rattle.std.proofs.Common.{◌≡◌, ℕ, ◌+◌, List, ◌++◌, length, sym, ap, ◌∙◌, arith, append-nil, length-append}
+use Rattle.std.specs.Prelude.{encode_utf8_all, encode_utf8}
+use Rattle.std.specs.Str.Iter.{chars_rest}
+use Rattle.std.proofs.lemmas.Str.{encodes_same}
+use Rattle.std.proofs.lemmas.List.{nil_from_length}
+use Rattle.py_lines.specs.LogicalLine.{line_ends}
+use Rattle.py_lines.proofs.Counting.{counted_push, line_ends-bytes}
+use Rattle.py_lines.proofs.Iterating.{advances}
+use Rattle.py_lines.proofs.count.line_behind.Goals as goal
+
+pub push-requires : goal.push-requires
+push-requires c =
+    let inv = c.loop-c.invariant in
+    omega (arith, inv.counted.here, line_ends-bytes c.loop-c.yielded, ap length inv.spell, length-append (encode_utf8_all c.loop-c.yielded) (chars_rest c.loop-c.c-iterator), c.requires)
+
+pub loop-c-preserved : goal.loop-c-preserved
+loop-c-preserved c =
+    let inv = c.loop-c.invariant in
+    let on = advances c.args.text.now c.loop-c.yielded c.in-Some.c (chars_rest c.loop-c.c-iterator) (chars_rest c.next.new.self) c.utf8.text inv.spell c.in-Some.ensures.steps.0 in
+    record {
+      counted = counted_push c.args.line c.loop-c.count c.push.new.self c.loop-c.yielded c.in-Some.c inv.counted c.push.ensures;
+      spell = on.spell;
+    }
+
+pub returns : goal.returns
+returns c = λ characters is.
+    let inv = c.loop-c.invariant in
+    let done : encode_utf8_all c.loop-c.yielded ≡ c.args.text.now = sym (append-nil _) ∙ ap (λ t. encode_utf8_all c.loop-c.yielded ++ t) (sym (nil_from_length _ c.in-None.ensures.steps.0.0)) ∙ inv.spell in
+    inv.counted.here ∙ ap (λ (t : List ℕ). c.args.line + line_ends t) (encodes_same c.loop-c.yielded characters (done ∙ sym is))

@@ -1,0 +1,5 @@
+use Rattle.py_lines.proofs.Decided.{read_or_faulty}
+use Rattle.py_lines.proofs.laws.one_fault.Goals as goal
+
+pub returns-clause-some : goal.returns-clause-some
+returns-clause-some c = read_or_faulty

@@ -1,0 +1,88 @@
+//! The brackets that are open at a place of a text.
+
+ghost use Rattle.std.specs.Prelude.{◌≡◌, ◌==◌, [], OnOk};
+ghost use Rattle.py_lines.specs.Balance.{closing_of};
+ghost use Rattle.py_lines.specs.Scan.{stack_of, is_none, IsInnermost, Meets};
+
+use crate::mode::{is_closing, is_opening};
+use std::alloc::{AllocError, Global};
+
+/// How many brackets may be open at once.
+const DEPTH: usize = 200;
+
+/// An open bracket, and the byte where it stands.
+#[derive(Clone, Copy, Debug, PartialEq, Eq)]
+pub struct OpenBracket {
+    pub opener: char,
+    pub place: usize,
+}
+
+impl OpenBracket {
+    /// The bracket that closes it.
+    fn closer(self) -> char
+        ensures { result ≡ closing_of self.opener }
+    {
+        match self.opener {
+            '(' => ')',
+            '[' => ']',
+            _ => '}',
+        }
+    }
+}
+
+/// The open brackets, the innermost last.
+#[derive(Drop)]
+pub struct Brackets {
+    pub open: Vec<OpenBracket>,
+}
+
+impl Brackets {
+    pub fn new(alloc: Global) -> Brackets
+        ensures { stack_of result ≡ [] }
+    {
+        Brackets {
+            open: Vec::new(alloc),
+        }
+    }
+
+    /// None is open; the memory is kept.
+    pub fn clear(&mut self)
+        ensures { stack_of self.new ≡ [] }
+    {
+        self.open.clear();
+    }
+
+    pub fn is_empty(&self) -> bool
+        ensures { result ≡ is_none (stack_of self.now) }
+    {
+        self.open.is_empty()
+    }
+
+    pub fn innermost(&self) -> Option<OpenBracket>
+        ensures { IsInnermost result (stack_of self.now) }
+    {
+        self.open.last().copied()
+    }
+
+    /// Whether an operator may stand at this byte: a closing bracket closes the innermost open one, and an opening one
+    /// finds room. Then it has done so.
+    pub fn meet(&mut self, c: char, place: usize) -> Result<bool, AllocError>
+        ensures { Meets self.old c place result self.new }
+    {
+        if is_opening(c) {
+            if self.open.len() >= DEPTH {
+                return Ok(false);
+            }
+            self.open.push(OpenBracket { opener: c, place })?;
+        } else if is_closing(c) {
+            let Some(bracket) = self.innermost() else {
+                return Ok(false);
+            };
+            if c != bracket.closer() {
+                return Ok(false);
+            }
+            self.open.pop();
+        }
+        Ok(true)
+    }
+}

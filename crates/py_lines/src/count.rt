@@ -1,0 +1,52 @@
+//! Line numbers: a place's line is one more than the line ends before it.
+
+ghost use Rattle.std.specs.Prelude.{◌≡◌, ℕ, ◌+◌, ◌<◌, ◌^◌, false, List, length, encode_utf8_all};
+ghost use Rattle.py_lines.specs.LogicalLine.{line_ends};
+ghost use Rattle.py_lines.specs.Scan.{counts_behind, Counts};
+
+use crate::mode::{is_line_feed, is_return};
+
+/// The line that a reader of characters has reached. CR LF is one line end, and counts where its CR does.
+#[derive(Clone, Copy, Debug, PartialEq, Eq)]
+pub struct Count {
+    pub line: u64,
+    pub after_return: bool,
+}
+
+impl Count {
+    /// At the start of a line.
+    pub fn from(line: u64) -> Count
+        ensures line { result.line ≡ line }
+        ensures after { result.after_return ≡ false }
+    {
+        Count {
+            line,
+            after_return: false,
+        }
+    }
+
+    /// Behind one more character.
+    #[tactic(auto, unfolding(crate::specs::Scan::counts_behind))]
+    pub fn push(&mut self, c: char)
+        requires { self.old.line + 1 < 2 ^ 64 }
+        ensures { Counts self.old c self.new }
+    {
+        let returns = is_return(c);
+        if returns || is_line_feed(c) && !self.after_return {
+            self.line += 1;
+        }
+        self.after_return = returns;
+    }
+}
+
+/// The line behind `text`, which begins on `line`.
+pub fn line_behind(line: u64, text: &str) -> u64
+    requires { line + length text.now + 1 < 2 ^ 64 }
+    ensures { (characters : List ℕ) → encode_utf8_all characters ≡ text.now → result ≡ line + line_ends characters }
+{
+    let mut count = Count::from(line);
+    for c in text.chars() {
+        count.push(c);
+    }
+    count.line
+}
