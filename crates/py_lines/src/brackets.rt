@@ -1,8 +1,7 @@
 //! The brackets that are open at a place of a text.
 
-ghost use Rattle.std.specs.Prelude.{◌≡◌, ◌==◌, [], OnOk};
+ghost use Rattle.std.specs.Prelude.{◌≡◌, ◌==◌, ◌≤◌, [], OnOk, length};
 ghost use Rattle.py_lines.specs.Balance.{closing_of};
-ghost use Rattle.py_lines.specs.Scan.{stack_of, is_none, IsInnermost, Meets};
 
 use crate::mode::{is_closing, is_opening};
 use std::alloc::{AllocError, Global};
@@ -34,9 +33,12 @@ impl OpenBracket {
 #[derive(Drop)]
 pub struct Brackets {
     pub open: Vec<OpenBracket>,
+    pub ghost not_too_deep: { length open.items ≤ 200 },
 }
 
 impl Brackets {
+    ghost use Rattle.py_lines.specs.Scan.{stack_of, is_none, IsInnermost, Meets};
+
     pub fn new(alloc: Global) -> Brackets
         ensures { stack_of result ≡ [] }
     {
