@@ -1,35 +1,34 @@
 -- The reader's state after a line.
-use Rattle.std.proofs.Common.{◌≡◌, ℕ, zero, suc, ◌+◌, ◌-◌, ◌<◌, ◌≤◌, Bool, true, false, not, ◌&&◌, Option, None, Some, List, [], ◌∷◌, ◌++◌, length, take, drop, refl, sym, ap, ◌∙◌, subst, ⊎_elim, inl, inr, append_assoc, append-nil, add_assoc, add-zero, arith, length-append, length-drop, length-take, ◌⊎◌}
+use Rattle.std.proofs.Common.{◌≡◌, ℕ, ◌+◌, ◌-◌, ◌<◌, ◌≤◌, true, None, Some, List, [], ◌∷◌, ◌++◌, length, take, drop, refl, sym, ap, ◌∙◌, subst, inl, append_assoc, append-nil, arith, length-append, length-drop, length-take}
 use Rattle.std.specs.Prelude.{encode_utf8_all, IsUtf8}
-use Rattle.std.specs.Str.{all_scalars, IsCharBoundary, StartsWithNoChar}
+use Rattle.std.specs.Str.{all_scalars, IsCharBoundary}
 use Rattle.std.specs.Borrow.{Bor}
-use Rattle.std.proofs.lemmas.Bool.{both_ways}
-use Rattle.std.proofs.lemmas.List.{drop_all, nil_from_length, take-append-drop}
+use Rattle.std.proofs.lemmas.List.{take-append-drop}
 use Rattle.std.proofs.lemmas.Str.{length-le-encodes, encodes-append, IsUtf8-drop, IsUtf8-had, IsCharBoundary-from_rest, IsCharBoundary-at_seam}
 use Rattle.std.proofs.Math.Seq.{take-append_seam}
 use Rattle.py_lines.specs.Piece.{Class, line_end, Piece, InClass, spelled, AreReadBefore}
-use Rattle.py_lines.specs.LogicalLine.{LogicalLine, cut, byte_len, line_ends, line_of, tokens_from, kind_of, indent_of, end_len_of, is_line_end_class}
+use Rattle.py_lines.specs.LogicalLine.{LogicalLine, cut, byte_len, line_ends, line_of, tokens_from, kind_of, indent_of, end_len_of}
 use Rattle.py_lines.specs.Balance.{depth_after}
 use Rattle.py_lines.specs.Balance as brackets
-use Rattle.py_lines.specs.Reader.{Reader, HasGiven, Continues}
-use Rattle.py_lines.specs.Machine.{Scanned, fresh, run_from, IsSound, brackets_of}
+use Rattle.py_lines.specs.Reader.{HasGiven, Continues, standing_at}
+use Rattle.py_lines.specs.Machine.{Scanned, run_from, brackets_of}
 use Rattle.py_lines.specs.declared.scan.Scan.{Scan}
 use Rattle.py_lines.specs.declared.scan.Stop.{Stop}
 use Rattle.py_lines.specs.declared.scan.Stop.TheVariants as stops
 use Rattle.py_lines.specs.declared.source.Source.{Source}
-use Rattle.py_lines.specs.Scan.{begun, EndsNoLine, AreLine, Tallies, IsAtLineEnd, Scans}
+use Rattle.py_lines.specs.Scan.{begun}
 use Rattle.py_lines.specs.Source.{reader_of, line_of_source, first_mode, Gives, HasScanned}
 use Rattle.py_lines.specs.Token.{EachLiesIn}
-use Rattle.py_lines.proofs.Utf8.{front_chars, all_scalars-parts}
+use Rattle.py_lines.proofs.Utf8.{front_chars, all_scalars-parts, one_decoding}
 use Rattle.py_lines.proofs.Pieces.{spelled-append, AreReadBefore-second}
 use Rattle.py_lines.proofs.Ends.{line_first}
 use Rattle.py_lines.proofs.TokenPlaces.{tokens_lie}
-use Rattle.py_lines.proofs.Live.{keeps}
 use Rattle.py_lines.proofs.Cuts.{byte_len-append, one_line}
 use Rattle.py_lines.proofs.Counting.{line_ends-bytes}
 use Rattle.py_lines.proofs.Joining.{base_of, follows_base}
 use Rattle.py_lines.proofs.Given.{Situation, situate, IsEnded, one_more}
 use Rattle.py_lines.proofs.Closing.{no_class_bracket}
+use Rattle.py_lines.proofs.Beginning.{given_begin}
 
 -- the pieces of a line that was scanned whole, and what the scan says of them
 pub record IsLine (m : Scanned) (scan : Scan) (read : List ℕ) (end_len : ℕ) (u : List Piece) : Type 0 where
@@ -107,13 +106,16 @@ continues old mid new stop has end_len u line bytes place fault characters same 
     let text : new.bytes.now ≡ old.bytes.now = ap (λ (b : Bor (List ℕ)). b.now) (gives.bytes ∙ bytes) in
     let here : new.place ≡ old.place + byte_len has.scans.read = gives.place ∙ ap (λ (n : ℕ). n + mid.scan.stop) place ∙ ap (λ (n : ℕ). old.place + n) line.stop in
     let no_fault : new.fault ≡ None = gives.fault ∙ fault ∙ has.no_fault in
-    let reached : new.line ≡ old.line + line_ends has.scans.read = gives.line ∙ line.here ∙ ap (λ (n : ℕ). n + line_ends has.scans.read) (same ∙ has.line) in (
+    let reached : new.line ≡ old.line + line_ends has.scans.read = gives.line ∙ line.here ∙ ap (λ (n : ℕ). n + line_ends has.scans.read) (same ∙ has.line) in
+    let more : (lines : List LogicalLine) → HasGiven (reader_of old) lines → HasGiven (reader_of new) (lines ++ line_of_source new ∷ [])
+    = λ lines given.
+    let s = situation old stop lines has given in
+    let base_fit = subst (AreReadBefore s.given.pieces) s.split s.given.fit in
+    let base = base_of old.place s.given.pieces (has.scans.read ++ s.after) base_fit s.ends s.given.place in
+    subst (λ (l : LogicalLine). HasGiven (reader_of new) (lines ++ l ∷ [])) (sym is) (one_more (reader_of old) (reader_of new) old.characters.now lines has.scans.read has.scans.rest u s line.spell (fit lines s) (follows_base old.place s.given.pieces u has.scans.read s.after line.to base line.spell (fit lines s) line.runs) line.stacked line.whole (ended lines s) text here reached no_fault) in (
       record {
-        given = λ lines given.
-            let s = situation old stop lines has given in
-            let base_fit = subst (AreReadBefore s.given.pieces) s.split s.given.fit in
-            let base = base_of old.place s.given.pieces (has.scans.read ++ s.after) base_fit s.ends s.given.place in
-            subst (λ (l : LogicalLine). HasGiven (reader_of new) (lines ++ l ∷ [])) (sym is) (one_more (reader_of old) (reader_of new) old.characters.now lines has.scans.read has.scans.rest u s line.spell (fit lines s) (follows_base old.place s.given.pieces u has.scans.read s.after line.to base line.spell (fit lines s) line.runs) line.stacked line.whole (ended lines s) text here reached no_fault);
+        given = more;
+        begins = λ lines given. given_begin (reader_of new) (lines ++ line_of_source new ∷ []) (more lines given);
         text = text;
         place = here ∙ ap (λ (n : ℕ). old.place + n) (sym size);
         some_text = omega (arith, size, line.some);
@@ -195,4 +197,23 @@ start_given s place line fault =
       line = line;
       no_fault = fault;
       cut = refl;
+    }
+
+-- where lines that a reader has given end, a character begins, and the lines before it are no more than its bytes
+pub record Stands (s : Source) (place line : ℕ) : Type 0 where
+  pub boundary : IsCharBoundary s.characters.now place
+  pub few_lines : line ≤ place + 1
+
+pub given_stands : (s : Source) (place line : ℕ) (lines : List LogicalLine) → HasGiven (standing_at s.bytes.now place line) lines → Stands s place line
+given_stands s place line lines given =
+    let utf8 = IsUtf8-had _ s.text in
+    let spelling = encode_utf8_all (spelled given.pieces) in
+    let whole : encode_utf8_all utf8.0 ++ drop (length s.characters.now) s.bytes.now ≡ encode_utf8_all given.characters ++ given.tail
+    = ap (λ t. t ++ drop (length s.characters.now) s.bytes.now) (utf8.1.1 ∙ s.front) ∙ take-append-drop (length s.characters.now) s.bytes.now ∙ sym given.decodes.spell in
+    let same = one_decoding utf8.0 given.characters (drop (length s.characters.now) s.bytes.now) given.tail utf8.1.0 given.decodes.are s.bad given.decodes.bad whole in
+    let split : s.characters.now ≡ spelling ++ encode_utf8_all given.rest = sym utf8.1.1 ∙ ap encode_utf8_all (same.0 ∙ sym given.spell) ∙ encodes-append (spelled given.pieces) given.rest in
+    let scalars = (all_scalars-parts (spelled given.pieces) given.rest (ap all_scalars given.spell ∙ given.decodes.are)).1 in
+    record {
+      boundary = subst (IsCharBoundary s.characters.now) (sym given.place) (IsCharBoundary-at_seam s.characters.now spelling (encode_utf8_all given.rest) split (given.rest, (scalars, refl)));
+      few_lines = omega (arith, given.place, given.line, line_ends-bytes (spelled given.pieces));
     }

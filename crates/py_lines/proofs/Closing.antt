@@ -1,14 +1,13 @@
 -- The scan follows the machine where the open piece is closed.
-use Rattle.std.proofs.Common.{◌≡◌, ℕ, ◌+◌, ◌-◌, ◌<◌, ◌≤◌, zero, suc, Bool, true, false, cond, ◌&&◌, ◌||◌, None, Some, List, [], ◌∷◌, ◌++◌, length, refl, sym, ap, ◌∙◌, subst, append_assoc, append-nil, add-zero, zero-add, arith}
+use Rattle.std.proofs.Common.{◌≡◌, ℕ, ◌+◌, ◌-◌, Bool, true, false, cond, ◌&&◌, ◌||◌, None, Some, List, [], ◌∷◌, ◌++◌, refl, sym, ap, ◌∙◌, append-nil, zero-add, arith}
 use Rattle.std.specs.Prelude.{if◌then◌else◌}
 use Rattle.std.specs.List.{list_any}
 use Rattle.std.proofs.lemmas.List.Folds.{list_any-append}
 use Rattle.std.proofs.lemmas.Bool.{and_right}
 use Rattle.py_lines.specs.Character.{is_digit, is_return}
-use Rattle.py_lines.specs.Piece.{Class, mark, space, word, string, operator, comment, join, line_end, Piece, begins, ends, is_mark_class, spelled, AreReadBefore}
+use Rattle.py_lines.specs.Piece.{Class, mark, space, operator, line_end, Piece, begins, ends, is_mark_class, spelled, AreReadBefore}
 use Rattle.py_lines.specs.Balance.{is_opener, is_closer}
-use Rattle.py_lines.specs.LogicalLine.{is_line_end_class, is_code_class, is_comment_class, byte_len, line_ends, tokens_of_piece, tokens_from, kind_of, indent_of, space_len}
-use Rattle.py_lines.specs.declared.token.Token.{Token}
+use Rattle.py_lines.specs.LogicalLine.{is_code_class, is_comment_class, byte_len, line_ends, tokens_of_piece, tokens_from, kind_of, indent_of, space_len}
 use Rattle.py_lines.specs.declared.token.TokKind.{TokKind}
 use Rattle.py_lines.specs.declared.token.TokKind.TheVariants as kind
 use Rattle.py_lines.specs.declared.unit.UnitKind.{UnitKind}
@@ -17,13 +16,13 @@ use Rattle.py_lines.specs.declared.mode.Spelling.TheVariants as spellings
 use Rattle.py_lines.specs.declared.mode.Mode.{Mode}
 use Rattle.py_lines.specs.declared.mode.Mode.TheVariants as modes
 use Rattle.py_lines.specs.declared.scan.Scan.{Scan}
-use Rattle.py_lines.specs.Machine.{Scanned, fresh, class_of, closed, token_of, Holds, IsSound, brackets_of}
-use Rattle.py_lines.specs.Scan.{kind_with, tokens_with, kind_through, kind_closed, indent_closed, holds_nothing, is_margin, Closes, Tallies}
+use Rattle.py_lines.specs.Machine.{fresh, class_of, closed, token_of, Holds, IsSound, brackets_of}
+use Rattle.py_lines.specs.Scan.{kind_with, tokens_with, kind_closed, indent_closed, holds_nothing, is_margin, Closes, Tallies}
 use Rattle.py_lines.proofs.Pieces.{piece, spelled-push}
 use Rattle.py_lines.proofs.WordTokens.{word_token}
 use Rattle.py_lines.proofs.Runs.{scanned}
 use Rattle.py_lines.proofs.Live.{keeps}
-use Rattle.py_lines.proofs.Cuts.{byte_len-append, lines_in}
+use Rattle.py_lines.proofs.Cuts.{byte_len-append}
 use Rattle.py_lines.proofs.Pushes.{line_ends-spelled, tokens_from-append}
 
 -- the open piece's token is that of its class

@@ -1,20 +1,18 @@
 -- The machine goes through every list of pieces that is read before what follows, and finds those pieces.
-use Rattle.std.proofs.Common.{◌≡◌, ℕ, Bool, true, false, ◌&&◌, Option, None, Some, List, [], ◌∷◌, ◌++◌, refl, sym, ap, ◌∙◌, subst, ⊎_elim, inl, inr, append_assoc, append-nil, ◌⊎◌}
-use Rattle.std.specs.List.{list_all, list_any}
-use Rattle.std.specs.Prelude.{encode_utf8_all}
-use Rattle.std.specs.Str.{all_scalars, chars}
+use Rattle.std.proofs.Common.{◌≡◌, ℕ, true, false, ◌&&◌, Option, None, Some, List, [], ◌∷◌, ◌++◌, refl, sym, ap, ◌∙◌, subst, ⊎_elim, inl, inr, append_assoc, append-nil}
+use Rattle.std.specs.List.{list_all}
+use Rattle.std.specs.Str.{chars}
 use Rattle.std.proofs.lemmas.Str.{chars-encodes}
 use Rattle.std.proofs.lemmas.Bool.{both_ways, cases_Bool}
-use Rattle.py_lines.specs.Character.{is_mark, is_space, is_word_character, is_word_start, is_quote, is_return, is_line_feed}
+use Rattle.py_lines.specs.Character.{is_mark, is_space, is_quote, is_return, is_line_feed}
 use Rattle.py_lines.specs.Piece.{Class, mark, space, word, string, operator, comment, join, line_end, Piece, InClass, MayPrecede, begins, ends, is_prefix, is_mark_class, begins_marked, spelled, AreReadBefore, Reads, ReadsText}
-use Rattle.py_lines.specs.declared.mode.Mode.{Mode}
 use Rattle.py_lines.specs.declared.mode.Mode.TheVariants as modes
 use Rattle.py_lines.specs.declared.mode.Move.{Move}
 use Rattle.py_lines.specs.declared.mode.Move.TheVariants as moves
-use Rattle.py_lines.specs.Machine.{Scanned, fresh, at_start, closed, started, moved, step, run_from, move_of, start_of}
+use Rattle.py_lines.specs.Machine.{Scanned, fresh, at_start, started, moved, run_from, move_of, start_of}
 use Rattle.py_lines.proofs.Pieces.{piece}
 use Rattle.py_lines.proofs.Starts.{start-mark}
-use Rattle.py_lines.proofs.Runs.{scanned, pieces_at, StopsBefore, Finds, run_from-append, stops-free, find_space, find_word, find_operator, find_comment, find_line_end, find_join}
+use Rattle.py_lines.proofs.Runs.{pieces_at, StopsBefore, Finds, run_from-append, stops-free, find_space, find_word, find_operator, find_comment, find_line_end, find_join}
 use Rattle.py_lines.proofs.Strings.{find_short, find_long}
 
 -- a piece of any class but a mark

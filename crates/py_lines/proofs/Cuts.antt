@@ -1,17 +1,16 @@
 -- Logical lines, one after another: where a line ends, the lines so far are done.
-use Rattle.std.proofs.Common.{◌≡◌, ℕ, suc, ◌+◌, ◌<◌, ◌≤◌, Bool, true, false, not, cond, ◌&&◌, ◌||◌, ◌==◌, eqb, List, [], ◌∷◌, ◌++◌, length, refl, sym, ap, ◌∙◌, subst, ⊎_elim, inl, inr, append_assoc, append-nil, length-append, add_assoc, arith, ◌⊎◌}
+use Rattle.std.proofs.Common.{◌≡◌, ℕ, ◌+◌, Bool, true, false, not, cond, ◌&&◌, ◌||◌, ◌==◌, List, [], ◌∷◌, ◌++◌, length, refl, sym, ap, ◌∙◌, ⊎_elim, inl, inr, append_assoc, length-append, arith}
 use Rattle.std.specs.List.{list_all, list_any}
 use Rattle.std.proofs.lemmas.Str.{encodes-append}
 use Rattle.std.specs.Prelude.{if◌then◌else◌}
-use Rattle.std.proofs.lemmas.Bool.{cond_both, both_ways, and_parts, and_left, and_right, and_from, or_parts, eq-eqb, false_from_ne_true, cases_Bool}
+use Rattle.std.proofs.lemmas.Bool.{cond_both, both_ways, and_parts, and_left, and_from, or_parts, eq-eqb, false_from_ne_true, cases_Bool}
 use Rattle.unicode_ident.proofs.Computing.{unicode_ident}
-use Rattle.py_lines.specs.Character.{is_one_of, is_mark, is_space, is_word_character, is_word_start, is_digit, is_quote, is_operator, is_line_feed, is_return, is_break, is_hash}
+use Rattle.py_lines.specs.Character.{is_mark, is_space, is_word_character, is_word_start, is_digit, is_quote, is_operator, is_line_feed, is_return, is_break, is_hash}
 use Rattle.py_lines.specs.Piece.{Class, mark, space, word, string, operator, comment, join, line_end, Piece, begins, ends, joined, InClass, MayPrecede, spelled, AreReadBefore}
 use Rattle.py_lines.specs.Balance.{depth_after, depth_through}
-use Rattle.py_lines.specs.LogicalLine.{is_line_end_class, put_first, cut, byte_len, ends_line, line_ends, LogicalLine, line_of, lines_from, lines_of}
+use Rattle.py_lines.specs.LogicalLine.{is_line_end_class, put_first, cut, byte_len, ends_line, line_ends}
 use Rattle.py_lines.specs.Lexed.{EndsLine}
-use Rattle.py_lines.proofs.Tests.{each_of, none_of, excluded}
-use Rattle.py_lines.proofs.Pieces.{spelled-append}
+use Rattle.py_lines.proofs.Tests.{each_of, none_of}
 use Rattle.py_lines.proofs.Ends.{EndsNoLine}
 
 -- a CR at the end of a piece belongs to no LF behind it

@@ -50,7 +50,7 @@ abbrev pub Verdict : List ℕ → Option Found → Type 0
 Verdict characters None = (pieces : List Piece) × IsReading pieces characters
 Verdict characters (Some f) = IsCharacterFault f.kind characters f.place ⊎ IsEndFault f.kind characters [] f.place
 
-open_unread : (characters : List ℕ) (s : Scanned) (b : Bracket) (bs : List Bracket) → RunsTo characters s (b ∷ bs) → (pieces : List Piece) → ¬ (IsReading pieces characters)
+pub open_unread : (characters : List ℕ) (s : Scanned) (b : Bracket) (bs : List Bracket) → RunsTo characters s (b ∷ bs) → (pieces : List Piece) → ¬ (IsReading pieces characters)
 open_unread characters s b bs runs pieces reading =
     let found = run_of_reading pieces characters reading in
     let same : Some (b ∷ bs) ≡ Some [] = sym runs.stack ∙ ap (λ (t : Scanned). brackets_of t.done) (same_state characters s found.to runs.run found.runs) ∙ found.stack in

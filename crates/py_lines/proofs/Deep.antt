@@ -1,7 +1,7 @@
 -- Two hundred brackets may be open, and no more.
-use Rattle.std.proofs.Common.{◌≡◌, ℕ, List, [], ◌∷◌, ◌++◌, refl, Option, Some, None, replicate}
+use Rattle.std.proofs.Common.{◌≡◌, ◌++◌, refl, Some, None, replicate}
 use Rattle.py_lines.specs.declared.fault.FaultKind.TheVariants as faults
-use Rattle.py_lines.proofs.Decided.{Found, fault_of}
+use Rattle.py_lines.proofs.Decided.{fault_of}
 use Rattle.py_lines.proofs.Faulty.{tested}
 
 one_more : fault_of (replicate 201 40) ≡ Some (record { kind = faults.TooDeep; place = 200 })

@@ -1,16 +1,15 @@
 -- The text's end: its last line, or the fault that stands there.
-use Rattle.std.proofs.Common.{◌≡◌, ℕ, zero, suc, ◌+◌, ◌-◌, ◌<◌, ◌≤◌, Bool, true, false, not, ◌&&◌, ◌||◌, ◌==◌, Option, None, Some, List, [], ◌∷◌, ◌++◌, length, take, drop, refl, sym, ap, ◌∙◌, subst, inl, inr, append_assoc, append-nil, add_assoc, arith, length-append, length-drop, ◌⊎◌}
+use Rattle.std.proofs.Common.{◌≡◌, ℕ, ◌+◌, ◌<◌, ◌≤◌, Bool, true, false, ◌&&◌, Some, List, [], ◌∷◌, ◌++◌, length, refl, sym, ap, ◌∙◌, subst, inl, inr, append_assoc, append-nil, arith, length-append, length-drop}
 use Rattle.std.specs.Prelude.{encode_utf8_all, if◌then◌else◌}
-use Rattle.std.proofs.lemmas.Bool.{both_ways, cases_Bool, and_from, eq-eqb}
+use Rattle.std.proofs.lemmas.Bool.{both_ways, and_from, eq-eqb}
 use Rattle.std.proofs.lemmas.List.{drop_all, nil_from_length}
 use Rattle.std.proofs.lemmas.Str.{length-le-encodes}
-use Rattle.py_lines.specs.Piece.{Class, line_end, Piece, spelled, AreReadBefore}
+use Rattle.py_lines.specs.Piece.{Piece, spelled, AreReadBefore}
 use Rattle.py_lines.specs.Balance.{depth_after, depth_through}
 use Rattle.py_lines.specs.LogicalLine.{LogicalLine, byte_len, line_ends, cut, end_len_of, is_line_end_class}
-use Rattle.py_lines.specs.Lexed.{IsLexed, IsRefused, IsReading, Decodes}
-use Rattle.py_lines.specs.Reader.{Reader, HasGiven, Continues, Fails}
+use Rattle.py_lines.specs.Lexed.{IsRefused, IsReading, Decodes}
+use Rattle.py_lines.specs.Reader.{HasGiven, Continues, Fails}
 use Rattle.py_lines.specs.Token.{EachLiesIn}
-use Rattle.py_lines.specs.declared.fault.Fault.{Fault}
 use Rattle.py_lines.specs.declared.fault.FaultKind.{FaultKind}
 use Rattle.py_lines.specs.declared.fault.FaultKind.TheVariants.{BadUtf8}
 use Rattle.py_lines.specs.declared.fault.LexError.{LexError}
@@ -20,8 +19,8 @@ use Rattle.py_lines.specs.declared.scan.Scan.{Scan}
 use Rattle.py_lines.specs.declared.scan.Stop.{Stop}
 use Rattle.py_lines.specs.declared.scan.Stop.TheVariants as stops
 use Rattle.py_lines.specs.declared.source.Source.{Source}
-use Rattle.py_lines.specs.Machine.{Scanned, at_start, fresh, closed, run_from, is_final, end_kind, end_place, top_place, Bracket, brackets_of, RunsTo}
-use Rattle.py_lines.specs.Scan.{begun, EndsNoLine, Tallies, Closes, is_none, is_return_mode, is_returned, stack_of}
+use Rattle.py_lines.specs.Machine.{Scanned, fresh, is_final, end_kind, end_place, top_place, Bracket, brackets_of, RunsTo}
+use Rattle.py_lines.specs.Scan.{begun, EndsNoLine, Tallies, Closes, is_none, is_return_mode, stack_of}
 use Rattle.py_lines.specs.Source.{reader_of, line_of_source, first_mode, HasScanned, Gives, FailsAt, IsUnfinished}
 use Rattle.py_lines.proofs.Pieces.{AreReadBefore-second, spelled-append}
 use Rattle.py_lines.proofs.Runs.{pieces_at}
@@ -38,9 +37,8 @@ use Rattle.py_lines.proofs.Closing.{closes_shut}
 use Rattle.py_lines.proofs.Pushing.{closed_one_line}
 use Rattle.py_lines.proofs.Running.{sound_run, way_stop}
 use Rattle.py_lines.proofs.Frame.{behind, shift}
-use Rattle.py_lines.proofs.Joining.{Joined}
-use Rattle.py_lines.proofs.Given.{Situation, IsEnded}
-use Rattle.py_lines.proofs.Advancing.{IsLine, situation, Within, all_within, continues}
+use Rattle.py_lines.proofs.Given.{IsEnded}
+use Rattle.py_lines.proofs.Advancing.{IsLine, Within, all_within, continues}
 use Rattle.py_lines.proofs.Failing.{fails, here, start_sound, joins, whole, line_of_fault, has_front}
 
 -- nothing follows the characters that the scan took

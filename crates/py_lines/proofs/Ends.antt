@@ -1,10 +1,10 @@
 -- The front of a text that isn't read: the pieces up to the last line end outside brackets that the machine has found.
-use Rattle.std.proofs.Common.{◌≡◌, ℕ, suc, ◌+◌, ◌<◌, ◌≤◌, Bool, true, false, cond, ◌&&◌, ◌||◌, ◌==◌, Option, None, Some, List, [], ◌∷◌, ◌++◌, length, refl, sym, ap, ◌∙◌, subst, ⊎_elim, inl, inr, append_assoc, append-nil, length-append, arith, ◌⊎◌}
-use Rattle.std.proofs.lemmas.List.{same_from_push, append_cancel_left, nil_from_length}
+use Rattle.std.proofs.Common.{◌≡◌, ℕ, ◌+◌, ◌≤◌, Option, None, Some, List, [], ◌∷◌, ◌++◌, length, refl, sym, ap, ◌∙◌, subst, inl, inr, append_assoc, append-nil, length-append, arith}
+use Rattle.std.proofs.lemmas.List.{same_from_push}
 use Rattle.std.proofs.lemmas.Bool.{cond_both, both_ways, and_right, and_from, eq-eqb}
 use Rattle.py_lines.specs.Character.{is_line_feed}
 use Rattle.py_lines.specs.Piece.{Class, mark, space, word, string, operator, comment, join, line_end, Piece, InClass, IsLineEnd, feed, return_feed, return, MayPrecede, is_mark_class, spelled, AreReadBefore}
-use Rattle.py_lines.specs.Balance.{IsBalanced, depth_after, depth_through}
+use Rattle.py_lines.specs.Balance.{depth_after, depth_through}
 use Rattle.py_lines.specs.LogicalLine.{is_line_end_class}
 use Rattle.py_lines.specs.Lexed.{IsReading, IsLive, EndsLine, IsFront}
 pub use Rattle.py_lines.specs.Scan.{EndsNoLine}
@@ -12,13 +12,12 @@ use Rattle.py_lines.specs.declared.mode.Mode.{Mode}
 use Rattle.py_lines.specs.declared.mode.Mode.TheVariants as modes
 use Rattle.py_lines.specs.declared.mode.Move.{Move}
 use Rattle.py_lines.specs.declared.mode.Start.{Start}
-use Rattle.py_lines.specs.Machine.{Scanned, fresh, at_start, class_of, closed, started, moved, step, run_from, move_of, start_of, Bracket, brackets_of, RunsTo}
-use Rattle.py_lines.proofs.Pieces.{piece, spelled-append, spelled-push, AreReadBefore-append, AreReadBefore-first, AreReadBefore-second, MayFollow, follows_any}
+use Rattle.py_lines.specs.Machine.{Scanned, fresh, at_start, class_of, closed, started, moved, run_from, move_of, start_of, Bracket, brackets_of, RunsTo}
+use Rattle.py_lines.proofs.Pieces.{piece, spelled-append, spelled-push, AreReadBefore-append, AreReadBefore-first, AreReadBefore-second, follows_any}
 use Rattle.py_lines.proofs.Runs.{pieces_at}
 use Rattle.py_lines.proofs.Complete.{reach}
-use Rattle.py_lines.proofs.Stacks.{Stands, stands, stack_before, balanced-from_stack, depth_through-append}
+use Rattle.py_lines.proofs.Stacks.{stands, stack_before, balanced-from_stack, depth_through-append}
 use Rattle.py_lines.specs.Machine.{Holds}
-use Rattle.py_lines.specs.Machine.{IsSound}
 use Rattle.py_lines.proofs.Sound.{sound_at, ends_sound}
 use Rattle.py_lines.proofs.Live.{GrowsIf, closed_grows, started_grows, run_grows, run_before, stack_closed, reading_live, live_runs, runs_live}
 use Rattle.py_lines.proofs.Fronts.{same_state}

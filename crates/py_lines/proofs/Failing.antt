@@ -1,35 +1,32 @@
 -- A text that the machine doesn't go through, or may not stop at the end of, has the fault that the reader names.
-use Rattle.std.proofs.Common.{◌≡◌, ℕ, zero, suc, ◌+◌, ◌-◌, ◌<◌, ◌≤◌, Bool, true, false, not, ◌&&◌, ◌||◌, Option, None, Some, List, [], ◌∷◌, ◌++◌, length, take, drop, refl, sym, ap, ◌∙◌, subst, append_assoc, append-nil, add_assoc, arith, length-append, length-drop}
-use Rattle.std.specs.Prelude.{encode_utf8_all, IsUtf8, if◌then◌else◌}
+use Rattle.std.proofs.Common.{◌≡◌, ℕ, ◌+◌, Bool, true, false, not, ◌&&◌, ◌||◌, None, Some, List, [], ◌∷◌, ◌++◌, take, drop, refl, sym, ap, ◌∙◌, subst, append_assoc, arith}
+use Rattle.std.specs.Prelude.{encode_utf8_all, if◌then◌else◌}
 use Rattle.std.specs.Borrow.{Bor}
-use Rattle.std.proofs.lemmas.Bool.{both_ways, cond_both, cases_Bool}
-use Rattle.std.proofs.lemmas.List.{drop_all}
+use Rattle.std.proofs.lemmas.Bool.{both_ways, cond_both}
 use Rattle.std.proofs.lemmas.Str.{encodes_same}
 use Rattle.std.proofs.Math.Seq.{take-append_seam}
 use Rattle.py_lines.specs.Character.{is_line_feed}
-use Rattle.py_lines.specs.Piece.{Class, line_end, Piece, spelled, AreReadBefore}
-use Rattle.py_lines.specs.LogicalLine.{LogicalLine, byte_len, line_ends, lines_of}
-use Rattle.py_lines.specs.Lexed.{IsLexed, IsRefused, IsLive, IsReading, EndsLine}
-use Rattle.py_lines.specs.Reader.{Reader, HasGiven, Fails}
+use Rattle.py_lines.specs.Piece.{line_end, Piece, spelled, AreReadBefore}
+use Rattle.py_lines.specs.LogicalLine.{LogicalLine, byte_len}
+use Rattle.py_lines.specs.Lexed.{IsLexed, IsRefused}
+use Rattle.py_lines.specs.Reader.{HasGiven, Fails}
 use Rattle.py_lines.specs.declared.fault.Fault.{Fault}
 use Rattle.py_lines.specs.declared.fault.FaultKind.{FaultKind}
 use Rattle.py_lines.specs.declared.fault.LexError.{LexError}
 use Rattle.py_lines.specs.declared.mode.Mode.{Mode}
 use Rattle.py_lines.specs.declared.mode.Mode.TheVariants as modes
 use Rattle.py_lines.specs.declared.mode.Move.{Move}
-use Rattle.py_lines.specs.declared.mode.Move.TheVariants as moves
-use Rattle.py_lines.specs.declared.scan.Scan.{Scan}
 use Rattle.py_lines.specs.declared.scan.Stop.{Stop}
 use Rattle.py_lines.specs.declared.scan.Stop.TheVariants as stops
 use Rattle.py_lines.specs.declared.source.Source.{Source}
-use Rattle.py_lines.specs.Machine.{Scanned, fresh, step, moved, move_of, run_from, in_short, is_behind_slash, character_kind, character_place, Bracket, brackets_of, IsSound}
-use Rattle.py_lines.specs.Scan.{begun, EndsNoLine, IsUnderWay, is_none, is_return_mode, is_returned, stack_of, stack_if, refused_place}
-use Rattle.py_lines.specs.Source.{reader_of, first_mode, HasScanned, StandsAt, FailsAt, Advances}
+use Rattle.py_lines.specs.Machine.{step, moved, move_of, in_short, is_behind_slash, character_kind, character_place, Bracket, brackets_of, IsSound}
+use Rattle.py_lines.specs.Scan.{begun, IsUnderWay, is_none, is_return_mode, stack_of, stack_if, refused_place}
+use Rattle.py_lines.specs.Source.{reader_of, first_mode, HasScanned, StandsAt, FailsAt}
 use Rattle.py_lines.proofs.Pieces.{piece}
 use Rattle.py_lines.proofs.Runs.{scanned, pieces_at}
 use Rattle.py_lines.proofs.Live.{keeps}
 use Rattle.py_lines.proofs.Stacks.{stack-from_balanced}
-use Rattle.py_lines.proofs.Lexing.{IsLineOf, HasFront, refused_at_character, refused_at_bytes}
+use Rattle.py_lines.proofs.Lexing.{IsLineOf, HasFront, refused_at_character}
 use Rattle.py_lines.proofs.Cuts.{byte_len-append}
 use Rattle.py_lines.proofs.Pushing.{closed_one_line}
 use Rattle.py_lines.proofs.Running.{sound_run, way_stop}

@@ -1,29 +1,26 @@
 -- The fault of a text, by where the machine stands when it can't go on.
-use Rattle.std.proofs.Common.{◌≡◌, ℕ, ◌<◌, ◌≤◌, Bool, true, false, cond, ◌&&◌, ◌||◌, ◌==◌, eqb, Option, None, Some, List, [], ◌∷◌, ◌++◌, length, refl, sym, ap, ◌∙◌, subst, ⊎_elim, inl, inr, append_assoc, append-nil, arith, ◌⊎◌}
+use Rattle.std.proofs.Common.{◌≡◌, ℕ, ◌<◌, ◌≤◌, Bool, true, false, cond, ◌||◌, eqb, Option, None, Some, List, [], ◌∷◌, ◌++◌, length, refl, sym, ap, ◌∙◌, subst, ⊎_elim, inl, inr, append-nil, arith, ◌⊎◌}
 use Rattle.std.proofs.lemmas.List.{append_cancel_right}
 use Rattle.std.proofs.lemmas.Bool.{cond_both, and_right, both_ways, cases_lt, cases_Bool, or_left, or_right, or_from}
 use Rattle.unicode_ident.proofs.Computing.{unicode_ident}
-use Rattle.py_lines.specs.Character.{is_one_of, is_mark, is_space, is_word_character, is_quote, is_operator, is_line_feed, is_return, is_break, is_backslash}
-use Rattle.py_lines.specs.Piece.{Class, operator, string, Piece, spelled, AreReadBefore}
-use Rattle.py_lines.specs.Balance.{is_opening, is_closing, is_opener, is_closer, IsBalanced, depth_through}
+use Rattle.py_lines.specs.Character.{is_mark, is_space, is_word_character, is_quote, is_operator, is_line_feed, is_return, is_break, is_backslash}
+use Rattle.py_lines.specs.Piece.{operator, Piece, spelled, AreReadBefore}
+use Rattle.py_lines.specs.Balance.{is_opening, is_closing, is_opener, is_closer}
 use Rattle.py_lines.specs.LogicalLine.{byte_len}
-use Rattle.py_lines.specs.Lexed.{IsReading, IsLive, InBracket, IsAtDepth, DiesAt, BreaksString, BreaksJoin, ClosesWrong, OpensTooDeep, FitsCharacter, NoneFits, IsCharacterFault, IsEndFault}
+use Rattle.py_lines.specs.Lexed.{IsReading, IsLive, InBracket, IsAtDepth, DiesAt, BreaksString, BreaksJoin, ClosesWrong, OpensTooDeep, IsCharacterFault, IsEndFault}
 use Rattle.py_lines.specs.declared.fault.FaultKind.{FaultKind}
 use Rattle.py_lines.specs.declared.fault.FaultKind.TheVariants as faults
 use Rattle.py_lines.specs.declared.mode.Mode.{Mode}
 use Rattle.py_lines.specs.declared.mode.Mode.TheVariants as modes
 use Rattle.py_lines.specs.declared.mode.Move.{Move}
 use Rattle.py_lines.specs.declared.mode.Move.TheVariants as moves
-use Rattle.py_lines.specs.declared.mode.Start.{Start}
-use Rattle.py_lines.specs.declared.mode.Start.TheVariants as starts
-use Rattle.py_lines.specs.Machine.{Scanned, fresh, at_start, class_of, closed, started, moved, step, run_from, move_of, short_move, long_move, start_of, is_final, is_prefix_spelling, in_short, in_long, is_behind_slash, character_kind, character_place, end_kind, end_place, top_place, Bracket, brackets_of, brackets_through, RunsTo}
-use Rattle.py_lines.proofs.Tests.{each_of, none_of, not_quote}
+use Rattle.py_lines.specs.Machine.{Scanned, fresh, at_start, class_of, started, moved, step, run_from, move_of, short_move, long_move, is_final, is_prefix_spelling, in_short, in_long, is_behind_slash, character_kind, character_place, end_kind, end_place, top_place, Bracket, brackets_of, brackets_through, RunsTo}
+use Rattle.py_lines.proofs.Tests.{each_of, not_quote}
 use Rattle.py_lines.proofs.Pieces.{piece, spelled-push, AreReadBefore-first}
 use Rattle.py_lines.proofs.Starts.{start-operator}
 use Rattle.py_lines.proofs.Runs.{scanned, pieces_at, run_from-append}
 use Rattle.py_lines.proofs.Stacks.{through-append, opener_pushes, StandsAt, level, inside, stands, room_in}
 use Rattle.py_lines.specs.Machine.{Holds}
-use Rattle.py_lines.specs.Machine.{IsSound}
 use Rattle.py_lines.proofs.Sound.{sound_at, ends_sound}
 use Rattle.py_lines.proofs.Live.{keeps, stack_closed, reading_at, run_of_reading, live_runs, runs_live}
 use Rattle.py_lines.proofs.Fronts.{in_short_string, in_long_string, behind_backslash, stands_in_short, stands_behind_slash, such_mode, same_state}

@@ -1,8 +1,7 @@
 -- Texts that are read, and the faults of others: rows worked out by hand.
 use Rattle.std.proofs.Common.{◌≡◌, ℕ, List, [], ◌∷◌, refl, Option, Some, None}
 use Rattle.unicode_ident.proofs.Computing.{unicode_ident}
-use Rattle.py_lines.specs.Character as characters
-use Rattle.py_lines.specs.Character.{is_one_of, is_mark, is_space, is_word_character, is_word_start, is_digit, is_quote, is_operator, is_line_feed, is_return, is_break, is_hash, is_backslash, is_r, is_b_or_f, is_u}
+use Rattle.py_lines.specs.Character.{is_mark, is_space, is_word_character, is_word_start, is_digit, is_quote, is_operator, is_line_feed, is_return, is_break, is_hash, is_backslash, is_r, is_b_or_f, is_u}
 use Rattle.py_lines.specs.Piece.{Class, mark, space, word, string, operator, comment, join, line_end, Piece}
 use Rattle.py_lines.specs.Balance.{is_opening, is_closing}
 use Rattle.py_lines.specs.Machine.{at_start, run_from, move_of, short_move, long_move, start_of, spelling_of, spelling_with, brackets_behind, Scanned}

@@ -1,7 +1,7 @@
 -- The machine behind pieces that it had goes as it goes alone, and so do its brackets.
-use Rattle.std.proofs.Common.{◌≡◌, ℕ, ◌+◌, ◌<◌, Bool, true, false, cond, ◌==◌, eqb, Option, None, Some, List, [], ◌∷◌, ◌++◌, length, refl, sym, ap, ◌∙◌, subst, append_assoc, append-nil, arith}
+use Rattle.std.proofs.Common.{◌≡◌, ℕ, ◌+◌, Bool, true, false, ◌==◌, Option, None, Some, List, [], ◌∷◌, ◌++◌, length, refl, sym, ap, ◌∙◌, append_assoc, append-nil, arith}
 use Rattle.std.specs.Prelude.{nat_lt, if◌then◌else◌}
-use Rattle.py_lines.specs.Piece.{Class, operator, line_end, Piece, spelled}
+use Rattle.py_lines.specs.Piece.{operator, line_end, Piece, spelled}
 use Rattle.py_lines.specs.Balance.{is_opener, is_closer, closing_of}
 use Rattle.py_lines.specs.LogicalLine.{first_or_zero, byte_len}
 use Rattle.py_lines.specs.declared.mode.Mode.{Mode}

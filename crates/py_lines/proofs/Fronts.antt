@@ -1,5 +1,5 @@
 -- What is open where the machine stands: a short string, a long string, or a backslash; and the other way round.
-use Rattle.std.proofs.Common.{◌≡◌, ℕ, Bool, true, false, cond, ◌&&◌, ◌||◌, ◌==◌, eqb, Option, None, Some, List, [], ◌∷◌, ◌++◌, refl, sym, ap, ◌∙◌, subst, ⊎_elim, inl, inr, append_assoc, append-nil, ◌⊎◌}
+use Rattle.std.proofs.Common.{◌≡◌, ℕ, Bool, true, false, Some, List, [], ◌∷◌, ◌++◌, refl, sym, ap, ◌∙◌, subst, inl, inr, append_assoc, append-nil}
 use Rattle.std.specs.List.{list_all}
 use Rattle.std.proofs.lemmas.Bool.{both_ways, false_from_ne_true}
 use Rattle.unicode_ident.proofs.Computing.{unicode_ident}
@@ -8,15 +8,13 @@ use Rattle.py_lines.specs.Piece.{Piece, IsPrefix, begins, is_item, is_short_item
 use Rattle.py_lines.specs.Lexed.{IsUnescaped, IsShortFront, IsLongFront, InShortString, InLongString, BehindBackslash}
 use Rattle.py_lines.specs.declared.mode.Mode.{Mode}
 use Rattle.py_lines.specs.declared.mode.Mode.TheVariants as modes
-use Rattle.py_lines.specs.declared.mode.Move.{Move}
-use Rattle.py_lines.specs.declared.mode.Move.TheVariants as moves
-use Rattle.py_lines.specs.Machine.{Scanned, at_start, closed, run_from, move_of, short_move, long_move, in_short, in_long, is_behind_slash}
-use Rattle.py_lines.proofs.Tests.{mark_is, none_of, prefix_word, not_quote, slash-not-quote}
+use Rattle.py_lines.specs.Machine.{Scanned, at_start, run_from, in_short, in_long, is_behind_slash}
+use Rattle.py_lines.proofs.Tests.{none_of, prefix_word}
 use Rattle.py_lines.proofs.Starts.{start-slash}
 use Rattle.py_lines.proofs.Runs.{scanned, pieces_at, StopsBefore, run_from-append, begun, grown}
-use Rattle.py_lines.proofs.Strings.{HoldsShort, IsShortMode, short_escapes, short_body, opened_run, long_opened, run_long, mode_at, Seen, seen_after, long_escapes}
+use Rattle.py_lines.proofs.Strings.{IsShortMode, short_escapes, short_body, opened_run, long_opened, run_long, mode_at, Seen, seen_after, long_escapes}
 use Rattle.py_lines.proofs.Complete.{Reaches, reach, MayBegin}
-use Rattle.py_lines.specs.Machine.{Holds, HoldsItems, HoldsSome, HoldsFront, IsSound}
+use Rattle.py_lines.specs.Machine.{Holds, HoldsItems, HoldsFront, IsSound}
 use Rattle.py_lines.proofs.Holds.{opened_items, front_none, front_one, front_two}
 use Rattle.py_lines.proofs.Sound.{returned_items}
 

@@ -1,19 +1,19 @@
 -- The next logical line, and how it follows the lines given so far.
-use Rattle.std.proofs.Common.{◌≡◌, ℕ, ◌+◌, ◌-◌, ◌<◌, ◌≤◌, Bool, true, false, ◌&&◌, Option, None, Some, List, [], ◌∷◌, ◌++◌, length, take, drop, refl, sym, ap, ◌∙◌, subst, ⊎_elim, inl, inr, append_assoc, append-nil, add_assoc, add-zero, arith, length-append, ◌⊎◌}
+use Rattle.std.proofs.Common.{◌≡◌, ℕ, ◌+◌, ◌<◌, None, Some, List, [], ◌∷◌, ◌++◌, length, take, drop, refl, sym, ap, ◌∙◌, subst, ⊎_elim, inl, inr, append_assoc, append-nil, add_assoc, add-zero, arith, length-append, ◌⊎◌}
 use Rattle.std.specs.Prelude.{encode_utf8_all, IsUtf8}
-use Rattle.std.specs.Str.{StartsWithNoChar, all_scalars}
-use Rattle.std.proofs.lemmas.List.{take-append-drop, append_cancel_left, nil_from_length}
+use Rattle.std.specs.Str.{StartsWithNoChar}
+use Rattle.std.proofs.lemmas.List.{take-append-drop, nil_from_length}
 use Rattle.std.proofs.lemmas.Str.{encodes-append, length-le-encodes}
-use Rattle.std.proofs.Math.Seq.{drop-append_seam, take-append_seam}
-use Rattle.py_lines.specs.Piece.{Class, line_end, Piece, spelled, AreReadBefore}
+use Rattle.std.proofs.Math.Seq.{drop-append_seam}
+use Rattle.py_lines.specs.Piece.{line_end, Piece, spelled, AreReadBefore}
 use Rattle.py_lines.specs.Balance as brackets
 use Rattle.py_lines.specs.Balance.{IsBalanced, IsShallow, depth_through}
 use Rattle.py_lines.specs.LogicalLine.{LogicalLine, cut, byte_len, line_ends, line_of, lines_of}
-use Rattle.py_lines.specs.Lexed.{Decodes, EndsLine, IsReading, IsLexed}
+use Rattle.py_lines.specs.Lexed.{Decodes, EndsLine, IsLexed}
 use Rattle.py_lines.specs.Reader.{Reader, HasGiven}
 use Rattle.py_lines.specs.Machine.{brackets_of}
 use Rattle.py_lines.proofs.Utf8.{one_decoding, front_chars}
-use Rattle.py_lines.proofs.Pieces.{spelled-append, AreReadBefore-append, AreReadBefore-first, MayFollow}
+use Rattle.py_lines.proofs.Pieces.{spelled-append, AreReadBefore-append, MayFollow}
 use Rattle.py_lines.proofs.Cuts.{byte_len-append, line_ends-pieces}
 use Rattle.py_lines.proofs.Pushes.{line_ends-spelled, lines_of-push}
 use Rattle.py_lines.proofs.Stacks.{balanced-from_stack, balanced_depth, IsShallow-append, depth_through-append}
@@ -30,7 +30,7 @@ pub record Situation (r : Reader) (characters : List ℕ) (lines : List LogicalL
   pub ends : EndsLine given.pieces
   pub here : drop r.place characters ≡ encode_utf8_all read ++ rest
 
-none_both : (a b : List ℕ) → a ++ b ≡ [] → (a ≡ []) × (b ≡ [])
+pub none_both : (a b : List ℕ) → a ++ b ≡ [] → (a ≡ []) × (b ≡ [])
 none_both [] b e = (refl, e)
 none_both (c ∷ cs) b e = absurd (cc)
 

@@ -1,17 +1,13 @@
 -- What the open piece spells in each mode of the machine, and how it grows.
-use Rattle.std.proofs.Common.{◌≡◌, ℕ, Bool, true, false, not, cond, ◌&&◌, ◌||◌, ◌==◌, eqb, List, [], ◌∷◌, ◌++◌, refl, sym, ap, ◌∙◌, subst, ⊎_elim, inl, inr, append_assoc, append-nil, ◌⊎◌}
+use Rattle.std.proofs.Common.{◌≡◌, ℕ, Bool, true, false, cond, ◌==◌, eqb, List, [], ◌∷◌, ◌++◌, refl, sym, ap, ◌∙◌, subst, inl, inr, append_assoc, append-nil}
 use Rattle.std.specs.List.{list_all, list_any}
 use Rattle.std.proofs.lemmas.List.Folds.{list_all-append, list_any-append}
-use Rattle.std.proofs.lemmas.Bool.{and_parts, and_from, or_parts, or_from, and_left, and_right, eqb-true, eq-eqb, both_ways, cases_Bool, false_from_ne_true, not_from_false, not_from_true}
-use Rattle.py_lines.specs.Character.{is_one_of, is_space, is_word_character, is_word_start, is_quote, is_line_feed, is_return, is_break, is_hash, is_backslash, is_barred}
-use Rattle.py_lines.specs.Piece.{Class, Piece, IsRun, IsComment, IsPrefix, is_prefix, is_item, is_bare, is_short_item, joined, has_triple, IsShortString, IsLongString, IsString, MayPrecede, string, begins}
-use Rattle.py_lines.specs.declared.mode.Spelling.{Spelling}
-use Rattle.py_lines.specs.declared.mode.Mode.{Mode}
-use Rattle.py_lines.specs.declared.mode.Mode.TheVariants as modes
-use Rattle.py_lines.specs.Machine.{spelling_of, is_prefix_spelling, spelling_on, IsFull, HoldsItems, HoldsSome, HoldsQuotes, HoldsFront, HoldsLong, Holds}
+use Rattle.std.proofs.lemmas.Bool.{and_parts, and_from, or_from, eqb-true, both_ways, false_from_ne_true, not_from_false}
+use Rattle.py_lines.specs.Character.{is_word_character, is_word_start, is_quote, is_backslash}
+use Rattle.py_lines.specs.Piece.{IsPrefix, is_item, is_bare, is_short_item, joined, has_triple, IsShortString, IsLongString, MayPrecede, string}
+use Rattle.py_lines.specs.Machine.{IsFull, HoldsItems, HoldsSome, HoldsQuotes, HoldsFront, HoldsLong}
 use Rattle.py_lines.proofs.Pieces.{joined-append}
 use Rattle.py_lines.proofs.Tests.{prefix_word, quote-not-start, quote-not-word, slash-not-quote}
-use Rattle.py_lines.proofs.Spellings.{prefix_spelling}
 use Rattle.py_lines.proofs.Triples.{triple-left, triple-other}
 
 pub full-append : (xs ys : List ℕ) → IsFull ys → IsFull (xs ++ ys)

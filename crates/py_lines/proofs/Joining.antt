@@ -1,25 +1,22 @@
 -- The scan of one line is the machine's run over the whole text so far.
-use Rattle.std.proofs.Common.{◌≡◌, ℕ, zero, suc, ◌+◌, ◌<◌, ◌≤◌, Bool, true, false, not, ◌&&◌, ◌||◌, Option, None, Some, List, [], ◌∷◌, ◌++◌, length, refl, sym, ap, ◌∙◌, subst, ⊎_elim, inl, inr, append_assoc, append-nil, zero-add, arith, ◌⊎◌}
+use Rattle.std.proofs.Common.{◌≡◌, ℕ, zero, suc, ◌+◌, ◌<◌, true, false, ◌||◌, Option, None, Some, List, [], ◌∷◌, ◌++◌, length, refl, sym, ap, ◌∙◌, subst, inl, inr, append-nil, zero-add, arith}
 use Rattle.std.proofs.lemmas.Bool.{both_ways}
 use Rattle.std.proofs.lemmas.List.{same_from_push}
 use Rattle.std.proofs.lemmas.Str.{length-le-encodes}
-use Rattle.py_lines.specs.Character.{is_line_feed}
 use Rattle.py_lines.specs.Piece.{Class, mark, line_end, Piece, is_mark_class, begins_marked, InClass, spelled, AreReadBefore}
 use Rattle.py_lines.specs.LogicalLine.{byte_len}
-use Rattle.py_lines.specs.Balance.{IsBalanced, IsShallow}
 use Rattle.py_lines.specs.Lexed.{EndsLine, IsLive}
 use Rattle.py_lines.specs.declared.mode.Mode.{Mode}
 use Rattle.py_lines.specs.declared.mode.Mode.TheVariants as modes
-use Rattle.py_lines.specs.declared.mode.Move.TheVariants as moves
-use Rattle.py_lines.specs.Machine.{Scanned, fresh, at_start, class_of, closed, started, step, run_from, move_of, start_of, Holds, IsSound, Bracket, brackets_of, RunsTo, in_short, is_behind_slash}
-use Rattle.py_lines.specs.Scan.{begun, stack_if, EndsNoLine}
+use Rattle.py_lines.specs.Machine.{Scanned, fresh, at_start, class_of, closed, started, step, run_from, start_of, IsSound, Bracket, brackets_of, RunsTo, in_short, is_behind_slash}
+use Rattle.py_lines.specs.Scan.{begun, stack_if}
 use Rattle.py_lines.specs.Source.{first_mode}
 use Rattle.py_lines.proofs.Pieces.{piece, MayFollow, AreReadBefore-second, spelled-append}
 use Rattle.py_lines.proofs.Starts.{start-mark}
 use Rattle.py_lines.proofs.Runs.{scanned, pieces_at, StopsBefore, run_from-append, stops-free}
 use Rattle.py_lines.proofs.Runs as runs_of
-use Rattle.py_lines.proofs.Complete.{Reaches, reach, MayBegin}
-use Rattle.py_lines.proofs.Stacks.{stack-from_balanced, stack_before}
+use Rattle.py_lines.proofs.Complete.{reach, MayBegin}
+use Rattle.py_lines.proofs.Stacks.{stack_before}
 use Rattle.py_lines.proofs.Live.{stack_closed, closed_grows}
 use Rattle.py_lines.proofs.Faults.{dead_none, dead_brackets}
 use Rattle.py_lines.proofs.Ends.{line_first}
@@ -83,7 +80,7 @@ paired base m done held level is =
     first.1 ∙ same
 
 -- from the start of a line, the machine goes as from its pieces
-from_base : (base : List Piece) (to : Scanned) (c : ℕ) (cs after : List ℕ) → pieces_at to ≡ base → StopsBefore to.mode (c ∷ after) → run_from (Some to) (c ∷ cs) ≡ behind_if base (run_from (Some (begun modes.Free)) (c ∷ cs))
+pub from_base : (base : List Piece) (to : Scanned) (c : ℕ) (cs after : List ℕ) → pieces_at to ≡ base → StopsBefore to.mode (c ∷ after) → run_from (Some to) (c ∷ cs) ≡ behind_if base (run_from (Some (begun modes.Free)) (c ∷ cs))
 from_base base to c cs after is stops =
     runs_of.begun to c cs after (start_of c) stops refl
     ∙ ap (λ l. run_from (started l c (start_of c)) cs) is

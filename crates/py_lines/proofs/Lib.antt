@@ -35,6 +35,8 @@ pub mod Running
 pub mod Frame
 pub mod Joining
 pub mod Given
+pub mod Beginning
 pub mod Advancing
 pub mod Failing
 pub mod Ending
+pub mod OneLexing

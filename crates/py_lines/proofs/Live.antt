@@ -1,12 +1,12 @@
 -- A text is live exactly where the machine runs on it: what is open can be closed.
-use Rattle.std.proofs.Common.{◌≡◌, ℕ, Bool, true, false, cond, ◌&&◌, ◌||◌, ◌==◌, eqb, Option, None, Some, List, [], ◌∷◌, ◌++◌, refl, sym, ap, ◌∙◌, subst, ⊎_elim, inl, inr, append_assoc, append-nil, ◌⊎◌}
+use Rattle.std.proofs.Common.{◌≡◌, ℕ, true, false, ◌==◌, eqb, Option, None, Some, List, [], ◌∷◌, ◌++◌, refl, sym, ap, ◌∙◌, subst, append_assoc, append-nil}
 use Rattle.std.specs.Str.{all_scalars}
 use Rattle.std.specs.Char.{IsScalar}
-use Rattle.std.proofs.lemmas.Bool.{cond_both, and_parts, and_from, and_right, eq-eqb, both_ways, false_from_ne_true}
+use Rattle.std.proofs.lemmas.Bool.{cond_both, and_parts, and_from, and_right, eq-eqb}
 use Rattle.unicode_ident.proofs.Computing.{unicode_ident}
-use Rattle.py_lines.specs.Character.{is_one_of, is_mark, is_space, is_word_character, is_quote, is_operator, is_line_feed, is_return, is_break, is_backslash}
-use Rattle.py_lines.specs.Piece.{Class, mark, space, word, string, operator, comment, join, line_end, Piece, spelled, AreReadBefore}
-use Rattle.py_lines.specs.Balance.{is_opening, is_closing, closing_of, is_opener, is_closer, IsBalanced, IsShallow}
+use Rattle.py_lines.specs.Character.{is_mark, is_space, is_word_character, is_quote, is_operator, is_line_feed, is_return, is_break}
+use Rattle.py_lines.specs.Piece.{operator, comment, line_end, Piece, spelled}
+use Rattle.py_lines.specs.Balance.{is_closing, closing_of, is_opener, is_closer}
 use Rattle.py_lines.specs.LogicalLine.{byte_len}
 use Rattle.py_lines.specs.Lexed.{IsReading, IsLive}
 use Rattle.py_lines.specs.declared.mode.Mode.{Mode}
@@ -16,15 +16,14 @@ use Rattle.py_lines.specs.declared.mode.Move.TheVariants as moves
 use Rattle.py_lines.specs.declared.mode.Start.{Start}
 use Rattle.py_lines.specs.declared.mode.Start.TheVariants as starts
 use Rattle.py_lines.specs.declared.mode.Spelling.{Spelling}
-use Rattle.py_lines.specs.Machine.{Scanned, fresh, at_start, class_of, closed, started, moved, step, run_from, move_of, start_of, is_final, is_prefix_spelling, Bracket, brackets_behind, brackets_through, brackets_of, RunsTo}
+use Rattle.py_lines.specs.Machine.{Scanned, fresh, at_start, class_of, closed, started, moved, step, run_from, move_of, start_of, is_final, is_prefix_spelling, Bracket, brackets_through, brackets_of, RunsTo}
 use Rattle.py_lines.proofs.Tests.{each_of, none_of, not_quote, quote-not-feed}
 use Rattle.py_lines.proofs.Pieces.{piece}
 use Rattle.py_lines.proofs.Starts.{start-operator, start-feed}
-use Rattle.py_lines.proofs.Runs.{scanned, pieces_at, StopsBefore, run_from-append, grown, closes}
-use Rattle.py_lines.proofs.Complete.{Reaches, reach, MayBegin}
+use Rattle.py_lines.proofs.Runs.{scanned, pieces_at, run_from-append, grown, closes}
+use Rattle.py_lines.proofs.Complete.{reach, MayBegin}
 use Rattle.py_lines.proofs.Stacks.{through-append, other_keeps, closer_pops, stack_before, balanced-from_stack, stack-from_balanced}
-use Rattle.py_lines.specs.Machine.{Holds, HoldsLong}
-use Rattle.py_lines.specs.Machine.{IsSound}
+use Rattle.py_lines.specs.Machine.{Holds}
 use Rattle.py_lines.proofs.Sound.{sound_at, ends_sound}
 
 -- finished pieces stay

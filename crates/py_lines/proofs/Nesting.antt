@@ -1,15 +1,14 @@
 -- The stack of open brackets that the code keeps is the machine's.
-use Rattle.std.proofs.Common.{◌≡◌, ℕ, zero, suc, ◌+◌, ◌-◌, ◌<◌, ◌≤◌, Bool, true, false, eqb, ◌==◌, Option, None, Some, List, [], ◌∷◌, ◌++◌, length, slice_get, refl, sym, ap, ◌∙◌, subst, arith, length-append}
+use Rattle.std.proofs.Common.{◌≡◌, ℕ, suc, ◌-◌, ◌<◌, ◌≤◌, true, false, eqb, ◌==◌, Option, None, Some, List, [], ◌∷◌, ◌++◌, length, slice_get, refl, sym, ap, ◌∙◌, subst, arith, length-append}
 use Rattle.std.specs.Prelude.{option_to_list, nat_lt}
-use Rattle.std.proofs.lemmas.Bool.{false_from_ne_true, ltb-true, both_ways, eqb-true, eq-eqb}
+use Rattle.std.proofs.lemmas.Bool.{false_from_ne_true, ltb-true, eqb-true, eq-eqb}
 use Rattle.py_lines.specs.Piece.{operator, Piece}
-use Rattle.py_lines.specs.Balance.{is_opening, is_closing, is_opener, is_closer, closing_of}
-use Rattle.py_lines.specs.LogicalLine.{first_or_zero}
+use Rattle.py_lines.specs.Balance.{is_opening, is_closing, closing_of}
 use Rattle.py_lines.specs.Machine.{Bracket, brackets_behind}
 use Rattle.py_lines.specs.Scan.{stack, is_none, IsInnermost}
 use Rattle.py_lines.specs.declared.brackets.OpenBracket.{OpenBracket}
 use Rattle.py_lines.proofs.Pieces.{piece}
-use Rattle.py_lines.proofs.Stacks.{closer-not-opener, opener_pushes, closer_pops, other_keeps}
+use Rattle.py_lines.proofs.Stacks.{opener_pushes, closer_pops, other_keeps}
 
 abbrev entry : OpenBracket → Bracket
 entry b = record { opener = b.opener; place = b.place }

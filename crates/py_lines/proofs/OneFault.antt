@@ -1,12 +1,11 @@
 -- A text has at most one lexical fault: its place is the first that can't be passed, and the mode there says the kind.
-use Rattle.std.proofs.Common.{◌≡◌, ℕ, suc, ◌+◌, ◌<◌, ◌≤◌, Bool, true, false, cond, ◌&&◌, ◌||◌, Option, None, Some, List, [], ◌∷◌, ◌++◌, length, refl, sym, ap, ◌∙◌, subst, ⊎_elim, inl, inr, append_assoc, append-nil, arith, ◌⊎◌}
+use Rattle.std.proofs.Common.{◌≡◌, ℕ, suc, ◌<◌, Bool, true, false, cond, Some, List, [], ◌∷◌, ◌++◌, length, refl, sym, ap, ◌∙◌, subst, inl, inr, append_assoc, append-nil}
 use Rattle.std.proofs.lemmas.List.{append_cancel_left}
 use Rattle.std.proofs.lemmas.Bool.{both_ways, false_from_ne_true, or_left, or_right}
-use Rattle.py_lines.specs.Character.{is_break}
-use Rattle.py_lines.specs.Piece.{Piece, spelled, AreReadBefore}
-use Rattle.py_lines.specs.Balance.{is_opening, is_closing, is_opener, IsShallow, depth_after, depth_through}
+use Rattle.py_lines.specs.Piece.{Piece, spelled}
+use Rattle.py_lines.specs.Balance.{is_opening, is_closing, IsShallow, depth_after}
 use Rattle.py_lines.specs.LogicalLine.{first_or_zero, byte_len}
-use Rattle.py_lines.specs.Lexed.{IsLive, InBracket, DiesAt, BreaksString, BreaksJoin, ClosesWrong, OpensTooDeep, FitsCharacter, NoneFits, kinds_before, IsCharacterFault, IsEndFault, IsUndecodable, IsOpenAtEnd, IsFaultAt}
+use Rattle.py_lines.specs.Lexed.{IsLive, InBracket, BreaksString, BreaksJoin, ClosesWrong, OpensTooDeep, FitsCharacter, NoneFits, kinds_before, IsCharacterFault, IsEndFault, IsUndecodable, IsOpenAtEnd, IsFaultAt}
 use Rattle.py_lines.specs.declared.fault.FaultKind.{FaultKind}
 use Rattle.py_lines.specs.declared.fault.FaultKind.TheVariants as faults
 use Rattle.py_lines.specs.declared.mode.Mode.{Mode}

@@ -1,5 +1,5 @@
 -- Lists of pieces one after another.
-use Rattle.std.proofs.Common.{◌≡◌, ℕ, Bool, true, false, ◌||◌, List, [], ◌∷◌, ◌++◌, refl, sym, ap, ◌∙◌, subst, append_assoc, append-nil}
+use Rattle.std.proofs.Common.{◌≡◌, ℕ, false, List, [], ◌∷◌, ◌++◌, refl, sym, ap, ◌∙◌, subst, append_assoc, append-nil}
 use Rattle.py_lines.specs.Piece.{Class, Piece, InClass, MayPrecede, is_mark_class, begins_marked, spelled, AreReadBefore, joined}
 
 abbrev pub piece : Class → List ℕ → Piece

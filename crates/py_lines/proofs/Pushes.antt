@@ -1,13 +1,12 @@
 -- One more logical line behind those given, and one more token behind those of a line.
-use Rattle.std.proofs.Common.{◌≡◌, ℕ, suc, ◌+◌, Bool, true, false, cond, ◌&&◌, ◌==◌, List, [], ◌∷◌, ◌++◌, length, refl, sym, ap, ◌∙◌, subst, ⊎_elim, inl, inr, append_assoc, append-nil, add_assoc, arith, ◌⊎◌}
-use Rattle.std.proofs.lemmas.Bool.{cond_both, and_left, and_right, and_cases}
+use Rattle.std.proofs.Common.{◌≡◌, ℕ, ◌+◌, Bool, true, false, ◌&&◌, ◌==◌, List, [], ◌∷◌, ◌++◌, refl, sym, ap, ◌∙◌, subst, append_assoc, append-nil, add_assoc, arith}
+use Rattle.std.proofs.lemmas.Bool.{cond_both}
 use Rattle.py_lines.specs.Character.{is_line_feed, is_return}
-use Rattle.py_lines.specs.Piece.{Class, Piece, begins, ends, InClass, MayPrecede, spelled, AreReadBefore}
+use Rattle.py_lines.specs.Piece.{Piece, begins, ends, spelled, AreReadBefore}
 use Rattle.py_lines.specs.Balance.{depth_after}
 use Rattle.py_lines.specs.LogicalLine.{is_line_end_class, put_first, cut, byte_len, line_ends, LogicalLine, line_of, lines_from, lines_of, tokens_of_piece, tokens_from}
-use Rattle.py_lines.specs.declared.token.Token.{Token}
 use Rattle.py_lines.specs.Lexed.{EndsLine}
-use Rattle.py_lines.proofs.Pieces.{spelled-append, AreReadBefore-first}
+use Rattle.py_lines.proofs.Pieces.{AreReadBefore-first}
 use Rattle.py_lines.proofs.Cuts.{uncut, line_ends-append, lines_in, byte_len-append, cut-append}
 
 -- the characters of parts
@@ -97,6 +96,13 @@ lines_of-push given unit rest ended one fit =
     ∙ lines_from-append 0 1 (cut 0 given) (unit ∷ [])
     ∙ ap (λ (n : ℕ). lines_of given ++ line_of n (1 + parts_lines (cut 0 given)) unit ∷ []) (zero_more ∙ cut_bytes 0 given)
     ∙ ap (λ (n : ℕ). lines_of given ++ line_of (byte_len (spelled given)) (1 + n) unit ∷ []) lines
+
+-- the logical lines of pieces that end a line stay, whatever pieces follow
+pub lines_of-more : (given others : List Piece) → EndsLine given → (more : List LogicalLine) × (lines_of (given ++ others) ≡ lines_of given ++ more)
+lines_of-more given others ended = (
+  lines_from (0 + parts_bytes (cut 0 given)) (1 + parts_lines (cut 0 given)) (cut 0 others),
+  ap (lines_from 0 1) (cut-append given others ended) ∙ lines_from-append 0 1 (cut 0 given) (cut 0 others),
+)
 
 -- the tokens of pieces, one list behind another
 pub tokens_from-append : (start line : ℕ) (ps qs : List Piece) → tokens_from start line (ps ++ qs) ≡ tokens_from start line ps ++ tokens_from (start + byte_len (spelled ps)) (line + lines_in ps) qs

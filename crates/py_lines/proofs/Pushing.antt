@@ -1,12 +1,12 @@
 -- The scan follows the machine from character to character.
-use Rattle.std.proofs.Common.{◌≡◌, ℕ, ◌+◌, ◌<◌, ◌≤◌, Bool, true, false, not, cond, ◌&&◌, ◌==◌, Option, None, Some, Result, Ok, Err, OnOk, List, [], ◌∷◌, ◌++◌, length, refl, sym, ap, ◌∙◌, subst, append_assoc, append-nil, add-zero, zero-add, arith, lit<}
+use Rattle.std.proofs.Common.{◌≡◌, ℕ, ◌+◌, Bool, true, false, not, ◌&&◌, ◌==◌, Option, None, Some, Result, Ok, Err, OnOk, List, [], ◌∷◌, ◌++◌, length, refl, sym, ap, ◌∙◌, subst, append_assoc, append-nil, arith, lit<}
 use Rattle.std.specs.Char.{len_utf8}
 use Rattle.std.specs.declared.alloc.AllocError.{AllocError}
 use Rattle.std.proofs.lemmas.Bool.{cond_both, both_ways}
 use Rattle.std.proofs.lemmas.Str.{encode_ascii}
 use Rattle.py_lines.specs.Character.{is_word_character, is_quote, is_line_feed, is_return}
-use Rattle.py_lines.specs.Piece.{Class, mark, operator, line_end, Piece, ends, is_mark_class, spelled, AreReadBefore}
-use Rattle.py_lines.specs.Balance.{is_opener, is_closer, depth_through}
+use Rattle.py_lines.specs.Piece.{Class, operator, line_end, Piece, ends, is_mark_class, spelled, AreReadBefore}
+use Rattle.py_lines.specs.Balance.{depth_through}
 use Rattle.py_lines.specs.LogicalLine.{is_line_end_class, byte_len, line_ends, tokens_of_piece, tokens_from, kind_of, space_len}
 use Rattle.py_lines.specs.declared.token.TokKind.{TokKind}
 use Rattle.py_lines.specs.declared.token.TokKind.TheVariants as kind
@@ -21,7 +21,7 @@ use Rattle.py_lines.specs.declared.scan.Progress.{Progress}
 use Rattle.py_lines.specs.declared.scan.Progress.TheVariants as progress
 use Rattle.py_lines.specs.declared.scan.Scan.{Scan}
 use Rattle.py_lines.specs.Machine.{Scanned, fresh, class_of, closed, token_of, step, moved, started, move_of, start_of, Holds, IsSound, is_prefix_spelling, Bracket, brackets_behind, brackets_of}
-use Rattle.py_lines.specs.Scan.{tokens_with, kind_through, Closes, Reads, Stands, StandsBehind, OpensBehind, Operates, Begins, Tallies, IsStacked, EndsNoLine, Takes, stack_if, stack_of, is_none, is_returned, is_return_mode, in_mode, with_brackets, line_end_progress, GoesOn, ComesToEnd}
+use Rattle.py_lines.specs.Scan.{tokens_with, kind_through, Closes, Reads, Stands, StandsBehind, OpensBehind, Operates, Begins, Tallies, IsStacked, EndsNoLine, Takes, stack_if, stack_of, is_none, is_returned, is_return_mode, in_mode, with_brackets, line_end_progress}
 use Rattle.py_lines.proofs.Pieces.{piece, spelled-push, AreReadBefore-first}
 use Rattle.py_lines.proofs.Tests.{feed_is, return_is}
 use Rattle.py_lines.proofs.Starts.{starts_so, StartsSo}

@@ -1,8 +1,7 @@
 -- Texts by their pieces, and the logical lines that these are cut into: rows worked out by hand.
-use Rattle.std.proofs.Common.{◌≡◌, ℕ, List, [], ◌∷◌, refl, Bool, true, false}
-use Rattle.std.specs.Prelude.{encode_utf8_all}
-use Rattle.py_lines.specs.Character.{is_one_of, is_digit, is_line_feed, is_return}
-use Rattle.py_lines.specs.Piece.{Class, mark, space, word, string, operator, comment, join, line_end, Piece, spelled}
+use Rattle.std.proofs.Common.{◌≡◌, ℕ, List, [], ◌∷◌, refl}
+use Rattle.py_lines.specs.Character.{is_digit, is_line_feed, is_return}
+use Rattle.py_lines.specs.Piece.{Class, mark, space, word, string, operator, comment, join, line_end, Piece}
 use Rattle.py_lines.specs.Balance.{is_opening, is_closing}
 use Rattle.py_lines.specs.LogicalLine.{LogicalLine, lines_of}
 use Rattle.py_lines.specs.declared.token.TokKind.{TokKind}

@@ -1,24 +1,21 @@
 -- The scan of a line's characters, one after another.
-use Rattle.std.proofs.Common.{◌≡◌, ℕ, ◌+◌, ◌<◌, ◌≤◌, Bool, true, false, not, ◌&&◌, Option, None, Some, Result, Ok, List, [], ◌∷◌, ◌++◌, length, refl, sym, ap, ◌∙◌, subst, append_assoc, append-nil, arith}
-use Rattle.std.specs.Prelude.{encode_utf8_all, encode_utf8}
-use Rattle.std.specs.Str.{all_scalars}
+use Rattle.std.proofs.Common.{◌≡◌, ℕ, ◌+◌, ◌≤◌, true, false, not, ◌&&◌, Option, None, Some, Ok, List, [], ◌∷◌, ◌++◌, refl, sym, ap, ◌∙◌, subst, append-nil, arith}
+use Rattle.std.specs.Prelude.{encode_utf8_all}
 use Rattle.std.proofs.lemmas.Bool.{both_ways, and_right}
 use Rattle.std.proofs.lemmas.Str.{encodes_same}
 use Rattle.py_lines.specs.Character.{is_line_feed, is_return}
-use Rattle.py_lines.specs.Piece.{Class, line_end, Piece, ends, begins, MayPrecede, return, spelled, AreReadBefore}
+use Rattle.py_lines.specs.Piece.{line_end, Piece, ends, begins, return, spelled}
 use Rattle.py_lines.specs.LogicalLine.{byte_len, line_ends}
 use Rattle.py_lines.specs.declared.mode.Mode.{Mode}
 use Rattle.py_lines.specs.declared.mode.Mode.TheVariants as modes
-use Rattle.py_lines.specs.declared.scan.Progress.{Progress}
 use Rattle.py_lines.specs.declared.scan.Progress.TheVariants as progress
 use Rattle.py_lines.specs.declared.scan.Scan.{Scan}
 use Rattle.py_lines.specs.declared.scan.Stop.TheVariants as stops
-use Rattle.py_lines.specs.Machine.{Scanned, fresh, closed, step, run_from, IsSound, Bracket, brackets_of}
-use Rattle.py_lines.specs.Scan.{Tallies, IsStacked, Takes, Closes, begun, stack_of, is_none, is_returned, is_return_mode, EndsNoLine, AreLine, IsUnderWay, IsAtLineEnd, StopsSo}
+use Rattle.py_lines.specs.Machine.{Scanned, fresh, step, run_from, IsSound}
+use Rattle.py_lines.specs.Scan.{Tallies, IsStacked, Takes, Closes, begun, stack_of, is_none, is_returned, is_return_mode, EndsNoLine, IsUnderWay, IsAtLineEnd, StopsSo}
 use Rattle.py_lines.proofs.Pieces.{piece, spelled-push, AreReadBefore-push, follows_any}
 use Rattle.py_lines.proofs.Tests.{return_is}
 use Rattle.py_lines.proofs.Runs.{scanned, run_from-append}
-use Rattle.py_lines.proofs.Stacks.{stands}
 use Rattle.py_lines.proofs.Sound.{SoundIf, run_sound}
 use Rattle.py_lines.proofs.Closing.{closes_shut}
 use Rattle.py_lines.proofs.Pushing.{one_return, none_level, none_stack}

@@ -1,19 +1,17 @@
 -- The machine goes through the text of a space, a word, a comment, an operator, a join, a line end or a mark.
-use Rattle.std.proofs.Common.{◌≡◌, ℕ, Bool, true, false, cond, ◌&&◌, eqb, Option, None, Some, List, [], ◌∷◌, ◌++◌, refl, sym, ap, ◌∙◌, subst, ⊎_elim, inl, inr, append_assoc, append-nil, ◌⊎◌}
+use Rattle.std.proofs.Common.{◌≡◌, ℕ, Bool, true, false, ◌&&◌, Option, None, Some, List, [], ◌∷◌, ◌++◌, refl, sym, ap, ◌∙◌, subst, inl, inr, append_assoc, append-nil, ◌⊎◌}
 use Rattle.std.specs.List.{list_all, list_any}
-use Rattle.std.proofs.lemmas.Bool.{and_parts, or_parts, eq-eqb, both_ways}
-use Rattle.py_lines.specs.Character.{is_one_of, is_space, is_word_character, is_word_start, is_quote, is_operator, is_line_feed, is_return, is_break, is_hash, is_backslash}
-use Rattle.py_lines.specs.Piece.{Class, mark, space, word, string, operator, comment, join, line_end, Piece, begins, ends, is_prefix, IsLineEnd, feed, return_feed, return, spelled, AreReadBefore}
+use Rattle.std.proofs.lemmas.Bool.{and_parts, or_parts}
+use Rattle.py_lines.specs.Character.{is_space, is_word_character, is_word_start, is_quote, is_operator, is_line_feed, is_return, is_break, is_hash, is_backslash}
+use Rattle.py_lines.specs.Piece.{space, word, operator, comment, join, line_end, Piece, begins, ends, is_prefix, IsLineEnd, feed, return_feed, return}
 use Rattle.py_lines.specs.declared.mode.Spelling.{Spelling}
 use Rattle.py_lines.specs.declared.mode.Mode.{Mode}
 use Rattle.py_lines.specs.declared.mode.Mode.TheVariants as modes
 use Rattle.py_lines.specs.declared.mode.Move.{Move}
 use Rattle.py_lines.specs.declared.mode.Move.TheVariants as moves
 use Rattle.py_lines.specs.declared.mode.Start.{Start}
-use Rattle.py_lines.specs.declared.mode.Start.TheVariants as starts
 use Rattle.py_lines.specs.Machine.{Scanned, fresh, class_of, closed, started, moved, step, run_from, move_of, start_of, is_final, spelling_of, spelling_with, is_prefix_spelling}
 use Rattle.py_lines.proofs.Pieces.{piece}
-use Rattle.py_lines.proofs.Tests.{slash_is, feed_is, return_is}
 use Rattle.py_lines.specs.Machine.{spelling_on}
 use Rattle.py_lines.proofs.Spellings.{prefix_spelling}
 use Rattle.py_lines.proofs.Starts.{start-space, start-word, start-operator, start-feed, start-return, start-hash, start-slash}

@@ -1,21 +1,19 @@
 -- Where the machine has come, the pieces that it found spell what it read, and are read before whatever follows.
-use Rattle.std.proofs.Common.{◌≡◌, ℕ, Bool, true, false, not, cond, ◌&&◌, ◌||◌, ◌==◌, eqb, Option, None, Some, List, [], ◌∷◌, ◌++◌, refl, sym, ap, ◌∙◌, subst, ⊎_elim, inl, inr, append_assoc, append-nil, ◌⊎◌}
-use Rattle.std.specs.List.{list_all, list_any}
-use Rattle.std.proofs.lemmas.Bool.{cond_both, and_parts, and_from, or_from, and_left, and_right, eqb-true, eq-eqb, both_ways, not_from_false}
-use Rattle.py_lines.specs.Character.{is_one_of, is_mark, is_space, is_word_character, is_word_start, is_quote, is_operator, is_line_feed, is_return, is_break, is_hash, is_backslash, is_barred}
-use Rattle.py_lines.specs.Piece.{Class, mark, space, word, string, operator, comment, join, line_end, Piece, IsRun, IsComment, IsLineEnd, feed, return_feed, return, IsPrefix, InClass, begins, ends, is_prefix, is_item, is_bare, is_short_item, joined, MayPrecede, is_mark_class, spelled, AreReadBefore}
+use Rattle.std.proofs.Common.{◌≡◌, ℕ, Bool, true, false, ◌&&◌, eqb, Option, None, Some, List, [], ◌∷◌, ◌++◌, refl, sym, ap, ◌∙◌, subst, inl, inr, append_assoc, append-nil}
+use Rattle.std.proofs.lemmas.Bool.{cond_both, and_parts, and_from, and_left, and_right, eqb-true, both_ways, not_from_false}
+use Rattle.py_lines.specs.Character.{is_mark, is_space, is_word_character, is_quote, is_line_feed, is_return, is_break, is_backslash}
+use Rattle.py_lines.specs.Piece.{Class, mark, space, word, string, operator, comment, join, line_end, Piece, feed, return_feed, return, InClass, ends, is_prefix, is_short_item, joined, MayPrecede, is_mark_class, spelled, AreReadBefore}
 use Rattle.py_lines.specs.declared.mode.Spelling.{Spelling}
 use Rattle.py_lines.specs.declared.mode.Mode.{Mode}
 use Rattle.py_lines.specs.declared.mode.Mode.TheVariants as modes
 use Rattle.py_lines.specs.declared.mode.Move.{Move}
-use Rattle.py_lines.specs.declared.mode.Move.TheVariants as moves
 use Rattle.py_lines.specs.declared.mode.Start.{Start}
 use Rattle.py_lines.specs.declared.mode.Start.TheVariants as starts
-use Rattle.py_lines.specs.Machine.{IsSound, spelling_on, Holds, IsFull, HoldsItems, HoldsSome, HoldsQuotes, HoldsFront, HoldsLong, Scanned, fresh, at_start, class_of, closed, started, moved, step, run_from, move_of, short_move, long_move, start_of, spelling_of, spelling_with, is_prefix_spelling, is_final}
+use Rattle.py_lines.specs.Machine.{IsSound, Holds, HoldsItems, HoldsSome, HoldsQuotes, HoldsFront, HoldsLong, Scanned, fresh, at_start, closed, started, moved, step, run_from, move_of, short_move, long_move, start_of, spelling_of, spelling_with, is_prefix_spelling, is_final}
 use Rattle.py_lines.proofs.Pieces.{piece, spelled-push, AreReadBefore-push, MayFollow, follows_any}
 use Rattle.py_lines.proofs.Starts.{StartsSo, starts_so}
 use Rattle.py_lines.proofs.Spellings.{spelling_on-push, prefix_spelling}
-use Rattle.py_lines.proofs.Tests.{feed_is, return_is, not_quote, slash-not-quote, barred, return-not-slash, quote-not-feed, feed-not-quote, feed-not-slash, feed-not-return}
+use Rattle.py_lines.proofs.Tests.{feed_is, return_is, barred, feed-not-return}
 use Rattle.py_lines.proofs.Runs.{scanned, pieces_at}
 use Rattle.py_lines.proofs.Holds.{list_all-push, list_any-push, push, same_quotes, something, long_something, items_push, front_push, front_none, front_one, front_two, opened_items, opened_long, one_more_quote, short_string, long_string}
 

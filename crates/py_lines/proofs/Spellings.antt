@@ -1,5 +1,5 @@
 -- A word's spelling, as the machine keeps it, says whether the word is the prefix of a string.
-use Rattle.std.proofs.Common.{◌≡◌, ℕ, Bool, true, false, cond, ◌&&◌, ◌||◌, List, [], ◌∷◌, ◌++◌, refl, sym, ap, ◌∙◌, ⊎_elim, inl, inr, ◌⊎◌}
+use Rattle.std.proofs.Common.{◌≡◌, ℕ, false, ◌&&◌, ◌||◌, List, [], ◌∷◌, ◌++◌, refl, sym, ap, ◌∙◌, ⊎_elim, inl, inr, ◌⊎◌}
 use Rattle.std.proofs.lemmas.Bool.{cond_both}
 use Rattle.py_lines.specs.Character.{is_digit, is_r, is_b_or_f, is_u}
 use Rattle.py_lines.specs.Piece.{is_prefix}

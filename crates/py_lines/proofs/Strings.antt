@@ -1,18 +1,17 @@
 -- The machine goes through the text of a string, item by item.
-use Rattle.std.proofs.Common.{◌≡◌, ℕ, Bool, true, false, not, cond, ◌&&◌, ◌||◌, ◌==◌, eqb, Option, None, Some, List, [], ◌∷◌, ◌++◌, refl, sym, ap, ◌∙◌, subst, ⊎_elim, inl, inr, append_assoc, append-nil, ◌⊎◌}
-use Rattle.std.specs.List.{list_all, list_any}
+use Rattle.std.proofs.Common.{◌≡◌, ℕ, Bool, true, false, not, cond, ◌&&◌, ◌==◌, eqb, Some, List, [], ◌∷◌, ◌++◌, refl, sym, ap, ◌∙◌, subst, ⊎_elim, inl, inr, append_assoc, ◌⊎◌}
+use Rattle.std.specs.List.{list_all}
 use Rattle.std.proofs.lemmas.List.Folds.{list_all-append}
 use Rattle.std.proofs.lemmas.Bool.{and_parts, and_from, or_parts, eq-eqb, eqb-true, both_ways, cases_Bool, not-true}
-use Rattle.py_lines.specs.Character.{is_one_of, is_word_character, is_quote, is_line_feed, is_return, is_break, is_backslash, is_barred}
-use Rattle.py_lines.specs.Piece.{Class, string, Piece, begins, IsPrefix, is_prefix, is_item, is_bare, is_short_item, joined, begins_triple, has_triple, MayPrecede}
+use Rattle.py_lines.specs.Character.{is_quote, is_line_feed, is_return, is_break, is_backslash, is_barred}
+use Rattle.py_lines.specs.Piece.{string, Piece, begins, IsPrefix, is_item, is_bare, is_short_item, joined, begins_triple, has_triple, MayPrecede}
 use Rattle.py_lines.specs.declared.mode.Spelling.{Spelling}
 use Rattle.py_lines.specs.declared.mode.Mode.{Mode}
 use Rattle.py_lines.specs.declared.mode.Mode.TheVariants as modes
-use Rattle.py_lines.specs.declared.mode.Move.{Move}
 use Rattle.py_lines.specs.declared.mode.Move.TheVariants as moves
-use Rattle.py_lines.specs.Machine.{Scanned, fresh, class_of, closed, moved, step, run_from, move_of, short_move, long_move, spelling_of, is_prefix_spelling}
+use Rattle.py_lines.specs.Machine.{Scanned, fresh, run_from, move_of, short_move, long_move, spelling_of, is_prefix_spelling}
 use Rattle.py_lines.proofs.Pieces.{piece, joined-append}
-use Rattle.py_lines.proofs.Tests.{prefix_word, quote-not-word, quote-not-feed, not_quote, slash-not-quote, slash-not-feed, feed-not-quote, feed-not-slash, return-not-quote, unbarred, feed_is}
+use Rattle.py_lines.proofs.Tests.{prefix_word, quote-not-word, quote-not-feed, not_quote, slash-not-quote, slash-not-feed, feed-not-quote, feed-not-slash, unbarred}
 use Rattle.py_lines.specs.Machine.{spelling_on}
 use Rattle.py_lines.proofs.Spellings.{prefix_spelling}
 use Rattle.py_lines.proofs.Starts.{start-word, start-quote}

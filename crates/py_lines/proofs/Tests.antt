@@ -1,10 +1,9 @@
 -- What a test of a character says where the character is one of a list.
-use Rattle.std.proofs.Common.{◌≡◌, ℕ, Bool, true, false, not, ◌||◌, ◌&&◌, eqb, List, [], ◌∷◌, refl, sym, ap, ◌∙◌, subst, ⊎_elim}
+use Rattle.std.proofs.Common.{◌≡◌, ℕ, Bool, true, false, ◌||◌, ◌&&◌, eqb, List, [], ◌∷◌, refl, sym, ap, ◌∙◌, subst, ⊎_elim}
 use Rattle.std.specs.List.{list_any, list_all}
-use Rattle.std.proofs.lemmas.Bool.{or_cases, or_parts, and_parts, and_from, or_left, or_right, eqb-true, false_from_ne_true, both_ways, true≢false}
+use Rattle.std.proofs.lemmas.Bool.{or_cases, or_parts, and_parts, and_from, eqb-true, false_from_ne_true, both_ways}
 use Rattle.unicode_ident.proofs.Computing.{unicode_ident}
-use Rattle.unicode_ident.proofs.IdentLemmas.{is_xid_start-is_xid_continue}
-use Rattle.py_lines.specs.Character.{is_one_of, is_mark, is_space, is_word_character, is_word_start, is_digit, is_quote, is_operator, is_line_feed, is_return, is_break, is_hash, is_backslash, is_barred, is_r, is_b_or_f, is_u}
+use Rattle.py_lines.specs.Character.{is_one_of, is_mark, is_word_character, is_word_start, is_digit, is_quote, is_line_feed, is_return, is_break, is_backslash, is_barred, is_r, is_b_or_f, is_u}
 use Rattle.py_lines.specs.Piece.{is_prefix}
 
 -- what each one of a list is

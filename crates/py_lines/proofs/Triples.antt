@@ -1,5 +1,5 @@
 -- Three quotes in a row, in items one after another.
-use Rattle.std.proofs.Common.{◌≡◌, ℕ, Bool, true, false, ◌&&◌, ◌||◌, ◌==◌, List, [], ◌∷◌, ◌++◌, refl, sym, ap, ◌∙◌}
+use Rattle.std.proofs.Common.{◌≡◌, ℕ, Bool, false, ◌==◌, List, [], ◌∷◌, ◌++◌, refl}
 use Rattle.std.proofs.lemmas.Bool.{or_parts, or_from, and_left, and_right}
 use Rattle.py_lines.specs.Piece.{is_bare, begins_triple, has_triple}
 

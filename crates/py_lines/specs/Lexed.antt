@@ -3,11 +3,11 @@ use Rattle.std.specs.Prelude.{◌≡◌, ℕ, ◌+◌, ◌≤◌, ◌⊎◌, tru
 use Rattle.std.specs.Str.{all_scalars, StartsWithNoChar}
 use Rattle.std.specs.List.{list_all}
 use Rattle.py_lines.specs.Character.{is_break, is_quote, is_backslash}
-use Rattle.py_lines.specs.Piece.{Class, line_end, Piece, IsPrefix, is_item, is_short_item, joined, has_triple, spelled, AreReadBefore}
+use Rattle.py_lines.specs.Piece.{line_end, Piece, IsPrefix, is_item, is_short_item, joined, has_triple, spelled, AreReadBefore}
 use Rattle.py_lines.specs.Balance.{is_opening, is_closing, is_opener, IsBalanced, IsShallow, depth_through}
 use Rattle.py_lines.specs.LogicalLine.{LogicalLine, lines_of, byte_len, line_ends}
 use Rattle.py_lines.specs.declared.fault.FaultKind.{FaultKind}
-use Rattle.py_lines.specs.declared.fault.FaultKind.TheVariants.{BadUtf8, BadChar, OpenString, OpenTriple, WrongClose, OpenBracket, BadJoin, TooDeep, BadImport}
+use Rattle.py_lines.specs.declared.fault.FaultKind.TheVariants.{BadUtf8, BadChar, OpenString, OpenTriple, WrongClose, OpenBracket, BadJoin, TooDeep}
 use Rattle.py_lines.specs.declared.fault.Fault.{Fault}
 
 -- the bytes are the UTF-8 of these characters, and then `tail`, which begins with no character
@@ -237,3 +237,9 @@ pub record IsRefused (text : List ℕ) (lines : List LogicalLine) (fault : Fault
 abbrev pub IsLexed : List ℕ → List LogicalLine → Option Fault → Type 0
 IsLexed text lines None = IsRead text lines
 IsLexed text lines (Some fault) = IsRefused text lines fault
+
+-- the lines begin the lexing of the text: others may follow, and then its end or its fault
+pub record BeginsLexing (text : List ℕ) (lines : List LogicalLine) : Type 0 where
+  pub more : List LogicalLine
+  pub end : Option Fault
+  pub lexed : IsLexed text (lines ++ more) end

@@ -1,12 +1,8 @@
 -- What a `Lines` is to its callers, and what each call of `next_unit` leaves.
-use Rattle.std.specs.Prelude.{◌≡◌, ℕ, ◌+◌, ◌<◌, ◌≤◌, ◌⊎◌, Option, None, Some, Result, Ok, Err, List, [], ◌∷◌, ◌++◌, length, MatchResult, MatchOption, ⊤}
+use Rattle.std.specs.Prelude.{Option, None, Some, Result, Ok, Err, [], ⊤}
 use Rattle.std.specs.Borrow.{follows_so, MutBor, Fml}
 use mathlib.Core.Option.{none}
 use mir.Syntax.{named}
-use Rattle.py_lines.specs.Piece.{Piece, spelled, AreReadBefore}
-use Rattle.py_lines.specs.Balance.{IsBalanced, IsShallow}
-use Rattle.py_lines.specs.LogicalLine.{LogicalLine, lines_of, byte_len}
-use Rattle.py_lines.specs.Lexed.{Decodes, EndsLine, IsLexed}
 use Rattle.py_lines.specs.Reader.{Reader, Continues, Ends, Fails, RunsOut}
 use Rattle.py_lines.specs.declared.fault.LexError.{LexError}
 use Rattle.py_lines.specs.declared.fault.LexError.TheVariants as lex

@@ -1,10 +1,9 @@
 -- Logical lines: what a text is cut into after each line end outside brackets. Python Language Reference, 2.1.
-use Rattle.std.specs.Prelude.{◌≡◌, ℕ, ◌+◌, Bool, true, false, not, ◌==◌, ◌&&◌, ◌||◌, List, [], ◌∷◌, ◌++◌, length, if◌then◌else◌, encode_utf8_all}
+use Rattle.std.specs.Prelude.{ℕ, ◌+◌, Bool, true, false, not, ◌==◌, ◌&&◌, ◌||◌, List, [], ◌∷◌, ◌++◌, length, if◌then◌else◌, encode_utf8_all}
 use Rattle.std.specs.List.{list_any}
 use Rattle.py_lines.specs.Character.{is_digit, is_line_feed, is_return}
 use Rattle.py_lines.specs.Piece.{Class, mark, space, word, string, operator, comment, join, line_end, Piece, begins, is_mark_class, spelled}
 use Rattle.py_lines.specs.Balance.{depth_after}
-use Rattle.py_lines.specs.declared.token.TokKind.{TokKind}
 use Rattle.py_lines.specs.declared.token.TokKind.TheVariants as kind
 use Rattle.py_lines.specs.declared.token.Token.{Token}
 use Rattle.py_lines.specs.declared.unit.UnitKind.{UnitKind}

@@ -3,7 +3,7 @@ use Rattle.std.specs.Prelude.{◌≡◌, ℕ, ◌+◌, ◌<◌, ◌≤◌, ◌�
 use Rattle.py_lines.specs.Piece.{Piece, spelled, AreReadBefore}
 use Rattle.py_lines.specs.Balance.{IsBalanced, IsShallow}
 use Rattle.py_lines.specs.LogicalLine.{LogicalLine, lines_of, byte_len, line_ends}
-use Rattle.py_lines.specs.Lexed.{Decodes, EndsLine, IsLexed}
+use Rattle.py_lines.specs.Lexed.{Decodes, EndsLine, IsLexed, BeginsLexing}
 use Rattle.py_lines.specs.declared.fault.Fault.{Fault}
 
 -- `place` is the byte up to which units were given, and `line` is its line
@@ -13,9 +13,13 @@ pub record Reader : Type 0 where
   pub line : ℕ
   pub fault : Option Fault
 
+-- a reader at this byte of the text, on this line
+abbrev pub standing_at : List ℕ → ℕ → ℕ → Reader
+standing_at text place line = record { text = text; place = place; line = line; fault = None }
+
 -- a reader at the text's start
 abbrev pub at_start : List ℕ → Reader
-at_start text = record { text = text; place = 0; line = 1; fault = None }
+at_start text = standing_at text 0 1
 
 -- These are the first logical lines of the reader's text, up to its place: they are cut from pieces that are
 -- read before the rest of the text, and end a line or the text. No fault was met yet.
@@ -35,9 +39,10 @@ pub record HasGiven (reader : Reader) (lines : List LogicalLine) : Type 0 where
   pub no_fault : reader.fault ≡ None
   pub cut : lines ≡ lines_of pieces
 
--- one more logical line is given
+-- one more logical line is given, and the lines still begin the lexing of the whole text
 pub record Continues (old : Reader) (line : LogicalLine) (new : Reader) : Type 0 where
   pub given : (lines : List LogicalLine) → HasGiven old lines → HasGiven new (lines ++ line ∷ [])
+  pub begins : (lines : List LogicalLine) → HasGiven old lines → BeginsLexing new.text (lines ++ line ∷ [])
   pub text : new.text ≡ old.text
   pub place : new.place ≡ old.place + length line.text
   pub some_text : 0 < length line.text

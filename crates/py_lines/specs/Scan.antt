@@ -1,13 +1,13 @@
 -- What the scan of one logical line holds, in the words of the machine. It serves the contracts of private functions.
-use Rattle.std.specs.Prelude.{◌≡◌, ℕ, ◌+◌, ◌-◌, ◌<◌, ◌==◌, ◌&&◌, ◌||◌, not, Bool, true, false, Option, None, Some, Result, Ok, Err, List, [], ◌∷◌, ◌++◌, encode_utf8_all, if◌then◌else◌}
+use Rattle.std.specs.Prelude.{◌≡◌, ℕ, ◌+◌, ◌-◌, ◌==◌, ◌&&◌, ◌||◌, not, Bool, true, false, Option, None, Some, Result, Ok, Err, List, [], ◌∷◌, ◌++◌, encode_utf8_all, if◌then◌else◌}
 use Rattle.std.specs.Str.{all_scalars}
 use Rattle.std.specs.Char.{len_utf8}
 use Rattle.std.specs.declared.alloc.AllocError.{AllocError}
 use Rattle.py_lines.specs.Character.{is_return, is_line_feed}
-use Rattle.py_lines.specs.Piece.{Class, operator, line_end, Piece, ends, is_mark_class, spelled, AreReadBefore}
+use Rattle.py_lines.specs.Piece.{operator, line_end, Piece, ends, is_mark_class, spelled, AreReadBefore}
 use Rattle.py_lines.specs.Balance.{depth_after, depth_through}
 use Rattle.py_lines.specs.LogicalLine.{byte_len, line_ends, tokens_from, indent_of, kind_of, is_line_end_class}
-use Rattle.py_lines.specs.Machine.{Scanned, fresh, step, run_from, token_of, Bracket, brackets_behind, brackets_of, IsSound, in_short, is_behind_slash}
+use Rattle.py_lines.specs.Machine.{Scanned, fresh, step, run_from, token_of, Bracket, brackets_behind, brackets_of, in_short, is_behind_slash}
 use Rattle.py_lines.specs.declared.token.Token.{Token}
 use Rattle.py_lines.specs.declared.mode.Mode.{Mode}
 use Rattle.py_lines.specs.declared.mode.Mode.TheVariants as modes

@@ -60,6 +60,7 @@ impl Brackets {
         self.open.is_empty()
     }
 
+    #[tactic(auto, using(crate::proofs::Nesting::last_in))]
     pub fn innermost(&self) -> Option<OpenBracket>
         ensures { IsInnermost result (stack_of self.now) }
     {

@@ -71,3 +71,24 @@ impl From<AllocError> for LexError {
         LexError::Memory
     }
 }
+
+#[cfg(test)]
+mod tests {
+    use super::*;
+    use std::test::Fail;
+
+    #[test]
+    fn shows_line_and_kind(rt: HostRuntime) -> Result<(), Fail> {
+        let fault = Fault {
+            kind: FaultKind::OpenBracket,
+            offset: 22,
+            line: 3,
+        };
+        let error = LexError::Fault(fault);
+        assert_eq!(rt;
+            format!(in rt.alloc(); "{error}")?.as_str(),
+            "line 3: F6 bracket not closed"
+        );
+        Ok(())
+    }
+}

@@ -1,8 +1,11 @@
 //! Laws of the definitions, which the checker proves as contracts of functions that do nothing.
 
-ghost use Rattle.std.specs.Prelude.{◌≡◌, ℕ, List};
+ghost use Rattle.std.specs.Prelude.{◌≡◌, ℕ, Option, List};
 ghost use Rattle.py_lines.specs.Piece.{Piece, Reads, ReadsText};
-ghost use Rattle.py_lines.specs.Lexed.{IsFaultAt, IsReadOrFaulty};
+ghost use Rattle.py_lines.specs.LogicalLine.{LogicalLine};
+ghost use Rattle.py_lines.specs.Lexed.{IsFaultAt, IsReadOrFaulty, IsLexed, BeginsLexing};
+ghost use Rattle.py_lines.specs.Reader.{Reader, HasGiven};
+ghost use Rattle.py_lines.specs.declared.fault.Fault.{Fault};
 ghost use Rattle.py_lines.specs.declared.fault.FaultKind.{FaultKind};
 
 /// A text has at most one reading: pieces that read the same characters, or the same bytes, are the same.
@@ -17,4 +20,17 @@ pub fn one_reading()
 pub fn one_fault()
     ensures some { (characters tail : List ℕ) → IsReadOrFaulty characters tail }
     ensures one { (characters tail : List ℕ) (kind other : FaultKind) (offset place : ℕ) → IsFaultAt kind characters tail offset → IsFaultAt other characters tail place → (kind ≡ other) × (offset ≡ place) }
+{}
+
+/// A text has one list of logical lines.
+#[tactic(auto, using(crate::proofs::OneLexing::one_lexing_of))]
+pub fn one_lexing()
+    ensures { (text : List ℕ) (lines others : List LogicalLine) (end other : Option Fault) → IsLexed text lines end → IsLexed text others other → lines ≡ others }
+{}
+
+/// The lines that a reader has given, wherever it stands, begin the lexing of the whole text: the rest of its lines and
+/// its end or fault come behind them.
+#[tactic(auto, using(crate::proofs::Beginning::given_begin))]
+pub fn given_lines_begin_the_text()
+    ensures begin { (reader : Reader) (lines : List LogicalLine) → HasGiven reader lines → BeginsLexing reader.text lines }
 {}

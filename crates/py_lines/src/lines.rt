@@ -1,6 +1,7 @@
-ghost use Rattle.std.specs.Prelude.{◌≡◌, ℕ, [], IfOk, IfErr};
+ghost use Rattle.std.specs.Prelude.{◌≡◌, ℕ, List, [], IfOk, IfErr};
 ghost use Rattle.std.specs.Borrow.{sem};
-ghost use Rattle.py_lines.specs.Reader.{Reader, HasGiven, at_start};
+ghost use Rattle.py_lines.specs.LogicalLine.{LogicalLine};
+ghost use Rattle.py_lines.specs.Reader.{Reader, HasGiven, at_start, standing_at};
 ghost use Rattle.py_lines.specs.Source.{reader_of};
 
 use crate::fault::LexError;
@@ -34,6 +35,40 @@ impl<'t> Lines<'t> {
         Ok(Lines {
             source: Source::new(alloc, text),
         })
+    }
+
+    /// A reader that goes on in a text behind logical lines that were given before: at byte `offset`, which is on line
+    /// `line`, from 1. It answers `Memory` alone.
+    ///
+    /// A byte-order mark is part of a line at the text's start alone. For a place where no logical line ends, or with
+    /// another line than the place's, nothing is promised but safety.
+    pub fn at(
+        alloc: Global,
+        text: &'t [u8],
+        offset: usize,
+        line: u64,
+    ) -> Result<Lines<'t>, LexError>
+        ensures goes_on { IfOk result (λ l. (lines : List LogicalLine) → HasGiven (standing_at text.now offset line) lines → l ≡ standing_at text.now offset line) }
+        ensures text { IfOk result (λ l. l.text ≡ text.now) }
+        ensures memory { IfErr result (λ e. e ≡ LexError.Memory) }
+    {
+        Ok(Lines {
+            source: Source::at(alloc, text, offset, line),
+        })
+    }
+
+    /// The byte up to which logical lines were given.
+    pub fn offset(&self) -> u64
+        ensures { result ≡ self.now.place }
+    {
+        self.source.place as u64
+    }
+
+    /// The line of that byte, from 1.
+    pub fn line(&self) -> u64
+        ensures { result ≡ self.now.line }
+    {
+        self.source.line
     }
 
     /// The next logical line, lent out of the text and this reader; `None` behind the last one, for good.
@@ -219,6 +254,32 @@ mod tests {
                     Ok(_) => return Err(Fail::from("no fault")),
                 }
             }
+        }
+        Ok(())
+    }
+
+    #[test]
+    fn goes_on_in_mid_text(rt: HostRuntime) -> Result<(), Fail> {
+        let mut lines = Lines::at(rt.alloc(), b"a\nb\n", 2, 2)?;
+        let unit = lines.next_unit()?.ok_or("a unit is missing")?;
+        assert_eq!(rt; unit.text, "b\n");
+        assert_eq!(rt; unit.offset, 2);
+        assert_eq!(rt; unit.line, 2);
+        assert!(rt; lines.next_unit()?.is_none());
+        let mut lines = Lines::at(rt.alloc(), b"import a\n\xef\xbb\xbf", 9, 2)?;
+        let fault = Fault {
+            kind: FaultKind::BadChar,
+            offset: 9,
+            line: 2,
+        };
+        match lines.next_unit() {
+            Err(error) => assert_eq!(rt; error, LexError::Fault(fault)),
+            Ok(_) => return Err(Fail::from("no fault")),
+        }
+        let text = "é\n".as_bytes();
+        for (offset, line) in [(1, 1), (3, 9), (4, 1), (usize::MAX, u64::MAX)] {
+            let mut lines = Lines::at(rt.alloc(), text, offset, line)?;
+            let _ = lines.next_unit();
         }
         Ok(())
     }

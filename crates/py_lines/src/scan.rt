@@ -51,7 +51,12 @@ pub struct Scan {
 }
 
 impl Scan {
-    pub fn new(alloc: Global) -> Scan {
+    /// At the text's start.
+    pub fn new(alloc: Global) -> Scan
+        ensures start { Tallies result (begun Mode.Start) }
+        ensures stacked { IsStacked result (begun Mode.Start) }
+        ensures line { result.line ≡ 1 }
+    {
         Scan {
             mode: Mode::Start,
             start: 0,

@@ -1,6 +1,6 @@
 //! The reader behind `Lines`: one logical line at a time, with its tokens or the text's fault.
 
-ghost use Rattle.std.specs.Prelude.{◌≡◌, ℕ, ◌+◌, ◌<◌, ◌≤◌, length, take, drop, true, None, Some, Ok, Err, IsUtf8};
+ghost use Rattle.std.specs.Prelude.{◌≡◌, ℕ, ◌+◌, ◌<◌, ◌≤◌, List, length, take, drop, true, None, Some, Ok, Err, IsUtf8};
 ghost use Rattle.std.specs.Str.{IsCharBoundary, StartsWithNoChar};
 ghost use Rattle.py_lines.specs.declared.fault.Fault.{Fault};
 
@@ -52,7 +52,8 @@ pub struct Source<'t> {
 impl<'t> Source<'t> {
     ghost use Rattle.py_lines.specs.Source.{reader_of, line_of_source, Gives, FailsAt, HasScanned, Advances, first_mode, IsUnfinished};
     ghost use Rattle.py_lines.specs.Scan.{refused_place};
-    ghost use Rattle.py_lines.specs.Reader.{at_start};
+    ghost use Rattle.py_lines.specs.Reader.{HasGiven, at_start, standing_at};
+    ghost use Rattle.py_lines.specs.LogicalLine.{LogicalLine};
     ghost use Rattle.py_lines.specs.Token.{EachLiesIn};
     ghost use Rattle.py_lines.specs.UnitLine.{line_in};
 
@@ -68,6 +69,33 @@ impl<'t> Source<'t> {
             end_len: 0,
             fault: None,
             scan: Scan::new(alloc),
+        }
+    }
+
+    /// The text from this byte on, which is on this line. If that cannot be, only what is behind its characters is left.
+    pub fn at(alloc: Global, bytes: &'t [u8], offset: usize, line: u64) -> Source<'t>
+        ensures goes_on { (lines : List LogicalLine) → HasGiven (standing_at bytes.now offset line) lines → reader_of result ≡ standing_at bytes.now offset line }
+        ensures text { result.bytes.now ≡ bytes.now }
+    {
+        let mut source = Source::new(alloc, bytes);
+        let (place, line) = source.place_or_end(offset, line);
+        source.start = place;
+        source.place = place;
+        source.line = line;
+        source
+    }
+
+    /// This byte and its line, if no character is cut there and so many line ends fit before it; else where the
+    /// characters end.
+    fn place_or_end(&self, offset: usize, line: u64) -> (usize, u64)
+        ensures boundary { IsCharBoundary self.now.characters.now result.0 }
+        ensures few_lines { result.1 ≤ result.0 + 1 }
+        ensures stays { IsCharBoundary self.now.characters.now offset → line ≤ offset + 1 → result ≡ (offset, line) }
+    {
+        if self.characters.is_char_boundary(offset) && line <= offset as u64 + 1 {
+            (offset, line)
+        } else {
+            (self.characters.len(), 1)
         }
     }
 

@@ -1,4 +1,4 @@
-ghost use Rattle.std.specs.Prelude.{◌≡◌, ℕ, ◌<◌, Some, length, slice_get, slice_range};
+ghost use Rattle.std.specs.Prelude.{◌≡◌, ℕ, ◌+◌, ◌^◌, ◌<◌, Some, length, slice_get, slice_range};
 ghost use Rattle.py_lines.specs.Token.{EachLiesIn};
 ghost use Rattle.py_lines.specs.declared.token.Token.{Token};
 
@@ -33,10 +33,12 @@ pub struct Unit<'s> {
     /// The bytes of its closing line end: 0 at the text's end.
     pub end_len: usize,
     pub ghost tokens_lie_in: { EachLiesIn text.now tokens.now },
+    pub ghost places_fit: { offset + length text.now < 2 ^ 64 },
 }
 
 impl<'s> Unit<'s> {
     /// The text of the token at place `i`, a slice of the unit's text.
+    #[tactic(auto, using(std::proofs::lemmas::Option::get_or_from_slice_get))]
     pub fn word(&self, i: usize) -> &'s str
         requires { i < length self.now.tokens.now }
         ensures { (t : Token) → slice_get self.now.tokens.now i ≡ Some t → result.now ≡ slice_range self.now.text.now t.start t.stop }

@@ -1,6 +1,5 @@
-use Rattle.std.proofs.Common.{◌≡◌, ◌<◌, Bool, Ok, refl, sym, ap, ◌∙◌, subst, arith}
-use Rattle.py_lines.specs.Scan.{Begins, Meets}
-use Rattle.py_lines.specs.Machine.{start_of}
+use Rattle.std.proofs.Common.{Bool, Ok, refl, sym, subst}
+use Rattle.py_lines.specs.Scan.{Meets}
 use Rattle.py_lines.proofs.Starts.{StartsSo, starts_so}
 use Rattle.py_lines.proofs.Ascii.{operator_ascii}
 use Rattle.py_lines.proofs.scan.Scan.begin.Goals as goal

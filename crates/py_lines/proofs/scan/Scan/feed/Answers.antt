@@ -1,5 +1,4 @@
 use Rattle.std.proofs.Common.{◌∙◌, refl, sym, ap, append-nil}
-use Rattle.std.specs.Global.{Vec}
 use Rattle.py_lines.proofs.scan.Scan.feed.Goals as goal
 
 pub returns : goal.returns

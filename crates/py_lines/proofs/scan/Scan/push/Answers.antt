@@ -1,8 +1,6 @@
-use Rattle.std.proofs.Common.{◌≡◌, ℕ, ◌+◌, false, refl, sym, ap, ◌∙◌, subst, List}
-use Rattle.py_lines.specs.Machine.{Scanned, move_of, IsSound}
+use Rattle.std.proofs.Common.{◌≡◌, false, sym, ap, ◌∙◌}
+use Rattle.py_lines.specs.Machine.{move_of}
 use Rattle.py_lines.specs.declared.mode.Mode.{Mode}
-use Rattle.py_lines.specs.declared.mode.Mode.TheVariants as modes
-use Rattle.py_lines.specs.declared.scan.Scan.{Scan}
 use Rattle.py_lines.proofs.Pushing.{takes_grown, takes_closed, takes_returned, takes_broken}
 use Rattle.py_lines.specs.Scan.{is_return_mode}
 use Rattle.std.proofs.lemmas.Bool.{both_ways}

@@ -1,9 +1,9 @@
-use Rattle.std.proofs.Common.{◌≡◌, ℕ, ◌+◌, Ok, [], ◌∷◌, ◌++◌, ◌<◌, ◌≤◌, List, Bool, true, false, not, ◌&&◌, length, sym, ap, ◌∙◌, subst, refl, arith, length-append, append-nil}
+use Rattle.std.proofs.Common.{◌≡◌, Ok, [], ◌∷◌, ◌++◌, Bool, true, false, not, ◌&&◌, length, sym, ap, ◌∙◌, subst, refl, arith, length-append}
 use Rattle.std.specs.Prelude.{encode_utf8_all, encode_utf8}
 use Rattle.std.specs.Str.Iter.{chars_rest}
 use Rattle.std.proofs.lemmas.Str.{length-encode}
 use Rattle.std.proofs.lemmas.List.{nil_from_length}
-use Rattle.std.proofs.lemmas.Bool.{and_parts, false_from_ne_true}
+use Rattle.std.proofs.lemmas.Bool.{and_parts}
 use Rattle.py_lines.specs.Character.{is_line_feed}
 use Rattle.py_lines.specs.Scan.{Takes, is_returned, is_return_mode, is_none, stack_of}
 use Rattle.py_lines.specs.declared.scan.Progress.{Progress}

@@ -1,6 +1,5 @@
-use Rattle.std.proofs.Common.{◌∙◌, refl, sym, ap, append-nil, ◌++◌, ◌∷◌, [], ℕ, List}
+use Rattle.std.proofs.Common.{◌∙◌, refl, ap, ◌++◌, ◌∷◌, []}
 use Rattle.py_lines.specs.declared.token.TokKind.TheVariants.{Op}
-use Rattle.py_lines.specs.declared.token.Token.{Token}
 use Rattle.py_lines.specs.Scan.{kind_with}
 use Rattle.py_lines.proofs.Counting.{same_token, counts_from}
 use Rattle.py_lines.proofs.scan.Scan.stand.Goals as goal

@@ -1,7 +1,6 @@
 use Rattle.std.proofs.Common.{refl}
 use Rattle.py_lines.specs.Source.{reader_of}
 use Rattle.py_lines.proofs.Given.{all_given}
-use Rattle.py_lines.proofs.Joining.{joined, begun_sound}
 use Rattle.py_lines.proofs.source.Source.advance.Goals as goal
 
 pub returns-then-self : goal.returns-then-self

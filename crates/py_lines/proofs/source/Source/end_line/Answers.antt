@@ -1,4 +1,3 @@
-use Rattle.std.proofs.Common.{◌≡◌, ℕ, ◌+◌, ◌≤◌, length, sym, ap, ◌∙◌, subst, arith}
 use Rattle.py_lines.specs.declared.scan.Stop.TheVariants.{LineEnd}
 use Rattle.py_lines.proofs.Advancing.{all_within, place_boundary, place_room, line_ended, few_lines_line, continues_line}
 use Rattle.py_lines.proofs.source.Source.end_line.Goals as goal
