@@ -1,0 +1,12 @@
+pub mod TokenLemmas
+pub mod ModuleLemmas
+pub mod ItemLemmas
+pub mod ReadingLemmas
+pub mod ListLemmas
+pub mod NamesLemmas
+pub mod BindingLemmas
+pub mod StatementLemmas
+pub mod EndLemmas
+pub mod OneListLemmas
+pub mod DecidingLemmas
+pub mod OneFaultLemmas

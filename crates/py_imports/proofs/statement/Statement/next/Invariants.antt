@@ -1,0 +1,14 @@
+-- Only comments were passed.
+use Rattle.std.proofs.Common.{◌≡◌, ◌-◌}
+use Rattle.py_imports.specs.Parser.{rest_of}
+use Rattle.py_imports.proofs.statement.Statement.next.Given as goal
+
+abbrev pub invariant-loop-self : goal.invariant-loop-self
+invariant-loop-self l = record {
+  same_unit : l.self.unit ≡ l.initial.self.unit;
+  same_end : l.self.end ≡ l.initial.self.end;
+  same_rest : rest_of l.self ≡ rest_of l.initial.self;
+}
+
+abbrev pub decreases-loop-self : goal.decreases-loop-self
+decreases-loop-self l = l.self.end - l.self.place

@@ -1,0 +1,67 @@
+-- What a logical line binds, or its fault.
+use Rattle.std.specs.Prelude.{◌≡◌, ℕ, ◌+◌, true, false, List, [], ◌∷◌, ◌++◌, map, nat_lt, slice_range, ◌⊎◌}
+use Rattle.py_lines.specs.LogicalLine.{LogicalLine}
+use Rattle.py_lines.specs.declared.token.Token.{Token}
+use Rattle.py_lines.specs.declared.fault.Fault.{Fault}
+use Rattle.py_lines.specs.declared.fault.FaultKind.TheVariants.{BadImport}
+use Rattle.py_imports.specs.Grammar.{Terminal, terminal_of, begins_import, Imported, IsImport}
+use Rattle.py_imports.specs.Statement.{significant, Place, starts, statement_at}
+use Rattle.py_imports.specs.Bound.{Bound, bound_at}
+use Rattle.py_imports.specs.declared.error.ImportError.{ImportError}
+use Rattle.py_imports.specs.declared.error.ImportError.TheVariants as import
+
+-- a token of this text, as the import grammar sees it
+abbrev pub terminal_in : List ℕ → Token → Terminal
+terminal_in text t = terminal_of t.kind (slice_range text t.start t.stop)
+
+-- the statement that starts here, as the import grammar sees it
+abbrev pub terminals_at : LogicalLine → Place → List Terminal
+terminals_at line p = map (terminal_in line.text) (statement_at p)
+
+-- what the import grammar binds by the statement that starts here
+abbrev pub bounds_at : LogicalLine → Place → List Imported → List Bound
+bounds_at line p is = map (bound_at p.token.line (nat_lt 0 line.indent)) is
+
+-- what the statement that starts here binds: nothing if it's no import statement, else what the grammar says
+pub data BindsAt : LogicalLine → Place → List Bound → Type 0 where
+  nothing : (line : LogicalLine) (p : Place) (bounds : List Bound) → begins_import (terminals_at line p) ≡ false → bounds ≡ [] → BindsAt line p bounds
+  imports : (line : LogicalLine) (p : Place) (bounds : List Bound) (is : List Imported) → begins_import (terminals_at line p) ≡ true → IsImport (terminals_at line p) is → bounds ≡ bounds_at line p is → BindsAt line p bounds
+
+-- an import statement outside the grammar starts here
+pub record IsBadStart (line : LogicalLine) (p : Place) : Type 0 where
+  pub begins : begins_import (terminals_at line p) ≡ true
+  pub bad : (is : List Imported) → ¬ (IsImport (terminals_at line p) is)
+
+-- what the statements bind that start at these places, none of them bad, in order
+abbrev pub BindEach : LogicalLine → List Place → List Bound → Type 0
+BindEach line [] bounds = bounds ≡ []
+BindEach line (p ∷ ps) bounds = (first : List Bound) × (others : List Bound) × (bounds ≡ first ++ others) × BindsAt line p first × BindEach line ps others
+
+-- what a logical line binds
+abbrev pub Binds : LogicalLine → List Bound → Type 0
+Binds line bounds = BindEach line (starts (significant line.tokens)) bounds
+
+-- the fault of a logical line: its first bad statement
+pub record IsBadAt (line : LogicalLine) (fault : Fault) : Type 0 where
+  pub before : List Place
+  pub start : Place
+  pub behind : List Place
+  pub bounds : List Bound
+  pub split : starts (significant line.tokens) ≡ before ++ start ∷ behind
+  pub good : BindEach line before bounds
+  pub bad : IsBadStart line start
+  pub place : fault ≡ record { kind = BadImport; offset = line.offset + start.token.start; line = start.token.line }
+
+-- a logical line binds some list, or has a fault
+abbrev pub BindsOrIsBad : LogicalLine → Type 0
+BindsOrIsBad line = ((bounds : List Bound) × Binds line bounds) ⊎ ((fault : Fault) × IsBadAt line fault)
+
+-- why a logical line gives no bindings
+abbrev pub Refuses : LogicalLine → ImportError → Type 0
+Refuses line import.Memory = Unit {0}
+Refuses line (import.Fault fault) = IsBadAt line fault
+
+-- the bindings of logical lines, none of them bad, in order
+abbrev pub BindAll : List LogicalLine → List Bound → Type 0
+BindAll [] bounds = bounds ≡ []
+BindAll (line ∷ lines) bounds = (first : List Bound) × (others : List Bound) × (bounds ≡ first ++ others) × Binds line first × BindAll lines others

@@ -1,0 +1,149 @@
+use crate::{ImportError, bindings_of, is_declaration};
+use py_lines::{Fault, FaultKind, Lines};
+use std::alloc::Global;
+use std::test::Fail;
+
+// The statements that a text's logical lines bind, each on a line of its own, behind its line number.
+fn listing(alloc: Global, text: &str) -> Result<String, Fail> {
+    let mut lines = Lines::new(alloc, text.as_bytes())?;
+    let mut out = String::new(alloc);
+    for _ in 0..text.len() {
+        let Some(unit) = lines.next_unit()? else {
+            break;
+        };
+        for binding in &bindings_of(alloc, &unit)? {
+            let line = binding.line;
+            let indented = if binding.indented { "indented " } else { "" };
+            let statement = binding.statement(alloc)?;
+            writeln!(out, "{line} {indented}{statement}")?;
+        }
+    }
+    Ok(out)
+}
+
+#[test]
+fn gives_bindings(rt: HostRuntime) -> Result<(), Fail> {
+    let texts = [
+        (
+            "from ... import x, y as z",
+            "1 from ... import x\n1 from ... import y as z\n",
+        ),
+        ("class C: from a import b as c", "1 from a import b as c\n"),
+        (
+            "from a import (b); import c.d",
+            "1 from a import b\n1 import c.d\n",
+        ),
+        ("x = {1: import_, 2: [a, b]}", ""),
+        ("import os, sys as s", "1 import os\n1 import sys as s\n"),
+        (
+            "from a import (  # k\n    b as x,  # l\n    c,\n)\n",
+            "1 from a import b as x\n1 from a import c\n",
+        ),
+        (
+            "x = 1 + \\\r\n  2\r\nfrom . .x import y\r\n",
+            "3 from ..x import y\n",
+        ),
+        (
+            "if a: import b; from c import *\nraise X from Y\nz = yield from w\n",
+            "1 import b\n1 from c import *\n",
+        ),
+        ("if a:\n    import b\n", "2 indented import b\n"),
+        (
+            "import a.b\nfrom a import c\nfrom .a import d\nfrom a import c as e\n",
+            "1 import a.b\n2 from a import c\n3 from .a import d\n4 from a import c as e\n",
+        ),
+        ("x[1:import_]; y = {a: 1}; import b", "1 import b\n"),
+        ("(\n# c\n); import b", "3 import b\n"),
+        (";import a", "1 import a\n"),
+        ("import match, type", "1 import match\n1 import type\n"),
+    ];
+    for (text, statements) in texts {
+        assert_eq!(rt; listing(rt.alloc(), text)?.as_str(), statements);
+    }
+    Ok(())
+}
+
+#[test]
+fn refuses_bad_statements(rt: HostRuntime) -> Result<(), Fail> {
+    let texts = [
+        ("from a import ()", 0),
+        ("from a import (*)", 0),
+        ("from a import b,", 0),
+        ("import .a", 0),
+        ("import a as b.c", 0),
+        ("import a,", 0),
+        ("from a import if", 0),
+        ("import a; import\n", 10),
+        ("from b import c,\n", 0),
+        ("from import a", 0),
+        ("from a b", 0),
+        ("from a. import b", 0),
+        ("from .a. import b", 0),
+        ("from a import b c", 0),
+        ("from a import b.c", 0),
+        ("from a import (b; c)", 0),
+        ("from a import (b,,)", 0),
+        ("from a import (b) c", 0),
+        ("from a import *, b", 0),
+        ("from a import b as", 0),
+        ("from a import b as 1", 0),
+        ("import a: b", 0),
+        ("import 1", 0),
+        ("import", 0),
+        ("import as", 0),
+        ("if a: import b; from c", 16),
+    ];
+    for (text, offset) in texts {
+        let mut lines = Lines::new(rt.alloc(), text.as_bytes())?;
+        let unit = lines.next_unit()?.ok_or("a unit is missing")?;
+        let fault = Fault {
+            kind: FaultKind::BadImport,
+            offset,
+            line: 1,
+        };
+        match bindings_of(rt.alloc(), &unit) {
+            Err(error) => assert_eq!(rt; error, ImportError::Fault(fault)),
+            Ok(_) => return Err(Fail::from("no fault")),
+        }
+    }
+    Ok(())
+}
+
+#[test]
+fn copies_bindings(rt: HostRuntime) -> Result<(), Fail> {
+    let text = b"import os, sys as s\nfrom . import a, b as c\n";
+    let mut lines = Lines::new(rt.alloc(), text)?;
+    for _ in 0..2 {
+        let unit = lines.next_unit()?.ok_or("a unit is missing")?;
+        for binding in &bindings_of(rt.alloc(), &unit)? {
+            let copy = binding.copy(rt.alloc())?;
+            assert_eq!(rt; &copy, binding);
+        }
+    }
+    Ok(())
+}
+
+#[test]
+fn knows_declarations(rt: HostRuntime) -> Result<(), Fail> {
+    let texts = [
+        ("def f(): pass", true),
+        ("class C: pass", true),
+        ("@d", true),
+        ("async def f(): pass", true),
+        ("async with a: pass", false),
+        ("async", false),
+        ("  def f(): pass", false),
+        ("\u{c}def f(): pass", false),
+        ("define", false),
+        ("x = def_", false),
+        ("# def", false),
+        ("\n", false),
+        ("if a: def_", false),
+    ];
+    for (text, declares) in texts {
+        let mut lines = Lines::new(rt.alloc(), text.as_bytes())?;
+        let unit = lines.next_unit()?.ok_or("a unit is missing")?;
+        assert_eq!(rt; is_declaration(&unit), declares, "{text}");
+    }
+    Ok(())
+}
