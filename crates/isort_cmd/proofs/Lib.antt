@@ -1,7 +1,3 @@
 pub mod WrittenLemmas
-pub mod ParsingLemmas
-pub mod TerminalLemmas
+pub mod PrintedLemmas
 pub mod ListingLemmas
-pub mod OffsetLemmas
-pub mod UnitLemmas
-pub mod WritingLemmas

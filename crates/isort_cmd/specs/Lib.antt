@@ -1,11 +1,6 @@
 pub mod Metered
 pub mod RunError
 pub mod Written
-pub mod Grammar
-pub mod Parsing
-pub mod Binding
-pub mod Found
 pub mod Printed
 pub mod FaultText
-pub mod Parser
 pub mod Steps

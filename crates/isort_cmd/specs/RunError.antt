@@ -1,14 +1,21 @@
 -- What the errors of a run come from.
 use Rattle.std.specs.Prelude.{⊤}
-use Rattle.py_lines.specs.declared.fault.LexError.{LexError}
-use Rattle.py_lines.specs.declared.fault.LexError.TheVariants as lex
+use Rattle.isort_find.specs.declared.error.FindError.{FindError}
+use Rattle.isort_find.specs.declared.error.FindError.TheVariants as find
+use Rattle.py_imports.specs.declared.error.ImportError.{ImportError}
+use Rattle.py_imports.specs.declared.error.ImportError.TheVariants as import
 use Rattle.isort_cmd.specs.declared.error.RunError.{RunError}
 use Rattle.isort_cmd.specs.declared.error.RunError.TheVariants as run
 
 -- a fault of the text, or want of memory
-abbrev pub run_error_of : LexError → RunError
-run_error_of lex.Memory = run.Memory
-run_error_of (lex.Fault f) = run.Fault f
+abbrev pub run_error_of : FindError → RunError
+run_error_of find.Memory = run.Memory
+run_error_of (find.Fault f) = run.Fault f
+
+-- the same of one import
+abbrev pub run_error_of_import : ImportError → RunError
+run_error_of_import import.Memory = run.Memory
+run_error_of_import (import.Fault f) = run.Fault f
 
 -- the errors of a run that read no text whole
 abbrev pub IsUnread : RunError → Type 0

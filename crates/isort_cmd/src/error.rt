@@ -1,6 +1,8 @@
 ghost use Rattle.std.specs.Prelude.{◌≡◌};
 
-use py_lines::{Fault, LexError};
+use isort_find::FindError;
+use py_imports::ImportError;
+use py_lines::Fault;
 use std::alloc::{AllocError, AllocFailed};
 use thiserror::Error;
 
@@ -49,16 +51,30 @@ impl<T: Drop> From<AllocFailed<T>> for RunError {
     }
 }
 
-impl From<LexError> for RunError {
+impl From<FindError> for RunError {
     ghost use Rattle.std.specs.Prelude.{◌≡◌};
     ghost use Rattle.isort_cmd.specs.RunError.{run_error_of};
 
     ghost from_gives = { λ e r. r ≡ run_error_of e };
 
-    fn from(e: LexError) -> RunError {
+    fn from(e: FindError) -> RunError {
         match e {
-            LexError::Memory => RunError::Memory,
-            LexError::Fault(fault) => RunError::Fault(fault),
+            FindError::Memory => RunError::Memory,
+            FindError::Fault(fault) => RunError::Fault(fault),
+        }
+    }
+}
+
+impl From<ImportError> for RunError {
+    ghost use Rattle.std.specs.Prelude.{◌≡◌};
+    ghost use Rattle.isort_cmd.specs.RunError.{run_error_of_import};
+
+    ghost from_gives = { λ e r. r ≡ run_error_of_import e };
+
+    fn from(e: ImportError) -> RunError {
+        match e {
+            ImportError::Memory => RunError::Memory,
+            ImportError::Fault(fault) => RunError::Fault(fault),
         }
     }
 }

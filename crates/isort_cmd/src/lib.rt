@@ -2,21 +2,17 @@
 #![tactic(auto)]
 
 mod error;
-mod laws;
+mod line;
 mod listing;
 mod metered;
-mod options;
-mod parse;
 mod read;
 mod report;
-mod unit;
 mod write;
 
 pub use error::RunError;
-pub use laws::binds_one_list;
+pub use isort_find::{FindOptions, ImportKey};
 pub use listing::identify;
 pub use metered::{Last, Metered};
-pub use options::{FindOptions, ImportKey};
 pub use report::fault_text;
 
 #[cfg(test)]

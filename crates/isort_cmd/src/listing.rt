@@ -1,4 +1,4 @@
-ghost use Rattle.std.specs.Prelude.{◌≡◌, ◌≤◌, ◌<◌, ◌^◌, true, false, None, Some, length, IfOk, OnOk, IfErr, OnErr, IfSome};
+ghost use Rattle.std.specs.Prelude.{◌≡◌, ◌≤◌, ◌<◌, ◌^◌, None, length, OnOk, IfErr, IfSome};
 ghost use Rattle.std.specs.Io.KnownBytes.{IsAtEnd, Keeps};
 ghost use Rattle.py_lines.specs.declared.fault.Fault.{Fault};
 ghost use Rattle.isort_cmd.specs.Metered.{inner_of, last_of, HasStopped};
@@ -7,49 +7,51 @@ ghost use Rattle.isort_cmd.specs.Steps.{IsOutputError};
 ghost use Rattle.isort_cmd.specs.Written.{Lists, LeavesAtError};
 
 use crate::error::RunError;
+use crate::line::push_line;
 use crate::metered::{Last, Metered};
-use crate::options::FindOptions;
 use crate::read::read_text;
-use crate::unit::list_unit;
 use crate::write::write_whole;
-use py_lines::Lines;
+use isort_find::laws::given_begin_the_found;
+use isort_find::{FindOptions, Finder};
 use std::alloc::Global;
 use std::io::{Read, Write};
 
-// Writes a line for each import of the text.
+// Writes a line for each import that is found in the text.
 fn list<W: Write>(
     alloc: Global,
     text: &[u8],
     writer: &mut Metered<W>,
     path: &str,
+    options: FindOptions,
 ) -> Result<(), RunError>
-    requires small { length text.now ≤ 2 ^ 62 }
     requires fine { last_of writer.old ≡ Last.Fine }
-    ensures ok { OnOk result (Lists path.now text.now None (W.contents (inner_of writer.old)) (W.contents (inner_of writer.new))) }
-    ensures err { IfErr result (λ e. LeavesAtError path.now text.now e (W.contents (inner_of writer.old)) (W.contents (inner_of writer.new))) }
+    ensures ok { OnOk result (Lists path.now text.now options None (W.contents (inner_of writer.old)) (W.contents (inner_of writer.new))) }
+    ensures err { IfErr result (λ e. LeavesAtError path.now text.now options e (W.contents (inner_of writer.old)) (W.contents (inner_of writer.new))) }
     ensures errors { IfErr result IsOutputError }
     ensures stopped { result ≡ Err RunError.Write → HasStopped (last_of writer.new) }
 {
-    let mut lines = Lines::new(alloc, text)?;
-    let mut heading = String::new(alloc);
+    given_begin_the_found();
+    let mut finder = Finder::new(alloc, text, options)?;
     let mut out = String::new(alloc);
-    'units: while let Some(unit) = lines.next_unit()? {
+    'imports: while let Some(binding) = finder.next_import()? {
         out.clear();
-        list_unit(&unit, path, &mut heading, &mut out)?;
+        push_line(alloc, &binding, path, &mut out)?;
         write_whole(writer, out.as_bytes())?;
     }
     Ok(())
 }
 
 /// Lists the imports of a Python text: reads `reader` to its end, and then writes to `writer` one line for each
-/// import, `path:line `, `indented ` where its logical line is, the statement, and a line feed. Lines count from 1.
+/// import that is found, `path:line `, `indented ` where its logical line is, the statement, and a line feed. Lines
+/// count from 1.
 ///
-/// `max` is how many bytes the text may have. So far there is no key in `options`, and it asks for the whole text.
+/// `options` says which imports are found: with a key in `unique` the first under each key, and with `top_only` those
+/// before the first function or class, behind which no fault counts. `max` is how many bytes the text may have.
 ///
 /// - `Read`: a read failed; nothing was written.
 /// - `TooLong`: more than `max` bytes came; nothing was written.
 /// - `NeverEnds`: a read was interrupted 1000 times in a row; nothing was written.
-/// - `Fault`: the text has this fault; the lines of all imports before it were written.
+/// - `Fault`: the text has this fault; the lines of all imports found before it were written.
 /// - `Write`: a write failed, took no byte, or was interrupted 1000 times in a row; a front of the lines was written.
 /// - `Memory`: there was no memory; nothing or a front of the lines was written.
 pub fn identify<R: Read, W: Write>(
@@ -63,14 +65,12 @@ pub fn identify<R: Read, W: Write>(
     requires reader_fine { last_of reader.old ≡ Last.Fine }
     requires writer_fine { last_of writer.old ≡ Last.Fine }
     requires small { max ≤ 2 ^ 62 }
-    requires no_key { options.unique ≡ None }
-    requires whole_text { options.top_only ≡ false }
 
     // Where the reader and the writer tell their bytes.
-    ensures ok { OnOk result (IfSome (R.remaining (inner_of reader.old)) (λ text. Lists path.now text None (W.contents (inner_of writer.old)) (W.contents (inner_of writer.new)))) }
+    ensures ok { OnOk result (IfSome (R.remaining (inner_of reader.old)) (λ text. Lists path.now text options None (W.contents (inner_of writer.old)) (W.contents (inner_of writer.new)))) }
     ensures end { OnOk result (IsAtEnd (R.remaining (inner_of reader.new))) }
     ensures within { OnOk result (IfSome (R.remaining (inner_of reader.old)) (λ text. length text ≤ max)) }
-    ensures err { IfErr result (λ e. IfSome (R.remaining (inner_of reader.old)) (λ text. LeavesAtError path.now text e (W.contents (inner_of writer.old)) (W.contents (inner_of writer.new)))) }
+    ensures err { IfErr result (λ e. IfSome (R.remaining (inner_of reader.old)) (λ text. LeavesAtError path.now text options e (W.contents (inner_of writer.old)) (W.contents (inner_of writer.new)))) }
     ensures too_long { result ≡ Err RunError.TooLong → IfSome (R.remaining (inner_of reader.old)) (λ text. max < length text) }
     ensures fault_within { (f : Fault) → result ≡ Err (RunError.Fault f) → IfSome (R.remaining (inner_of reader.old)) (λ text. length text ≤ max) }
 
@@ -80,7 +80,6 @@ pub fn identify<R: Read, W: Write>(
     ensures never_ends { result ≡ Err RunError.NeverEnds → last_of reader.new ≡ Last.Interrupted 1000 }
     ensures write { result ≡ Err RunError.Write → HasStopped (last_of writer.new) }
 {
-    let _ = options;
     let text = read_text(alloc, reader, max)?;
-    list(alloc, text.as_slice(), writer, path)
+    list(alloc, text.as_slice(), writer, path, options)
 }

@@ -21,69 +21,149 @@ const fn fault(kind: FaultKind, offset: u64, line: u64) -> RunError {
 }
 
 // Lists a text from memory into memory.
-fn listed(alloc: Global, text: &str, out: &mut Vec<u8>, max: u64) -> Result<(), RunError>
+fn listed(
+    alloc: Global,
+    text: &[u8],
+    out: &mut Vec<u8>,
+    options: FindOptions,
+    max: u64,
+) -> Result<(), RunError>
     requires { max ≤ 2 ^ 62 }
 {
-    let mut reader = Metered::new(text.as_bytes());
+    let mut reader = Metered::new(text);
     let mut writer = Metered::new(Vec::new(alloc));
-    let result = identify(alloc, &mut reader, &mut writer, "-", ALL, max);
+    let result = identify(alloc, &mut reader, &mut writer, "p.py", options, max);
     *out = writer.into_inner();
     result
 }
 
 #[test]
 fn lists_texts(rt: HostRuntime) -> Result<(), Fail> {
-    let cases = [
-        (FIRST, FIRST_LINES, Ok(())),
-        ("", "", Ok(())),
+    let open = "(".repeat(rt.alloc(), 201)?;
+    let nested = format!(in rt.alloc();
+        "{}{}",
+        "(".repeat(rt.alloc(), 200)?,
+        ")".repeat(rt.alloc(), 200)?
+    )?;
+    let cases: [(&[u8], &str, Result<(), RunError>); 22] = [
+        (b"", "", Ok(())),
+        (b"\xef\xbb\xbf", "", Ok(())),
         (
-            "import a.b as c, d",
-            "-:1 import a.b as c\n-:1 import d\n",
+            b"import os, sys as s",
+            "p.py:1 import os\np.py:1 import sys as s\n",
             Ok(()),
         ),
-        ("  import a\n", "-:1 indented import a\n", Ok(())),
         (
-            "import a\nfrom b import c\n",
-            "-:1 import a\n",
-            Err(fault(FaultKind::BadImport, 9, 2)),
+            b"x = \"import a\"  # import b\nimport c",
+            "p.py:2 import c\n",
+            Ok(()),
         ),
-        ("import a\nx = (1)\n", "-:1 import a\n", Ok(())),
         (
-            "import a\nimport b\nx = (1,",
-            "-:1 import a\n-:2 import b\n",
+            b"\"\"\"a \\\" import a\nimport b\n\"\"\"\ny = \"\"\nimport c\n",
+            "p.py:5 import c\n",
+            Ok(()),
+        ),
+        (
+            b"from a import (  # k\n    b as x,  # l\n    c,\n)\n",
+            "p.py:1 from a import b as x\np.py:1 from a import c\n",
+            Ok(()),
+        ),
+        (
+            b"x = 1 + \\\r\n  2\r\nfrom . .x import y\r\n",
+            "p.py:3 from ..x import y\n",
+            Ok(()),
+        ),
+        (
+            b"if a: import b; from c import *\nraise X from Y\nz = yield from w\n",
+            "p.py:1 import b\np.py:1 from c import *\n",
+            Ok(()),
+        ),
+        (
+            b"if a:\n    import b\n",
+            "p.py:2 indented import b\n",
+            Ok(()),
+        ),
+        ("import é".as_bytes(), "p.py:1 import é\n", Ok(())),
+        (
+            b"import a\nimport b\nx = (1,",
+            "p.py:1 import a\np.py:2 import b\n",
             Err(fault(FaultKind::OpenBracket, 22, 3)),
         ),
         (
-            "x = 'import a'  # import b\nimport c",
-            "-:2 import c\n",
-            Ok(()),
+            b"import a\nfrom b import c,\n",
+            "p.py:1 import a\n",
+            Err(fault(FaultKind::BadImport, 9, 2)),
         ),
         (
-            "\"\"\"a \\\" import a\nimport b\n\"\"\"\ny = \"\"\nimport c\n",
-            "-:5 import c\n",
-            Ok(()),
-        ),
-        (
-            "import a; import\n",
+            b"import a; import\n",
             "",
-            Err(fault(FaultKind::BadImport, 0, 1)),
+            Err(fault(FaultKind::BadImport, 10, 1)),
         ),
-        ("x = )", "", Err(fault(FaultKind::WrongClose, 4, 1))),
-        ("\"\"\"a", "", Err(fault(FaultKind::OpenTriple, 0, 1))),
-        ("x = \\ 1\n", "", Err(fault(FaultKind::BadJoin, 4, 1))),
-        ("import é", "-:1 import é\n", Ok(())),
-        ("$", "", Err(fault(FaultKind::BadChar, 0, 1))),
-        ("import as\n", "", Err(fault(FaultKind::BadImport, 0, 1))),
-        ("import a,\n", "", Err(fault(FaultKind::BadImport, 0, 1))),
-        ("import a . b\n", "-:1 import a.b\n", Ok(())),
-        ("x = \"a\n", "", Err(fault(FaultKind::OpenString, 4, 1))),
-        ("r\"a\"", "", Ok(())),
+        (b"x = 'abc\n", "", Err(fault(FaultKind::OpenString, 4, 1))),
+        (b"\"\"\"a", "", Err(fault(FaultKind::OpenTriple, 0, 1))),
+        (b"x = )", "", Err(fault(FaultKind::WrongClose, 4, 1))),
+        (b"x = \\ 1\n", "", Err(fault(FaultKind::BadJoin, 4, 1))),
+        (b"$", "", Err(fault(FaultKind::BadChar, 0, 1))),
+        (b"a\xff", "", Err(fault(FaultKind::BadUtf8, 1, 1))),
+        (nested.as_bytes(), "", Ok(())),
+        (
+            &open.as_bytes()[..200],
+            "",
+            Err(fault(FaultKind::OpenBracket, 199, 1)),
+        ),
+        (open.as_bytes(), "", Err(fault(FaultKind::TooDeep, 200, 1))),
     ];
     for (text, lines, want) in cases {
         let mut out = Vec::new(rt.alloc());
-        let got = listed(rt.alloc(), text, &mut out, 1000);
+        let got = listed(rt.alloc(), text, &mut out, ALL, 1000);
         assert_eq!(rt; got, want, "{text:?}");
         assert_eq!(rt; out.as_slice(), lines.as_bytes(), "{text:?}");
+    }
+    Ok(())
+}
+
+const fn unique(key: ImportKey) -> FindOptions {
+    FindOptions {
+        unique: Some(key),
+        top_only: false,
+    }
+}
+
+const TOP: FindOptions = FindOptions {
+    unique: None,
+    top_only: true,
+};
+
+#[test]
+fn lists_what_the_options_ask_for(rt: HostRuntime) -> Result<(), Fail> {
+    let alike: &[u8] = b"import a.b\nfrom a import c\nfrom .a import d\nfrom a import c as e\n";
+    let declared: &[u8] = b"import a\nif a:\n    def f(): pass\n    import b\n@d\nx = (\n";
+    let three = "p.py:1 import a.b\np.py:2 from a import c\np.py:3 from .a import d\n";
+    let both = "p.py:1 import a\np.py:4 indented import b\n";
+    let open = Err(fault(FaultKind::OpenBracket, 53, 6));
+    let cases: [(&[u8], FindOptions, &str, Result<(), RunError>); 6] = [
+        (
+            alike,
+            unique(ImportKey::Package),
+            "p.py:1 import a.b\np.py:3 from .a import d\n",
+            Ok(()),
+        ),
+        (alike, unique(ImportKey::Module), three, Ok(())),
+        (alike, unique(ImportKey::Attribute), three, Ok(())),
+        (
+            alike,
+            unique(ImportKey::Alias),
+            "p.py:1 import a.b\np.py:2 from a import c\np.py:3 from .a import d\np.py:4 from a import c as e\n",
+            Ok(()),
+        ),
+        (declared, TOP, both, Ok(())),
+        (declared, ALL, both, open),
+    ];
+    for (text, options, lines, want) in cases {
+        let mut out = Vec::new(rt.alloc());
+        let got = listed(rt.alloc(), text, &mut out, options, 1000);
+        assert_eq!(rt; got, want, "{options:?} {text:?}");
+        assert_eq!(rt; out.as_slice(), lines.as_bytes(), "{options:?} {text:?}");
     }
     Ok(())
 }
@@ -92,11 +172,11 @@ fn lists_texts(rt: HostRuntime) -> Result<(), Fail> {
 fn takes_at_most_max(rt: HostRuntime) -> Result<(), Fail> {
     let mut out = Vec::new(rt.alloc());
     assert_eq!(rt;
-        listed(rt.alloc(), "a = 1\n", &mut out, 5),
+        listed(rt.alloc(), b"a = 1\n", &mut out, ALL, 5),
         Err(RunError::TooLong)
     );
     assert!(rt; out.is_empty());
-    assert_eq!(rt; listed(rt.alloc(), "a = 1\n", &mut out, 6), Ok(()));
+    assert_eq!(rt; listed(rt.alloc(), b"a = 1\n", &mut out, ALL, 6), Ok(()));
     Ok(())
 }
 
@@ -145,7 +225,7 @@ fn writes_in_pieces(rt: HostRuntime) -> Result<(), Fail> {
     Ok(())
 }
 
-// A reader whose every call ends in this error.
+// A reader and writer whose every call ends in this error.
 #[derive(Drop)]
 struct Broken {
     kind: ErrorKind,
@@ -153,6 +233,16 @@ struct Broken {
 
 impl Read for Broken {
     fn read(&mut self, _buf: &mut [u8]) -> io::Result<usize> {
+        Err(io::Error::from(self.kind))
+    }
+}
+
+impl Write for Broken {
+    fn write(&mut self, _buf: &[u8]) -> io::Result<usize> {
+        Err(io::Error::from(self.kind))
+    }
+
+    fn flush(&mut self) -> io::Result<()> {
         Err(io::Error::from(self.kind))
     }
 }
@@ -194,6 +284,11 @@ fn notes_how_calls_end(rt: HostRuntime) -> Result<(), Fail> {
     assert_eq!(rt; full.write(b"")?, 0);
     assert_eq!(rt; full.last(), Last::Fine);
     full.flush()?;
+    let mut broken = Metered::new(Broken {
+        kind: ErrorKind::Other,
+    });
+    assert!(rt; broken.flush().is_err());
+    assert_eq!(rt; broken.last(), Last::Fine);
     Ok(())
 }
 
@@ -223,6 +318,5 @@ fn tells_errors(rt: HostRuntime) -> Result<(), Fail> {
         let text = fault_text(rt.alloc(), "-", &error)?;
         assert_eq!(rt; text.as_str(), want);
     }
-    binds_one_list();
     Ok(())
 }

@@ -1,47 +1,53 @@
-use Rattle.std.proofs.Common.{◌∙◌, length, ap, arith, Ok, string_bytes}
+use Rattle.std.proofs.Common.{◌∙◌, ap, inr, Ok, string_bytes}
 use Rattle.std.proofs.lemmas.Result.{err_from_is_err_and}
-use Rattle.py_lines.specs.Lines.{line_in}
-use Rattle.isort_cmd.proofs.OffsetLemmas.{line_ends_at_place}
-use Rattle.isort_cmd.proofs.ListingLemmas.{lists_next, lists_end, lists_stopped, reads_unit, reads_end, reads_error, leaves_at_lex_error, leaves_at_line_error}
+use Rattle.py_imports.specs.Bound.{bound_of}
+use Rattle.isort_cmd.proofs.ListingLemmas.{lists_next, lists_front, lists_stopped, gives_one, gives_error, leaves_at_find_error}
 use Rattle.isort_cmd.proofs.listing.list.Goals as goal
 
-pub list_unit-requires : goal.list_unit-requires
-list_unit-requires g c =
-    let read = reads_unit c.units.lines c.next_unit.result c.in-Some.unit c.next_unit.follows.lender-at-none c.next_unit.follows.holds-at-none (c.in_ok-unit.was ∙ ap Ok c.in-Some.is) in
-    let so_far = c.units.invariant.listed in
-    let ends = line_ends_at_place c.next_unit.follows.lender-at-none so_far.lines (line_in c.in-Some.unit) (read.given so_far.lines so_far.given) in
-    omega (arith, ends, read.within, ap length (read.text ∙ c.units.invariant.same_text), c.requires.small)
+pub returns-in_err-binding-clause-err : goal.returns-in_err-binding-clause-err
+returns-in_err-binding-clause-err g c =
+    let p = err_from_is_err_and c.from_residual-in_err-binding.result c.from_residual-in_err-binding.ensures.1 in
+    let given = gives_error c.imports.finder c.next_import.result c.in_err-binding.field-0.0 c.next_import.new.self c.next_import.ensures.next c.in_err-binding.was in
+    rw (p.1, p.2) (leaves_at_find_error c.given_begin_the_found.ensures.begin c.args.path.now c.args.text.now c.args.options c.imports.finder c.next_import.new.self c.in_err-binding.field-0.0 _ _ c.imports.invariant.listed c.imports.invariant.same_text c.imports.invariant.same_options given)
 
-pub returns-in_err-unit-clause-err : goal.returns-in_err-unit-clause-err
-returns-in_err-unit-clause-err g c =
-    let p = err_from_is_err_and c.from_residual-in_err-unit.result c.from_residual-in_err-unit.ensures.1 in
-    let read = reads_error c.units.lines c.next_unit.result c.in_err-unit.field-0.0 c.next_unit.follows.lender-at-none c.next_unit.follows.holds-at-none c.in_err-unit.was in
-    rw (p.1, p.2) (leaves_at_lex_error c.args.path.now c.args.text.now c.units.lines c.next_unit.follows.lender-at-none c.in_err-unit.field-0.0 _ _ c.units.invariant.listed c.units.invariant.same_text read)
-
-pub returns-in_err-list_unit-clause-err : goal.returns-in_err-list_unit-clause-err
-returns-in_err-list_unit-clause-err g c =
-    let p = err_from_is_err_and c.from_residual-in_err-list_unit.result c.from_residual-in_err-list_unit.ensures.1 in
-    let read = reads_unit c.units.lines c.next_unit.result c.in-Some.unit c.next_unit.follows.lender-at-none c.next_unit.follows.holds-at-none (c.in_ok-unit.was ∙ ap Ok c.in-Some.is) in
-    rw (p.1, p.2) (leaves_at_line_error c.args.path.now c.args.text.now c.units.lines c.next_unit.follows.lender-at-none (line_in c.in-Some.unit) c.in_err-list_unit.field-0.0 _ _ c.units.invariant.listed c.units.invariant.same_text read c.in_err-list_unit.ensures.err)
-
-pub units-preserved : goal.units-preserved
-units-preserved g c =
-    let read = reads_unit c.units.lines c.next_unit.result c.in-Some.unit c.next_unit.follows.lender-at-none c.next_unit.follows.holds-at-none (c.in_ok-unit.was ∙ ap Ok c.in-Some.is) in
-    let adds = rw c.clear.ensures.bytes at c.in_ok-list_unit.ensures.ok in
-    let wrote = rw c.as_bytes.ensures.value at c.in_ok-write_whole.ensures.ok in
-    record {
-      fine = c.in_ok-write_whole.ensures.fine;
-      same_text = read.text ∙ c.units.invariant.same_text;
-      listed = lists_next c.args.path.now c.units.lines c.next_unit.follows.lender-at-none (line_in c.in-Some.unit) (string_bytes c.list_unit.new.out) _ _ _ c.units.invariant.listed read adds wrote;
-    }
+pub returns-in_err-push_line-clause-err : goal.returns-in_err-push_line-clause-err
+returns-in_err-push_line-clause-err g c =
+    let p = err_from_is_err_and c.from_residual-in_err-push_line.result c.from_residual-in_err-push_line.ensures.1 in
+    rw (p.1, p.2, c.in_err-push_line.ensures.err) (inr (lists_front c.given_begin_the_found.ensures.begin c.args.path.now c.args.text.now c.args.options c.imports.finder _ _ c.imports.invariant.listed c.imports.invariant.same_text c.imports.invariant.same_options))
 
 pub returns-in_err-write_whole-clause-err : goal.returns-in_err-write_whole-clause-err
 returns-in_err-write_whole-clause-err g c =
     let p = err_from_is_err_and c.from_residual-in_err-write_whole.result c.from_residual-in_err-write_whole.ensures.1 in
-    let read = reads_unit c.units.lines c.next_unit.result c.in-Some.unit c.next_unit.follows.lender-at-none c.next_unit.follows.holds-at-none (c.in_ok-unit.was ∙ ap Ok c.in-Some.is) in
-    let adds = rw c.clear.ensures.bytes at c.in_ok-list_unit.ensures.ok in
+    let gives = gives_one c.imports.finder c.next_import.result c.in-Some.binding c.next_import.new.self c.next_import.ensures.next (c.in_ok-binding.was ∙ ap Ok c.in-Some.is) in
+    let put = rw c.clear.ensures.bytes at c.in_ok-push_line.ensures.ok in
     let wrote = rw c.as_bytes.ensures.value at c.in_err-write_whole.ensures.front in
-    rw (p.1, p.2, c.in_err-write_whole.ensures.err) (lists_stopped c.args.path.now c.args.text.now c.units.lines c.next_unit.follows.lender-at-none (line_in c.in-Some.unit) (string_bytes c.list_unit.new.out) _ _ _ c.units.invariant.listed c.units.invariant.same_text read adds wrote)
+    rw (p.1, p.2, c.in_err-write_whole.ensures.err) (lists_stopped c.given_begin_the_found.ensures.begin c.args.path.now c.args.text.now c.args.options c.imports.finder c.next_import.new.self (bound_of c.in-Some.binding) (string_bytes c.push_line.new.out) _ _ _ c.imports.invariant.listed c.imports.invariant.same_text c.imports.invariant.same_options gives put wrote)
 
-pub returns-clause-ok : goal.returns-clause-ok
-returns-clause-ok g c = lists_end c.args.path.now c.args.text.now c.units.lines c.next_unit.follows.lender-at-none _ _ c.units.invariant.listed c.units.invariant.same_text (reads_end c.units.lines c.next_unit.result c.next_unit.follows.lender-at-none c.next_unit.follows.holds-at-none (c.in_ok-unit.was ∙ ap Ok c.in_default.is))
+pub returns-in_err-write_whole-clause-errors : goal.returns-in_err-write_whole-clause-errors
+returns-in_err-write_whole-clause-errors g c =
+    let p = err_from_is_err_and c.from_residual-in_err-write_whole.result c.from_residual-in_err-write_whole.ensures.1 in
+    rw (p.1, p.2, c.in_err-write_whole.ensures.err) tt
+
+pub imports-preserved-in_ok-write_whole : goal.imports-preserved-in_ok-write_whole
+imports-preserved-in_ok-write_whole g c =
+    let gives = gives_one c.imports.finder c.next_import.result c.in-Some.binding c.next_import.new.self c.next_import.ensures.next (c.in_ok-binding.was ∙ ap Ok c.in-Some.is) in
+    let put = rw c.clear.ensures.bytes at c.in_ok-push_line.ensures.ok in
+    let wrote = rw c.as_bytes.ensures.value at c.in_ok-write_whole.ensures.ok in
+    record {
+      fine = c.in_ok-write_whole.ensures.fine;
+      same_text = gives.task.text ∙ c.imports.invariant.same_text;
+      same_options = gives.task.options ∙ c.imports.invariant.same_options;
+      listed = lists_next c.args.path.now c.imports.finder c.next_import.new.self (bound_of c.in-Some.binding) (string_bytes c.push_line.new.out) _ _ _ c.imports.invariant.listed gives put wrote;
+    }
+
+pub imports-preserved : goal.imports-preserved
+imports-preserved g c =
+    let gives = gives_one c.imports.finder c.next_import.result c.in-Some.binding c.next_import.new.self c.next_import.ensures.next (c.in_ok-binding.was ∙ ap Ok c.in-Some.is) in
+    let put = rw c.clear.ensures.bytes at c.in_ok-push_line.ensures.ok in
+    let wrote = rw c.as_bytes.ensures.value at c.in_ok-write_whole.ensures.ok in
+    record {
+      fine = c.in_ok-write_whole.ensures.fine;
+      same_text = gives.task.text ∙ c.imports.invariant.same_text;
+      same_options = gives.task.options ∙ c.imports.invariant.same_options;
+      listed = lists_next c.args.path.now c.imports.finder c.next_import.new.self (bound_of c.in-Some.binding) (string_bytes c.push_line.new.out) _ _ _ c.imports.invariant.listed gives put wrote;
+    }

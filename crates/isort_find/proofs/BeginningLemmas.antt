@@ -1,0 +1,112 @@
+-- What a finder has given begins what is found in its text.
+use Rattle.std.proofs.Common.{◌≡◌, ℕ, Bool, true, false, not, Option, Some, List, [], ◌∷◌, ◌++◌, inl, inr, ◌⊎◌, refl, sym, ap, ◌∙◌, subst, append_assoc, append-nil, if◌then◌else◌}
+use Rattle.py_lines.specs.LogicalLine.{LogicalLine}
+use Rattle.py_lines.specs.Lexed.{BeginsLexing}
+use Rattle.py_lines.specs.declared.fault.Fault.{Fault}
+use Rattle.py_imports.specs.Bound.{Bound}
+use Rattle.py_imports.specs.Binds.{BindAll, BindsOrIsBad, IsBadAt}
+use Rattle.isort_find.specs.Found.{has_one_like, firsts, ends_top, counted_lines, counted_end, of_all, before_bad, BeginsFound}
+use Rattle.isort_find.specs.Cursor.{BeginsNext, IsBehind}
+use Rattle.isort_find.specs.Finder.{Finding, HasFound, text_of, options_of}
+use Rattle.isort_find.specs.declared.options.FindOptions.{FindOptions}
+use Rattle.isort_find.specs.declared.options.ImportKey.{ImportKey}
+use Rattle.isort_find.proofs.TakeLemmas.{list_all-snoc}
+use Rattle.isort_find.proofs.CountedLemmas.{AllCount, counted-append}
+use Rattle.isort_find.proofs.LexingLemmas.{GivenBegin, BindAll-snoc}
+
+-- the law `some` of `py_imports::binds_or_is_bad`
+abbrev pub EachBindsOrIsBad : Type 0
+EachBindsOrIsBad = (line : LogicalLine) → BindsOrIsBad line
+
+append_step : (unique : Option ImportKey) (earlier xs ys : List Bound) (x : Bound) (known : Bool) → firsts unique (earlier ++ x ∷ []) (xs ++ ys) ≡ firsts unique (earlier ++ x ∷ []) xs ++ firsts unique ((earlier ++ x ∷ []) ++ xs) ys → (if known then firsts unique (earlier ++ x ∷ []) (xs ++ ys) else x ∷ firsts unique (earlier ++ x ∷ []) (xs ++ ys)) ≡ (if known then firsts unique (earlier ++ x ∷ []) xs else x ∷ firsts unique (earlier ++ x ∷ []) xs) ++ firsts unique (earlier ++ x ∷ xs) ys
+append_step unique earlier xs ys x true more = more ∙ (λ i. firsts unique (earlier ++ x ∷ []) xs ++ firsts unique (append_assoc earlier (x ∷ []) xs i) ys)
+append_step unique earlier xs ys x false more = ap (λ t. x ∷ t) (more ∙ (λ i. firsts unique (earlier ++ x ∷ []) xs ++ firsts unique (append_assoc earlier (x ∷ []) xs i) ys))
+
+-- the first bindings of two lists are those of the first, and then those of the second that the first lacks
+firsts-append : (unique : Option ImportKey) (earlier xs ys : List Bound) → firsts unique earlier (xs ++ ys) ≡ firsts unique earlier xs ++ firsts unique (earlier ++ xs) ys
+firsts-append unique earlier [] ys = ap (λ t. firsts unique t ys) (sym (append-nil earlier))
+firsts-append unique earlier (x ∷ xs) ys = append_step unique earlier xs ys x (has_one_like unique earlier x) (firsts-append unique (earlier ++ x ∷ []) xs ys)
+
+-- what two lists of logical lines bind, one behind the other
+BindAll-append : (lines others : List LogicalLine) (bs more : List Bound) → BindAll lines bs → BindAll others more → BindAll (lines ++ others) (bs ++ more)
+BindAll-append [] others bs more h k = subst (BindAll others) (sym (ap (λ t. t ++ more) h)) k
+BindAll-append (l ∷ ls) others bs more h k = (h.0, h.1 ++ more, ap (λ t. t ++ more) h.2 ∙ append_assoc h.0 h.1 more, h.3, BindAll-append ls others h.1 more h.4 k)
+
+-- a bad logical line, and none before it that is bad
+record HasFirstBad (lines : List LogicalLine) : Type 0 where
+  before : List LogicalLine
+  line : LogicalLine
+  behind : List LogicalLine
+  bounds : List Bound
+  fault : Fault
+  split : lines ≡ before ++ line ∷ behind
+  good : BindAll before bounds
+  bad : IsBadAt line fault
+
+-- logical lines bind, or one of them is the first bad one
+abbrev BindOrOneIsBad : List LogicalLine → Type 0
+BindOrOneIsBad lines = ((bounds : List Bound) × BindAll lines bounds) ⊎ HasFirstBad lines
+
+decide_step : (line : LogicalLine) (lines : List LogicalLine) → BindsOrIsBad line → BindOrOneIsBad lines → BindOrOneIsBad (line ∷ lines)
+decide_step line lines (inr bad) rest = inr (record { before = []; line = line; behind = lines; bounds = []; fault = bad.0; split = refl; good = refl; bad = bad.1 })
+decide_step line lines (inl binds) (inl all) = inl (binds.0 ++ all.0, (binds.0, all.0, refl, binds.1, all.1))
+decide_step line lines (inl binds) (inr first) = inr (record { before = line ∷ first.before; line = first.line; behind = first.behind; bounds = binds.0 ++ first.bounds; fault = first.fault; split = ap (λ t. line ∷ t) first.split; good = (binds.0, first.bounds, refl, binds.1, first.good); bad = first.bad })
+
+-- that is decided line by line
+decide : EachBindsOrIsBad → (lines : List LogicalLine) → BindOrOneIsBad lines
+decide each [] = inl ([], refl)
+decide each (l ∷ ls) = decide_step l ls (each l) (decide each ls)
+
+-- what is found once bindings were looked at is what was found, and what they lack
+found_more : (unique : Option ImportKey) (bounds looked rest tail : List Bound) → bounds ≡ firsts unique [] looked → bounds ++ firsts unique looked (rest ++ tail) ≡ firsts unique [] ((looked ++ rest) ++ tail)
+found_more unique bounds looked rest tail found = ap (λ t. t ++ firsts unique looked (rest ++ tail)) found ∙ sym (firsts-append unique [] looked (rest ++ tail)) ∙ ap (firsts unique []) (sym (append_assoc looked rest tail))
+
+begins_decided : (text : List ℕ) (options : FindOptions) (lines : List LogicalLine) (bounds looked rest : List Bound) → BindAll lines (looked ++ rest) → AllCount options lines → bounds ≡ firsts options.unique [] looked → (begins : BeginsLexing text lines) → BindOrOneIsBad (counted_lines options begins.more) → BeginsFound text options bounds
+begins_decided text options lines bounds looked rest binds all found begins (inl more) =
+    let counted = counted-append options lines begins.more all in
+    let bind_all = subst (λ (ls : List LogicalLine). BindAll ls ((looked ++ rest) ++ more.0)) (sym counted) (BindAll-append lines (counted_lines options begins.more) (looked ++ rest) more.0 binds more.1) in
+    let last = counted_end options (lines ++ begins.more) begins.end in
+    record {
+      more = firsts options.unique looked (rest ++ more.0);
+      end = last;
+      found = record {
+        lines = lines ++ begins.more;
+        lexical = begins.end;
+        lexed = begins.lexed;
+        found = of_all options.unique _ last _ last ((looked ++ rest) ++ more.0) bind_all (found_more options.unique bounds looked rest more.0 found) refl;
+      };
+    }
+begins_decided text options lines bounds looked rest binds all found begins (inr first) =
+    let split : counted_lines options (lines ++ begins.more) ≡ (lines ++ first.before) ++ first.line ∷ first.behind = counted-append options lines begins.more all ∙ ap (λ t. lines ++ t) first.split ∙ sym (append_assoc lines first.before (first.line ∷ first.behind)) in
+    let good = BindAll-append lines first.before (looked ++ rest) first.bounds binds first.good in
+    record {
+      more = firsts options.unique looked (rest ++ first.bounds);
+      end = Some first.fault;
+      found = record {
+        lines = lines ++ begins.more;
+        lexical = begins.end;
+        lexed = begins.lexed;
+        found = before_bad options.unique _ (counted_end options (lines ++ begins.more) begins.end) _ (Some first.fault) (lines ++ first.before) first.line first.behind ((looked ++ rest) ++ first.bounds) first.fault split good first.bad (found_more options.unique bounds looked rest first.bounds found) refl;
+      };
+    }
+
+-- Where the first of the bindings of logical lines that count were looked at, and the lines begin the lexing, what was
+-- found begins what is found in the text.
+begins_behind : EachBindsOrIsBad → (text : List ℕ) (options : FindOptions) (lines : List LogicalLine) (bounds looked rest : List Bound) → BeginsLexing text lines → BindAll lines (looked ++ rest) → AllCount options lines → bounds ≡ firsts options.unique [] looked → BeginsFound text options bounds
+begins_behind each text options lines bounds looked rest begins binds all found = begins_decided text options lines bounds looked rest binds all found begins (decide each (counted_lines options begins.more))
+
+begins_part : GivenBegin → EachBindsOrIsBad → (text : List ℕ) (options : FindOptions) (offset line taken : ℕ) (bounds : List Bound) (behind : IsBehind text options offset line taken bounds) → (behind.part ≡ []) ⊎ BeginsNext text options behind.lines behind.part → BeginsFound text options bounds
+begins_part given each text options offset line taken bounds behind (inl none) =
+    let looked : behind.before ++ behind.part ≡ behind.before = ap (λ t. behind.before ++ t) none ∙ append-nil behind.before in
+    begins_behind each text options behind.lines bounds behind.before [] (given _ behind.lines behind.given) (subst (BindAll behind.lines) (sym (append-nil behind.before)) behind.binds) behind.in_top (behind.found ∙ ap (firsts options.unique []) looked)
+begins_part given each text options offset line taken bounds behind (inr next) =
+    let lines = behind.lines ++ next.line ∷ [] in
+    let binds : BindAll lines ((behind.before ++ behind.part) ++ next.rest) = subst (BindAll lines) (sym (append_assoc behind.before behind.part next.rest)) (BindAll-snoc behind.lines next.line behind.before (behind.part ++ next.rest) behind.binds next.binds) in
+    let all = list_all-snoc (λ l. not (ends_top options l)) behind.lines next.line behind.in_top (ap not next.in_top) in
+    begins_behind each text options lines bounds (behind.before ++ behind.part) next.rest (given _ lines next.given) binds all behind.found
+
+-- What a finder has given, with those that it goes on from, begins what is found in its text.
+pub begins_found : GivenBegin → EachBindsOrIsBad → (f : Finding) (bounds : List Bound) → HasFound f bounds → BeginsFound (text_of f) (options_of f) bounds
+begins_found given each f bounds has =
+    let behind = has.stopped.behind in
+    begins_part given each (text_of f) (options_of f) f.cursor.offset f.cursor.line f.cursor.taken bounds behind behind.is_part.1

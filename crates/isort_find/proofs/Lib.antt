@@ -1,0 +1,12 @@
+mod KeyLemmas
+mod TakeLemmas
+mod FirstsLemmas
+mod CountedLemmas
+mod LexingLemmas
+mod PlaceLemmas
+mod TakingLemmas
+mod ReadingLemmas
+mod StepLemmas
+mod GoingLemmas
+mod BeginningLemmas
+mod OneFoundLemmas

@@ -1,0 +1,243 @@
+-- What a finder is behind the next logical line, the end or a fault.
+use Rattle.std.proofs.Common.{◌≡◌, ℕ, Bool, true, false, not, Option, None, Some, List, [], ◌∷◌, ◌++◌, length, min, drop, inl, inr, ◌⊎◌, refl, sym, ap, ◌∙◌, subst, append_assoc, length-append, append-nil, arith}
+use Rattle.py_lines.specs.LogicalLine.{LogicalLine}
+use Rattle.py_lines.specs.Lexed.{IsLexed}
+use Rattle.py_lines.specs.Reader as reader
+use Rattle.py_lines.specs.Reader.{Reader, HasGiven, standing_at, Continues}
+use Rattle.py_lines.specs.declared.fault.Fault.{Fault}
+use Rattle.py_imports.specs.Bound.{Bound}
+use Rattle.py_imports.specs.Binds.{Binds, BindAll, IsBadAt}
+use Rattle.isort_find.specs.Found.{firsts, ends_top, counted_lines, of_all, before_bad, IsFound}
+use Rattle.isort_find.specs.Lexing.{LineAt}
+use Rattle.isort_find.specs.Cursor.{stands_at, BeginsNext, HasStopped}
+use Rattle.isort_find.specs.Finder.{Finding, text_of, options_of, IsWithin, IsBetween, EndsAt, FailsAt, HasReached, HasFound}
+use Rattle.isort_find.specs.Step.{GoesBack, begins_line}
+use Rattle.isort_find.specs.declared.pending.Place.{Place}
+use Rattle.isort_find.specs.declared.finder.Outcome.{Outcome}
+use Rattle.isort_find.specs.declared.finder.Outcome.TheVariants as outcome
+use Rattle.isort_find.proofs.TakeLemmas.{list_all-snoc}
+use Rattle.isort_find.proofs.PlaceLemmas.{bytes_given}
+use Rattle.isort_find.proofs.CountedLemmas.{counted-all, end-all, counted-cut, end-cut, counted-more}
+use Rattle.isort_find.proofs.LexingLemmas.{Laws, reader_is, same_line, no_next, BindAll-snoc}
+use Rattle.isort_find.proofs.TakingLemmas.{reached_open, reached}
+
+-- where nothing is left of the line read last, the finder is between two lines
+settled_within : (f : Finding) (bounds : List Bound) → f.pending.left ≡ [] → IsWithin f bounds → IsBetween f bounds
+settled_within f bounds none w = record {
+  none = none;
+  no_fault = w.given.no_fault;
+  behind = record {
+    lines = w.lines ++ w.line ∷ [];
+    before = w.before ++ w.part;
+    part = [];
+    given = subst (λ (r : Reader). HasGiven r (w.lines ++ w.line ∷ [])) (reader_is f.reader w.given.no_fault) w.given;
+    binds = BindAll-snoc w.lines w.line w.before w.part w.binds (subst (Binds w.line) (ap (λ t. w.part ++ t) none ∙ append-nil w.part) w.binds_line);
+    in_top = list_all-snoc (λ l. not (ends_top (options_of f) l)) w.lines w.line w.in_top (ap not w.line_in_top);
+    is_part = (w.fresh, inl refl);
+    found = w.found ∙ ap (firsts (options_of f).unique []) (sym (append-nil (w.before ++ w.part)));
+  };
+}
+
+either_settled : (f : Finding) (bounds : List Bound) → f.pending.left ≡ [] → IsBetween f bounds ⊎ IsWithin f bounds → IsBetween f bounds
+either_settled f bounds none (inl b) = b
+either_settled f bounds none (inr w) = settled_within f bounds none w
+
+pub settled : (f : Finding) (bounds : List Bound) → f.outcome ≡ outcome.Open → f.pending.left ≡ [] → HasFound f bounds → IsBetween f bounds
+settled f bounds opened none h = either_settled f bounds none (reached_open f bounds opened h)
+
+-- the lines before the reader's place were given by it
+pub given_here : (f : Finding) (bounds : List Bound) (b : IsBetween f bounds) → HasGiven f.reader b.behind.lines
+given_here f bounds b = subst (λ (r : Reader). HasGiven r b.behind.lines) (sym (reader_is f.reader b.no_fault)) b.behind.given
+
+-- the same state, but for whether a line has to be read again
+pub found_back : (f : Finding) (bounds : List Bound) (again : Bool) → f.outcome ≡ outcome.Open → HasStopped (text_of f) f.cursor bounds → IsBetween f bounds → HasFound (record f { again = again }) bounds
+found_back f bounds again opened stopped b =
+    let g : Finding = record f { again = again } in
+    record { stopped = stopped; reached = reached g bounds opened (inl (record { none = b.none; no_fault = b.no_fault; behind = b.behind })) }
+
+back_is : (old new : Finding) (bounds : List Bound) → GoesBack old new → IsBetween old bounds → new ≡ record old { again = false }
+back_is old new bounds back b =
+    let r = back.reader b.behind.lines (given_here old bounds b) in
+    (λ i. record { reader = r i; again = back.here i; skip = back.skip i; pending = back.pending i; outcome = back.outcome i; cursor = back.cursor i })
+
+-- the reader went back
+pub found_behind : (old new : Finding) (bounds : List Bound) → old.outcome ≡ outcome.Open → old.pending.left ≡ [] → GoesBack old new → HasFound old bounds → HasFound new bounds
+found_behind old new bounds opened none back h =
+    let b = settled old bounds opened none h in
+    subst (λ (f : Finding). HasFound f bounds) (sym (back_is old new bounds back b)) (found_back old bounds false opened h.stopped b)
+
+-- one more line was read: what was looked at of it, and the rest
+pub record Splits (f : Finding) (part : List Bound) (bs : List Bound) : Type 0 where
+  pub rest : List Bound
+  pub split : bs ≡ part ++ rest
+
+next_same : Laws → (f : Finding) (lines : List LogicalLine) (part : List Bound) (line : LogicalLine) (r : Reader) → r.text ≡ text_of f → HasGiven r (lines ++ line ∷ []) → (n : BeginsNext (text_of f) (options_of f) lines part) → n.line ≡ line
+next_same one f lines part line r same given n = sym (same_line one r (standing_at (text_of f) n.place n.line_number) lines line n.line (sym same) given n.given)
+
+splits : Laws → (f : Finding) (lines : List LogicalLine) (part bs : List Bound) (line : LogicalLine) (r : Reader) → r.text ≡ text_of f → HasGiven r (lines ++ line ∷ []) → Binds line bs → ((part ≡ []) ⊎ BeginsNext (text_of f) (options_of f) lines part) → Splits f part bs
+splits one f lines part bs line r same given binds (inl none) = record { rest = bs; split = ap (λ t. t ++ bs) (sym none) }
+splits one f lines part bs line r same given binds (inr n) = record { rest = n.rest; split = one.one_list line bs (part ++ n.rest) binds (subst (λ (l : LogicalLine). Binds l (part ++ n.rest)) (next_same one f lines part line r same given n) n.binds) }
+
+-- nothing was looked at of a line that isn't there, is bad or ends the top
+nothing_of_end : Laws → (f : Finding) (lines : List LogicalLine) (part : List Bound) (end : Option Fault) → IsLexed (text_of f) lines end → ((part ≡ []) ⊎ BeginsNext (text_of f) (options_of f) lines part) → part ≡ []
+nothing_of_end one f lines part end lexed (inl none) = none
+nothing_of_end one f lines part end lexed (inr n) = absurd (no_next one (text_of f) lines end (standing_at (text_of f) n.place n.line_number) n.line lexed refl n.given)
+
+nothing_of_bad : Laws → (f : Finding) (lines : List LogicalLine) (part : List Bound) (line : LogicalLine) (r : Reader) (fault : Fault) → r.text ≡ text_of f → HasGiven r (lines ++ line ∷ []) → IsBadAt line fault → ((part ≡ []) ⊎ BeginsNext (text_of f) (options_of f) lines part) → part ≡ []
+nothing_of_bad one f lines part line r fault same given bad (inl none) = none
+nothing_of_bad one f lines part line r fault same given bad (inr n) = absurd (one.not_both line (part ++ n.rest) fault (subst (λ (l : LogicalLine). Binds l (part ++ n.rest)) (next_same one f lines part line r same given n) n.binds) bad)
+
+counts_or_ends : (b : Bool) → b ≡ true → b ≡ false → ⊥
+counts_or_ends b h k = cc
+
+nothing_of_top : Laws → (f : Finding) (lines : List LogicalLine) (part : List Bound) (line : LogicalLine) (r : Reader) → r.text ≡ text_of f → HasGiven r (lines ++ line ∷ []) → ends_top (options_of f) line ≡ true → ((part ≡ []) ⊎ BeginsNext (text_of f) (options_of f) lines part) → part ≡ []
+nothing_of_top one f lines part line r same given ends (inl none) = none
+nothing_of_top one f lines part line r same given ends (inr n) = absurd (counts_or_ends _ ends (subst (λ (l : LogicalLine). ends_top (options_of f) l ≡ false) (next_same one f lines part line r same given n) n.in_top))
+
+min_length : (part rest : List Bound) → min (length part) (length (part ++ rest)) ≡ length part
+min_length part rest = omega (arith, length-append part rest)
+
+drop_part : (part rest : List Bound) → drop (length part) (part ++ rest) ≡ rest
+drop_part [] rest = refl
+drop_part (p ∷ ps) rest = drop_part ps rest
+
+standing_of : (text : List ℕ) (place : Place) (r : Reader) (lines : List LogicalLine) → r.text ≡ text → r.fault ≡ None → place.offset ≡ r.place → place.line ≡ r.line → HasGiven r lines → HasGiven (standing_at text place.offset place.line) lines
+standing_of text place r lines same none offset line given = subst (λ (q : Reader). HasGiven q lines) (reader_is r none ∙ (λ i. standing_at (same i) (sym offset i) (sym line i))) given
+
+-- the bindings of the next line are to be looked at
+begun_within : Laws → (f : Finding) (r : Reader) (line : LogicalLine) (bs : List Bound) (place : Place) (bounds : List Bound) → Continues f.reader line r → Binds line bs → ends_top (options_of f) line ≡ false → place.offset ≡ f.reader.place → place.line ≡ f.reader.line → IsBetween f bounds → IsWithin (begins_line (record f { reader = r }) place bs) bounds
+begun_within one f r line bs place bounds continues binds counts offset number b =
+    let lines = b.behind.lines in
+    let part = b.behind.part in
+    let here = given_here f bounds b in
+    let given = continues.given lines here in
+    let cut = splits one f lines part bs line r continues.text given binds b.behind.is_part.1 in
+    let left : drop f.skip bs ≡ cut.rest = (λ i. drop (b.behind.is_part.0 i) (cut.split i)) ∙ drop_part part cut.rest in
+    record {
+      lines = lines;
+      line = line;
+      before = b.behind.before;
+      part = part;
+      given = given;
+      start = standing_of r.text place f.reader lines (sym continues.text) b.no_fault offset number here;
+      binds = b.behind.binds;
+      binds_line = subst (Binds line) (cut.split ∙ ap (λ t. part ++ t) (sym left)) binds;
+      taken = (λ i. min (b.behind.is_part.0 i) (length (cut.split i))) ∙ min_length part cut.rest;
+      in_top = b.behind.in_top;
+      line_in_top = counts;
+      fresh = refl;
+      found = b.behind.found;
+    }
+
+-- the cursor stays where the text does
+pub stopped_same : (f : Finding) (r : Reader) (bounds : List Bound) → r.text ≡ text_of f → HasStopped (text_of f) f.cursor bounds → HasStopped r.text f.cursor bounds
+stopped_same f r bounds same h = subst (λ (t : List ℕ). HasStopped t f.cursor bounds) (sym same) h
+
+pub found_begun : Laws → (f : Finding) (r : Reader) (line : LogicalLine) (bs : List Bound) (place : Place) (bounds : List Bound) → f.outcome ≡ outcome.Open → f.pending.left ≡ [] → Continues f.reader line r → Binds line bs → ends_top (options_of f) line ≡ false → place.offset ≡ f.reader.place → place.line ≡ f.reader.line → HasFound f bounds → HasFound (begins_line (record f { reader = r }) place bs) bounds
+found_begun one f r line bs place bounds opened none continues binds counts offset number h =
+    let g : Finding = begins_line (record f { reader = r }) place bs in
+    record {
+      stopped = stopped_same f r bounds continues.text h.stopped;
+      reached = reached g bounds opened (inr (begun_within one f r line bs place bounds continues binds counts offset number (settled f bounds opened none h)));
+    }
+
+-- what was found of lines that are all looked at
+found_all : (f : Finding) (bounds : List Bound) (b : IsBetween f bounds) → b.behind.part ≡ [] → bounds ≡ firsts (options_of f).unique [] b.behind.before
+found_all f bounds b none = b.behind.found ∙ ap (firsts (options_of f).unique []) (ap (λ t. b.behind.before ++ t) none ∙ append-nil b.behind.before)
+
+-- the cursor at the end of what was found
+pub stopped_here : (f : Finding) (bounds : List Bound) (place : Place) (b : IsBetween f bounds) → b.behind.part ≡ [] → place.offset ≡ f.reader.place → place.line ≡ f.reader.line → HasStopped (text_of f) f.cursor bounds → HasStopped (text_of f) (stands_at f.cursor place) bounds
+stopped_here f bounds place b none offset number h = record {
+  behind = record {
+    lines = b.behind.lines;
+    before = b.behind.before;
+    part = [];
+    given = standing_of (text_of f) place f.reader b.behind.lines refl b.no_fault offset number (given_here f bounds b);
+    binds = b.behind.binds;
+    in_top = b.behind.in_top;
+    is_part = (refl, inl refl);
+    found = found_all f bounds b none ∙ ap (firsts (options_of f).unique []) (sym (append-nil b.behind.before));
+  };
+  keys = h.keys;
+  given = h.given;
+}
+
+-- all lines were given, and the text ends there, or has a lexical fault
+lexed_all : (f : Finding) (bounds : List Bound) (b : IsBetween f bounds) (end : Option Fault) → b.behind.part ≡ [] → IsLexed (text_of f) b.behind.lines end → IsFound (text_of f) (options_of f) bounds end
+lexed_all f bounds b end none lexed = record {
+  lines = b.behind.lines;
+  lexical = end;
+  lexed = lexed;
+  found = of_all _ _ _ bounds end b.behind.before (subst (λ (ls : List LogicalLine). BindAll ls b.behind.before) (sym (counted-all (options_of f) b.behind.lines b.behind.in_top)) b.behind.binds) (found_all f bounds b none) (sym (end-all (options_of f) b.behind.lines end b.behind.in_top));
+}
+
+-- all lines before one that ends the top were given
+lexed_top : Laws → (f : Finding) (bounds : List Bound) (b : IsBetween f bounds) (line : LogicalLine) (r : Reader) → b.behind.part ≡ [] → r.text ≡ text_of f → HasGiven r (b.behind.lines ++ line ∷ []) → ends_top (options_of f) line ≡ true → IsFound (text_of f) (options_of f) bounds None
+lexed_top one f bounds b line r none same given ends =
+    let begins = one.begins r _ given in
+    record {
+      lines = b.behind.lines ++ line ∷ begins.more;
+      lexical = begins.end;
+      lexed = subst (λ (t : List ℕ). IsLexed t (b.behind.lines ++ line ∷ begins.more) begins.end) same (subst (λ (ls : List LogicalLine). IsLexed r.text ls begins.end) (append_assoc b.behind.lines (line ∷ []) begins.more) begins.lexed);
+      found = of_all _ _ _ bounds None b.behind.before (subst (λ (ls : List LogicalLine). BindAll ls b.behind.before) (sym (counted-cut (options_of f) b.behind.lines line begins.more b.behind.in_top ends)) b.behind.binds) (found_all f bounds b none) (sym (end-cut (options_of f) b.behind.lines line begins.more begins.end b.behind.in_top ends));
+    }
+
+-- all lines before a bad one were given
+lexed_bad : Laws → (f : Finding) (bounds : List Bound) (b : IsBetween f bounds) (line : LogicalLine) (r : Reader) (fault : Fault) → b.behind.part ≡ [] → r.text ≡ text_of f → HasGiven r (b.behind.lines ++ line ∷ []) → IsBadAt line fault → ends_top (options_of f) line ≡ false → IsFound (text_of f) (options_of f) bounds (Some fault)
+lexed_bad one f bounds b line r fault none same given bad counts =
+    let begins = one.begins r _ given in
+    record {
+      lines = b.behind.lines ++ line ∷ begins.more;
+      lexical = begins.end;
+      lexed = subst (λ (t : List ℕ). IsLexed t (b.behind.lines ++ line ∷ begins.more) begins.end) same (subst (λ (ls : List LogicalLine). IsLexed r.text ls begins.end) (append_assoc b.behind.lines (line ∷ []) begins.more) begins.lexed);
+      found = before_bad _ _ _ bounds (Some fault) b.behind.lines line (counted_lines (options_of f) begins.more) b.behind.before fault (counted-more (options_of f) b.behind.lines line begins.more b.behind.in_top counts) b.behind.binds bad (found_all f bounds b none) refl;
+    }
+
+-- a line was given that begins where the reader stood
+line_at : Laws → (f : Finding) (bounds : List Bound) (b : IsBetween f bounds) (line : LogicalLine) (r : Reader) (place : Place) (P : LogicalLine → Type 0) → r.text ≡ text_of f → place.offset ≡ f.reader.place → HasGiven r (b.behind.lines ++ line ∷ []) → P line → LineAt r.text place.offset P
+line_at one f bounds b line r place P same offset given is = record {
+  before = b.behind.lines;
+  line = line;
+  begins = one.begins r _ given;
+  place = bytes_given f.reader b.behind.lines (given_here f bounds b) ∙ sym offset;
+  is = is;
+}
+
+-- the state in which a finder has met the end or a fault
+abbrev pub closed : Finding → Reader → Outcome → Place → Finding
+closed f r o place = record f { reader = r; outcome = o; cursor = stands_at f.cursor place }
+
+found_closed : (f : Finding) (r : Reader) (place : Place) (bounds : List Bound) (b : IsBetween f bounds) → b.behind.part ≡ [] → r.text ≡ text_of f → place.offset ≡ f.reader.place → place.line ≡ f.reader.line → HasStopped (text_of f) f.cursor bounds → (o : Outcome) → HasReached (closed f r o place) bounds o → HasFound (closed f r o place) bounds
+found_closed f r place bounds b none same offset number stopped o reached = record {
+  stopped = subst (λ (t : List ℕ). HasStopped t (stands_at f.cursor place) bounds) (sym same) (stopped_here f bounds place b none offset number stopped);
+  reached = reached;
+}
+
+pub found_end : Laws → (f : Finding) (r : Reader) (place : Place) (bounds : List Bound) → f.outcome ≡ outcome.Open → f.pending.left ≡ [] → reader.Ends f.reader r → place.offset ≡ f.reader.place → place.line ≡ f.reader.line → HasFound f bounds → HasFound (closed f r outcome.End place) bounds
+found_end one f r place bounds opened none ends offset number h =
+    let b = settled f bounds opened none h in
+    let lexed = ends.all b.behind.lines (given_here f bounds b) in
+    let all = nothing_of_end one f b.behind.lines b.behind.part None lexed b.behind.is_part.1 in
+    let same = ap (λ (q : Reader). q.text) ends.same in
+    found_closed f r place bounds b all same offset number h.stopped outcome.End (subst (λ (t : List ℕ). IsFound t (options_of f) bounds None × EndsAt t (options_of f) place.offset) (sym same) (lexed_all f bounds b None all lexed, inl (offset ∙ ends.place)))
+
+pub found_bad_text : Laws → (f : Finding) (r : Reader) (place : Place) (fault : Fault) (bounds : List Bound) → f.outcome ≡ outcome.Open → f.pending.left ≡ [] → reader.Fails f.reader fault r → place.offset ≡ f.reader.place → place.line ≡ f.reader.line → HasFound f bounds → HasFound (closed f r (outcome.Fault fault) place) bounds
+found_bad_text one f r place fault bounds opened none fails offset number h =
+    let b = settled f bounds opened none h in
+    let lexed = fails.all b.behind.lines (given_here f bounds b) in
+    let all = nothing_of_end one f b.behind.lines b.behind.part (Some fault) lexed b.behind.is_part.1 in
+    found_closed f r place bounds b all fails.text offset number h.stopped (outcome.Fault fault) (subst (λ (t : List ℕ). IsFound t (options_of f) bounds (Some fault) × FailsAt t place.offset fault) (sym fails.text) (lexed_all f bounds b (Some fault) all lexed, inr (b.behind.lines, lexed, bytes_given f.reader b.behind.lines (given_here f bounds b) ∙ sym offset)))
+
+pub found_top : Laws → (f : Finding) (r : Reader) (line : LogicalLine) (place : Place) (bounds : List Bound) → f.outcome ≡ outcome.Open → f.pending.left ≡ [] → Continues f.reader line r → ends_top (options_of f) line ≡ true → place.offset ≡ f.reader.place → place.line ≡ f.reader.line → HasFound f bounds → HasFound (closed f r outcome.End place) bounds
+found_top one f r line place bounds opened none continues ends offset number h =
+    let b = settled f bounds opened none h in
+    let given = continues.given b.behind.lines (given_here f bounds b) in
+    let all = nothing_of_top one f b.behind.lines b.behind.part line r continues.text given ends b.behind.is_part.1 in
+    found_closed f r place bounds b all continues.text offset number h.stopped outcome.End (subst (λ (t : List ℕ). IsFound t (options_of f) bounds None) (sym continues.text) (lexed_top one f bounds b line r all continues.text given ends), inr (line_at one f bounds b line r place (λ l. ends_top (options_of f) l ≡ true) continues.text offset given ends))
+
+pub found_bad_line : Laws → (f : Finding) (r : Reader) (line : LogicalLine) (place : Place) (fault : Fault) (bounds : List Bound) → f.outcome ≡ outcome.Open → f.pending.left ≡ [] → Continues f.reader line r → IsBadAt line fault → ends_top (options_of f) line ≡ false → place.offset ≡ f.reader.place → place.line ≡ f.reader.line → HasFound f bounds → HasFound (closed f r (outcome.Fault fault) place) bounds
+found_bad_line one f r line place fault bounds opened none continues bad counts offset number h =
+    let b = settled f bounds opened none h in
+    let given = continues.given b.behind.lines (given_here f bounds b) in
+    let all = nothing_of_bad one f b.behind.lines b.behind.part line r fault continues.text given bad b.behind.is_part.1 in
+    found_closed f r place bounds b all continues.text offset number h.stopped (outcome.Fault fault) (subst (λ (t : List ℕ). IsFound t (options_of f) bounds (Some fault)) (sym continues.text) (lexed_bad one f bounds b line r fault all continues.text given bad counts), inl (line_at one f bounds b line r place (λ l. IsBadAt l fault) continues.text offset given bad))

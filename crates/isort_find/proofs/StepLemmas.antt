@@ -1,0 +1,144 @@
+-- What a finder leaves that reads the next logical line, at each step that it may take.
+use Rattle.std.proofs.Common.{◌≡◌, ℕ, ◌+◌, ◌-◌, ◌^◌, ◌<◌, ◌≤◌, Bool, true, false, Option, None, Some, List, [], length, inl, refl, sym, ap, ◌∙◌, subst, length-drop, is_some, if◌then◌else◌, arith}
+use Rattle.py_lines.specs.LogicalLine.{LogicalLine}
+use Rattle.py_lines.specs.Reader as reader
+use Rattle.py_lines.specs.Reader.{Reader, HasGiven, standing_at, Continues}
+use Rattle.py_lines.specs.declared.fault.Fault.{Fault}
+use Rattle.py_imports.specs.Bound.{Bound}
+use Rattle.py_imports.specs.Binds.{Binds, IsBadAt}
+use Rattle.isort_find.specs.Found.{ends_top}
+use Rattle.isort_find.specs.Cursor.{Standing, HasStopped}
+use Rattle.isort_find.specs.Pending.{Looking}
+use Rattle.isort_find.specs.Finder as finder
+use Rattle.isort_find.specs.Finder.{Finding, finding, text_of, options_of, left_of, IsBetween, HasFound, SameTask}
+use Rattle.isort_find.specs.Step.{Keeps, GoesBack, ReadsOn, GivesLine, begins_line}
+use Rattle.isort_find.specs.declared.options.FindOptions.{FindOptions}
+use Rattle.isort_find.specs.declared.pending.Place.{Place}
+use Rattle.isort_find.specs.declared.finder.Outcome.{Outcome}
+use Rattle.isort_find.specs.declared.finder.Outcome.TheVariants as outcome
+use Rattle.isort_find.proofs.LexingLemmas.{Laws, reader_is}
+use Rattle.isort_find.proofs.ReadingLemmas.{settled, found_back, found_behind, found_begun, closed, found_end, found_bad_text, found_top, found_bad_line}
+
+-- a finder that has gone back is about to read the line at this place
+pub record IsAbout (old f : Finding) (place : Place) (options : FindOptions) : Type 0 where
+  pub is_open : old.outcome ≡ outcome.Open
+  pub none : old.pending.left ≡ []
+  pub back : GoesBack old f
+  pub offset : place.offset ≡ f.reader.place
+  pub number : place.line ≡ f.reader.line
+  pub options_are : options ≡ options_of f
+
+opened : (old f : Finding) (place : Place) (options : FindOptions) → IsAbout old f place options → f.outcome ≡ outcome.Open
+opened old f place options a = a.back.outcome ∙ a.is_open
+
+none_left : (old f : Finding) (place : Place) (options : FindOptions) → IsAbout old f place options → f.pending.left ≡ []
+none_left old f place options a = ap (λ (p : Looking). p.left) a.back.pending ∙ a.none
+
+found_there : (old f : Finding) (place : Place) (options : FindOptions) → IsAbout old f place options → (bounds : List Bound) → HasFound old bounds → HasFound f bounds
+found_there old f place options a bounds h = found_behind old f bounds a.is_open a.none a.back h
+
+-- the line's bindings are to be looked at
+pub reads_bindings : Laws → (old f : Finding) (place : Place) (options : FindOptions) (r : Reader) (bs : List Bound) → IsAbout old f place options → GivesLine f.reader (λ line. Binds line bs × (ends_top options line ≡ false)) r → length bs < 2 ^ 64 → ReadsOn old (begins_line (record f { reader = r }) place bs)
+reads_bindings one old f place options r bs a gives few =
+    let line = gives.0 in
+    let continues = gives.1 in
+    let len = ap length continues.text in
+    let here = a.back.here in
+    record {
+      keeps = record {
+        kept = λ bounds h. found_begun one f r line bs place bounds (opened old f place options a) (none_left old f place options a) continues gives.2.0 (subst (λ (o : FindOptions). ends_top o line ≡ false) a.options_are gives.2.1) a.offset a.number (found_there old f place options a bounds h);
+        task = record { text = continues.text ∙ a.back.text; options = ap (λ (c : Standing). c.options) a.back.cursor };
+        given = ap (λ (c : Standing). c.given) a.back.cursor;
+      };
+      falls = λ _. falls f r line bs place here continues few (left_of old) a.back.falls;
+      cursor = λ _. a.back.cursor;
+    }
+  where
+    falls : (f : Finding) (r : Reader) (line : LogicalLine) (bs : List Bound) (place : Place) → f.again ≡ false → Continues f.reader line r → length bs < 2 ^ 64 → (n : ℕ) → left_of f ≤ n → left_of (begins_line (record f { reader = r }) place bs) < n
+    falls f r line bs place here continues few n within =
+        let now : (if f.again then length (text_of f) + 1 else length (text_of f) - f.reader.place) ≡ length (text_of f) - f.reader.place = ap (λ (b : Bool). if b then length (text_of f) + 1 else length (text_of f) - f.reader.place) here in
+        let later : (if f.again then length r.text + 1 else length r.text - r.place) ≡ length r.text - r.place = ap (λ (b : Bool). if b then length r.text + 1 else length r.text - r.place) here in
+        let len = ap length continues.text in
+        omega (arith, now, later, len, continues.place, continues.some_text, continues.within, length-drop f.skip bs)
+
+keeps_closed : (old f : Finding) (place : Place) (options : FindOptions) (r : Reader) (o : Outcome) → IsAbout old f place options → r.text ≡ text_of f → ((bounds : List Bound) → HasFound f bounds → HasFound (closed f r o place) bounds) → Keeps old (closed f r o place)
+keeps_closed old f place options r o a same kept = record {
+  kept = λ bounds h. kept bounds (found_there old f place options a bounds h);
+  task = record { text = same ∙ a.back.text; options = ap (λ (c : Standing). c.options) a.back.cursor };
+  given = ap (λ (c : Standing). c.given) a.back.cursor;
+}
+
+ends : (old f : Finding) (place : Place) (r : Reader) → Keeps old (closed f r outcome.End place) → ReadsOn old (closed f r outcome.End place)
+ends old f place r keeps = record { keeps = keeps; falls = λ e. absurd cc; cursor = λ e. absurd cc }
+
+fails : (old f : Finding) (place : Place) (r : Reader) (fault : Fault) → Keeps old (closed f r (outcome.Fault fault) place) → ReadsOn old (closed f r (outcome.Fault fault) place)
+fails old f place r fault keeps = record { keeps = keeps; falls = λ e. absurd cc; cursor = λ e. absurd cc }
+
+-- the text ends
+pub reads_end : Laws → (old f : Finding) (place : Place) (options : FindOptions) (r : Reader) → IsAbout old f place options → reader.Ends f.reader r → ReadsOn old (closed f r outcome.End place)
+reads_end one old f place options r a e = ends old f place r (keeps_closed old f place options r outcome.End a (ap (λ (q : Reader). q.text) e.same) (λ bounds h. found_end one f r place bounds (opened old f place options a) (none_left old f place options a) e a.offset a.number h))
+
+-- a line ends the top
+pub reads_top : Laws → (old f : Finding) (place : Place) (options : FindOptions) (r : Reader) → IsAbout old f place options → GivesLine f.reader (λ line. ends_top options line ≡ true) r → ReadsOn old (closed f r outcome.End place)
+reads_top one old f place options r a g = ends old f place r (keeps_closed old f place options r outcome.End a g.1.text (λ bounds h. found_top one f r g.0 place bounds (opened old f place options a) (none_left old f place options a) g.1 (subst (λ (o : FindOptions). ends_top o g.0 ≡ true) a.options_are g.2) a.offset a.number h))
+
+-- the text has a lexical fault
+pub reads_bad_text : Laws → (old f : Finding) (place : Place) (options : FindOptions) (r : Reader) (fault : Fault) → IsAbout old f place options → reader.Fails f.reader fault r → ReadsOn old (closed f r (outcome.Fault fault) place)
+reads_bad_text one old f place options r fault a e = fails old f place r fault (keeps_closed old f place options r (outcome.Fault fault) a e.text (λ bounds h. found_bad_text one f r place fault bounds (opened old f place options a) (none_left old f place options a) e a.offset a.number h))
+
+-- a line has a bad import statement
+pub reads_bad_line : Laws → (old f : Finding) (place : Place) (options : FindOptions) (r : Reader) (fault : Fault) → IsAbout old f place options → GivesLine f.reader (λ line. IsBadAt line fault × (ends_top options line ≡ false)) r → ReadsOn old (closed f r (outcome.Fault fault) place)
+reads_bad_line one old f place options r fault a g = fails old f place r fault (keeps_closed old f place options r (outcome.Fault fault) a g.1.text (λ bounds h. found_bad_line one f r g.0 place fault bounds (opened old f place options a) (none_left old f place options a) g.1 g.2.0 (subst (λ (o : FindOptions). ends_top o g.0 ≡ false) a.options_are g.2.1) a.offset a.number h))
+
+-- there was no memory
+pub runs_out : (old f : Finding) (place : Place) (options : FindOptions) (again : Bool) → IsAbout old f place options → finder.RunsOut old (record f { again = again })
+runs_out old f place options again a = record {
+  kept = λ bounds h.
+      let q = found_there old f place options a bounds h in
+      found_back f bounds again (opened old f place options a) q.stopped (settled f bounds (opened old f place options a) (none_left old f place options a) q);
+  task = record { text = a.back.text; options = ap (λ (c : Standing). c.options) a.back.cursor };
+  cursor = a.back.cursor;
+  was_open = a.is_open;
+  is_open = opened old f place options a;
+}
+
+-- the reader of a finder that needn't go back is its own
+pub own_reader : (l : Reader) (text : List ℕ) (again : Option Place) (skip : ℕ) (pending : Looking) (o : Outcome) (cursor : Standing) → is_some again ≡ false → (r : Reader) → finding r text again skip pending o cursor ≡ record (finding l text again skip pending o cursor) { reader = r }
+own_reader l text None skip pending o cursor h r = refl
+own_reader l text (Some place) skip pending o cursor h r = absurd cc
+
+pub own_is : (l : Reader) (text : List ℕ) (again : Option Place) (skip : ℕ) (pending : Looking) (o : Outcome) (cursor : Standing) → is_some again ≡ false → (finding l text again skip pending o cursor).reader ≡ l
+own_is l text None skip pending o cursor h = refl
+own_is l text (Some place) skip pending o cursor h = absurd cc
+
+-- the reader stands again before a line that was lost
+pub lost_is : (l r : Reader) (text : List ℕ) (again : Option Place) (skip : ℕ) (pending : Looking) (o : Outcome) (cursor : Standing) (place : Place) → is_some again ≡ false → l.fault ≡ None → l.text ≡ text → place.offset ≡ (finding l text again skip pending o cursor).reader.place → place.line ≡ (finding l text again skip pending o cursor).reader.line → finding r text (Some place) skip pending o cursor ≡ record (finding l text again skip pending o cursor) { again = true }
+lost_is l r text None skip pending o cursor place h none same offset number =
+    let at : standing_at text place.offset place.line ≡ l = (λ i. standing_at (sym same i) (offset i) (number i)) ∙ sym (reader_is l none) in
+    ap (λ (q : Reader). record { reader = q; again = true; skip = skip; pending = pending; outcome = o; cursor = cursor }) at
+lost_is l r text (Some p) skip pending o cursor place h none same offset number = absurd cc
+
+-- the reader went back to the place of the line
+pub goes_back : (l r : Reader) (text : List ℕ) (again : Option Place) (place : Place) (skip : ℕ) (pending : Looking) (o : Outcome) (cursor : Standing) → again ≡ Some place → ((lines : List LogicalLine) → HasGiven (standing_at text place.offset place.line) lines → r ≡ standing_at text place.offset place.line) → r.text ≡ text → GoesBack (finding l text again skip pending o cursor) (finding r text None skip pending o cursor)
+goes_back l r text again place skip pending o cursor is goes_on same =
+    let len = ap length same in
+    subst (λ (x : Option Place). GoesBack (finding l text x skip pending o cursor) (finding r text None skip pending o cursor)) (sym is) (record {
+      reader = λ lines given. goes_on lines given;
+      text = same;
+      here = refl;
+      skip = refl;
+      pending = refl;
+      outcome = refl;
+      cursor = refl;
+      falls = omega (arith, len);
+    })
+
+-- a finder that goes on from a cursor
+pub resumed : (text : List ℕ) (cursor : Standing) (r : Reader) (skip : ℕ) (pending : Looking) (offset line : ℕ) (bounds : List Bound) → ((lines : List LogicalLine) → HasGiven (standing_at text offset line) lines → r ≡ standing_at text offset line) → offset ≡ cursor.offset → line ≡ cursor.line → skip ≡ cursor.taken → pending.left ≡ [] → HasStopped text cursor bounds → HasFound (finding r text None skip pending outcome.Open cursor) bounds
+resumed text cursor r skip pending offset line bounds goes_on at number taken none h =
+    let given = subst (λ (q : Reader). HasGiven q h.behind.lines) (λ i. standing_at text (sym at i) (sym number i)) h.behind.given in
+    let is : r ≡ standing_at text cursor.offset cursor.line = goes_on h.behind.lines given ∙ (λ i. standing_at text (at i) (number i)) in
+    subst (λ (q : Reader). HasFound (finding q text None skip pending outcome.Open cursor) bounds) (sym is) (subst (λ (n : ℕ). HasFound (finding (standing_at text cursor.offset cursor.line) text None n pending outcome.Open cursor) bounds) (sym taken) (record {
+      stopped = h;
+      reached = inl (record { none = none; no_fault = refl; behind = h.behind });
+    }))

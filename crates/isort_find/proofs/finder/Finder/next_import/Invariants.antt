@@ -1,0 +1,11 @@
+-- What was given before the call is what has been given so far.
+use Rattle.isort_find.specs.Finder.{left_of}
+use Rattle.isort_find.specs.Step.{Goes}
+use Rattle.isort_find.proofs.GoingLemmas.{work}
+use Rattle.isort_find.proofs.finder.Finder.next_import.Given as goal
+
+abbrev pub invariant-lines : goal.invariant-lines
+invariant-lines l = Goes l.initial.self l.self
+
+abbrev pub decreases-lines : goal.decreases-lines
+decreases-lines l = work l.self.outcome (left_of l.self)

@@ -1,0 +1,53 @@
+-- The imports that are found in a text, and its end or fault.
+use Rattle.std.specs.Prelude.{◌≡◌, ℕ, Bool, false, not, ◌&&◌, Option, None, Some, List, [], ◌∷◌, ◌++◌, if◌then◌else◌, take_while}
+use Rattle.std.specs.List.{list_any}
+use Rattle.py_lines.specs.LogicalLine.{LogicalLine}
+use Rattle.py_lines.specs.Lexed.{IsLexed}
+use Rattle.py_lines.specs.declared.fault.Fault.{Fault}
+use Rattle.py_imports.specs.Bound.{Bound}
+use Rattle.py_imports.specs.Binds.{BindAll, IsBadAt}
+use Rattle.py_imports.specs.Declaration.{is_declaration}
+use Rattle.isort_find.specs.Key.{key_of, key_eq}
+use Rattle.isort_find.specs.declared.options.ImportKey.{ImportKey}
+use Rattle.isort_find.specs.declared.options.FindOptions.{FindOptions}
+
+-- whether one of these bindings has the key of this one; never without a key
+abbrev pub has_one_like : Option ImportKey → List Bound → Bound → Bool
+has_one_like None earlier b = false
+has_one_like (Some key) earlier b = list_any (λ a. key_eq (key_of key b) (key_of key a)) earlier
+
+-- the bindings behind `earlier` that have none before them with an equal key, in order
+abbrev pub firsts : Option ImportKey → List Bound → List Bound → List Bound
+firsts unique earlier [] = []
+firsts unique earlier (b ∷ bs) = if has_one_like unique earlier b then firsts unique (earlier ++ b ∷ []) bs else b ∷ firsts unique (earlier ++ b ∷ []) bs
+
+-- whether the logical line ends the top: with `top_only` a declaration does
+abbrev pub ends_top : FindOptions → LogicalLine → Bool
+ends_top options line = options.top_only && is_declaration line
+
+-- the logical lines that count: those before the first that ends the top
+abbrev pub counted_lines : FindOptions → List LogicalLine → List LogicalLine
+counted_lines options lines = take_while (λ l. not (ends_top options l)) lines
+
+-- the lexical end that counts: no fault behind a line that ends the top
+abbrev pub counted_end : FindOptions → List LogicalLine → Option Fault → Option Fault
+counted_end options lines end = if list_any (ends_top options) lines then None else end
+
+-- What is found in logical lines with this lexical end: the first bindings of all of them; or, where one is bad,
+-- those of the lines before the first bad one, and its fault.
+pub data AreFound : Option ImportKey → List LogicalLine → Option Fault → List Bound → Option Fault → Type 0 where
+  of_all : (unique : Option ImportKey) (lines : List LogicalLine) (last : Option Fault) (bounds : List Bound) (end : Option Fault) (all : List Bound) → BindAll lines all → bounds ≡ firsts unique [] all → end ≡ last → AreFound unique lines last bounds end
+  before_bad : (unique : Option ImportKey) (lines : List LogicalLine) (last : Option Fault) (bounds : List Bound) (end : Option Fault) (before : List LogicalLine) (line : LogicalLine) (behind : List LogicalLine) (all : List Bound) (fault : Fault) → lines ≡ before ++ line ∷ behind → BindAll before all → IsBadAt line fault → bounds ≡ firsts unique [] all → end ≡ Some fault → AreFound unique lines last bounds end
+
+-- the imports of a text that are found with these options, and then its end, or its fault
+pub record IsFound (text : List ℕ) (options : FindOptions) (bounds : List Bound) (end : Option Fault) : Type 0 where
+  pub lines : List LogicalLine
+  pub lexical : Option Fault
+  pub lexed : IsLexed text lines lexical
+  pub found : AreFound options.unique (counted_lines options lines) (counted_end options lines lexical) bounds end
+
+-- bindings that begin what is found in the text: more come behind them, and its end or fault
+pub record BeginsFound (text : List ℕ) (options : FindOptions) (bounds : List Bound) : Type 0 where
+  pub more : List Bound
+  pub end : Option Fault
+  pub found : IsFound text options (bounds ++ more) end

@@ -1,0 +1,117 @@
+ghost use Rattle.std.specs.Prelude.{◌≡◌, ◌+◌, ◌-◌, ◌^◌, IfOk, IfErr, OnErr, min};
+ghost use Rattle.py_imports.specs.Bound.{bound_of};
+
+use crate::error::FindError;
+use crate::key::{KeyText, key_of};
+use crate::options::FindOptions;
+use crate::pending::Place;
+use indexmap::IndexSet;
+use py_imports::Binding;
+use std::alloc::Global;
+use std::marker::Model;
+
+/// Where a finder stands in a text, with what it needs to go on: another finder goes on from here.
+#[derive(Drop)]
+pub struct Cursor {
+    options: FindOptions,
+    place: Place,
+    taken: usize,
+    given: u64,
+    keys: IndexSet<KeyText>,
+}
+
+impl Model for Cursor {
+    ghost use Rattle.isort_find.specs.Cursor.{Standing, standing};
+    ghost use Rattle.isort_find.specs.KeyText.{key_in};
+    ghost use Rattle.std.specs.Prelude.{map};
+
+    ghost Value = { Standing };
+
+    ghost view = { λ c. standing c.options c.place c.taken c.given (map key_in c.keys.keys) };
+}
+
+impl Cursor {
+    ghost use Rattle.isort_find.specs.Cursor.{at_start, Admits, gives_from, stands_at};
+
+    /// At the start of a text, before its first import.
+    pub(crate) fn start(alloc: Global, options: FindOptions) -> Cursor
+        ensures { result ≡ at_start options }
+    {
+        Cursor {
+            options,
+            place: Place { offset: 0, line: 1 },
+            taken: 0,
+            given: 0,
+            keys: IndexSet::new(alloc),
+        }
+    }
+
+    /// Whether no binding with the key of this one was given, and notes its key.
+    pub(crate) fn admit(&mut self, alloc: Global, binding: &Binding) -> Result<bool, FindError>
+        ensures ok { IfOk result (λ is_new. Admits self.old (bound_of binding.now) is_new self.new) }
+        ensures err { IfErr result (λ e. e ≡ FindError.Memory) }
+        ensures kept { OnErr result (self.new ≡ self.old) }
+    {
+        match self.options.unique {
+            None => Ok(true),
+            Some(key) => {
+                let key = key_of(alloc, binding, key)?;
+                let (_, is_new) = self.keys.insert_full(key)?;
+                Ok(is_new)
+            }
+        }
+    }
+
+    /// A binding of the logical line at `place` was given, and so many of its bindings were looked at.
+    pub(crate) fn give(&mut self, place: Place, taken: usize)
+        ensures { self.new ≡ gives_from self.old place taken }
+    {
+        self.given = self.given.saturating_add(1);
+        self.place = place;
+        self.taken = taken;
+    }
+
+    /// What follows is at `place`, and nothing there was looked at.
+    pub(crate) fn stand(&mut self, place: Place)
+        ensures { self.new ≡ stands_at self.old place }
+    {
+        self.place = place;
+        self.taken = 0;
+    }
+
+    pub(crate) fn place(&self) -> Place
+        ensures offset { result.offset ≡ self.now.offset }
+        ensures line { result.line ≡ self.now.line }
+    {
+        self.place
+    }
+
+    pub(crate) fn taken(&self) -> usize
+        ensures { result ≡ self.now.taken }
+    {
+        self.taken
+    }
+
+    /// The byte from which a finder goes on: the start of the logical line whose import was given last, and 0 where
+    /// none was; behind the last import the text's length, or the start of the declaration that ended the top; at a
+    /// fault the start of the logical line that has it.
+    pub fn offset(&self) -> u64
+        ensures { result ≡ self.now.offset }
+    {
+        self.place.offset
+    }
+
+    /// How many imports were given, over all finders that went on from one another. It stays at `u64::MAX`.
+    pub fn given(&self) -> u64
+        ensures { result ≡ self.now.given }
+    {
+        self.given
+    }
+
+    /// Which imports are found.
+    pub fn options(&self) -> FindOptions
+        ensures { result ≡ self.now.options }
+    {
+        self.options
+    }
+}

@@ -1,0 +1,69 @@
+ghost use Rattle.std.specs.Prelude.{◌≡◌, ◌↔◌, IsTrue, IfOk, IfErr, string_bytes};
+ghost use Rattle.std.specs.Option.{option_map};
+ghost use Rattle.py_imports.specs.Bound.{bound_of};
+ghost use Rattle.isort_find.specs.Key.{key_of, package_of};
+ghost use Rattle.isort_find.specs.KeyText.{key_in};
+
+use crate::error::FindError;
+use crate::options::ImportKey;
+use py_imports::Binding;
+use std::alloc::{AllocError, Global};
+
+/// By what an import counts as one with another: two keys made for one [`ImportKey`] are equal exactly where the
+/// imports count as one.
+#[derive(Debug, Drop, PartialEq, Eq, Hash)]
+pub struct KeyText {
+    text: String,
+    attribute: Option<String>,
+    alias: Option<String>,
+}
+
+// The leading dots and the first name of a module.
+fn package_of(name: &str) -> &str
+    ensures { result.now ≡ package_of name.now }
+{
+    let mut named = false;
+    'bytes: for (place, byte) in name.as_bytes().iter().enumerate() {
+        if *byte != b'.' {
+            named = true;
+        } else if named {
+            return &name[..place];
+        }
+    }
+    name
+}
+
+// A copy of the text, if there is one.
+fn copy_of(text: &Option<String>) -> Result<Option<String>, AllocError>
+    ensures { IfOk result (λ copy. option_map string_bytes copy ≡ option_map string_bytes text.now) }
+{
+    match text {
+        Some(text) => Ok(Some(text.clone()?)),
+        None => Ok(None),
+    }
+}
+
+/// The key of a binding. It answers `Memory` alone.
+pub fn key_of(alloc: Global, binding: &Binding, key: ImportKey) -> Result<KeyText, FindError>
+    ensures ok { IfOk result (λ k. key_in k ≡ key_of key (bound_of binding.now)) }
+    ensures err { IfErr result (λ e. e ≡ FindError.Memory) }
+{
+    let name = binding.module_name.as_str();
+    let text = match key {
+        ImportKey::Package => package_of(name),
+        ImportKey::Module | ImportKey::Attribute | ImportKey::Alias => name,
+    };
+    let attribute = match key {
+        ImportKey::Package | ImportKey::Module => None,
+        ImportKey::Attribute | ImportKey::Alias => copy_of(&binding.attribute_name)?,
+    };
+    let alias = match key {
+        ImportKey::Package | ImportKey::Module | ImportKey::Attribute => None,
+        ImportKey::Alias => copy_of(&binding.alias_name)?,
+    };
+    Ok(KeyText {
+        text: String::from_str(alloc, text)?,
+        attribute,
+        alias,
+    })
+}

@@ -1,0 +1,39 @@
+//! Laws of the definitions, which the checker proves as contracts.
+
+ghost use Rattle.std.specs.Prelude.{◌≡◌, ◌↔◌, ℕ, IsTrue, Option, List};
+ghost use Rattle.py_lines.specs.declared.fault.Fault.{Fault};
+ghost use Rattle.py_imports.specs.Bound.{Bound};
+ghost use Rattle.isort_find.specs.KeyText.{key_in};
+ghost use Rattle.isort_find.specs.Found.{IsFound, BeginsFound};
+ghost use Rattle.isort_find.specs.declared.options.FindOptions.{FindOptions};
+ghost use Rattle.isort_find.specs.Finder.{Finding, HasFound, text_of, options_of};
+
+use crate::key::KeyText;
+use py_imports::binds_or_is_bad;
+use py_lines::laws::{given_lines_begin_the_text, one_lexing};
+
+/// Two keys are `==` exactly where they are equal as definitions see them: the text, the attribute and the alias.
+/// One that is missing differs from each that is there.
+pub fn equal_keys(one: &KeyText, other: &KeyText) -> bool
+    ensures { IsTrue result ↔ (key_in one.now ≡ key_in other.now) }
+{
+    one == other
+}
+
+/// What a finder has given, with those that it goes on from, begins what is found in its text: the rest comes behind
+/// it.
+pub fn given_begin_the_found()
+    ensures begin { (f : Finding) (bounds : List Bound) → HasFound f bounds → BeginsFound (text_of f) (options_of f) bounds }
+{
+    given_lines_begin_the_text();
+    binds_or_is_bad();
+}
+
+/// What is found in a text with the same options is one list.
+pub fn one_found()
+    ensures { (text : List ℕ) (options : FindOptions) (bounds others : List Bound) (end other : Option Fault) → IsFound text options bounds end → IsFound text options others other → bounds ≡ others }
+{
+    one_lexing();
+    given_lines_begin_the_text();
+    binds_or_is_bad();
+}

@@ -1,0 +1,21 @@
+//! Finds the imports of a Python text, one by one, and can stop and go on.
+#![tactic(auto)]
+
+mod cursor;
+mod error;
+mod finder;
+mod key;
+pub mod laws;
+mod options;
+mod pending;
+mod step;
+mod take;
+
+pub use cursor::Cursor;
+pub use error::{FindError, ResumeError};
+pub use finder::Finder;
+pub use key::{KeyText, key_of};
+pub use options::{FindOptions, ImportKey};
+
+#[cfg(test)]
+mod tests;

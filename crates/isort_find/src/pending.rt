@@ -1,0 +1,111 @@
+ghost use Rattle.std.specs.Prelude.{◌≡◌, ℕ, ◌+◌, ◌^◌, ◌<◌, [], ◌∷◌, length, min, map, drop, MatchOption, vec_len};
+ghost use Rattle.std.specs.VecDeque.{deque_len};
+ghost use Rattle.py_imports.specs.Bound.{bound_of};
+
+use py_imports::Binding;
+use std::alloc::Global;
+use std::collections::VecDeque;
+use std::marker::Model;
+
+/// Where a logical line begins: its first byte in the text, and that byte's line.
+#[derive(Clone, Copy)]
+pub struct Place {
+    pub offset: u64,
+    pub line: u64,
+}
+
+/// The bindings of the logical line that was read last, as far as they weren't looked at.
+#[derive(Drop)]
+pub struct Pending {
+    bindings: VecDeque<Binding>,
+    place: Place,
+    taken: usize,
+}
+
+impl Model for Pending {
+    ghost use Rattle.std.specs.Prelude.{ℕ, ◌+◌, ◌^◌, ◌<◌, map};
+    ghost use Rattle.std.specs.VecDeque.{deque_len};
+    ghost use Rattle.isort_find.specs.Pending.{Looking, looking_at};
+
+    ghost Value = { Looking };
+
+    ghost view = { λ p. looking_at p.place p.taken p.bindings.items };
+
+    ghost invariant = { λ p. p.taken + deque_len p.bindings < 2 ^ 64 };
+}
+
+fn skip_first(bindings: &mut VecDeque<Binding>, count: usize)
+    ensures items { bindings.new.items ≡ drop count bindings.old.items }
+{
+    for _ in 0..count {
+        let _ = bindings.pop_front();
+    }
+}
+
+impl Pending {
+    ghost use Rattle.isort_find.specs.Pending.{Looks};
+
+    /// Nothing to look at yet.
+    pub fn none(alloc: Global, place: Place) -> Pending
+        ensures left { result.left ≡ [] }
+    {
+        Pending {
+            bindings: VecDeque::new(alloc),
+            place,
+            taken: 0,
+        }
+    }
+
+    /// The bindings of the logical line at `place` but for the first `taken`, which were looked at before.
+    pub fn new(bindings: Vec<Binding>, place: Place, taken: usize) -> Pending
+        ensures place { result.place ≡ place }
+        ensures taken { result.taken ≡ min taken (vec_len bindings) }
+        ensures left { result.left ≡ drop taken (map bound_of bindings.items) }
+    {
+        let taken = taken.min(bindings.len());
+        let mut bindings = VecDeque::from(bindings);
+        skip_first(&mut bindings, taken);
+        Pending {
+            bindings,
+            place,
+            taken,
+        }
+    }
+
+    /// The next binding to look at.
+    pub fn front(&self) -> Option<&Binding>
+        ensures { MatchOption result (self.now.left ≡ []) (λ b. self.now.left ≡ bound_of b.now ∷ drop 1 self.now.left) }
+    {
+        self.bindings.front()
+    }
+
+    /// Takes it: it was looked at.
+    pub fn take(&mut self) -> Option<Binding>
+        ensures { MatchOption result ((self.old.left ≡ []) × (self.new ≡ self.old)) (λ b. Looks self.old (bound_of b) self.new) }
+    {
+        let binding = self.bindings.pop_front()?;
+        self.taken += 1;
+        Some(binding)
+    }
+
+    /// Where the logical line begins.
+    pub fn place(&self) -> Place
+        ensures { result ≡ self.now.place }
+    {
+        self.place
+    }
+
+    /// How many of its bindings were looked at.
+    pub fn taken(&self) -> usize
+        ensures { result ≡ self.now.taken }
+    {
+        self.taken
+    }
+
+    /// How many are left is never more than a list can have.
+    pub fn left(&self) -> usize
+        ensures { result ≡ length self.now.left }
+    {
+        self.bindings.len()
+    }
+}

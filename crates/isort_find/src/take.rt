@@ -1,0 +1,26 @@
+ghost use Rattle.isort_find.specs.Step.{TakesNext};
+
+use crate::cursor::Cursor;
+use crate::error::FindError;
+use crate::pending::Pending;
+use py_imports::Binding;
+use std::alloc::Global;
+
+/// Takes the next binding whose key the cursor doesn't have, and notes it there. Those before it were looked at.
+pub fn take_new(
+    alloc: Global,
+    pending: &mut Pending,
+    cursor: &mut Cursor,
+) -> Result<Option<Binding>, FindError>
+    ensures { TakesNext cursor.old pending.old result cursor.new pending.new }
+{
+    'bindings: while let Some(binding) = pending.front() {
+        let is_new = cursor.admit(alloc, binding)?;
+        let taken = pending.take();
+        if is_new {
+            cursor.give(pending.place(), pending.taken());
+            return Ok(taken);
+        }
+    }
+    Ok(None)
+}
