@@ -4,7 +4,7 @@
     bench/find.py PROGRAM FOLDER [ROUNDS]
 
 PROGRAM is the built isort. The corpus is every `*.py` file below FOLDER, but for `site-packages`, that is UTF-8 without
-a byte order mark, ends in a line feed, and is listed by isort without a fault. It is taken twice: the files apart, one process for each, and
+a byte order mark, ends in a line feed, is listed by isort without a fault, and is accepted by `ast.parse`. It is taken twice: the files apart, one process for each, and
 concatenated, from the first again as often as needed, to one text of about 40 MB. The passes are
 
 - `isort --identify -`;
@@ -52,9 +52,17 @@ def corpus(program: str, folder: str) -> list[bytes]:
         if text.startswith(b"\xef\xbb\xbf") or not text.endswith(b"\n"):
             continue
         run = subprocess.run([program, "--identify", "-"], input=text, capture_output=True)
-        if run.returncode == 0:
+        if run.returncode == 0 and is_parsed(text):
             texts.append(text)
     return texts
+
+
+def is_parsed(text: bytes) -> bool:
+    try:
+        ast.parse(text)
+    except (SyntaxError, ValueError, RecursionError):
+        return False
+    return True
 
 
 def whole(texts: list[bytes]) -> bytes:
@@ -87,14 +95,10 @@ def run_over(command: list[str], texts: list[bytes], folder: str, rounds: int) -
 def walk_over(texts: list[bytes], rounds: int) -> float:
     """The seconds of `ast.parse` and a walk over the trees of all texts."""
     best = float("inf")
-    warnings.simplefilter("ignore")
     for _ in range(rounds):
         begun = time.perf_counter()
         for text in texts:
-            try:
-                tree = ast.parse(text)
-            except (SyntaxError, ValueError, RecursionError):
-                continue
+            tree = ast.parse(text)
             found = [node for node in ast.walk(tree) if isinstance(node, (ast.Import, ast.ImportFrom))]
             del tree, found
         best = min(best, time.perf_counter() - begun)
@@ -104,6 +108,7 @@ def walk_over(texts: list[bytes], rounds: int) -> float:
 def main() -> int:
     program, folder = sys.argv[1:3]
     rounds = int(sys.argv[3]) if len(sys.argv) > 3 else 3
+    warnings.simplefilter("ignore")
     texts = corpus(program, folder)
     sets = {"one text": [whole(texts)], f"{len(texts)} files": texts}
     print("| Corpus | Bytes | Pass | Seconds | MB/s | isort's time over its |")
