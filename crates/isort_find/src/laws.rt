@@ -29,9 +29,11 @@ pub fn given_begin_the_found()
     binds_or_is_bad();
 }
 
-/// What is found in a text with the same options is one list.
+/// What is found in a text with the same options is one list, and then its end, or one fault: of one kind, at one byte,
+/// on one line.
 pub fn one_found()
-    ensures { (text : List ℕ) (options : FindOptions) (bounds others : List Bound) (end other : Option Fault) → IsFound text options bounds end → IsFound text options others other → bounds ≡ others }
+    ensures one_list { (text : List ℕ) (options : FindOptions) (bounds others : List Bound) (end other : Option Fault) → IsFound text options bounds end → IsFound text options others other → bounds ≡ others }
+    ensures one_end { (text : List ℕ) (options : FindOptions) (bounds others : List Bound) (end other : Option Fault) → IsFound text options bounds end → IsFound text options others other → end ≡ other }
 {
     one_lexing();
     given_lines_begin_the_text();

@@ -47,6 +47,8 @@ impl Pending {
 
     /// Nothing to look at yet.
     pub fn none(alloc: Global, place: Place) -> Pending
+        ensures place { result.place ≡ place }
+        ensures taken { result.taken ≡ 0 }
         ensures left { result.left ≡ [] }
     {
         Pending {

@@ -6,7 +6,7 @@ use Rattle.std.specs.Prelude.{encode_utf8_all}
 use Rattle.py_lines.specs.Piece.{Class, line_end, Piece, spelled, AreReadBefore}
 use Rattle.py_lines.specs.Balance.{IsBalanced, IsShallow, depth_after, depth_through}
 use Rattle.py_lines.specs.LogicalLine.{LogicalLine, is_line_end_class, byte_len, line_ends, lines_of}
-use Rattle.py_lines.specs.Lexed.{Decodes, IsReading, IsLive, EndsLine, IsOpenAtEnd, IsLexed, BeginsLexing}
+use Rattle.py_lines.specs.Lexed.{Decodes, IsReading, IsLive, EndsLine, IsLexed, BeginsLexing}
 use Rattle.py_lines.specs.Reader.{Reader, HasGiven}
 use Rattle.py_lines.specs.declared.fault.FaultKind.{FaultKind}
 use Rattle.py_lines.specs.declared.fault.FaultKind.TheVariants as faults
@@ -14,7 +14,7 @@ use Rattle.py_lines.specs.declared.fault.Fault.{Fault}
 use Rattle.py_lines.specs.declared.mode.Mode.TheVariants as modes
 use Rattle.py_lines.specs.Machine.{Scanned, at_start, run_from, is_final, in_short, is_behind_slash, character_kind, character_place, end_kind, end_place, Bracket, RunsTo}
 use Rattle.py_lines.specs.Scan.{begun, EndsNoLine}
-use Rattle.py_lines.proofs.Pieces.{spelled-append}
+use Rattle.py_lines.proofs.Placed.{FrontTo, end_rest}
 use Rattle.py_lines.proofs.Runs.{pieces_at, run_from-append}
 use Rattle.py_lines.proofs.Complete.{reach}
 use Rattle.py_lines.proofs.Stacks.{depth_through-append}
@@ -137,13 +137,6 @@ onward base others s ended is = go (last_end 0 others)
           whole = ap lines_of is ∙ all.1;
         }
 
--- the front of a text that ends at this byte
-record FrontTo (characters : List ℕ) (offset : ℕ) : Type 0 where
-  front : List ℕ
-  rest : List ℕ
-  spell : front ++ rest ≡ characters
-  place : byte_len front ≡ offset
-
 fault_behind : (kind : FaultKind) (characters : List ℕ) (offset : ℕ) → FrontTo characters offset → (fault : Fault) × (fault.kind ≡ kind) × (fault.offset ≡ offset) × IsLineOf fault characters
 fault_behind kind characters offset f = (record { kind = kind; offset = offset; line = 1 + line_ends f.front }, refl, refl, record { front = f.front; rest = f.rest; spell = f.spell; place = f.place; line = refl })
 
@@ -157,19 +150,6 @@ character_front characters before after c s st spell runs =
       place = refl;
     })
     (λ h. record { front = before; rest = c ∷ after; spell = spell; place = refl })
-
-end_rest : (kind : FaultKind) (characters start : List ℕ) → IsOpenAtEnd kind characters start → (rest : List ℕ) × (start ++ rest ≡ characters)
-end_rest faults.OpenString characters start is = (is.front, is.spell)
-end_rest faults.OpenTriple characters start is = (is.front, is.spell)
-end_rest faults.BadJoin characters start is = (is.slash ∷ [], is.spell)
-end_rest faults.OpenBracket characters start is =
-    let inside = is.opener ∷ is.inner in
-    (spelled inside, ap (λ t. t ++ spelled inside) (sym is.before) ∙ sym (spelled-append is.outer inside) ∙ is.spell)
-end_rest faults.BadUtf8 characters start is = absurd is
-end_rest faults.BadChar characters start is = absurd is
-end_rest faults.WrongClose characters start is = absurd is
-end_rest faults.TooDeep characters start is = absurd is
-end_rest faults.BadImport characters start is = absurd is
 
 end_front : (characters : List ℕ) (s : Scanned) (st : List Bracket) → RunsTo characters s st → ((pieces : List Piece) → ¬ (IsReading pieces characters)) → FrontTo characters (end_place s st)
 end_front characters s st runs unread =

@@ -21,6 +21,7 @@ pub mod Ends
 pub mod Cuts
 pub mod Pushes
 pub mod OneFault
+pub mod Placed
 pub mod Steps
 pub mod Lexing
 pub mod Counting

@@ -1,11 +1,13 @@
--- A text has one list of logical lines.
-use Rattle.std.proofs.Common.{◌≡◌, ℕ, Option, None, Some, List, [], ◌++◌, length, take, sym, ap, ◌∙◌, subst, arith}
+-- A text has one list of logical lines, and then its end or one fault.
+use Rattle.std.proofs.Common.{◌≡◌, ℕ, Option, None, Some, List, [], ◌++◌, length, take, refl, sym, ap, ◌∙◌, subst, arith}
 use Rattle.std.proofs.Math.Seq.{take-append_seam}
 use Rattle.py_lines.specs.Piece.{Piece, spelled}
 use Rattle.py_lines.specs.LogicalLine.{LogicalLine, lines_of}
-use Rattle.py_lines.specs.Lexed.{Decodes, IsReading, IsFront, IsRead, IsRefused, IsLexed}
+use Rattle.py_lines.specs.Lexed.{Decodes, IsReading, IsFront, IsLexicalFault, IsRead, IsRefused, IsLexed}
 use Rattle.py_lines.specs.declared.fault.Fault.{Fault}
 use Rattle.py_lines.proofs.Complete.{one_reading_of}
+use Rattle.py_lines.proofs.OneFault.{one_fault_of}
+use Rattle.py_lines.proofs.Placed.{fault_front}
 use Rattle.py_lines.proofs.Utf8.{one_decoding}
 
 decoded : (text a b s t : List ℕ) → Decodes text a s → Decodes text b t → (a ≡ b) × (s ≡ t)
@@ -40,3 +42,19 @@ one_lexing_of text lines others (Some fault) None r s = absurd (never_both text 
 one_lexing_of text lines others (Some fault) (Some second) r s =
     let same = decoded text r.characters s.characters r.tail s.tail r.decodes s.decodes in
     r.cut ∙ ap lines_of (one_front r.pieces s.pieces s.characters (subst (λ (t : List ℕ). IsFront r.pieces t) same.0 r.front) s.front) ∙ sym s.cut
+
+-- its fault is of one kind, at one byte, on one line
+same_fault : (characters tail : List ℕ) (fault second : Fault) → IsLexicalFault characters tail fault → IsLexicalFault characters tail second → fault ≡ second
+same_fault characters tail fault second f g =
+    let is = one_fault_of characters tail fault.kind second.kind fault.offset second.offset f.place g.place in
+    let at = fault_front fault.kind characters tail fault.offset f.place in
+    let line = f.line at.front at.rest at.spell at.place ∙ sym (g.line at.front at.rest at.spell (at.place ∙ is.1)) in
+    λ i. record { kind = is.0 i; offset = is.1 i; line = line i }
+
+pub one_end_of : (text : List ℕ) (lines others : List LogicalLine) (end other : Option Fault) → IsLexed text lines end → IsLexed text others other → end ≡ other
+one_end_of text lines others None None r s = refl
+one_end_of text lines others None (Some fault) r s = absurd (never_both text lines others fault r s)
+one_end_of text lines others (Some fault) None r s = absurd (never_both text others lines fault s r)
+one_end_of text lines others (Some fault) (Some second) r s =
+    let same = decoded text r.characters s.characters r.tail s.tail r.decodes s.decodes in
+    ap Some (same_fault s.characters s.tail fault second (subst (λ (t : List ℕ). IsLexicalFault t s.tail fault) same.0 (subst (λ (t : List ℕ). IsLexicalFault r.characters t fault) same.1 r.refused)) s.refused)

@@ -22,10 +22,11 @@ pub fn one_fault()
     ensures one { (characters tail : List ℕ) (kind other : FaultKind) (offset place : ℕ) → IsFaultAt kind characters tail offset → IsFaultAt other characters tail place → (kind ≡ other) × (offset ≡ place) }
 {}
 
-/// A text has one list of logical lines.
-#[tactic(auto, using(crate::proofs::OneLexing::one_lexing_of))]
+/// A text has one list of logical lines, and then its end, or one lexical fault: of one kind, at one byte, on one line.
+#[tactic(auto, using(crate::proofs::OneLexing::one_lexing_of, crate::proofs::OneLexing::one_end_of))]
 pub fn one_lexing()
-    ensures { (text : List ℕ) (lines others : List LogicalLine) (end other : Option Fault) → IsLexed text lines end → IsLexed text others other → lines ≡ others }
+    ensures one_list { (text : List ℕ) (lines others : List LogicalLine) (end other : Option Fault) → IsLexed text lines end → IsLexed text others other → lines ≡ others }
+    ensures one_end { (text : List ℕ) (lines others : List LogicalLine) (end other : Option Fault) → IsLexed text lines end → IsLexed text others other → end ≡ other }
 {}
 
 /// The lines that a reader has given, wherever it stands, begin the lexing of the whole text: the rest of its lines and

@@ -33,7 +33,7 @@ returns-in-Bindings-clause-ok c =
     let step = subst (λ (x : Step). StepsTo c.options.result f.reader x r) c.in-Bindings.is there in
     let bs = map bound_of c.in-Bindings.bindings.items in
     let few : length bs < 2 ^ 64 = omega (arith, length-map c.in-Bindings.bindings.items bound_of, c.in-Bindings.bindings.ok, c.in-Bindings.bindings.small) in
-    subst (ReadsOn c.args.self.now) (sym (c.begin.ensures ∙ ap (λ (x : Finding). begins_line x place bs) closing)) (reads_bindings (record { one_lexing = c.one_lexing.ensures; begins = c.given_lines_begin_the_text.ensures.begin; one_list = c.binds_or_is_bad.ensures.one_list; not_both = c.binds_or_is_bad.ensures.not_both }) c.args.self.now f place c.options.result r bs about step few)
+    subst (ReadsOn c.args.self.now) (sym (c.begin.ensures ∙ ap (λ (x : Finding). begins_line x place bs) closing)) (reads_bindings (record { one_lexing = c.one_lexing.ensures.one_list; begins = c.given_lines_begin_the_text.ensures.begin; one_list = c.binds_or_is_bad.ensures.one_list; not_both = c.binds_or_is_bad.ensures.not_both }) c.args.self.now f place c.options.result r bs about step few)
 
 pub returns-in-TopEnd-clause-ok : goal.returns-in-TopEnd-clause-ok
 returns-in-TopEnd-clause-ok c =
@@ -54,7 +54,7 @@ returns-in-TopEnd-clause-ok c =
     let closing = own_reader s.lines s.text.now s.again s.skip s.pending s.outcome s.cursor back.here r in
     let there : StepsTo c.options.result f.reader c.next_step.result r = subst (λ (q : Reader). StepsTo c.options.result q c.next_step.result r) (sym own) c.next_step.ensures in
     let step = subst (λ (x : Step). StepsTo c.options.result f.reader x r) c.in-TopEnd.is there in
-    subst (ReadsOn c.args.self.now) (sym (c.finish.ensures ∙ ap (λ (x : Finding). record x { outcome = outcome.End; cursor = stands_at x.cursor place }) closing)) (reads_top (record { one_lexing = c.one_lexing.ensures; begins = c.given_lines_begin_the_text.ensures.begin; one_list = c.binds_or_is_bad.ensures.one_list; not_both = c.binds_or_is_bad.ensures.not_both }) c.args.self.now f place c.options.result r about step)
+    subst (ReadsOn c.args.self.now) (sym (c.finish.ensures ∙ ap (λ (x : Finding). record x { outcome = outcome.End; cursor = stands_at x.cursor place }) closing)) (reads_top (record { one_lexing = c.one_lexing.ensures.one_list; begins = c.given_lines_begin_the_text.ensures.begin; one_list = c.binds_or_is_bad.ensures.one_list; not_both = c.binds_or_is_bad.ensures.not_both }) c.args.self.now f place c.options.result r about step)
 
 pub returns-in-TextEnd-clause-ok : goal.returns-in-TextEnd-clause-ok
 returns-in-TextEnd-clause-ok c =
@@ -75,7 +75,7 @@ returns-in-TextEnd-clause-ok c =
     let closing = own_reader s.lines s.text.now s.again s.skip s.pending s.outcome s.cursor back.here r in
     let there : StepsTo c.options.result f.reader c.next_step.result r = subst (λ (q : Reader). StepsTo c.options.result q c.next_step.result r) (sym own) c.next_step.ensures in
     let step = subst (λ (x : Step). StepsTo c.options.result f.reader x r) c.in-TextEnd.is there in
-    subst (ReadsOn c.args.self.now) (sym (c.finish-in-TextEnd.ensures ∙ ap (λ (x : Finding). record x { outcome = outcome.End; cursor = stands_at x.cursor place }) closing)) (reads_end (record { one_lexing = c.one_lexing.ensures; begins = c.given_lines_begin_the_text.ensures.begin; one_list = c.binds_or_is_bad.ensures.one_list; not_both = c.binds_or_is_bad.ensures.not_both }) c.args.self.now f place c.options.result r about step)
+    subst (ReadsOn c.args.self.now) (sym (c.finish-in-TextEnd.ensures ∙ ap (λ (x : Finding). record x { outcome = outcome.End; cursor = stands_at x.cursor place }) closing)) (reads_end (record { one_lexing = c.one_lexing.ensures.one_list; begins = c.given_lines_begin_the_text.ensures.begin; one_list = c.binds_or_is_bad.ensures.one_list; not_both = c.binds_or_is_bad.ensures.not_both }) c.args.self.now f place c.options.result r about step)
 
 pub returns-in-BadLine-clause-ok : goal.returns-in-BadLine-clause-ok
 returns-in-BadLine-clause-ok c =
@@ -96,7 +96,7 @@ returns-in-BadLine-clause-ok c =
     let closing = own_reader s.lines s.text.now s.again s.skip s.pending s.outcome s.cursor back.here r in
     let there : StepsTo c.options.result f.reader c.next_step.result r = subst (λ (q : Reader). StepsTo c.options.result q c.next_step.result r) (sym own) c.next_step.ensures in
     let step = subst (λ (x : Step). StepsTo c.options.result f.reader x r) c.in-BadLine.is there in
-    subst (ReadsOn c.args.self.now) (sym (c.finish-in-BadLine.ensures ∙ ap (λ (x : Finding). record x { outcome = outcome.Fault c.in-BadLine.fault; cursor = stands_at x.cursor place }) closing)) (reads_bad_line (record { one_lexing = c.one_lexing.ensures; begins = c.given_lines_begin_the_text.ensures.begin; one_list = c.binds_or_is_bad.ensures.one_list; not_both = c.binds_or_is_bad.ensures.not_both }) c.args.self.now f place c.options.result r c.in-BadLine.fault about step)
+    subst (ReadsOn c.args.self.now) (sym (c.finish-in-BadLine.ensures ∙ ap (λ (x : Finding). record x { outcome = outcome.Fault c.in-BadLine.fault; cursor = stands_at x.cursor place }) closing)) (reads_bad_line (record { one_lexing = c.one_lexing.ensures.one_list; begins = c.given_lines_begin_the_text.ensures.begin; one_list = c.binds_or_is_bad.ensures.one_list; not_both = c.binds_or_is_bad.ensures.not_both }) c.args.self.now f place c.options.result r c.in-BadLine.fault about step)
 
 pub returns-in-BadText-clause-ok : goal.returns-in-BadText-clause-ok
 returns-in-BadText-clause-ok c =
@@ -117,7 +117,7 @@ returns-in-BadText-clause-ok c =
     let closing = own_reader s.lines s.text.now s.again s.skip s.pending s.outcome s.cursor back.here r in
     let there : StepsTo c.options.result f.reader c.next_step.result r = subst (λ (q : Reader). StepsTo c.options.result q c.next_step.result r) (sym own) c.next_step.ensures in
     let step = subst (λ (x : Step). StepsTo c.options.result f.reader x r) c.in-BadText.is there in
-    subst (ReadsOn c.args.self.now) (sym (c.finish-in-BadText.ensures ∙ ap (λ (x : Finding). record x { outcome = outcome.Fault c.in-BadText.fault; cursor = stands_at x.cursor place }) closing)) (reads_bad_text (record { one_lexing = c.one_lexing.ensures; begins = c.given_lines_begin_the_text.ensures.begin; one_list = c.binds_or_is_bad.ensures.one_list; not_both = c.binds_or_is_bad.ensures.not_both }) c.args.self.now f place c.options.result r c.in-BadText.fault about step)
+    subst (ReadsOn c.args.self.now) (sym (c.finish-in-BadText.ensures ∙ ap (λ (x : Finding). record x { outcome = outcome.Fault c.in-BadText.fault; cursor = stands_at x.cursor place }) closing)) (reads_bad_text (record { one_lexing = c.one_lexing.ensures.one_list; begins = c.given_lines_begin_the_text.ensures.begin; one_list = c.binds_or_is_bad.ensures.one_list; not_both = c.binds_or_is_bad.ensures.not_both }) c.args.self.now f place c.options.result r c.in-BadText.fault about step)
 
 pub returns-in-LineLost-clause-err : goal.returns-in-LineLost-clause-err
 returns-in-LineLost-clause-err c =
