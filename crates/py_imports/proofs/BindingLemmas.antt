@@ -4,23 +4,14 @@ use Rattle.std.proofs.lemmas.Option.{slice_get-get_or}
 use Rattle.std.proofs.lemmas.List.{append-nil, drop_all}
 use Rattle.py_lines.specs.LogicalLine.{LogicalLine}
 use Rattle.py_lines.specs.declared.token.Token.{Token}
-use Rattle.py_imports.specs.Statement.{is_comment, significant, is_divider, depth_after, ends_in_divider, may_start_behind, Place, places_from, starts}
+use Rattle.py_imports.specs.Statement.{is_comment, significant, is_divider, depth_after, depth_behind, ends_in_divider, may_start_behind, Place, places_from, starts}
 use Rattle.py_imports.specs.Bound.{Bound, bound_of}
 use Rattle.py_imports.specs.Binds.{BindsAt, BindEach, Binds, Refuses}
 use Rattle.py_imports.specs.Parser.{BindsMore, RefusesAt, IsPlaceAt}
 use Rattle.py_imports.specs.declared.binding.Binding.{Binding}
 use Rattle.py_imports.specs.declared.error.ImportError.{ImportError}
 use Rattle.py_imports.specs.declared.error.ImportError.TheVariants as error
-use Rattle.py_imports.proofs.TokenLemmas.{significant-cons, significant-comment}
-
--- the depth behind tokens
-abbrev pub depth_behind : ℕ → List Token → ℕ
-depth_behind depth [] = depth
-depth_behind depth (t ∷ ts) = depth_behind (depth_after depth t.kind) ts
-
-depth_behind-snoc : (depth : ℕ) (ts : List Token) (t : Token) → depth_behind depth (ts ++ t ∷ []) ≡ depth_after (depth_behind depth ts) t.kind
-depth_behind-snoc depth [] t = refl
-depth_behind-snoc depth (u ∷ ts) t = depth_behind-snoc (depth_after depth u.kind) ts t
+use Rattle.py_imports.proofs.TokenLemmas.{depth_behind-snoc, significant-cons, significant-comment}
 
 ends_in_divider-snoc : (depth : ℕ) (ts : List Token) (t : Token) → ends_in_divider depth (ts ++ t ∷ []) ≡ is_divider t.kind && (depth_behind depth ts == 0)
 ends_in_divider-snoc depth [] t = refl

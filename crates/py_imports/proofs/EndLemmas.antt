@@ -1,13 +1,34 @@
 -- Where a statement ends.
-use Rattle.std.proofs.Common.{◌≡◌, ℕ, ◌+◌, ◌-◌, ◌<◌, ◌≤◌, Bool, true, false, ◌==◌, ◌&&◌, List, [], ◌∷◌, ◌++◌, length, take, drop, get_or, refl, sym, ap, ◌∙◌, append_assoc, arith}
+use Rattle.std.proofs.Common.{◌≡◌, ℕ, ◌+◌, ◌-◌, ◌<◌, ◌≤◌, Bool, true, false, not, cond, ◌==◌, ◌&&◌, List, [], ◌∷◌, ◌++◌, length, map, take, take_while, drop, get_or, refl, sym, ap, ◌∙◌, append_assoc, arith}
 use Rattle.std.proofs.lemmas.List.{append-nil, take_more, drop_more, get_or-drop}
+use Rattle.std.proofs.lemmas.List.Sums.{take_while-cons}
 use Rattle.std.proofs.Common.{length-drop, if◌then◌else◌}
 use Rattle.py_lines.specs.Balance.{is_opening, is_closing}
 use Rattle.py_lines.specs.declared.token.Token.{Token}
 use Rattle.py_lines.specs.declared.token.TokKind.{TokKind}
 use Rattle.py_lines.specs.declared.token.TokKind.TheVariants as kind
-use Rattle.py_imports.specs.Statement.{is_comment, significant, is_semicolon, depth_after, up_to_semicolon}
-use Rattle.py_imports.proofs.TokenLemmas.{window, significant-cons, significant-comment}
+use Rattle.py_imports.specs.Statement.{is_comment, significant, is_semicolon, depth_after, depth_behind, Place, places_from, is_end, statement_at}
+use Rattle.py_imports.specs.Parsing.{up_to_semicolon}
+use Rattle.py_imports.proofs.TokenLemmas.{depth_behind-snoc, window, significant-cons, significant-comment}
+
+-- the tokens before the first `;` at depth 0, behind others
+before_end : (before ts : List Token) → map (λ q. q.token) (take_while (λ q. not (is_end q)) (places_from before ts)) ≡ up_to_semicolon (depth_behind 0 before) ts
+before_end before [] = refl
+before_end before (t ∷ ts) =
+    ap (map (λ q. q.token)) (take_while-cons (λ q. not (is_end q)) here others) ∙ by_end (before_end (before ++ t ∷ []) ts ∙ ap (λ d. up_to_semicolon d ts) (depth_behind-snoc 0 before t)) (is_end here) refl
+  where
+    here : Place
+    here = record { before = before; token = t; behind = ts }
+
+    others : List Place
+    others = places_from (before ++ t ∷ []) ts
+
+    by_end : map (λ q. q.token) (take_while (λ q. not (is_end q)) others) ≡ up_to_semicolon (depth_after (depth_behind 0 before) t.kind) ts → (b : Bool) → is_end here ≡ b → map (λ q. q.token) (cond (not (is_end here)) (here ∷ take_while (λ q. not (is_end q)) others) []) ≡ up_to_semicolon (depth_behind 0 before) (t ∷ ts)
+    by_end rest true e = rw e refl
+    by_end rest false e = rw e (ap (λ l. t ∷ l) rest)
+
+pub statement_is : (p : Place) → statement_at p ≡ up_to_semicolon 0 (p.token ∷ p.behind)
+statement_is p = before_end [] (p.token ∷ p.behind)
 
 comment_depth : (depth : ℕ) (k : TokKind) → is_comment k ≡ true → depth_after depth k ≡ depth
 comment_depth depth kind.Remark e = refl

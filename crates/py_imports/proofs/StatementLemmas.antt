@@ -6,7 +6,9 @@ use Rattle.py_lines.specs.LogicalLine.{LogicalLine}
 use Rattle.py_lines.specs.declared.token.Token.{Token}
 use Rattle.py_lines.specs.declared.token.TokKind.TheVariants as kind
 use Rattle.py_imports.specs.Grammar.{Terminal, import_word, from_word, begins_import, modules, spelling, IsRelativeModule, Item, AreItems, AreNames, whole_module, attribute_of, Imported, IsImport, import_statement, from_statement}
-use Rattle.py_imports.specs.Statement.{is_semicolon, depth_after, up_to_semicolon, Place}
+use Rattle.py_imports.specs.Statement.{is_semicolon, depth_after, Place}
+use Rattle.py_imports.specs.Parsing.{up_to_semicolon}
+use Rattle.py_imports.proofs.EndLemmas.{statement_is}
 use Rattle.py_imports.specs.Bound.{bound_of, bound_at}
 use Rattle.py_imports.specs.Binds.{terminal_in, terminals_at, nothing, imports, IsBadStart}
 use Rattle.py_imports.specs.Parsing.{Read, at_relative}
@@ -79,9 +81,9 @@ up_to_semicolon-name t ts e d = rw (e, d) refl
 
 -- no import statement starts with this token
 pub no_import : (line : LogicalLine) (p : Place) → ((ts : List Terminal) → begins_import (terminal_in line.text p.token ∷ ts) ≡ false) → begins_import (terminals_at line p) ≡ false
-no_import line p h = by_end (is_semicolon p.token.kind && (0 == 0)) refl
+no_import line p h = ap (λ ts. begins_import (map (terminal_in line.text) ts)) (statement_is p) ∙ by_end (is_semicolon p.token.kind && (0 == 0)) refl
   where
-    by_end : (b : Bool) → (is_semicolon p.token.kind && (0 == 0)) ≡ b → begins_import (terminals_at line p) ≡ false
+    by_end : (b : Bool) → (is_semicolon p.token.kind && (0 == 0)) ≡ b → begins_import (map (terminal_in line.text) (up_to_semicolon 0 (p.token ∷ p.behind))) ≡ false
     by_end true e = rw e refl
     by_end false e = rw e (h (map (terminal_in line.text) (up_to_semicolon (depth_after 0 p.token.kind) p.behind)))
 
@@ -92,7 +94,7 @@ binds_none line p old h = record { bounds = []; binds = nothing line p [] (no_im
 -- the statement that starts with a word
 pub begun_at : (line : LogicalLine) (p : Place) (f : Form) (rest : List Terminal) → p.token.kind ≡ kind.Name → ((ts : List Terminal) → terminal_in line.text p.token ∷ ts ≡ begun f ts) → rest ≡ map (terminal_in line.text) (up_to_semicolon 0 p.behind) → terminals_at line p ≡ begun f rest
 begun_at line p f rest k h e =
-    ap (map (terminal_in line.text)) (up_to_semicolon-name p.token p.behind (ap is_semicolon k) (ap (depth_after 0) k)) ∙ ap (λ x. terminal_in line.text p.token ∷ x) (sym e) ∙ h rest
+    ap (map (terminal_in line.text)) (statement_is p ∙ up_to_semicolon-name p.token p.behind (ap is_semicolon k) (ap (depth_after 0) k)) ∙ ap (λ x. terminal_in line.text p.token ∷ x) (sym e) ∙ h rest
 
 begins_begun : (f : Form) (ts : List Terminal) → begins_import (begun f ts) ≡ true
 begins_begun form.Import ts = refl

@@ -1,9 +1,9 @@
 -- The terminals of tokens, one token after another.
-use Rattle.std.proofs.Common.{◌≡◌, ◌≢◌, ℕ, suc, ◌+◌, ◌-◌, ◌<◌, ◌≤◌, false, true, List, ◌∷◌, length, take, drop, get_or, refl, add-one, drop-cons, arith}
+use Rattle.std.proofs.Common.{◌≡◌, ◌≢◌, ℕ, suc, ◌+◌, ◌-◌, ◌<◌, ◌≤◌, false, true, List, [], ◌∷◌, ◌++◌, length, take, drop, get_or, refl, add-one, drop-cons, arith}
 use Rattle.py_lines.specs.declared.token.TokKind.{TokKind}
 use Rattle.py_lines.specs.declared.token.TokKind.TheVariants as kind
 use Rattle.py_lines.specs.declared.token.Token.{Token}
-use Rattle.py_imports.specs.Statement.{is_comment, significant}
+use Rattle.py_imports.specs.Statement.{is_comment, significant, depth_after, depth_behind}
 
 -- a kind other than that of comments
 pub is_comment-other : (k : TokKind) → k ≢ kind.Remark → is_comment k ≡ false
@@ -36,3 +36,8 @@ window-significant tokens place end t before within code = rw (window-cons token
 
 pub window-comment : (tokens : List Token) (place end : ℕ) (t : Token) → place < end → end ≤ length tokens → is_comment (get_or tokens place t).kind ≡ true → significant (window tokens place end) ≡ significant (window tokens (place + 1) end)
 window-comment tokens place end t before within code = rw (window-cons tokens place end t before within) (significant-comment (get_or tokens place t) (window tokens (place + 1) end) code)
+
+-- one token more
+pub depth_behind-snoc : (depth : ℕ) (ts : List Token) (t : Token) → depth_behind depth (ts ++ t ∷ []) ≡ depth_after (depth_behind depth ts) t.kind
+depth_behind-snoc depth [] t = refl
+depth_behind-snoc depth (u ∷ ts) t = depth_behind-snoc (depth_after depth u.kind) ts t

@@ -1,7 +1,9 @@
 -- How the program reads an import statement, from left to right. These functions help its proof: no public clause
 -- names them, and what they compute is shown to be the grammar's.
-use Rattle.std.specs.Prelude.{ℕ, Bool, true, Option, None, Some, option_and_then, List, [], ◌∷◌, ◌++◌, if◌then◌else◌}
+use Rattle.std.specs.Prelude.{ℕ, Bool, true, ◌==◌, ◌&&◌, Option, None, Some, option_and_then, List, [], ◌∷◌, ◌++◌, if◌then◌else◌}
 use Rattle.std.specs.Option.{option_map}
+use Rattle.py_lines.specs.declared.token.Token.{Token}
+use Rattle.py_imports.specs.Statement.{is_semicolon, depth_after}
 use Rattle.py_imports.specs.Grammar.{Terminal, import_word, as_word, name, dot, Listed, modules, identifiers, Item}
 
 -- what was read, and what follows it
@@ -61,3 +63,8 @@ at_path identifiers ts = at_identifier ts
 -- a path with its alias, if it has one
 abbrev pub at_item : Listed → List Terminal → Option ItemRead
 at_item k ts = option_and_then (λ r. alias_behind r.spelled r.rest) (at_path k ts)
+
+-- the tokens up to the next `;` at depth 0, or all; they begin at this depth
+abbrev pub up_to_semicolon : ℕ → List Token → List Token
+up_to_semicolon depth [] = []
+up_to_semicolon depth (t ∷ ts) = if is_semicolon t.kind && (depth == 0) then [] else t ∷ up_to_semicolon (depth_after depth t.kind) ts

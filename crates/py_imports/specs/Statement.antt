@@ -1,5 +1,5 @@
 -- Where statements start in a logical line, and which tokens each has. Python Language Reference, 7 and 8.
-use Rattle.std.specs.Prelude.{ℕ, ◌+◌, ◌-◌, Bool, true, false, not, ◌==◌, ◌&&◌, ◌||◌, List, [], ◌∷◌, ◌++◌, filter, if◌then◌else◌}
+use Rattle.std.specs.Prelude.{ℕ, ◌+◌, ◌-◌, Bool, true, false, not, ◌==◌, ◌&&◌, ◌||◌, List, [], ◌∷◌, ◌++◌, map, filter, take_while, if◌then◌else◌}
 use Rattle.py_lines.specs.Balance.{is_opening, is_closing}
 use Rattle.py_lines.specs.declared.token.TokKind.{TokKind}
 use Rattle.py_lines.specs.declared.token.TokKind.TheVariants as kind
@@ -29,6 +29,11 @@ is_divider k = is_operator_that (λ c. (c == 59) || (c == 58)) k
 abbrev pub depth_after : ℕ → TokKind → ℕ
 depth_after depth k = if is_operator_that is_opening k then depth + 1 else (if is_operator_that is_closing k then depth - 1 else depth)
 
+-- the depth behind tokens that begin at this depth
+abbrev pub depth_behind : ℕ → List Token → ℕ
+depth_behind depth [] = depth
+depth_behind depth (t ∷ ts) = depth_behind (depth_after depth t.kind) ts
+
 -- whether the last of these tokens, which begin at this depth, is `;` or `:` at depth 0
 abbrev pub ends_in_divider : ℕ → List Token → Bool
 ends_in_divider depth [] = false
@@ -55,11 +60,10 @@ places_from before (t ∷ ts) = record { before = before; token = t; behind = ts
 abbrev pub starts : List Token → List Place
 starts tokens = filter (λ p. may_start_behind p.before) (places_from [] tokens)
 
--- the tokens up to the next `;` at depth 0, or all; they begin at this depth
-abbrev pub up_to_semicolon : ℕ → List Token → List Token
-up_to_semicolon depth [] = []
-up_to_semicolon depth (t ∷ ts) = if is_semicolon t.kind && (depth == 0) then [] else t ∷ up_to_semicolon (depth_after depth t.kind) ts
+-- whether a `;` at depth 0 stands at this place
+abbrev pub is_end : Place → Bool
+is_end p = is_semicolon p.token.kind && (depth_behind 0 p.before == 0)
 
--- the tokens of the statement that starts here
+-- the tokens of the statement that starts here: those before the first `;` at depth 0, or all
 abbrev pub statement_at : Place → List Token
-statement_at p = up_to_semicolon 0 (p.token ∷ p.behind)
+statement_at p = map (λ q. q.token) (take_while (λ q. not (is_end q)) (places_from [] (p.token ∷ p.behind)))

@@ -2,7 +2,8 @@ ghost use Rattle.std.specs.Prelude.{◌≡◌, ◌==◌, ◌&&◌, ◌≤◌, �
 ghost use Rattle.py_lines.specs.Lines.{line_in};
 ghost use Rattle.py_lines.specs.Balance.{is_opening, is_closing};
 ghost use Rattle.py_imports.specs.Grammar.{Terminal, terminal_of, begins_import, Imported, IsImport};
-ghost use Rattle.py_imports.specs.Statement.{is_semicolon, is_divider, depth_after, significant, up_to_semicolon, Place};
+ghost use Rattle.py_imports.specs.Statement.{is_semicolon, is_divider, depth_after, significant, Place};
+ghost use Rattle.py_imports.specs.Parsing.{up_to_semicolon};
 ghost use Rattle.py_imports.specs.Binds.{Binds, Refuses};
 ghost use Rattle.py_imports.specs.Bound.{bound_of};
 ghost use Rattle.py_imports.specs.Parser.{rest_of, begun, ReadsStatement, BindsMore, RefusesAt, IsPlaceAt};

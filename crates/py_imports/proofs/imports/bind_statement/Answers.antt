@@ -5,7 +5,7 @@ use Rattle.py_lines.specs.declared.token.Token.{Token}
 use Rattle.py_lines.specs.declared.token.TokKind.TheVariants as kind
 use Rattle.py_imports.specs.Grammar.{Terminal, terminal_of, begins_import}
 use Rattle.py_lines.specs.declared.fault.FaultKind.TheVariants.{BadImport}
-use Rattle.py_imports.specs.Statement.{up_to_semicolon}
+use Rattle.py_imports.specs.Parsing.{up_to_semicolon}
 use Rattle.py_imports.specs.Binds.{terminal_in}
 use Rattle.py_imports.specs.Parser.{begun, rest_of}
 use Rattle.py_imports.proofs.StatementLemmas.{binds_none, begun_at, binds_import, bad_import, token_at}

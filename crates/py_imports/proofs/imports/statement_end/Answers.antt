@@ -1,6 +1,7 @@
 use Rattle.std.proofs.Common.{◌+◌, sym, ◌∙◌, ap, drop, ◌++◌}
 use Rattle.py_lines.specs.declared.token.TokKind.TheVariants as kind
-use Rattle.py_imports.specs.Statement.{significant, up_to_semicolon}
+use Rattle.py_imports.specs.Statement.{significant}
+use Rattle.py_imports.specs.Parsing.{up_to_semicolon}
 use Rattle.py_imports.proofs.TokenLemmas.{window}
 use Rattle.py_imports.proofs.EndLemmas.{passes_one, shallow_after}
 use Rattle.py_imports.proofs.imports.statement_end.Goals as goal

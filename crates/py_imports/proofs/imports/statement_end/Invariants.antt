@@ -1,6 +1,7 @@
 -- No `;` outside brackets was passed.
 use Rattle.std.proofs.Common.{◌≡◌, ◌≤◌, ◌++◌, drop}
-use Rattle.py_imports.specs.Statement.{significant, up_to_semicolon}
+use Rattle.py_imports.specs.Statement.{significant}
+use Rattle.py_imports.specs.Parsing.{up_to_semicolon}
 use Rattle.py_imports.proofs.TokenLemmas.{window}
 use Rattle.py_imports.proofs.imports.statement_end.Given as goal
 
