@@ -94,6 +94,41 @@ mod tests {
     use crate::unit::UnitKind;
     use std::test::Fail;
 
+    // A unit's kind and text, its offset and line, the bytes of its indentation and of its line end, and how many tokens
+    // it has.
+    type Told<'t> = (UnitKind, &'t str, u64, u64, usize, usize, usize);
+
+    fn is_told(unit: &Unit<'_>, told: Told<'_>) -> bool {
+        let (kind, text, offset, line, indent, end_len, tokens) = told;
+        unit.kind == kind
+            && unit.text == text
+            && unit.offset == offset
+            && unit.line == line
+            && unit.indent == indent
+            && unit.end_len == end_len
+            && unit.tokens.len() == tokens
+    }
+
+    // Whether the next unit is as told.
+    fn gives(lines: &mut Lines<'_>, told: Told<'_>) -> Result<bool, Fail> {
+        let unit = lines.next_unit()?.ok_or("a unit is missing")?;
+        Ok(is_told(&unit, told))
+    }
+
+    // Whether the text has ended.
+    fn ends(lines: &mut Lines<'_>) -> Result<bool, Fail> {
+        Ok(lines.next_unit()?.is_none())
+    }
+
+    // Whether the next answer is this fault.
+    fn fails(lines: &mut Lines<'_>, kind: FaultKind, offset: u64, line: u64) -> bool {
+        let fault = Fault { kind, offset, line };
+        match lines.next_unit() {
+            Err(error) => error == LexError::Fault(fault),
+            Ok(_) => false,
+        }
+    }
+
     #[test]
     fn reads_units(rt: HostRuntime) -> Result<(), Fail> {
         let texts: [&[u8]; 13] = [
@@ -112,72 +147,74 @@ mod tests {
             b"(\r\n\r'\\\r\n' \\\r\na)\r\n\n",
         ];
         let units = [
-            (0, UnitKind::Code, "a = [\n1]\n", 0, 1, 0, 1, 5),
-            (0, UnitKind::Blank, "\n", 9, 3, 0, 1, 0),
-            (0, UnitKind::Comment, "# c\n", 10, 4, 0, 1, 1),
-            (1, UnitKind::Code, "'''a\r\nb'''\r", 0, 1, 0, 1, 1),
-            (1, UnitKind::Code, "x", 11, 3, 0, 0, 1),
-            (2, UnitKind::Code, "rb'x' u\"y\"", 0, 1, 0, 0, 2),
-            (3, UnitKind::Code, "ab'x'", 0, 1, 0, 0, 2),
-            (4, UnitKind::Code, "1if x", 0, 1, 0, 0, 2),
-            (5, UnitKind::Code, "\\\n", 0, 1, 0, 0, 0),
-            (7, UnitKind::Blank, "\u{feff}", 0, 1, 0, 0, 0),
+            (0, (UnitKind::Code, "a = [\n1]\n", 0, 1, 0, 1, 5)),
+            (0, (UnitKind::Blank, "\n", 9, 3, 0, 1, 0)),
+            (0, (UnitKind::Comment, "# c\n", 10, 4, 0, 1, 1)),
+            (1, (UnitKind::Code, "'''a\r\nb'''\r", 0, 1, 0, 1, 1)),
+            (1, (UnitKind::Code, "x", 11, 3, 0, 0, 1)),
+            (2, (UnitKind::Code, "rb'x' u\"y\"", 0, 1, 0, 0, 2)),
+            (3, (UnitKind::Code, "ab'x'", 0, 1, 0, 0, 2)),
+            (4, (UnitKind::Code, "1if x", 0, 1, 0, 0, 2)),
+            (5, (UnitKind::Code, "\\\n", 0, 1, 0, 0, 0)),
+            (7, (UnitKind::Blank, "\u{feff}", 0, 1, 0, 0, 0)),
             (
                 8,
-                UnitKind::Code,
-                "x = \"import a\"  # import b\n",
-                0,
-                1,
-                0,
-                1,
-                4,
+                (
+                    UnitKind::Code,
+                    "x = \"import a\"  # import b\n",
+                    0,
+                    1,
+                    0,
+                    1,
+                    4,
+                ),
             ),
-            (8, UnitKind::Code, "import c", 27, 2, 0, 0, 2),
+            (8, (UnitKind::Code, "import c", 27, 2, 0, 0, 2)),
             (
                 9,
-                UnitKind::Code,
-                "\"\"\"a \\\" import a\nimport b\n\"\"\"\n",
-                0,
-                1,
-                0,
-                1,
-                1,
+                (
+                    UnitKind::Code,
+                    "\"\"\"a \\\" import a\nimport b\n\"\"\"\n",
+                    0,
+                    1,
+                    0,
+                    1,
+                    1,
+                ),
             ),
-            (9, UnitKind::Code, "y = \"\"\n", 30, 4, 0, 1, 3),
-            (9, UnitKind::Code, "import c\n", 37, 5, 0, 1, 2),
-            (10, UnitKind::Code, "x = 1 + \\\r\n  2\r\n", 0, 1, 0, 2, 5),
-            (10, UnitKind::Code, "from . .x import y\r\n", 16, 3, 0, 2, 6),
-            (11, UnitKind::Code, "\u{feff}  a\r", 0, 1, 2, 1, 1),
-            (11, UnitKind::Blank, "\r", 7, 2, 0, 1, 0),
-            (11, UnitKind::Code, "b\n", 8, 3, 0, 1, 1),
+            (9, (UnitKind::Code, "y = \"\"\n", 30, 4, 0, 1, 3)),
+            (9, (UnitKind::Code, "import c\n", 37, 5, 0, 1, 2)),
+            (10, (UnitKind::Code, "x = 1 + \\\r\n  2\r\n", 0, 1, 0, 2, 5)),
+            (
+                10,
+                (UnitKind::Code, "from . .x import y\r\n", 16, 3, 0, 2, 6),
+            ),
+            (11, (UnitKind::Code, "\u{feff}  a\r", 0, 1, 2, 1, 1)),
+            (11, (UnitKind::Blank, "\r", 7, 2, 0, 1, 0)),
+            (11, (UnitKind::Code, "b\n", 8, 3, 0, 1, 1)),
             (
                 12,
-                UnitKind::Code,
-                "(\r\n\r'\\\r\n' \\\r\na)\r\n",
-                0,
-                1,
-                0,
-                2,
-                4,
+                (
+                    UnitKind::Code,
+                    "(\r\n\r'\\\r\n' \\\r\na)\r\n",
+                    0,
+                    1,
+                    0,
+                    2,
+                    4,
+                ),
             ),
-            (12, UnitKind::Blank, "\n", 17, 6, 0, 1, 0),
+            (12, (UnitKind::Blank, "\n", 17, 6, 0, 1, 0)),
         ];
         for (at, text) in texts.iter().enumerate() {
             let mut lines = Lines::new(rt.alloc(), *text)?;
-            for (of, kind, line_text, offset, line, indent, end_len, tokens) in units {
+            for (of, told) in units {
                 if of == at {
-                    let unit = lines.next_unit()?.ok_or("a unit is missing")?;
-                    assert_eq!(rt; unit.kind, kind);
-                    assert_eq!(rt; unit.text, line_text);
-                    assert_eq!(rt; unit.offset, offset);
-                    assert_eq!(rt; unit.line, line);
-                    assert_eq!(rt; unit.indent, indent);
-                    assert_eq!(rt; unit.end_len, end_len);
-                    assert_eq!(rt; unit.tokens.len(), tokens);
+                    assert!(rt; gives(&mut lines, told)?);
                 }
             }
-            assert!(rt; lines.next_unit()?.is_none());
-            assert!(rt; lines.next_unit()?.is_none());
+            assert!(rt; ends(&mut lines)?);
+            assert!(rt; ends(&mut lines)?);
         }
         Ok(())
     }
@@ -247,13 +284,8 @@ mod tests {
             for _ in 0..units {
                 assert!(rt; lines.next_unit()?.is_some());
             }
-            let fault = Fault { kind, offset, line };
-            for _ in 0..2 {
-                match lines.next_unit() {
-                    Err(error) => assert_eq!(rt; error, LexError::Fault(fault)),
-                    Ok(_) => return Err(Fail::from("no fault")),
-                }
-            }
+            assert!(rt; fails(&mut lines, kind, offset, line));
+            assert!(rt; fails(&mut lines, kind, offset, line));
         }
         Ok(())
     }
@@ -261,21 +293,20 @@ mod tests {
     #[test]
     fn goes_on_in_mid_text(rt: HostRuntime) -> Result<(), Fail> {
         let mut lines = Lines::at(rt.alloc(), b"a\nb\n", 2, 2)?;
-        let unit = lines.next_unit()?.ok_or("a unit is missing")?;
-        assert_eq!(rt; unit.text, "b\n");
-        assert_eq!(rt; unit.offset, 2);
-        assert_eq!(rt; unit.line, 2);
-        assert!(rt; lines.next_unit()?.is_none());
+        assert!(rt; gives(&mut lines, (UnitKind::Code, "b\n", 2, 2, 0, 1, 1))?);
+        assert!(rt; ends(&mut lines)?);
+        Ok(())
+    }
+
+    #[test]
+    fn takes_no_mark_in_mid_text(rt: HostRuntime) -> Result<(), Fail> {
         let mut lines = Lines::at(rt.alloc(), b"import a\n\xef\xbb\xbf", 9, 2)?;
-        let fault = Fault {
-            kind: FaultKind::BadChar,
-            offset: 9,
-            line: 2,
-        };
-        match lines.next_unit() {
-            Err(error) => assert_eq!(rt; error, LexError::Fault(fault)),
-            Ok(_) => return Err(Fail::from("no fault")),
-        }
+        assert!(rt; fails(&mut lines, FaultKind::BadChar, 9, 2));
+        Ok(())
+    }
+
+    #[test]
+    fn is_safe_at_any_place(rt: HostRuntime) -> Result<(), Fail> {
         let text = "é\n".as_bytes();
         for (offset, line) in [(1, 1), (3, 9), (4, 1), (usize::MAX, u64::MAX)] {
             let mut lines = Lines::at(rt.alloc(), text, offset, line)?;
@@ -292,22 +323,19 @@ mod tests {
         }
         let mut lines = Lines::new(rt.alloc(), &text)?;
         assert!(rt; lines.next_unit()?.is_some());
-        assert!(rt; lines.next_unit()?.is_none());
+        assert!(rt; ends(&mut lines)?);
+        Ok(())
+    }
+
+    #[test]
+    fn refuses_open_brackets(rt: HostRuntime) -> Result<(), Fail> {
+        let text = [b'('; 201];
         for (len, kind, offset) in [
             (200, FaultKind::OpenBracket, 199),
             (201, FaultKind::TooDeep, 200),
         ] {
-            let deep = [b'('; 201];
-            let mut lines = Lines::new(rt.alloc(), &deep[..len])?;
-            let fault = Fault {
-                kind,
-                offset,
-                line: 1,
-            };
-            match lines.next_unit() {
-                Err(error) => assert_eq!(rt; error, LexError::Fault(fault)),
-                Ok(_) => return Err(Fail::from("no fault")),
-            }
+            let mut lines = Lines::new(rt.alloc(), &text[..len])?;
+            assert!(rt; fails(&mut lines, kind, offset, 1));
         }
         Ok(())
     }
