@@ -1,7 +1,7 @@
 use crate::laws::equal_keys;
 use crate::{Cursor, FindError, FindOptions, Finder, ImportKey, ResumeError, key_of};
-use py_imports::Binding;
-use py_lines::Fault;
+use py_imports::{Binding, ImportError};
+use py_lines::{Fault, FaultKind};
 use std::alloc::Global;
 use std::test::Fail;
 
@@ -296,6 +296,143 @@ fn refuses_short_texts(rt: HostRuntime) -> Result<(), Fail> {
         "1 import a\n1 import b\n1 import c\nend\nat 14, 3\nat 14, 3\n"
     );
     Ok(())
+}
+
+// What makes a call again where memory is refused, or not.
+#[derive(Clone, Copy)]
+struct Patience {
+    alloc: Global,
+    is_patient: bool,
+}
+
+impl Patience {
+    fn finder<'t>(self, text: &'t str) -> Result<Finder<'t>, FindError> {
+        let asked = options(Some(ImportKey::Attribute), false);
+        match Finder::new(self.alloc, text.as_bytes(), asked) {
+            Err(_) if self.is_patient => Finder::new(self.alloc, text.as_bytes(), asked),
+            finder => finder,
+        }
+    }
+
+    fn next(self, finder: &mut Finder<'_>) -> Result<Option<Binding>, FindError> {
+        match finder.next_import() {
+            Err(FindError::Memory) if self.is_patient => finder.next_import(),
+            answer => answer,
+        }
+    }
+
+    fn resumed<'t>(self, text: &'t str, cursor: Cursor) -> Result<Finder<'t>, Fail> {
+        match Finder::resume(self.alloc, text.as_bytes(), cursor) {
+            Ok(finder) => Ok(finder),
+            Err((cursor, _)) if self.is_patient => resumed(self.alloc, text, cursor),
+            Err((_, error)) => Err(Fail::from(error)),
+        }
+    }
+
+    fn statement(self, binding: &Binding) -> Result<String, ImportError> {
+        match binding.statement(self.alloc) {
+            Err(_) if self.is_patient => binding.statement(self.alloc),
+            statement => statement,
+        }
+    }
+
+    // Whether the binding is that of the statement on the line.
+    fn tells(self, binding: &Binding, line: u64, statement: &str) -> Result<bool, Fail> {
+        let spelled = self.statement(binding)?;
+        Ok(binding.line == line && spelled.as_str() == statement)
+    }
+
+    // Asks a finder that goes on from the cursor for this import, and stops it again.
+    fn passes(
+        self,
+        text: &str,
+        cursor: Cursor,
+        line: u64,
+        statement: &str,
+    ) -> Result<Cursor, Fail> {
+        let mut finder = self.resumed(text, cursor)?;
+        let binding = self.next(&mut finder)?.ok_or("an import is missing")?;
+        match self.tells(&binding, line, statement)? {
+            true => Ok(finder.stop()),
+            false => Err(Fail::from("another import was told")),
+        }
+    }
+
+    // What such a finder tells behind the last import.
+    fn end(self, text: &str, cursor: Cursor) -> Result<Option<Fault>, Fail> {
+        let mut finder = self.resumed(text, cursor)?;
+        match self.next(&mut finder) {
+            Ok(None) => Ok(None),
+            Err(FindError::Fault(fault)) => Ok(Some(fault)),
+            _ => Err(Fail::from("another import was told")),
+        }
+    }
+}
+
+// Asks for these imports one by one, and for what comes behind them.
+fn ask(
+    patience: Patience,
+    text: &str,
+    told: &[(u64, &str)],
+    end: Option<Fault>,
+) -> Result<(), Fail> {
+    let mut cursor = patience.finder(text)?.stop();
+    for (line, statement) in told.iter() {
+        cursor = patience.passes(text, cursor, *line, statement)?;
+    }
+    match patience.end(text, cursor)? == end {
+        true => Ok(()),
+        false => Err(Fail::from("another end was told")),
+    }
+}
+
+fn ask_all(patience: Patience) -> Result<(), Fail> {
+    ask(
+        patience,
+        "import a, b, c",
+        &[(1, "import a"), (1, "import b"), (1, "import c")],
+        None,
+    )?;
+    ask(
+        patience,
+        "import a.b\nfrom a import c\nfrom .a import d\nfrom a import c as e\n",
+        &[
+            (1, "import a.b"),
+            (2, "from a import c"),
+            (3, "from .a import d"),
+        ],
+        None,
+    )?;
+    let fault = Fault {
+        kind: FaultKind::OpenBracket,
+        offset: 22,
+        line: 3,
+    };
+    ask(
+        patience,
+        "import a\nimport b\nx = (1,",
+        &[(1, "import a"), (2, "import b")],
+        Some(fault),
+    )
+}
+
+// bench/refuse_memory.py runs this with each growth refused in turn. Each call that is refused is made again, and
+// answers what it would have answered.
+#[test]
+fn answers_the_same_behind_refused_memory(rt: HostRuntime) -> Result<(), Fail> {
+    ask_all(Patience {
+        alloc: rt.alloc(),
+        is_patient: true,
+    })
+}
+
+// The same growths, where none is refused: that script is done when this passes.
+#[test]
+fn answers_at_once_with_ample_memory(rt: HostRuntime) -> Result<(), Fail> {
+    ask_all(Patience {
+        alloc: rt.alloc(),
+        is_patient: false,
+    })
 }
 
 #[test]
