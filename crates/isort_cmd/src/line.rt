@@ -1,10 +1,22 @@
 ghost use Rattle.std.specs.Prelude.{◌≡◌, ◌++◌, OnOk, IfErr, string_bytes};
 ghost use Rattle.py_imports.specs.Bound.{bound_of};
-ghost use Rattle.isort_cmd.specs.Printed.{line_text};
+ghost use Rattle.isort_cmd.specs.Printed.{place_text, line_text};
 
 use crate::error::RunError;
 use py_imports::Binding;
 use std::alloc::Global;
+
+// Puts `path:line ` behind `out`, and `indented ` where the line is.
+fn push_place(path: &str, line: u64, indented: bool, out: &mut String) -> Result<(), RunError>
+    ensures ok { OnOk result (string_bytes out.new ≡ string_bytes out.old ++ place_text path.now line indented) }
+    ensures err { IfErr result (λ e. e ≡ RunError.Memory) }
+{
+    write!(out, "{path}:{line} ")?;
+    if indented {
+        out.push_str("indented ")?;
+    }
+    Ok(())
+}
 
 // Puts the line of a binding behind `out`.
 pub(crate) fn push_line(
@@ -16,11 +28,7 @@ pub(crate) fn push_line(
     ensures ok { OnOk result (string_bytes out.new ≡ string_bytes out.old ++ line_text path.now (bound_of binding.now)) }
     ensures err { IfErr result (λ e. e ≡ RunError.Memory) }
 {
-    let line = binding.line;
-    write!(out, "{path}:{line} ")?;
-    if binding.indented {
-        out.push_str("indented ")?;
-    }
+    push_place(path, binding.line, binding.indented, out)?;
     out.push_str(binding.statement(alloc)?.as_str())?;
     out.push_str("\n")?;
     Ok(())

@@ -37,15 +37,16 @@ fn listed(
     result
 }
 
+// Whether all imports of the text are listed as these lines, with this end.
+fn lists(alloc: Global, text: &[u8], lines: &str, want: Result<(), RunError>) -> bool {
+    let mut out = Vec::new(alloc);
+    let got = listed(alloc, text, &mut out, ALL, 1000);
+    got == want && out.as_slice() == lines.as_bytes()
+}
+
 #[test]
 fn lists_texts(rt: HostRuntime) -> Result<(), Fail> {
-    let open = "(".repeat(rt.alloc(), 201)?;
-    let nested = format!(in rt.alloc();
-        "{}{}",
-        "(".repeat(rt.alloc(), 200)?,
-        ")".repeat(rt.alloc(), 200)?
-    )?;
-    let cases: [(&[u8], &str, Result<(), RunError>); 22] = [
+    let cases: [(&[u8], &str, Result<(), RunError>); 19] = [
         (b"", "", Ok(())),
         (b"\xef\xbb\xbf", "", Ok(())),
         (
@@ -105,19 +106,25 @@ fn lists_texts(rt: HostRuntime) -> Result<(), Fail> {
         (b"x = \\ 1\n", "", Err(fault(FaultKind::BadJoin, 4, 1))),
         (b"$", "", Err(fault(FaultKind::BadChar, 0, 1))),
         (b"a\xff", "", Err(fault(FaultKind::BadUtf8, 1, 1))),
-        (nested.as_bytes(), "", Ok(())),
-        (
-            &open.as_bytes()[..200],
-            "",
-            Err(fault(FaultKind::OpenBracket, 199, 1)),
-        ),
-        (open.as_bytes(), "", Err(fault(FaultKind::TooDeep, 200, 1))),
     ];
     for (text, lines, want) in cases {
-        let mut out = Vec::new(rt.alloc());
-        let got = listed(rt.alloc(), text, &mut out, ALL, 1000);
-        assert_eq!(rt; got, want, "{text:?}");
-        assert_eq!(rt; out.as_slice(), lines.as_bytes(), "{text:?}");
+        assert!(rt; lists(rt.alloc(), text, lines, want), "{lines}");
+    }
+    Ok(())
+}
+
+#[test]
+fn counts_brackets(rt: HostRuntime) -> Result<(), Fail> {
+    let mut text = [b'('; 401];
+    for byte in text[201..].iter_mut() {
+        *byte = b')';
+    }
+    for (from, to, want) in [
+        (1, 401, Ok(())),
+        (1, 201, Err(fault(FaultKind::OpenBracket, 199, 1))),
+        (0, 201, Err(fault(FaultKind::TooDeep, 200, 1))),
+    ] {
+        assert!(rt; lists(rt.alloc(), &text[from..to], "", want));
     }
     Ok(())
 }
