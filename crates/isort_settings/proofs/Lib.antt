@@ -1,5 +1,11 @@
 pub mod Documents
 pub mod KeyLaws
+pub mod OrderLaws
+pub mod OrderNumbers
+pub mod OrderParts
+pub mod OrderRows
+pub mod OrderRuns
+pub mod OrderThen
 pub mod Prefixes
 pub mod Readings
 pub mod Table

@@ -3,3 +3,5 @@ pub mod Values
 pub mod Reading
 pub mod Pyproject
 pub mod Sections
+pub mod Orders
+pub mod NameClasses

@@ -1,6 +1,10 @@
-//! Facts about the table of keys, each proved as the contract of a function that does nothing.
-ghost use Rattle.std.specs.Prelude.{[], ◌∷◌, ◌++◌, Contains, map};
+//! Facts about the table of keys and about the orders, each proved as the contract of a function that does nothing.
+ghost use Rattle.std.specs.Prelude.{◌≡◌, ℕ, List, [], ◌∷◌, ◌++◌, Contains, map};
+ghost use Rattle.std.specs.Cmp.{IsTotalOrder};
+ghost use Rattle.std.specs.declared.cmp.Ordering.TheVariants.{Equal};
 ghost use Rattle.isort_settings.specs.Keys.{name_of, keys_in_order, Ascends};
+ghost use Rattle.isort_settings.specs.Orders.{module_cmp, name_cmp};
+ghost use Rattle.isort_settings.specs.Values.{Values};
 
 use crate::key::SettingKey;
 
@@ -14,4 +18,16 @@ pub fn every_key_has_its_place(key: SettingKey)
 /// The order in which keys are judged is that of the bytes of their names, and no two have one name.
 pub fn keys_are_in_byte_order()
     ensures { Ascends (map name_of keys_in_order) }
+{}
+
+/// The order of modules is total under any settings, and only equal modules are equal in it.
+pub fn modules_are_totally_ordered()
+    ensures total { (v : Values) → IsTotalOrder (module_cmp v) }
+    ensures equal { (v : Values) (a b : List ℕ) → module_cmp v a b ≡ Equal → a ≡ b }
+{}
+
+/// The order of names is total under any settings, and only equal names are equal in it.
+pub fn names_are_totally_ordered()
+    ensures total { (v : Values) → IsTotalOrder (name_cmp v) }
+    ensures equal { (v : Values) (a b : List ℕ) → name_cmp v a b ≡ Equal → a ≡ b }
 {}

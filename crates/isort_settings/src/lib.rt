@@ -1,9 +1,11 @@
-//! The settings of isort: what the table `[tool.isort]` of a `pyproject.toml` says, and the section of a module.
+//! The settings of isort: what the table `[tool.isort]` of a `pyproject.toml` says, the section of a module, and the
+//! orders of modules and of names.
 #![tactic(auto)]
 
 mod error;
 mod key;
 pub mod laws;
+mod order;
 mod profile;
 mod pyproject;
 mod section;

@@ -4,11 +4,13 @@ ghost use Rattle.std.specs.Str.{byte};
 
 use crate::error::SettingsError;
 use crate::key::SettingKey as Key;
+use crate::order::{NameClass, natural_cmp, split_dots};
 use crate::profile::Profile;
 use crate::section::Section;
 use crate::value::{boolean, count_in, entries, mode, section, whole_in};
 use crate::{pyproject, standard_library, text_list};
 use std::alloc::Global;
+use std::cmp::Ordering;
 use toml::{Table, Value};
 
 /// Settings: a value for each key of the table `[tool.isort]` but `profile`.
@@ -49,6 +51,7 @@ impl Settings {
     ghost use Rattle.std.specs.Prelude.{◌≡◌, ◌≢◌, ◌≤◌, ◌↔◌, IsOk, IfOk, IfErr, IsOkAnd, OnOk, OnErr, IsOkUnless, Ok, Err, Some, None, map, string_bytes};
     ghost use Rattle.toml.specs.View.{view, table_view};
     ghost use Rattle.isort_settings.specs.Keys.{row_of, Ascends};
+    ghost use Rattle.isort_settings.specs.Orders.{module_cmp, name_cmp};
     ghost use Rattle.isort_settings.specs.Pyproject.{settings_of, base_value, first_refusal, values_in};
     ghost use Rattle.isort_settings.specs.Reading.{read_value};
     ghost use Rattle.isort_settings.specs.Sections.{lists_of, section_holding, section_in};
@@ -242,6 +245,41 @@ impl Settings {
             }
         }
         self.default_section
+    }
+
+    /// The order of two modules: the one with more leading dots comes first, and then the natural order of what follows
+    /// the dots decides.
+    ///
+    /// In the natural order of two texts, runs of ASCII digits count as numbers, by their value, and what stands between
+    /// them by its bytes, with ASCII capitals as small letters unless `case_sensitive` is set. The first difference
+    /// decides, and where one text ends before there is any, it comes first. Between texts that don't differ so, their
+    /// bytes as they are decide, so that `Equal` is given for equal modules alone.
+    pub fn order_modules(&self, a: &str, b: &str) -> Ordering
+        ensures { result ≡ module_cmp (values self.now) a.now b.now }
+    {
+        let (a_dots, a_name) = split_dots(a.as_bytes());
+        let (b_dots, b_name) = split_dots(b.as_bytes());
+        b_dots
+            .cmp(&a_dots)
+            .then_with(|| natural_cmp(a_name, b_name, self.case_sensitive))
+    }
+
+    /// The order of two names: with `order_by_type` set constants come first, then classes, then the rest; then the
+    /// natural order decides, as in [`Settings::order_modules`], so that `Equal` is given for equal names alone.
+    ///
+    /// A constant has two or more characters, an ASCII capital among them and no small ASCII letter. A class begins with
+    /// an ASCII capital and isn't a constant.
+    pub fn order_names(&self, a: &str, b: &str) -> Ordering
+        ensures { result ≡ name_cmp (values self.now) a.now b.now }
+    {
+        let a = a.as_bytes();
+        let b = b.as_bytes();
+        let by_class = if self.order_by_type {
+            NameClass::of(a).cmp(&NameClass::of(b))
+        } else {
+            Ordering::Equal
+        };
+        by_class.then_with(|| natural_cmp(a, b, self.case_sensitive))
     }
 
     /// The section of the first list that holds the prefix.

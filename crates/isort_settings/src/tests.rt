@@ -1,4 +1,5 @@
 use crate::{Profile, Section, SettingKey, Settings, SettingsError, laws};
+use std::cmp::Ordering::{Equal, Greater, Less};
 use std::test::Fail;
 
 /// The settings and the unknown keys of the lines under `[tool.isort]`.
@@ -216,6 +217,68 @@ fn sections(rt: HostRuntime) -> Result<(), Fail> {
             "{module} with {lines}"
         );
     }
+    Ok(())
+}
+
+#[test]
+fn orders_of_names(rt: HostRuntime) -> Result<(), Fail> {
+    let cases = [
+        ("", "CONST", "A", Less),
+        ("", "A", "Klass", Less),
+        ("", "Klass", "b9", Less),
+        ("", "b9", "b10", Less),
+        ("", "b10", "func", Less),
+        ("order_by_type = false", "A", "b9", Less),
+        ("order_by_type = false", "b10", "CONST", Less),
+        ("order_by_type = false", "CONST", "func", Less),
+        ("order_by_type = false", "func", "Klass", Less),
+        ("", "a01", "a1", Less),
+        ("", "a1", "a1", Equal),
+        ("", "a", "a1", Less),
+        ("", "a1", "ab", Less),
+        (
+            "",
+            "a99999999999999999999999",
+            "a100000000000000000000000",
+            Less,
+        ),
+        ("order_by_type = false", "A", "a", Less),
+        ("order_by_type = false", "a", "A0", Less),
+        ("order_by_type = false", "B", "a", Greater),
+        (
+            "order_by_type = false\ncase_sensitive = true",
+            "B",
+            "a",
+            Less,
+        ),
+    ];
+    for (lines, a, b, want) in cases {
+        let (settings, _) = under_table(&rt, lines, None)?;
+        assert!(rt; settings.order_names(a, b) == want, "{a}, {b} with {lines}");
+        assert!(rt;
+            settings.order_names(b, a) == want.reverse(),
+            "{b}, {a} with {lines}"
+        );
+    }
+    Ok(())
+}
+
+#[test]
+fn orders_of_modules(rt: HostRuntime) -> Result<(), Fail> {
+    let settings = Settings::plain(rt.alloc())?;
+    let cases = [
+        ("..a", ".b", Less),
+        (".b", "a", Less),
+        (".", ".a", Less),
+        ("a.b10", "a.b9", Greater),
+        ("a.b", "a.b", Equal),
+        ("CONST", "b", Greater),
+    ];
+    for (a, b, want) in cases {
+        assert!(rt; settings.order_modules(a, b) == want, "{a}, {b}");
+    }
+    laws::modules_are_totally_ordered();
+    laws::names_are_totally_ordered();
     Ok(())
 }
 

@@ -1,17 +1,17 @@
 -- What the program has bound of a logical line so far.
-use Rattle.std.proofs.Common.{◌≡◌, ℕ, ◌+◌, ◌<◌, ◌≤◌, Bool, true, false, ◌==◌, ◌&&◌, List, [], ◌∷◌, ◌++◌, length, map, filter, drop, get_or, refl, sym, ap, ◌∙◌, subst, append_assoc, add-one, drop-cons}
+use Rattle.std.proofs.Common.{◌≡◌, ℕ, ◌+◌, ◌<◌, Bool, true, false, ◌==◌, ◌&&◌, List, [], ◌∷◌, ◌++◌, length, map, filter, drop, get_or, refl, sym, ap, ◌∙◌, subst, append_assoc, add-one, drop-cons}
 use Rattle.std.proofs.lemmas.Option.{slice_get-get_or}
-use Rattle.std.proofs.lemmas.List.{append-nil, drop_all}
+use Rattle.std.proofs.lemmas.List.{append-nil}
 use Rattle.py_lines.specs.LogicalLine.{LogicalLine}
 use Rattle.py_lines.specs.declared.token.Token.{Token}
 use Rattle.py_imports.specs.Statement.{is_comment, significant, is_divider, depth_after, depth_behind, ends_in_divider, may_start_behind, Place, places_from, starts}
 use Rattle.py_imports.specs.Bound.{Bound, bound_of}
-use Rattle.py_imports.specs.Binds.{BindsAt, BindEach, Binds, Refuses}
+use Rattle.py_imports.specs.Binds.{BindsAt, BindEach, Refuses}
 use Rattle.py_imports.specs.Parser.{BindsMore, RefusesAt, IsPlaceAt}
 use Rattle.py_imports.specs.declared.binding.Binding.{Binding}
 use Rattle.py_imports.specs.declared.error.ImportError.{ImportError}
 use Rattle.py_imports.specs.declared.error.ImportError.TheVariants as error
-use Rattle.py_imports.proofs.TokenLemmas.{depth_behind-snoc, significant-cons, significant-comment}
+use Rattle.py_imports.proofs.TokenLemmas.{depth_behind-snoc, significant-cons}
 
 ends_in_divider-snoc : (depth : ℕ) (ts : List Token) (t : Token) → ends_in_divider depth (ts ++ t ∷ []) ≡ is_divider t.kind && (depth_behind depth ts == 0)
 ends_in_divider-snoc depth [] t = refl
@@ -46,7 +46,7 @@ BindEach-snoc line (q ∷ ps) p bs more (first, others, e, b, rest) c = (first, 
 from_token : (tokens : List Token) (i : ℕ) (t : Token) → i < length tokens → drop i tokens ≡ get_or tokens i t ∷ drop (i + 1) tokens
 from_token tokens i t within = rw (add-one, drop-cons tokens i t)
 
-from_significant : (tokens : List Token) (i : ℕ) (t : Token) → i < length tokens → is_comment (get_or tokens i t).kind ≡ false → significant (drop i tokens) ≡ get_or tokens i t ∷ significant (drop (i + 1) tokens)
+pub from_significant : (tokens : List Token) (i : ℕ) (t : Token) → i < length tokens → is_comment (get_or tokens i t).kind ≡ false → significant (drop i tokens) ≡ get_or tokens i t ∷ significant (drop (i + 1) tokens)
 from_significant tokens i t within code = ap significant (from_token tokens i t within) ∙ significant-cons (get_or tokens i t) (drop (i + 1) tokens) code
 
 -- the place of a token that is no comment

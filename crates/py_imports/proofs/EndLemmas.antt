@@ -41,7 +41,7 @@ significant-append-by : (x : Token) (xs ys : List Token) → significant (xs ++ 
 significant-append-by x xs ys h true e = rw e h
 significant-append-by x xs ys h false e = rw e (ap (λ l. x ∷ l) h)
 
-significant-append : (xs ys : List Token) → significant (xs ++ ys) ≡ significant xs ++ significant ys
+pub significant-append : (xs ys : List Token) → significant (xs ++ ys) ≡ significant xs ++ significant ys
 significant-append [] ys = refl
 significant-append (x ∷ xs) ys = significant-append-by x xs ys (significant-append xs ys) (is_comment x.kind) refl
 

@@ -1,6 +1,5 @@
 -- What the program has read of a list of items so far.
 use Rattle.std.proofs.Common.{◌≡◌, ◌≢◌, ◌<◌, Bool, true, false, None, Some, List, [], ◌∷◌, ◌++◌, length, map, refl, sym, ap, ◌∙◌, subst, append_assoc, arith, length-append}
-use Rattle.std.proofs.lemmas.List.{append-nil}
 use Rattle.py_imports.specs.Grammar.{Terminal, import_word, from_word, as_word, name, dot, comma, star, opening, closing, other, Listed, identifiers, Item, AreItems, AreBracketed, Imported}
 use Rattle.py_imports.specs.Bound.{bound_of, bound_at}
 use Rattle.py_imports.specs.Parsing.{ItemRead, at_item}
@@ -177,7 +176,7 @@ last_so_far Are head import start now i old mid new s last a = record {
 pub bad_so_far : (Are : List Terminal → List Item → Type 0) (head : Head) (import : Item → Imported) (start now : List Terminal) (old new : List Binding) → SoFar Are head import start now old new → ((is : List Item) → ¬ (Are now is)) → (is : List Item) → ¬ (Are start is)
 bad_so_far Are head import start now old new s bad is a = let t = s.read.splits is a in bad t.0 t.2
 
-may_follow-lexeme : (after : Lexeme) (ts : List Terminal) → after ≢ lexeme.Comma → after ≢ lexeme.End → may_follow (followed_by after ts) ≡ false
+pub may_follow-lexeme : (after : Lexeme) (ts : List Terminal) → after ≢ lexeme.Comma → after ≢ lexeme.End → may_follow (followed_by after ts) ≡ false
 may_follow-lexeme lexeme.Import ts h k = refl
 may_follow-lexeme lexeme.From ts h k = refl
 may_follow-lexeme lexeme.As ts h k = refl
@@ -254,7 +253,7 @@ abbrev pub begins_comma : List Terminal → Bool
 begins_comma (comma ∷ ts) = true
 begins_comma _ = false
 
-no_comma : (after : Lexeme) (ts : List Terminal) → after ≢ lexeme.Comma → begins_comma (followed_by after ts) ≡ false
+pub no_comma : (after : Lexeme) (ts : List Terminal) → after ≢ lexeme.Comma → begins_comma (followed_by after ts) ≡ false
 no_comma lexeme.Import ts h = refl
 no_comma lexeme.From ts h = refl
 no_comma lexeme.As ts h = refl

@@ -6,3 +6,6 @@ pub mod Spelled
 pub mod Parsing
 pub mod Parser
 pub mod Declaration
+pub mod Action
+pub mod Shape
+pub mod Recognizer

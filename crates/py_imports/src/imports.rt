@@ -1,6 +1,7 @@
-ghost use Rattle.std.specs.Prelude.{◌≡◌, ◌==◌, ◌&&◌, ◌≤◌, ◌<◌, ◌+◌, ◌-◌, ◌^◌, List, ◌∷◌, false, length, map, take, drop, IfOk, OnOk, IfErr, IfSome, MatchOption};
+ghost use Rattle.std.specs.Prelude.{◌≡◌, ◌==◌, ◌&&◌, ◌≤◌, ◌<◌, ◌+◌, ◌-◌, ◌^◌, List, ◌∷◌, true, false, Some, length, map, take, drop, slice_get, IfOk, OnOk, IfErr, IfSome, MatchOption};
 ghost use Rattle.py_lines.specs.Lines.{line_in};
 ghost use Rattle.py_lines.specs.Balance.{is_opening, is_closing};
+ghost use Rattle.py_lines.specs.declared.token.Token.{Token};
 ghost use Rattle.py_imports.specs.Grammar.{Terminal, terminal_of, begins_import, Imported, IsImport};
 ghost use Rattle.py_imports.specs.Statement.{is_semicolon, is_divider, depth_after, significant, Place};
 ghost use Rattle.py_imports.specs.Parsing.{up_to_semicolon};
@@ -16,13 +17,13 @@ use std::alloc::Global;
 
 // Which import statement it is.
 #[derive(Clone, Copy)]
-enum Form {
+pub(crate) enum Form {
     Import,
     From,
 }
 
 // The import statement that a token begins, if it does.
-fn form_of(kind: TokKind, word: &str) -> Option<Form>
+pub(crate) fn form_of(kind: TokKind, word: &str) -> Option<Form>
     ensures form { MatchOption result ((ts : List Terminal) → begins_import (terminal_of kind word.now ∷ ts) ≡ false) (λ form. (ts : List Terminal) → terminal_of kind word.now ∷ ts ≡ begun form ts) }
     ensures name { IfSome result (λ form. kind ≡ TokKind.Name) }
 {
@@ -99,10 +100,11 @@ fn depth_after(depth: usize, kind: TokKind) -> usize
 }
 
 // Where the statement that starts at `start` ends: at the next `;` outside brackets, or behind all tokens.
-fn statement_end(tokens: &[Token], start: usize) -> usize
+pub(crate) fn statement_end(tokens: &[Token], start: usize) -> usize
     requires { start ≤ length tokens.now }
     ensures within { result ≤ length tokens.now }
     ensures tokens { significant (take (result - start) (drop start tokens.now)) ≡ up_to_semicolon 0 (significant (drop start tokens.now)) }
+    ensures semicolon { (t : Token) → slice_get tokens.now result ≡ Some t → is_semicolon t.kind ≡ true }
 {
     let mut depth: usize = 0;
     'tokens: for place in start..tokens.len() {

@@ -104,7 +104,7 @@ impl<'u> Statement<'u> {
     }
 
     // The next token that is no comment.
-    fn next(&mut self) -> Lexeme<'u>
+    pub(crate) fn next(&mut self) -> Lexeme<'u>
         ensures { rest_of self.old ≡ followed_by result (rest_of self.new) }
     {
         while self.place < self.end {
@@ -120,7 +120,7 @@ impl<'u> Statement<'u> {
     }
 
     // Nothing is left.
-    fn end(&mut self) -> Result<(), Refusal>
+    pub(crate) fn end(&mut self) -> Result<(), Refusal>
         ensures ok { OnOk result (rest_of self.old ≡ []) }
         ensures err { IfErr result (λ e. (e ≡ Refusal.Bad) × (rest_of self.old ≢ [])) }
     {

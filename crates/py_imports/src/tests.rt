@@ -1,4 +1,4 @@
-use crate::{ImportError, bindings_of, is_declaration};
+use crate::{Action, ImportError, Shape, bindings_of, is_declaration, says, shape_of};
 use py_lines::{Fault, FaultKind, Lines};
 use std::alloc::Global;
 use std::test::Fail;
@@ -144,6 +144,67 @@ fn knows_declarations(rt: HostRuntime) -> Result<(), Fail> {
         let mut lines = Lines::new(rt.alloc(), text.as_bytes())?;
         let unit = lines.next_unit()?.ok_or("a unit is missing")?;
         assert_eq!(rt; is_declaration(&unit), declares, "{text}");
+    }
+    Ok(())
+}
+
+#[test]
+fn knows_shapes(rt: HostRuntime) -> Result<(), Fail> {
+    let texts = [
+        ("import a", Shape::Sortable),
+        ("  import a\n", Shape::Sortable),
+        ("\u{feff}import a", Shape::Sortable),
+        ("\u{feff}  import a", Shape::Sortable),
+        ("from a import (  # k\n    b,\n)\n", Shape::Sortable),
+        ("import a  # isort: skip_file", Shape::Sortable),
+        ("import a  # isort:  skip", Shape::Sortable),
+        ("import a, \\\n b", Shape::Sortable),
+        ("from . import *", Shape::Sortable),
+        ("from a import (b)  # k", Shape::Sortable),
+        ("from a import (b)  # skip", Shape::Sortable),
+        (
+            "from a import (  # k\n    b as x,  # l\n    c,\n)\n",
+            Shape::Pinned,
+        ),
+        ("from a import (\n    # k\n    # l\n    b)\n", Shape::Pinned),
+        ("import a; import b", Shape::Pinned),
+        ("import a;", Shape::Pinned),
+        ("import a  # isort: skip", Shape::Pinned),
+        ("import a  # isort:skip", Shape::Pinned),
+        ("from a import (  # isort: skip\n    b,\n)\n", Shape::Pinned),
+        ("\\\nimport a", Shape::Pinned),
+        ("from a import b,", Shape::Pinned),
+        ("x = 1", Shape::Other),
+        ("if a: import b", Shape::Other),
+        ("# import a", Shape::Other),
+        ("\n", Shape::Other),
+    ];
+    for (text, shape) in texts {
+        let mut lines = Lines::new(rt.alloc(), text.as_bytes())?;
+        let unit = lines.next_unit()?.ok_or("a unit is missing")?;
+        assert_eq!(rt; shape_of(&unit), shape, "{text}");
+    }
+    Ok(())
+}
+
+#[test]
+fn knows_actions(rt: HostRuntime) -> Result<(), Fail> {
+    let texts = [
+        ("# isort: skip_file", Action::SkipFile, true),
+        ("# isort: skip_file", Action::Skip, false),
+        ("# isort:skip", Action::Skip, true),
+        ("# isort:  skip", Action::Skip, false),
+        ("# isort: skip!", Action::Skip, true),
+        ("# isort: skips isort: skip", Action::Skip, true),
+        ("# isort: off", Action::Off, true),
+        ("# isort: on", Action::On, true),
+        ("# isort: one", Action::On, false),
+        ("# isort:split\u{e9}", Action::Split, true),
+        ("# Isort: on", Action::On, false),
+        ("", Action::On, false),
+    ];
+    for (text, action, is_said) in texts {
+        assert_eq!(rt; says(text, action), is_said, "{text}");
     }
     Ok(())
 }

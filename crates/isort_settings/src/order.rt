@@ -1,0 +1,149 @@
+//! The natural order of texts, in which a number counts by its value, and the classes of names.
+ghost use Rattle.std.specs.Prelude.{◌≡◌, ◌==◌, drop, take};
+ghost use Rattle.std.specs.Cmp.Lexicographic.{slice_cmp};
+ghost use Rattle.std.specs.List.{prefix_len, position_or_len};
+ghost use Rattle.std.specs.Char.{is_ascii_digit};
+ghost use Rattle.std.specs.Ordering.{nat_cmp};
+ghost use Rattle.std.specs.Str.{byte};
+ghost use Rattle.std.specs.Str.Parse.{AllDigits, digits_value};
+ghost use Rattle.isort_settings.specs.Orders.{cased, class_place, dots, is_constant, natural_cmp, part_cmp, parts};
+ghost use Rattle.isort_settings.specs.NameClasses.{place_of};
+
+use std::cmp::Ordering;
+
+/// The class of a name, in the order in which classes are sorted.
+#[derive(Clone, Copy, Debug, PartialEq, Eq, PartialOrd, Ord)]
+pub enum NameClass {
+    Constant,
+    Class,
+    Other,
+}
+
+impl NameClass {
+    /// The class of the name.
+    pub fn of(name: &[u8]) -> NameClass
+        ensures { place_of result ≡ class_place name.now }
+    {
+        if is_constant(name) {
+            NameClass::Constant
+        } else if !name.is_empty() && name[0].is_ascii_uppercase() {
+            NameClass::Class
+        } else {
+            NameClass::Other
+        }
+    }
+}
+
+/// Whether the name is a constant: two or more characters, an ASCII capital among them and no small ASCII letter.
+fn is_constant(name: &[u8]) -> bool
+    ensures { result ≡ is_constant name.now }
+{
+    name.len() >= 2
+        && name.iter().any(|b| b.is_ascii_uppercase())
+        && !name.iter().any(|b| b.is_ascii_lowercase())
+}
+
+/// How many dots a module begins with, and what follows them.
+pub fn split_dots(name: &[u8]) -> (usize, &[u8])
+    ensures dots { result.0 ≡ dots name.now }
+    ensures rest { result.1.now ≡ drop (dots name.now) name.now }
+{
+    let dots = name.iter().position(|b| *b != b'.').unwrap_or(name.len());
+    (dots, name.split_at(dots).1)
+}
+
+/// The natural order of two texts: numbers by value, the rest by bytes, and ties by the bytes of the whole texts.
+pub fn natural_cmp(a: &[u8], b: &[u8], case_sensitive: bool) -> Ordering
+    ensures { result ≡ natural_cmp case_sensitive a.now b.now }
+{
+    parts_cmp(a, b, case_sensitive).then_with(|| a.cmp(b))
+}
+
+/// The order of two texts by their parts alone: text, number, text, number and so on.
+fn parts_cmp(a: &[u8], b: &[u8], case_sensitive: bool) -> Ordering
+    ensures { result ≡ slice_cmp part_cmp (parts case_sensitive a.now) (parts case_sensitive b.now) }
+{
+    let mut a_left = a;
+    let mut b_left = b;
+    loop {
+        let (a_text, a_rest) = split_text(a_left);
+        let (b_text, b_rest) = split_text(b_left);
+        let by_text = text_cmp(a_text, b_text, case_sensitive);
+        if by_text.is_ne() {
+            return by_text;
+        }
+        if a_rest.is_empty() || b_rest.is_empty() {
+            return a_rest.len().cmp(&b_rest.len());
+        }
+        let (a_digits, a_behind) = split_number(a_rest);
+        let (b_digits, b_behind) = split_number(b_rest);
+        let by_number = number_cmp(a_digits, b_digits);
+        if by_number.is_ne() {
+            return by_number;
+        }
+        a_left = a_behind;
+        b_left = b_behind;
+    }
+}
+
+/// What stands before the first digit of a text, and the rest.
+fn split_text(text: &[u8]) -> (&[u8], &[u8])
+    ensures front { result.0.now ≡ take (position_or_len is_ascii_digit text.now) text.now }
+    ensures rest { result.1.now ≡ drop (position_or_len is_ascii_digit text.now) text.now }
+{
+    let start = text
+        .iter()
+        .position(|b| b.is_ascii_digit())
+        .unwrap_or(text.len());
+    text.split_at(start)
+}
+
+/// The digits that a text begins with, and the rest.
+fn split_number(text: &[u8]) -> (&[u8], &[u8])
+    ensures digits { result.0.now ≡ take (prefix_len is_ascii_digit text.now) text.now }
+    ensures rest { result.1.now ≡ drop (prefix_len is_ascii_digit text.now) text.now }
+{
+    let end = text
+        .iter()
+        .position(|b| !b.is_ascii_digit())
+        .unwrap_or(text.len());
+    text.split_at(end)
+}
+
+/// The order of two texts by their bytes, with ASCII capitals as small letters unless the case counts.
+fn text_cmp(a: &[u8], b: &[u8], case_sensitive: bool) -> Ordering
+    ensures { result ≡ slice_cmp nat_cmp (cased case_sensitive a.now) (cased case_sensitive b.now) }
+{
+    if case_sensitive {
+        a.cmp(b)
+    } else {
+        a.iter()
+            .map(|x| x.to_ascii_lowercase())
+            .cmp(b.iter().map(|x| x.to_ascii_lowercase()))
+    }
+}
+
+/// The order of two numbers, each given by its digits, of any length.
+fn number_cmp(a: &[u8], b: &[u8]) -> Ordering
+    requires digits_a { AllDigits 10 a.now }
+    requires digits_b { AllDigits 10 b.now }
+    ensures { result ≡ nat_cmp (digits_value 10 a.now) (digits_value 10 b.now) }
+{
+    let a = without_zeros(a);
+    let b = without_zeros(b);
+    match a.len().cmp(&b.len()) {
+        Ordering::Equal => a.cmp(b),
+        by_length => by_length,
+    }
+}
+
+/// The digits behind the zeros that they begin with.
+fn without_zeros(digits: &[u8]) -> &[u8]
+    ensures { result.now ≡ drop (prefix_len (λ d. d == byte "0") digits.now) digits.now }
+{
+    let zeros = digits
+        .iter()
+        .position(|d| *d != b'0')
+        .unwrap_or(digits.len());
+    digits.split_at(zeros).1
+}

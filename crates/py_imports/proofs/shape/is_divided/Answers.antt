@@ -1,0 +1,5 @@
+use Rattle.py_imports.proofs.ShapeLemmas.{divided}
+use Rattle.py_imports.proofs.shape.is_divided.Goals as goal
+
+pub returns : goal.returns
+returns c = divided c.args.tokens.now c.statement_end.result c.statement_end.ensures.within c.statement_end.ensures.tokens c.statement_end.ensures.semicolon

@@ -1,0 +1,87 @@
+ghost use Rattle.std.specs.Prelude.{◌≡◌};
+ghost use Rattle.py_imports.specs.Action.{is_word_byte, begins_with_word_byte, begins_with_phrase, begins_with_action, says};
+
+/// What a comment can ask of isort (isort documentation, "Action Comments").
+#[derive(Clone, Copy, Debug, PartialEq, Eq)]
+pub enum Action {
+    /// `skip_file`: leave the whole file as it is.
+    SkipFile,
+    /// `skip`: leave this import statement where it is.
+    Skip,
+    /// `off`: leave what follows as it is, up to `on`.
+    Off,
+    /// `on`: sort again from here on.
+    On,
+    /// `split`: sort what stands before and what stands behind apart from one another.
+    Split,
+}
+
+impl Action {
+    ghost use Rattle.py_imports.specs.Action.{spelling_of};
+
+    fn spelling(self) -> &'static [u8]
+        ensures { result.now ≡ spelling_of self }
+    {
+        match self {
+            Action::SkipFile => b"skip_file",
+            Action::Skip => b"skip",
+            Action::Off => b"off",
+            Action::On => b"on",
+            Action::Split => b"split",
+        }
+    }
+}
+
+fn is_word_byte(b: u8) -> bool
+    ensures { result ≡ is_word_byte b }
+{
+    b.is_ascii_alphanumeric() || b == b'_'
+}
+
+fn begins_with_word_byte(text: &[u8]) -> bool
+    ensures { result ≡ begins_with_word_byte text.now }
+{
+    match text.first() {
+        Some(b) => is_word_byte(*b),
+        None => false,
+    }
+}
+
+// Whether the text begins with the phrase, and no byte of a word stands behind it.
+fn begins_with_phrase(text: &[u8], phrase: &[u8]) -> bool
+    ensures { result ≡ begins_with_phrase phrase.now text.now }
+{
+    match text.strip_prefix(phrase) {
+        Some(rest) => !begins_with_word_byte(rest),
+        None => false,
+    }
+}
+
+// Whether the text begins with `isort:`, at most one space, and the action.
+fn begins_with_action(text: &[u8], action: Action) -> bool
+    ensures { result ≡ begins_with_action action text.now }
+{
+    let Some(rest) = text.strip_prefix(b"isort:") else {
+        return false;
+    };
+    match rest.strip_prefix(b" ") {
+        Some(word) => begins_with_phrase(word, action.spelling()),
+        None => begins_with_phrase(rest, action.spelling()),
+    }
+}
+
+/// Whether a comment or a string with this text says the action (isort documentation, "Action Comments").
+///
+/// It does where the text holds, anywhere, `isort:`, then at most one space, then the action's word, and no ASCII
+/// letter, digit or `_` follows. So `isort: skip_file` doesn't say `skip`.
+pub fn says(text: &str, action: Action) -> bool
+    ensures { result ≡ says action text.now }
+{
+    let bytes = text.as_bytes();
+    'places: for place in 0..bytes.len() {
+        if begins_with_action(&bytes[place..], action) {
+            return true;
+        }
+    }
+    false
+}

@@ -1,0 +1,159 @@
+ghost use Rattle.std.specs.Prelude.{◌≡◌, ◌<◌, ◌+◌, ◌==◌, ◌||◌, not, false, Some, [], MatchBool, MatchOption, length, slice_get};
+ghost use Rattle.std.specs.List.{list_any, list_all};
+ghost use Rattle.py_lines.specs.Lines.{line_in};
+ghost use Rattle.py_lines.specs.declared.token.Token.{Token};
+ghost use Rattle.py_imports.specs.Statement.{is_comment, significant, places_from, is_end};
+ghost use Rattle.py_imports.specs.Shape.{mark_len, begins_so, is_parenthesis, stands_well, says_skip, IsSortable, HasShape};
+ghost use Rattle.py_imports.specs.Recognizer.{IsFirstCode, BeginsAt};
+
+use crate::action::{Action, says};
+use crate::imports::{Form, form_of, statement_end};
+use crate::statement::Statement;
+use py_lines::{TokKind, Token, Unit, UnitKind};
+
+/// Whether a logical line can be put in order with others: what [`shape_of`] answers.
+#[derive(Clone, Copy, Debug, PartialEq, Eq)]
+pub enum Shape {
+    /// It can: it is one import statement, and nothing of it is lost where it is written anew.
+    Sortable,
+    /// It begins with `import` or `from`, and stays as it is written.
+    Pinned,
+    /// It doesn't begin with `import` or `from`.
+    Other,
+}
+
+fn is_comment(kind: TokKind) -> bool
+    ensures { result ≡ is_comment kind }
+{
+    matches!(kind, TokKind::Remark)
+}
+
+fn is_parenthesis(kind: TokKind) -> bool
+    ensures { result ≡ is_parenthesis kind }
+{
+    matches!(kind, TokKind::Op(b'('))
+}
+
+// The place of the first token that is no comment.
+fn first_code(tokens: &[Token]) -> Option<usize>
+    ensures { MatchOption result (significant tokens.now ≡ []) (IsFirstCode tokens.now) }
+{
+    'tokens: for place in 0..tokens.len() {
+        if !is_comment(tokens[place].kind) {
+            return Some(place);
+        }
+    }
+    None
+}
+
+// The place and the first word of the import statement that code begins with, if it does.
+fn begun_at(unit: &Unit<'_>) -> Option<(usize, Form)>
+    ensures { MatchOption result (begins_so (line_in unit.now) ≡ false) (λ r. BeginsAt (line_in unit.now) r.0 r.1) }
+{
+    let UnitKind::Code = unit.kind else {
+        return None;
+    };
+    let place = first_code(unit.tokens)?;
+    let form = form_of(unit.tokens[place].kind, unit.word(place))?;
+    Some((place, form))
+}
+
+// The bytes of the byte order mark that the line begins with.
+fn mark_len(unit: &Unit<'_>) -> usize
+    ensures { result ≡ mark_len (line_in unit.now) }
+{
+    if unit.text.as_bytes().starts_with(b"\xef\xbb\xbf") {
+        3
+    } else {
+        0
+    }
+}
+
+// Whether a `;` stands outside brackets.
+fn is_divided(tokens: &[Token]) -> bool
+    ensures { result ≡ list_any is_end (places_from [] (significant tokens.now)) }
+{
+    statement_end(tokens, 0) < tokens.len()
+}
+
+// Whether a token of this kind stands well, if it is a comment: last, or directly behind `(`.
+fn stands_well(kind: TokKind, is_last: bool, behind_opening: bool) -> bool
+    ensures { result ≡ not (is_comment kind) || is_last || behind_opening }
+{
+    !is_comment(kind) || is_last || behind_opening
+}
+
+// Whether each comment is the last token, or stands directly behind `(`.
+fn comments_stand_well(tokens: &[Token]) -> bool
+    ensures { result ≡ list_all stands_well (places_from [] tokens.now) }
+{
+    let mut behind_opening = false;
+    'tokens: for place in 0..tokens.len() {
+        let kind = tokens[place].kind;
+        if !stands_well(kind, place + 1 == tokens.len(), behind_opening) {
+            return false;
+        }
+        behind_opening = is_parenthesis(kind);
+    }
+    true
+}
+
+// Whether the token at `place` is a comment that says `skip`.
+fn is_skip(unit: &Unit<'_>, place: usize) -> bool
+    requires { place < length unit.now.tokens.now }
+    ensures { (t : Token) → slice_get unit.now.tokens.now place ≡ Some t → result ≡ says_skip unit.now.text.now t }
+{
+    is_comment(unit.tokens[place].kind) && says(unit.word(place), Action::Skip)
+}
+
+// Whether a comment says `skip`.
+fn says_skip(unit: &Unit<'_>) -> bool
+    ensures { result ≡ list_any (says_skip unit.now.text.now) unit.now.tokens.now }
+{
+    'tokens: for place in 0..unit.tokens.len() {
+        if is_skip(unit, place) {
+            return true;
+        }
+    }
+    false
+}
+
+// Whether the token at `place` stands directly behind mark and indentation.
+fn stands_first(unit: &Unit<'_>, place: usize) -> bool
+    requires { place < length unit.now.tokens.now }
+    ensures { (t : Token) → slice_get unit.now.tokens.now place ≡ Some t → result ≡ (t.start == mark_len (line_in unit.now) + unit.now.indent) }
+{
+    let start = unit.tokens[place].start;
+    let mark = mark_len(unit);
+    mark <= start && start - mark == unit.indent
+}
+
+// Whether the line can be sorted whose import statement begins at `place`.
+fn is_sortable(unit: &Unit<'_>, place: usize, form: Form) -> bool
+    requires { BeginsAt (line_in unit.now) place form }
+    ensures { MatchBool result (IsSortable (line_in unit.now)) (¬ (IsSortable (line_in unit.now))) }
+{
+    let statement = Statement::new(unit, place + 1, unit.tokens.len());
+    stands_first(unit, place)
+        && !is_divided(unit.tokens)
+        && statement.is_import(form)
+        && comments_stand_well(unit.tokens)
+        && !says_skip(unit)
+}
+
+/// The shape of a logical line (Python Language Reference, 7.11; isort documentation, "Action Comments").
+///
+/// - `Sortable`: code that is one import statement in the grammar, with no `;` outside brackets. Its first token other
+///   than comments stands directly behind byte order mark and indentation. Each comment is the line's last token, or
+///   the next one behind a `(`, and none says `skip`.
+/// - `Pinned`: other code whose first token other than comments is `import` or `from`.
+/// - `Other`: any other line.
+pub fn shape_of(unit: &Unit<'_>) -> Shape
+    ensures { HasShape (line_in unit.now) result }
+{
+    match begun_at(unit) {
+        None => Shape::Other,
+        Some((place, form)) if is_sortable(unit, place, form) => Shape::Sortable,
+        Some(_) => Shape::Pinned,
+    }
+}
