@@ -27,7 +27,7 @@ fn main(rt: HostRuntime) -> io::Result<ExitCode> {
     Ok(ExitCode::FAILURE)
 }
 
-// Whether the words behind the program's name are `--identify -`, which is all that it knows so far.
+// Whether the words after the program's name are `--identify -`, which is all that it knows so far.
 fn asks_for_listing(rt: &HostRuntime) -> io::Result<bool> {
     let words: Vec<String> = env::args(rt)?.skip(1).collect(rt.alloc())?;
     Ok(match words.as_slice() {

@@ -27,7 +27,7 @@ error_words (run.Fault f) = fault_words f.kind
 error_words run.Memory = codes "R5 out of memory"
 error_words run.NeverEnds = codes "R6 reader never ends"
 
--- a fault is printed behind the path and its line, any other error behind the program's name and the path
+-- a fault is printed after the path and its line, any other error after the program's name and the path
 abbrev pub error_line : List ℕ → RunError → List ℕ
 error_line path (run.Fault f) = path ++ (codes ":" ++ (decimal f.line ++ (codes ": " ++ (error_words (run.Fault f) ++ 10 ∷ []))))
 error_line path e = codes "isort: " ++ (path ++ (codes ": " ++ (error_words e ++ 10 ∷ [])))

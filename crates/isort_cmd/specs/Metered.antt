@@ -41,5 +41,5 @@ end_of_write before bytes (Ok n) = if (n == 0) && nat_lt 0 (length bytes) then l
 end_of_write before bytes (Err e) = end_of_error before e
 
 -- a writer that is given up: it failed, took no byte, or was interrupted 1000 times in a row
-abbrev pub HasStopped : Last → Type 0
-HasStopped l = (l ≡ last.Failed) ⊎ (l ≡ last.Empty) ⊎ (l ≡ last.Interrupted 1000)
+abbrev pub IsGivenUp : Last → Type 0
+IsGivenUp l = (l ≡ last.Failed) ⊎ (l ≡ last.Empty) ⊎ (l ≡ last.Interrupted 1000)

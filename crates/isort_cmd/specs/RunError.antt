@@ -7,7 +7,7 @@ use Rattle.py_imports.specs.declared.error.ImportError.TheVariants as import
 use Rattle.isort_cmd.specs.declared.error.RunError.{RunError}
 use Rattle.isort_cmd.specs.declared.error.RunError.TheVariants as run
 
--- a fault of the text, or want of memory
+-- a fault of the text, or that memory ran out
 abbrev pub run_error_of : FindError → RunError
 run_error_of find.Memory = run.Memory
 run_error_of (find.Fault f) = run.Fault f

@@ -1,4 +1,4 @@
--- What the steps of a run promise one another. No public clause names these.
+-- What the steps of a run promise one another. Contracts of private functions alone cite these.
 use Rattle.std.specs.Prelude.{◌≡◌, ⊤}
 use Rattle.isort_cmd.specs.declared.metered.Last.{Last}
 use Rattle.isort_cmd.specs.declared.metered.Last.TheVariants as last

@@ -6,7 +6,7 @@ use crate::error::RunError;
 use py_imports::Binding;
 use std::alloc::Global;
 
-// Puts `path:line ` behind `out`, and `indented ` where the line is.
+// Puts `path:line ` after `out`, and `indented ` where the line is.
 fn push_place(path: &str, line: u64, indented: bool, out: &mut String) -> Result<(), RunError>
     ensures ok { OnOk result (string_bytes out.new ≡ string_bytes out.old ++ place_text path.now line indented) }
     ensures err { IfErr result (λ e. e ≡ RunError.Memory) }
@@ -18,7 +18,7 @@ fn push_place(path: &str, line: u64, indented: bool, out: &mut String) -> Result
     Ok(())
 }
 
-// Puts the line of a binding behind `out`.
+// Puts the line of a binding after `out`.
 pub(crate) fn push_line(
     alloc: Global,
     binding: &Binding,

@@ -1,7 +1,7 @@
-ghost use Rattle.std.specs.Prelude.{◌≡◌, ◌≤◌, ◌<◌, ◌^◌, None, length, OnOk, IfErr, IfSome};
+ghost use Rattle.std.specs.Prelude.{◌≡◌, ◌≢◌, ◌≤◌, ◌<◌, ◌^◌, None, length, OnOk, IfErr, IfSome};
 ghost use Rattle.std.specs.Io.KnownBytes.{IsAtEnd, Keeps};
 ghost use Rattle.py_lines.specs.declared.fault.Fault.{Fault};
-ghost use Rattle.isort_cmd.specs.Metered.{inner_of, last_of, HasStopped};
+ghost use Rattle.isort_cmd.specs.Metered.{inner_of, last_of, IsGivenUp};
 ghost use Rattle.isort_cmd.specs.RunError.{IsUnread};
 ghost use Rattle.isort_cmd.specs.Steps.{IsOutputError};
 ghost use Rattle.isort_cmd.specs.Written.{Lists, LeavesAtError};
@@ -11,7 +11,7 @@ use crate::line::push_line;
 use crate::metered::{Last, Metered};
 use crate::read::read_text;
 use crate::write::write_whole;
-use isort_find::laws::given_begin_the_found;
+use isort_find::laws::{given_begin_the_found, one_found};
 use isort_find::{FindOptions, Finder};
 use std::alloc::Global;
 use std::io::{Read, Write};
@@ -28,9 +28,11 @@ fn list<W: Write>(
     ensures ok { OnOk result (Lists path.now text.now options None (W.contents (inner_of writer.old)) (W.contents (inner_of writer.new))) }
     ensures err { IfErr result (λ e. LeavesAtError path.now text.now options e (W.contents (inner_of writer.old)) (W.contents (inner_of writer.new))) }
     ensures errors { IfErr result IsOutputError }
-    ensures stopped { result ≡ Err RunError.Write → HasStopped (last_of writer.new) }
+    ensures stopped { result ≡ Err RunError.Write → IsGivenUp (last_of writer.new) }
+    ensures fine { result ≢ Err RunError.Write → last_of writer.new ≡ Last.Fine }
 {
     given_begin_the_found();
+    one_found();
     let mut finder = Finder::new(alloc, text, options)?;
     let mut out = String::new(alloc);
     'imports: while let Some(binding) = finder.next_import()? {
@@ -46,14 +48,17 @@ fn list<W: Write>(
 /// count from 1.
 ///
 /// `options` says which imports are found: with a key in `unique` the first under each key, and with `top_only` those
-/// before the first function or class, behind which no fault counts. `max` is how many bytes the text may have.
+/// before the first function or class, after which no fault counts. `max` is how many bytes the text may have.
 ///
 /// - `Read`: a read failed; nothing was written.
 /// - `TooLong`: more than `max` bytes came; nothing was written.
 /// - `NeverEnds`: a read was interrupted 1000 times in a row; nothing was written.
 /// - `Fault`: the text has this fault; the lines of all imports found before it were written.
-/// - `Write`: a write failed, took no byte, or was interrupted 1000 times in a row; a front of the lines was written.
-/// - `Memory`: there was no memory; nothing or a front of the lines was written.
+/// - `Write`: a write failed, took no byte, or was interrupted 1000 times in a row; a prefix of the lines was written.
+/// - `Memory`: memory ran out; a prefix of the lines was written.
+///
+/// After each answer except `Read` and `NeverEnds` the last call of `reader` is fine, and after each except `Write` that
+/// of `writer`: the next text can be listed to it.
 pub fn identify<R: Read, W: Write>(
     alloc: Global,
     reader: &mut Metered<R>,
@@ -78,8 +83,11 @@ pub fn identify<R: Read, W: Write>(
     ensures unwritten { IfErr result (λ e. IsUnread e → Keeps (W.contents (inner_of writer.old)) (W.contents (inner_of writer.new))) }
     ensures read { result ≡ Err RunError.Read → last_of reader.new ≡ Last.Failed }
     ensures never_ends { result ≡ Err RunError.NeverEnds → last_of reader.new ≡ Last.Interrupted 1000 }
-    ensures write { result ≡ Err RunError.Write → HasStopped (last_of writer.new) }
+    ensures write { result ≡ Err RunError.Write → IsGivenUp (last_of writer.new) }
+    ensures reader_fine { result ≢ Err RunError.Read → result ≢ Err RunError.NeverEnds → last_of reader.new ≡ Last.Fine }
+    ensures writer_fine { result ≢ Err RunError.Write → last_of writer.new ≡ Last.Fine }
 {
+    one_found();
     let text = read_text(alloc, reader, max)?;
     list(alloc, text.as_slice(), writer, path, options)
 }

@@ -9,7 +9,7 @@ use std::io::{ErrorKind, Read, Write};
 /// How many interruptions in a row make a run give up.
 pub const MOST_INTERRUPTIONS: u16 = 1000;
 
-/// How the last call of a reader or writer ended.
+/// How the last read or write ended.
 #[derive(Clone, Copy, Debug, PartialEq, Eq)]
 pub enum Last {
     /// In none of the other ways.
@@ -34,7 +34,10 @@ impl Last {
     }
 }
 
-/// A reader or writer, and how its last call ended.
+/// A reader or writer, and how its last `read` or `write` ended.
+///
+/// Contracts say what is noted of each answer, and which bytes came or went where the reader or writer tells them. That
+/// each call is made once, whole, and its answer given as it is, they can't say: tests show it.
 #[derive(Drop)]
 pub struct Metered<T> {
     inner: T,
@@ -42,7 +45,7 @@ pub struct Metered<T> {
 }
 
 impl<T> Metered<T> {
-    /// The reader or writer, of which no call is known yet.
+    /// Over this reader or writer, of which no call is known yet.
     pub fn new(inner: T) -> Metered<T>
         ensures inner { inner_of result ≡ inner }
         ensures last { last_of result ≡ Last.Fine }
@@ -85,7 +88,7 @@ impl<T> Metered<T> {
 impl<R: Read> Read for Metered<R> {
     ghost remaining = { λ m. R.remaining (inner_of m) };
 
-    /// Reads, and notes how that ended. It answers what the reader answers.
+    /// Reads, and notes how that ended: in `Fine`, in `Failed`, or in one more interruption.
     fn read(&mut self, buf: &mut [u8]) -> io::Result<usize>
         ensures bound { ReadsAtMost result buf.new }
         ensures bytes { ReadConsumes (R.remaining (inner_of self.old)) (R.remaining (inner_of self.new)) result buf.new }
@@ -107,7 +110,8 @@ impl<R: Read> Read for Metered<R> {
 impl<W: Write> Write for Metered<W> {
     ghost contents = { λ m. W.contents (inner_of m) };
 
-    /// Writes, and notes how that ended. It answers what the writer answers.
+    /// Writes, and notes how that ended: in `Fine`, in `Empty` where no byte of some was taken, in `Failed`, or in one
+    /// more interruption.
     fn write(&mut self, buf: &[u8]) -> io::Result<usize>
         ensures bound { WritesAtMost result buf.now }
         ensures bytes { WriteAppends (W.contents (inner_of self.old)) (W.contents (inner_of self.new)) result buf.now }
@@ -129,7 +133,7 @@ impl<W: Write> Write for Metered<W> {
         }
     }
 
-    /// Passes the call on. `last` stays what it was.
+    /// Flushes. `last` stays what it was.
     fn flush(&mut self) -> io::Result<()>
         ensures bytes { Keeps (W.contents (inner_of self.old)) (W.contents (inner_of self.new)) }
         ensures last { last_of self.new ≡ last_of self.old }

@@ -1,4 +1,4 @@
-ghost use Rattle.std.specs.Prelude.{◌≡◌, ◌<◌, ◌≤◌, ◌^◌, IfOk, OnOk, IfErr, IfSome, length};
+ghost use Rattle.std.specs.Prelude.{◌≡◌, ◌≢◌, ◌<◌, ◌≤◌, ◌^◌, IfOk, OnOk, IfErr, IfSome, length};
 ghost use Rattle.std.specs.Io.{ReadsAtMost};
 ghost use Rattle.std.specs.Io.KnownBytes.{IsAtEnd, ReadConsumes};
 ghost use Rattle.isort_cmd.specs.Metered.{inner_of, last_of};
@@ -46,6 +46,7 @@ pub(crate) fn read_text<R: Read>(
     ensures errors { IfErr result IsInputError }
     ensures read { result ≡ Err RunError.Read → last_of reader.new ≡ Last.Failed }
     ensures never_ends { result ≡ Err RunError.NeverEnds → last_of reader.new ≡ Last.Interrupted 1000 }
+    ensures fine { result ≢ Err RunError.Read → result ≢ Err RunError.NeverEnds → last_of reader.new ≡ Last.Fine }
     ensures too_long { result ≡ Err RunError.TooLong → IfSome (R.remaining (inner_of reader.old)) (λ all. max < length all) }
 {
     let mut text = Vec::new(alloc);

@@ -1,4 +1,5 @@
-ghost use Rattle.std.specs.Prelude.{◌≤◌, ◌^◌};
+ghost use Rattle.std.specs.Prelude.{◌≡◌, ◌≤◌, ◌^◌};
+ghost use Rattle.isort_cmd.specs.Metered.{last_of};
 
 use super::*;
 use py_lines::{Fault, FaultKind};
@@ -37,11 +38,22 @@ fn listed(
     result
 }
 
-// Whether all imports of the text are listed as these lines, with this end.
-fn lists(alloc: Global, text: &[u8], lines: &str, want: Result<(), RunError>) -> bool {
+// Whether the imports of the text that are found with these options are listed as these lines, with this end.
+fn lists_found(
+    alloc: Global,
+    text: &[u8],
+    options: FindOptions,
+    lines: &str,
+    want: Result<(), RunError>,
+) -> bool {
     let mut out = Vec::new(alloc);
-    let got = listed(alloc, text, &mut out, ALL, 1000);
+    let got = listed(alloc, text, &mut out, options, 1000);
     got == want && out.as_slice() == lines.as_bytes()
+}
+
+// The same of all imports.
+fn lists(alloc: Global, text: &[u8], lines: &str, want: Result<(), RunError>) -> bool {
+    lists_found(alloc, text, ALL, lines, want)
 }
 
 #[test]
@@ -167,23 +179,60 @@ fn lists_what_the_options_ask_for(rt: HostRuntime) -> Result<(), Fail> {
         (declared, ALL, both, open),
     ];
     for (text, options, lines, want) in cases {
-        let mut out = Vec::new(rt.alloc());
-        let got = listed(rt.alloc(), text, &mut out, options, 1000);
-        assert_eq!(rt; got, want, "{options:?} {text:?}");
-        assert_eq!(rt; out.as_slice(), lines.as_bytes(), "{options:?} {text:?}");
+        assert!(rt;
+            lists_found(rt.alloc(), text, options, lines, want),
+            "{lines}"
+        );
     }
     Ok(())
 }
 
+// Whether a text without imports, of which `max` bytes are taken, has this end.
+fn ends_so(alloc: Global, text: &[u8], max: u64, want: Result<(), RunError>) -> bool
+    requires { max ≤ 2 ^ 62 }
+{
+    let mut out = Vec::new(alloc);
+    listed(alloc, text, &mut out, ALL, max) == want && out.is_empty()
+}
+
 #[test]
 fn takes_at_most_max(rt: HostRuntime) -> Result<(), Fail> {
-    let mut out = Vec::new(rt.alloc());
-    assert_eq!(rt;
-        listed(rt.alloc(), b"a = 1\n", &mut out, ALL, 5),
-        Err(RunError::TooLong)
-    );
-    assert!(rt; out.is_empty());
-    assert_eq!(rt; listed(rt.alloc(), b"a = 1\n", &mut out, ALL, 6), Ok(()));
+    for (max, want) in [(5, Err(RunError::TooLong)), (6, Ok(()))] {
+        assert!(rt; ends_so(rt.alloc(), b"a = 1\n", max, want), "{max}");
+    }
+    Ok(())
+}
+
+// Whether a text that ends so and then another one are listed to one writer as these lines.
+fn lists_both(alloc: Global, text: &[u8], want: Result<(), RunError>, lines: &str) -> bool {
+    let mut writer = Metered::new(Vec::new(alloc));
+    let got = identify(alloc, &mut Metered::new(text), &mut writer, "a", ALL, 20);
+    if let Err(RunError::Write) = got {
+        return false;
+    }
+    let other = b"import b".as_slice();
+    let last = identify(alloc, &mut Metered::new(other), &mut writer, "b", ALL, 20);
+    got == want && last.is_ok() && writer.into_inner().as_slice() == lines.as_bytes()
+}
+
+#[test]
+fn lists_two_texts_to_one_writer(rt: HostRuntime) -> Result<(), Fail> {
+    let cases: [(&[u8], Result<(), RunError>, &str); 3] = [
+        (b"import a", Ok(()), "a:1 import a\nb:1 import b\n"),
+        (
+            b"import a\nx = )",
+            Err(fault(FaultKind::WrongClose, 13, 2)),
+            "a:1 import a\nb:1 import b\n",
+        ),
+        (
+            b"import a, c, d, e, f\n",
+            Err(RunError::TooLong),
+            "b:1 import b\n",
+        ),
+    ];
+    for (text, want, lines) in cases {
+        assert!(rt; lists_both(rt.alloc(), text, want, lines), "{lines}");
+    }
     Ok(())
 }
 
@@ -211,23 +260,35 @@ impl Write for Narrow {
     }
 }
 
+// Whether the lines of `FIRST` are written to such a writer with this end, so far, and how its last call ended.
+fn writes(
+    alloc: Global,
+    narrow: Narrow,
+    want: Result<(), RunError>,
+    last: Last,
+    lines: &str,
+) -> bool {
+    let mut writer = Metered::new(narrow);
+    let got = identify(
+        alloc,
+        &mut Metered::new(FIRST.as_bytes()),
+        &mut writer,
+        "-",
+        ALL,
+        1000,
+    );
+    got == want && writer.last() == last && writer.into_inner().taken.as_slice() == lines.as_bytes()
+}
+
 #[test]
 fn writes_in_pieces(rt: HostRuntime) -> Result<(), Fail> {
-    let cases = [
-        (1000, 5, "-:1 i", Err(RunError::Write), Last::Failed),
-        (1, 1000, FIRST_LINES, Ok(()), Last::Fine),
-    ];
-    for (piece, room, lines, want, last) in cases {
-        let mut reader = Metered::new(FIRST.as_bytes());
-        let mut writer = Metered::new(Narrow {
-            taken: Vec::new(rt.alloc()),
-            piece,
-            room,
-        });
-        let got = identify(rt.alloc(), &mut reader, &mut writer, "-", ALL, 1000);
-        assert_eq!(rt; got, want);
-        assert_eq!(rt; writer.last(), last);
-        assert_eq!(rt; writer.into_inner().taken.as_slice(), lines.as_bytes());
+    for (piece, room, want, last, lines) in [
+        (1000, 5, Err(RunError::Write), Last::Failed, "-:1 i"),
+        (1, 1000, Ok(()), Last::Fine, FIRST_LINES),
+    ] {
+        let taken = Vec::new(rt.alloc());
+        let narrow = Narrow { taken, piece, room };
+        assert!(rt; writes(rt.alloc(), narrow, want, last, lines), "{piece}");
     }
     Ok(())
 }
@@ -254,48 +315,159 @@ impl Write for Broken {
     }
 }
 
+// Whether reading ends so, with nothing written.
+fn gives_up(alloc: Global, kind: ErrorKind, want: RunError, last: Last) -> bool {
+    let mut reader = Metered::new(Broken { kind });
+    let mut writer = Metered::new(Vec::new(alloc));
+    let got = identify(alloc, &mut reader, &mut writer, "-", ALL, 1000);
+    got == Err(want) && reader.last() == last && writer.into_inner().is_empty()
+}
+
 #[test]
 fn gives_up_reading(rt: HostRuntime) -> Result<(), Fail> {
-    let cases = [
+    let given_up = Last::Interrupted(1000);
+    for (kind, want, last) in [
         (ErrorKind::Other, RunError::Read, Last::Failed),
-        (
-            ErrorKind::Interrupted,
-            RunError::NeverEnds,
-            Last::Interrupted(1000),
-        ),
-    ];
-    for (kind, want, last) in cases {
-        let mut reader = Metered::new(Broken { kind });
-        let mut writer = Metered::new(Vec::new(rt.alloc()));
-        let got = identify(rt.alloc(), &mut reader, &mut writer, "-", ALL, 1000);
-        assert_eq!(rt; got, Err(want));
-        assert_eq!(rt; reader.last(), last);
-        assert!(rt; writer.into_inner().is_empty());
+        (ErrorKind::Interrupted, RunError::NeverEnds, given_up),
+    ] {
+        assert!(rt; gives_up(rt.alloc(), kind, want, last), "{want}");
+    }
+    Ok(())
+}
+
+// A reader of `left` and a writer into `taken` whose first call ends in this error, where there is one. It notes how
+// many calls were made, and how many bytes the last one was offered.
+#[derive(Drop)]
+struct Shaky<'t> {
+    left: &'t [u8],
+    taken: Vec<u8>,
+    first: Option<ErrorKind>,
+    calls: u32,
+    offered: usize,
+}
+
+impl<'t> Shaky<'t> {
+    fn new(alloc: Global, left: &'t [u8], first: Option<ErrorKind>) -> Metered<Shaky<'t>>
+        ensures { last_of result ≡ Last.Fine }
+    {
+        Metered::new(Shaky {
+            left,
+            taken: Vec::new(alloc),
+            first,
+            calls: 0,
+            offered: 0,
+        })
+    }
+
+    fn note(&mut self, offered: usize) -> io::Result<()> {
+        self.calls = self.calls.saturating_add(1);
+        self.offered = offered;
+        match self.first.take() {
+            Some(kind) => Err(io::Error::from(kind)),
+            None => Ok(()),
+        }
+    }
+}
+
+impl Read for Shaky<'_> {
+    fn read(&mut self, buf: &mut [u8]) -> io::Result<usize> {
+        self.note(buf.len())?;
+        self.left.read(buf)
+    }
+}
+
+impl Write for Shaky<'_> {
+    fn write(&mut self, buf: &[u8]) -> io::Result<usize> {
+        self.note(buf.len())?;
+        self.taken.extend_from_slice(buf)?;
+        Ok(buf.len())
+    }
+
+    fn flush(&mut self) -> io::Result<()> {
+        self.note(0)
+    }
+}
+
+// Whether `FIRST` is listed with this end, where the first read and the first write fail so: these lines, by so many
+// reads and writes.
+fn lists_shakily(
+    alloc: Global,
+    read: Option<ErrorKind>,
+    write: Option<ErrorKind>,
+    want: Result<(), RunError>,
+    lines: &str,
+    calls: (u32, u32),
+) -> bool {
+    let mut reader = Shaky::new(alloc, FIRST.as_bytes(), read);
+    let mut writer = Shaky::new(alloc, &[], write);
+    let got = identify(alloc, &mut reader, &mut writer, "-", ALL, 1000);
+    let (reader, writer) = (reader.into_inner(), writer.into_inner());
+    got == want
+        && writer.taken.as_slice() == lines.as_bytes()
+        && (reader.calls, writer.calls) == calls
+}
+
+#[test]
+fn goes_on_after_an_interruption(rt: HostRuntime) -> Result<(), Fail> {
+    let first = Some(ErrorKind::Interrupted);
+    assert!(rt; lists_shakily(rt.alloc(), first, first, Ok(()), FIRST_LINES, (3, 4)));
+    Ok(())
+}
+
+#[test]
+fn stops_at_the_first_failure(rt: HostRuntime) -> Result<(), Fail> {
+    let first = Some(ErrorKind::Other);
+    for (read, write, want, calls) in [
+        (first, None, RunError::Read, (1, 0)),
+        (None, first, RunError::Write, (2, 1)),
+    ] {
+        assert!(rt;
+            lists_shakily(rt.alloc(), read, write, Err(want), "", calls),
+            "{want}"
+        );
     }
     Ok(())
 }
 
 #[test]
-fn notes_how_calls_end(rt: HostRuntime) -> Result<(), Fail> {
+fn offers_all_bytes(rt: HostRuntime) -> Result<(), Fail> {
+    let mut reader = Shaky::new(rt.alloc(), b"abcdef", None);
+    let read = reader.read(&mut [0u8; 4])?;
+    let mut writer = Shaky::new(rt.alloc(), b"", None);
+    let written = writer.write(b"abcdef")?;
+    let offered = (reader.into_inner().offered, writer.into_inner().offered);
+    assert_eq!(rt; (read, written, offered), (4, 6, (4, 6)));
+    Ok(())
+}
+
+#[test]
+fn flushes_what_is_inside(rt: HostRuntime) -> Result<(), Fail> {
+    let mut writer = Shaky::new(rt.alloc(), b"", Some(ErrorKind::Other));
+    assert!(rt; writer.flush().is_err());
+    assert!(rt; writer.flush().is_ok());
+    assert_eq!(rt; (writer.last(), writer.into_inner().calls), (Last::Fine, 2));
+    Ok(())
+}
+
+#[test]
+fn counts_interruptions(rt: HostRuntime) -> Result<(), Fail> {
     let mut reader = Metered::new(Broken {
         kind: ErrorKind::Interrupted,
     });
-    let mut piece = [0u8; 4];
-    assert!(rt; reader.read(&mut piece).is_err());
-    assert!(rt; reader.read(&mut piece).is_err());
+    let _ = reader.read(&mut [0u8; 4]);
+    let _ = reader.read(&mut [0u8; 4]);
     assert_eq!(rt; reader.last(), Last::Interrupted(2));
-    let mut writer = Metered::new([0u8; 0]).into_inner();
-    let mut full = Metered::new(&mut writer[..]);
-    assert_eq!(rt; full.write(b"a")?, 0);
-    assert_eq!(rt; full.last(), Last::Empty);
-    assert_eq!(rt; full.write(b"")?, 0);
-    assert_eq!(rt; full.last(), Last::Fine);
-    full.flush()?;
-    let mut broken = Metered::new(Broken {
-        kind: ErrorKind::Other,
-    });
-    assert!(rt; broken.flush().is_err());
-    assert_eq!(rt; broken.last(), Last::Fine);
+    Ok(())
+}
+
+#[test]
+fn notes_empty_writes(rt: HostRuntime) -> Result<(), Fail> {
+    let mut none = [0u8; 0];
+    let mut full = Metered::new(&mut none[..]);
+    let count = full.write(b"a")?;
+    assert_eq!(rt; (count, full.last()), (0, Last::Empty));
+    let count = full.write(b"")?;
+    assert_eq!(rt; (count, full.last()), (0, Last::Fine));
     Ok(())
 }
 

@@ -1,6 +1,6 @@
 ghost use Rattle.std.specs.Prelude.{◌≡◌, ◌<◌, ◌≤◌, IfOk, OnOk, OnErr, IfErr, length, take};
 ghost use Rattle.std.specs.Io.KnownBytes.{Appends, Keeps};
-ghost use Rattle.isort_cmd.specs.Metered.{inner_of, last_of, HasStopped};
+ghost use Rattle.isort_cmd.specs.Metered.{inner_of, last_of, IsGivenUp};
 ghost use Rattle.isort_cmd.specs.Written.{AppendsFront};
 
 use crate::error::RunError;
@@ -17,7 +17,7 @@ fn write_some<W: Write>(writer: &mut Metered<W>, bytes: &[u8]) -> Result<usize, 
     ensures kept { OnErr result (Keeps (W.contents (inner_of writer.old)) (W.contents (inner_of writer.new))) }
     ensures fine { OnOk result (last_of writer.new ≡ Last.Fine) }
     ensures err { IfErr result (λ e. e ≡ RunError.Write) }
-    ensures stopped { OnErr result (HasStopped (last_of writer.new)) }
+    ensures stopped { OnErr result (IsGivenUp (last_of writer.new)) }
 {
     'tries: loop {
         match writer.write(bytes) {
@@ -32,14 +32,14 @@ fn write_some<W: Write>(writer: &mut Metered<W>, bytes: &[u8]) -> Result<usize, 
     }
 }
 
-// Writes the bytes whole, or a front of them.
+// Writes the bytes whole, or a prefix of them where a write fails.
 pub(crate) fn write_whole<W: Write>(writer: &mut Metered<W>, bytes: &[u8]) -> Result<(), RunError>
     requires { last_of writer.old ≡ Last.Fine }
     ensures ok { OnOk result (Appends (W.contents (inner_of writer.old)) (W.contents (inner_of writer.new)) bytes.now) }
     ensures fine { OnOk result (last_of writer.new ≡ Last.Fine) }
     ensures front { OnErr result (AppendsFront (W.contents (inner_of writer.old)) (W.contents (inner_of writer.new)) bytes.now) }
     ensures err { IfErr result (λ e. e ≡ RunError.Write) }
-    ensures stopped { OnErr result (HasStopped (last_of writer.new)) }
+    ensures stopped { OnErr result (IsGivenUp (last_of writer.new)) }
 {
     let mut rest = bytes;
     while !rest.is_empty() {

@@ -1,11 +1,11 @@
 -- What a finder has given begins what is found in its text.
 use Rattle.std.proofs.Common.{◌≡◌, ℕ, Bool, true, false, not, Option, Some, List, [], ◌∷◌, ◌++◌, inl, inr, ◌⊎◌, refl, sym, ap, ◌∙◌, subst, append_assoc, append-nil, if◌then◌else◌}
 use Rattle.py_lines.specs.LogicalLine.{LogicalLine}
-use Rattle.py_lines.specs.Lexed.{BeginsLexing}
+use Rattle.py_lines.specs.Lexed.{IsLexed, BeginsLexing}
 use Rattle.py_lines.specs.declared.fault.Fault.{Fault}
 use Rattle.py_imports.specs.Bound.{Bound}
 use Rattle.py_imports.specs.Binds.{BindAll, BindsOrIsBad, IsBadAt}
-use Rattle.isort_find.specs.Found.{has_one_like, firsts, ends_top, counted_lines, counted_end, of_all, before_bad, BeginsFound}
+use Rattle.isort_find.specs.Found.{has_one_like, firsts, ends_top, counted_lines, counted_end, of_all, before_bad, IsFound, BeginsFound}
 use Rattle.isort_find.specs.Cursor.{BeginsNext, IsBehind}
 use Rattle.isort_find.specs.Finder.{Finding, HasFound, text_of, options_of}
 use Rattle.isort_find.specs.declared.options.FindOptions.{FindOptions}
@@ -27,7 +27,7 @@ firsts-append : (unique : Option ImportKey) (earlier xs ys : List Bound) → fir
 firsts-append unique earlier [] ys = ap (λ t. firsts unique t ys) (sym (append-nil earlier))
 firsts-append unique earlier (x ∷ xs) ys = append_step unique earlier xs ys x (has_one_like unique earlier x) (firsts-append unique (earlier ++ x ∷ []) xs ys)
 
--- what two lists of logical lines bind, one behind the other
+-- what two lists of logical lines bind, one after the other
 BindAll-append : (lines others : List LogicalLine) (bs more : List Bound) → BindAll lines bs → BindAll others more → BindAll (lines ++ others) (bs ++ more)
 BindAll-append [] others bs more h k = subst (BindAll others) (sym (ap (λ t. t ++ more) h)) k
 BindAll-append (l ∷ ls) others bs more h k = (h.0, h.1 ++ more, ap (λ t. t ++ more) h.2 ∙ append_assoc h.0 h.1 more, h.3, BindAll-append ls others h.1 more h.4 k)
@@ -110,3 +110,14 @@ pub begins_found : GivenBegin → EachBindsOrIsBad → (f : Finding) (bounds : L
 begins_found given each f bounds has =
     let behind = has.stopped.behind in
     begins_part given each (text_of f) (options_of f) f.cursor.offset f.cursor.line f.cursor.taken bounds behind behind.is_part.1
+
+-- the law `some` of `py_lines::laws::one_lexing`
+abbrev pub EachIsLexed : Type 0
+EachIsLexed = (text : List ℕ) → (lines : List LogicalLine) × (end : Option Fault) × IsLexed text lines end
+
+-- Something is found in every text.
+pub some_found : EachIsLexed → EachBindsOrIsBad → (text : List ℕ) (options : FindOptions) → (bounds : List Bound) × (end : Option Fault) × IsFound text options bounds end
+some_found lexed each text options =
+    let all = lexed text in
+    let begins = begins_behind each text options [] [] [] [] (record { more = all.0; end = all.1; lexed = all.2 }) refl refl refl in
+    (begins.more, begins.end, begins.found)

@@ -47,6 +47,6 @@ counted-cut options lines line more all ends = counted-append options lines (lin
 pub end-cut : (options : FindOptions) (lines : List LogicalLine) (line : LogicalLine) (more : List LogicalLine) (end : Option Fault) → AllCount options lines → ends_top options line ≡ true → counted_end options (lines ++ line ∷ more) end ≡ None
 end-cut options lines line more end all ends = ap (λ (h : Bool). if h then None else end) (any-append options lines (line ∷ more) all ∙ ap (λ (h : Bool). h || list_any (ends_top options) more) ends)
 
--- a line that counts behind lines that count
+-- a line that counts after lines that count
 pub counted-more : (options : FindOptions) (lines : List LogicalLine) (line : LogicalLine) (more : List LogicalLine) → AllCount options lines → ends_top options line ≡ false → counted_lines options (lines ++ line ∷ more) ≡ lines ++ line ∷ counted_lines options more
 counted-more options lines line more all here = counted-append options lines (line ∷ more) all ∙ ap (λ t. lines ++ t) (take_while-cons (λ x. not (ends_top options x)) line more ∙ ap (λ (h : Bool). cond (not h) (line ∷ counted_lines options more) []) here)

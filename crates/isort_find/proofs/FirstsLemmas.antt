@@ -9,7 +9,8 @@ use Rattle.std.specs.Str.{bytes_eq}
 use Rattle.py_imports.specs.Bound.{Bound}
 use Rattle.isort_find.specs.Key.{Key, key_of, key_eq}
 use Rattle.isort_find.specs.Found.{has_one_like, firsts}
-use Rattle.isort_find.specs.Cursor.{keys_of, has_key, one_more}
+use Rattle.isort_find.specs.Cursor.{keys_of, next_count}
+use Rattle.isort_find.specs.Steps.Standings.{has_key}
 use Rattle.isort_find.specs.declared.options.ImportKey.{ImportKey}
 
 bytes_same : (a b : List ℕ) → Decides (bytes_eq a b) (a ≡ b)
@@ -108,5 +109,5 @@ pub keys_of-snoc : (unique : Option ImportKey) (bounds : List Bound) (b : Bound)
 keys_of-snoc None bounds b = refl
 keys_of-snoc (Some key) bounds b = map-snoc key bounds b
 
-pub given-snoc : (bounds : List Bound) (b : Bound) → one_more (min (length bounds) (2 ^ 64 - 1)) ≡ min (length (bounds ++ b ∷ [])) (2 ^ 64 - 1)
+pub given-snoc : (bounds : List Bound) (b : Bound) → next_count (min (length bounds) (2 ^ 64 - 1)) ≡ min (length (bounds ++ b ∷ [])) (2 ^ 64 - 1)
 given-snoc bounds b = omega (arith, length-append bounds (b ∷ []))

@@ -7,7 +7,8 @@ use Rattle.std.specs.Str.{bytes_eq}
 use Rattle.py_imports.specs.Bound.{Bound}
 use Rattle.isort_find.specs.Key.{Key, key_of, key_eq}
 use Rattle.isort_find.specs.KeyText.{key_in}
-use Rattle.isort_find.specs.Cursor.{Standing, keys_of, has_key, Admits}
+use Rattle.isort_find.specs.Cursor.{Standing, keys_of}
+use Rattle.isort_find.specs.Steps.Standings.{has_key, Admits}
 use Rattle.isort_find.specs.declared.options.ImportKey.{ImportKey}
 use Rattle.isort_find.specs.declared.key.KeyText.{KeyText}
 

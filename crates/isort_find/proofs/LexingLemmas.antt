@@ -26,7 +26,7 @@ cancel : {A : Type 0} (xs ys zs : List A) → xs ++ ys ≡ xs ++ zs → ys ≡ z
 cancel [] ys zs h = h
 cancel (x ∷ xs) ys zs h = cancel xs ys zs (let e : xs ++ ys ≡ xs ++ zs = cc in e)
 
--- the lines that two readers have given are the same, but for what comes behind them
+-- the lines that two readers have given are the same, except what comes after them
 pub same_line : Laws → (r q : Reader) (lines : List LogicalLine) (a b : LogicalLine) → q.text ≡ r.text → HasGiven r (lines ++ a ∷ []) → HasGiven q (lines ++ b ∷ []) → a ≡ b
 same_line one r q lines a b same first second =
     let f = one.begins r (lines ++ a ∷ []) first in
@@ -35,7 +35,7 @@ same_line one r q lines a b same first second =
     let behind : a ∷ f.more ≡ b ∷ g.more = cancel lines _ _ (sym (append_assoc lines (a ∷ []) f.more) ∙ lists ∙ append_assoc lines (b ∷ []) g.more) in
     cc
 
--- behind all lines none was given
+-- after all lines none was given
 pub no_next : Laws → (text : List ℕ) (lines : List LogicalLine) (end : Option Fault) (r : Reader) (a : LogicalLine) → IsLexed text lines end → r.text ≡ text → HasGiven r (lines ++ a ∷ []) → ⊥
 no_next one text lines end r a lexed same given =
     let f = one.begins r (lines ++ a ∷ []) given in

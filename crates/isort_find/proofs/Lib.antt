@@ -1,12 +1,12 @@
-mod KeyLemmas
-mod TakeLemmas
-mod FirstsLemmas
-mod CountedLemmas
-mod LexingLemmas
-mod PlaceLemmas
-mod TakingLemmas
-mod ReadingLemmas
-mod StepLemmas
-mod GoingLemmas
-mod BeginningLemmas
-mod OneFoundLemmas
+pub mod KeyLemmas
+pub mod TakeLemmas
+pub mod FirstsLemmas
+pub mod CountedLemmas
+pub mod LexingLemmas
+pub mod PlaceLemmas
+pub mod TakingLemmas
+pub mod ReadingLemmas
+pub mod StepLemmas
+pub mod GoingLemmas
+pub mod BeginningLemmas
+pub mod OneFoundLemmas

@@ -33,7 +33,7 @@ pub record EndLaws : Type 0 where
 abbrev AreOne : List Bound → List Bound → Option Fault → Option Fault → Type 0
 AreOne bounds others end second = (bounds ≡ others) × (end ≡ second)
 
--- behind one list of lines the first bad line comes in one place
+-- in one list of lines the first bad line comes in one place
 one_before : EndLaws → (before other : List LogicalLine) (line second : LogicalLine) (behind rest : List LogicalLine) (bs others : List Bound) (fault last : Fault) → before ++ line ∷ behind ≡ other ++ second ∷ rest → BindAll before bs → BindAll other others → IsBadAt line fault → IsBadAt second last → (bs ≡ others) × (fault ≡ last)
 one_before ends [] [] line second behind rest bs others fault last e h k bad worse =
     let same : line ≡ second = let f : line ∷ behind ≡ second ∷ rest = e in cc in
@@ -77,6 +77,6 @@ found_so ends text options bounds others end other f g =
 pub one_list_found : EndLaws → (text : List ℕ) (options : FindOptions) (bounds others : List Bound) (end other : Option Fault) → IsFound text options bounds end → IsFound text options others other → bounds ≡ others
 one_list_found ends text options bounds others end other f g = (found_so ends text options bounds others end other f g).0
 
--- and so are the ends behind them
+-- and so are the ends after them
 pub one_end_found : EndLaws → (text : List ℕ) (options : FindOptions) (bounds others : List Bound) (end other : Option Fault) → IsFound text options bounds end → IsFound text options others other → end ≡ other
 one_end_found ends text options bounds others end other f g = (found_so ends text options bounds others end other f g).1

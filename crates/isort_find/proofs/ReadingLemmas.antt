@@ -1,4 +1,4 @@
--- What a finder is behind the next logical line, the end or a fault.
+-- What a finder is after the next logical line, the end or a fault.
 use Rattle.std.proofs.Common.{◌≡◌, ℕ, Bool, true, false, not, Option, None, Some, List, [], ◌∷◌, ◌++◌, length, min, drop, inl, inr, ◌⊎◌, refl, sym, ap, ◌∙◌, subst, append_assoc, length-append, append-nil, arith}
 use Rattle.py_lines.specs.LogicalLine.{LogicalLine}
 use Rattle.py_lines.specs.Lexed.{IsLexed}
@@ -9,9 +9,10 @@ use Rattle.py_imports.specs.Bound.{Bound}
 use Rattle.py_imports.specs.Binds.{Binds, BindAll, IsBadAt}
 use Rattle.isort_find.specs.Found.{firsts, ends_top, counted_lines, of_all, before_bad, IsFound}
 use Rattle.isort_find.specs.Lexing.{LineAt}
-use Rattle.isort_find.specs.Cursor.{stands_at, BeginsNext, HasStopped}
-use Rattle.isort_find.specs.Finder.{Finding, text_of, options_of, IsWithin, IsBetween, EndsAt, FailsAt, HasReached, HasFound}
-use Rattle.isort_find.specs.Step.{GoesBack, begins_line}
+use Rattle.isort_find.specs.Cursor.{BeginsNext, HasStopped}
+use Rattle.isort_find.specs.Steps.Findings.{GoesBack, with_line, with_outcome}
+use Rattle.isort_find.specs.Steps.Standings.{standing_before}
+use Rattle.isort_find.specs.Finder.{Finding, text_of, options_of, IsWithin, IsBetween, MeetsEndAt, MeetsFaultAt, HasReached, HasFound}
 use Rattle.isort_find.specs.declared.pending.Place.{Place}
 use Rattle.isort_find.specs.declared.finder.Outcome.{Outcome}
 use Rattle.isort_find.specs.declared.finder.Outcome.TheVariants as outcome
@@ -49,7 +50,7 @@ settled f bounds opened none h = either_settled f bounds none (reached_open f bo
 pub given_here : (f : Finding) (bounds : List Bound) (b : IsBetween f bounds) → HasGiven f.reader b.behind.lines
 given_here f bounds b = subst (λ (r : Reader). HasGiven r b.behind.lines) (sym (reader_is f.reader b.no_fault)) b.behind.given
 
--- the same state, but for whether a line has to be read again
+-- the same state, except whether a line has to be read again
 pub found_back : (f : Finding) (bounds : List Bound) (again : Bool) → f.outcome ≡ outcome.Open → HasStopped (text_of f) f.cursor bounds → IsBetween f bounds → HasFound (record f { again = again }) bounds
 found_back f bounds again opened stopped b =
     let g : Finding = record f { again = again } in
@@ -105,7 +106,7 @@ standing_of : (text : List ℕ) (place : Place) (r : Reader) (lines : List Logic
 standing_of text place r lines same none offset line given = subst (λ (q : Reader). HasGiven q lines) (reader_is r none ∙ (λ i. standing_at (same i) (sym offset i) (sym line i))) given
 
 -- the bindings of the next line are to be looked at
-begun_within : Laws → (f : Finding) (r : Reader) (line : LogicalLine) (bs : List Bound) (place : Place) (bounds : List Bound) → Continues f.reader line r → Binds line bs → ends_top (options_of f) line ≡ false → place.offset ≡ f.reader.place → place.line ≡ f.reader.line → IsBetween f bounds → IsWithin (begins_line (record f { reader = r }) place bs) bounds
+begun_within : Laws → (f : Finding) (r : Reader) (line : LogicalLine) (bs : List Bound) (place : Place) (bounds : List Bound) → Continues f.reader line r → Binds line bs → ends_top (options_of f) line ≡ false → place.offset ≡ f.reader.place → place.line ≡ f.reader.line → IsBetween f bounds → IsWithin (with_line (record f { reader = r }) place bs) bounds
 begun_within one f r line bs place bounds continues binds counts offset number b =
     let lines = b.behind.lines in
     let part = b.behind.part in
@@ -133,9 +134,9 @@ begun_within one f r line bs place bounds continues binds counts offset number b
 pub stopped_same : (f : Finding) (r : Reader) (bounds : List Bound) → r.text ≡ text_of f → HasStopped (text_of f) f.cursor bounds → HasStopped r.text f.cursor bounds
 stopped_same f r bounds same h = subst (λ (t : List ℕ). HasStopped t f.cursor bounds) (sym same) h
 
-pub found_begun : Laws → (f : Finding) (r : Reader) (line : LogicalLine) (bs : List Bound) (place : Place) (bounds : List Bound) → f.outcome ≡ outcome.Open → f.pending.left ≡ [] → Continues f.reader line r → Binds line bs → ends_top (options_of f) line ≡ false → place.offset ≡ f.reader.place → place.line ≡ f.reader.line → HasFound f bounds → HasFound (begins_line (record f { reader = r }) place bs) bounds
+pub found_begun : Laws → (f : Finding) (r : Reader) (line : LogicalLine) (bs : List Bound) (place : Place) (bounds : List Bound) → f.outcome ≡ outcome.Open → f.pending.left ≡ [] → Continues f.reader line r → Binds line bs → ends_top (options_of f) line ≡ false → place.offset ≡ f.reader.place → place.line ≡ f.reader.line → HasFound f bounds → HasFound (with_line (record f { reader = r }) place bs) bounds
 found_begun one f r line bs place bounds opened none continues binds counts offset number h =
-    let g : Finding = begins_line (record f { reader = r }) place bs in
+    let g : Finding = with_line (record f { reader = r }) place bs in
     record {
       stopped = stopped_same f r bounds continues.text h.stopped;
       reached = reached g bounds opened (inr (begun_within one f r line bs place bounds continues binds counts offset number (settled f bounds opened none h)));
@@ -146,7 +147,7 @@ found_all : (f : Finding) (bounds : List Bound) (b : IsBetween f bounds) → b.b
 found_all f bounds b none = b.behind.found ∙ ap (firsts (options_of f).unique []) (ap (λ t. b.behind.before ++ t) none ∙ append-nil b.behind.before)
 
 -- the cursor at the end of what was found
-pub stopped_here : (f : Finding) (bounds : List Bound) (place : Place) (b : IsBetween f bounds) → b.behind.part ≡ [] → place.offset ≡ f.reader.place → place.line ≡ f.reader.line → HasStopped (text_of f) f.cursor bounds → HasStopped (text_of f) (stands_at f.cursor place) bounds
+pub stopped_here : (f : Finding) (bounds : List Bound) (place : Place) (b : IsBetween f bounds) → b.behind.part ≡ [] → place.offset ≡ f.reader.place → place.line ≡ f.reader.line → HasStopped (text_of f) f.cursor bounds → HasStopped (text_of f) (standing_before f.cursor place) bounds
 stopped_here f bounds place b none offset number h = record {
   behind = record {
     lines = b.behind.lines;
@@ -205,11 +206,11 @@ line_at one f bounds b line r place P same offset given is = record {
 
 -- the state in which a finder has met the end or a fault
 abbrev pub closed : Finding → Reader → Outcome → Place → Finding
-closed f r o place = record f { reader = r; outcome = o; cursor = stands_at f.cursor place }
+closed f r o place = with_outcome (record f { reader = r }) place o
 
 found_closed : (f : Finding) (r : Reader) (place : Place) (bounds : List Bound) (b : IsBetween f bounds) → b.behind.part ≡ [] → r.text ≡ text_of f → place.offset ≡ f.reader.place → place.line ≡ f.reader.line → HasStopped (text_of f) f.cursor bounds → (o : Outcome) → HasReached (closed f r o place) bounds o → HasFound (closed f r o place) bounds
 found_closed f r place bounds b none same offset number stopped o reached = record {
-  stopped = subst (λ (t : List ℕ). HasStopped t (stands_at f.cursor place) bounds) (sym same) (stopped_here f bounds place b none offset number stopped);
+  stopped = subst (λ (t : List ℕ). HasStopped t (standing_before f.cursor place) bounds) (sym same) (stopped_here f bounds place b none offset number stopped);
   reached = reached;
 }
 
@@ -219,14 +220,14 @@ found_end one f r place bounds opened none ends offset number h =
     let lexed = ends.all b.behind.lines (given_here f bounds b) in
     let all = nothing_of_end one f b.behind.lines b.behind.part None lexed b.behind.is_part.1 in
     let same = ap (λ (q : Reader). q.text) ends.same in
-    found_closed f r place bounds b all same offset number h.stopped outcome.End (subst (λ (t : List ℕ). IsFound t (options_of f) bounds None × EndsAt t (options_of f) place.offset) (sym same) (lexed_all f bounds b None all lexed, inl (offset ∙ ends.place)))
+    found_closed f r place bounds b all same offset number h.stopped outcome.End (subst (λ (t : List ℕ). IsFound t (options_of f) bounds None × MeetsEndAt t (options_of f) place.offset) (sym same) (lexed_all f bounds b None all lexed, inl (offset ∙ ends.place)))
 
 pub found_bad_text : Laws → (f : Finding) (r : Reader) (place : Place) (fault : Fault) (bounds : List Bound) → f.outcome ≡ outcome.Open → f.pending.left ≡ [] → reader.Fails f.reader fault r → place.offset ≡ f.reader.place → place.line ≡ f.reader.line → HasFound f bounds → HasFound (closed f r (outcome.Fault fault) place) bounds
 found_bad_text one f r place fault bounds opened none fails offset number h =
     let b = settled f bounds opened none h in
     let lexed = fails.all b.behind.lines (given_here f bounds b) in
     let all = nothing_of_end one f b.behind.lines b.behind.part (Some fault) lexed b.behind.is_part.1 in
-    found_closed f r place bounds b all fails.text offset number h.stopped (outcome.Fault fault) (subst (λ (t : List ℕ). IsFound t (options_of f) bounds (Some fault) × FailsAt t place.offset fault) (sym fails.text) (lexed_all f bounds b (Some fault) all lexed, inr (b.behind.lines, lexed, bytes_given f.reader b.behind.lines (given_here f bounds b) ∙ sym offset)))
+    found_closed f r place bounds b all fails.text offset number h.stopped (outcome.Fault fault) (subst (λ (t : List ℕ). IsFound t (options_of f) bounds (Some fault) × MeetsFaultAt t place.offset fault) (sym fails.text) (lexed_all f bounds b (Some fault) all lexed, inr (b.behind.lines, lexed, bytes_given f.reader b.behind.lines (given_here f bounds b) ∙ sym offset)))
 
 pub found_top : Laws → (f : Finding) (r : Reader) (line : LogicalLine) (place : Place) (bounds : List Bound) → f.outcome ≡ outcome.Open → f.pending.left ≡ [] → Continues f.reader line r → ends_top (options_of f) line ≡ true → place.offset ≡ f.reader.place → place.line ≡ f.reader.line → HasFound f bounds → HasFound (closed f r outcome.End place) bounds
 found_top one f r line place bounds opened none continues ends offset number h =

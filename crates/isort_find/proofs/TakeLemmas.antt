@@ -3,9 +3,10 @@ use Rattle.std.proofs.Common.{◌≡◌, ℕ, ◌+◌, Bool, true, false, not, �
 use Rattle.std.specs.List.{list_all}
 use Rattle.py_imports.specs.Bound.{Bound, bound_of}
 use Rattle.py_imports.specs.declared.binding.Binding.{Binding}
-use Rattle.isort_find.specs.Cursor.{Standing, has_key, Admits, gives_from}
-use Rattle.isort_find.specs.Pending.{Looking, Looks}
-use Rattle.isort_find.specs.Step.{Passes, TakesNew, TakesNext}
+use Rattle.isort_find.specs.Cursor.{Standing}
+use Rattle.isort_find.specs.Steps.Lookings.{Looks, Passes, TakesNew, TakesNext}
+use Rattle.isort_find.specs.Steps.Standings.{has_key, Admits, standing_after}
+use Rattle.isort_find.specs.Pending.{Looking}
 use Rattle.isort_find.specs.declared.pending.Place.{Place}
 
 pub list_all-snoc : {A : Type 0} (p : A → Bool) (xs : List A) (x : A) → list_all p xs ≡ true → p x ≡ true → list_all p (xs ++ x ∷ []) ≡ true
@@ -71,7 +72,7 @@ pub takes_fewer : (mid new : Looking) (b : Bound) (rest : List Bound) (r : Optio
 takes_fewer mid new b rest r front took = ap length (is_taken mid new b rest r front took).looks.left ∙ omega arith
 
 -- a binding with a new key was taken
-pub takes_new : (s cursor admitted t : Standing) (old mid new : Looking) (b : Bound) (rest : List Bound) (is_new : Bool) (r : Option Binding) (place : Place) (taken : ℕ) → Passes s old mid → cursor ≡ s → mid.left ≡ b ∷ rest → Admits cursor b is_new admitted → is_new ≡ true → MatchOption r ((mid.left ≡ []) × (new ≡ mid)) (λ x. Looks mid (bound_of x) new) → t ≡ gives_from admitted place taken → place ≡ new.place → taken ≡ new.taken → TakesNext s old (Ok r) t new
+pub takes_new : (s cursor admitted t : Standing) (old mid new : Looking) (b : Bound) (rest : List Bound) (is_new : Bool) (r : Option Binding) (place : Place) (taken : ℕ) → Passes s old mid → cursor ≡ s → mid.left ≡ b ∷ rest → Admits cursor b is_new admitted → is_new ≡ true → MatchOption r ((mid.left ≡ []) × (new ≡ mid)) (λ x. Looks mid (bound_of x) new) → t ≡ standing_after admitted place taken → place ≡ new.place → taken ≡ new.taken → TakesNext s old (Ok r) t new
 takes_new s cursor admitted t old mid new b rest is_new r place taken passes same front admits is took gives here so_many =
     let it = is_taken mid new b rest r front took in
     let takes : TakesNew s old b t new = record {
@@ -80,6 +81,6 @@ takes_new s cursor admitted t old mid new b rest is_new r place taken passes sam
       passes = passes;
       looks = it.looks;
       admits = subst (λ (x : Bool). Admits s b x admitted) is (subst (λ (c : Standing). Admits c b is_new admitted) same admits);
-      gives = gives ∙ (λ i. gives_from admitted (here i) (so_many i));
+      gives = gives ∙ (λ i. standing_after admitted (here i) (so_many i));
     } in
     subst (λ (x : Option Binding). TakesNext s old (Ok x) t new) (sym it.some) (subst (λ (a : Bound). TakesNew s old a t new) (sym it.same) takes)

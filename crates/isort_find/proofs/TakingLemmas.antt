@@ -1,4 +1,4 @@
--- What a finder is behind bindings of the line that was read last.
+-- What a finder is after bindings of the line that was read last.
 use Rattle.std.proofs.Common.{◌≡◌, Bool, true, false, not, Option, None, Some, Result, Ok, Err, List, [], ◌∷◌, ◌++◌, length, inl, inr, ◌⊎◌, refl, sym, ap, ◌∙◌, subst, append_assoc, length-append, arith}
 use Rattle.std.specs.List.{list_all}
 use Rattle.py_lines.specs.Reader.{Reader, HasGiven, standing_at}
@@ -7,11 +7,13 @@ use Rattle.py_imports.specs.Binds.{Binds}
 use Rattle.py_imports.specs.declared.binding.Binding.{Binding}
 use Rattle.isort_find.specs.Key.{Key}
 use Rattle.isort_find.specs.Found.{firsts, has_one_like}
-use Rattle.isort_find.specs.Cursor.{Standing, one_more, keys_of, has_key, gives_from, IsBehind, HasStopped}
-use Rattle.isort_find.specs.Pending.{Looking, Looks}
+use Rattle.isort_find.specs.Cursor.{Standing, next_count, keys_of, IsBehind, HasStopped}
+use Rattle.isort_find.specs.Steps.Findings.{LooksThrough, GivesNew}
+use Rattle.isort_find.specs.Steps.Lookings.{Looks, Passes, TakesNew, TakesNext}
+use Rattle.isort_find.specs.Steps.Standings.{has_key, standing_after}
+use Rattle.isort_find.specs.Pending.{Looking}
 use Rattle.isort_find.specs.Finder as finder
-use Rattle.isort_find.specs.Finder.{Finding, text_of, options_of, left_of, BindsFrom, IsWithin, IsBetween, HasReached, HasFound, SameTask, Gives}
-use Rattle.isort_find.specs.Step.{Passes, TakesNew, TakesNext, LooksThrough, GivesNew}
+use Rattle.isort_find.specs.Finder.{Finding, text_of, options_of, left_of, BindsFrom, IsWithin, IsBetween, HasReached, HasFound, SameTask, FindsNext}
 use Rattle.isort_find.specs.declared.error.FindError.{FindError}
 use Rattle.isort_find.specs.declared.finder.Outcome.TheVariants as outcome
 use Rattle.isort_find.proofs.FirstsLemmas.{known_is, firsts-all_known, firsts-new, keys_of-snoc, given-snoc}
@@ -68,12 +70,12 @@ found_passed f bounds p opened passes h = record {
   reached = reached (record f { pending = p }) bounds opened (either_passed f bounds p h.stopped passes (reached_open f bounds opened h));
 }
 
--- the cursor behind a binding that was given
+-- the cursor after a binding that was given
 abbrev pub given_at : Standing → Looking → Bound → Standing
-given_at s p b = record { options = s.options; offset = p.place.offset; line = p.place.line; taken = p.taken; given = one_more s.given; keys = s.keys ++ keys_of s.options.unique (b ∷ []) }
+given_at s p b = record { options = s.options; offset = p.place.offset; line = p.place.line; taken = p.taken; given = next_count s.given; keys = s.keys ++ keys_of s.options.unique (b ∷ []) }
 
 pub gives_at : (s t : Standing) (old new : Looking) (b : Bound) → TakesNew s old b t new → t ≡ given_at s new b
-gives_at s t old new b takes = takes.gives ∙ ap (λ (x : Standing). gives_from x new.place new.taken) takes.admits.standing
+gives_at s t old new b takes = takes.gives ∙ ap (λ (x : Standing). standing_after x new.place new.taken) takes.admits.standing
 
 none_is_some : (dropped rest : List Bound) (b : Bound) → [] ≡ dropped ++ b ∷ rest → ⊥
 none_is_some [] rest b h = cc
@@ -130,7 +132,7 @@ found_given f bounds mid p b stopped opened new same looks (inr within) =
       stopped = record {
         behind = within_behind g (bounds ++ b ∷ []) w;
         keys = ap (λ ks. ks ++ keys_of (options_of f).unique (b ∷ [])) stopped.keys ∙ sym (keys_of-snoc (options_of f).unique bounds b);
-        given = ap one_more stopped.given ∙ given-snoc bounds b;
+        given = ap next_count stopped.given ∙ given-snoc bounds b;
       };
       reached = reached g (bounds ++ b ∷ []) opened (inr w);
     }
@@ -147,13 +149,13 @@ from_within begin f bounds b p left place (inr w) = record {
 }
 
 -- the next binding was given
-pub gives : GivenBegin → (f : Finding) (t : Standing) (p : Looking) (b : Bound) → f.outcome ≡ outcome.Open → TakesNew f.cursor f.pending b t p → Gives f b (record f { pending = p; cursor = t })
+pub gives : GivenBegin → (f : Finding) (t : Standing) (p : Looking) (b : Bound) → f.outcome ≡ outcome.Open → TakesNew f.cursor f.pending b t p → FindsNext f b (record f { pending = p; cursor = t })
 gives begin f t p b opened takes =
     let new : has_key (options_of f).unique f.cursor.keys b ≡ false = not_not _ takes.admits.answer in
     let at = gives_at f.cursor t f.pending p b takes in
     let fewer = ap length takes.passes.split in
     let one = ap length takes.looks.left in
-    subst (λ (s : Standing). Gives f b (record f { pending = p; cursor = s })) (sym at) (record {
+    subst (λ (s : Standing). FindsNext f b (record f { pending = p; cursor = s })) (sym at) (record {
       found = λ bounds h.
           let q = found_passed f bounds takes.between opened takes.passes h in
           found_given (record f { pending = takes.between }) bounds takes.between p b q.stopped opened new refl takes.looks (reached_open (record f { pending = takes.between }) bounds opened q);
@@ -180,7 +182,7 @@ gives_new begin f (Ok None) t p opened takes =
       is_open = opened;
     })
 gives_new begin f (Err e) t p opened takes = (
-  subst (λ (s : Standing). finder.RunsOut f (record f { pending = p; cursor = s })) (sym takes.1) (record {
+  subst (λ (s : Standing). finder.FindsNoMemory f (record f { pending = p; cursor = s })) (sym takes.1) (record {
     kept = λ bounds h. found_passed f bounds p opened takes.0 h;
     task = record { text = refl; options = refl };
     cursor = refl;

@@ -1,11 +1,11 @@
 -- What contracts see of a cursor, and what it is to have stopped.
-use Rattle.std.specs.Prelude.{◌≡◌, ℕ, ◌+◌, ◌-◌, ◌^◌, Bool, true, false, not, ◌⊎◌, Option, None, Some, List, [], ◌∷◌, ◌++◌, length, map, min, if◌then◌else◌}
-use Rattle.std.specs.List.{list_any, list_all}
+use Rattle.std.specs.Prelude.{◌≡◌, ℕ, ◌+◌, ◌-◌, ◌^◌, true, false, not, ◌⊎◌, Option, None, Some, List, [], ◌∷◌, ◌++◌, length, map, min}
+use Rattle.std.specs.List.{list_all}
 use Rattle.py_lines.specs.LogicalLine.{LogicalLine}
 use Rattle.py_lines.specs.Reader.{HasGiven, standing_at}
 use Rattle.py_imports.specs.Bound.{Bound}
 use Rattle.py_imports.specs.Binds.{Binds, BindAll}
-use Rattle.isort_find.specs.Key.{Key, key_of, key_eq}
+use Rattle.isort_find.specs.Key.{Key, key_of}
 use Rattle.isort_find.specs.Found.{firsts, ends_top}
 use Rattle.isort_find.specs.declared.options.ImportKey.{ImportKey}
 use Rattle.isort_find.specs.declared.options.FindOptions.{FindOptions}
@@ -21,41 +21,24 @@ pub record Standing : Type 0 where
   pub given : ℕ
   pub keys : List Key
 
+-- what a cursor is seen as, by its fields
 abbrev pub standing : FindOptions → Place → ℕ → ℕ → List Key → Standing
 standing options place taken given keys = record { options = options; offset = place.offset; line = place.line; taken = taken; given = given; keys = keys }
 
 -- at the start of a text
-abbrev pub at_start : FindOptions → Standing
-at_start options = record { options = options; offset = 0; line = 1; taken = 0; given = 0; keys = [] }
+abbrev pub first_standing : FindOptions → Standing
+first_standing options = record { options = options; offset = 0; line = 1; taken = 0; given = 0; keys = [] }
 
 -- one more than n, but never above what 64 bits hold
-abbrev pub one_more : ℕ → ℕ
-one_more n = min (n + 1) (2 ^ 64 - 1)
-
--- a binding was given of the logical line at this place, the last of so many that were looked at
-abbrev pub gives_from : Standing → Place → ℕ → Standing
-gives_from old place taken = record { options = old.options; offset = place.offset; line = place.line; taken = taken; given = one_more old.given; keys = old.keys }
-
--- what follows is at this place
-abbrev pub stands_at : Standing → Place → Standing
-stands_at old place = record { options = old.options; offset = place.offset; line = place.line; taken = 0; given = old.given; keys = old.keys }
+abbrev pub next_count : ℕ → ℕ
+next_count n = min (n + 1) (2 ^ 64 - 1)
 
 -- the keys of these bindings
 abbrev pub keys_of : Option ImportKey → List Bound → List Key
 keys_of None bounds = []
 keys_of (Some key) bounds = map (key_of key) bounds
 
--- whether the key of the binding is among these
-abbrev pub has_key : Option ImportKey → List Key → Bound → Bool
-has_key None keys b = false
-has_key (Some key) keys b = list_any (key_eq (key_of key b)) keys
-
--- the cursor takes in the key of a new binding
-pub record Admits (old : Standing) (b : Bound) (is_new : Bool) (new : Standing) : Type 0 where
-  pub answer : is_new ≡ not (has_key old.options.unique old.keys b)
-  pub standing : new ≡ record old { keys = if is_new then old.keys ++ keys_of old.options.unique (b ∷ []) else old.keys }
-
--- `part` are the first bindings of the logical line behind `lines`
+-- `part` are the first bindings of the logical line after `lines`
 pub record BeginsNext (text : List ℕ) (options : FindOptions) (lines : List LogicalLine) (part : List Bound) : Type 0 where
   pub line : LogicalLine
   pub rest : List Bound
@@ -65,11 +48,11 @@ pub record BeginsNext (text : List ℕ) (options : FindOptions) (lines : List Lo
   pub binds : Binds line (part ++ rest)
   pub in_top : ends_top options line ≡ false
 
--- `part` are the first bindings, so many, of the logical line behind `lines`: none, or some of a line that counts
+-- `part` are the first bindings, so many, of the logical line after `lines`: none, or some of a line that counts
 abbrev pub IsPart : List ℕ → FindOptions → List LogicalLine → ℕ → List Bound → Type 0
 IsPart text options lines taken part = (taken ≡ length part) × ((part ≡ []) ⊎ BeginsNext text options lines part)
 
--- Behind logical lines of the text, at this byte and line, and behind the first bindings, so many, of the next line:
+-- After logical lines of the text, at this byte and line, and after the first bindings, so many, of the next line:
 -- so far these bindings were found.
 pub record IsBehind (text : List ℕ) (options : FindOptions) (offset line taken : ℕ) (bounds : List Bound) : Type 0 where
   pub lines : List LogicalLine

@@ -10,7 +10,7 @@ use Rattle.py_lines.specs.Lexed.{IsLexed}
 use Rattle.py_imports.specs.declared.binding.Binding.{Binding}
 use Rattle.isort_find.specs.Found.{firsts, ends_top, IsFound}
 use Rattle.isort_find.specs.Lexing.{bytes_of, LineAt}
-use Rattle.isort_find.specs.Cursor.{Standing, one_more, IsBehind, HasStopped}
+use Rattle.isort_find.specs.Cursor.{Standing, next_count, IsBehind, HasStopped}
 use Rattle.isort_find.specs.Pending.{Looking}
 use Rattle.isort_find.specs.declared.options.FindOptions.{FindOptions}
 use Rattle.isort_find.specs.declared.error.FindError.{FindError}
@@ -43,6 +43,7 @@ abbrev pub reader_from : Reader → List ℕ → Option Place → Reader
 reader_from reader text None = reader
 reader_from reader text (Some place) = standing_at text place.offset place.line
 
+-- what a finder is seen as, by its fields
 abbrev pub finding : Reader → List ℕ → Option Place → ℕ → Looking → Outcome → Standing → Finding
 finding reader text again skip pending outcome cursor = record { reader = reader_from reader text again; again = is_some again; skip = skip; pending = pending; outcome = outcome; cursor = cursor }
 
@@ -76,19 +77,19 @@ pub record IsBetween (f : Finding) (bounds : List Bound) : Type 0 where
 abbrev pub BindsFrom : List ℕ → ℕ → Bound → Type 0
 BindsFrom text offset b = LineAt text offset (λ line. (earlier : List Bound) × (later : List Bound) × Binds line (earlier ++ b ∷ later))
 
--- where a finder ends: behind the text, or at the logical line that ends the top
-abbrev pub EndsAt : List ℕ → FindOptions → ℕ → Type 0
-EndsAt text options offset = (offset ≡ length text) ⊎ LineAt text offset (λ line. ends_top options line ≡ true)
+-- where a finder ends: after the text, or at the logical line that ends the top
+abbrev pub MeetsEndAt : List ℕ → FindOptions → ℕ → Type 0
+MeetsEndAt text options offset = (offset ≡ length text) ⊎ LineAt text offset (λ line. ends_top options line ≡ true)
 
--- where a finder meets a fault: at the bad logical line, or behind the lines before a lexical fault
-abbrev pub FailsAt : List ℕ → ℕ → Fault → Type 0
-FailsAt text offset fault = LineAt text offset (λ line. IsBadAt line fault) ⊎ ((lines : List LogicalLine) × IsLexed text lines (Some fault) × (bytes_of lines ≡ offset))
+-- where a finder meets a fault: at the bad logical line, or after the lines before a lexical fault
+abbrev pub MeetsFaultAt : List ℕ → ℕ → Fault → Type 0
+MeetsFaultAt text offset fault = LineAt text offset (λ line. IsBadAt line fault) ⊎ ((lines : List LogicalLine) × IsLexed text lines (Some fault) × (bytes_of lines ≡ offset))
 
 -- where a finder has got, by whether it has met the end or a fault
 abbrev pub HasReached : Finding → List Bound → Outcome → Type 0
 HasReached f bounds outcome.Open = IsBetween f bounds ⊎ IsWithin f bounds
-HasReached f bounds outcome.End = IsFound (text_of f) (options_of f) bounds None × EndsAt (text_of f) (options_of f) f.cursor.offset
-HasReached f bounds (outcome.Fault fault) = IsFound (text_of f) (options_of f) bounds (Some fault) × FailsAt (text_of f) f.cursor.offset fault
+HasReached f bounds outcome.End = IsFound (text_of f) (options_of f) bounds None × MeetsEndAt (text_of f) (options_of f) f.cursor.offset
+HasReached f bounds (outcome.Fault fault) = IsFound (text_of f) (options_of f) bounds (Some fault) × MeetsFaultAt (text_of f) f.cursor.offset fault
 
 -- this finder, with those that it goes on from, has given just these bindings: the first that are found in its text
 pub record HasFound (f : Finding) (bounds : List Bound) : Type 0 where
@@ -101,19 +102,19 @@ pub record SameTask (old new : Finding) : Type 0 where
   pub options : options_of new ≡ options_of old
 
 -- this binding was given: the next that is found
-pub record Gives (old : Finding) (b : Bound) (new : Finding) : Type 0 where
+pub record FindsNext (old : Finding) (b : Bound) (new : Finding) : Type 0 where
   pub found : (bounds : List Bound) → HasFound old bounds → HasFound new (bounds ++ b ∷ [])
   pub offset : (bounds : List Bound) → HasFound old bounds → BindsFrom (text_of old) new.cursor.offset b
   pub task : SameTask old new
-  pub given : new.cursor.given ≡ one_more old.cursor.given
+  pub given : new.cursor.given ≡ next_count old.cursor.given
   pub falls : left_of new < left_of old
   pub was_open : old.outcome ≡ outcome.Open
   pub is_open : new.outcome ≡ outcome.Open
 
 -- all was given, and the text has no fault that counts: so for good
-pub record Ends (old new : Finding) : Type 0 where
+pub record FindsEnd (old new : Finding) : Type 0 where
   pub all : (bounds : List Bound) → HasFound old bounds → IsFound (text_of old) (options_of old) bounds None
-  pub offset : (bounds : List Bound) → HasFound old bounds → EndsAt (text_of old) (options_of old) new.cursor.offset
+  pub offset : (bounds : List Bound) → HasFound old bounds → MeetsEndAt (text_of old) (options_of old) new.cursor.offset
   pub kept : (bounds : List Bound) → HasFound old bounds → HasFound new bounds
   pub task : SameTask old new
   pub given : new.cursor.given ≡ old.cursor.given
@@ -121,9 +122,9 @@ pub record Ends (old new : Finding) : Type 0 where
   pub ended : new.outcome ≡ outcome.End
 
 -- all before the text's fault was given: the fault comes for good
-pub record Fails (old : Finding) (fault : Fault) (new : Finding) : Type 0 where
+pub record FindsFault (old : Finding) (fault : Fault) (new : Finding) : Type 0 where
   pub all : (bounds : List Bound) → HasFound old bounds → IsFound (text_of old) (options_of old) bounds (Some fault)
-  pub offset : (bounds : List Bound) → HasFound old bounds → FailsAt (text_of old) new.cursor.offset fault
+  pub offset : (bounds : List Bound) → HasFound old bounds → MeetsFaultAt (text_of old) new.cursor.offset fault
   pub kept : (bounds : List Bound) → HasFound old bounds → HasFound new bounds
   pub task : SameTask old new
   pub given : new.cursor.given ≡ old.cursor.given
@@ -131,8 +132,8 @@ pub record Fails (old : Finding) (fault : Fault) (new : Finding) : Type 0 where
   pub again : (first : Fault) → old.outcome ≡ outcome.Fault first → fault ≡ first
   pub failed : new.outcome ≡ outcome.Fault fault
 
--- there was no memory: the same comes next, and the cursor stays
-pub record RunsOut (old new : Finding) : Type 0 where
+-- memory ran out: the same comes next, and the cursor stays
+pub record FindsNoMemory (old new : Finding) : Type 0 where
   pub kept : (bounds : List Bound) → HasFound old bounds → HasFound new bounds
   pub task : SameTask old new
   pub cursor : new.cursor ≡ old.cursor
@@ -141,7 +142,7 @@ pub record RunsOut (old new : Finding) : Type 0 where
 
 -- what a call of `next_import` answers, from one state to the next
 abbrev pub GivesNext : Finding → Result (Option Binding) FindError → Finding → Type 0
-GivesNext old (Ok (Some b)) new = Gives old (bound_of b) new
-GivesNext old (Ok None) new = Ends old new
-GivesNext old (Err (error.Fault fault)) new = Fails old fault new
-GivesNext old (Err error.Memory) new = RunsOut old new
+GivesNext old (Ok (Some b)) new = FindsNext old (bound_of b) new
+GivesNext old (Ok None) new = FindsEnd old new
+GivesNext old (Err (error.Fault fault)) new = FindsFault old fault new
+GivesNext old (Err error.Memory) new = FindsNoMemory old new

@@ -16,7 +16,7 @@ abbrev pub has_one_like : Option ImportKey → List Bound → Bound → Bool
 has_one_like None earlier b = false
 has_one_like (Some key) earlier b = list_any (λ a. key_eq (key_of key b) (key_of key a)) earlier
 
--- the bindings behind `earlier` that have none before them with an equal key, in order
+-- the bindings after `earlier` that have none before them with an equal key, in order
 abbrev pub firsts : Option ImportKey → List Bound → List Bound → List Bound
 firsts unique earlier [] = []
 firsts unique earlier (b ∷ bs) = if has_one_like unique earlier b then firsts unique (earlier ++ b ∷ []) bs else b ∷ firsts unique (earlier ++ b ∷ []) bs
@@ -29,7 +29,7 @@ ends_top options line = options.top_only && is_declaration line
 abbrev pub counted_lines : FindOptions → List LogicalLine → List LogicalLine
 counted_lines options lines = take_while (λ l. not (ends_top options l)) lines
 
--- the lexical end that counts: no fault behind a line that ends the top
+-- the lexical end that counts: no fault after a line that ends the top
 abbrev pub counted_end : FindOptions → List LogicalLine → Option Fault → Option Fault
 counted_end options lines end = if list_any (ends_top options) lines then None else end
 
@@ -46,7 +46,7 @@ pub record IsFound (text : List ℕ) (options : FindOptions) (bounds : List Boun
   pub lexed : IsLexed text lines lexical
   pub found : AreFound options.unique (counted_lines options lines) (counted_end options lines lexical) bounds end
 
--- bindings that begin what is found in the text: more come behind them, and its end or fault
+-- bindings that begin what is found in the text: more come after them, and then its end or fault
 pub record BeginsFound (text : List ℕ) (options : FindOptions) (bounds : List Bound) : Type 0 where
   pub more : List Bound
   pub end : Option Fault

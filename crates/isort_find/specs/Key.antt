@@ -17,17 +17,21 @@ abbrev pub first_name : List ℕ → List ℕ
 first_name [] = []
 first_name (c ∷ cs) = if c == 46 then [] else c ∷ first_name cs
 
--- the leading dots of a module, and the first name behind them
+-- the leading dots of a module, and the first name after them
 abbrev pub package_of : List ℕ → List ℕ
 package_of [] = []
 package_of (c ∷ cs) = if c == 46 then c ∷ package_of cs else c ∷ first_name cs
 
+-- a key by its parts
+abbrev pub key_with : List ℕ → Option (List ℕ) → Option (List ℕ) → Key
+key_with text attribute alias = record { text = text; attribute = attribute; alias = alias }
+
 -- the key of a binding
 abbrev pub key_of : ImportKey → Bound → Key
-key_of Package b = record { text = package_of b.module_name; attribute = None; alias = None }
-key_of Module b = record { text = b.module_name; attribute = None; alias = None }
-key_of Attribute b = record { text = b.module_name; attribute = b.attribute_name; alias = None }
-key_of Alias b = record { text = b.module_name; attribute = b.attribute_name; alias = b.alias_name }
+key_of Package b = key_with (package_of b.module_name) None None
+key_of Module b = key_with b.module_name None None
+key_of Attribute b = key_with b.module_name b.attribute_name None
+key_of Alias b = key_with b.module_name b.attribute_name b.alias_name
 
 -- whether two keys are equal; what is missing in both is
 abbrev pub key_eq : Key → Key → Bool

@@ -5,4 +5,4 @@ pub mod Lexing
 pub mod Cursor
 pub mod Pending
 pub mod Finder
-pub mod Step
+pub mod Steps

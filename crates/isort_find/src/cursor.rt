@@ -31,11 +31,12 @@ impl Model for Cursor {
 }
 
 impl Cursor {
-    ghost use Rattle.isort_find.specs.Cursor.{at_start, Admits, gives_from, stands_at};
+    ghost use Rattle.isort_find.specs.Cursor.{first_standing};
+    ghost use Rattle.isort_find.specs.Steps.Standings.{Admits, standing_after, standing_before};
 
     /// At the start of a text, before its first import.
     pub(crate) fn start(alloc: Global, options: FindOptions) -> Cursor
-        ensures { result ≡ at_start options }
+        ensures { result ≡ first_standing options }
     {
         Cursor {
             options,
@@ -64,7 +65,7 @@ impl Cursor {
 
     /// A binding of the logical line at `place` was given, and so many of its bindings were looked at.
     pub(crate) fn give(&mut self, place: Place, taken: usize)
-        ensures { self.new ≡ gives_from self.old place taken }
+        ensures { self.new ≡ standing_after self.old place taken }
     {
         self.given = self.given.saturating_add(1);
         self.place = place;
@@ -73,7 +74,7 @@ impl Cursor {
 
     /// What follows is at `place`, and nothing there was looked at.
     pub(crate) fn stand(&mut self, place: Place)
-        ensures { self.new ≡ stands_at self.old place }
+        ensures { self.new ≡ standing_before self.old place }
     {
         self.place = place;
         self.taken = 0;
@@ -93,7 +94,7 @@ impl Cursor {
     }
 
     /// The byte from which a finder goes on: the start of the logical line whose import was given last, and 0 where
-    /// none was; behind the last import the text's length, or the start of the declaration that ended the top; at a
+    /// none was; after the last import the text's length, or the start of the declaration that ended the top; at a
     /// fault the start of the logical line that has it.
     pub fn offset(&self) -> u64
         ensures { result ≡ self.now.offset }

@@ -8,10 +8,10 @@ use thiserror::Error;
 /// Why a finder gave no import.
 #[derive(Clone, Copy, Debug, PartialEq, Eq, Error)]
 pub enum FindError {
-    /// There was no memory; the same import comes next.
+    /// Memory ran out; the same import comes next.
     #[error("out of memory")]
     Memory,
-    /// The text's fault, behind its last import. Every later call answers it too.
+    /// The text's fault, after its last import. Every later call answers it too.
     #[error("{0}")]
     Fault(Fault),
 }
@@ -35,7 +35,7 @@ impl<T: Drop> From<AllocFailed<T>> for FindError {
 /// Why a finder didn't go on from a cursor.
 #[derive(Clone, Copy, Debug, PartialEq, Eq, Error)]
 pub enum ResumeError {
-    /// There was no memory.
+    /// Memory ran out.
     #[error("out of memory")]
     Memory,
     /// C1: the text ends before the cursor's offset.

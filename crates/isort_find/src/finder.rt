@@ -7,7 +7,8 @@ use crate::options::FindOptions;
 use crate::pending::{Pending, Place};
 use crate::step::{Step, next_step};
 use crate::take::take_new;
-use py_imports::{Binding, binds_or_is_bad};
+use py_imports::Binding;
+use py_imports::laws::binds_or_is_bad;
 use py_lines::laws::{given_lines_begin_the_text, one_lexing};
 use py_lines::{Fault, Lines};
 use std::alloc::Global;
@@ -46,14 +47,14 @@ impl<'t> Model for Finder<'t> {
 }
 
 impl<'t> Finder<'t> {
-    ghost use Rattle.isort_find.specs.Cursor.{at_start, stands_at, HasStopped};
-    ghost use Rattle.isort_find.specs.Finder.{HasFound, GivesNext, RunsOut, text_of};
-    ghost use Rattle.isort_find.specs.Step.{GivesNew, GoesBack, ReadsOn, begins_line};
+    ghost use Rattle.isort_find.specs.Cursor.{first_standing, HasStopped};
+    ghost use Rattle.isort_find.specs.Finder.{HasFound, GivesNext, text_of};
+    ghost use Rattle.isort_find.specs.Steps.Findings.{GivesNew, GoesBack, Follows, ReadsLine};
 
     /// A finder at the start of the text, which is any bytes. It answers `Memory` alone.
     pub fn new(alloc: Global, text: &'t [u8], options: FindOptions) -> Result<Finder<'t>, FindError>
         ensures text { IfOk result (λ f. text_of f ≡ text.now) }
-        ensures cursor { IfOk result (λ f. f.cursor ≡ at_start options) }
+        ensures cursor { IfOk result (λ f. f.cursor ≡ first_standing options) }
         ensures found { IfOk result (λ f. HasFound f []) }
         ensures err { IfErr result (λ e. e ≡ FindError.Memory) }
     {
@@ -112,54 +113,25 @@ impl<'t> Finder<'t> {
         }
     }
 
-    // The next logical line begins at `place`, and binds this.
-    fn begin(&mut self, place: Place, bindings: Vec<Binding>)
-        ensures { self.new ≡ begins_line self.old place (map bound_of bindings.items) }
+    // Does what follows from a step, which was read at `place`.
+    fn follow(&mut self, place: Place, step: Step) -> Result<(), FindError>
+        requires { self.old.again ≡ false }
+        ensures { Follows self.old place step result self.new }
     {
-        self.pending = Pending::new(bindings, place, self.skip);
-        self.skip = 0;
-    }
-
-    // What follows at `place` is the end, or a fault.
-    fn finish(&mut self, place: Place, outcome: Outcome)
-        ensures { self.new ≡ record self.old { outcome = outcome; cursor = stands_at self.old.cursor place } }
-    {
-        self.outcome = outcome;
-        self.cursor.stand(place);
-    }
-
-    // Reads the next logical line, where nothing is left of the one read last.
-    fn read_line(&mut self) -> Result<(), FindError>
-        requires is_open { self.old.outcome ≡ Outcome.Open }
-        requires none_left { self.old.pending.left ≡ [] }
-        ensures ok { OnOk result (ReadsOn self.old self.new) }
-        ensures err { OnErr result (RunsOut self.old self.new) }
-        ensures memory { IfErr result (λ e. e ≡ FindError.Memory) }
-    {
-        one_lexing();
-        given_lines_begin_the_text();
-        binds_or_is_bad();
-        self.go_back()?;
-        let place = self.place();
-        match next_step(self.alloc, &mut self.lines, self.cursor.options()) {
+        match step {
             Step::Bindings(bindings) => {
-                self.begin(place, bindings);
+                self.pending = Pending::new(bindings, place, self.skip);
+                self.skip = 0;
                 Ok(())
             }
-            Step::TopEnd => {
-                self.finish(place, Outcome::End);
+            Step::End => {
+                self.outcome = Outcome::End;
+                self.cursor.stand(place);
                 Ok(())
             }
-            Step::TextEnd => {
-                self.finish(place, Outcome::End);
-                Ok(())
-            }
-            Step::BadLine(fault) => {
-                self.finish(place, Outcome::Fault(fault));
-                Ok(())
-            }
-            Step::BadText(fault) => {
-                self.finish(place, Outcome::Fault(fault));
+            Step::Fault(fault) => {
+                self.outcome = Outcome::Fault(fault);
+                self.cursor.stand(place);
                 Ok(())
             }
             Step::LineLost => {
@@ -170,11 +142,26 @@ impl<'t> Finder<'t> {
         }
     }
 
-    /// The next import that is found: with a key, the next whose key no earlier one has. `None` behind the last one,
+    // Reads the next logical line, where nothing is left of the one read last.
+    fn read_line(&mut self) -> Result<(), FindError>
+        requires is_open { self.old.outcome ≡ Outcome.Open }
+        requires none_left { self.old.pending.left ≡ [] }
+        ensures { ReadsLine self.old result self.new }
+    {
+        one_lexing();
+        given_lines_begin_the_text();
+        binds_or_is_bad();
+        self.go_back()?;
+        let place = self.place();
+        let step = next_step(self.alloc, &mut self.lines, self.cursor.options());
+        self.follow(place, step)
+    }
+
+    /// The next import that is found: with a key, the next whose key no earlier one has. `None` after the last one,
     /// for good.
     ///
-    /// - `Fault`: the text's fault, behind all imports before it; every later call answers it again.
-    /// - `Memory`: there was no memory; the same import comes next, and the cursor stays.
+    /// - `Fault`: the text's fault, after all imports before it; every later call answers it again.
+    /// - `Memory`: memory ran out; the same import comes next, and the cursor stays.
     pub fn next_import(&mut self) -> Result<Option<Binding>, FindError>
         ensures next { GivesNext self.old result self.new }
     {
@@ -190,7 +177,7 @@ impl<'t> Finder<'t> {
         }
     }
 
-    /// Stops: the cursor from which another finder goes on. It takes no memory.
+    /// The cursor from which another finder goes on. It takes no memory.
     pub fn stop(self) -> Cursor
         ensures cursor { result ≡ self.entry.cursor }
         ensures stopped { (bounds : List Bound) → HasFound self.entry bounds → HasStopped (text_of self.entry) result bounds }
@@ -205,7 +192,7 @@ impl<'t> Finder<'t> {
     /// The cursor comes back with each error.
     ///
     /// - `TextTooShort`: the text ends before the cursor's offset.
-    /// - `Memory`: there was no memory.
+    /// - `Memory`: memory ran out.
     pub fn resume(
         alloc: Global,
         text: &'t [u8],

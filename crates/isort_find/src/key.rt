@@ -1,7 +1,7 @@
 ghost use Rattle.std.specs.Prelude.{◌≡◌, ◌↔◌, IsTrue, IfOk, IfErr, string_bytes};
 ghost use Rattle.std.specs.Option.{option_map};
 ghost use Rattle.py_imports.specs.Bound.{bound_of};
-ghost use Rattle.isort_find.specs.Key.{key_of, package_of};
+ghost use Rattle.isort_find.specs.Key.{key_with, key_of, package_of};
 ghost use Rattle.isort_find.specs.KeyText.{key_in};
 
 use crate::error::FindError;
@@ -43,27 +43,34 @@ fn copy_of(text: &Option<String>) -> Result<Option<String>, AllocError>
     }
 }
 
-/// The key of a binding. It answers `Memory` alone.
+// A key with copies of these texts.
+fn key_with(
+    alloc: Global,
+    text: &str,
+    attribute: &Option<String>,
+    alias: &Option<String>,
+) -> Result<KeyText, FindError>
+    ensures ok { IfOk result (λ k. key_in k ≡ key_with text.now (option_map string_bytes attribute.now) (option_map string_bytes alias.now)) }
+    ensures err { IfErr result (λ e. e ≡ FindError.Memory) }
+{
+    Ok(KeyText {
+        text: String::from_str(alloc, text)?,
+        attribute: copy_of(attribute)?,
+        alias: copy_of(alias)?,
+    })
+}
+
+/// The key of a binding, by copies of its texts. It answers `Memory` alone.
 pub fn key_of(alloc: Global, binding: &Binding, key: ImportKey) -> Result<KeyText, FindError>
     ensures ok { IfOk result (λ k. key_in k ≡ key_of key (bound_of binding.now)) }
     ensures err { IfErr result (λ e. e ≡ FindError.Memory) }
 {
     let name = binding.module_name.as_str();
-    let text = match key {
-        ImportKey::Package => package_of(name),
-        ImportKey::Module | ImportKey::Attribute | ImportKey::Alias => name,
-    };
-    let attribute = match key {
-        ImportKey::Package | ImportKey::Module => None,
-        ImportKey::Attribute | ImportKey::Alias => copy_of(&binding.attribute_name)?,
-    };
-    let alias = match key {
-        ImportKey::Package | ImportKey::Module | ImportKey::Attribute => None,
-        ImportKey::Alias => copy_of(&binding.alias_name)?,
-    };
-    Ok(KeyText {
-        text: String::from_str(alloc, text)?,
-        attribute,
-        alias,
-    })
+    let attribute = &binding.attribute_name;
+    match key {
+        ImportKey::Package => key_with(alloc, package_of(name), &None, &None),
+        ImportKey::Module => key_with(alloc, name, &None, &None),
+        ImportKey::Attribute => key_with(alloc, name, attribute, &None),
+        ImportKey::Alias => key_with(alloc, name, attribute, &binding.alias_name),
+    }
 }

@@ -9,7 +9,7 @@ ghost use Rattle.isort_find.specs.declared.options.FindOptions.{FindOptions};
 ghost use Rattle.isort_find.specs.Finder.{Finding, HasFound, text_of, options_of};
 
 use crate::key::KeyText;
-use py_imports::binds_or_is_bad;
+use py_imports::laws::binds_or_is_bad;
 use py_lines::laws::{given_lines_begin_the_text, one_lexing};
 
 /// Two keys are `==` exactly where they are equal as definitions see them: the text, the attribute and the alias.
@@ -20,7 +20,7 @@ pub fn equal_keys(one: &KeyText, other: &KeyText) -> bool
     one == other
 }
 
-/// What a finder has given, with those that it goes on from, begins what is found in its text: the rest comes behind
+/// What a finder has given, with those that it goes on from, begins what is found in its text: the rest comes after
 /// it.
 pub fn given_begin_the_found()
     ensures begin { (f : Finding) (bounds : List Bound) → HasFound f bounds → BeginsFound (text_of f) (options_of f) bounds }
@@ -29,9 +29,10 @@ pub fn given_begin_the_found()
     binds_or_is_bad();
 }
 
-/// What is found in a text with the same options is one list, and then its end, or one fault: of one kind, at one byte,
-/// on one line.
+/// Something is found in every text, and with the same options it is one list, and then the text's end, or one fault:
+/// of one kind, at one byte, on one line.
 pub fn one_found()
+    ensures some { (text : List ℕ) (options : FindOptions) → (bounds : List Bound) × (end : Option Fault) × IsFound text options bounds end }
     ensures one_list { (text : List ℕ) (options : FindOptions) (bounds others : List Bound) (end other : Option Fault) → IsFound text options bounds end → IsFound text options others other → bounds ≡ others }
     ensures one_end { (text : List ℕ) (options : FindOptions) (bounds others : List Bound) (end other : Option Fault) → IsFound text options bounds end → IsFound text options others other → end ≡ other }
 {

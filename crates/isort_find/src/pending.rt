@@ -14,7 +14,7 @@ pub struct Place {
     pub line: u64,
 }
 
-/// The bindings of the logical line that was read last, as far as they weren't looked at.
+/// The bindings of the logical line read last that weren't looked at yet.
 #[derive(Drop)]
 pub struct Pending {
     bindings: VecDeque<Binding>,
@@ -34,6 +34,7 @@ impl Model for Pending {
     ghost invariant = { λ p. p.taken + deque_len p.bindings < 2 ^ 64 };
 }
 
+// Takes out the first `count` bindings, or all where there are fewer.
 fn skip_first(bindings: &mut VecDeque<Binding>, count: usize)
     ensures items { bindings.new.items ≡ drop count bindings.old.items }
 {
@@ -43,7 +44,7 @@ fn skip_first(bindings: &mut VecDeque<Binding>, count: usize)
 }
 
 impl Pending {
-    ghost use Rattle.isort_find.specs.Pending.{Looks};
+    ghost use Rattle.isort_find.specs.Steps.Lookings.{Looks};
 
     /// Nothing to look at yet.
     pub fn none(alloc: Global, place: Place) -> Pending
@@ -58,7 +59,7 @@ impl Pending {
         }
     }
 
-    /// The bindings of the logical line at `place` but for the first `taken`, which were looked at before.
+    /// The bindings of the logical line at `place`, except the first `taken`, which were looked at before.
     pub fn new(bindings: Vec<Binding>, place: Place, taken: usize) -> Pending
         ensures place { result.place ≡ place }
         ensures taken { result.taken ≡ min taken (vec_len bindings) }
@@ -81,7 +82,7 @@ impl Pending {
         self.bindings.front()
     }
 
-    /// Takes it: it was looked at.
+    /// Takes the next binding, which was looked at.
     pub fn take(&mut self) -> Option<Binding>
         ensures { MatchOption result ((self.old.left ≡ []) × (self.new ≡ self.old)) (λ b. Looks self.old (bound_of b) self.new) }
     {
@@ -102,12 +103,5 @@ impl Pending {
         ensures { result ≡ self.now.taken }
     {
         self.taken
-    }
-
-    /// How many are left is never more than a list can have.
-    pub fn left(&self) -> usize
-        ensures { result ≡ length self.now.left }
-    {
-        self.bindings.len()
     }
 }

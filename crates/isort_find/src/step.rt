@@ -1,8 +1,11 @@
-ghost use Rattle.isort_find.specs.Step.{StepsTo};
+ghost use Rattle.std.specs.Prelude.{◌≡◌};
+ghost use Rattle.py_lines.specs.Lines.{line_in};
+ghost use Rattle.isort_find.specs.Found.{ends_top};
+ghost use Rattle.isort_find.specs.Steps.Readings.{StepsTo};
 
 use crate::options::FindOptions;
 use py_imports::{Binding, ImportError, bindings_of, is_declaration};
-use py_lines::{Fault, LexError, Lines};
+use py_lines::{Fault, LexError, Lines, Unit};
 use std::alloc::Global;
 
 /// What a finder learns from the next logical line.
@@ -10,37 +13,41 @@ use std::alloc::Global;
 pub enum Step {
     /// The line counts, and binds this.
     Bindings(Vec<Binding>),
-    /// The line ends the top.
-    TopEnd,
-    /// There is no further line.
-    TextEnd,
-    /// The line counts, and has this fault.
-    BadLine(Fault),
-    /// The text has this fault behind the lines before.
-    BadText(Fault),
-    /// The line was read, but there was no memory for its bindings.
+    /// Nothing more counts: the line ends the top, or the text ends.
+    End,
+    /// The line counts and has this fault, or the rest of the text has it.
+    Fault(Fault),
+    /// The line was read, but memory ran out for its bindings.
     LineLost,
-    /// There was no memory for the line, which comes next.
+    /// Memory ran out for the line, which comes next.
     NoMemory,
+}
+
+// Whether the logical line ends the top.
+fn ends_top(unit: &Unit<'_>, options: FindOptions) -> bool
+    ensures { result ≡ ends_top options (line_in unit.now) }
+{
+    options.top_only && is_declaration(unit)
 }
 
 /// Reads the next logical line.
 pub fn next_step(alloc: Global, lines: &mut Lines<'_>, options: FindOptions) -> Step
-    ensures { StepsTo options lines.old result lines.new }
+    ensures step { StepsTo options lines.old result lines.new }
+    ensures text { lines.new.text ≡ lines.old.text }
 {
     match lines.next_unit() {
-        Ok(None) => Step::TextEnd,
+        Ok(None) => Step::End,
         Ok(Some(unit)) => {
-            if options.top_only && is_declaration(&unit) {
-                return Step::TopEnd;
+            if ends_top(&unit, options) {
+                return Step::End;
             }
             match bindings_of(alloc, &unit) {
                 Ok(bindings) => Step::Bindings(bindings),
-                Err(ImportError::Fault(fault)) => Step::BadLine(fault),
+                Err(ImportError::Fault(fault)) => Step::Fault(fault),
                 Err(ImportError::Memory) => Step::LineLost,
             }
         }
-        Err(LexError::Fault(fault)) => Step::BadText(fault),
+        Err(LexError::Fault(fault)) => Step::Fault(fault),
         Err(LexError::Memory) => Step::NoMemory,
     }
 }

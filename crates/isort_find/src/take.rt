@@ -1,4 +1,4 @@
-ghost use Rattle.isort_find.specs.Step.{TakesNext};
+ghost use Rattle.isort_find.specs.Steps.Lookings.{TakesNext};
 
 use crate::cursor::Cursor;
 use crate::error::FindError;
@@ -6,7 +6,7 @@ use crate::pending::Pending;
 use py_imports::Binding;
 use std::alloc::Global;
 
-/// Takes the next binding whose key the cursor doesn't have, and notes it there. Those before it were looked at.
+/// Takes the next binding whose key the cursor doesn't have, and notes its key there. Those before it are passed over.
 pub fn take_new(
     alloc: Global,
     pending: &mut Pending,

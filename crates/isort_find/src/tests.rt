@@ -23,7 +23,7 @@ fn tell_fault(fault: Fault, out: &mut String) -> Result<(), Fail> {
     Ok(())
 }
 
-// What the next call answers goes behind `out`, on a line of its own.
+// What the next call answers goes after `out`, on a line of its own.
 fn tell(alloc: Global, finder: &mut Finder<'_>, out: &mut String) -> Result<(), Fail> {
     match finder.next_import() {
         Ok(Some(binding)) => tell_binding(alloc, &binding, out),
@@ -43,7 +43,7 @@ fn tell_place(cursor: &Cursor, out: &mut String) -> Result<(), Fail> {
     Ok(())
 }
 
-// Tells so many answers, and where the finder stops behind them.
+// Tells so many answers, and where the finder stops after them.
 fn tell_some(
     alloc: Global,
     mut finder: Finder<'_>,
@@ -196,75 +196,6 @@ fn keeps_faults(rt: HostRuntime) -> Result<(), Fail> {
 }
 
 #[test]
-fn tells_faults(rt: HostRuntime) -> Result<(), Fail> {
-    for (text, told) in [
-        (
-            "import a; import\n",
-            "F9 import statement not understood, 10, 1\nat 0, 0\nat 0, 0\n",
-        ),
-        (
-            "x = 'abc\n",
-            "F3 string not closed, 4, 1\nat 0, 0\nat 0, 0\n",
-        ),
-        (
-            "\"\"\"a",
-            "F4 triple-quoted string not closed, 0, 1\nat 0, 0\nat 0, 0\n",
-        ),
-        (
-            "x = )",
-            "F5 closing bracket without its opening, 4, 1\nat 0, 0\nat 0, 0\n",
-        ),
-        (
-            "x = \\ 1\n",
-            "F7 backslash not before a line end, 4, 1\nat 0, 0\nat 0, 0\n",
-        ),
-        ("$", "F2 unexpected character, 0, 1\nat 0, 0\nat 0, 0\n"),
-    ] {
-        let found = story(rt.alloc(), text, options(None, false), 1, 0)?;
-        assert_eq!(rt; found.as_str(), told);
-    }
-    Ok(())
-}
-
-// How a text without imports ends.
-fn outcome_of(alloc: Global, text: &[u8]) -> Result<String, Fail> {
-    let mut finder = Finder::new(alloc, text, options(None, false))?;
-    let mut out = String::new(alloc);
-    tell(alloc, &mut finder, &mut out)?;
-    Ok(out)
-}
-
-#[test]
-fn reads_any_bytes(rt: HostRuntime) -> Result<(), Fail> {
-    let found = outcome_of(rt.alloc(), b"a\xff")?;
-    assert_eq!(rt; found.as_str(), "F1 not UTF-8, 1, 1\n");
-    Ok(())
-}
-
-#[test]
-fn counts_brackets(rt: HostRuntime) -> Result<(), Fail> {
-    let mut text = [b'('; 400];
-    for byte in text[200..].iter_mut() {
-        *byte = b')';
-    }
-    for (from, to, told) in [
-        (0, 400, "end\n"),
-        (0, 200, "F6 bracket not closed, 199, 1\n"),
-    ] {
-        let found = outcome_of(rt.alloc(), &text[from..to])?;
-        assert_eq!(rt; found.as_str(), told);
-    }
-    Ok(())
-}
-
-#[test]
-fn refuses_the_next_bracket(rt: HostRuntime) -> Result<(), Fail> {
-    let found = outcome_of(rt.alloc(), &[b'('; 201])?;
-    assert_eq!(rt; found.as_str(), "F8 more than 200 brackets open, 200, 1\n");
-    Ok(())
-}
-
-#[test]
 fn goes_on_inside_a_line(rt: HostRuntime) -> Result<(), Fail> {
     let found = story(rt.alloc(), "import a, b, c", options(None, false), 2, 2)?;
     assert_eq!(rt;
@@ -274,7 +205,7 @@ fn goes_on_inside_a_line(rt: HostRuntime) -> Result<(), Fail> {
     Ok(())
 }
 
-// What is told where a cursor behind 14 bytes is refused.
+// What is told where a cursor after 14 bytes is refused.
 fn refused(alloc: Global) -> Result<String, Fail> {
     let mut out = String::new(alloc);
     let finder = begun(alloc, "import a, b, c", options(None, false))?;
@@ -358,7 +289,7 @@ impl Patience {
         }
     }
 
-    // What such a finder tells behind the last import.
+    // What such a finder tells after the last import.
     fn end(self, text: &str, cursor: Cursor) -> Result<Option<Fault>, Fail> {
         let mut finder = self.resumed(text, cursor)?;
         match self.next(&mut finder) {
@@ -369,7 +300,7 @@ impl Patience {
     }
 }
 
-// Asks for these imports one by one, and for what comes behind them.
+// Asks for these imports one by one, and for what comes after them.
 fn ask(
     patience: Patience,
     text: &str,
@@ -416,10 +347,10 @@ fn ask_all(patience: Patience) -> Result<(), Fail> {
     )
 }
 
-// bench/refuse_memory.py runs this with each growth refused in turn. Each call that is refused is made again, and
+// checks/refuse_memory.py runs this with each growth refused in turn. Each call that is refused is made again, and
 // answers what it would have answered.
 #[test]
-fn answers_the_same_behind_refused_memory(rt: HostRuntime) -> Result<(), Fail> {
+fn answers_the_same_after_refused_memory(rt: HostRuntime) -> Result<(), Fail> {
     ask_all(Patience {
         alloc: rt.alloc(),
         is_patient: true,

@@ -9,3 +9,4 @@ pub mod OrderThen
 pub mod Prefixes
 pub mod Readings
 pub mod Table
+pub mod Texts

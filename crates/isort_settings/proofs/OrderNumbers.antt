@@ -49,7 +49,7 @@ one_more m n c d hc hd Less e = let lt : m < n = ranked m n Less e in less (m * 
 one_more m n c d hc hd Equal e = one_more_equal m n c d (digit_is c hc) (digit_is d hd) (ranked m n Equal e) _ refl
 one_more m n c d hc hd Greater e = let gt : n < m = ranked m n Greater e in more (m * 10 + digit_value c) (n * 10 + digit_value d) (omega arith)
 
--- numbers of equally many digits, behind what stands before them
+-- numbers of equally many digits, after what stands before them
 same_length : (xs ys : List ℕ) (m n : ℕ) → AllDigits 10 xs → AllDigits 10 ys → length xs ≡ length ys
     → nat_cmp (digits_value_after 10 m xs) (digits_value_after 10 n ys) ≡ ordering_then (nat_cmp m n) (slice_cmp nat_cmp xs ys)
 same_length [] [] m n hx hy e = then_same (nat_cmp m n)
@@ -60,7 +60,7 @@ same_length (x ∷ xs) (y ∷ ys) m n hx hy e =
     ∙ ap (λ o. ordering_then o (slice_cmp nat_cmp xs ys)) (one_more m n x y hx.0 hy.0 _ refl)
     ∙ then_assoc (nat_cmp m n) (nat_cmp x y) (slice_cmp nat_cmp xs ys)
 
--- a number of no more digits than another has behind a first one, which isn't zero
+-- a number of no more digits than another has after its first one, which isn't zero
 shorter : (ys xs : List ℕ) (n : ℕ) → AllDigits 10 xs → AllDigits 10 ys → length xs ≤ length ys → 0 < n
     → digits_value_after 10 0 xs < digits_value_after 10 n ys
 shorter [] [] n hx hy le pos = pos
@@ -97,7 +97,7 @@ by_length xs ys hx hy zx zy Less e = sym (less (digits_value 10 xs) (digits_valu
 by_length xs ys hx hy zx zy Equal e = sym (same_length xs ys 0 0 hx hy (ranked (length xs) (length ys) Equal e))
 by_length xs ys hx hy zx zy Greater e = sym (more (digits_value 10 xs) (digits_value 10 ys) (fewer ys xs hy hx zx (ranked (length xs) (length ys) Greater e)))
 
--- zeros at the front are dropped one by one
+-- zeros at the start are dropped one by one
 drop_one_more : (n x : ℕ) (xs : List ℕ) → drop (1 + n) (x ∷ xs) ≡ drop n xs
 drop_one_more n x xs = let e : 1 + n ≡ suc n = omega arith in ap (λ k. drop k (x ∷ xs)) e
 
@@ -130,7 +130,7 @@ value_left [] = refl
 value_left (x ∷ xs) = drop_step (λ ys. digits_value 10 ys ≡ digits_value 10 (x ∷ xs)) (x == byte "0") (zeros xs) x xs
     (λ h. value_left xs ∙ zero_first x xs ((Decides-eqb x 48).0 h)) (λ h. refl)
 
--- digits compared by how many are left and by their bytes, once the zeros at the front are gone
+-- digits compared by how many are left and by their bytes, once the zeros at the start are gone
 pub numbers_cmp : (xs ys ds es : List ℕ) → AllDigits 10 xs → AllDigits 10 ys
     → ds ≡ drop (prefix_len (λ d. d == byte "0") xs) xs → es ≡ drop (prefix_len (λ d. d == byte "0") ys) ys
     → ordering_then (nat_cmp (length ds) (length es)) (slice_cmp nat_cmp ds es) ≡ nat_cmp (digits_value 10 xs) (digits_value 10 ys)

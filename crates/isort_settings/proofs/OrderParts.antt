@@ -1,4 +1,4 @@
--- The parts of a text: what stands before its first digit, and then a number and the parts of what stands behind it.
+-- The parts of a text: what stands before its first digit, and then a number and the parts of what stands after it.
 use Rattle.std.proofs.Common.{◌≡◌, ◌==◌, ◌⊎◌, ⊎_elim, ℕ, ◌+◌, ◌<◌, ◌≤◌, zero, suc, Bool, true, false, cond, not, List, [], ◌∷◌, map, length, take, drop, Ordering, Less, Greater, refl, sym, ◌∙◌, ap, subst, arith, length-drop, ◌-◌}
 use Rattle.std.proofs.lemmas.Bool.{and_parts, cases_lt, eqb-true, leb-true}
 use Rattle.std.proofs.lemmas.Bool.Decides.{nat_tests}
@@ -13,7 +13,7 @@ use Rattle.std.specs.List.{flat_map, prefix_len, position_or_len}
 use Rattle.std.specs.Ordering.{nat_cmp, is_ne, ordering_then}
 use Rattle.std.specs.Str.Parse.{AllDigits, digits_value}
 use Rattle.isort_settings.proofs.OrderThen.{then-tied_by_test, then-decided_by_test}
-use Rattle.isort_settings.specs.Orders.{Numbered, Cut, digit_before, digit_in_front, cut, Part, text, number, cased, parts, part_cmp}
+use Rattle.isort_settings.specs.Orders.{Numbered, Cut, digit_before, digit_in_front, cut_at_numbers, Part, text, number, cased, parts, part_cmp}
 
 -- where the first digit stands, and how many digits a text begins with
 abbrev pub digits_start : List ℕ → ℕ
@@ -27,7 +27,7 @@ abbrev pub BeginsWithDigit : List ℕ → Type 0
 BeginsWithDigit [] = Unit {0}
 BeginsWithDigit (z ∷ zs) = is_ascii_digit z ≡ true
 
--- the parts of a cut text, and those behind its first one
+-- the parts of a cut text, and those after its first one
 abbrev parts_behind : List Numbered → List Part
 parts_behind ns = flat_map (λ n. number (digits_value 10 n.digits) ∷ text n.behind ∷ []) ns
 
@@ -36,9 +36,9 @@ parts_of c = text c.first ∷ parts_behind c.others
 
 -- the parts of what begins at the first digit
 abbrev pub numbers : Bool → List ℕ → List Part
-numbers s zs = parts_behind (cut (cased s zs)).others
+numbers s zs = parts_behind (cut_at_numbers (cased s zs)).others
 
--- one more byte in front
+-- one more byte before it
 drop_one_more : (n x : ℕ) (xs : List ℕ) → drop (1 + n) (x ∷ xs) ≡ drop n xs
 drop_one_more n x xs = let e : 1 + n ≡ suc n = omega arith in ap (λ k. drop k (x ∷ xs)) e
 
@@ -51,7 +51,7 @@ digit_before-first d [] (n ∷ ns) = refl
 digit_before-first d (x ∷ xs) [] = refl
 digit_before-first d (x ∷ xs) (n ∷ ns) = refl
 
--- a byte in front of a cut text
+-- a byte before a cut text
 abbrev in_front : Bool → ℕ → Cut → Cut
 in_front b x c = cond b (digit_in_front x c) (record c { first = x ∷ c.first })
 
@@ -67,29 +67,29 @@ front_text : (b : Bool) (x : ℕ) (c : Cut) → b ≡ false → in_front b x c �
 front_text true x c e = cc
 front_text false x c e = refl
 
--- the text before the first digit is the first part, and the rest are the parts behind it
+-- the text before the first digit is the first part, and the rest are the parts after it
 abbrev cut_at : List ℕ → List ℕ → Cut
-cut_at front rest = record { first = front; others = (cut rest).others }
+cut_at front rest = record { first = front; others = (cut_at_numbers rest).others }
 
-cut_text_step : (b : Bool) (x : ℕ) (xs : List ℕ) → is_ascii_digit x ≡ b → cut xs ≡ cut_at (take (digits_start xs) xs) (drop (digits_start xs) xs)
-    → cut (x ∷ xs) ≡ cut_at (take (cond (not b) (1 + digits_start xs) 0) (x ∷ xs)) (drop (cond (not b) (1 + digits_start xs) 0) (x ∷ xs))
+cut_text_step : (b : Bool) (x : ℕ) (xs : List ℕ) → is_ascii_digit x ≡ b → cut_at_numbers xs ≡ cut_at (take (digits_start xs) xs) (drop (digits_start xs) xs)
+    → cut_at_numbers (x ∷ xs) ≡ cut_at (take (cond (not b) (1 + digits_start xs) 0) (x ∷ xs)) (drop (cond (not b) (1 + digits_start xs) 0) (x ∷ xs))
 cut_text_step true x xs e rest =
-    let f : List ℕ → Cut = λ t. record { first = t; others = (cut (x ∷ xs)).others } in
-    ap f (front_first (is_ascii_digit x) x (cut xs) e)
+    let f : List ℕ → Cut = λ t. record { first = t; others = (cut_at_numbers (x ∷ xs)).others } in
+    ap f (front_first (is_ascii_digit x) x (cut_at_numbers xs) e)
 cut_text_step false x xs e rest =
     let k : ℕ = digits_start xs in
-    front_text (is_ascii_digit x) x (cut xs) e
+    front_text (is_ascii_digit x) x (cut_at_numbers xs) e
     ∙ ap (λ (c : Cut). record c { first = x ∷ c.first }) rest
     ∙ ap (λ t. cut_at t (drop k xs)) (sym (take_one_more k x xs))
     ∙ ap (λ t. cut_at (take (1 + k) (x ∷ xs)) t) (sym (drop_one_more k x xs))
 
-cut_text : (xs : List ℕ) → cut xs ≡ cut_at (take (digits_start xs) xs) (drop (digits_start xs) xs)
+cut_text : (xs : List ℕ) → cut_at_numbers xs ≡ cut_at (take (digits_start xs) xs) (drop (digits_start xs) xs)
 cut_text [] = refl
 cut_text (x ∷ xs) = cut_text_step (is_ascii_digit x) x xs refl (cut_text xs)
 
--- digits, and the cut of what stands behind them
+-- digits, and the cut of what stands after them
 abbrev numbered : List ℕ → List ℕ → Cut
-numbered ds rest = record { first = []; others = record { digits = ds; behind = (cut rest).first } ∷ (cut rest).others }
+numbered ds rest = record { first = []; others = record { digits = ds; behind = (cut_at_numbers rest).first } ∷ (cut_at_numbers rest).others }
 
 before_text : (x y : ℕ) (first : List ℕ) (others : List Numbered) → digit_before x (y ∷ first) others ≡ record { first = []; others = record { digits = x ∷ []; behind = y ∷ first } ∷ others }
 before_text x y first [] = refl
@@ -107,24 +107,24 @@ one_more_digit n x ds xs more e =
     ∙ ap (λ t. numbered (more t) (drop n xs)) (sym (take_one_more n x xs))
     ∙ ap (λ t. numbered (more (take (1 + n) (x ∷ xs))) t) (sym (drop_one_more n x xs))
 
-digits_step : (b : Bool) (x y : ℕ) (ys : List ℕ) → is_ascii_digit y ≡ b → (is_ascii_digit y ≡ true → cut (y ∷ ys) ≡ numbered (y ∷ take (digits_end ys) ys) (drop (digits_end ys) ys))
-    → digit_in_front x (cut (y ∷ ys)) ≡ numbered (x ∷ take (cond b (1 + digits_end ys) 0) (y ∷ ys)) (drop (cond b (1 + digits_end ys) 0) (y ∷ ys))
+digits_step : (b : Bool) (x y : ℕ) (ys : List ℕ) → is_ascii_digit y ≡ b → (is_ascii_digit y ≡ true → cut_at_numbers (y ∷ ys) ≡ numbered (y ∷ take (digits_end ys) ys) (drop (digits_end ys) ys))
+    → digit_in_front x (cut_at_numbers (y ∷ ys)) ≡ numbered (x ∷ take (cond b (1 + digits_end ys) 0) (y ∷ ys)) (drop (cond b (1 + digits_end ys) 0) (y ∷ ys))
 digits_step true x y ys e rest =
     ap (λ c. digit_in_front x c) (rest e) ∙ one_more_digit (digits_end ys) y (take (digits_end ys) ys) ys (λ t. x ∷ t) refl
-digits_step false x y ys e rest = digit_alone x y (cut (y ∷ ys)) (cut ys) (front_text (is_ascii_digit y) y (cut ys) e)
+digits_step false x y ys e rest = digit_alone x y (cut_at_numbers (y ∷ ys)) (cut_at_numbers ys) (front_text (is_ascii_digit y) y (cut_at_numbers ys) e)
 
-digits_front : (x : ℕ) (xs : List ℕ) → digit_in_front x (cut xs) ≡ numbered (x ∷ take (digits_end xs) xs) (drop (digits_end xs) xs)
+digits_front : (x : ℕ) (xs : List ℕ) → digit_in_front x (cut_at_numbers xs) ≡ numbered (x ∷ take (digits_end xs) xs) (drop (digits_end xs) xs)
 digits_front x [] = refl
-digits_front x (y ∷ ys) = digits_step (is_ascii_digit y) x y ys refl (λ e. front_digit (is_ascii_digit y) y (cut ys) e ∙ digits_front y ys)
+digits_front x (y ∷ ys) = digits_step (is_ascii_digit y) x y ys refl (λ e. front_digit (is_ascii_digit y) y (cut_at_numbers ys) e ∙ digits_front y ys)
 
 number_step : (b : Bool) (x : ℕ) (xs : List ℕ) → b ≡ true
     → numbered (x ∷ take (digits_end xs) xs) (drop (digits_end xs) xs) ≡ numbered (take (cond b (1 + digits_end xs) 0) (x ∷ xs)) (drop (cond b (1 + digits_end xs) 0) (x ∷ xs))
 number_step true x xs e = one_more_digit (digits_end xs) x (take (digits_end xs) xs) xs (λ t. t) refl
 number_step false x xs e = cc
 
--- a text that begins with a digit is cut behind its first number
-cut_number : (x : ℕ) (xs : List ℕ) → is_ascii_digit x ≡ true → cut (x ∷ xs) ≡ numbered (take (digits_end (x ∷ xs)) (x ∷ xs)) (drop (digits_end (x ∷ xs)) (x ∷ xs))
-cut_number x xs e = front_digit (is_ascii_digit x) x (cut xs) e ∙ digits_front x xs ∙ number_step (is_ascii_digit x) x xs e
+-- a text that begins with a digit is cut after its first number
+cut_number : (x : ℕ) (xs : List ℕ) → is_ascii_digit x ≡ true → cut_at_numbers (x ∷ xs) ≡ numbered (take (digits_end (x ∷ xs)) (x ∷ xs)) (drop (digits_end (x ∷ xs)) (x ∷ xs))
+cut_number x xs e = front_digit (is_ascii_digit x) x (cut_at_numbers xs) e ∙ digits_front x xs ∙ number_step (is_ascii_digit x) x xs e
 
 -- the case of letters changes no digit
 digit_bounds : (c : ℕ) → is_ascii_digit c ≡ true → (48 ≤ c) × (c ≤ 57)
@@ -178,9 +178,9 @@ parts_text false xs =
     let ws : List ℕ = map to_ascii_lowercase xs in
     let k : ℕ = digits_start xs in
     ap parts_of (cut_text ws)
-    ∙ ap (λ n. text (take n ws) ∷ parts_behind (cut (drop n ws)).others) (digits_start-map xs)
-    ∙ ap (λ t. text t ∷ parts_behind (cut (drop k ws)).others) (take-map to_ascii_lowercase k xs)
-    ∙ ap (λ t. text (map to_ascii_lowercase (take k xs)) ∷ parts_behind (cut t).others) (drop-map to_ascii_lowercase k xs)
+    ∙ ap (λ n. text (take n ws) ∷ parts_behind (cut_at_numbers (drop n ws)).others) (digits_start-map xs)
+    ∙ ap (λ t. text t ∷ parts_behind (cut_at_numbers (drop k ws)).others) (take-map to_ascii_lowercase k xs)
+    ∙ ap (λ t. text (map to_ascii_lowercase (take k xs)) ∷ parts_behind (cut_at_numbers t).others) (drop-map to_ascii_lowercase k xs)
 
 numbers-nil : (s : Bool) → numbers s [] ≡ []
 numbers-nil true = refl
@@ -194,9 +194,9 @@ numbers-digit false z zs e =
     let ws : List ℕ = map to_ascii_lowercase xs in
     let k : ℕ = digits_end xs in
     ap (λ (c : Cut). parts_behind c.others) (cut_number (to_ascii_lowercase z) (map to_ascii_lowercase zs) (digit_lower z ∙ e))
-    ∙ ap (λ n. number (digits_value 10 (take n ws)) ∷ parts_of (cut (drop n ws))) (digits_end-map xs)
-    ∙ ap (λ t. number (digits_value 10 t) ∷ parts_of (cut (drop k ws))) (digits-map xs)
-    ∙ ap (λ t. number (digits_value 10 (take k xs)) ∷ parts_of (cut t)) (drop-map to_ascii_lowercase k xs)
+    ∙ ap (λ n. number (digits_value 10 (take n ws)) ∷ parts_of (cut_at_numbers (drop n ws))) (digits_end-map xs)
+    ∙ ap (λ t. number (digits_value 10 t) ∷ parts_of (cut_at_numbers (drop k ws))) (digits-map xs)
+    ∙ ap (λ t. number (digits_value 10 (take k xs)) ∷ parts_of (cut_at_numbers t)) (drop-map to_ascii_lowercase k xs)
 
 -- what stands at the first digit begins with one, or is nothing
 begins_step : (b : Bool) (x : ℕ) (xs : List ℕ) → is_ascii_digit x ≡ b → BeginsWithDigit (drop (digits_start xs) xs) → BeginsWithDigit (drop (cond (not b) (1 + digits_start xs) 0) (x ∷ xs))
@@ -278,7 +278,7 @@ pub order_at_text : (s : Bool) (a b a_text b_text a_rest b_rest : List ℕ)
     → parts_order s a b ≡ ordering_then (slice_cmp nat_cmp (cased s a_text) (cased s b_text)) (numbers_order s a_rest b_rest)
 order_at_text s a b a_text b_text a_rest b_rest ta tb ra rb = rw (ta, tb, ra, rb) (compare_text s a b)
 
--- the numbers, and what stands behind them
+-- the numbers, and what stands after them
 pub order_at_number : (s : Bool) (a b a_digits b_digits a_behind b_behind : List ℕ) → BeginsWithDigit a → BeginsWithDigit b → 0 < length a → 0 < length b
     → a_digits ≡ take (digits_end a) a → b_digits ≡ take (digits_end b) b → a_behind ≡ drop (digits_end a) a → b_behind ≡ drop (digits_end b) b
     → numbers_order s a b ≡ ordering_then (nat_cmp (digits_value 10 a_digits) (digits_value 10 b_digits)) (parts_order s a_behind b_behind)
@@ -290,7 +290,7 @@ BeginsWithDigit-rest a a_rest e = subst BeginsWithDigit (sym e) (begins_with_dig
 pub AllDigits-digits : (a a_digits : List ℕ) → a_digits ≡ take (digits_end a) a → AllDigits 10 a_digits
 AllDigits-digits a a_digits e = subst (AllDigits 10) (sym e) (AllDigits-take a)
 
--- what is left behind a number is shorter
+-- what is left after a number is shorter
 pub shorter_behind : (a a_rest a_behind : List ℕ) → a_rest ≡ drop (digits_start a) a → a_behind ≡ drop (digits_end a_rest) a_rest → 0 < length a_rest → length a_behind < length a
 shorter_behind a a_rest a_behind r b lt =
     let some : 0 < digits_end a_rest = some_digit a_rest (BeginsWithDigit-rest a a_rest r) lt in

@@ -1,11 +1,11 @@
 -- Rows that show what the definitions of the orders say.
 use Rattle.std.proofs.Common.{◌≡◌, codes, true, false, [], ◌∷◌, Less, Greater, refl}
-use Rattle.isort_settings.specs.Orders.{cut, parts, text, number, natural_cmp, class_place}
+use Rattle.isort_settings.specs.Orders.{cut_at_numbers, parts, text, number, natural_cmp, class_place}
 
-cut_nothing : cut [] ≡ record { first = []; others = [] }
+cut_nothing : cut_at_numbers [] ≡ record { first = []; others = [] }
 cut_nothing = refl
 
-cut_b10 : cut (codes "b10") ≡ record { first = codes "b"; others = record { digits = codes "10"; behind = [] } ∷ [] }
+cut_b10 : cut_at_numbers (codes "b10") ≡ record { first = codes "b"; others = record { digits = codes "10"; behind = [] } ∷ [] }
 cut_b10 = refl
 
 parts_nothing : parts false [] ≡ text [] ∷ []

@@ -1,4 +1,4 @@
--- Where a run at the front of a list ends, as `position` finds it.
+-- Where a run at the start of a list ends, as `position` finds it.
 use Rattle.std.proofs.Common.{◌≡◌, ℕ, ◌+◌, ◌≤◌, ltb, Bool, true, false, cond, not, List, [], ◌∷◌, length, Option, Some, None, refl, sym, ◌∙◌, ap, arith}
 use Rattle.std.proofs.lemmas.Bool.Decides.{Decides-ltb, not_from_Decides}
 use Rattle.std.proofs.lemmas.List.Sums.{prefix_len-le-length}

@@ -6,7 +6,8 @@ use Rattle.std.specs.List.{find, flat_map}
 use Rattle.std.specs.Option.{option_or, option_map_or}
 use Rattle.std.specs.Str.{byte}
 use Rattle.isort_settings.specs.declared.section.Section.{Section}
-use Rattle.isort_settings.specs.Sections.{lists_of, below, holds, section_holding, section_in}
+use Rattle.isort_settings.specs.Sections.{lists_of, below, holds, section_in}
+use Rattle.isort_settings.specs.Sections.OnePrefix.{section_holding}
 use Rattle.isort_settings.specs.Values.{Values}
 
 abbrev pub Lists : Type 0

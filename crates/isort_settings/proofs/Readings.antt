@@ -1,43 +1,13 @@
--- What reading a value gives, where the kind of the value or the key is known.
-use Rattle.std.proofs.Common.{◌≡◌, sym, subst, List, ℕ, if◌then◌else◌, Some, None, Ok, Err, ok_or, IsOkAnd}
-use Rattle.std.specs.List.{list_any}
-use Rattle.toml.specs.Data.{Data, string, integer, float, boolean, datetime, array, table, Items, as_str, as_array}
+-- What taking a key's value does, where the code has matched the key.
+use Rattle.std.proofs.Common.{◌≡◌, ◌≢◌, sym, subst, ap, Result, Ok, Err, IsOkAnd, OnOk, IfOk, IfErr, MatchResult}
+use Rattle.toml.specs.Data.{Data}
 use Rattle.isort_settings.specs.declared.error.SettingsError.{SettingsError}
-use Rattle.isort_settings.specs.declared.error.SettingsError.TheVariants.{BadValue}
+use Rattle.isort_settings.specs.declared.error.SettingsError.TheVariants.{Memory}
 use Rattle.isort_settings.specs.declared.key.SettingKey.{SettingKey}
-use Rattle.isort_settings.specs.Keys.{section, texts, Meaning, row_of}
-use Rattle.isort_settings.specs.Reading.{is_wildcard, entry_of, entries_of, section_spelled, read_value}
-use Rattle.isort_settings.specs.Values.{Values, with_value}
-
--- an entry that is a text
-pub entry_of-text : (d : Data) (s : List ℕ) → as_str d ≡ Some s → entry_of d ≡ (if list_any is_wildcard s then None else Some s)
-entry_of-text (string t) s h = let e : t ≡ s = cc in rw e
-entry_of-text (integer z) s h = cc
-entry_of-text (float x) s h = cc
-entry_of-text (boolean b) s h = cc
-entry_of-text (datetime x) s h = cc
-entry_of-text (array ds) s h = cc
-entry_of-text (table ms) s h = cc
-
--- a section's value that is a text
-pub read_value-section : (k : SettingKey) (d : Data) (s : List ℕ) → as_str d ≡ Some s → read_value section k d ≡ ok_or (section_spelled s) (BadValue k)
-read_value-section k (string t) s h = let e : t ≡ s = cc in rw e
-read_value-section k (integer z) s h = cc
-read_value-section k (float x) s h = cc
-read_value-section k (boolean b) s h = cc
-read_value-section k (datetime x) s h = cc
-read_value-section k (array ds) s h = cc
-read_value-section k (table ms) s h = cc
-
--- a list's value that is an array
-pub read_value-texts : (k : SettingKey) (d : Data) (ds : Items) → as_array d ≡ Some ds → read_value texts k d ≡ ok_or (entries_of ds) (BadValue k)
-read_value-texts k (array es) ds h = let e : es ≡ ds = cc in rw e
-read_value-texts k (string t) ds h = cc
-read_value-texts k (integer z) ds h = cc
-read_value-texts k (float x) ds h = cc
-read_value-texts k (boolean b) ds h = cc
-read_value-texts k (datetime x) ds h = cc
-read_value-texts k (table ms) ds h = cc
+use Rattle.isort_settings.specs.Keys.{Meaning, row_of}
+use Rattle.isort_settings.specs.Reading.{read_value}
+use Rattle.isort_settings.specs.Values.{Values}
+use Rattle.isort_settings.specs.Values.OneKey.{with_value}
 
 -- a refusal that is known at the key which the code has matched
 pub refused : (k j : SettingKey) (d : Data) (e : SettingsError) → k ≡ j → read_value (row_of j).kind k d ≡ Err e → read_value (row_of k).kind k d ≡ Err e
@@ -53,3 +23,39 @@ pub taken : (k j : SettingKey) (d : Data) (new old : Values) (x : Meaning (row_o
 taken k j d new old x same read put =
     let P : SettingKey → Type 0 = λ i. read_value (row_of j).kind i d ≡ Ok x → IsOkAnd (read_value (row_of i).kind i d) (λ y. new ≡ with_value i y old) in
     subst P (sym same) (λ r. at_key j d new old x r put) read
+
+-- a key's value was taken, or refused
+abbrev pub Takes : SettingKey → Data → Result (Unit {0}) SettingsError → Values → Values → Type 0
+Takes k d answer old new = record {
+  ok : OnOk answer (IsOkAnd (read_value (row_of k).kind k d) (λ x. new ≡ with_value k x old));
+  refused : IfErr answer (λ e. e ≢ Memory → read_value (row_of k).kind k d ≡ Err e);
+}
+
+-- what was put in a field's place is what the key says, or its refusal
+abbrev pub Puts : {T : Type 0} → Result T SettingsError → Result (Unit {0}) SettingsError → T → T → Type 0
+Puts read answer before now = MatchResult read (λ x. (answer ≡ Ok tt) × (now ≡ x)) (λ e. (answer ≡ Err e) × (now ≡ before))
+
+-- a reader's answer was put in the place of the key that the code has matched, where a value of the field is shown so
+pub took_shown : {T : Type 0} (k j : SettingKey) (d : Data) (v : Values) (shown : T → Meaning (row_of j).kind) (read : Result T SettingsError)
+    (answer : Result (Unit {0}) SettingsError) (before now : T) → k ≡ j
+    → IfOk read (λ x. read_value (row_of j).kind k d ≡ Ok (shown x)) → IfErr read (λ e. e ≢ Memory → read_value (row_of j).kind k d ≡ Err e)
+    → Puts read answer before now → Takes k d answer v (with_value j (shown now) v)
+took_shown k j d v shown (Ok x) answer before now same ok err put =
+    rw put.0 (record { ok = taken k j d _ v (shown x) same ok (ap (λ y. with_value j (shown y) v) put.1); refused = tt })
+took_shown k j d v shown (Err e) answer before now same ok err put =
+    rw put.0 (record { ok = tt; refused = λ other. refused k j d e same (err other) })
+
+ok_of : {T : Type 0} (read said : Result T SettingsError) → read ≡ said → IfOk read (λ x. said ≡ Ok x)
+ok_of (Ok x) said same = sym same
+ok_of (Err e) said same = tt
+
+err_of : {T : Type 0} (read said : Result T SettingsError) → read ≡ said → IfErr read (λ e. e ≢ Memory → said ≡ Err e)
+err_of (Ok x) said same = tt
+err_of (Err e) said same = λ _. sym same
+
+-- the same where the reader answers with the value itself
+pub took : (k j : SettingKey) (d : Data) (v : Values) (read : Result (Meaning (row_of j).kind) SettingsError)
+    (answer : Result (Unit {0}) SettingsError) (before now : Meaning (row_of j).kind) → k ≡ j → read ≡ read_value (row_of j).kind k d
+    → Puts read answer before now → Takes k d answer v (with_value j now v)
+took k j d v read answer before now same said put =
+    took_shown k j d v (λ x. x) read answer before now same (ok_of read _ said) (err_of read _ said) put

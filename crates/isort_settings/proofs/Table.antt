@@ -21,7 +21,8 @@ use Rattle.isort_settings.specs.declared.profile.Profile.{Profile}
 use Rattle.isort_settings.specs.Keys.{Meaning, row_of, name_of, keys_in_order, Ascends}
 use Rattle.isort_settings.specs.Pyproject.{refusal_at, first_refusal, base_value, value_at, values_in, names_of, unknown_names}
 use Rattle.isort_settings.specs.Reading.{read_value}
-use Rattle.isort_settings.specs.Values.{Values, values_from, with_value}
+use Rattle.isort_settings.specs.Values.{Values, values_from}
+use Rattle.isort_settings.specs.Values.OneKey.{with_value}
 
 -- the value that a key has
 abbrev pub value_of : (k : SettingKey) → Values → Meaning (row_of k).kind
@@ -180,3 +181,8 @@ first_refusal-none ms p ks v none left = rw (left.unrefused, none)
 
 pub values_in-none : (ms : Members) (p : Option Profile) (ks : List SettingKey) (v : Values) → ks ≡ [] → Left ms p ks v → v ≡ values_in ms p
 values_in-none ms p ks v none left = sym (ap (λ xs. after_keys ms xs v) none) ∙ left.filled
+
+-- no names ascend
+pub Ascends-none : Ascends []
+unfolding IsStrictlySortedBy
+Ascends-none = tt

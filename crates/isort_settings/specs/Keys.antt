@@ -1,5 +1,5 @@
 -- The table of keys: how each is spelled, what it may hold, its default, and its value under the profile `black`.
-use Rattle.std.specs.Prelude.{codes, ◌||◌, ℕ, ℤ, pos, negsuc, Bool, true, false, List, [], ◌∷◌, map, bytes_eq}
+use Rattle.std.specs.Prelude.{codes, ◌||◌, ℕ, ℤ, pos, negsuc, Bool, true, false, List, [], ◌∷◌, bytes_eq}
 use Rattle.std.specs.Cmp.Lexicographic.{slice_cmp}
 use Rattle.std.specs.List.{list_any}
 use Rattle.std.specs.List.Sorted.{IsStrictlySortedBy}
@@ -8,7 +8,7 @@ use Rattle.isort_settings.specs.declared.key.SettingKey.{SettingKey}
 use Rattle.isort_settings.specs.declared.key.SettingKey.TheVariants as key
 use Rattle.isort_settings.specs.declared.section.Section.{Section}
 use Rattle.isort_settings.specs.declared.section.Section.TheVariants.{ThirdParty}
-use Rattle.isort_settings.specs.declared.standard_library.TheConstants.{STANDARD_LIBRARY}
+use Rattle.isort_settings.specs.StandardLibrary.{standard_library}
 
 -- what a key may hold: a whole number from the first to the second (not negative, or of either sign), a wrap mode,
 -- true or false, the name of a section, a list of texts; or nothing that a field keeps
@@ -43,10 +43,6 @@ row k p b = record { kind = k; plain = p; black = b }
 -- a row on which `black` says nothing
 abbrev pub same : (kind : Kind) → Meaning kind → Row
 same k p = row k p p
-
--- the modules that count as the standard library by default
-unfoldable pub standard_library : List (List ℕ)
-standard_library = map (λ m. m.now) STANDARD_LIBRARY
 
 -- the table of keys
 abbrev pub row_of : SettingKey → Row

@@ -1,4 +1,5 @@
 -- The two orders by which imports are sorted: of modules, and of names.
+pub mod NameClasses
 use Rattle.std.specs.Prelude.{ℕ, ◌==◌, Bool, not, ◌&&◌, if◌then◌else◌, List, [], ◌∷◌, map, flat_map, length, drop, slice_index, nat_le}
 use Rattle.std.specs.List.{list_any, prefix_len}
 use Rattle.std.specs.Char.{is_ascii_digit, is_ascii_uppercase, is_ascii_lowercase, to_ascii_lowercase}
@@ -10,31 +11,31 @@ use Rattle.std.specs.declared.cmp.Ordering.TheVariants.{Less, Equal, Greater}
 use Rattle.std.specs.Cmp.Lexicographic.{slice_cmp}
 use Rattle.isort_settings.specs.Values.{Values}
 
--- a number in a text, as its digits, and the text behind it, up to the next number
+-- a number in a text, as its digits, and the text after it, up to the next number
 pub record Numbered : Type 0 where
   pub digits : List ℕ
   pub behind : List ℕ
 
 -- a text cut at its numbers, which are its longest runs of ASCII digits: the text before the first one, and each of
--- them with the text behind it
+-- them with the text after it
 pub record Cut : Type 0 where
   pub first : List ℕ
   pub others : List Numbered
 
--- a digit in front of a text and the numbers behind it: where the text is empty, the digit stands at the first number
+-- a digit before a text and the numbers after it: where the text is empty, the digit belongs to the first number
 abbrev pub digit_before : ℕ → List ℕ → List Numbered → Cut
 digit_before d [] (n ∷ others) = record { first = []; others = record n { digits = d ∷ n.digits } ∷ others }
 digit_before d behind others = record { first = []; others = record { digits = d ∷ []; behind = behind } ∷ others }
 
--- a digit in front of a cut text: it belongs to the number that the text begins with, or is one by itself
+-- a digit before a cut text: it belongs to the number that the text begins with, or is one by itself
 abbrev pub digit_in_front : ℕ → Cut → Cut
 digit_in_front d c = digit_before d c.first c.others
 
 -- the cut of a text
-abbrev pub cut : List ℕ → Cut
-cut [] = record { first = []; others = [] }
-cut (c ∷ text) =
-    let rest = cut text in
+abbrev pub cut_at_numbers : List ℕ → Cut
+cut_at_numbers [] = record { first = []; others = [] }
+cut_at_numbers (c ∷ text) =
+    let rest = cut_at_numbers text in
     if is_ascii_digit c then digit_in_front c rest else record rest { first = c ∷ rest.first }
 
 -- what is compared: a text, or the value of a number
@@ -50,7 +51,7 @@ cased sensitive name = if sensitive then name else map to_ascii_lowercase name
 -- ASCII capitals were made small
 abbrev pub parts : Bool → List ℕ → List Part
 parts sensitive name =
-    let c = cut (cased sensitive name) in
+    let c = cut_at_numbers (cased sensitive name) in
     text c.first ∷ flat_map (λ n. number (digits_value 10 n.digits) ∷ text n.behind ∷ []) c.others
 
 -- texts by their bytes, numbers by their value, of any length (a text and a number never stand at one place)

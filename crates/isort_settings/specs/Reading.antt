@@ -1,8 +1,9 @@
 -- What a TOML value says for a key of each kind, or how it is refused.
-use Rattle.std.specs.Prelude.{codes, ℕ, pos, negsuc, Bool, ◌&&◌, ◌||◌, ◌==◌, nat_le, int_le, if◌then◌else◌, List, [], ◌∷◌, Option, Some, None, option_map, option_and_then, ok_or, Result, Ok, Err, find, bytes_eq}
+use Rattle.std.specs.Prelude.{codes, ℕ, ℤ, pos, negsuc, Bool, ◌&&◌, ◌||◌, ◌==◌, nat_le, int_le, if◌then◌else◌, List, [], ◌∷◌, Option, Some, None, option_map, option_and_then, ok_or, Result, Ok, Err, find, bytes_eq}
 use Rattle.std.specs.List.{list_any}
+use Rattle.std.specs.Option.{option_map_or}
 use Rattle.std.specs.Str.{byte}
-use Rattle.toml.specs.Data.{Data, string, integer, boolean, array, Items, no_items, item}
+use Rattle.toml.specs.Data.{Data, as_str, as_integer, as_bool, as_array, Items, no_items, item}
 use Rattle.isort_settings.specs.declared.error.SettingsError.{SettingsError}
 use Rattle.isort_settings.specs.declared.error.SettingsError.TheVariants.{BadValue, UnknownProfile, UnsupportedMode}
 use Rattle.isort_settings.specs.declared.key.SettingKey.{SettingKey}
@@ -13,43 +14,49 @@ use Rattle.isort_settings.specs.declared.section.Section.TheVariants.{Future, St
 use Rattle.isort_settings.specs.Keys.{Kind, count, whole, wrap_mode, flag, section, texts, no_field, Meaning}
 
 -- how the settings spell a section
-abbrev pub spelling_of : Section → List ℕ
-spelling_of Future = codes "FUTURE"
-spelling_of Stdlib = codes "STDLIB"
-spelling_of ThirdParty = codes "THIRDPARTY"
-spelling_of FirstParty = codes "FIRSTPARTY"
-spelling_of LocalFolder = codes "LOCALFOLDER"
+abbrev pub section_spelling : Section → List ℕ
+section_spelling Future = codes "FUTURE"
+section_spelling Stdlib = codes "STDLIB"
+section_spelling ThirdParty = codes "THIRDPARTY"
+section_spelling FirstParty = codes "FIRSTPARTY"
+section_spelling LocalFolder = codes "LOCALFOLDER"
 
 -- the section that a text spells
 abbrev pub section_spelled : List ℕ → Option Section
-section_spelled text = find (λ s. bytes_eq (spelling_of s) text) (Future ∷ Stdlib ∷ ThirdParty ∷ FirstParty ∷ LocalFolder ∷ [])
+section_spelled text = find (λ s. bytes_eq (section_spelling s) text) (Future ∷ Stdlib ∷ ThirdParty ∷ FirstParty ∷ LocalFolder ∷ [])
 
 -- the profile that a text names
 abbrev pub profile_named : List ℕ → Result Profile SettingsError
 profile_named name = if bytes_eq name (codes "black") then Ok Black else Err UnknownProfile
 
--- an entry of a list: a text without `*` and `?`
+-- the characters that stand for others in a pattern
 abbrev pub is_wildcard : ℕ → Bool
 is_wildcard c = (c == byte "*") || (c == byte "?")
 
+-- an entry of a list: a text without `*` and `?`
 abbrev pub entry_of : Data → Option (List ℕ)
-entry_of (string s) = if list_any is_wildcard s then None else Some s
-entry_of _ = None
+entry_of d = option_and_then (λ s. if list_any is_wildcard s then None else Some s) (as_str d)
 
 -- the entries of an array, if each item is one
 abbrev pub entries_of : Items → Option (List (List ℕ))
 entries_of no_items = Some []
 entries_of (item d ds) = option_and_then (λ s. option_map (λ more. s ∷ more) (entries_of ds)) (entry_of d)
 
+-- a whole number from low to high: one that isn't negative, or one of either sign
+abbrev pub count_within : ℕ → ℕ → ℤ → Option ℕ
+count_within low high (pos n) = if nat_le low n && nat_le n high then Some n else None
+count_within low high (negsuc n) = None
+
+abbrev pub whole_within : ℤ → ℤ → ℤ → Option ℤ
+whole_within low high z = if int_le low z && int_le z high then Some z else None
+
 -- what a TOML value says for a key of this kind, or its refusal: a whole number that is no wrap mode is refused as
 -- one, and every other value of another kind or out of range as a bad value for the key
 abbrev pub read_value : (kind : Kind) → SettingKey → Data → Result (Meaning kind) SettingsError
-read_value (count low high) k (integer (pos n)) = if nat_le low n && nat_le n high then Ok n else Err (BadValue k)
-read_value (whole low high) k (integer z) = if int_le low z && int_le z high then Ok z else Err (BadValue k)
-read_value wrap_mode k (integer (pos n)) = if nat_le n 3 then Ok n else Err UnsupportedMode
-read_value wrap_mode k (integer (negsuc n)) = Err UnsupportedMode
-read_value flag k (boolean b) = Ok b
-read_value section k (string s) = ok_or (section_spelled s) (BadValue k)
-read_value texts k (array ds) = ok_or (entries_of ds) (BadValue k)
+read_value (count low high) k d = ok_or (option_and_then (count_within low high) (as_integer d)) (BadValue k)
+read_value (whole low high) k d = ok_or (option_and_then (whole_within low high) (as_integer d)) (BadValue k)
+read_value wrap_mode k d = option_map_or (λ z. ok_or (count_within 0 3 z) UnsupportedMode) (as_integer d) (Err (BadValue k))
+read_value flag k d = ok_or (as_bool d) (BadValue k)
+read_value section k d = ok_or (option_and_then section_spelled (as_str d)) (BadValue k)
+read_value texts k d = ok_or (option_and_then entries_of (as_array d)) (BadValue k)
 read_value no_field k d = Ok tt
-read_value kind k d = Err (BadValue k)

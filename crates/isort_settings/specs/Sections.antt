@@ -1,4 +1,5 @@
 -- The section of a module: the first pair of a dotted prefix, longest first, and a list that holds it.
+pub mod OnePrefix
 use Rattle.std.specs.Prelude.{ℕ, ◌==◌, Bool, if◌then◌else◌, List, [], ◌∷◌, ◌++◌, map, filter, length, take, slice_index, Option, option_map, find, flat_map, bytes_eq, zero, suc}
 use Rattle.std.specs.List.{list_any}
 use Rattle.std.specs.Option.{option_map_or}
@@ -6,6 +7,14 @@ use Rattle.std.specs.Str.{byte}
 use Rattle.isort_settings.specs.declared.section.Section.{Section}
 use Rattle.isort_settings.specs.declared.section.Section.TheVariants.{Future, Stdlib, ThirdParty, FirstParty, LocalFolder}
 use Rattle.isort_settings.specs.Values.{Values}
+
+-- the place of a section: sections are printed in this order
+abbrev pub section_place : Section → ℕ
+section_place Future = 0
+section_place Stdlib = 1
+section_place ThirdParty = 2
+section_place FirstParty = 3
+section_place LocalFolder = 4
 
 -- the sections with their lists, in the order in which they are looked up
 abbrev pub lists_of : Values → List (Section × List (List ℕ))
@@ -25,10 +34,6 @@ dotted_prefixes name = name ∷ map (λ i. take i name) (filter (λ i. slice_ind
 -- the list holds the text
 abbrev pub holds : List (List ℕ) → List ℕ → Bool
 holds texts text = list_any (λ t. bytes_eq t text) texts
-
--- the section of the first of some lists that holds a text
-abbrev pub section_holding : List (Section × List (List ℕ)) → List ℕ → Option Section
-section_holding lists text = option_map (λ l. l.0) (find (λ l. holds l.1 text) lists)
 
 -- each prefix with each list, prefix by prefix
 abbrev pub pairs_of : Values → List ℕ → List (List ℕ × (Section × List (List ℕ)))

@@ -107,15 +107,9 @@ impl SettingKey {
     pub(crate) fn is_known(name: &str) -> bool
         ensures { result ≡ is_known name.now }
     {
-        if SettingKey::Profile.is_spelled(name) {
-            return true;
-        }
-        let keys = SettingKey::in_order();
-        for key in keys {
-            if key.is_spelled(name) {
-                return true;
-            }
-        }
-        false
+        SettingKey::Profile.is_spelled(name)
+            || SettingKey::in_order()
+                .iter()
+                .any(|key| key.is_spelled(name))
     }
 }

@@ -5,6 +5,7 @@
 mod error;
 mod key;
 pub mod laws;
+mod limits;
 mod order;
 mod profile;
 mod pyproject;

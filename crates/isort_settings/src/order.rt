@@ -7,7 +7,7 @@ ghost use Rattle.std.specs.Ordering.{nat_cmp};
 ghost use Rattle.std.specs.Str.{byte};
 ghost use Rattle.std.specs.Str.Parse.{AllDigits, digits_value};
 ghost use Rattle.isort_settings.specs.Orders.{cased, class_place, dots, is_constant, natural_cmp, part_cmp, parts};
-ghost use Rattle.isort_settings.specs.NameClasses.{place_of};
+ghost use Rattle.isort_settings.specs.Orders.NameClasses.{place_of};
 
 use std::cmp::Ordering;
 
@@ -26,7 +26,7 @@ impl NameClass {
     {
         if is_constant(name) {
             NameClass::Constant
-        } else if !name.is_empty() && name[0].is_ascii_uppercase() {
+        } else if name.first().is_some_and(|b| b.is_ascii_uppercase()) {
             NameClass::Class
         } else {
             NameClass::Other
@@ -137,7 +137,7 @@ fn number_cmp(a: &[u8], b: &[u8]) -> Ordering
     }
 }
 
-/// The digits behind the zeros that they begin with.
+/// The digits after the zeros that they begin with.
 fn without_zeros(digits: &[u8]) -> &[u8]
     ensures { result.now ≡ drop (prefix_len (λ d. d == byte "0") digits.now) digits.now }
 {

@@ -1,7 +1,6 @@
 //! Reading a `pyproject.toml` down to the table `[tool.isort]`.
-ghost use Rattle.std.specs.Prelude.{◌≡◌, ◌≢◌, IfOk, IfErr, Ok, Err, map, option_map, string_bytes};
-ghost use Rattle.std.specs.BTreeMap.{IsEmpty};
-ghost use Rattle.toml.specs.Data.{get_member};
+ghost use Rattle.std.specs.Prelude.{◌≡◌, ◌≢◌, IfOk, IfErr, Ok, Err, map, option_map, string_bytes, unwrap_or};
+ghost use Rattle.toml.specs.Data.{get_member, no_members};
 ghost use Rattle.toml.specs.View.{view, table_view};
 ghost use Rattle.isort_settings.specs.Keys.{Ascends};
 ghost use Rattle.isort_settings.specs.Pyproject.{document_of, table_value, table_in, profile_of, unknown_names};
@@ -19,11 +18,8 @@ pub fn document(alloc: Global, text: &[u8]) -> Result<Table, SettingsError>
 {
     match toml::table_from_slice(alloc, text) {
         Ok(table) => Ok(table),
-        Err(error) => Err(if error.is_memory() {
-            SettingsError::Memory
-        } else {
-            SettingsError::BadToml
-        }),
+        Err(error) if error.is_memory() => Err(SettingsError::Memory),
+        Err(_) => Err(SettingsError::BadToml),
     }
 }
 
@@ -45,24 +41,25 @@ fn inner_table<'t>(
     ensures refused { IfErr result (λ e. table_value key (get_member name.now (table_view outer.now))
         ≡ Err e) }
 {
-    match member(outer, name) {
-        Some(value) => match value.as_table() {
-            Some(inner) => Ok(Some(inner)),
-            None => Err(SettingsError::BadValue(key)),
-        },
-        None => Ok(None),
+    let Some(value) = member(outer, name) else {
+        return Ok(None);
+    };
+    match value.as_table() {
+        Some(inner) => Ok(Some(inner)),
+        None => Err(SettingsError::BadValue(key)),
     }
 }
 
-/// The table `isort` in the table `tool`, each read as `none` where it is absent.
-pub fn settings_table<'t>(document: &'t Table, none: &'t Table) -> Result<&'t Table, SettingsError>
-    requires { IsEmpty none.now }
-    ensures ok { IfOk result (λ t. table_in (table_view document.now) ≡ Ok (table_view t.now)) }
+/// The table `isort` in the table `tool`, if both are there.
+pub fn settings_table(document: &Table) -> Result<Option<&Table>, SettingsError>
+    ensures ok { IfOk result (λ t. table_in (table_view document.now)
+        ≡ Ok (unwrap_or (option_map (λ m. table_view m.now) t) no_members)) }
     ensures refused { IfErr result (λ e. table_in (table_view document.now) ≡ Err e) }
 {
-    let tool = inner_table(document, "tool", SettingKey::Tool)?.unwrap_or(none);
-    let isort = inner_table(tool, "isort", SettingKey::ToolIsort)?.unwrap_or(none);
-    Ok(isort)
+    match inner_table(document, "tool", SettingKey::Tool)? {
+        Some(tool) => inner_table(tool, "isort", SettingKey::ToolIsort),
+        None => Ok(None),
+    }
 }
 
 /// The profile that is handed in, or else the one that the table names, if it names one.
@@ -75,13 +72,13 @@ pub fn chosen_profile(
     if handed_in.is_some() {
         return Ok(handed_in);
     }
-    match member(table, SettingKey::Profile.name()) {
-        Some(value) => match value.as_str() {
-            Some(name) => Ok(Some(Profile::read(name)?)),
-            None => Err(SettingsError::BadValue(SettingKey::Profile)),
-        },
-        None => Ok(None),
-    }
+    let Some(value) = member(table, SettingKey::Profile.name()) else {
+        return Ok(None);
+    };
+    let Some(name) = value.as_str() else {
+        return Err(SettingsError::BadValue(SettingKey::Profile));
+    };
+    Ok(Some(Profile::read(name)?))
 }
 
 /// The names in the table that are no key.

@@ -1,50 +1,72 @@
 //! The settings, one field for each key.
-ghost use Rattle.std.specs.Prelude.{◌≡◌, ◌==◌, ◌≤◌, ◌≤ℤ◌, pos, negsuc, slice_index};
+ghost use Rattle.std.specs.Prelude.{◌≡◌, ◌==◌, Ok, Err, MatchResult, slice_index};
 ghost use Rattle.std.specs.Str.{byte};
+ghost use Rattle.isort_settings.specs.Limits.{IsWithin, IsWithinSigned};
+ghost use Rattle.isort_settings.specs.declared.limits.TheConstants.{LINE_LENGTH, MODES, GRID_WRAP, SECTION_GAP, TYPE_GAP, END_GAP};
 
 use crate::error::SettingsError;
 use crate::key::SettingKey as Key;
+use crate::limits::{END_GAP, GRID_WRAP, LINE_LENGTH, MODES, SECTION_GAP, TYPE_GAP};
 use crate::order::{NameClass, natural_cmp, split_dots};
 use crate::profile::Profile;
 use crate::section::Section;
-use crate::value::{boolean, count_in, entries, mode, section, whole_in};
+use crate::value::KeyValue;
 use crate::{pyproject, standard_library, text_list};
 use std::alloc::Global;
 use std::cmp::Ordering;
 use toml::{Table, Value};
 
-/// Settings: a value for each key of the table `[tool.isort]` but `profile`.
+/// Settings: a value for each key of the table `[tool.isort]` except `profile`.
 #[derive(Debug, Drop, PartialEq, Eq)]
 pub struct Settings {
+    /// The longest line in characters, 1 to 10000, before a `from` import is wrapped.
     pub line_length: u32,
+    /// The wrap mode, 0 to 3: grid, vertical, hanging indent, vertical hanging indent.
     pub multi_line_output: u32,
+    /// Whether a wrapped statement has a comma after its last name, in the modes 0, 1 and 3.
     pub include_trailing_comma: bool,
+    /// Above 0: how many names, at most 10000, a `from` import needs to be wrapped whatever its length.
     pub force_grid_wrap: u32,
+    /// Read, and without effect.
     pub use_parentheses: bool,
+    /// Whether a blank line stands before comments that stand above a statement.
     pub ensure_newline_before_comments: bool,
+    /// Whether each imported name is a statement of its own.
     pub force_single_line: bool,
+    /// Whether `import` and `from` statements are sorted together, by module.
     pub force_sort_within_sections: bool,
+    /// Whether ASCII capitals differ from small letters from the start in the order.
     pub case_sensitive: bool,
+    /// Whether `from m import a as b` joins the module's other names.
     pub combine_as_imports: bool,
+    /// Whether names stand in the order constants, classes, the rest.
     pub order_by_type: bool,
+    /// The blank lines between two sections, at most 100.
     pub lines_between_sections: u32,
+    /// The blank lines between `import` and `from` statements of one section, at most 100.
     pub lines_between_types: u32,
+    /// The blank lines after a block, at most 100; -1 leaves the choice to the rules of the layout.
     pub lines_after_imports: i32,
+    /// The section of a module that no list holds.
     pub default_section: Section,
+    /// The modules of the standard library.
     pub known_standard_library: Vec<String>,
+    /// Further modules of the standard library.
     pub extra_standard_library: Vec<String>,
+    /// The modules of the section `THIRDPARTY`.
     pub known_third_party: Vec<String>,
+    /// The modules of the section `FIRSTPARTY`.
     pub known_first_party: Vec<String>,
+    /// The modules of the section `LOCALFOLDER`.
     pub known_local_folder: Vec<String>,
+    /// The modules of the section `FUTURE`.
     pub known_future_library: Vec<String>,
-    pub ghost some_line_length: { 1 ≤ line_length },
-    pub ghost line_length_in_range: { line_length ≤ 10000 },
-    pub ghost mode_in_range: { multi_line_output ≤ 3 },
-    pub ghost grid_wrap_in_range: { force_grid_wrap ≤ 10000 },
-    pub ghost section_gap_in_range: { lines_between_sections ≤ 100 },
-    pub ghost type_gap_in_range: { lines_between_types ≤ 100 },
-    pub ghost no_low_end_gap: { negsuc 0 ≤ℤ lines_after_imports },
-    pub ghost end_gap_in_range: { lines_after_imports ≤ℤ pos 100 },
+    pub ghost line_length_in_range: { IsWithin LINE_LENGTH line_length },
+    pub ghost mode_in_range: { IsWithin MODES multi_line_output },
+    pub ghost grid_wrap_in_range: { IsWithin GRID_WRAP force_grid_wrap },
+    pub ghost section_gap_in_range: { IsWithin SECTION_GAP lines_between_sections },
+    pub ghost type_gap_in_range: { IsWithin TYPE_GAP lines_between_types },
+    pub ghost end_gap_in_range: { IsWithinSigned END_GAP lines_after_imports },
 }
 
 impl Settings {
@@ -54,8 +76,10 @@ impl Settings {
     ghost use Rattle.isort_settings.specs.Orders.{module_cmp, name_cmp};
     ghost use Rattle.isort_settings.specs.Pyproject.{settings_of, base_value, first_refusal, values_in};
     ghost use Rattle.isort_settings.specs.Reading.{read_value};
-    ghost use Rattle.isort_settings.specs.Sections.{lists_of, section_holding, section_in};
-    ghost use Rattle.isort_settings.specs.Values.{values, values_from, with_value, plain_values, black_values};
+    ghost use Rattle.isort_settings.specs.Sections.{lists_of, section_in};
+    ghost use Rattle.isort_settings.specs.Sections.OnePrefix.{section_holding};
+    ghost use Rattle.isort_settings.specs.Values.{values, values_from, plain_values, black_values};
+    ghost use Rattle.isort_settings.specs.Values.OneKey.{with_value};
 
     /// The settings that hold where nothing else is said.
     pub fn plain(alloc: Global) -> Result<Settings, SettingsError>
@@ -113,13 +137,14 @@ impl Settings {
             settings_of text.now profile ≡ Ok (values r.0, map string_bytes r.1.items)) }
         ensures unknown_ascend { IfOk result (λ r. Ascends (map string_bytes r.1.items)) }
 
-        // Each refusal but want of memory is the one that the definition gives.
+        // Each refusal except out of memory is the one that the definition gives.
         ensures refused { IfErr result (λ e. e ≢ SettingsError.Memory
             → settings_of text.now profile ≡ Err e) }
     {
         let document = pyproject::document(alloc, text)?;
-        let none = Table::new(alloc);
-        let table = pyproject::settings_table(&document, &none)?;
+        let Some(table) = pyproject::settings_table(&document)? else {
+            return Ok((Settings::of_profile(alloc, profile)?, Vec::new(alloc)));
+        };
         let profile = pyproject::chosen_profile(profile, table)?;
         let settings = Settings::from_table(alloc, table, profile)?;
         let unknown = pyproject::unknown_keys(alloc, table)?;
@@ -165,35 +190,37 @@ impl Settings {
         ensures refused { IfErr result (λ e. e ≢ SettingsError.Memory
             → read_value (row_of key).kind key (view value.now) ≡ Err e) }
     {
+        let read = KeyValue { key, value };
         match key {
-            Key::CaseSensitive => self.case_sensitive = boolean(key, value)?,
-            Key::CombineAsImports => self.combine_as_imports = boolean(key, value)?,
-            Key::DefaultSection => self.default_section = section(key, value)?,
-            Key::EnsureNewlineBeforeComments => self.ensure_newline_before_comments = boolean(
-                key, value,
-            )?,
-            Key::ExtraStandardLibrary => self.extra_standard_library = entries(alloc, key, value)?,
-            Key::ForceGridWrap => self.force_grid_wrap = count_in(key, value, 0, 10_000)?,
-            Key::ForceSingleLine => self.force_single_line = boolean(key, value)?,
-            Key::ForceSortWithinSections => self.force_sort_within_sections = boolean(key, value)?,
-            Key::IncludeTrailingComma => self.include_trailing_comma = boolean(key, value)?,
-            Key::KnownFirstParty => self.known_first_party = entries(alloc, key, value)?,
-            Key::KnownFutureLibrary => self.known_future_library = entries(alloc, key, value)?,
-            Key::KnownLocalFolder => self.known_local_folder = entries(alloc, key, value)?,
-            Key::KnownStandardLibrary => self.known_standard_library = entries(alloc, key, value)?,
-            Key::KnownThirdParty => self.known_third_party = entries(alloc, key, value)?,
-            Key::LineLength => self.line_length = count_in(key, value, 1, 10_000)?,
-            Key::LinesAfterImports => self.lines_after_imports = whole_in(key, value, -1, 100)?,
-            Key::LinesBetweenSections => self.lines_between_sections = count_in(
-                key, value, 0, 100,
-            )?,
-            Key::LinesBetweenTypes => self.lines_between_types = count_in(key, value, 0, 100)?,
-            Key::MultiLineOutput => self.multi_line_output = mode(key, value)?,
-            Key::OrderByType => self.order_by_type = boolean(key, value)?,
-            Key::UseParentheses => self.use_parentheses = boolean(key, value)?,
-            Key::Tool | Key::ToolIsort | Key::Profile => {}
+            Key::CaseSensitive => put(&mut self.case_sensitive, read.flag()),
+            Key::CombineAsImports => put(&mut self.combine_as_imports, read.flag()),
+            Key::DefaultSection => put(&mut self.default_section, read.section()),
+            Key::EnsureNewlineBeforeComments => put(
+                &mut self.ensure_newline_before_comments,
+                read.flag(),
+            ),
+            Key::ExtraStandardLibrary => put(&mut self.extra_standard_library, read.texts(alloc)),
+            Key::ForceGridWrap => put(&mut self.force_grid_wrap, read.count(GRID_WRAP)),
+            Key::ForceSingleLine => put(&mut self.force_single_line, read.flag()),
+            Key::ForceSortWithinSections => put(&mut self.force_sort_within_sections, read.flag()),
+            Key::IncludeTrailingComma => put(&mut self.include_trailing_comma, read.flag()),
+            Key::KnownFirstParty => put(&mut self.known_first_party, read.texts(alloc)),
+            Key::KnownFutureLibrary => put(&mut self.known_future_library, read.texts(alloc)),
+            Key::KnownLocalFolder => put(&mut self.known_local_folder, read.texts(alloc)),
+            Key::KnownStandardLibrary => put(&mut self.known_standard_library, read.texts(alloc)),
+            Key::KnownThirdParty => put(&mut self.known_third_party, read.texts(alloc)),
+            Key::LineLength => put(&mut self.line_length, read.count(LINE_LENGTH)),
+            Key::LinesAfterImports => put(&mut self.lines_after_imports, read.whole(END_GAP)),
+            Key::LinesBetweenSections => put(
+                &mut self.lines_between_sections,
+                read.count(SECTION_GAP),
+            ),
+            Key::LinesBetweenTypes => put(&mut self.lines_between_types, read.count(TYPE_GAP)),
+            Key::MultiLineOutput => put(&mut self.multi_line_output, read.mode()),
+            Key::OrderByType => put(&mut self.order_by_type, read.flag()),
+            Key::UseParentheses => put(&mut self.use_parentheses, read.flag()),
+            Key::Tool | Key::ToolIsort | Key::Profile => Ok(()),
         }
-        Ok(())
     }
 
     /// Changes the line length, or refuses one outside 1 to 10000.
@@ -203,7 +230,7 @@ impl Settings {
         ensures refused { IfErr result (λ e. e ≡ SettingsError.BadValue Key.LineLength) }
         ensures unchanged { OnErr result (values self.new ≡ values self.old) }
     {
-        if n < 1 || n > 10_000 {
+        if !LINE_LENGTH.contain(n) {
             return Err(SettingsError::BadValue(Key::LineLength));
         }
         self.line_length = n;
@@ -217,7 +244,7 @@ impl Settings {
         ensures refused { IfErr result (λ e. e ≡ SettingsError.UnsupportedMode) }
         ensures unchanged { OnErr result (values self.new ≡ values self.old) }
     {
-        if n > 3 {
+        if !MODES.contain(n) {
             return Err(SettingsError::UnsupportedMode);
         }
         self.multi_line_output = n;
@@ -308,5 +335,15 @@ impl Settings {
 fn is_relative(name: &[u8]) -> bool
     ensures { result ≡ (slice_index name.now 0 == byte ".") }
 {
-    !name.is_empty() && name[0] == b'.'
+    name.first() == Some(&b'.')
+}
+
+/// Puts what was read in place of the old value, which stays where the reading was refused.
+fn put<T: Drop>(place: &mut T, read: Result<T, SettingsError>) -> Result<(), SettingsError>
+    ensures { MatchResult read
+        (λ new. (result ≡ Ok tt) × (place.new ≡ new))
+        (λ e. (result ≡ Err e) × (place.new ≡ place.old)) }
+{
+    *place = read?;
+    Ok(())
 }

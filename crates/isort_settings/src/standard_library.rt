@@ -1,7 +1,7 @@
 //! The modules that count as the standard library where no setting says otherwise.
 
 ghost use Rattle.std.specs.Prelude.{◌≡◌, IfOk, map, string_bytes};
-ghost use Rattle.isort_settings.specs.Keys.{standard_library};
+ghost use Rattle.isort_settings.specs.StandardLibrary.{standard_library};
 
 use crate::text_list;
 use std::alloc::{AllocError, Global};

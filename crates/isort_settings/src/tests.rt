@@ -2,81 +2,97 @@ use crate::{Profile, Section, SettingKey, Settings, SettingsError, laws};
 use std::cmp::Ordering::{Equal, Greater, Less};
 use std::test::Fail;
 
-/// The settings and the unknown keys of the lines under `[tool.isort]`.
-fn under_table(
-    rt: &HostRuntime,
-    lines: &str,
-    profile: Option<Profile>,
-) -> Result<(Settings, Vec<String>), SettingsError> {
-    let text = format!(in rt.alloc(); "[tool.isort]\n{lines}\n")?;
-    Settings::from_pyproject(rt.alloc(), text.as_bytes(), profile)
+/// How the text is refused, if it is.
+fn refusal(rt: &HostRuntime, text: &str) -> Option<SettingsError> {
+    Settings::from_pyproject(rt.alloc(), text.as_bytes(), None).err()
+}
+
+/// The section of the module under the settings of the text.
+fn section(rt: &HostRuntime, text: &str, module: &str) -> Result<Section, SettingsError> {
+    let (settings, _) = Settings::from_pyproject(rt.alloc(), text.as_bytes(), None)?;
+    Ok(settings.section_of(module))
+}
+
+/// Whether each name comes after the one before it.
+fn ascend(settings: &Settings, names: &[&str]) -> bool {
+    names.iter().zip(names.iter().skip(1)).all(|(a, b)| settings.order_names(a, b) == Less
+        && settings.order_names(b, a) == Greater)
 }
 
 #[test]
 fn refusals_by_key(rt: HostRuntime) {
     let cases = [
         (
-            "line_length = \"x\"",
+            "[tool.isort]\nline_length = \"x\"",
             SettingsError::BadValue(SettingKey::LineLength),
         ),
         (
-            "line_length = 0",
+            "[tool.isort]\nline_length = 0",
             SettingsError::BadValue(SettingKey::LineLength),
         ),
         (
-            "line_length = 10001",
+            "[tool.isort]\nline_length = 10001",
             SettingsError::BadValue(SettingKey::LineLength),
         ),
         (
-            "line_length = 0\ncombine_as_imports = 3",
+            "[tool.isort]\nline_length = 0\ncombine_as_imports = 3",
             SettingsError::BadValue(SettingKey::CombineAsImports),
         ),
         (
-            "case_sensitive = 1\nprofile = \"google\"",
+            "[tool.isort]\ncase_sensitive = 1\nprofile = \"google\"",
             SettingsError::UnknownProfile,
         ),
-        ("profile = \"google\"", SettingsError::UnknownProfile),
-        ("profile = 1", SettingsError::BadValue(SettingKey::Profile)),
-        ("multi_line_output = 7", SettingsError::UnsupportedMode),
-        ("multi_line_output = -1", SettingsError::UnsupportedMode),
         (
-            "multi_line_output = \"3\"",
+            "[tool.isort]\nprofile = \"google\"",
+            SettingsError::UnknownProfile,
+        ),
+        (
+            "[tool.isort]\nprofile = 1",
+            SettingsError::BadValue(SettingKey::Profile),
+        ),
+        (
+            "[tool.isort]\nmulti_line_output = 7",
+            SettingsError::UnsupportedMode,
+        ),
+        (
+            "[tool.isort]\nmulti_line_output = -1",
+            SettingsError::UnsupportedMode,
+        ),
+        (
+            "[tool.isort]\nmulti_line_output = \"3\"",
             SettingsError::BadValue(SettingKey::MultiLineOutput),
         ),
         (
-            "known_first_party = [\"a*\"]",
+            "[tool.isort]\nknown_first_party = [\"a*\"]",
             SettingsError::BadValue(SettingKey::KnownFirstParty),
         ),
         (
-            "known_third_party = [\"a\", \"b?\"]",
+            "[tool.isort]\nknown_third_party = [\"a\", \"b?\"]",
             SettingsError::BadValue(SettingKey::KnownThirdParty),
         ),
         (
-            "known_third_party = \"a,b\"",
+            "[tool.isort]\nknown_third_party = \"a,b\"",
             SettingsError::BadValue(SettingKey::KnownThirdParty),
         ),
         (
-            "default_section = \"future\"",
+            "[tool.isort]\ndefault_section = \"future\"",
             SettingsError::BadValue(SettingKey::DefaultSection),
         ),
         (
-            "lines_after_imports = -2",
+            "[tool.isort]\nlines_after_imports = -2",
             SettingsError::BadValue(SettingKey::LinesAfterImports),
         ),
         (
-            "lines_between_types = 101",
+            "[tool.isort]\nlines_between_types = 101",
             SettingsError::BadValue(SettingKey::LinesBetweenTypes),
         ),
         (
-            "force_grid_wrap = 1.0",
+            "[tool.isort]\nforce_grid_wrap = 1.0",
             SettingsError::BadValue(SettingKey::ForceGridWrap),
         ),
     ];
-    for (lines, want) in cases {
-        assert!(rt;
-            under_table(&rt, lines, None).err() == Some(want),
-            "{lines}"
-        );
+    for (text, want) in cases {
+        assert!(rt; refusal(&rt, text) == Some(want), "{want:?}");
     }
 }
 
@@ -96,56 +112,66 @@ fn refusals_of_the_text(rt: HostRuntime) {
         ),
     ];
     for (text, want) in cases {
-        assert!(rt;
-            Settings::from_pyproject(rt.alloc(), text, Some(Profile::Black)).err() == Some(want),
-            "{want:?}"
-        );
+        let given = Settings::from_pyproject(rt.alloc(), text, Some(Profile::Black));
+        assert!(rt; given.err() == Some(want), "{want:?}");
     }
 }
 
 #[test]
-fn settings_of_tables(rt: HostRuntime) -> Result<(), Fail> {
-    let alloc = rt.alloc();
-    let plain = Settings::plain(alloc)?;
-    let black = Settings::black(alloc)?;
-    assert!(rt; plain != black);
-    let numbers = (
-        plain.line_length,
-        plain.multi_line_output,
-        plain.lines_after_imports,
-    );
-    assert!(rt; numbers == (79, 0, -1));
-    assert!(rt;
-        (
-            black.line_length,
-            black.multi_line_output,
-            black.force_grid_wrap
-        ) == (88, 3, 0)
-    );
+fn defaults(rt: HostRuntime) -> Result<(), Fail> {
+    let plain = Settings::plain(rt.alloc())?;
+    assert!(rt; (plain.line_length, plain.multi_line_output) == (79, 0));
+    assert!(rt; plain.lines_after_imports == -1);
     assert!(rt; plain.known_standard_library.len() == 160);
+    Ok(())
+}
 
-    assert!(rt;
-        Settings::from_pyproject(alloc, b"", None)? == (Settings::plain(alloc)?, Vec::new(alloc))
-    );
-    assert!(rt; Settings::from_pyproject(alloc, b"[tool]\n", Some(Profile::Black))?.0 == black);
-    assert!(rt; under_table(&rt, "profile = \"google\"", Some(Profile::Black))?.0 == black);
+#[test]
+fn black(rt: HostRuntime) -> Result<(), Fail> {
+    let black = Settings::black(rt.alloc())?;
+    assert!(rt; (black.line_length, black.multi_line_output) == (88, 3));
+    assert!(rt; black.force_grid_wrap == 0);
+    Ok(())
+}
 
-    let (settings, unknown) = under_table(
-        &rt,
-        "colour = 1\nFirst = 1\n[tool.isort.sub]\nline_length = 0",
-        None,
-    )?;
-    assert!(rt; settings == plain);
+#[test]
+fn empty_text(rt: HostRuntime) -> Result<(), Fail> {
+    let (settings, unknown) = Settings::from_pyproject(rt.alloc(), b"", None)?;
+    assert!(rt; settings == Settings::plain(rt.alloc())?);
+    assert!(rt; unknown.is_empty());
+    Ok(())
+}
+
+#[test]
+fn profile_handed_in(rt: HostRuntime) -> Result<(), Fail> {
+    let cases: [&[u8]; 2] = [b"[tool]\n", b"[tool.isort]\nprofile = \"google\""];
+    for text in cases {
+        let (settings, _) = Settings::from_pyproject(rt.alloc(), text, Some(Profile::Black))?;
+        assert!(rt; settings == Settings::black(rt.alloc())?);
+    }
+    Ok(())
+}
+
+#[test]
+fn key_beside_profile(rt: HostRuntime) -> Result<(), Fail> {
+    let text = b"[tool.isort]\nline_length = 100\nprofile = \"black\"";
+    let (settings, unknown) = Settings::from_pyproject(rt.alloc(), text, None)?;
+    let mut wide = Settings::black(rt.alloc())?;
+    wide.set_line_length(100)?;
+    assert!(rt; settings == wide);
+    assert!(rt; unknown.is_empty());
+    Ok(())
+}
+
+#[test]
+fn unknown_keys(rt: HostRuntime) -> Result<(), Fail> {
+    let text = b"[tool.isort]\ncolour = 1\nFirst = 1\n[tool.isort.sub]\nline_length = 0";
+    let (settings, unknown) = Settings::from_pyproject(rt.alloc(), text, None)?;
+    assert!(rt; settings.line_length == 79);
     assert!(rt; unknown.len() == 3);
     for (name, want) in unknown.iter().zip(["First", "colour", "sub"]) {
         assert!(rt; name.as_str() == want, "{want}");
     }
-
-    let (settings, unknown) = under_table(&rt, "line_length = 100\nprofile = \"black\"", None)?;
-    let mut wide = Settings::black(alloc)?;
-    wide.set_line_length(100)?;
-    assert!(rt; settings == wide);
-    assert!(rt; unknown.is_empty());
     Ok(())
 }
 
@@ -170,96 +196,92 @@ fn setters(rt: HostRuntime) -> Result<(), Fail> {
 }
 
 #[test]
-fn sections(rt: HostRuntime) -> Result<(), Fail> {
+fn sections_by_default(rt: HostRuntime) -> Result<(), Fail> {
+    let settings = Settings::plain(rt.alloc())?;
     let cases = [
-        ("", "os.path", Section::Stdlib),
-        ("", "requests", Section::ThirdParty),
-        ("", "..a", Section::LocalFolder),
-        ("", ".", Section::LocalFolder),
-        ("", "__future__", Section::Future),
-        (
-            "known_third_party = [\"os\"]",
-            "os.path",
-            Section::ThirdParty,
-        ),
-        (
-            "known_first_party = [\"a\"]\nknown_third_party = [\"a.b\"]",
-            "a.b.c",
-            Section::ThirdParty,
-        ),
-        (
-            "known_first_party = [\"a\"]\nknown_third_party = [\"a.b\"]",
-            "a.c",
-            Section::FirstParty,
-        ),
-        (
-            "known_first_party = [\"a\"]\nknown_third_party = [\"a\"]",
-            "a",
-            Section::FirstParty,
-        ),
-        (
-            "extra_standard_library = [\"six\"]",
-            "six.moves",
-            Section::Stdlib,
-        ),
-        ("known_standard_library = []", "os", Section::ThirdParty),
-        (
-            "default_section = \"FIRSTPARTY\"",
-            "requests",
-            Section::FirstParty,
-        ),
-        ("known_first_party = [\"a\"]", "ab", Section::ThirdParty),
+        ("os.path", Section::Stdlib),
+        ("requests", Section::ThirdParty),
+        ("..a", Section::LocalFolder),
+        (".", Section::LocalFolder),
+        ("__future__", Section::Future),
     ];
-    for (lines, module, want) in cases {
-        let (settings, _) = under_table(&rt, lines, None)?;
-        assert!(rt;
-            settings.section_of(module) == want,
-            "{module} with {lines}"
-        );
+    for (module, want) in cases {
+        assert!(rt; settings.section_of(module) == want, "{module}");
     }
     Ok(())
 }
 
 #[test]
-fn orders_of_names(rt: HostRuntime) -> Result<(), Fail> {
+fn sections_by_lists(rt: HostRuntime) -> Result<(), Fail> {
     let cases = [
-        ("", "CONST", "A", Less),
-        ("", "A", "Klass", Less),
-        ("", "Klass", "b9", Less),
-        ("", "b9", "b10", Less),
-        ("", "b10", "func", Less),
-        ("order_by_type = false", "A", "b9", Less),
-        ("order_by_type = false", "b10", "CONST", Less),
-        ("order_by_type = false", "CONST", "func", Less),
-        ("order_by_type = false", "func", "Klass", Less),
-        ("", "a01", "a1", Less),
-        ("", "a1", "a1", Equal),
-        ("", "a", "a1", Less),
-        ("", "a1", "ab", Less),
         (
-            "",
-            "a99999999999999999999999",
-            "a100000000000000000000000",
-            Less,
+            "[tool.isort]\nknown_third_party = [\"os\"]",
+            "os.path",
+            Section::ThirdParty,
         ),
-        ("order_by_type = false", "A", "a", Less),
-        ("order_by_type = false", "a", "A0", Less),
-        ("order_by_type = false", "B", "a", Greater),
         (
-            "order_by_type = false\ncase_sensitive = true",
-            "B",
+            "[tool.isort]\nknown_first_party = [\"a\"]\nknown_third_party = [\"a\"]",
             "a",
-            Less,
+            Section::FirstParty,
+        ),
+        (
+            "[tool.isort]\nextra_standard_library = [\"six\"]",
+            "six.moves",
+            Section::Stdlib,
+        ),
+        (
+            "[tool.isort]\nknown_standard_library = []",
+            "os",
+            Section::ThirdParty,
+        ),
+        (
+            "[tool.isort]\ndefault_section = \"FIRSTPARTY\"",
+            "requests",
+            Section::FirstParty,
+        ),
+        (
+            "[tool.isort]\nknown_first_party = [\"a\"]",
+            "ab",
+            Section::ThirdParty,
         ),
     ];
-    for (lines, a, b, want) in cases {
-        let (settings, _) = under_table(&rt, lines, None)?;
-        assert!(rt; settings.order_names(a, b) == want, "{a}, {b} with {lines}");
-        assert!(rt;
-            settings.order_names(b, a) == want.reverse(),
-            "{b}, {a} with {lines}"
-        );
+    for (text, module, want) in cases {
+        assert!(rt; section(&rt, text, module)? == want, "{module}");
     }
+    Ok(())
+}
+
+#[test]
+fn longest_prefix(rt: HostRuntime) -> Result<(), Fail> {
+    let text = "[tool.isort]\nknown_first_party = [\"a\"]\nknown_third_party = [\"a.b\"]";
+    assert!(rt; section(&rt, text, "a.b.c")? == Section::ThirdParty);
+    assert!(rt; section(&rt, text, "a.c")? == Section::FirstParty);
+    Ok(())
+}
+
+#[test]
+fn orders_of_names(rt: HostRuntime) -> Result<(), Fail> {
+    let settings = Settings::plain(rt.alloc())?;
+    assert!(rt; ascend(&settings, &["CONST", "A", "Klass", "b9", "b10", "func"]));
+    assert!(rt; ascend(&settings, &["a", "a01", "a1", "ab"]));
+    assert!(rt;
+        ascend(
+            &settings,
+            &["a99999999999999999999999", "a100000000000000000000000"]
+        )
+    );
+    assert!(rt; settings.order_names("a1", "a1") == Equal);
+    Ok(())
+}
+
+#[test]
+fn orders_without_classes(rt: HostRuntime) -> Result<(), Fail> {
+    let mut settings = Settings::plain(rt.alloc())?;
+    settings.order_by_type = false;
+    assert!(rt; ascend(&settings, &["A", "b9", "b10", "CONST", "func", "Klass"]));
+    assert!(rt; ascend(&settings, &["A", "a", "A0", "B"]));
+    settings.case_sensitive = true;
+    assert!(rt; ascend(&settings, &["B", "a"]));
     Ok(())
 }
 
@@ -289,6 +311,7 @@ fn names(rt: HostRuntime) {
     assert!(rt; SettingKey::LineLength.name() == "line_length");
     assert!(rt; SettingKey::Tool.name() == "tool");
     assert!(rt; SettingKey::ToolIsort.name() == "tool.isort");
+    assert!(rt; laws::sections_are_in_order(Section::Future, Section::Stdlib) == Less);
     laws::every_key_has_its_place(SettingKey::Profile);
     laws::keys_are_in_byte_order();
 }

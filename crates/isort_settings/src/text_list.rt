@@ -26,10 +26,5 @@ fn is_text(entry: &String, text: &[u8]) -> bool
 pub fn holds(list: &[String], text: &[u8]) -> bool
     ensures { result ≡ holds (map string_bytes list.now) text.now }
 {
-    for entry in list {
-        if is_text(entry, text) {
-            return true;
-        }
-    }
-    false
+    list.iter().any(|entry| is_text(entry, text))
 }

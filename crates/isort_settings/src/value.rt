@@ -3,60 +3,20 @@ ghost use Rattle.std.specs.Prelude.{◌≡◌, ◌≢◌, IfOk, IfErr, Ok, Err, 
 ghost use Rattle.std.specs.List.{list_any};
 ghost use Rattle.toml.specs.View.{view};
 ghost use Rattle.isort_settings.specs.Keys.{count, whole, wrap_mode, flag, section, texts};
-ghost use Rattle.isort_settings.specs.Reading.{is_wildcard, entry_of, read_value};
+ghost use Rattle.isort_settings.specs.Reading.{is_wildcard, entry_of, count_within, read_value};
 
 use crate::error::SettingsError;
 use crate::key::SettingKey;
+use crate::limits::{Limits, MODES};
 use crate::section::Section;
 use std::alloc::Global;
 use toml::Value;
 
-/// A whole number from `low` to `high`.
-pub fn count_in(key: SettingKey, value: &Value, low: u32, high: u32) -> Result<u32, SettingsError>
-    ensures { result ≡ read_value (count low high) key (view value.now) }
+/// The whole number, if it is within the limits.
+fn within(n: i64, limits: Limits<u32>) -> Option<u32>
+    ensures { result ≡ count_within limits.least limits.most n }
 {
-    match value.as_integer() {
-        Some(n) if i64::from(low) <= n && n <= i64::from(high) => Ok(n as u32),
-        _ => Err(SettingsError::BadValue(key)),
-    }
-}
-
-/// A whole number of either sign from `low` to `high`.
-pub fn whole_in(key: SettingKey, value: &Value, low: i32, high: i32) -> Result<i32, SettingsError>
-    ensures { result ≡ read_value (whole low high) key (view value.now) }
-{
-    match value.as_integer() {
-        Some(n) if i64::from(low) <= n && n <= i64::from(high) => Ok(n as i32),
-        _ => Err(SettingsError::BadValue(key)),
-    }
-}
-
-/// A wrap mode.
-pub fn mode(key: SettingKey, value: &Value) -> Result<u32, SettingsError>
-    ensures { result ≡ read_value wrap_mode key (view value.now) }
-{
-    match value.as_integer() {
-        Some(n @ 0..=3) => Ok(n as u32),
-        Some(_) => Err(SettingsError::UnsupportedMode),
-        None => Err(SettingsError::BadValue(key)),
-    }
-}
-
-/// `true` or `false`.
-pub fn boolean(key: SettingKey, value: &Value) -> Result<bool, SettingsError>
-    ensures { result ≡ read_value flag key (view value.now) }
-{
-    value.as_bool().ok_or(SettingsError::BadValue(key))
-}
-
-/// A section by its name.
-pub fn section(key: SettingKey, value: &Value) -> Result<Section, SettingsError>
-    ensures { result ≡ read_value section key (view value.now) }
-{
-    match value.as_str() {
-        Some(text) => Section::spelled(text).ok_or(SettingsError::BadValue(key)),
-        None => Err(SettingsError::BadValue(key)),
-    }
+    u32::try_from(n).ok().filter(|n| limits.contain(*n))
 }
 
 /// Whether a text holds `*` or `?`.
@@ -70,26 +30,85 @@ fn has_wildcard(text: &str) -> bool
 fn entry(value: &Value) -> Option<&str>
     ensures { option_copied result ≡ entry_of (view value.now) }
 {
-    match value.as_str() {
-        Some(text) if !has_wildcard(text) => Some(text),
-        _ => None,
-    }
+    value.as_str().filter(|text| !has_wildcard(text))
 }
 
-/// A list of texts.
-pub fn entries(alloc: Global, key: SettingKey, value: &Value) -> Result<Vec<String>, SettingsError>
-    ensures ok { IfOk result (λ v. read_value texts key (view value.now) ≡ Ok (map string_bytes v.items)) }
-    ensures err { IfErr result (λ e. e ≢ SettingsError.Memory → read_value texts key (view value.now) ≡ Err e) }
-{
-    let Some(items) = value.as_array() else {
-        return Err(SettingsError::BadValue(key));
-    };
-    let mut list = Vec::new(alloc);
-    for item in items {
-        let Some(text) = entry(item) else {
-            return Err(SettingsError::BadValue(key));
-        };
-        list.push(String::from_str(alloc, text)?)?;
+/// A key's value in the table.
+#[derive(Clone, Copy)]
+pub struct KeyValue<'t> {
+    pub key: SettingKey,
+    pub value: &'t Value,
+}
+
+impl KeyValue<'_> {
+    /// A whole number within the limits.
+    pub fn count(self, limits: Limits<u32>) -> Result<u32, SettingsError>
+        ensures { result
+            ≡ read_value (count limits.least limits.most) self.entry.key (view self.entry.value.now) }
+    {
+        self.value
+            .as_integer()
+            .and_then(|n| within(n, limits))
+            .ok_or(SettingsError::BadValue(self.key))
     }
-    Ok(list)
+
+    /// A whole number of either sign within the limits.
+    pub fn whole(self, limits: Limits<i32>) -> Result<i32, SettingsError>
+        ensures { result
+            ≡ read_value (whole limits.least limits.most) self.entry.key (view self.entry.value.now) }
+    {
+        match self.value.as_integer().map(i32::try_from) {
+            Some(Ok(n)) if limits.contain_signed(n) => Ok(n),
+            _ => Err(SettingsError::BadValue(self.key)),
+        }
+    }
+
+    /// A wrap mode.
+    pub fn mode(self) -> Result<u32, SettingsError>
+        ensures { result ≡ read_value wrap_mode self.entry.key (view self.entry.value.now) }
+    {
+        match self.value.as_integer() {
+            Some(n) => within(n, MODES).ok_or(SettingsError::UnsupportedMode),
+            None => Err(SettingsError::BadValue(self.key)),
+        }
+    }
+
+    /// `true` or `false`.
+    pub fn flag(self) -> Result<bool, SettingsError>
+        ensures { result ≡ read_value flag self.entry.key (view self.entry.value.now) }
+    {
+        self.value
+            .as_bool()
+            .ok_or(SettingsError::BadValue(self.key))
+    }
+
+    /// A section by its name.
+    pub fn section(self) -> Result<Section, SettingsError>
+        ensures { result ≡ read_value section self.entry.key (view self.entry.value.now) }
+    {
+        self.value
+            .as_str()
+            .and_then(Section::spelled)
+            .ok_or(SettingsError::BadValue(self.key))
+    }
+
+    /// A list of texts.
+    pub fn texts(self, alloc: Global) -> Result<Vec<String>, SettingsError>
+        ensures ok { IfOk result (λ v. read_value texts self.entry.key (view self.entry.value.now)
+            ≡ Ok (map string_bytes v.items)) }
+        ensures err { IfErr result (λ e. e ≢ SettingsError.Memory
+            → read_value texts self.entry.key (view self.entry.value.now) ≡ Err e) }
+    {
+        let Some(items) = self.value.as_array() else {
+            return Err(SettingsError::BadValue(self.key));
+        };
+        let mut list = Vec::new(alloc);
+        for item in items {
+            let Some(text) = entry(item) else {
+                return Err(SettingsError::BadValue(self.key));
+            };
+            list.push(String::from_str(alloc, text)?)?;
+        }
+        Ok(list)
+    }
 }

@@ -4,7 +4,7 @@ use Rattle.std.proofs.lemmas.Bool.{ne_eqb}
 use Rattle.std.proofs.lemmas.List.{take-append-drop, take_all, drop_more}
 use Rattle.std.specs.Cmp.Lexicographic.{pointwise, same_text}
 use Rattle.std.specs.List.{list_any}
-use Rattle.py_imports.specs.Action.{spelling_of, begins_with_phrase, begins_with_action, tails}
+use Rattle.py_imports.specs.Action.{action_word, begins_with_phrase, begins_with_action, tails}
 use Rattle.py_imports.specs.declared.action.Action.{Action}
 use Rattle.py_imports.specs.declared.action.Action.TheVariants as action
 
@@ -12,12 +12,12 @@ use Rattle.py_imports.specs.declared.action.Action.TheVariants as action
 front_and_rest : (front text rest : List ℕ) → pointwise nat_eq (take (length front) text) front ≡ true → rest ≡ drop (length front) text → text ≡ front ++ rest
 front_and_rest front text rest e r = sym (take-append-drop (length front) text) ∙ ap (λ x. x ++ drop (length front) text) (same_text (take (length front) text) front (sym e)) ∙ ap (λ x. front ++ x) (sym r)
 
--- behind `isort:` stand the action, or a space and the action
-behind_name : (a : Action) (rest : List ℕ) → begins_with_action a (codes "isort:" ++ rest) ≡ begins_with_phrase (spelling_of a) rest || begins_with_phrase (32 ∷ spelling_of a) rest
+-- after `isort:` stand the action, or a space and the action
+behind_name : (a : Action) (rest : List ℕ) → begins_with_action a (codes "isort:" ++ rest) ≡ begins_with_phrase (action_word a) rest || begins_with_phrase (32 ∷ action_word a) rest
 behind_name a rest = refl
 
 -- no action begins with a space
-spaced : (a : Action) (word : List ℕ) → begins_with_phrase (spelling_of a) word ≡ begins_with_phrase (spelling_of a) (32 ∷ word) || begins_with_phrase (32 ∷ spelling_of a) (32 ∷ word)
+spaced : (a : Action) (word : List ℕ) → begins_with_phrase (action_word a) word ≡ begins_with_phrase (action_word a) (32 ∷ word) || begins_with_phrase (32 ∷ action_word a) (32 ∷ word)
 spaced action.SkipFile word = refl
 spaced action.Skip word = refl
 spaced action.Off word = refl
@@ -36,14 +36,14 @@ no_action true = refl
 no_action false = refl
 
 -- `isort:` and a space were passed
-pub action_behind_space : (a : Action) (text rest word : List ℕ) → pointwise nat_eq (take 6 text) (codes "isort:") ≡ true → rest ≡ drop 6 text → pointwise nat_eq (take 1 rest) (32 ∷ []) ≡ true → word ≡ drop 1 rest → begins_with_phrase (spelling_of a) word ≡ begins_with_action a text
+pub action_behind_space : (a : Action) (text rest word : List ℕ) → pointwise nat_eq (take 6 text) (codes "isort:") ≡ true → rest ≡ drop 6 text → pointwise nat_eq (take 1 rest) (32 ∷ []) ≡ true → word ≡ drop 1 rest → begins_with_phrase (action_word a) word ≡ begins_with_action a text
 action_behind_space a text rest word e r f w =
     spaced a word ∙ sym (behind_name a (32 ∷ word)) ∙ ap (λ x. begins_with_action a (codes "isort:" ++ x)) (sym (front_and_rest (32 ∷ []) rest word f w)) ∙ ap (begins_with_action a) (sym (front_and_rest (codes "isort:") text rest e r))
 
 -- `isort:` was passed, and no space follows
-pub action_behind_name : (a : Action) (text rest : List ℕ) → pointwise nat_eq (take 6 text) (codes "isort:") ≡ true → rest ≡ drop 6 text → pointwise nat_eq (take 1 rest) (32 ∷ []) ≡ false → begins_with_phrase (spelling_of a) rest ≡ begins_with_action a text
+pub action_behind_name : (a : Action) (text rest : List ℕ) → pointwise nat_eq (take 6 text) (codes "isort:") ≡ true → rest ≡ drop 6 text → pointwise nat_eq (take 1 rest) (32 ∷ []) ≡ false → begins_with_phrase (action_word a) rest ≡ begins_with_action a text
 action_behind_name a text rest e r f =
-    no_action (begins_with_phrase (spelling_of a) rest) ∙ ap (λ b. begins_with_phrase (spelling_of a) rest || b) (sym (no_space (spelling_of a) rest f)) ∙ sym (behind_name a rest) ∙ ap (begins_with_action a) (sym (front_and_rest (codes "isort:") text rest e r))
+    no_action (begins_with_phrase (action_word a) rest) ∙ ap (λ b. begins_with_phrase (action_word a) rest || b) (sym (no_space (action_word a) rest f)) ∙ sym (behind_name a rest) ∙ ap (begins_with_action a) (sym (front_and_rest (codes "isort:") text rest e r))
 
 -- what a text holds from one place on
 from_place : (text : List ℕ) (i : ℕ) → take (length text - i) (drop i text) ≡ drop i text

@@ -1,22 +1,26 @@
 -- What the program has bound of a logical line so far.
 use Rattle.std.proofs.Common.{◌≡◌, ℕ, ◌+◌, ◌<◌, Bool, true, false, ◌==◌, ◌&&◌, List, [], ◌∷◌, ◌++◌, length, map, filter, drop, get_or, refl, sym, ap, ◌∙◌, subst, append_assoc, add-one, drop-cons}
 use Rattle.std.proofs.lemmas.Option.{slice_get-get_or}
-use Rattle.std.proofs.lemmas.List.{append-nil}
+use Rattle.std.proofs.lemmas.List.{append-nil, map-append}
 use Rattle.py_lines.specs.LogicalLine.{LogicalLine}
 use Rattle.py_lines.specs.declared.token.Token.{Token}
-use Rattle.py_imports.specs.Statement.{is_comment, significant, is_divider, depth_after, depth_behind, ends_in_divider, may_start_behind, Place, places_from, starts}
-use Rattle.py_imports.specs.Bound.{Bound, bound_of}
+use Rattle.py_imports.specs.Statement.{is_comment, significant, is_divider, depth_past, depth_behind, ends_in_divider, may_start_behind, Place, places_from, starts}
+use Rattle.py_imports.specs.Bound.{Bound, bound_at, bound_of}
+use Rattle.py_imports.specs.Grammar.{Imported}
 use Rattle.py_imports.specs.Binds.{BindsAt, BindEach, Refuses}
-use Rattle.py_imports.specs.Parser.{BindsMore, RefusesAt, IsPlaceAt}
+use Rattle.py_imports.specs.Reading.Items.{StartWith}
+use Rattle.py_imports.specs.Reading.Bindings.{BindsMore, RefusesAt, IsPlaceAt}
 use Rattle.py_imports.specs.declared.binding.Binding.{Binding}
+use Rattle.py_imports.specs.declared.bindings.Head.{Head}
 use Rattle.py_imports.specs.declared.error.ImportError.{ImportError}
 use Rattle.py_imports.specs.declared.error.ImportError.TheVariants as error
+use Rattle.py_imports.proofs.ReaderLemmas.{AreRead, one_more_read}
 use Rattle.py_imports.proofs.TokenLemmas.{depth_behind-snoc, significant-cons}
 
 ends_in_divider-snoc : (depth : ℕ) (ts : List Token) (t : Token) → ends_in_divider depth (ts ++ t ∷ []) ≡ is_divider t.kind && (depth_behind depth ts == 0)
 ends_in_divider-snoc depth [] t = refl
 ends_in_divider-snoc depth (u ∷ []) t = refl
-ends_in_divider-snoc depth (u ∷ v ∷ ts) t = ends_in_divider-snoc (depth_after depth u.kind) (v ∷ ts) t
+ends_in_divider-snoc depth (u ∷ v ∷ ts) t = ends_in_divider-snoc (depth_past depth u.kind) (v ∷ ts) t
 
 may_start_behind-snoc : (ts : List Token) (t : Token) → may_start_behind (ts ++ t ∷ []) ≡ is_divider t.kind && (depth_behind 0 ts == 0)
 may_start_behind-snoc [] t = refl
@@ -63,8 +67,8 @@ starts_here p ps e = rw e
 starts_later : (p : Place) (ps : List Place) → may_start_behind p.before ≡ false → starts_among (p ∷ ps) ≡ starts_among ps
 starts_later p ps e = rw e
 
-level_behind : (before : List Token) (depth : ℕ) (t : Token) → depth ≡ depth_behind 0 before → depth_after depth t.kind ≡ depth_behind 0 (before ++ t ∷ [])
-level_behind before depth t e = ap (λ d. depth_after d t.kind) e ∙ sym (depth_behind-snoc 0 before t)
+level_behind : (before : List Token) (depth : ℕ) (t : Token) → depth ≡ depth_behind 0 before → depth_past depth t.kind ≡ depth_behind 0 (before ++ t ∷ [])
+level_behind before depth t e = ap (λ d. depth_past d t.kind) e ∙ sym (depth_behind-snoc 0 before t)
 
 start_behind : (before : List Token) (depth : ℕ) (t : Token) → depth ≡ depth_behind 0 before → is_divider t.kind && (depth == 0) ≡ may_start_behind (before ++ t ∷ [])
 start_behind before depth t e = ap (λ d. is_divider t.kind && (d == 0)) e ∙ sym (may_start_behind-snoc before t)
@@ -74,7 +78,7 @@ split_at : (line : LogicalLine) (i depth : ℕ) (here : Bool) (bindings : List B
 split_at line i depth here bindings t s within code = s.split ∙ ap (λ x. s.done ++ starts_among (places_from s.before x)) (from_significant line.tokens i t within code)
 
 -- a token is passed at which no statement starts
-pub passes_token : (line : LogicalLine) (i depth : ℕ) (bindings : List Binding) (t : Token) → BindsSoFar line i depth false bindings → i < length line.tokens → is_comment (get_or line.tokens i t).kind ≡ false → BindsSoFar line (i + 1) (depth_after depth (get_or line.tokens i t).kind) (is_divider (get_or line.tokens i t).kind && (depth == 0)) bindings
+pub passes_token : (line : LogicalLine) (i depth : ℕ) (bindings : List Binding) (t : Token) → BindsSoFar line i depth false bindings → i < length line.tokens → is_comment (get_or line.tokens i t).kind ≡ false → BindsSoFar line (i + 1) (depth_past depth (get_or line.tokens i t).kind) (is_divider (get_or line.tokens i t).kind && (depth == 0)) bindings
 passes_token line i depth bindings t s within code =
     let u = get_or line.tokens i t in
     let rest = places_from (s.before ++ u ∷ []) (significant (drop (i + 1) line.tokens)) in
@@ -88,7 +92,7 @@ passes_token line i depth bindings t s within code =
     }
 
 -- a statement starts at a token, and was bound
-pub passes_start : (line : LogicalLine) (i depth : ℕ) (old new : List Binding) (t : Token) → BindsSoFar line i depth true old → i < length line.tokens → is_comment (get_or line.tokens i t).kind ≡ false → ((p : Place) → IsPlaceAt line.tokens i p → BindsMore line p old new) → BindsSoFar line (i + 1) (depth_after depth (get_or line.tokens i t).kind) (is_divider (get_or line.tokens i t).kind && (depth == 0)) new
+pub passes_start : (line : LogicalLine) (i depth : ℕ) (old new : List Binding) (t : Token) → BindsSoFar line i depth true old → i < length line.tokens → is_comment (get_or line.tokens i t).kind ≡ false → ((p : Place) → IsPlaceAt line.tokens i p → BindsMore line p old new) → BindsSoFar line (i + 1) (depth_past depth (get_or line.tokens i t).kind) (is_divider (get_or line.tokens i t).kind && (depth == 0)) new
 passes_start line i depth old new t s within code bound =
     let u = get_or line.tokens i t in
     let p = place_at line s.before i t in
@@ -124,3 +128,19 @@ same_so_far line i depth level here start old new s d h b = record {
   start = h ∙ s.start;
   binds = subst (λ bs. BindEach line s.done (map bound_of bs)) (sym b) s.binds;
 }
+
+-- the imports that were read so far were bound, and their bindings put after others
+pub record BoundSoFar (Before Now : List Imported → Type 0) (head : Head) (old new : List Binding) : Type 0 where
+  pub done : List Imported
+  pub read : AreRead Before Now done
+  pub adds : map bound_of new ≡ map bound_of old ++ map (bound_at head.line head.indented) done
+
+-- one binding more
+pub bound_one : (Before Now After : List Imported → Type 0) (head : Head) (old mid new : List Binding) (i : Imported) (b : Binding) → BoundSoFar Before Now head old mid → StartWith Now i After → new ≡ mid ++ b ∷ [] → bound_of b ≡ bound_at head.line head.indented i → BoundSoFar Before After head old new
+bound_one Before Now After head old mid new i b s first e f =
+    let at = bound_at head.line head.indented in
+    record {
+      done = s.done ++ i ∷ [];
+      read = one_more_read Before Now After s.done i s.read first;
+      adds = ap (map bound_of) e ∙ map-append bound_of mid (b ∷ []) ∙ ap (λ x. map bound_of mid ++ x ∷ []) f ∙ ap (λ x. x ++ at i ∷ []) s.adds ∙ append_assoc (map bound_of old) (map at s.done) (at i ∷ []) ∙ ap (λ x. map bound_of old ++ x) (sym (map-append at s.done (i ∷ [])));
+    }

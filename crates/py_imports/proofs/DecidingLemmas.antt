@@ -3,13 +3,14 @@ use Rattle.std.proofs.Common.{◌≡◌, ℕ, zero, suc, ◌+◌, ◌<◌, Bool,
 use Rattle.py_lines.specs.LogicalLine.{LogicalLine}
 use Rattle.py_lines.specs.declared.fault.FaultKind.TheVariants.{BadImport}
 use Rattle.py_imports.specs.Grammar.{Terminal, import_word, from_word, as_word, name, dot, comma, star, opening, closing, other, begins_import, spelling, Listed, modules, identifiers, Item, AreItems, AreBracketed, AreNames, plain_names, bracketed, all_names, whole_module, attribute_of, IsImport, import_statement, from_statement}
-use Rattle.py_imports.specs.Parsing.{Read, at_relative, ItemRead, at_item}
+use Rattle.py_imports.specs.Reading.Items.{begins_closing}
+use Rattle.py_imports.specs.Reading.Parsing.{Read, at_relative, ItemRead, at_item}
 use Rattle.py_imports.specs.Statement.{significant, Place, starts}
 use Rattle.py_imports.specs.Bound.{Bound}
 use Rattle.py_imports.specs.Binds.{terminals_at, bounds_at, BindsAt, nothing, imports, IsBadStart, BindEach, BindsOrIsBad}
 use Rattle.py_imports.proofs.ModuleLemmas.{at_relative-sound}
 use Rattle.py_imports.proofs.ItemLemmas.{items_last, bracketed_closed, bracketed_comma}
-use Rattle.py_imports.proofs.ListLemmas.{GoesOn, items_go_on, items_none, items_bad, begins_closing, bracketed_none, bracketed_goes_on, bracketed_bad, item_is_some, ends_alone, ends_alone-comma, begins_comma, neither_ends, comma_not_first}
+use Rattle.py_imports.proofs.ListLemmas.{ListGoesOn, items_go_on, items_none, items_bad, bracketed_none, bracketed_goes_on, bracketed_bad, item_is_some, ends_alone, ends_alone-comma, begins_comma, neither_ends, comma_not_first}
 use Rattle.py_imports.proofs.NamesLemmas.{star_bad, brackets_bad, begins_plain, plain_only}
 use Rattle.py_imports.proofs.StatementLemmas.{import_reads, import_bad, from_bad, from_none}
 
@@ -18,8 +19,8 @@ pub data SomeOrNone {A : Type 0} (Are : List A → Type 0) : Type 0 where
   some : (is : List A) → Are is → SomeOrNone Are
   none : ((is : List A) → ¬ (Are is)) → SomeOrNone Are
 
--- behind an item there is a list or none, so there is one or none with the item
-behind_item : (Are : List Terminal → List Item → Type 0) (now rest : List Terminal) (i : Item) → GoesOn Are now rest i → SomeOrNone (Are rest) → SomeOrNone (Are now)
+-- after an item there is a list or none, so there is one or none with the item
+behind_item : (Are : List Terminal → List Item → Type 0) (now rest : List Terminal) (i : Item) → ListGoesOn Are now rest i → SomeOrNone (Are rest) → SomeOrNone (Are now)
 behind_item Are now rest i g (some is a) = some (i ∷ is) (g.puts is a)
 behind_item Are now rest i g (none bad) = none (λ is a. let t = g.takes is a in bad t.0 t.2)
 
@@ -110,7 +111,7 @@ brackets_or_none : (ts : List Terminal) → SomeOrNone (AreBracketed ts) → Som
 brackets_or_none ts (some is a) = some is (bracketed ts is a)
 brackets_or_none ts (none bad) = none (brackets_bad (opening ∷ ts) ts refl bad)
 
--- terminals are what may stand behind `from .. import`, or they aren't: by the first of them
+-- terminals are what may stand after `from .. import`, or they aren't: by the first of them
 names_or_none : (ts : List Terminal) → SomeOrNone (AreNames ts)
 names_or_none (star ∷ []) = some (record { path = codes "*"; alias = None } ∷ []) all_names
 names_or_none (star ∷ t ∷ ts) = none (star_bad (star ∷ t ∷ ts) (t ∷ ts) refl (λ f. let z : ⊥ = cc in z))

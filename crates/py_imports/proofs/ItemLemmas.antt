@@ -1,9 +1,10 @@
 -- The program's reading of lists of items is the grammar's.
 use Rattle.std.proofs.Common.{◌≡◌, ℕ, Bool, true, false, None, Some, option_and_then, List, [], ◌∷◌, ◌++◌, refl, sym, ap, ◌∙◌, subst, append_assoc}
 use Rattle.std.proofs.lemmas.List.{append-nil}
-use Rattle.py_imports.specs.Grammar.{Terminal, import_word, from_word, as_word, name, dot, comma, star, opening, closing, other, spelling, Listed, modules, identifiers, IsPath, Item, IsItem, plain, renamed, AreItems, last, then, AreBracketed, closed, closed_behind_comma}
-use Rattle.py_imports.specs.Parsing.{Read, ItemRead, named_alias, alias_behind, at_identifier, at_path, at_item}
-use Rattle.py_imports.proofs.ModuleLemmas.{begins_dot, at_module-whole, at_module-sound, option_and_then-some}
+use Rattle.py_imports.specs.Grammar.{Terminal, import_word, from_word, as_word, name, dot, comma, star, opening, closing, other, spelling, Listed, modules, identifiers, IsPath, Item, IsItem, plain, renamed, AreItems, last, then, AreBracketed, closed, closed_after_comma}
+use Rattle.py_imports.specs.Reading.Lexemes.{begins_dot}
+use Rattle.py_imports.specs.Reading.Parsing.{Read, ItemRead, named_alias, alias_behind, at_identifier, at_path, at_item}
+use Rattle.py_imports.proofs.ModuleLemmas.{at_module-whole, at_module-sound, option_and_then-some}
 
 -- whether an item goes on here: by a dot or its alias
 abbrev pub goes_on : List Terminal → Bool
@@ -41,7 +42,7 @@ alias_behind-none path (opening ∷ ts) e = refl
 alias_behind-none path (closing ∷ ts) e = refl
 alias_behind-none path (other ∷ ts) e = refl
 
--- an item is read whole, where nothing behind it belongs to it
+-- an item is read whole, where nothing after it belongs to it
 pub at_item-whole : (k : Listed) (ts : List Terminal) (i : Item) → IsItem k ts i → (rest : List Terminal) → goes_on rest ≡ false → at_item k (ts ++ rest) ≡ Some (record { item = i; rest = rest })
 at_item-whole k ts i (plain l t j p e) rest h =
     ap (option_and_then (λ r. alias_behind r.spelled r.rest)) (at_path-whole k ts p rest (no_dot_where_ended rest h)) ∙ alias_behind-none (spelling ts) rest h ∙ ap (λ x. Some (record { item = x; rest = rest })) (sym e)
@@ -118,11 +119,11 @@ at_item-sound k ts r e =
     behind_path k ts off.path inner.0.rest inner.0.spelled r off.split off.is off.spelled inner.2
 
 -- how a list of items begins: with its last item, or with one that a comma follows
-pub data Begins (k : Listed) (ts : List Terminal) : List Item → Type 0 where
-  one_item : (is : List Item) (i : Item) → at_item k ts ≡ Some (record { item = i; rest = [] }) → is ≡ i ∷ [] → Begins k ts is
-  many : (is js : List Item) (i : Item) (rest : List Terminal) → at_item k ts ≡ Some (record { item = i; rest = comma ∷ rest }) → AreItems k rest js → is ≡ i ∷ js → Begins k ts is
+pub data ListStarts (k : Listed) (ts : List Terminal) : List Item → Type 0 where
+  one_item : (is : List Item) (i : Item) → at_item k ts ≡ Some (record { item = i; rest = [] }) → is ≡ i ∷ [] → ListStarts k ts is
+  many : (is js : List Item) (i : Item) (rest : List Terminal) → at_item k ts ≡ Some (record { item = i; rest = comma ∷ rest }) → AreItems k rest js → is ≡ i ∷ js → ListStarts k ts is
 
-pub items_begin : (k : Listed) (ts : List Terminal) (is : List Item) → AreItems k ts is → Begins k ts is
+pub items_begin : (k : Listed) (ts : List Terminal) (is : List Item) → AreItems k ts is → ListStarts k ts is
 items_begin k ts is (last l t i p) = one_item _ i (ap (at_item k) (sym (append-nil ts)) ∙ at_item-whole k ts i p [] refl) refl
 items_begin k ts is (then l t first rest i js e p others) = many _ js i rest (ap (at_item k) e ∙ at_item-whole k first i p (comma ∷ rest) refl) others refl
 
@@ -147,11 +148,11 @@ bracketed_begin-closed items is (then l t first rest i js e p others) = many_clo
 
 bracketed_begin-comma : (items : List Terminal) (is : List Item) → AreItems identifiers items is → BeginsBracketed (items ++ comma ∷ closing ∷ []) is
 bracketed_begin-comma items is (last l t i p) = one_comma _ i (at_item-whole identifiers items i p (comma ∷ closing ∷ []) refl) refl
-bracketed_begin-comma items is (then l t first rest i js e p others) = many_closed _ js i (rest ++ comma ∷ closing ∷ []) (ap (λ x. at_item identifiers (x ++ comma ∷ closing ∷ [])) e ∙ ap (at_item identifiers) (append_assoc first (comma ∷ rest) (comma ∷ closing ∷ [])) ∙ at_item-whole identifiers first i p (comma ∷ rest ++ comma ∷ closing ∷ []) refl) (closed_behind_comma _ rest js refl others) refl
+bracketed_begin-comma items is (then l t first rest i js e p others) = many_closed _ js i (rest ++ comma ∷ closing ∷ []) (ap (λ x. at_item identifiers (x ++ comma ∷ closing ∷ [])) e ∙ ap (at_item identifiers) (append_assoc first (comma ∷ rest) (comma ∷ closing ∷ [])) ∙ at_item-whole identifiers first i p (comma ∷ rest ++ comma ∷ closing ∷ []) refl) (closed_after_comma _ rest js refl others) refl
 
 pub bracketed_begin : (ts : List Terminal) (is : List Item) → AreBracketed ts is → BeginsBracketed ts is
 bracketed_begin ts is (closed t items js e a) = subst (λ x. BeginsBracketed x is) (sym e) (bracketed_begin-closed items is a)
-bracketed_begin ts is (closed_behind_comma t items js e a) = subst (λ x. BeginsBracketed x is) (sym e) (bracketed_begin-comma items is a)
+bracketed_begin ts is (closed_after_comma t items js e a) = subst (λ x. BeginsBracketed x is) (sym e) (bracketed_begin-comma items is a)
 
 -- an item before the bracket
 pub bracketed_closed : (ts : List Terminal) (i : Item) → at_item identifiers ts ≡ Some (record { item = i; rest = closing ∷ [] }) → AreBracketed ts (i ∷ [])
@@ -159,11 +160,11 @@ bracketed_closed ts i e = let off = at_item-sound identifiers ts _ e in closed t
 
 -- an item before a comma and the bracket
 pub bracketed_comma : (ts : List Terminal) (i : Item) → at_item identifiers ts ≡ Some (record { item = i; rest = comma ∷ closing ∷ [] }) → AreBracketed ts (i ∷ [])
-bracketed_comma ts i e = let off = at_item-sound identifiers ts _ e in closed_behind_comma ts off.front _ off.split (last identifiers off.front i off.is)
+bracketed_comma ts i e = let off = at_item-sound identifiers ts _ e in closed_after_comma ts off.front _ off.split (last identifiers off.front i off.is)
 
 behind_item : (ts rest : List Terminal) (i : Item) (is : List Item) (front : List Terminal) → ts ≡ front ++ comma ∷ rest → IsItem identifiers front i → AreBracketed rest is → AreBracketed ts (i ∷ is)
 behind_item ts rest i is front split item (closed t items js e a) = closed ts (front ++ comma ∷ items) _ (split ∙ ap (λ x. front ++ comma ∷ x) e ∙ sym (append_assoc front (comma ∷ items) (closing ∷ []))) (then identifiers _ front items i is refl item a)
-behind_item ts rest i is front split item (closed_behind_comma t items js e a) = closed_behind_comma ts (front ++ comma ∷ items) _ (split ∙ ap (λ x. front ++ comma ∷ x) e ∙ sym (append_assoc front (comma ∷ items) (comma ∷ closing ∷ []))) (then identifiers _ front items i is refl item a)
+behind_item ts rest i is front split item (closed_after_comma t items js e a) = closed_after_comma ts (front ++ comma ∷ items) _ (split ∙ ap (λ x. front ++ comma ∷ x) e ∙ sym (append_assoc front (comma ∷ items) (comma ∷ closing ∷ []))) (then identifiers _ front items i is refl item a)
 
 -- an item before a comma and others in brackets
 pub bracketed_then : (ts rest : List Terminal) (i : Item) (is : List Item) → at_item identifiers ts ≡ Some (record { item = i; rest = comma ∷ rest }) → AreBracketed rest is → AreBracketed ts (i ∷ is)

@@ -10,7 +10,7 @@ pub mod EndLemmas
 pub mod OneListLemmas
 pub mod DecidingLemmas
 pub mod OneFaultLemmas
-pub mod RecognizerLemmas
+pub mod ReaderLemmas
 pub mod ActionLemmas
 pub mod ShapeLemmas
 pub mod ShapeRows

@@ -2,17 +2,13 @@
 use Rattle.std.proofs.Common.{◌≡◌, ℕ, Bool, true, false, Option, None, Some, option_and_then, List, [], ◌∷◌, ◌++◌, refl, sym, ap, ◌∙◌, subst}
 use Rattle.std.specs.Option.{option_map}
 use Rattle.py_imports.specs.Grammar.{Terminal, import_word, from_word, as_word, name, dot, comma, star, opening, closing, other, IsModule, one, more, AreDots, no_dot, one_more, IsRelativeModule, dots, named, spelling}
-use Rattle.py_imports.specs.Parsing.{Read, spelled_before, at_module, after_name, import_behind, at_relative}
+use Rattle.py_imports.specs.Reading.Lexemes.{begins_dot}
+use Rattle.py_imports.specs.Reading.Parsing.{Read, spelled_before, at_module, after_name, import_behind, at_relative}
 
 -- from an equation of what was mapped to its parts
 pub option_map-some : {A B : Type 0} (f : A → B) (o : Option A) (y : B) → option_map f o ≡ Some y → (x : A) × (o ≡ Some x) × (f x ≡ y)
 option_map-some f None y e = absurd cc
 option_map-some f (Some x) y e = (x, refl, cc)
-
--- whether a module goes on here
-abbrev pub begins_dot : List Terminal → Bool
-begins_dot (dot ∷ ts) = true
-begins_dot _ = false
 
 -- these terminals begin with a module that is spelled so
 pub record ReadsOff (ts : List Terminal) (r : Read) : Type 0 where
@@ -21,7 +17,7 @@ pub record ReadsOff (ts : List Terminal) (r : Read) : Type 0 where
   pub is : IsModule path
   pub spelled : r.spelled ≡ spelling path
 
-after_name-other : (ts : List Terminal) → begins_dot ts ≡ false → after_name ts ≡ Some (record { spelled = []; rest = ts })
+pub after_name-other : (ts : List Terminal) → begins_dot ts ≡ false → after_name ts ≡ Some (record { spelled = []; rest = ts })
 after_name-other [] e = refl
 after_name-other (dot ∷ ts) e = absurd cc
 after_name-other (import_word ∷ ts) e = refl
@@ -34,7 +30,7 @@ after_name-other (opening ∷ ts) e = refl
 after_name-other (closing ∷ ts) e = refl
 after_name-other (other ∷ ts) e = refl
 
--- a module is read whole, where nothing behind it belongs to it
+-- a module is read whole, where nothing after it belongs to it
 pub at_module-whole : (path : List Terminal) → IsModule path → (rest : List Terminal) → begins_dot rest ≡ false → at_module (path ++ rest) ≡ Some (record { spelled = spelling path; rest = rest })
 at_module-whole path (one w) rest e = ap (option_map (spelled_before w)) (after_name-other rest e)
 at_module-whole path (more w inner m) rest e = ap (λ o. option_map (spelled_before w) (option_map (spelled_before (46 ∷ [])) o)) (at_module-whole inner m rest e)
@@ -96,12 +92,12 @@ at_relative-named : (dotted : Bool) (before : List Terminal) → AreDots before 
 at_relative-named dotted before no_dot path m rest = at_relative-module dotted path m rest
 at_relative-named dotted before (one_more others d) path m rest = ap (option_map (spelled_before (46 ∷ []))) (at_relative-named true others d path m rest)
 
--- a relative module with the word `import` behind it is read whole
+-- a relative module with the word `import` after it is read whole
 pub at_relative-whole : (from : List Terminal) → IsRelativeModule from → (rest : List Terminal) → at_relative false (from ++ import_word ∷ rest) ≡ Some (record { spelled = spelling from; rest = rest })
 at_relative-whole from (dots others d) rest = ap (option_map (spelled_before (46 ∷ []))) (at_relative-dots others d rest)
 at_relative-whole from (named ts before path e d m) rest = subst (λ x. at_relative false (x ++ import_word ∷ rest) ≡ Some (record { spelled = spelling x; rest = rest })) (sym e) (at_relative-named false before d path m rest)
 
--- behind a dot: more dots or a module behind dots, the word `import`, and what is left
+-- after a dot: more dots or a module after dots, the word `import`, and what is left
 data ReadsFrom : List Terminal → Read → Type 0 where
   only_dots : (ts before : List Terminal) (r : Read) → ts ≡ before ++ import_word ∷ r.rest → AreDots before → r.spelled ≡ spelling before → ReadsFrom ts r
   with_module : (ts before path : List Terminal) (r : Read) → ts ≡ (before ++ path) ++ import_word ∷ r.rest → AreDots before → IsModule path → r.spelled ≡ spelling (before ++ path) → ReadsFrom ts r

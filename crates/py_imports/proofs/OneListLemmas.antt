@@ -1,15 +1,16 @@
 -- A statement binds one list.
 use Rattle.std.proofs.Common.{◌≡◌, Bool, true, false, None, Some, List, [], ◌∷◌, ◌++◌, map, codes, refl, sym, ap, ◌∙◌, subst, append_assoc}
 use Rattle.std.proofs.lemmas.List.{append-nil}
-use Rattle.py_imports.specs.Grammar.{Terminal, import_word, from_word, as_word, name, dot, comma, star, opening, closing, other, spelling, Listed, modules, identifiers, Item, AreItems, last, then, AreBracketed, closed, closed_behind_comma, AreNames, plain_names, bracketed, all_names, whole_module, attribute_of, Imported, IsImport}
-use Rattle.py_imports.specs.Parsing.{at_item}
-use Rattle.py_imports.proofs.ItemLemmas.{at_item-whole, Begins, one_item, many, items_begin, BeginsBracketed, one_closed, one_comma, many_closed, bracketed_begin}
-use Rattle.py_imports.proofs.ListLemmas.{one_way, begins_closing, no_item_at_closing, bracketed_none, items_none, items_go_on, bracketed_goes_on}
+use Rattle.py_imports.specs.Grammar.{Terminal, import_word, from_word, as_word, name, dot, comma, star, opening, closing, other, spelling, Listed, modules, identifiers, Item, AreItems, last, then, AreBracketed, closed, closed_after_comma, AreNames, plain_names, bracketed, all_names, whole_module, attribute_of, Imported, IsImport}
+use Rattle.py_imports.specs.Reading.Items.{begins_closing}
+use Rattle.py_imports.specs.Reading.Parsing.{at_item}
+use Rattle.py_imports.proofs.ItemLemmas.{at_item-whole, ListStarts, one_item, many, items_begin, BeginsBracketed, one_closed, one_comma, many_closed, bracketed_begin}
+use Rattle.py_imports.proofs.ListLemmas.{one_way, no_item_at_closing, bracketed_none, items_none, items_go_on, bracketed_goes_on}
 use Rattle.py_imports.proofs.NamesLemmas.{opening_brackets}
-use Rattle.py_imports.proofs.StatementLemmas.{Reads, import_reads, one_from}
+use Rattle.py_imports.proofs.StatementLemmas.{ImportsBy, import_reads, one_from}
 
 -- a list that is read to its end by one item has no other
-one_alone : (k : Listed) (ts : List Terminal) (i : Item) (js : List Item) → at_item k ts ≡ Some (record { item = i; rest = [] }) → Begins k ts js → js ≡ i ∷ []
+one_alone : (k : Listed) (ts : List Terminal) (i : Item) (js : List Item) → at_item k ts ≡ Some (record { item = i; rest = [] }) → ListStarts k ts js → js ≡ i ∷ []
 one_alone k ts i js e (one_item is j f s) = let h = one_way k ts (record { item = i; rest = [] }) (record { item = j; rest = [] }) e f in s ∙ ap (λ x. x ∷ []) (sym h.0)
 one_alone k ts i js e (many is ks j rest f a s) = let h : [] ≡ comma ∷ rest = (one_way k ts (record { item = i; rest = [] }) (record { item = j; rest = comma ∷ rest }) e f).1 in absurd (let z : ⊥ = cc in z)
 
@@ -55,13 +56,13 @@ one_bracketed-comma : (items : List Terminal) (is js : List Item) → AreItems i
 one_bracketed-comma items is js (last l t i p) b = sym (one_comma_alone (items ++ comma ∷ closing ∷ []) i js (at_item-whole identifiers items i p (comma ∷ closing ∷ []) refl) (bracketed_begin (items ++ comma ∷ closing ∷ []) js b))
 one_bracketed-comma items is js (then l t first rest i others e p a) b =
     let read = ap (λ x. at_item identifiers (x ++ comma ∷ closing ∷ [])) e ∙ ap (at_item identifiers) (append_assoc first (comma ∷ rest) (comma ∷ closing ∷ [])) ∙ at_item-whole identifiers first i p (comma ∷ rest ++ comma ∷ closing ∷ []) refl in
-    let goes = bracketed_goes_on (items ++ comma ∷ closing ∷ []) (rest ++ comma ∷ closing ∷ []) i read (not_closing (rest ++ comma ∷ closing ∷ []) others (closed_behind_comma _ rest others refl a)) in
+    let goes = bracketed_goes_on (items ++ comma ∷ closing ∷ []) (rest ++ comma ∷ closing ∷ []) i read (not_closing (rest ++ comma ∷ closing ∷ []) others (closed_after_comma _ rest others refl a)) in
     let t = goes.takes js b in
     ap (λ x. i ∷ x) (one_bracketed-comma rest others t.0 a t.2) ∙ sym t.1
 
 one_bracketed : (ts : List Terminal) (is js : List Item) → AreBracketed ts is → AreBracketed ts js → is ≡ js
 one_bracketed ts is js (closed t items ks e a) b = one_bracketed-closed items is js a (subst (λ x. AreBracketed x js) e b)
-one_bracketed ts is js (closed_behind_comma t items ks e a) b = one_bracketed-comma items is js a (subst (λ x. AreBracketed x js) e b)
+one_bracketed ts is js (closed_after_comma t items ks e a) b = one_bracketed-comma items is js a (subst (λ x. AreBracketed x js) e b)
 
 one_plain : (ts : List Terminal) (is js : List Item) → AreItems identifiers ts is → AreNames ts js → is ≡ js
 one_plain ts is js a (plain_names t ks c) = one_items identifiers ts is js a c
@@ -78,7 +79,7 @@ one_names ts is js (plain_names t ks a) b = one_plain ts is js a b
 one_names ts is js (bracketed t ks a) b = one_bracketed t is js a (opening_brackets (opening ∷ t) js b t refl)
 one_names ts is js all_names b = one_star (star ∷ []) js b refl
 
-one_reads : (ts : List Terminal) (is js : List Imported) → Reads ts is → Reads ts js → is ≡ js
+one_reads : (ts : List Terminal) (is js : List Imported) → ImportsBy ts is → ImportsBy ts js → is ≡ js
 one_reads (import_word ∷ rest) is js a b = a.2 ∙ ap (map whole_module) (one_items modules rest a.0 b.0 a.1 b.1) ∙ sym b.2
 one_reads (from_word ∷ rest) is js a b =
     let one = one_from a.0 b.0 a.1 b.1 a.4 b.4 (sym a.3 ∙ b.3) in

@@ -1,23 +1,89 @@
 -- What is known of a line by its tokens, one after another.
-use Rattle.std.proofs.Common.{◌≡◌, ℕ, suc, ◌+◌, ◌-◌, ◌<◌, ◌≤◌, Bool, true, false, not, ◌==◌, ◌&&◌, ◌||◌, nat_lt, Some, List, [], ◌∷◌, ◌++◌, length, take, drop, get_or, slice_get, refl, sym, ap, ◌∙◌, arith, length-append}
+use Rattle.std.proofs.Common.{◌≡◌, ℕ, suc, ◌+◌, ◌-◌, ◌<◌, ◌≤◌, Bool, true, false, not, ◌==◌, ◌&&◌, ◌||◌, nat_lt, cond, None, Some, List, [], ◌∷◌, ◌++◌, length, map, take, drop, get_or, slice_get, slice_range, refl, sym, ap, ◌∙◌, arith, length-append}
 use Rattle.std.proofs.lemmas.Bool.{ltb-true, ltb-false, lt-ltb, le-ltb, eq-eqb, ne_eqb}
 use Rattle.std.proofs.lemmas.List.{take-append-drop, take_all, take_more, drop_all, drop_more}
 use Rattle.std.proofs.lemmas.Option.{slice_get-get_or}
-use Rattle.std.specs.List.{list_any, list_all}
+use Rattle.std.proofs.lemmas.List.Quantifiers.{position-Some}
+use Rattle.std.specs.List.{list_any, list_all, position, position_or_len}
 use Rattle.py_lines.specs.declared.token.Token.{Token}
 use Rattle.py_lines.specs.declared.token.TokKind.{TokKind}
 use Rattle.py_lines.specs.declared.token.TokKind.TheVariants as kind
-use Rattle.py_imports.specs.Statement.{is_comment, significant, is_semicolon, depth_after, depth_behind, Place, places_from, is_end}
-use Rattle.py_imports.specs.Parsing.{up_to_semicolon}
-use Rattle.py_imports.specs.Shape.{is_parenthesis, ends_with_opening, is_nothing, stands_well}
-use Rattle.py_imports.specs.Recognizer.{IsFirstCode}
+use Rattle.py_imports.specs.Statement.{is_comment, significant, is_semicolon, depth_past, depth_behind, Place, places_from, is_end}
+use Rattle.py_imports.specs.Reading.Parsing.{up_to_semicolon}
+use Rattle.py_imports.specs.Shape.{terminals_of, begins_so, is_parenthesis, ends_with_opening, is_nothing, stands_well}
+use Rattle.py_lines.specs.LogicalLine.{LogicalLine}
+use Rattle.py_lines.specs.declared.unit.UnitKind.TheVariants as unit_kind
+use Rattle.py_imports.specs.Binds.{terminal_in}
+use Rattle.py_imports.specs.Declaration.{is_code as line_is_code}
+use Rattle.py_imports.specs.Grammar.{Terminal, terminal_of, begins_import}
+use Rattle.py_imports.specs.Reading.Items.{with_first_word}
+use Rattle.py_imports.specs.Reading.Places.{IsFirstCode, BeginsAt}
+use Rattle.py_imports.specs.declared.items.Form.{Form}
+use Rattle.py_imports.proofs.StatementLemmas.{token_at}
 use Rattle.py_imports.proofs.TokenLemmas.{depth_behind-snoc}
 use Rattle.py_imports.proofs.EndLemmas.{significant-append}
 use Rattle.py_imports.proofs.BindingLemmas.{from_significant}
 
--- a token that is no comment, behind comments alone
-pub first_at : (tokens : List Token) (i : ℕ) (t : Token) → i < length tokens → significant tokens ≡ significant (drop i tokens) → is_comment (get_or tokens i t).kind ≡ false → IsFirstCode tokens i
-first_at tokens i t within e code = record { first = get_or tokens i t; at = slice_get-get_or tokens i t within; all = e ∙ from_significant tokens i t within code }
+-- a token that is no comment, after comments alone
+pub first_code_from : (tokens : List Token) (i : ℕ) (t : Token) → i < length tokens → significant tokens ≡ significant (drop i tokens) → is_comment (get_or tokens i t).kind ≡ false → IsFirstCode tokens i
+first_code_from tokens i t within e code = record { first = get_or tokens i t; at = slice_get-get_or tokens i t within; all = e ∙ from_significant tokens i t within code }
+
+-- whether a token is no comment
+abbrev is_no_comment : Token → Bool
+is_no_comment t = not (is_comment t.kind)
+
+no_comment : (b : Bool) → not b ≡ true → b ≡ false
+no_comment true e = absurd cc
+no_comment false e = refl
+
+-- the tokens before the first that is no comment are comments
+comments_before : (tokens : List Token) → significant tokens ≡ significant (drop (position_or_len is_no_comment tokens) tokens)
+comments_before [] = refl
+comments_before (t ∷ ts) = by_kind (comments_before ts) (is_comment t.kind) refl
+  where
+    by_kind : significant ts ≡ significant (drop (position_or_len is_no_comment ts) ts) → (b : Bool) → is_comment t.kind ≡ b → significant (t ∷ ts) ≡ significant (drop (position_or_len is_no_comment (t ∷ ts)) (t ∷ ts))
+    by_kind later true e = let next : 1 + position_or_len is_no_comment ts ≡ suc (position_or_len is_no_comment ts) = omega arith in rw (e, next) later
+    by_kind later false e = rw (e, e) refl
+
+-- where the first token stands that is no comment
+pub first_code_at : (tokens : List Token) (place : ℕ) → Some place ≡ position (λ t. not (is_comment t.kind)) tokens → IsFirstCode tokens place
+first_code_at tokens place e = by_found (nat_lt (position_or_len is_no_comment tokens) (length tokens)) refl
+  where
+    none : Token
+    none = record { kind = kind.Name; start = 0; stop = 0; line = 0 }
+
+    by_found : (b : Bool) → nat_lt (position_or_len is_no_comment tokens) (length tokens) ≡ b → IsFirstCode tokens place
+    by_found true h =
+        let found : Some place ≡ Some (position_or_len is_no_comment tokens) = e ∙ ap (λ b. cond b (Some (position_or_len is_no_comment tokens)) None) h in
+        let same : place ≡ position_or_len is_no_comment tokens = cc in
+        let at = position-Some is_no_comment tokens place none (sym e) in
+        first_code_from tokens place none at.0 (comments_before tokens ∙ ap (λ n. significant (drop n tokens)) (sym same)) (no_comment (is_comment (get_or tokens place none).kind) at.1)
+    by_found false h = absurd (let missing : Some place ≡ None = e ∙ ap (λ b. cond b (Some (position_or_len is_no_comment tokens)) None) h in cc)
+
+pub no_code : (tokens : List Token) → None ≡ position (λ t. not (is_comment t.kind)) tokens → significant tokens ≡ []
+no_code tokens e = by_found (nat_lt (position_or_len is_no_comment tokens) (length tokens)) refl
+  where
+    by_found : (b : Bool) → nat_lt (position_or_len is_no_comment tokens) (length tokens) ≡ b → significant tokens ≡ []
+    by_found true h = absurd (let found : None ≡ Some (position_or_len is_no_comment tokens) = e ∙ ap (λ b. cond b (Some (position_or_len is_no_comment tokens)) None) h in cc)
+    by_found false h = comments_before tokens ∙ ap significant (drop_all (position_or_len is_no_comment tokens) tokens (ltb-false (position_or_len is_no_comment tokens) (length tokens) h))
+
+-- the line's terminals, where its first token that is no comment has this text
+terminals_begin : (line : LogicalLine) (place : ℕ) (none : Token) (word : List ℕ) (f : IsFirstCode line.tokens place) → place < length line.tokens → word ≡ slice_range line.text f.first.start f.first.stop → terminals_of line ≡ terminal_of (get_or line.tokens place none).kind word ∷ map (terminal_in line.text) (significant (drop (place + 1) line.tokens))
+terminals_begin line place none word f within w =
+    let rest = map (terminal_in line.text) (significant (drop (place + 1) line.tokens)) in
+    ap (map (terminal_in line.text)) f.all ∙ ap (λ v. terminal_of f.first.kind v ∷ rest) (sym w) ∙ ap (λ (t : Token). terminal_of t.kind word ∷ rest) (sym (token_at line.tokens place none f.first within f.at))
+
+-- that token begins no import statement
+pub begins_none : (line : LogicalLine) (place : ℕ) (none : Token) (word : List ℕ) (f : IsFirstCode line.tokens place) → line.kind ≡ unit_kind.Code → place < length line.tokens → word ≡ slice_range line.text f.first.start f.first.stop → ((ts : List Terminal) → begins_import (terminal_of (get_or line.tokens place none).kind word ∷ ts) ≡ false) → begins_so line ≡ false
+begins_none line place none word f code within w h =
+    ap (λ k. line_is_code k && begins_import (terminals_of line)) code ∙ ap begins_import (terminals_begin line place none word f within w) ∙ h (map (terminal_in line.text) (significant (drop (place + 1) line.tokens)))
+
+-- that token begins one
+pub begins_one : (line : LogicalLine) (place : ℕ) (none : Token) (word : List ℕ) (which : Form) (f : IsFirstCode line.tokens place) → line.kind ≡ unit_kind.Code → place < length line.tokens → word ≡ slice_range line.text f.first.start f.first.stop → ((ts : List Terminal) → terminal_of (get_or line.tokens place none).kind word ∷ ts ≡ with_first_word which ts) → BeginsAt line place which
+begins_one line place none word which f code within w h = record { code = code; first = f; begins = terminals_begin line place none word f within w ∙ h (map (terminal_in line.text) (significant (drop (place + 1) line.tokens))) }
+
+pub first_code_within : (tokens : List Token) (place : ℕ) → Some place ≡ position (λ t. not (is_comment t.kind)) tokens → place < length tokens
+first_code_within tokens place e = (position-Some is_no_comment tokens place (record { kind = kind.Name; start = 0; stop = 0; line = 0 }) (sym e)).0
 
 nat_lt-suc : (a b : ℕ) → nat_lt a b ≡ nat_lt (suc a) (suc b)
 nat_lt-suc a b = by_order (nat_lt a b) refl
@@ -34,9 +100,9 @@ ends_among before (t ∷ ts) = by_end (ends_among (before ++ t ∷ []) ts ∙ ap
     here : Place
     here = record { before = before; token = t; behind = ts }
 
-    by_end : list_any is_end (places_from (before ++ t ∷ []) ts) ≡ nat_lt (length (up_to_semicolon (depth_after (depth_behind 0 before) t.kind) ts)) (length ts) → (b : Bool) → is_end here ≡ b → is_end here || list_any is_end (places_from (before ++ t ∷ []) ts) ≡ nat_lt (length (up_to_semicolon (depth_behind 0 before) (t ∷ ts))) (length (t ∷ ts))
+    by_end : list_any is_end (places_from (before ++ t ∷ []) ts) ≡ nat_lt (length (up_to_semicolon (depth_past (depth_behind 0 before) t.kind) ts)) (length ts) → (b : Bool) → is_end here ≡ b → is_end here || list_any is_end (places_from (before ++ t ∷ []) ts) ≡ nat_lt (length (up_to_semicolon (depth_behind 0 before) (t ∷ ts))) (length (t ∷ ts))
     by_end others true e = rw e (sym (lt-ltb 0 (length (t ∷ ts)) (omega arith)))
-    by_end others false e = rw e (others ∙ nat_lt-suc (length (up_to_semicolon (depth_after (depth_behind 0 before) t.kind) ts)) (length ts))
+    by_end others false e = rw e (others ∙ nat_lt-suc (length (up_to_semicolon (depth_past (depth_behind 0 before) t.kind) ts)) (length ts))
 
 semicolon_is_code : (k : TokKind) → is_semicolon k ≡ true → is_comment k ≡ false
 semicolon_is_code kind.Remark e = absurd cc
@@ -76,9 +142,9 @@ ends_with_opening-snoc (u ∷ []) t = refl
 ends_with_opening-snoc (u ∷ v ∷ ts) t = ends_with_opening-snoc (v ∷ ts) t
 
 -- the comments before token `i` stand well; whether a `(` stands directly before it
-pub record StandWell (tokens : List Token) (i : ℕ) (behind_opening : Bool) : Type 0 where
+pub record StandWell (tokens : List Token) (i : ℕ) (after_opening : Bool) : Type 0 where
   pub rest : list_all stands_well (places_from [] tokens) ≡ list_all stands_well (places_from (take i tokens) (drop i tokens))
-  pub last : behind_opening ≡ ends_with_opening (take i tokens)
+  pub last : after_opening ≡ ends_with_opening (take i tokens)
 
 is_last : (tokens : List Token) (i : ℕ) → i < length tokens → is_nothing (drop (i + 1) tokens) ≡ (i + 1 == length tokens)
 is_last tokens i within = by_end (nat_lt (i + 1) (length tokens)) refl
@@ -95,18 +161,18 @@ is_last tokens i within = by_end (nat_lt (i + 1) (length tokens)) refl
         ap is_nothing (drop_all (i + 1) tokens more) ∙ sym (eq-eqb (i + 1) (length tokens) (omega arith))
 
 -- one token more, by whether it stands well
-pub stand_well_by : (tokens : List Token) (i : ℕ) (behind_opening : Bool) (t : Token) → StandWell tokens i behind_opening → i < length tokens → list_all stands_well (places_from [] tokens) ≡ (not (is_comment (get_or tokens i t).kind) || (i + 1 == length tokens) || behind_opening) && list_all stands_well (places_from (take (i + 1) tokens) (drop (i + 1) tokens))
-stand_well_by tokens i behind_opening t s within =
+pub stand_well_by : (tokens : List Token) (i : ℕ) (after_opening : Bool) (t : Token) → StandWell tokens i after_opening → i < length tokens → list_all stands_well (places_from [] tokens) ≡ (not (is_comment (get_or tokens i t).kind) || (i + 1 == length tokens) || after_opening) && list_all stands_well (places_from (take (i + 1) tokens) (drop (i + 1) tokens))
+stand_well_by tokens i after_opening t s within =
     let u = get_or tokens i t in
     let rest = drop (i + 1) tokens in
     s.rest ∙ ap (λ x. list_all stands_well (places_from (take i tokens) x)) (drop_more tokens i t within)
     ∙ ap (λ b. (not (is_comment u.kind) || b || ends_with_opening (take i tokens)) && list_all stands_well (places_from (take i tokens ++ u ∷ []) rest)) (is_last tokens i within)
     ∙ ap (λ b. (not (is_comment u.kind) || (i + 1 == length tokens) || b) && list_all stands_well (places_from (take i tokens ++ u ∷ []) rest)) (sym s.last)
-    ∙ ap (λ x. (not (is_comment u.kind) || (i + 1 == length tokens) || behind_opening) && list_all stands_well (places_from x rest)) (sym (take_more tokens i t within))
+    ∙ ap (λ x. (not (is_comment u.kind) || (i + 1 == length tokens) || after_opening) && list_all stands_well (places_from x rest)) (sym (take_more tokens i t within))
 
-pub stand_well_more : (tokens : List Token) (i : ℕ) (behind_opening here opening : Bool) (t : Token) → StandWell tokens i behind_opening → i < length tokens → here ≡ not (is_comment (get_or tokens i t).kind) || (i + 1 == length tokens) || behind_opening → here ≡ true → opening ≡ is_parenthesis (get_or tokens i t).kind → StandWell tokens (i + 1) opening
-stand_well_more tokens i behind_opening here opening t s within e h o = record {
-  rest = stand_well_by tokens i behind_opening t s within ∙ ap (λ b. b && list_all stands_well (places_from (take (i + 1) tokens) (drop (i + 1) tokens))) (sym e ∙ h);
+pub stand_well_more : (tokens : List Token) (i : ℕ) (after_opening here opening : Bool) (t : Token) → StandWell tokens i after_opening → i < length tokens → here ≡ not (is_comment (get_or tokens i t).kind) || (i + 1 == length tokens) || after_opening → here ≡ true → opening ≡ is_parenthesis (get_or tokens i t).kind → StandWell tokens (i + 1) opening
+stand_well_more tokens i after_opening here opening t s within e h o = record {
+  rest = stand_well_by tokens i after_opening t s within ∙ ap (λ b. b && list_all stands_well (places_from (take (i + 1) tokens) (drop (i + 1) tokens))) (sym e ∙ h);
   last = o ∙ sym (ends_with_opening-snoc (take i tokens) (get_or tokens i t)) ∙ ap ends_with_opening (sym (take_more tokens i t within));
 }
 

@@ -1,33 +1,38 @@
 -- What the program reads of one import statement is the grammar's.
-use Rattle.std.proofs.Common.{◌≡◌, ℕ, ◌<◌, Bool, true, false, ◌==◌, ◌&&◌, None, Some, List, [], ◌∷◌, ◌++◌, length, map, get_or, slice_get, nat_lt, refl, sym, ap, ◌∙◌, subst}
+use Rattle.std.proofs.Common.{◌≡◌, ℕ, ◌+◌, ◌-◌, ◌<◌, Bool, true, false, ◌==◌, ◌&&◌, None, Some, List, [], ◌∷◌, ◌++◌, length, map, take, drop, get_or, slice_get, slice_range, nat_lt, refl, sym, ap, ◌∙◌, subst}
 use Rattle.std.proofs.lemmas.List.{append-nil}
 use Rattle.std.proofs.lemmas.Option.{slice_get-get_or}
 use Rattle.py_lines.specs.LogicalLine.{LogicalLine}
+use Rattle.py_lines.specs.declared.fault.Fault.{Fault}
+use Rattle.py_lines.specs.declared.fault.FaultKind.TheVariants.{BadImport}
 use Rattle.py_lines.specs.declared.token.Token.{Token}
 use Rattle.py_lines.specs.declared.token.TokKind.TheVariants as kind
-use Rattle.py_imports.specs.Grammar.{Terminal, import_word, from_word, begins_import, modules, spelling, IsRelativeModule, Item, AreItems, AreNames, whole_module, attribute_of, Imported, IsImport, import_statement, from_statement}
-use Rattle.py_imports.specs.Statement.{is_semicolon, depth_after, Place}
-use Rattle.py_imports.specs.Parsing.{up_to_semicolon}
+use Rattle.py_imports.specs.Grammar.{Terminal, terminal_of, import_word, from_word, begins_import, modules, spelling, IsRelativeModule, Item, AreItems, AreNames, whole_module, attribute_of, Imported, IsImport, import_statement, from_statement}
+use Rattle.py_imports.specs.Statement.{significant, is_semicolon, depth_past, Place}
+use Rattle.py_imports.specs.Reading.Parsing.{up_to_semicolon}
 use Rattle.py_imports.proofs.EndLemmas.{statement_is}
 use Rattle.py_imports.specs.Bound.{bound_of, bound_at}
 use Rattle.py_imports.specs.Binds.{terminal_in, terminals_at, nothing, imports, IsBadStart}
-use Rattle.py_imports.specs.Parsing.{Read, at_relative}
-use Rattle.py_imports.specs.Parser.{ReadsItems, begun, ReadsStatement, BindsMore}
+use Rattle.py_imports.specs.Reading.Parsing.{Read, at_relative}
+use Rattle.py_imports.specs.Reading.Items.{with_first_word, AreSameLists}
+use Rattle.py_imports.specs.Reading.Bindings.{BindsOne, BindsMore, IsPlaceAt, RefusesItems, RefusesAt}
 use Rattle.py_imports.specs.declared.binding.Binding.{Binding}
-use Rattle.py_imports.specs.declared.statement.Head.{Head}
-use Rattle.py_imports.specs.declared.imports.Form.{Form}
-use Rattle.py_imports.specs.declared.imports.Form.TheVariants as form
+use Rattle.py_imports.specs.declared.bindings.Head.{Head}
+use Rattle.py_imports.specs.declared.error.ImportError.{ImportError}
+use Rattle.py_imports.specs.declared.error.ImportError.TheVariants as error
+use Rattle.py_imports.specs.declared.items.Form.{Form}
+use Rattle.py_imports.specs.declared.items.Form.TheVariants as form
 use Rattle.py_imports.proofs.ModuleLemmas.{at_relative-sound, at_relative-whole}
 
 -- what an import statement is, by its first word
-abbrev pub Reads : List Terminal → List Imported → Type 0
-Reads (import_word ∷ rest) is = (items : List Item) × AreItems modules rest items × (is ≡ map whole_module items)
-Reads (from_word ∷ rest) is = (from : List Terminal) × (behind : List Terminal) × (items : List Item) × (rest ≡ from ++ import_word ∷ behind) × IsRelativeModule from × AreNames behind items × (is ≡ map (attribute_of (spelling from)) items)
-Reads _ is = ⊥
+abbrev pub ImportsBy : List Terminal → List Imported → Type 0
+ImportsBy (import_word ∷ rest) is = (items : List Item) × AreItems modules rest items × (is ≡ map whole_module items)
+ImportsBy (from_word ∷ rest) is = (from : List Terminal) × (behind : List Terminal) × (items : List Item) × (rest ≡ from ++ import_word ∷ behind) × IsRelativeModule from × AreNames behind items × (is ≡ map (attribute_of (spelling from)) items)
+ImportsBy _ is = ⊥
 
-pub import_reads : (ts : List Terminal) (is : List Imported) → IsImport ts is → Reads ts is
+pub import_reads : (ts : List Terminal) (is : List Imported) → IsImport ts is → ImportsBy ts is
 import_reads ts is (import_statement rest items a) = (items, a, refl)
-import_reads ts is (from_statement t from rest items e m a) = subst (λ x. Reads x (map (attribute_of (spelling from)) items)) (sym e) (from, rest, items, refl, m, a, refl)
+import_reads ts is (from_statement t from rest items e m a) = subst (λ x. ImportsBy x (map (attribute_of (spelling from)) items)) (sym e) (from, rest, items, refl, m, a, refl)
 
 -- a relative module and the word `import` are read in one way
 pub one_from : (from other rest behind : List Terminal) → IsRelativeModule from → IsRelativeModule other → from ++ import_word ∷ rest ≡ other ++ import_word ∷ behind → (spelling from ≡ spelling other) × (rest ≡ behind)
@@ -40,23 +45,8 @@ one_from from other rest behind m n e =
     same : (x y : Read) → Some x ≡ Some y → (x.spelled ≡ y.spelled) × (x.rest ≡ y.rest)
     same x y f = let g : x ≡ y = cc in (ap (λ r. r.spelled) g, ap (λ r. r.rest) g)
 
--- the modules behind `import` were read
-pub import_read : (rest : List Terminal) (head : Head) (old new : List Binding) → ReadsItems (AreItems modules rest) head whole_module old new → ReadsStatement (import_word ∷ rest) head old new
-import_read rest head old new r = record { imported = map whole_module r.items; is = import_statement rest r.items r.are; adds = r.adds }
-
 pub import_bad : (rest : List Terminal) → ((items : List Item) → ¬ (AreItems modules rest items)) → (is : List Imported) → ¬ (IsImport (import_word ∷ rest) is)
 import_bad rest bad is i = let r = import_reads (import_word ∷ rest) is i in bad r.0 r.1
-
--- the names behind `from .. import` were read
-pub from_read : (before behind : List Terminal) (written : List ℕ) (head : Head) (old new : List Binding) → at_relative false before ≡ Some (record { spelled = written; rest = behind }) → ReadsItems (AreNames behind) head (attribute_of written) old new → ReadsStatement (from_word ∷ before) head old new
-from_read before behind written head old new e r =
-    let off = at_relative-sound before (record { spelled = written; rest = behind }) e in
-    let s = subst (λ w. ReadsItems (AreNames behind) head (attribute_of w) old new) off.spelled r in
-    record {
-      imported = map (attribute_of (spelling off.from)) s.items;
-      is = from_statement (from_word ∷ before) off.from behind s.items (ap (λ x. from_word ∷ x) off.split) off.is s.are;
-      adds = s.adds;
-    }
 
 pub from_bad : (before behind : List Terminal) (written : List ℕ) → at_relative false before ≡ Some (record { spelled = written; rest = behind }) → ((items : List Item) → ¬ (AreNames behind items)) → (is : List Imported) → ¬ (IsImport (from_word ∷ before) is)
 from_bad before behind written e bad is i =
@@ -65,7 +55,7 @@ from_bad before behind written e bad is i =
     let one = one_from r.0 off.from r.1 behind r.4 off.is (sym r.3 ∙ off.split) in
     bad r.2 (subst (λ x. AreNames x r.2) one.1 r.5)
 
--- no relative module with the word `import` behind it
+-- no relative module with the word `import` after it
 pub from_none : (before : List Terminal) → at_relative false before ≡ None → (is : List Imported) → ¬ (IsImport (from_word ∷ before) is)
 from_none before e is i =
     let r = import_reads (from_word ∷ before) is i in
@@ -76,7 +66,7 @@ from_none before e is i =
     none_some x f = cc
 
 -- a word begins its statement
-up_to_semicolon-name : (t : Token) (ts : List Token) → is_semicolon t.kind ≡ false → depth_after 0 t.kind ≡ 0 → up_to_semicolon 0 (t ∷ ts) ≡ t ∷ up_to_semicolon 0 ts
+up_to_semicolon-name : (t : Token) (ts : List Token) → is_semicolon t.kind ≡ false → depth_past 0 t.kind ≡ 0 → up_to_semicolon 0 (t ∷ ts) ≡ t ∷ up_to_semicolon 0 ts
 up_to_semicolon-name t ts e d = rw (e, d) refl
 
 -- no import statement starts with this token
@@ -85,33 +75,44 @@ no_import line p h = ap (λ ts. begins_import (map (terminal_in line.text) ts)) 
   where
     by_end : (b : Bool) → (is_semicolon p.token.kind && (0 == 0)) ≡ b → begins_import (map (terminal_in line.text) (up_to_semicolon 0 (p.token ∷ p.behind))) ≡ false
     by_end true e = rw e refl
-    by_end false e = rw e (h (map (terminal_in line.text) (up_to_semicolon (depth_after 0 p.token.kind) p.behind)))
+    by_end false e = rw e (h (map (terminal_in line.text) (up_to_semicolon (depth_past 0 p.token.kind) p.behind)))
 
 -- a token that begins no import statement binds nothing
 pub binds_none : (line : LogicalLine) (p : Place) (old : List Binding) → ((ts : List Terminal) → begins_import (terminal_in line.text p.token ∷ ts) ≡ false) → BindsMore line p old old
 binds_none line p old h = record { bounds = []; binds = nothing line p [] (no_import line p h) refl; adds = sym (append-nil (map bound_of old)) }
 
 -- the statement that starts with a word
-pub begun_at : (line : LogicalLine) (p : Place) (f : Form) (rest : List Terminal) → p.token.kind ≡ kind.Name → ((ts : List Terminal) → terminal_in line.text p.token ∷ ts ≡ begun f ts) → rest ≡ map (terminal_in line.text) (up_to_semicolon 0 p.behind) → terminals_at line p ≡ begun f rest
+pub begun_at : (line : LogicalLine) (p : Place) (f : Form) (rest : List Terminal) → p.token.kind ≡ kind.Name → ((ts : List Terminal) → terminal_in line.text p.token ∷ ts ≡ with_first_word f ts) → rest ≡ map (terminal_in line.text) (up_to_semicolon 0 p.behind) → terminals_at line p ≡ with_first_word f rest
 begun_at line p f rest k h e =
-    ap (map (terminal_in line.text)) (statement_is p ∙ up_to_semicolon-name p.token p.behind (ap is_semicolon k) (ap (depth_after 0) k)) ∙ ap (λ x. terminal_in line.text p.token ∷ x) (sym e) ∙ h rest
+    ap (map (terminal_in line.text)) (statement_is p ∙ up_to_semicolon-name p.token p.behind (ap is_semicolon k) (ap (depth_past 0) k)) ∙ ap (λ x. terminal_in line.text p.token ∷ x) (sym e) ∙ h rest
 
-begins_begun : (f : Form) (ts : List Terminal) → begins_import (begun f ts) ≡ true
+begins_begun : (f : Form) (ts : List Terminal) → begins_import (with_first_word f ts) ≡ true
 begins_begun form.Import ts = refl
 begins_begun form.From ts = refl
 
 -- an import statement that was read binds what it says
-pub binds_import : (line : LogicalLine) (p : Place) (f : Form) (rest : List Terminal) (head : Head) (old new : List Binding) → terminals_at line p ≡ begun f rest → head.line ≡ p.token.line → head.indented ≡ nat_lt 0 line.indent → ReadsStatement (begun f rest) head old new → BindsMore line p old new
+pub binds_import : (line : LogicalLine) (p : Place) (f : Form) (rest : List Terminal) (head : Head) (old new : List Binding) → terminals_at line p ≡ with_first_word f rest → head.line ≡ p.token.line → head.indented ≡ nat_lt 0 line.indent → BindsOne (IsImport (with_first_word f rest)) head old new → BindsMore line p old new
 binds_import line p f rest head old new e l i r = record {
   bounds = map (bound_at p.token.line (nat_lt 0 line.indent)) r.imported;
-  binds = imports line p _ r.imported (ap begins_import e ∙ begins_begun f rest) (subst (λ x. IsImport x r.imported) (sym e) r.is) refl;
+  binds = imports line p _ r.imported (ap begins_import e ∙ begins_begun f rest) (subst (λ x. IsImport x r.imported) (sym e) r.are) refl;
   adds = r.adds ∙ ap (λ x. map bound_of old ++ map (bound_at x head.indented) r.imported) l ∙ ap (λ x. map bound_of old ++ map (bound_at p.token.line x) r.imported) i;
 }
 
 -- and one that is outside the grammar is bad
-pub bad_import : (line : LogicalLine) (p : Place) (f : Form) (rest : List Terminal) → terminals_at line p ≡ begun f rest → ((is : List Imported) → ¬ (IsImport (begun f rest) is)) → IsBadStart line p
+pub bad_import : (line : LogicalLine) (p : Place) (f : Form) (rest : List Terminal) → terminals_at line p ≡ with_first_word f rest → ((is : List Imported) → ¬ (IsImport (with_first_word f rest) is)) → IsBadStart line p
 bad_import line p f rest e bad = record { begins = ap begins_import e ∙ begins_begun f rest; bad = λ is i. bad is (subst (λ x. IsImport x is) e i) }
 
 -- the token at a place
 pub token_at : (tokens : List Token) (i : ℕ) (t u : Token) → i < length tokens → slice_get tokens i ≡ Some u → get_or tokens i t ≡ u
 token_at tokens i t u within e = let f : Some (get_or tokens i t) ≡ Some u = sym (slice_get-get_or tokens i t within) ∙ e in cc
+
+-- the statement that starts at the token of a place, where its word begins an import statement
+pub begun_word : (line : LogicalLine) (place end : ℕ) (p : Place) (f : Form) (word : List ℕ) (none : Token) → place < length line.tokens → IsPlaceAt line.tokens place p → word ≡ slice_range line.text p.token.start p.token.stop → ((ts : List Terminal) → terminal_of (get_or line.tokens place none).kind word ∷ ts ≡ with_first_word f ts) → (get_or line.tokens place none).kind ≡ kind.Name → significant (take (end - (place + 1)) (drop (place + 1) line.tokens)) ≡ up_to_semicolon 0 (significant (drop (place + 1) line.tokens)) → terminals_at line p ≡ with_first_word f (map (terminal_in line.text) (significant (take (end - (place + 1)) (drop (place + 1) line.tokens))))
+begun_word line place end p f word none within h w begins name upto =
+    let e : get_or line.tokens place none ≡ p.token = token_at line.tokens place none p.token within h.0 in
+    begun_at line p f _ (ap (λ (x : Token). x.kind) (sym e) ∙ name) (λ ts. ap (λ (x : Token). terminal_of x.kind (slice_range line.text p.token.start p.token.stop) ∷ ts) (sym e) ∙ ap (λ v. terminal_of (get_or line.tokens place none).kind v ∷ ts) (sym w) ∙ begins ts) (ap (map (terminal_in line.text)) (upto ∙ ap (up_to_semicolon 0) (sym h.1)))
+
+-- why the items of a statement weren't bound, the statement wasn't
+pub refuses_import : (line : LogicalLine) (p : Place) (f : Form) (rest : List Terminal) (Are : List Imported → Type 0) (fault : Fault) (e : ImportError) → terminals_at line p ≡ with_first_word f rest → AreSameLists (IsImport (with_first_word f rest)) Are → fault ≡ record { kind = BadImport; offset = line.offset + p.token.start; line = p.token.line } → RefusesItems Are fault e → RefusesAt line p e
+refuses_import line p f rest Are fault error.Memory at same place r = tt
+refuses_import line p f rest Are fault (error.Fault other) at same place r = (bad_import line p f rest at (λ is i. r.1 is (same.to is i)), r.0 ∙ place)

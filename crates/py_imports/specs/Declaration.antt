@@ -1,7 +1,8 @@
 -- Which logical lines are declarations. Python Language Reference, 8.7, 8.8 and 8.9.3.
 use Rattle.std.specs.Prelude.{ℕ, Bool, true, false, ◌==◌, ◌&&◌, ◌||◌, Option, None, Some, List, codes, slice_get, slice_range}
-use Rattle.std.specs.Str.{bytes_eq}
+use Rattle.std.specs.Str.{byte, bytes_eq}
 use Rattle.py_lines.specs.LogicalLine.{LogicalLine}
+use Rattle.py_lines.specs.Token.{is_operator_where}
 use Rattle.py_lines.specs.declared.token.TokKind.{TokKind}
 use Rattle.py_lines.specs.declared.token.TokKind.TheVariants as kind
 use Rattle.py_lines.specs.declared.token.Token.{Token}
@@ -17,8 +18,7 @@ is_name kind.Name = true
 is_name _ = false
 
 abbrev pub is_at_sign : TokKind → Bool
-is_at_sign (kind.Op c) = c == 64
-is_at_sign _ = false
+is_at_sign k = is_operator_where (λ c. c == byte "@") k
 
 -- whether the token, if there is one, is this word
 abbrev pub is_word : List ℕ → List ℕ → Option Token → Bool

@@ -1,7 +1,7 @@
 -- Import statements. Python Language Reference, 7.11.
 use Rattle.std.specs.Prelude.{◌≡◌, ℕ, Bool, true, false, ◌==◌, Option, None, Some, List, [], ◌∷◌, ◌++◌, map, codes, if◌then◌else◌}
 use Rattle.std.specs.List.{list_any}
-use Rattle.std.specs.Str.{bytes_eq}
+use Rattle.std.specs.Str.{byte, bytes_eq}
 use Rattle.py_lines.specs.declared.token.TokKind.{TokKind}
 use Rattle.py_lines.specs.declared.token.TokKind.TheVariants as kind
 
@@ -31,7 +31,7 @@ terminal_of_word word = if bytes_eq word (codes "import") then import_word else 
 
 -- an operator: `.`, `,`, `*`, `(`, `)` or another
 abbrev pub terminal_of_operator : ℕ → Terminal
-terminal_of_operator c = if c == 46 then dot else (if c == 44 then comma else (if c == 42 then star else (if c == 40 then opening else (if c == 41 then closing else other))))
+terminal_of_operator c = if c == byte "." then dot else (if c == byte "," then comma else (if c == byte "*" then star else (if c == byte "(" then opening else (if c == byte ")" then closing else other))))
 
 -- a token by its kind and its text
 abbrev pub terminal_of : TokKind → List ℕ → Terminal
@@ -64,10 +64,10 @@ pub data IsRelativeModule : List Terminal → Type 0 where
 abbrev pub spelling : List Terminal → List ℕ
 spelling [] = []
 spelling (name w ∷ ts) = w ++ spelling ts
-spelling (dot ∷ ts) = 46 ∷ spelling ts
+spelling (dot ∷ ts) = byte "." ∷ spelling ts
 spelling (_ ∷ ts) = spelling ts
 
--- what a list of names lists: modules behind `import`, identifiers behind `from .. import`
+-- what a list of names lists: modules after `import`, identifiers after `from .. import`
 pub data Listed : Type 0 where
   modules : Listed
   identifiers : Listed
@@ -95,9 +95,9 @@ pub data AreItems : Listed → List Terminal → List Item → Type 0 where
 -- identifiers, then `)`, or `,` and `)`
 pub data AreBracketed : List Terminal → List Item → Type 0 where
   closed : (ts items : List Terminal) (is : List Item) → ts ≡ items ++ closing ∷ [] → AreItems identifiers items is → AreBracketed ts is
-  closed_behind_comma : (ts items : List Terminal) (is : List Item) → ts ≡ items ++ comma ∷ closing ∷ [] → AreItems identifiers items is → AreBracketed ts is
+  closed_after_comma : (ts items : List Terminal) (is : List Item) → ts ≡ items ++ comma ∷ closing ∷ [] → AreItems identifiers items is → AreBracketed ts is
 
--- what may stand behind `from .. import`: identifiers, identifiers in brackets, or `*`
+-- what may stand after `from .. import`: identifiers, identifiers in brackets, or `*`
 pub data AreNames : List Terminal → List Item → Type 0 where
   plain_names : (ts : List Terminal) (is : List Item) → AreItems identifiers ts is → AreNames ts is
   bracketed : (ts : List Terminal) (is : List Item) → AreBracketed ts is → AreNames (opening ∷ ts) is

@@ -2,7 +2,9 @@
 -- Comments".
 use Rattle.std.specs.Prelude.{◌≡◌, ℕ, nat_eq, ◌+◌, ◌==◌, Bool, true, false, not, ◌&&◌, ◌||◌, Option, None, Some, List, [], ◌∷◌, map, slice_get, slice_range, if◌then◌else◌}
 use Rattle.std.specs.List.{list_any, list_all, starts_with}
+use Rattle.std.specs.Str.{byte}
 use Rattle.py_lines.specs.LogicalLine.{LogicalLine}
+use Rattle.py_lines.specs.Token.{is_operator_where}
 use Rattle.py_lines.specs.declared.token.TokKind.{TokKind}
 use Rattle.py_lines.specs.declared.token.Token.{Token}
 use Rattle.py_lines.specs.declared.unit.UnitKind.TheVariants as unit_kind
@@ -10,7 +12,7 @@ use Rattle.py_imports.specs.Action.{says}
 use Rattle.py_imports.specs.Binds.{terminal_in}
 use Rattle.py_imports.specs.Declaration.{is_code}
 use Rattle.py_imports.specs.Grammar.{Terminal, begins_import, Imported, IsImport}
-use Rattle.py_imports.specs.Statement.{is_comment, significant, is_operator_that, Place, places_from, is_end}
+use Rattle.py_imports.specs.Statement.{is_comment, significant, Place, places_from, is_end}
 use Rattle.py_imports.specs.declared.action.Action.TheVariants as action
 use Rattle.py_imports.specs.declared.shape.Shape.{Shape}
 use Rattle.py_imports.specs.declared.shape.Shape.TheVariants as shape
@@ -19,9 +21,9 @@ use Rattle.py_imports.specs.declared.shape.Shape.TheVariants as shape
 abbrev pub terminals_of : LogicalLine → List Terminal
 terminals_of line = map (terminal_in line.text) (significant line.tokens)
 
--- the bytes of the byte order mark that the line begins with
+-- the bytes of the byte order mark that the line begins with: U+FEFF in UTF-8
 abbrev pub mark_len : LogicalLine → ℕ
-mark_len line = if starts_with nat_eq line.text (239 ∷ 187 ∷ 191 ∷ []) then 3 else 0
+mark_len line = if starts_with nat_eq line.text (0xef ∷ 0xbb ∷ 0xbf ∷ []) then 3 else 0
 
 -- the line is code, and begins with `import` or `from`
 abbrev pub begins_so : LogicalLine → Bool
@@ -32,13 +34,13 @@ abbrev pub begins_at : ℕ → Option Token → Bool
 begins_at byte None = false
 begins_at byte (Some t) = t.start == byte
 
--- the first token that is no comment stands directly behind mark and indentation
+-- the first token that is no comment stands directly after mark and indentation
 abbrev pub stands_first : LogicalLine → Bool
 stands_first line = begins_at (mark_len line + line.indent) (slice_get (significant line.tokens) 0)
 
 -- `(`
 abbrev pub is_parenthesis : TokKind → Bool
-is_parenthesis k = is_operator_that (λ c. c == 40) k
+is_parenthesis k = is_operator_where (λ c. c == byte "(") k
 
 -- whether the last of these tokens is `(`
 abbrev pub ends_with_opening : List Token → Bool
@@ -51,7 +53,7 @@ abbrev pub is_nothing : List Token → Bool
 is_nothing [] = true
 is_nothing (t ∷ ts) = false
 
--- a comment is the last token, or stands directly behind `(`
+-- a comment is the last token, or stands directly after `(`
 abbrev pub stands_well : Place → Bool
 stands_well p = not (is_comment p.token.kind) || is_nothing p.behind || ends_with_opening p.before
 
@@ -60,7 +62,7 @@ abbrev pub says_skip : List ℕ → Token → Bool
 says_skip text t = is_comment t.kind && says action.Skip (slice_range text t.start t.stop)
 
 -- a logical line that can be sorted: one import statement in the grammar, which stands first and shares the line with
--- no other, and comments only at its end or directly behind `(`, none of which says `skip`
+-- no other, and comments only at its end or directly after `(`, none of which says `skip`
 pub record IsSortable (line : LogicalLine) : Type 0 where
   pub code : line.kind ≡ unit_kind.Code
   pub first : stands_first line ≡ true

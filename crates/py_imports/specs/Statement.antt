@@ -1,57 +1,52 @@
 -- Where statements start in a logical line, and which tokens each has. Python Language Reference, 7 and 8.
 use Rattle.std.specs.Prelude.{ℕ, ◌+◌, ◌-◌, Bool, true, false, not, ◌==◌, ◌&&◌, ◌||◌, List, [], ◌∷◌, ◌++◌, map, filter, take_while, if◌then◌else◌}
-use Rattle.py_lines.specs.Balance.{is_opening, is_closing}
+use Rattle.std.specs.Str.{byte}
+use Rattle.py_lines.specs.Token.{is_operator_where, opens_bracket, closes_bracket}
+pub use Rattle.py_lines.specs.Token.{is_comment}
 use Rattle.py_lines.specs.declared.token.TokKind.{TokKind}
-use Rattle.py_lines.specs.declared.token.TokKind.TheVariants as kind
 use Rattle.py_lines.specs.declared.token.Token.{Token}
-
-abbrev pub is_comment : TokKind → Bool
-is_comment kind.Remark = true
-is_comment _ = false
 
 -- the tokens that are no comments, in order: comments are no part of a statement (2.1.3)
 abbrev pub significant : List Token → List Token
 significant tokens = filter (λ t. not (is_comment t.kind)) tokens
 
--- whether the token is an operator whose character passes
-abbrev pub is_operator_that : (ℕ → Bool) → TokKind → Bool
-is_operator_that passes (kind.Op c) = passes c
-is_operator_that passes _ = false
-
 abbrev pub is_semicolon : TokKind → Bool
-is_semicolon k = is_operator_that (λ c. c == 59) k
+is_semicolon k = is_operator_where (λ c. c == byte ";") k
+
+abbrev pub is_colon : TokKind → Bool
+is_colon k = is_operator_where (λ c. c == byte ":") k
 
 -- `;` stands between statements, and `:` before those of a suite (7, 8)
 abbrev pub is_divider : TokKind → Bool
-is_divider k = is_operator_that (λ c. (c == 59) || (c == 58)) k
+is_divider k = is_semicolon k || is_colon k
 
--- the depth behind a token: opening brackets less closing ones
-abbrev pub depth_after : ℕ → TokKind → ℕ
-depth_after depth k = if is_operator_that is_opening k then depth + 1 else (if is_operator_that is_closing k then depth - 1 else depth)
+-- the depth after a token: opening brackets less closing ones
+abbrev pub depth_past : ℕ → TokKind → ℕ
+depth_past depth k = if opens_bracket k then depth + 1 else (if closes_bracket k then depth - 1 else depth)
 
--- the depth behind tokens that begin at this depth
+-- the depth after tokens that begin at this depth
 abbrev pub depth_behind : ℕ → List Token → ℕ
 depth_behind depth [] = depth
-depth_behind depth (t ∷ ts) = depth_behind (depth_after depth t.kind) ts
+depth_behind depth (t ∷ ts) = depth_behind (depth_past depth t.kind) ts
 
 -- whether the last of these tokens, which begin at this depth, is `;` or `:` at depth 0
 abbrev pub ends_in_divider : ℕ → List Token → Bool
 ends_in_divider depth [] = false
 ends_in_divider depth (t ∷ []) = is_divider t.kind && (depth == 0)
-ends_in_divider depth (t ∷ u ∷ ts) = ends_in_divider (depth_after depth t.kind) (u ∷ ts)
+ends_in_divider depth (t ∷ u ∷ ts) = ends_in_divider (depth_past depth t.kind) (u ∷ ts)
 
--- whether a statement may start behind these tokens: behind none, or a `;` or `:` at depth 0
+-- whether a statement may start after these tokens: after none, or a `;` or `:` at depth 0
 abbrev pub may_start_behind : List Token → Bool
 may_start_behind [] = true
 may_start_behind (t ∷ ts) = ends_in_divider 0 (t ∷ ts)
 
--- a place in a list of tokens: a token, with what stands before and behind it
+-- a place in a list of tokens: a token, with what stands before and after it
 pub record Place : Type 0 where
   pub before : List Token
   pub token : Token
   pub behind : List Token
 
--- the places of tokens that stand behind these
+-- the places of tokens that stand after these
 abbrev pub places_from : List Token → List Token → List Place
 places_from before [] = []
 places_from before (t ∷ ts) = record { before = before; token = t; behind = ts } ∷ places_from (before ++ t ∷ []) ts

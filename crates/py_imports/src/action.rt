@@ -12,15 +12,15 @@ pub enum Action {
     Off,
     /// `on`: sort again from here on.
     On,
-    /// `split`: sort what stands before and what stands behind apart from one another.
+    /// `split`: sort what stands before it and what comes after it apart from one another.
     Split,
 }
 
 impl Action {
-    ghost use Rattle.py_imports.specs.Action.{spelling_of};
+    ghost use Rattle.py_imports.specs.Action.{action_word};
 
     fn spelling(self) -> &'static [u8]
-        ensures { result.now ≡ spelling_of self }
+        ensures { result.now ≡ action_word self }
     {
         match self {
             Action::SkipFile => b"skip_file",
@@ -47,7 +47,7 @@ fn begins_with_word_byte(text: &[u8]) -> bool
     }
 }
 
-// Whether the text begins with the phrase, and no byte of a word stands behind it.
+// Whether the text begins with the phrase, and no byte of a word follows.
 fn begins_with_phrase(text: &[u8], phrase: &[u8]) -> bool
     ensures { result ≡ begins_with_phrase phrase.now text.now }
 {

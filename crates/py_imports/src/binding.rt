@@ -13,9 +13,9 @@ pub struct Binding {
     pub indented: bool,
     /// The module: its dots and names, without spaces.
     pub module_name: String,
-    /// The name behind `from .. import`, or `*`; none of a whole module.
+    /// The name after `from .. import`, or `*`; none of a whole module.
     pub attribute_name: Option<String>,
-    /// The name behind `as`.
+    /// The name after `as`.
     pub alias_name: Option<String>,
 }
 

@@ -19,7 +19,7 @@ fn begins_with_at_sign(unit: &Unit<'_>) -> bool
     ensures { result ≡ is_at (slice_get unit.now.tokens.now 0) }
 {
     match unit.tokens.first() {
-        Some(token) => token.kind == TokKind::Op(b'@'),
+        Some(token) => token.kind.is_operator(b'@'),
         None => false,
     }
 }
@@ -36,7 +36,7 @@ fn begins_declaration(unit: &Unit<'_>) -> bool
 
 /// Whether the logical line declares a function or class, or begins with a decorator of one (Python Language
 /// Reference, 8.7 and 8.8): it is code without indentation whose first token is `def`, `class` or `@`, or `async`
-/// with `def` behind it.
+/// with `def` after it.
 pub fn is_declaration(unit: &Unit<'_>) -> bool
     ensures { result ≡ is_declaration (line_in unit.now) }
 {

@@ -8,7 +8,7 @@ use thiserror::Error;
 /// Why a logical line gave no bindings.
 #[derive(Clone, Copy, Debug, PartialEq, Eq, Error)]
 pub enum ImportError {
-    /// There was no memory.
+    /// Out of memory.
     #[error("out of memory")]
     Memory,
     /// An import statement isn't in the grammar: F9 at the first token of the first one.

@@ -1,4 +1,4 @@
-ghost use Rattle.std.specs.Prelude.{◌≡◌, ◌≢◌, true, false, List, ◌∷◌};
+ghost use Rattle.std.specs.Prelude.{◌≡◌, List, ◌∷◌};
 ghost use Rattle.py_imports.specs.Grammar.{Terminal, terminal_of, terminal_of_word, terminal_of_operator, is_keyword};
 
 use py_lines::TokKind;
@@ -33,7 +33,7 @@ pub(crate) enum Lexeme<'s> {
 }
 
 impl<'s> Lexeme<'s> {
-    ghost use Rattle.py_imports.specs.Parser.{followed_by};
+    ghost use Rattle.py_imports.specs.Reading.Lexemes.{followed_by};
 
     // The lexeme of a token with this text.
     pub(crate) fn of_token(kind: TokKind, word: &'s str) -> Lexeme<'s>
@@ -72,16 +72,6 @@ impl<'s> Lexeme<'s> {
             b'(' => Lexeme::Opening,
             b')' => Lexeme::Closing,
             _ => Lexeme::Other,
-        }
-    }
-
-    pub(crate) fn is_import(self) -> bool
-        ensures yes { result ≡ true → self.entry ≡ Lexeme.Import }
-        ensures no { result ≡ false → self.entry ≢ Lexeme.Import }
-    {
-        match self {
-            Lexeme::Import => true,
-            _ => false,
         }
     }
 }

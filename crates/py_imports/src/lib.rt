@@ -3,21 +3,21 @@
 
 mod action;
 mod binding;
+mod bindings;
 mod declaration;
 mod error;
-mod imports;
-mod laws;
+mod items;
+pub mod laws;
 mod lexeme;
-mod recognize;
+mod lexemes;
 mod shape;
 mod statement;
 
 pub use action::{Action, says};
 pub use binding::Binding;
+pub use bindings::bindings_of;
 pub use declaration::is_declaration;
 pub use error::ImportError;
-pub use imports::bindings_of;
-pub use laws::{binds_one_list, binds_or_is_bad};
 pub use shape::{Shape, shape_of};
 
 #[cfg(test)]

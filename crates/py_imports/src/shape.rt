@@ -1,14 +1,14 @@
-ghost use Rattle.std.specs.Prelude.{◌≡◌, ◌<◌, ◌+◌, ◌==◌, ◌||◌, not, false, Some, [], MatchBool, MatchOption, length, slice_get};
+ghost use Rattle.std.specs.Prelude.{◌≡◌, ◌<◌, ◌+◌, ◌==◌, ◌||◌, not, false, Some, [], MatchBool, MatchOption, length, position, slice_get};
 ghost use Rattle.std.specs.List.{list_any, list_all};
 ghost use Rattle.py_lines.specs.Lines.{line_in};
 ghost use Rattle.py_lines.specs.declared.token.Token.{Token};
 ghost use Rattle.py_imports.specs.Statement.{is_comment, significant, places_from, is_end};
 ghost use Rattle.py_imports.specs.Shape.{mark_len, begins_so, is_parenthesis, stands_well, says_skip, IsSortable, HasShape};
-ghost use Rattle.py_imports.specs.Recognizer.{IsFirstCode, BeginsAt};
+ghost use Rattle.py_imports.specs.Reading.Places.{BeginsAt};
 
 use crate::action::{Action, says};
-use crate::imports::{Form, form_of, statement_end};
-use crate::statement::Statement;
+use crate::items::{Form, ImportItems, form_of};
+use crate::statement::statement_end;
 use py_lines::{TokKind, Token, Unit, UnitKind};
 
 /// Whether a logical line can be put in order with others: what [`shape_of`] answers.
@@ -22,31 +22,15 @@ pub enum Shape {
     Other,
 }
 
-fn is_comment(kind: TokKind) -> bool
-    ensures { result ≡ is_comment kind }
-{
-    matches!(kind, TokKind::Remark)
-}
-
-fn is_parenthesis(kind: TokKind) -> bool
-    ensures { result ≡ is_parenthesis kind }
-{
-    matches!(kind, TokKind::Op(b'('))
-}
-
 // The place of the first token that is no comment.
 fn first_code(tokens: &[Token]) -> Option<usize>
-    ensures { MatchOption result (significant tokens.now ≡ []) (IsFirstCode tokens.now) }
+    ensures { result ≡ position (λ t. not (is_comment t.kind)) tokens.now }
 {
-    'tokens: for place in 0..tokens.len() {
-        if !is_comment(tokens[place].kind) {
-            return Some(place);
-        }
-    }
-    None
+    tokens.iter().position(|token| !token.kind.is_comment())
 }
 
 // The place and the first word of the import statement that code begins with, if it does.
+#[tactic(auto, using(crate::proofs::ShapeLemmas::no_code))]
 fn begun_at(unit: &Unit<'_>) -> Option<(usize, Form)>
     ensures { MatchOption result (begins_so (line_in unit.now) ≡ false) (λ r. BeginsAt (line_in unit.now) r.0 r.1) }
 {
@@ -76,24 +60,23 @@ fn is_divided(tokens: &[Token]) -> bool
     statement_end(tokens, 0) < tokens.len()
 }
 
-// Whether a token of this kind stands well, if it is a comment: last, or directly behind `(`.
-fn stands_well(kind: TokKind, is_last: bool, behind_opening: bool) -> bool
-    ensures { result ≡ not (is_comment kind) || is_last || behind_opening }
+// Whether a token of this kind stands well, if it is a comment: last, or directly after `(`.
+fn stands_well(kind: TokKind, is_last: bool, after_opening: bool) -> bool
+    ensures { result ≡ not (is_comment kind) || is_last || after_opening }
 {
-    !is_comment(kind) || is_last || behind_opening
+    !kind.is_comment() || is_last || after_opening
 }
 
-// Whether each comment is the last token, or stands directly behind `(`.
+// Whether each comment is the last token, or stands directly after `(`.
 fn comments_stand_well(tokens: &[Token]) -> bool
     ensures { result ≡ list_all stands_well (places_from [] tokens.now) }
 {
-    let mut behind_opening = false;
-    'tokens: for place in 0..tokens.len() {
-        let kind = tokens[place].kind;
-        if !stands_well(kind, place + 1 == tokens.len(), behind_opening) {
+    let mut after_opening = false;
+    'tokens: for (place, token) in tokens.iter().enumerate() {
+        if !stands_well(token.kind, place + 1 == tokens.len(), after_opening) {
             return false;
         }
-        behind_opening = is_parenthesis(kind);
+        after_opening = token.kind.is_operator(b'(');
     }
     true
 }
@@ -103,10 +86,10 @@ fn is_skip(unit: &Unit<'_>, place: usize) -> bool
     requires { place < length unit.now.tokens.now }
     ensures { (t : Token) → slice_get unit.now.tokens.now place ≡ Some t → result ≡ says_skip unit.now.text.now t }
 {
-    is_comment(unit.tokens[place].kind) && says(unit.word(place), Action::Skip)
+    unit.tokens[place].kind.is_comment() && says(unit.word(place), Action::Skip)
 }
 
-// Whether a comment says `skip`.
+// Whether a comment says `skip`. It goes by places, since a unit gives the text of the token at a place.
 fn says_skip(unit: &Unit<'_>) -> bool
     ensures { result ≡ list_any (says_skip unit.now.text.now) unit.now.tokens.now }
 {
@@ -118,7 +101,7 @@ fn says_skip(unit: &Unit<'_>) -> bool
     false
 }
 
-// Whether the token at `place` stands directly behind mark and indentation.
+// Whether the token at `place` stands directly after mark and indentation.
 fn stands_first(unit: &Unit<'_>, place: usize) -> bool
     requires { place < length unit.now.tokens.now }
     ensures { (t : Token) → slice_get unit.now.tokens.now place ≡ Some t → result ≡ (t.start == mark_len (line_in unit.now) + unit.now.indent) }
@@ -133,10 +116,10 @@ fn is_sortable(unit: &Unit<'_>, place: usize, form: Form) -> bool
     requires { BeginsAt (line_in unit.now) place form }
     ensures { MatchBool result (IsSortable (line_in unit.now)) (¬ (IsSortable (line_in unit.now))) }
 {
-    let statement = Statement::new(unit, place + 1, unit.tokens.len());
+    let items = ImportItems::new(unit, form, place + 1, unit.tokens.len());
     stands_first(unit, place)
         && !is_divided(unit.tokens)
-        && statement.is_import(form)
+        && items.is_in_grammar()
         && comments_stand_well(unit.tokens)
         && !says_skip(unit)
 }
@@ -144,8 +127,8 @@ fn is_sortable(unit: &Unit<'_>, place: usize, form: Form) -> bool
 /// The shape of a logical line (Python Language Reference, 7.11; isort documentation, "Action Comments").
 ///
 /// - `Sortable`: code that is one import statement in the grammar, with no `;` outside brackets. Its first token other
-///   than comments stands directly behind byte order mark and indentation. Each comment is the line's last token, or
-///   the next one behind a `(`, and none says `skip`.
+///   than comments stands directly after byte order mark and indentation. Each comment is the line's last token, or
+///   the next one after a `(`, and none says `skip`.
 /// - `Pinned`: other code whose first token other than comments is `import` or `from`.
 /// - `Other`: any other line.
 pub fn shape_of(unit: &Unit<'_>) -> Shape

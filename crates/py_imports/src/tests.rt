@@ -1,9 +1,26 @@
-use crate::{Action, ImportError, Shape, bindings_of, is_declaration, says, shape_of};
-use py_lines::{Fault, FaultKind, Lines};
+use crate::{Action, Binding, ImportError, Shape, bindings_of, is_declaration, says, shape_of};
+use py_lines::{Fault, FaultKind, Lines, Unit};
 use std::alloc::Global;
 use std::test::Fail;
 
-// The statements that a text's logical lines bind, each on a line of its own, behind its line number.
+// The statement of a binding on a line of its own, after its line number.
+fn list_binding(alloc: Global, binding: &Binding, out: &mut String) -> Result<(), Fail> {
+    let line = binding.line;
+    let indented = if binding.indented { "indented " } else { "" };
+    let statement = binding.statement(alloc)?;
+    writeln!(out, "{line} {indented}{statement}")?;
+    Ok(())
+}
+
+// What a logical line binds, so listed.
+fn list_unit(alloc: Global, unit: &Unit<'_>, out: &mut String) -> Result<(), Fail> {
+    for binding in &bindings_of(alloc, unit)? {
+        list_binding(alloc, binding, out)?;
+    }
+    Ok(())
+}
+
+// What a text's logical lines bind, so listed.
 fn listing(alloc: Global, text: &str) -> Result<String, Fail> {
     let mut lines = Lines::new(alloc, text.as_bytes())?;
     let mut out = String::new(alloc);
@@ -11,14 +28,48 @@ fn listing(alloc: Global, text: &str) -> Result<String, Fail> {
         let Some(unit) = lines.next_unit()? else {
             break;
         };
-        for binding in &bindings_of(alloc, &unit)? {
-            let line = binding.line;
-            let indented = if binding.indented { "indented " } else { "" };
-            let statement = binding.statement(alloc)?;
-            writeln!(out, "{line} {indented}{statement}")?;
-        }
+        list_unit(alloc, &unit, &mut out)?;
     }
     Ok(out)
+}
+
+// Whether the text's first logical line is refused with F9 at this byte.
+fn is_refused(alloc: Global, text: &str, offset: u64) -> Result<bool, Fail> {
+    let mut lines = Lines::new(alloc, text.as_bytes())?;
+    let unit = lines.next_unit()?.ok_or("a unit is missing")?;
+    let fault = Fault {
+        kind: FaultKind::BadImport,
+        offset,
+        line: 1,
+    };
+    match bindings_of(alloc, &unit) {
+        Err(error) => Ok(error == ImportError::Fault(fault)),
+        Ok(_) => Ok(false),
+    }
+}
+
+// Whether copies of what a logical line binds are equal to it.
+fn are_copied(alloc: Global, unit: &Unit<'_>) -> Result<bool, Fail> {
+    for binding in &bindings_of(alloc, unit)? {
+        if binding.copy(alloc)? != *binding {
+            return Ok(false);
+        }
+    }
+    Ok(true)
+}
+
+// Whether the text's first logical line is a declaration.
+fn declares(alloc: Global, text: &str) -> Result<bool, Fail> {
+    let mut lines = Lines::new(alloc, text.as_bytes())?;
+    let unit = lines.next_unit()?.ok_or("a unit is missing")?;
+    Ok(is_declaration(&unit))
+}
+
+// The shape of the text's first logical line.
+fn first_shape(alloc: Global, text: &str) -> Result<Shape, Fail> {
+    let mut lines = Lines::new(alloc, text.as_bytes())?;
+    let unit = lines.next_unit()?.ok_or("a unit is missing")?;
+    Ok(shape_of(&unit))
 }
 
 #[test]
@@ -94,17 +145,7 @@ fn refuses_bad_statements(rt: HostRuntime) -> Result<(), Fail> {
         ("if a: import b; from c", 16),
     ];
     for (text, offset) in texts {
-        let mut lines = Lines::new(rt.alloc(), text.as_bytes())?;
-        let unit = lines.next_unit()?.ok_or("a unit is missing")?;
-        let fault = Fault {
-            kind: FaultKind::BadImport,
-            offset,
-            line: 1,
-        };
-        match bindings_of(rt.alloc(), &unit) {
-            Err(error) => assert_eq!(rt; error, ImportError::Fault(fault)),
-            Ok(_) => return Err(Fail::from("no fault")),
-        }
+        assert!(rt; is_refused(rt.alloc(), text, offset)?, "{text}");
     }
     Ok(())
 }
@@ -115,10 +156,7 @@ fn copies_bindings(rt: HostRuntime) -> Result<(), Fail> {
     let mut lines = Lines::new(rt.alloc(), text)?;
     for _ in 0..2 {
         let unit = lines.next_unit()?.ok_or("a unit is missing")?;
-        for binding in &bindings_of(rt.alloc(), &unit)? {
-            let copy = binding.copy(rt.alloc())?;
-            assert_eq!(rt; &copy, binding);
-        }
+        assert!(rt; are_copied(rt.alloc(), &unit)?);
     }
     Ok(())
 }
@@ -140,10 +178,8 @@ fn knows_declarations(rt: HostRuntime) -> Result<(), Fail> {
         ("\n", false),
         ("if a: def_", false),
     ];
-    for (text, declares) in texts {
-        let mut lines = Lines::new(rt.alloc(), text.as_bytes())?;
-        let unit = lines.next_unit()?.ok_or("a unit is missing")?;
-        assert_eq!(rt; is_declaration(&unit), declares, "{text}");
+    for (text, is_declared) in texts {
+        assert_eq!(rt; declares(rt.alloc(), text)?, is_declared, "{text}");
     }
     Ok(())
 }
@@ -180,9 +216,7 @@ fn knows_shapes(rt: HostRuntime) -> Result<(), Fail> {
         ("\n", Shape::Other),
     ];
     for (text, shape) in texts {
-        let mut lines = Lines::new(rt.alloc(), text.as_bytes())?;
-        let unit = lines.next_unit()?.ok_or("a unit is missing")?;
-        assert_eq!(rt; shape_of(&unit), shape, "{text}");
+        assert_eq!(rt; first_shape(rt.alloc(), text)?, shape, "{text}");
     }
     Ok(())
 }

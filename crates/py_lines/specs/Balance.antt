@@ -1,28 +1,31 @@
 -- Brackets in pairs, and how deep they stand. Python Language Reference, 2.1.6 and 2.6.
-use Rattle.std.specs.Prelude.{◌≡◌, ℕ, ◌+◌, ◌-◌, ◌<◌, Bool, true, false, ◌==◌, ◌||◌, List, [], ◌∷◌, ◌++◌, if◌then◌else◌}
+use Rattle.std.specs.Prelude.{◌≡◌, ℕ, ◌+◌, ◌-◌, ◌<◌, Bool, true, false, ◌==◌, ◌||◌, List, [], ◌∷◌, ◌++◌, if◌then◌else◌, codes}
+use Rattle.std.specs.Str.{byte}
 use Rattle.py_lines.specs.Character.{is_one_of}
 use Rattle.py_lines.specs.Piece.{Class, operator, Piece, begins}
 
 -- `(`, `[` and `{`
 unfoldable pub is_opening : ℕ → Bool
-is_opening = is_one_of (40 ∷ 91 ∷ 123 ∷ [])
+is_opening = is_one_of (codes "([{")
 
 -- `)`, `]` and `}`
 unfoldable pub is_closing : ℕ → Bool
-is_closing = is_one_of (41 ∷ 93 ∷ 125 ∷ [])
+is_closing = is_one_of (codes ")]}")
 
 -- the bracket that closes an opening one
 abbrev pub closing_of : ℕ → ℕ
-closing_of c = if c == 40 then 41 else (if c == 91 then 93 else 125)
+closing_of c = if c == byte "(" then byte ")" else (if c == byte "[" then byte "]" else byte "}")
 
 -- whether the piece is an operator whose character passes
 abbrev pub is_operator_that : (ℕ → Bool) → Class → List ℕ → Bool
 is_operator_that passes operator text = begins passes text
 is_operator_that passes other text = false
 
+-- whether the piece is an opening bracket
 abbrev pub is_opener : Piece → Bool
 is_opener p = is_operator_that is_opening p.class p.text
 
+-- whether the piece is a closing bracket
 abbrev pub is_closer : Piece → Bool
 is_closer p = is_operator_that is_closing p.class p.text
 
@@ -39,11 +42,11 @@ pub data IsBalanced : List Piece → Type 0 where
   pair : (ps inner : List Piece) (a b : Piece) → ps ≡ a ∷ inner ++ b ∷ [] → ArePair a b → IsBalanced inner → IsBalanced ps
   both : (ps first second : List Piece) → ps ≡ first ++ second → IsBalanced first → IsBalanced second → IsBalanced ps
 
--- the depth behind a piece: openers less closers
+-- the depth after a piece: openers less closers
 abbrev pub depth_after : ℕ → Piece → ℕ
 depth_after depth p = if is_opener p then depth + 1 else (if is_closer p then depth - 1 else depth)
 
--- the depth behind pieces that begin at this depth
+-- the depth after pieces that begin at this depth
 abbrev pub depth_through : ℕ → List Piece → ℕ
 depth_through depth [] = depth
 depth_through depth (p ∷ ps) = depth_through (depth_after depth p) ps

@@ -17,7 +17,7 @@ pub record Decodes (text characters tail : List ℕ) : Type 0 where
   pub bad : StartsWithNoChar tail
 
 -- the pieces read these characters whole, with their brackets in pairs and at most 200 open
-pub record IsReading (pieces : List Piece) (characters : List ℕ) : Type 0 where
+pub record IsBalancedReading (pieces : List Piece) (characters : List ℕ) : Type 0 where
   pub spell : spelled pieces ≡ characters
   pub fit : AreReadBefore pieces []
   pub balanced : IsBalanced pieces
@@ -28,25 +28,25 @@ pub record IsLive (characters : List ℕ) : Type 0 where
   pub more : List ℕ
   pub pieces : List Piece
   pub scalars : all_scalars more ≡ true
-  pub reading : IsReading pieces (characters ++ more)
+  pub reading : IsBalancedReading pieces (characters ++ more)
 
 -- the pieces are none, or the last ends a line at depth 0
 abbrev pub EndsLine : List Piece → Type 0
 EndsLine pieces = (pieces ≡ []) ⊎ ((body : List Piece) × (last : Piece) × (pieces ≡ body ++ last ∷ []) × (last.class ≡ line_end) × (depth_through 0 body ≡ 0))
 
--- the pieces read a front of the characters that ends a line, the longest that there is
+-- the pieces read a prefix of the characters that ends a line, the longest that there is
 pub record IsFront (pieces : List Piece) (characters : List ℕ) : Type 0 where
   pub rest : List ℕ
   pub spell : spelled pieces ++ rest ≡ characters
-  pub reading : IsReading pieces (spelled pieces)
+  pub reading : IsBalancedReading pieces (spelled pieces)
   pub ended : EndsLine pieces
-  pub longest : (others : List Piece) (after : List ℕ) → spelled others ++ after ≡ characters → IsReading others (spelled others) → EndsLine others → length (spelled others) ≤ length (spelled pieces)
+  pub longest : (others : List Piece) (after : List ℕ) → spelled others ++ after ≡ characters → IsBalancedReading others (spelled others) → EndsLine others → length (spelled others) ≤ length (spelled pieces)
 
--- the items of an open string may have a backslash behind them that has nothing to escape yet
+-- the items of an open string may have a backslash after them that has nothing to escape yet
 abbrev pub IsUnescaped : List ℕ → Type 0
 IsUnescaped last = (last ≡ []) ⊎ ((slash : ℕ) × (last ≡ slash ∷ []) × (is_backslash slash ≡ true))
 
--- the front of a short string, up to where it is still open (2.4.1)
+-- the beginning of a short string, up to where it is still open (2.4.1)
 pub record IsShortFront (text : List ℕ) : Type 0 where
   pub prefix : List ℕ
   pub quote : ℕ
@@ -58,7 +58,7 @@ pub record IsShortFront (text : List ℕ) : Type 0 where
   pub each : list_all (is_short_item quote) items ≡ true
   pub escapes : IsUnescaped last
 
--- the front of a long string, up to where it is still open (2.4.1)
+-- the beginning of a long string, up to where it is still open (2.4.1)
 pub record IsLongFront (text : List ℕ) : Type 0 where
   pub prefix : List ℕ
   pub quote : ℕ
@@ -105,7 +105,7 @@ pub record IsAtDepth (characters : List ℕ) (c depth : ℕ) : Type 0 where
   pub fit : AreReadBefore pieces (c ∷ [])
   pub deep : depth_through 0 pieces ≡ depth
 
--- pieces that read the characters to their end, with an open bracket behind `start`: what follows it is balanced,
+-- pieces that read the characters to their end, with an open bracket after `start`: what follows it is balanced,
 -- so it is the innermost one
 pub record InBracket (characters start : List ℕ) : Type 0 where
   pub outer : List Piece
@@ -194,7 +194,7 @@ pub record IsEndFault (kind : FaultKind) (characters tail : List ℕ) (offset : 
   pub ends_in : IsOpenAtEnd kind characters start
   pub place : offset ≡ byte_len start
 
--- bytes that begin no character, behind a text that is live up to them
+-- bytes that begin no character, after a text that is live up to them
 pub record IsUndecodable (characters tail : List ℕ) (offset : ℕ) : Type 0 where
   pub bad : ¬ (tail ≡ [])
   pub live : IsLive characters
@@ -208,24 +208,25 @@ IsFaultAt kind characters tail offset = IsCharacterFault kind characters offset 
 
 -- the text is read whole, or has a lexical fault
 abbrev pub IsReadOrFaulty : List ℕ → List ℕ → Type 0
-IsReadOrFaulty characters tail = ((tail ≡ []) × ((pieces : List Piece) × IsReading pieces characters)) ⊎ ((kind : FaultKind) × (offset : ℕ) × IsFaultAt kind characters tail offset)
+IsReadOrFaulty characters tail = ((tail ≡ []) × ((pieces : List Piece) × IsBalancedReading pieces characters)) ⊎ ((kind : FaultKind) × (offset : ℕ) × IsFaultAt kind characters tail offset)
 
 -- the text has no reading, and this is its lexical fault: its line is that of its offset
 pub record IsLexicalFault (characters tail : List ℕ) (fault : Fault) : Type 0 where
-  pub unread : tail ≡ [] → (pieces : List Piece) → ¬ (IsReading pieces characters)
+  pub unread : tail ≡ [] → (pieces : List Piece) → ¬ (IsBalancedReading pieces characters)
   pub place : IsFaultAt fault.kind characters tail fault.offset
   pub line : (before after : List ℕ) → before ++ after ≡ characters → byte_len before ≡ fault.offset → fault.line ≡ 1 + line_ends before
 
--- The lexical units of a text, and its lexical fault if it has one. They are those of its balanced reading, or
--- else of its longest front that has one and ends a line.
-pub record IsRead (text : List ℕ) (lines : List LogicalLine) : Type 0 where
+-- the text has a balanced reading, and these are its logical lines
+pub record IsLexedWhole (text : List ℕ) (lines : List LogicalLine) : Type 0 where
   pub characters : List ℕ
   pub pieces : List Piece
   pub decodes : Decodes text characters []
-  pub reading : IsReading pieces characters
+  pub reading : IsBalancedReading pieces characters
   pub cut : lines ≡ lines_of pieces
 
-pub record IsRefused (text : List ℕ) (lines : List LogicalLine) (fault : Fault) : Type 0 where
+-- The text has this fault, and these are the logical lines of its longest prefix that has a balanced reading and ends
+-- a line.
+pub record IsLexedToFault (text : List ℕ) (lines : List LogicalLine) (fault : Fault) : Type 0 where
   pub characters : List ℕ
   pub tail : List ℕ
   pub pieces : List Piece
@@ -234,9 +235,10 @@ pub record IsRefused (text : List ℕ) (lines : List LogicalLine) (fault : Fault
   pub refused : IsLexicalFault characters tail fault
   pub cut : lines ≡ lines_of pieces
 
+-- the logical lines of a text, and then its end or its lexical fault
 abbrev pub IsLexed : List ℕ → List LogicalLine → Option Fault → Type 0
-IsLexed text lines None = IsRead text lines
-IsLexed text lines (Some fault) = IsRefused text lines fault
+IsLexed text lines None = IsLexedWhole text lines
+IsLexed text lines (Some fault) = IsLexedToFault text lines fault
 
 -- the lines begin the lexing of the text: others may follow, and then its end or its fault
 pub record BeginsLexing (text : List ℕ) (lines : List LogicalLine) : Type 0 where

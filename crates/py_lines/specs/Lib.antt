@@ -5,8 +5,6 @@ pub mod LogicalLine
 pub mod Lexed
 pub mod Reader
 pub mod Token
-pub mod Machine
 pub mod UnitLine
-pub mod Scan
-pub mod Source
 pub mod Lines
+pub mod Private

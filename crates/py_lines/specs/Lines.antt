@@ -12,13 +12,14 @@ use Rattle.py_lines.specs.declared.lines.Lines as lines
 use Rattle.py_lines.specs.contracts.lines.Lines as lines_rows
 
 -- What a call that reads the next unit answers, from one state to the next. A unit continues the lines given so
--- far; None is the end, and a fault is the text's, behind the lines given; Memory leaves all as it was.
+-- far; None is the end, and a fault is the text's, after the lines given; Memory leaves all as it was.
 abbrev pub ReadsNext : Reader → Result (Option unit.Unit) LexError → Reader → Type 0
 ReadsNext old (Ok (Some u)) new = Continues old (line_in u) new
 ReadsNext old (Ok None) new = Ends old new
 ReadsNext old (Err (lex.Fault f)) new = Fails old f new
 ReadsNext old (Err lex.Memory) new = RunsOut old new
 
+-- what `next_unit` answers, and the reader that it leaves once the unit is given back
 abbrev pub LeavesNext : MutBor lines.Lines → Result (Option unit.Unit) LexError → Fml
 LeavesNext self result =
     let row = lines_rows.the_row (record { mir = named 0; lft = [] }) in

@@ -14,7 +14,7 @@ abbrev pub is_line_end_class : Class → Bool
 is_line_end_class line_end = true
 is_line_end_class other = false
 
--- the piece at the front of the first part
+-- the piece, put first in the first part
 abbrev pub put_first : Piece → List (List Piece) → List (List Piece)
 put_first p [] = (p ∷ []) ∷ []
 put_first p (u ∷ us) = (p ∷ u) ∷ us
@@ -66,6 +66,7 @@ is_code_class comment = false
 is_code_class line_end = false
 is_code_class other = true
 
+-- comments
 abbrev pub is_comment_class : Class → Bool
 is_comment_class comment = true
 is_comment_class other = false
@@ -79,7 +80,7 @@ abbrev pub space_len : Class → List ℕ → ℕ
 space_len space text = byte_len text
 space_len other text = 0
 
--- the bytes of space that the pieces begin with, behind a mark
+-- the bytes of space that the pieces begin with, after a mark
 abbrev pub indent_of : List Piece → ℕ
 indent_of [] = 0
 indent_of (p ∷ []) = space_len p.class p.text

@@ -1,6 +1,6 @@
 -- The pieces that a text is cut into: how each class is spelled, and what may follow it.
 -- Python Language Reference, chapter 2.
-use Rattle.std.specs.Prelude.{◌≡◌, ℕ, Bool, true, false, not, ◌==◌, ◌||◌, ◌&&◌, ◌⊎◌, List, [], ◌∷◌, ◌++◌, encode_utf8_all}
+use Rattle.std.specs.Prelude.{◌≡◌, ℕ, Bool, true, false, not, ◌==◌, ◌||◌, ◌&&◌, ◌⊎◌, List, [], ◌∷◌, ◌++◌, encode_utf8_all, codes}
 use Rattle.std.specs.Str.{all_scalars}
 use Rattle.std.specs.List.{list_all, list_any}
 use Rattle.py_lines.specs.Character.{is_mark, is_space, is_word_character, is_word_start, is_quote, is_operator, is_line_feed, is_return, is_break, is_hash, is_backslash, is_barred, is_r, is_b_or_f, is_u}
@@ -46,9 +46,9 @@ IsWord text = (first : ℕ) × (others : List ℕ) × (text ≡ first ∷ others
 
 -- LF, CR LF or CR (2.1.2)
 pub data IsLineEnd (text : List ℕ) : Type 0 where
-  feed : text ≡ 10 ∷ [] → IsLineEnd text
-  return_feed : text ≡ 13 ∷ 10 ∷ [] → IsLineEnd text
-  return : text ≡ 13 ∷ [] → IsLineEnd text
+  feed : text ≡ codes "\n" → IsLineEnd text
+  return_feed : text ≡ codes "\r\n" → IsLineEnd text
+  return : text ≡ codes "\r" → IsLineEnd text
 
 -- `#` and characters that break no line (2.1.3)
 abbrev pub IsComment : List ℕ → Type 0
@@ -69,7 +69,7 @@ is_prefix (a ∷ b ∷ c ∷ cs) = false
 abbrev pub IsPrefix : List ℕ → Type 0
 IsPrefix prefix = (prefix ≡ []) ⊎ (is_prefix prefix ≡ true)
 
--- An item of a string: a backslash with the line end or the one character behind it, or any other one character
+-- An item of a string: a backslash with the line end or the one character after it, or any other one character
 -- (2.4.1). A backslash and CR may be taken for an item before LF too: which strings there are doesn't change.
 abbrev pub is_item : List ℕ → Bool
 is_item [] = false
@@ -112,7 +112,7 @@ pub record IsShortString (text : List ℕ) : Type 0 where
   pub opens : is_quote quote ≡ true
   pub each : list_all (is_short_item quote) items ≡ true
 
--- three quotes, items, and the same three quotes, which are the first three in a row behind the opening ones (2.4.1)
+-- three quotes, items, and the same three quotes, which are the first three in a row after the opening ones (2.4.1)
 pub record IsLongString (text : List ℕ) : Type 0 where
   pub prefix : List ℕ
   pub quote : ℕ
@@ -139,8 +139,8 @@ InClass join text = IsJoin text
 InClass line_end text = IsLineEnd text
 
 -- What a piece may stand before: `rest` is all that follows it. Spaces and words are as long as can be, a prefix
--- isn't cut from its string, two quotes aren't the front of three, a comment goes to the line's end, and CR isn't
--- cut from the LF behind it.
+-- isn't cut from its string, two quotes aren't the beginning of three, a comment goes to the line's end, and CR isn't
+-- cut from the LF after it.
 abbrev pub MayPrecede : Class → List ℕ → List ℕ → Type 0
 MayPrecede mark text rest = Unit {0}
 MayPrecede space text rest = begins is_space rest ≡ false
@@ -151,6 +151,7 @@ MayPrecede comment text rest = (rest ≡ []) ⊎ (begins is_break rest ≡ true)
 MayPrecede join text rest = ends is_return text && begins is_line_feed rest ≡ false
 MayPrecede line_end text rest = ends is_return text && begins is_line_feed rest ≡ false
 
+-- the byte order mark
 abbrev pub is_mark_class : Class → Bool
 is_mark_class mark = true
 is_mark_class other = false
@@ -165,7 +166,7 @@ abbrev pub spelled : List Piece → List ℕ
 spelled [] = []
 spelled (p ∷ ps) = p.text ++ spelled ps
 
--- each piece is of its class and may precede what follows it, with `rest` at the end; no mark stands behind a piece
+-- each piece is of its class and may precede what follows it, with `rest` at the end; no mark stands after a piece
 abbrev pub AreReadBefore : List Piece → List ℕ → Type 0
 AreReadBefore [] rest = Unit {0}
 AreReadBefore (p ∷ ps) rest = InClass p.class p.text × MayPrecede p.class p.text (spelled ps ++ rest) × (begins_marked ps ≡ false) × AreReadBefore ps rest

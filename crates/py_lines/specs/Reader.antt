@@ -1,4 +1,5 @@
 -- The state of a reader of logical lines: the text, how far it has been given, on which line, and its fault once met.
+pub mod View
 use Rattle.std.specs.Prelude.{◌≡◌, ℕ, ◌+◌, ◌<◌, ◌≤◌, ◌⊎◌, Option, None, Some, List, [], ◌∷◌, ◌++◌, length}
 use Rattle.py_lines.specs.Piece.{Piece, spelled, AreReadBefore}
 use Rattle.py_lines.specs.Balance.{IsBalanced, IsShallow}
@@ -57,12 +58,15 @@ pub record Ends (old new : Reader) : Type 0 where
   pub fault : old.fault ≡ None
   pub same : new ≡ old
 
--- all logical lines before the fault were given, and it is the text's; it is kept for good
+-- All logical lines before the fault were given, and it is the text's; it is kept for good. A fault that wasn't known
+-- before stands where text is left, so the text's end is for good too.
 pub record Fails (old : Reader) (fault : Fault) (new : Reader) : Type 0 where
   pub all : (lines : List LogicalLine) → HasGiven old lines → IsLexed old.text lines (Some fault)
   pub again : (first : Fault) → old.fault ≡ Some first → fault ≡ first
+  pub more : old.fault ≡ None → old.place < length old.text
   pub text : new.text ≡ old.text
   pub place : new.place ≡ old.place
+  pub line : new.line ≡ old.line
   pub kept : new.fault ≡ Some fault
 
 -- There was no memory for the next logical line: nothing changed. It is answered before the text's end alone, and

@@ -1,7 +1,28 @@
--- Where the tokens of a unit lie in its text.
-use Rattle.std.specs.Prelude.{◌≡◌, ℕ, ◌≤◌, Some, List, length, slice_get}
+-- What kinds of tokens there are, and where the tokens of a unit lie in its text. Python Language Reference, 2.
+use Rattle.std.specs.Prelude.{◌≡◌, ℕ, ◌≤◌, Bool, true, false, Some, List, length, codes, slice_get}
 use Rattle.std.specs.Str.{IsCharBoundary}
+use Rattle.py_lines.specs.Character.{is_one_of}
+use Rattle.py_lines.specs.declared.token.TokKind.{TokKind}
+use Rattle.py_lines.specs.declared.token.TokKind.TheVariants as kind
 use Rattle.py_lines.specs.declared.token.Token.{Token}
+
+-- whether the token is a comment (2.1.3)
+abbrev pub is_comment : TokKind → Bool
+is_comment kind.Remark = true
+is_comment _ = false
+
+-- whether the token is an operator or delimiter whose byte passes
+abbrev pub is_operator_where : (ℕ → Bool) → TokKind → Bool
+is_operator_where passes (kind.Op c) = passes c
+is_operator_where passes _ = false
+
+-- `(`, `[` or `{`
+abbrev pub opens_bracket : TokKind → Bool
+opens_bracket k = is_operator_where (is_one_of (codes "([{")) k
+
+-- `)`, `]` or `}`
+abbrev pub closes_bracket : TokKind → Bool
+closes_bracket k = is_operator_where (is_one_of (codes ")]}")) k
 
 -- the token lies in the text, from one character's start to another's
 pub record LiesIn (text : List ℕ) (t : Token) : Type 0 where

@@ -3,14 +3,14 @@
 ghost use Rattle.std.specs.Prelude.{◌≡◌, ◌==◌, ◌≤◌, [], OnOk, length};
 ghost use Rattle.py_lines.specs.Balance.{closing_of};
 
-use crate::mode::{is_closing, is_opening};
+use crate::character::{is_closing, is_opening};
 use std::alloc::{AllocError, Global};
 
 /// How many brackets may be open at once.
 const DEPTH: usize = 200;
 
 /// An open bracket, and the byte where it stands.
-#[derive(Clone, Copy, Debug, PartialEq, Eq)]
+#[derive(Clone, Copy)]
 pub struct OpenBracket {
     pub opener: char,
     pub place: usize,
@@ -37,7 +37,7 @@ pub struct Brackets {
 }
 
 impl Brackets {
-    ghost use Rattle.py_lines.specs.Scan.{stack_of, is_none, IsInnermost, Meets};
+    ghost use Rattle.py_lines.specs.Private.Scan.{stack_of, none_open, IsInnermost, Meets};
 
     pub fn new(alloc: Global) -> Brackets
         ensures { stack_of result ≡ [] }
@@ -55,12 +55,12 @@ impl Brackets {
     }
 
     pub fn is_empty(&self) -> bool
-        ensures { result ≡ is_none (stack_of self.now) }
+        ensures { result ≡ none_open (stack_of self.now) }
     {
         self.open.is_empty()
     }
 
-    #[tactic(auto, using(crate::proofs::Nesting::last_in))]
+    #[tactic(auto, using(crate::proofs::Scanner::BracketStack::last_in))]
     pub fn innermost(&self) -> Option<OpenBracket>
         ensures { IsInnermost result (stack_of self.now) }
     {

@@ -2,12 +2,12 @@
 
 ghost use Rattle.std.specs.Prelude.{◌≡◌, ℕ, ◌+◌, ◌<◌, ◌^◌, false, List, length, encode_utf8_all};
 ghost use Rattle.py_lines.specs.LogicalLine.{line_ends};
-ghost use Rattle.py_lines.specs.Scan.{counts_behind, Counts};
+ghost use Rattle.py_lines.specs.Private.Scan.{counts_behind, Counts};
 
-use crate::mode::{is_line_feed, is_return};
+use crate::character::{is_line_feed, is_return};
 
 /// The line that a reader of characters has reached. CR LF is one line end, and counts where its CR does.
-#[derive(Clone, Copy, Debug, PartialEq, Eq)]
+#[derive(Clone, Copy)]
 pub struct Count {
     pub line: u64,
     pub after_return: bool,
@@ -25,8 +25,8 @@ impl Count {
         }
     }
 
-    /// Behind one more character.
-    #[tactic(auto, unfolding(crate::specs::Scan::counts_behind))]
+    /// After one more character.
+    #[tactic(auto, unfolding(crate::specs::Private::Scan::counts_behind))]
     pub fn push(&mut self, c: char)
         requires { self.old.line + 1 < 2 ^ 64 }
         ensures { Counts self.old c self.new }
@@ -39,7 +39,7 @@ impl Count {
     }
 }
 
-/// The line behind `text`, which begins on `line`.
+/// The line after `text`, which begins on `line`.
 pub fn line_behind(line: u64, text: &str) -> u64
     requires { line + length text.now + 1 < 2 ^ 64 }
     ensures { (characters : List ℕ) → encode_utf8_all characters ≡ text.now → result ≡ line + line_ends characters }

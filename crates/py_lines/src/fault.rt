@@ -5,10 +5,10 @@ use std::alloc::AllocError;
 use std::fmt;
 use thiserror::Error;
 
-/// What is wrong with a text.
+/// What can be wrong with a text (Python Language Reference, chapter 2).
 #[derive(Clone, Copy, Debug, PartialEq, Eq, Error)]
 pub enum FaultKind {
-    /// Bytes that begin no character.
+    /// Bytes that begin no character of UTF-8.
     #[error("F1 not UTF-8")]
     BadUtf8,
     /// A character that begins no piece of the lexical grammar.
@@ -26,7 +26,7 @@ pub enum FaultKind {
     /// The text's end inside brackets.
     #[error("F6 bracket not closed")]
     OpenBracket,
-    /// A backslash outside strings and comments that isn't before a line end.
+    /// A backslash outside strings and comments that isn't before a line end (2.1.5).
     #[error("F7 backslash not before a line end")]
     BadJoin,
     /// An opening bracket where 200 are open.
@@ -37,11 +37,13 @@ pub enum FaultKind {
     BadImport,
 }
 
-/// A fault and its place: bytes from the text's start, and lines from 1.
+/// What is wrong with a text, and where.
 #[derive(Clone, Copy, Debug, PartialEq, Eq)]
 pub struct Fault {
     pub kind: FaultKind,
+    /// The byte at which the fault stands, from the text's start.
     pub offset: u64,
+    /// The line of that byte, from 1.
     pub line: u64,
 }
 
@@ -56,10 +58,10 @@ impl fmt::Display for Fault {
 /// Why no logical line was given.
 #[derive(Clone, Copy, Debug, PartialEq, Eq, Error)]
 pub enum LexError {
-    /// A growth was refused; the same line comes next.
+    /// There was no memory for the next line. The reader is as it was, and the same line comes next.
     #[error("out of memory")]
     Memory,
-    /// The text's fault, which every later call answers too.
+    /// The text's fault. Every later call answers it too.
     #[error("{0}")]
     Fault(Fault),
 }
@@ -69,26 +71,5 @@ impl From<AllocError> for LexError {
 
     fn from(_error: AllocError) -> LexError {
         LexError::Memory
-    }
-}
-
-#[cfg(test)]
-mod tests {
-    use super::*;
-    use std::test::Fail;
-
-    #[test]
-    fn shows_line_and_kind(rt: HostRuntime) -> Result<(), Fail> {
-        let fault = Fault {
-            kind: FaultKind::OpenBracket,
-            offset: 22,
-            line: 3,
-        };
-        let error = LexError::Fault(fault);
-        assert_eq!(rt;
-            format!(in rt.alloc(); "{error}")?.as_str(),
-            "line 3: F6 bracket not closed"
-        );
-        Ok(())
     }
 }

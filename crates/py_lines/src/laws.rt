@@ -9,29 +9,31 @@ ghost use Rattle.py_lines.specs.declared.fault.Fault.{Fault};
 ghost use Rattle.py_lines.specs.declared.fault.FaultKind.{FaultKind};
 
 /// A text has at most one reading: pieces that read the same characters, or the same bytes, are the same.
-#[tactic(auto, using(crate::proofs::Complete::one_reading_of, crate::proofs::Complete::one_reading_of_text))]
+#[tactic(auto, using(crate::proofs::Machine::ReadingRuns::one_reading_of, crate::proofs::Machine::ReadingRuns::one_reading_of_text))]
 pub fn one_reading()
     ensures of_characters { (pieces others : List Piece) (characters : List ℕ) → Reads pieces characters → Reads others characters → pieces ≡ others }
     ensures of_text { (pieces others : List Piece) (text : List ℕ) → ReadsText pieces text → ReadsText others text → pieces ≡ others }
 {}
 
 /// A text is read or has a lexical fault, and its fault is one: of one kind, at one byte.
-#[tactic(auto, using(crate::proofs::OneFault::one_fault_of))]
+#[tactic(auto, using(crate::proofs::Faults::Uniqueness::one_fault_of))]
 pub fn one_fault()
     ensures some { (characters tail : List ℕ) → IsReadOrFaulty characters tail }
     ensures one { (characters tail : List ℕ) (kind other : FaultKind) (offset place : ℕ) → IsFaultAt kind characters tail offset → IsFaultAt other characters tail place → (kind ≡ other) × (offset ≡ place) }
 {}
 
-/// A text has one list of logical lines, and then its end, or one lexical fault: of one kind, at one byte, on one line.
-#[tactic(auto, using(crate::proofs::OneLexing::one_lexing_of, crate::proofs::OneLexing::one_end_of))]
+/// Every text has one list of logical lines, and then its end or one lexical fault: of one kind, at one byte, on one
+/// line.
+#[tactic(auto, using(crate::proofs::Lexings::Uniqueness::one_lexing_of, crate::proofs::Lexings::Uniqueness::one_end_of))]
 pub fn one_lexing()
+    ensures some { (text : List ℕ) → (lines : List LogicalLine) × (end : Option Fault) × IsLexed text lines end }
     ensures one_list { (text : List ℕ) (lines others : List LogicalLine) (end other : Option Fault) → IsLexed text lines end → IsLexed text others other → lines ≡ others }
     ensures one_end { (text : List ℕ) (lines others : List LogicalLine) (end other : Option Fault) → IsLexed text lines end → IsLexed text others other → end ≡ other }
 {}
 
 /// The lines that a reader has given, wherever it stands, begin the lexing of the whole text: the rest of its lines and
-/// its end or fault come behind them.
-#[tactic(auto, using(crate::proofs::Beginning::given_begin))]
+/// its end or fault come after them.
+#[tactic(auto, using(crate::proofs::Lexings::FirstLines::given_begin))]
 pub fn given_lines_begin_the_text()
     ensures begin { (reader : Reader) (lines : List LogicalLine) → HasGiven reader lines → BeginsLexing reader.text lines }
 {}

@@ -2,6 +2,7 @@
 #![tactic(auto)]
 
 mod brackets;
+mod character;
 mod count;
 mod fault;
 pub mod laws;

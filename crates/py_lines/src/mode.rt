@@ -1,22 +1,25 @@
 //! The machine that reads a text one character at a time.
 
 ghost use Rattle.std.specs.Prelude.{◌≡◌, ◌==◌, ◌||◌, ◌&&◌};
-ghost use Rattle.py_lines.specs.Character.{is_mark, is_space, is_word_character, is_word_start, is_digit, is_quote, is_operator, is_line_feed, is_return, is_break, is_hash, is_backslash, is_r, is_b_or_f, is_u};
-ghost use Rattle.py_lines.specs.Balance.{is_opening, is_closing};
-ghost use Rattle.py_lines.specs.Machine.{spelling_of, spelling_with, is_prefix_spelling, token_of, is_final, short_move, long_move, move_of, start_of, in_short, in_long, is_behind_slash, character_kind, end_kind};
-ghost use Rattle.py_lines.specs.Scan.{is_join_mode, is_return_mode, holds_nothing};
+ghost use Rattle.py_lines.specs.Private.Machine.{first_spelling, spelling_with, is_prefix_spelling, token_of, is_final, short_move, long_move, move_of, start_of, in_short, in_long, is_behind_slash, character_kind, end_kind};
+ghost use Rattle.py_lines.specs.Private.Scan.{is_join_mode, is_return_mode, holds_nothing};
 
+use crate::character::{
+    is_b_or_f, is_backslash, is_break, is_closing, is_digit, is_hash, is_line_feed, is_mark,
+    is_opening, is_operator, is_quote, is_r, is_return, is_space, is_u, is_word_character,
+    is_word_start,
+};
 use crate::fault::FaultKind;
 use crate::token::TokKind;
 
 /// Whether a word may be the prefix of a string, as far as it goes.
-#[derive(Clone, Copy, Debug, PartialEq, Eq)]
+#[derive(Clone, Copy)]
 pub enum Spelling {
     /// A digit came first.
     Number,
-    /// `r`: a prefix, and with `b` or `f` behind it one of two letters.
+    /// `r`: a prefix, and with `b` or `f` after it one of two letters.
     R,
-    /// `b` or `f`: a prefix, and with `r` behind it one of two letters.
+    /// `b` or `f`: a prefix, and with `r` after it one of two letters.
     BOrF,
     /// Any other prefix.
     Prefix,
@@ -25,7 +28,7 @@ pub enum Spelling {
 }
 
 /// The piece that is open, and how far it has come. A `char` is the quote of the string.
-#[derive(Clone, Copy, Debug, PartialEq, Eq)]
+#[derive(Clone, Copy)]
 pub enum Mode {
     /// At the text's start, where a mark may stand.
     Start,
@@ -34,34 +37,34 @@ pub enum Mode {
     Space,
     Word(Spelling),
     Comment,
-    /// Behind one quote.
+    /// After one quote.
     Opened(char),
     /// In a short string that holds something.
     Inside(char),
-    /// Behind a backslash in a short string.
+    /// After a backslash in a short string.
     Escape(char),
-    /// Behind a backslash and CR in a short string: LF may belong to them.
+    /// After a backslash and CR in a short string: LF may belong to them.
     EscapeReturn(char),
-    /// Behind two quotes.
+    /// After two quotes.
     Empty(char),
-    /// In a long string, not behind a quote of its kind.
+    /// In a long string, not after a quote of its kind.
     Long(char),
-    /// In a long string, behind one quote of its kind.
+    /// In a long string, after one quote of its kind.
     LongOne(char),
-    /// In a long string, behind two quotes of its kind.
+    /// In a long string, after two quotes of its kind.
     LongTwo(char),
-    /// Behind a backslash in a long string.
+    /// After a backslash in a long string.
     LongEscape(char),
-    /// Behind a backslash outside strings and comments.
+    /// After a backslash outside strings and comments.
     Backslash,
-    /// Behind a backslash and CR: LF may belong to them.
+    /// After a backslash and CR: LF may belong to them.
     JoinReturn,
-    /// Behind CR: LF may belong to it.
+    /// After CR: LF may belong to it.
     Return,
 }
 
 /// What a character does to the piece that is open.
-#[derive(Clone, Copy, Debug, PartialEq, Eq)]
+#[derive(Clone, Copy)]
 pub enum Move {
     Grows(Mode),
     Closes,
@@ -70,7 +73,7 @@ pub enum Move {
 }
 
 /// What a character begins.
-#[derive(Clone, Copy, Debug, PartialEq, Eq)]
+#[derive(Clone, Copy)]
 pub enum Start {
     Open(Mode),
     Operator,
@@ -78,155 +81,11 @@ pub enum Start {
     Nothing,
 }
 
-#[tactic(auto, unfolding(crate::specs::Character::is_mark))]
-fn is_mark(c: char) -> bool
-    ensures { result ≡ is_mark c }
-{
-    c == '\u{feff}'
-}
-
-#[tactic(auto, unfolding(crate::specs::Character::is_space))]
-fn is_space(c: char) -> bool
-    ensures { result ≡ is_space c }
-{
-    matches!(c, ' ' | '\t' | '\x0c')
-}
-
-#[tactic(auto, unfolding(crate::specs::Character::is_word_character))]
-fn is_word_character(c: char) -> bool
-    ensures { result ≡ is_word_character c }
-{
-    unicode_ident::is_xid_continue(c)
-}
-
-#[tactic(auto, unfolding(crate::specs::Character::is_digit))]
-fn is_digit(c: char) -> bool
-    ensures { result ≡ is_digit c }
-{
-    matches!(c, '0'..='9')
-}
-
-#[tactic(auto, unfolding(crate::specs::Character::is_word_start))]
-fn is_word_start(c: char) -> bool
-    ensures { result ≡ is_word_start c }
-{
-    unicode_ident::is_xid_start(c) || c == '_' || is_digit(c)
-}
-
-#[tactic(auto, unfolding(crate::specs::Character::is_quote))]
-fn is_quote(c: char) -> bool
-    ensures { result ≡ is_quote c }
-{
-    matches!(c, '\'' | '"')
-}
-
-#[tactic(auto, unfolding(crate::specs::Character::is_operator))]
-fn is_operator(c: char) -> bool
-    ensures { result ≡ is_operator c }
-{
-    matches!(
-        c,
-        '+' | '-'
-            | '*'
-            | '/'
-            | '%'
-            | '@'
-            | '&'
-            | '|'
-            | '^'
-            | '~'
-            | '<'
-            | '>'
-            | '='
-            | '!'
-            | '('
-            | ')'
-            | '['
-            | ']'
-            | '{'
-            | '}'
-            | ','
-            | ':'
-            | '.'
-            | ';'
-    )
-}
-
-#[tactic(auto, unfolding(crate::specs::Character::is_line_feed))]
-pub fn is_line_feed(c: char) -> bool
-    ensures { result ≡ is_line_feed c }
-{
-    c == '\n'
-}
-
-#[tactic(auto, unfolding(crate::specs::Character::is_return))]
-pub fn is_return(c: char) -> bool
-    ensures { result ≡ is_return c }
-{
-    c == '\r'
-}
-
-#[tactic(auto, unfolding(crate::specs::Character::is_break))]
-fn is_break(c: char) -> bool
-    ensures { result ≡ is_break c }
-{
-    matches!(c, '\n' | '\r')
-}
-
-#[tactic(auto, unfolding(crate::specs::Character::is_hash))]
-fn is_hash(c: char) -> bool
-    ensures { result ≡ is_hash c }
-{
-    c == '#'
-}
-
-#[tactic(auto, unfolding(crate::specs::Character::is_backslash))]
-fn is_backslash(c: char) -> bool
-    ensures { result ≡ is_backslash c }
-{
-    c == '\\'
-}
-
-#[tactic(auto, unfolding(crate::specs::Character::is_r))]
-fn is_r(c: char) -> bool
-    ensures { result ≡ is_r c }
-{
-    matches!(c, 'r' | 'R')
-}
-
-#[tactic(auto, unfolding(crate::specs::Character::is_b_or_f))]
-fn is_b_or_f(c: char) -> bool
-    ensures { result ≡ is_b_or_f c }
-{
-    matches!(c, 'b' | 'B' | 'f' | 'F')
-}
-
-#[tactic(auto, unfolding(crate::specs::Character::is_u))]
-fn is_u(c: char) -> bool
-    ensures { result ≡ is_u c }
-{
-    matches!(c, 'u' | 'U')
-}
-
-#[tactic(auto, unfolding(crate::specs::Balance::is_opening))]
-pub fn is_opening(c: char) -> bool
-    ensures { result ≡ is_opening c }
-{
-    matches!(c, '(' | '[' | '{')
-}
-
-#[tactic(auto, unfolding(crate::specs::Balance::is_closing))]
-pub fn is_closing(c: char) -> bool
-    ensures { result ≡ is_closing c }
-{
-    matches!(c, ')' | ']' | '}')
-}
-
 impl Spelling {
     /// The spelling of a word that begins with `c`.
-    #[tactic(auto, unfolding(crate::specs::Machine::spelling_of))]
+    #[tactic(auto, unfolding(crate::specs::Private::Machine::first_spelling))]
     fn of(c: char) -> Spelling
-        ensures { result ≡ spelling_of c }
+        ensures { result ≡ first_spelling c }
     {
         if is_digit(c) {
             Spelling::Number
@@ -242,7 +101,7 @@ impl Spelling {
     }
 
     /// The spelling of the word with one more character.
-    #[tactic(auto, unfolding(crate::specs::Machine::spelling_with))]
+    #[tactic(auto, unfolding(crate::specs::Private::Machine::spelling_with))]
     fn with(self, c: char) -> Spelling
         ensures { result ≡ spelling_with self c }
     {
@@ -263,7 +122,7 @@ impl Spelling {
 }
 
 /// What a character that doesn't close the string does in a short string.
-#[tactic(auto, unfolding(crate::specs::Machine::short_move))]
+#[tactic(auto, unfolding(crate::specs::Private::Machine::short_move))]
 fn short_move(quote: char, c: char) -> Move
     ensures { result ≡ short_move quote c }
 {
@@ -277,7 +136,7 @@ fn short_move(quote: char, c: char) -> Move
 }
 
 /// What a character other than the quote does in a long string.
-#[tactic(auto, unfolding(crate::specs::Machine::long_move))]
+#[tactic(auto, unfolding(crate::specs::Private::Machine::long_move))]
 fn long_move(quote: char, c: char) -> Move
     ensures { result ≡ long_move quote c }
 {
@@ -391,7 +250,7 @@ impl Mode {
     }
 
     /// What the next character does to the open piece.
-    #[tactic(auto, unfolding(crate::specs::Machine::move_of))]
+    #[tactic(auto, unfolding(crate::specs::Private::Machine::move_of))]
     pub fn meet(self, c: char) -> Move
         ensures { result ≡ move_of self c }
     {
@@ -439,7 +298,7 @@ impl Mode {
 
 impl Start {
     /// What a character begins where no piece is open.
-    #[tactic(auto, unfolding(crate::specs::Machine::start_of))]
+    #[tactic(auto, unfolding(crate::specs::Private::Machine::start_of))]
     pub fn of(c: char) -> Start
         ensures { result ≡ start_of c }
     {

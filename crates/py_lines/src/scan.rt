@@ -3,19 +3,20 @@
 ghost use Rattle.std.specs.Prelude.{◌≡◌, ℕ, ◌+◌, ◌<◌, ◌≤◌, ◌^◌, ◌&&◌, not, false, Some, None, List, [], length, OnOk, IfOk};
 ghost use Rattle.std.specs.Char.{len_utf8};
 ghost use Rattle.py_lines.specs.Character.{is_line_feed};
-ghost use Rattle.py_lines.specs.Machine.{Scanned, IsSound, start_of};
-ghost use Rattle.py_lines.specs.Scan.{Emits, Closes, Reads, Begins, Tallies, IsStacked, Takes, Scans, EndsNoLine, begun, is_returned, is_none, stack_of, line_end_progress, StandsBehind};
+ghost use Rattle.py_lines.specs.Private.Machine.{Scanned, IsSound, start_of};
+ghost use Rattle.py_lines.specs.Private.Scan.{Emits, Closes, ReadsCharacter, Begins, Tallies, IsStacked, Takes, Scans, EndsNoLine, line_start, is_returned, none_open, stack_of, line_end_progress, ClosesAndAdds};
 ghost use Rattle.py_lines.specs.declared.token.TokKind.TheVariants.{Op};
 
 use crate::brackets::Brackets;
+use crate::character::is_line_feed;
 use crate::count::Count;
-use crate::mode::{Mode, Move, Start, is_line_feed};
+use crate::mode::{Mode, Move, Start};
 use crate::token::{TokKind, Token};
 use crate::unit::UnitKind;
 use std::alloc::{AllocError, Global};
 
 /// What a character came to.
-#[derive(Clone, Copy, Debug, PartialEq, Eq)]
+#[derive(Clone, Copy)]
 pub enum Progress {
     Going,
     /// The line ended with it: so many bytes are its line end.
@@ -24,7 +25,7 @@ pub enum Progress {
 }
 
 /// Where the scan of a line stopped.
-#[derive(Clone, Copy, Debug, PartialEq, Eq)]
+#[derive(Clone, Copy)]
 pub enum Stop {
     LineEnd(usize),
     TextEnd,
@@ -42,7 +43,7 @@ pub struct Scan {
     /// The line on which the scan began, from 1, and the one that it has reached.
     pub line: u64,
     pub count: Count,
-    /// Whether no piece but a mark was closed.
+    /// Whether no piece was closed, or a mark alone.
     pub margin: bool,
     pub indent: usize,
     pub kind: UnitKind,
@@ -53,8 +54,8 @@ pub struct Scan {
 impl Scan {
     /// At the text's start.
     pub fn new(alloc: Global) -> Scan
-        ensures start { Tallies result (begun Mode.Start) }
-        ensures stacked { IsStacked result (begun Mode.Start) }
+        ensures start { Tallies result (line_start Mode.Start) }
+        ensures stacked { IsStacked result (line_start Mode.Start) }
         ensures line { result.line ≡ 1 }
     {
         Scan {
@@ -74,8 +75,8 @@ impl Scan {
 
     /// Begins a line anew; the memory is kept.
     pub fn restart(&mut self, mode: Mode, line: u64)
-        ensures start { Tallies self.new (begun mode) }
-        ensures stacked { IsStacked self.new (begun mode) }
+        ensures start { Tallies self.new (line_start mode) }
+        ensures stacked { IsStacked self.new (line_start mode) }
         ensures line { self.new.line ≡ line }
     {
         self.mode = mode;
@@ -95,7 +96,7 @@ impl Scan {
     fn read(&mut self, c: char)
         requires bytes { self.old.stop + len_utf8 c < 2 ^ 64 }
         requires lines { self.old.count.line + 1 < 2 ^ 64 }
-        ensures { Reads self.old c self.new }
+        ensures { ReadsCharacter self.old c self.new }
     {
         self.stop += c.len_utf8();
         self.count.push(c);
@@ -128,7 +129,7 @@ impl Scan {
             self.emit(kind)?;
         } else if self.mode.is_join() {
             self.kind = UnitKind::Code;
-        } else if self.mode == Mode::Space && self.margin {
+        } else if matches!(self.mode, Mode::Space) && self.margin {
             self.indent = self.stop - self.start;
         }
         self.margin = self.margin && self.mode.holds_nothing();
@@ -140,7 +141,7 @@ impl Scan {
 
     /// What a line end of so many bytes comes to: in brackets the line goes on.
     fn line_end(&self, len: usize) -> Progress
-        ensures { result ≡ line_end_progress (is_none (stack_of self.now.brackets)) len }
+        ensures { result ≡ line_end_progress (none_open (stack_of self.now.brackets)) len }
     {
         if self.brackets.is_empty() {
             Progress::LineEnded(len)
@@ -149,13 +150,13 @@ impl Scan {
         }
     }
 
-    /// Takes an operator, which its brackets have met, behind the open piece.
+    /// Takes an operator, which its brackets have met, after the open piece.
     fn stand(&mut self, c: char) -> Result<(), AllocError>
         requires order { self.old.start ≤ self.old.stop }
         requires bytes { self.old.stop + len_utf8 c < 2 ^ 64 }
         requires lines { self.old.count.line + 1 < 2 ^ 64 }
         requires ascii { c < 128 }
-        ensures { OnOk result (StandsBehind self.old c (Some (Op c)) self.new) }
+        ensures { OnOk result (ClosesAndAdds self.old c (Some (Op c)) self.new) }
     {
         self.close()?;
         self.read(c);
@@ -166,12 +167,12 @@ impl Scan {
         Ok(())
     }
 
-    /// Takes a line feed behind the open piece.
+    /// Takes a line feed after the open piece.
     fn feed(&mut self, c: char) -> Result<(), AllocError>
         requires order { self.old.start ≤ self.old.stop }
         requires bytes { self.old.stop + len_utf8 c < 2 ^ 64 }
         requires lines { self.old.count.line + 1 < 2 ^ 64 }
-        ensures { OnOk result (StandsBehind self.old c None self.new) }
+        ensures { OnOk result (ClosesAndAdds self.old c None self.new) }
     {
         self.close()?;
         self.read(c);
@@ -181,7 +182,7 @@ impl Scan {
         Ok(())
     }
 
-    /// Takes a character that begins a piece behind the open one.
+    /// Takes a character that begins a piece after the open one.
     fn begin(&mut self, c: char) -> Result<Progress, AllocError>
         requires order { self.old.start ≤ self.old.stop }
         requires bytes { self.old.stop + len_utf8 c < 2 ^ 64 }
@@ -254,9 +255,9 @@ impl Scan {
 
     /// Takes characters up to the line's end, the text's end, or one that is refused.
     pub fn run(&mut self, text: &str) -> Result<Stop, AllocError>
-        requires start { Tallies self.old (begun self.old.mode) }
-        requires stacked { IsStacked self.old (begun self.old.mode) }
-        requires sound { IsSound (begun self.old.mode) [] }
+        requires start { Tallies self.old (line_start self.old.mode) }
+        requires stacked { IsStacked self.old (line_start self.old.mode) }
+        requires sound { IsSound (line_start self.old.mode) [] }
         requires lines { self.old.line + length text.now + 1 < 2 ^ 64 }
         ensures stops { IfOk result (Scans self.old.mode text.now self.new) }
         ensures line { OnOk result (self.new.line ≡ self.old.line) }

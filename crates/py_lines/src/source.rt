@@ -1,4 +1,4 @@
-//! The reader behind `Lines`: one logical line at a time, with its tokens or the text's fault.
+//! The reader inside a `Lines`: one logical line at a time, with its tokens or the text's fault.
 
 ghost use Rattle.std.specs.Prelude.{◌≡◌, ℕ, ◌+◌, ◌<◌, ◌≤◌, List, length, take, drop, true, None, Some, Ok, Err, IsUtf8};
 ghost use Rattle.std.specs.Str.{IsCharBoundary, StartsWithNoChar};
@@ -11,7 +11,7 @@ use crate::scan::{Scan, Stop};
 use crate::unit::Unit;
 use std::alloc::Global;
 
-/// The text at the front of the bytes, up to the first that begin no character.
+/// The text that the bytes begin with, up to the first that begin no character.
 fn utf8_front(bytes: &[u8]) -> &str
     ensures front { result.now ≡ take (length result.now) bytes.now }
     ensures bad { StartsWithNoChar (drop (length result.now) bytes.now) }
@@ -50,8 +50,9 @@ pub struct Source<'t> {
 }
 
 impl<'t> Source<'t> {
-    ghost use Rattle.py_lines.specs.Source.{reader_of, line_of_source, Gives, FailsAt, HasScanned, Advances, first_mode, IsUnfinished};
-    ghost use Rattle.py_lines.specs.Scan.{refused_place};
+    ghost use Rattle.py_lines.specs.Reader.View.{reader_of};
+    ghost use Rattle.py_lines.specs.Private.Source.{line_of_source, PassesLine, KeepsFault, HasScanned, Advances, first_mode, IsUnfinished};
+    ghost use Rattle.py_lines.specs.Private.Scan.{refused_place};
     ghost use Rattle.py_lines.specs.Reader.{HasGiven, at_start, standing_at};
     ghost use Rattle.py_lines.specs.LogicalLine.{LogicalLine};
     ghost use Rattle.py_lines.specs.Token.{EachLiesIn};
@@ -72,7 +73,7 @@ impl<'t> Source<'t> {
         }
     }
 
-    /// The text from this byte on, which is on this line. If that cannot be, only what is behind its characters is left.
+    /// The text from this byte on, which is on this line. If that cannot be, only what comes after its characters is left.
     pub fn at(alloc: Global, bytes: &'t [u8], offset: usize, line: u64) -> Source<'t>
         ensures goes_on { (lines : List LogicalLine) → HasGiven (standing_at bytes.now offset line) lines → reader_of result ≡ standing_at bytes.now offset line }
         ensures text { result.bytes.now ≡ bytes.now }
@@ -104,7 +105,7 @@ impl<'t> Source<'t> {
         requires within { self.old.place + self.old.scan.stop ≤ length self.old.characters.now }
         requires boundary { IsCharBoundary self.old.characters.now (self.old.place + self.old.scan.stop) }
         requires lines { self.old.scan.count.line ≤ self.old.place + self.old.scan.stop + 1 }
-        ensures { Gives self.old end_len self.new }
+        ensures { PassesLine self.old end_len self.new }
     {
         self.start = self.place;
         self.place += self.scan.stop;
@@ -112,11 +113,11 @@ impl<'t> Source<'t> {
         self.end_len = end_len;
     }
 
-    /// The text has this fault, from now on. It stands so many bytes behind the lines that were read.
+    /// The text has this fault, from now on. It stands so many bytes after the lines that were read.
     fn fail(&mut self, kind: FaultKind, behind: usize) -> LexError
         requires within { self.old.place + behind ≤ length self.old.characters.now }
         requires boundary { IsCharBoundary self.old.characters.now (self.old.place + behind) }
-        ensures { FailsAt self.old kind behind result self.new }
+        ensures { KeepsFault self.old kind behind result self.new }
     {
         let offset = self.place + behind;
         let fault = Fault {

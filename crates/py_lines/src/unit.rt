@@ -7,7 +7,7 @@ use crate::token::Token;
 /// What a logical line holds (Python Language Reference, 2.1).
 #[derive(Clone, Copy, Debug, PartialEq, Eq)]
 pub enum UnitKind {
-    /// A token other than a comment.
+    /// A token other than a comment, or a backslash that joins lines.
     Code,
     /// A comment alone.
     Comment,
@@ -15,29 +15,30 @@ pub enum UnitKind {
     Blank,
 }
 
-/// One logical line: the bytes up to and with the line end that closes it, or the text's end. All of it is
-/// lent out of the text and the reader.
+/// One logical line (2.1.1): the bytes up to and with the line end that closes it, or up to the text's end. All of it
+/// is lent out of the text and the reader.
 #[derive(Clone, Copy, Debug)]
 pub struct Unit<'s> {
+    /// What the line holds.
     pub kind: UnitKind,
     /// The line with its line end.
     pub text: &'s str,
     /// The words, strings, operators and comments, in order.
     pub tokens: &'s [Token],
-    /// The byte of the whole text at which the unit begins.
+    /// The byte of the whole text at which the line begins.
     pub offset: u64,
     /// The line of its first byte, from 1.
     pub line: u64,
-    /// The bytes of space that it begins with.
+    /// How many bytes of space it begins with, after a byte order mark.
     pub indent: usize,
-    /// The bytes of its closing line end: 0 at the text's end.
+    /// How many bytes its closing line end has: 0 where the text's end closes it.
     pub end_len: usize,
     pub ghost tokens_lie_in: { EachLiesIn text.now tokens.now },
     pub ghost places_fit: { offset + length text.now < 2 ^ 64 },
 }
 
 impl<'s> Unit<'s> {
-    /// The text of the token at place `i`, a slice of the unit's text.
+    /// The text of the token at place `i`, counted from 0: a slice of the line's text. There is such a token.
     #[tactic(auto, using(std::proofs::lemmas::Option::get_or_from_slice_get))]
     pub fn word(&self, i: usize) -> &'s str
         requires { i < length self.now.tokens.now }

@@ -1,4 +1,4 @@
--- What was read is the front of the reader's bytes, and isn't too long yet.
+-- What was read is a prefix of the reader's bytes, and isn't too long yet.
 use Rattle.std.proofs.Common.{◌≡◌, ◌+◌, ◌-◌, ◌≤◌, length, vec_len, vec_items}
 use Rattle.std.specs.Io.KnownBytes.{Consumes}
 use Rattle.isort_cmd.specs.Metered.{inner_of, last_of}

@@ -16,5 +16,5 @@ error_line-other path run.NeverEnds _ = refl
 
 pub returns-clause-line : goal.returns-clause-line
 returns-clause-line c =
-    let told : string_bytes c.in_ok-format-2.field-0 ≡ codes "isort: " ++ (c.args.path.now ++ (codes ": " ++ (c.error_words-words.result.now ++ 10 ∷ []))) = c.in_ok-format-2.ensures.ok in
-    told ∙ ap (λ w. codes "isort: " ++ (c.args.path.now ++ (codes ": " ++ (w ++ 10 ∷ [])))) c.error_words-words.ensures ∙ sym (error_line-other c.args.path.now c.args.error.now c.in_default.not-Fault)
+    let told : string_bytes c.in_ok-format-2.field-0 ≡ codes "isort: " ++ (c.args.path.now ++ (codes ": " ++ (c.words-words.result.now ++ 10 ∷ []))) = c.in_ok-format-2.ensures.ok in
+    told ∙ ap (λ w. codes "isort: " ++ (c.args.path.now ++ (codes ": " ++ (w ++ 10 ∷ [])))) c.words-words.ensures ∙ sym (error_line-other c.args.path.now c.args.error.now c.in_default.not-Fault)

@@ -1,4 +1,4 @@
--- What was written is the front of the bytes, and `rest` is what follows it.
+-- What was written is a prefix of the bytes, and `rest` is what follows it.
 use Rattle.std.proofs.Common.{◌≡◌, ◌++◌, ℕ, List, length}
 use Rattle.std.specs.Io.KnownBytes.{Appends}
 use Rattle.isort_cmd.specs.Metered.{inner_of, last_of}

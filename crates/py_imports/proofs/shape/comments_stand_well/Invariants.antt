@@ -3,4 +3,4 @@ use Rattle.py_imports.proofs.ShapeLemmas.{StandWell}
 use Rattle.py_imports.proofs.shape.comments_stand_well.Given as goal
 
 abbrev pub invariant-tokens : goal.invariant-tokens
-invariant-tokens l = StandWell l.tokens l.place l.behind_opening
+invariant-tokens l = StandWell l.tokens l.place l.after_opening

@@ -1,4 +1,4 @@
-use Rattle.py_lines.proofs.Decided.{read_or_faulty}
+use Rattle.py_lines.proofs.Faults.Verdict.{read_or_faulty}
 use Rattle.py_lines.proofs.laws.one_fault.Goals as goal
 
 pub returns-clause-some : goal.returns-clause-some

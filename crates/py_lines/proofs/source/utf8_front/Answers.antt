@@ -1,6 +1,6 @@
 use Rattle.std.proofs.Common.{length, sym, ap, ◌∙◌, subst, arith, length-take-le}
 use Rattle.std.specs.Str.{IsValidUpTo}
-use Rattle.py_lines.proofs.Utf8.{whole_text, front_text}
+use Rattle.py_lines.proofs.Text.Utf8Prefixes.{whole_text, front_text}
 use Rattle.py_lines.proofs.source.utf8_front.Goals as goal
 
 pub returns-in-Ok-clause-bad : goal.returns-in-Ok-clause-bad

@@ -1,12 +1,26 @@
--- The definition tests the profile's name and then those of the keys in order, as the code does.
-use Rattle.std.proofs.Common.{rules, sym}
-use Rattle.isort_settings.specs.Keys.{is_known}
+-- The profile's name is tested first, and then those of the keys in order.
+use Rattle.std.proofs.Common.{◌≡◌, ◌||◌, Bool, true, false, rules, tests, ◌∙◌, ap, bytes_eq}
+use Rattle.std.proofs.lemmas.Iterator.{YieldsList-from_slice}
+use Rattle.std.proofs.lemmas.Iterator.Search.{any_from_yields_List}
+use Rattle.std.specs.List.{list_any}
+use Rattle.isort_settings.specs.Keys.{is_known, name_of}
 use Rattle.isort_settings.proofs.key.SettingKey.is_known.Goals as goal
+
+first_true : (r a b : Bool) → r ≡ a → r ≡ true → r ≡ (a || b)
+first_true r true b is held = held
+first_true r false b is held = cc
+
+first_false : (r a b s : Bool) → r ≡ a → r ≡ false → s ≡ b → s ≡ (a || b)
+first_false r true b s is failed rest = cc
+first_false r false b s is failed rest = rest
 
 pub returns-then-is_spelled : goal.returns-then-is_spelled
 unfolding is_known
-returns-then-is_spelled c = search rules
+returns-then-is_spelled c = first_true _ _ _ c.is_spelled.ensures c.if-is_spelled.true
 
-pub loop-key-init : goal.loop-key-init
+pub returns-else-is_spelled : goal.returns-else-is_spelled
 unfolding is_known
-loop-key-init c = rw (sym c.is_spelled.ensures, c.if-is_spelled.false, c.in_order-keys.ensures)
+returns-else-is_spelled c =
+    first_false _ _ _ _ c.is_spelled.ensures c.if-is_spelled.false
+    (any_from_yields_List (λ k. bytes_eq (name_of k) c.args.name.now) _ _ _ c.any.ensures.ran (YieldsList-from_slice c.in_order.result.now c.iter.ensures.rest) (λ x b q k. search (rules, tests))
+    ∙ ap (list_any (λ k. bytes_eq (name_of k) c.args.name.now)) c.in_order.ensures)

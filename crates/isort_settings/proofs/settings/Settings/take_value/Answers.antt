@@ -1,177 +1,71 @@
--- In each arm the reader of the key's kind has answered, and its answer is the one that the table of keys asks for.
-use Rattle.std.proofs.Common.{rules, refl, inl, inr, map, string_bytes}
-use Rattle.std.proofs.lemmas.Result.{err_from_is_err_and}
+-- In each arm the reader of the key's kind has answered, and its answer was put in the key's place.
+use Rattle.std.proofs.Common.{refl, inl, inr, map, string_bytes}
 use Rattle.isort_settings.specs.declared.key.SettingKey.TheVariants as key
-use Rattle.isort_settings.proofs.Readings.{refused, taken}
+use Rattle.isort_settings.proofs.Readings.{taken, took, took_shown}
 use Rattle.isort_settings.proofs.settings.Settings.take_value.Goals as goal
 
-pub returns-in_err-self-in-CaseSensitive : goal.returns-in_err-self-in-CaseSensitive
-returns-in_err-self-in-CaseSensitive c =
-    let p = err_from_is_err_and c.from_residual.result c.from_residual.ensures.1 in
-    rw (p.1, p.2) (record { ok = tt; refused = λ ne. refused _ key.CaseSensitive _ _ c.in-CaseSensitive.is (search rules) })
+pub returns-in-CaseSensitive : goal.returns-in-CaseSensitive
+returns-in-CaseSensitive c = took _ key.CaseSensitive _ _ _ _ _ _ c.in-CaseSensitive.is c.flag.ensures c.put.ensures
 
-pub returns-in_ok-self-in-CaseSensitive : goal.returns-in_ok-self-in-CaseSensitive
-returns-in_ok-self-in-CaseSensitive c = record { ok = taken _ key.CaseSensitive _ _ _ c.in_ok-self-in-CaseSensitive.field-0 c.in-CaseSensitive.is (search rules) refl; refused = tt }
+pub returns-in-CombineAsImports : goal.returns-in-CombineAsImports
+returns-in-CombineAsImports c = took _ key.CombineAsImports _ _ _ _ _ _ c.in-CombineAsImports.is c.flag-in-CombineAsImports.ensures c.put-in-CombineAsImports.ensures
 
-pub returns-in_err-self-in-CombineAsImports : goal.returns-in_err-self-in-CombineAsImports
-returns-in_err-self-in-CombineAsImports c =
-    let p = err_from_is_err_and c.from_residual-in_err-self-in-CombineAsImports.result c.from_residual-in_err-self-in-CombineAsImports.ensures.1 in
-    rw (p.1, p.2) (record { ok = tt; refused = λ ne. refused _ key.CombineAsImports _ _ c.in-CombineAsImports.is (search rules) })
+pub returns-in-DefaultSection : goal.returns-in-DefaultSection
+returns-in-DefaultSection c = took _ key.DefaultSection _ _ _ _ _ _ c.in-DefaultSection.is c.section.ensures c.put-in-DefaultSection.ensures
 
-pub returns-in_ok-self-in-CombineAsImports : goal.returns-in_ok-self-in-CombineAsImports
-returns-in_ok-self-in-CombineAsImports c = record { ok = taken _ key.CombineAsImports _ _ _ c.in_ok-self-in-CombineAsImports.field-0 c.in-CombineAsImports.is (search rules) refl; refused = tt }
+pub returns-in-EnsureNewlineBeforeComments : goal.returns-in-EnsureNewlineBeforeComments
+returns-in-EnsureNewlineBeforeComments c = took _ key.EnsureNewlineBeforeComments _ _ _ _ _ _ c.in-EnsureNewlineBeforeComments.is c.flag-in-EnsureNewlineBeforeComments.ensures c.put-in-EnsureNewlineBeforeComments.ensures
 
-pub returns-in_err-self-in-DefaultSection : goal.returns-in_err-self-in-DefaultSection
-returns-in_err-self-in-DefaultSection c =
-    let p = err_from_is_err_and c.from_residual-in_err-self-in-DefaultSection.result c.from_residual-in_err-self-in-DefaultSection.ensures.1 in
-    rw (p.1, p.2) (record { ok = tt; refused = λ ne. refused _ key.DefaultSection _ _ c.in-DefaultSection.is (search rules) })
+pub returns-in-ExtraStandardLibrary : goal.returns-in-ExtraStandardLibrary
+returns-in-ExtraStandardLibrary c = took_shown _ key.ExtraStandardLibrary _ _ (λ v. map string_bytes v.items) _ _ _ _ c.in-ExtraStandardLibrary.is c.texts.ensures.ok c.texts.ensures.err c.put-in-ExtraStandardLibrary.ensures
 
-pub returns-in_ok-self-in-DefaultSection : goal.returns-in_ok-self-in-DefaultSection
-returns-in_ok-self-in-DefaultSection c = record { ok = taken _ key.DefaultSection _ _ _ c.in_ok-self-in-DefaultSection.field-0 c.in-DefaultSection.is (search rules) refl; refused = tt }
+pub returns-in-ForceGridWrap : goal.returns-in-ForceGridWrap
+returns-in-ForceGridWrap c = took _ key.ForceGridWrap _ _ _ _ _ _ c.in-ForceGridWrap.is c.count.ensures c.put-in-ForceGridWrap.ensures
 
-pub returns-in_err-self-in-EnsureNewlineBeforeComments : goal.returns-in_err-self-in-EnsureNewlineBeforeComments
-returns-in_err-self-in-EnsureNewlineBeforeComments c =
-    let p = err_from_is_err_and c.from_residual-in_err-self-in-EnsureNewlineBeforeComments.result c.from_residual-in_err-self-in-EnsureNewlineBeforeComments.ensures.1 in
-    rw (p.1, p.2) (record { ok = tt; refused = λ ne. refused _ key.EnsureNewlineBeforeComments _ _ c.in-EnsureNewlineBeforeComments.is (search rules) })
+pub returns-in-ForceSingleLine : goal.returns-in-ForceSingleLine
+returns-in-ForceSingleLine c = took _ key.ForceSingleLine _ _ _ _ _ _ c.in-ForceSingleLine.is c.flag-in-ForceSingleLine.ensures c.put-in-ForceSingleLine.ensures
 
-pub returns-in_ok-self-in-EnsureNewlineBeforeComments : goal.returns-in_ok-self-in-EnsureNewlineBeforeComments
-returns-in_ok-self-in-EnsureNewlineBeforeComments c = record { ok = taken _ key.EnsureNewlineBeforeComments _ _ _ c.in_ok-self-in-EnsureNewlineBeforeComments.field-0 c.in-EnsureNewlineBeforeComments.is (search rules) refl; refused = tt }
+pub returns-in-ForceSortWithinSections : goal.returns-in-ForceSortWithinSections
+returns-in-ForceSortWithinSections c = took _ key.ForceSortWithinSections _ _ _ _ _ _ c.in-ForceSortWithinSections.is c.flag-in-ForceSortWithinSections.ensures c.put-in-ForceSortWithinSections.ensures
 
-pub returns-in_err-self-in-ExtraStandardLibrary : goal.returns-in_err-self-in-ExtraStandardLibrary
-returns-in_err-self-in-ExtraStandardLibrary c =
-    let p = err_from_is_err_and c.from_residual-in_err-self-in-ExtraStandardLibrary.result c.from_residual-in_err-self-in-ExtraStandardLibrary.ensures.1 in
-    rw (p.1, p.2) (record { ok = tt; refused = λ ne. refused _ key.ExtraStandardLibrary _ _ c.in-ExtraStandardLibrary.is (c.in_err-self-in-ExtraStandardLibrary.ensures.err ne) })
+pub returns-in-IncludeTrailingComma : goal.returns-in-IncludeTrailingComma
+returns-in-IncludeTrailingComma c = took _ key.IncludeTrailingComma _ _ _ _ _ _ c.in-IncludeTrailingComma.is c.flag-in-IncludeTrailingComma.ensures c.put-in-IncludeTrailingComma.ensures
 
-pub returns-in_ok-self-in-ExtraStandardLibrary : goal.returns-in_ok-self-in-ExtraStandardLibrary
-returns-in_ok-self-in-ExtraStandardLibrary c = record { ok = taken _ key.ExtraStandardLibrary _ _ _ (map string_bytes c.in_ok-self-in-ExtraStandardLibrary.field-0.items) c.in-ExtraStandardLibrary.is c.in_ok-self-in-ExtraStandardLibrary.ensures.ok refl; refused = tt }
+pub returns-in-KnownFirstParty : goal.returns-in-KnownFirstParty
+returns-in-KnownFirstParty c = took_shown _ key.KnownFirstParty _ _ (λ v. map string_bytes v.items) _ _ _ _ c.in-KnownFirstParty.is c.texts-in-KnownFirstParty.ensures.ok c.texts-in-KnownFirstParty.ensures.err c.put-in-KnownFirstParty.ensures
 
-pub returns-in_err-self-in-ForceGridWrap : goal.returns-in_err-self-in-ForceGridWrap
-returns-in_err-self-in-ForceGridWrap c =
-    let p = err_from_is_err_and c.from_residual-in_err-self-in-ForceGridWrap.result c.from_residual-in_err-self-in-ForceGridWrap.ensures.1 in
-    rw (p.1, p.2) (record { ok = tt; refused = λ ne. refused _ key.ForceGridWrap _ _ c.in-ForceGridWrap.is (search rules) })
+pub returns-in-KnownFutureLibrary : goal.returns-in-KnownFutureLibrary
+returns-in-KnownFutureLibrary c = took_shown _ key.KnownFutureLibrary _ _ (λ v. map string_bytes v.items) _ _ _ _ c.in-KnownFutureLibrary.is c.texts-in-KnownFutureLibrary.ensures.ok c.texts-in-KnownFutureLibrary.ensures.err c.put-in-KnownFutureLibrary.ensures
 
-pub returns-in_ok-self-in-ForceGridWrap : goal.returns-in_ok-self-in-ForceGridWrap
-returns-in_ok-self-in-ForceGridWrap c = record { ok = taken _ key.ForceGridWrap _ _ _ c.in_ok-self-in-ForceGridWrap.field-0 c.in-ForceGridWrap.is (search rules) refl; refused = tt }
+pub returns-in-KnownLocalFolder : goal.returns-in-KnownLocalFolder
+returns-in-KnownLocalFolder c = took_shown _ key.KnownLocalFolder _ _ (λ v. map string_bytes v.items) _ _ _ _ c.in-KnownLocalFolder.is c.texts-in-KnownLocalFolder.ensures.ok c.texts-in-KnownLocalFolder.ensures.err c.put-in-KnownLocalFolder.ensures
 
-pub returns-in_err-self-in-ForceSingleLine : goal.returns-in_err-self-in-ForceSingleLine
-returns-in_err-self-in-ForceSingleLine c =
-    let p = err_from_is_err_and c.from_residual-in_err-self-in-ForceSingleLine.result c.from_residual-in_err-self-in-ForceSingleLine.ensures.1 in
-    rw (p.1, p.2) (record { ok = tt; refused = λ ne. refused _ key.ForceSingleLine _ _ c.in-ForceSingleLine.is (search rules) })
+pub returns-in-KnownStandardLibrary : goal.returns-in-KnownStandardLibrary
+returns-in-KnownStandardLibrary c = took_shown _ key.KnownStandardLibrary _ _ (λ v. map string_bytes v.items) _ _ _ _ c.in-KnownStandardLibrary.is c.texts-in-KnownStandardLibrary.ensures.ok c.texts-in-KnownStandardLibrary.ensures.err c.put-in-KnownStandardLibrary.ensures
 
-pub returns-in_ok-self-in-ForceSingleLine : goal.returns-in_ok-self-in-ForceSingleLine
-returns-in_ok-self-in-ForceSingleLine c = record { ok = taken _ key.ForceSingleLine _ _ _ c.in_ok-self-in-ForceSingleLine.field-0 c.in-ForceSingleLine.is (search rules) refl; refused = tt }
+pub returns-in-KnownThirdParty : goal.returns-in-KnownThirdParty
+returns-in-KnownThirdParty c = took_shown _ key.KnownThirdParty _ _ (λ v. map string_bytes v.items) _ _ _ _ c.in-KnownThirdParty.is c.texts-in-KnownThirdParty.ensures.ok c.texts-in-KnownThirdParty.ensures.err c.put-in-KnownThirdParty.ensures
 
-pub returns-in_err-self-in-ForceSortWithinSections : goal.returns-in_err-self-in-ForceSortWithinSections
-returns-in_err-self-in-ForceSortWithinSections c =
-    let p = err_from_is_err_and c.from_residual-in_err-self-in-ForceSortWithinSections.result c.from_residual-in_err-self-in-ForceSortWithinSections.ensures.1 in
-    rw (p.1, p.2) (record { ok = tt; refused = λ ne. refused _ key.ForceSortWithinSections _ _ c.in-ForceSortWithinSections.is (search rules) })
+pub returns-in-LineLength : goal.returns-in-LineLength
+returns-in-LineLength c = took _ key.LineLength _ _ _ _ _ _ c.in-LineLength.is c.count-in-LineLength.ensures c.put-in-LineLength.ensures
 
-pub returns-in_ok-self-in-ForceSortWithinSections : goal.returns-in_ok-self-in-ForceSortWithinSections
-returns-in_ok-self-in-ForceSortWithinSections c = record { ok = taken _ key.ForceSortWithinSections _ _ _ c.in_ok-self-in-ForceSortWithinSections.field-0 c.in-ForceSortWithinSections.is (search rules) refl; refused = tt }
+pub returns-in-LinesAfterImports : goal.returns-in-LinesAfterImports
+returns-in-LinesAfterImports c = took _ key.LinesAfterImports _ _ _ _ _ _ c.in-LinesAfterImports.is c.whole.ensures c.put-in-LinesAfterImports.ensures
 
-pub returns-in_err-self-in-IncludeTrailingComma : goal.returns-in_err-self-in-IncludeTrailingComma
-returns-in_err-self-in-IncludeTrailingComma c =
-    let p = err_from_is_err_and c.from_residual-in_err-self-in-IncludeTrailingComma.result c.from_residual-in_err-self-in-IncludeTrailingComma.ensures.1 in
-    rw (p.1, p.2) (record { ok = tt; refused = λ ne. refused _ key.IncludeTrailingComma _ _ c.in-IncludeTrailingComma.is (search rules) })
+pub returns-in-LinesBetweenSections : goal.returns-in-LinesBetweenSections
+returns-in-LinesBetweenSections c = took _ key.LinesBetweenSections _ _ _ _ _ _ c.in-LinesBetweenSections.is c.count-in-LinesBetweenSections.ensures c.put-in-LinesBetweenSections.ensures
 
-pub returns-in_ok-self-in-IncludeTrailingComma : goal.returns-in_ok-self-in-IncludeTrailingComma
-returns-in_ok-self-in-IncludeTrailingComma c = record { ok = taken _ key.IncludeTrailingComma _ _ _ c.in_ok-self-in-IncludeTrailingComma.field-0 c.in-IncludeTrailingComma.is (search rules) refl; refused = tt }
+pub returns-in-LinesBetweenTypes : goal.returns-in-LinesBetweenTypes
+returns-in-LinesBetweenTypes c = took _ key.LinesBetweenTypes _ _ _ _ _ _ c.in-LinesBetweenTypes.is c.count-in-LinesBetweenTypes.ensures c.put-in-LinesBetweenTypes.ensures
 
-pub returns-in_err-self-in-KnownFirstParty : goal.returns-in_err-self-in-KnownFirstParty
-returns-in_err-self-in-KnownFirstParty c =
-    let p = err_from_is_err_and c.from_residual-in_err-self-in-KnownFirstParty.result c.from_residual-in_err-self-in-KnownFirstParty.ensures.1 in
-    rw (p.1, p.2) (record { ok = tt; refused = λ ne. refused _ key.KnownFirstParty _ _ c.in-KnownFirstParty.is (c.in_err-self-in-KnownFirstParty.ensures.err ne) })
+pub returns-in-MultiLineOutput : goal.returns-in-MultiLineOutput
+returns-in-MultiLineOutput c = took _ key.MultiLineOutput _ _ _ _ _ _ c.in-MultiLineOutput.is c.mode.ensures c.put-in-MultiLineOutput.ensures
 
-pub returns-in_ok-self-in-KnownFirstParty : goal.returns-in_ok-self-in-KnownFirstParty
-returns-in_ok-self-in-KnownFirstParty c = record { ok = taken _ key.KnownFirstParty _ _ _ (map string_bytes c.in_ok-self-in-KnownFirstParty.field-0.items) c.in-KnownFirstParty.is c.in_ok-self-in-KnownFirstParty.ensures.ok refl; refused = tt }
+pub returns-in-OrderByType : goal.returns-in-OrderByType
+returns-in-OrderByType c = took _ key.OrderByType _ _ _ _ _ _ c.in-OrderByType.is c.flag-in-OrderByType.ensures c.put-in-OrderByType.ensures
 
-pub returns-in_err-self-in-KnownFutureLibrary : goal.returns-in_err-self-in-KnownFutureLibrary
-returns-in_err-self-in-KnownFutureLibrary c =
-    let p = err_from_is_err_and c.from_residual-in_err-self-in-KnownFutureLibrary.result c.from_residual-in_err-self-in-KnownFutureLibrary.ensures.1 in
-    rw (p.1, p.2) (record { ok = tt; refused = λ ne. refused _ key.KnownFutureLibrary _ _ c.in-KnownFutureLibrary.is (c.in_err-self-in-KnownFutureLibrary.ensures.err ne) })
-
-pub returns-in_ok-self-in-KnownFutureLibrary : goal.returns-in_ok-self-in-KnownFutureLibrary
-returns-in_ok-self-in-KnownFutureLibrary c = record { ok = taken _ key.KnownFutureLibrary _ _ _ (map string_bytes c.in_ok-self-in-KnownFutureLibrary.field-0.items) c.in-KnownFutureLibrary.is c.in_ok-self-in-KnownFutureLibrary.ensures.ok refl; refused = tt }
-
-pub returns-in_err-self-in-KnownLocalFolder : goal.returns-in_err-self-in-KnownLocalFolder
-returns-in_err-self-in-KnownLocalFolder c =
-    let p = err_from_is_err_and c.from_residual-in_err-self-in-KnownLocalFolder.result c.from_residual-in_err-self-in-KnownLocalFolder.ensures.1 in
-    rw (p.1, p.2) (record { ok = tt; refused = λ ne. refused _ key.KnownLocalFolder _ _ c.in-KnownLocalFolder.is (c.in_err-self-in-KnownLocalFolder.ensures.err ne) })
-
-pub returns-in_ok-self-in-KnownLocalFolder : goal.returns-in_ok-self-in-KnownLocalFolder
-returns-in_ok-self-in-KnownLocalFolder c = record { ok = taken _ key.KnownLocalFolder _ _ _ (map string_bytes c.in_ok-self-in-KnownLocalFolder.field-0.items) c.in-KnownLocalFolder.is c.in_ok-self-in-KnownLocalFolder.ensures.ok refl; refused = tt }
-
-pub returns-in_err-self-in-KnownStandardLibrary : goal.returns-in_err-self-in-KnownStandardLibrary
-returns-in_err-self-in-KnownStandardLibrary c =
-    let p = err_from_is_err_and c.from_residual-in_err-self-in-KnownStandardLibrary.result c.from_residual-in_err-self-in-KnownStandardLibrary.ensures.1 in
-    rw (p.1, p.2) (record { ok = tt; refused = λ ne. refused _ key.KnownStandardLibrary _ _ c.in-KnownStandardLibrary.is (c.in_err-self-in-KnownStandardLibrary.ensures.err ne) })
-
-pub returns-in_ok-self-in-KnownStandardLibrary : goal.returns-in_ok-self-in-KnownStandardLibrary
-returns-in_ok-self-in-KnownStandardLibrary c = record { ok = taken _ key.KnownStandardLibrary _ _ _ (map string_bytes c.in_ok-self-in-KnownStandardLibrary.field-0.items) c.in-KnownStandardLibrary.is c.in_ok-self-in-KnownStandardLibrary.ensures.ok refl; refused = tt }
-
-pub returns-in_err-self-in-KnownThirdParty : goal.returns-in_err-self-in-KnownThirdParty
-returns-in_err-self-in-KnownThirdParty c =
-    let p = err_from_is_err_and c.from_residual-in_err-self-in-KnownThirdParty.result c.from_residual-in_err-self-in-KnownThirdParty.ensures.1 in
-    rw (p.1, p.2) (record { ok = tt; refused = λ ne. refused _ key.KnownThirdParty _ _ c.in-KnownThirdParty.is (c.in_err-self-in-KnownThirdParty.ensures.err ne) })
-
-pub returns-in_ok-self-in-KnownThirdParty : goal.returns-in_ok-self-in-KnownThirdParty
-returns-in_ok-self-in-KnownThirdParty c = record { ok = taken _ key.KnownThirdParty _ _ _ (map string_bytes c.in_ok-self-in-KnownThirdParty.field-0.items) c.in-KnownThirdParty.is c.in_ok-self-in-KnownThirdParty.ensures.ok refl; refused = tt }
-
-pub returns-in_err-self-in-LineLength : goal.returns-in_err-self-in-LineLength
-returns-in_err-self-in-LineLength c =
-    let p = err_from_is_err_and c.from_residual-in_err-self-in-LineLength.result c.from_residual-in_err-self-in-LineLength.ensures.1 in
-    rw (p.1, p.2) (record { ok = tt; refused = λ ne. refused _ key.LineLength _ _ c.in-LineLength.is (search rules) })
-
-pub returns-in_ok-self-in-LineLength : goal.returns-in_ok-self-in-LineLength
-returns-in_ok-self-in-LineLength c = record { ok = taken _ key.LineLength _ _ _ c.in_ok-self-in-LineLength.field-0 c.in-LineLength.is (search rules) refl; refused = tt }
-
-pub returns-in_err-self-in-LinesAfterImports : goal.returns-in_err-self-in-LinesAfterImports
-returns-in_err-self-in-LinesAfterImports c =
-    let p = err_from_is_err_and c.from_residual-in_err-self-in-LinesAfterImports.result c.from_residual-in_err-self-in-LinesAfterImports.ensures.1 in
-    rw (p.1, p.2) (record { ok = tt; refused = λ ne. refused _ key.LinesAfterImports _ _ c.in-LinesAfterImports.is (search rules) })
-
-pub returns-in_ok-self-in-LinesAfterImports : goal.returns-in_ok-self-in-LinesAfterImports
-returns-in_ok-self-in-LinesAfterImports c = record { ok = taken _ key.LinesAfterImports _ _ _ c.in_ok-self-in-LinesAfterImports.field-0 c.in-LinesAfterImports.is (search rules) (search rules); refused = tt }
-
-pub returns-in_err-self-in-LinesBetweenSections : goal.returns-in_err-self-in-LinesBetweenSections
-returns-in_err-self-in-LinesBetweenSections c =
-    let p = err_from_is_err_and c.from_residual-in_err-self-in-LinesBetweenSections.result c.from_residual-in_err-self-in-LinesBetweenSections.ensures.1 in
-    rw (p.1, p.2) (record { ok = tt; refused = λ ne. refused _ key.LinesBetweenSections _ _ c.in-LinesBetweenSections.is (search rules) })
-
-pub returns-in_ok-self-in-LinesBetweenSections : goal.returns-in_ok-self-in-LinesBetweenSections
-returns-in_ok-self-in-LinesBetweenSections c = record { ok = taken _ key.LinesBetweenSections _ _ _ c.in_ok-self-in-LinesBetweenSections.field-0 c.in-LinesBetweenSections.is (search rules) refl; refused = tt }
-
-pub returns-in_err-self-in-LinesBetweenTypes : goal.returns-in_err-self-in-LinesBetweenTypes
-returns-in_err-self-in-LinesBetweenTypes c =
-    let p = err_from_is_err_and c.from_residual-in_err-self-in-LinesBetweenTypes.result c.from_residual-in_err-self-in-LinesBetweenTypes.ensures.1 in
-    rw (p.1, p.2) (record { ok = tt; refused = λ ne. refused _ key.LinesBetweenTypes _ _ c.in-LinesBetweenTypes.is (search rules) })
-
-pub returns-in_ok-self-in-LinesBetweenTypes : goal.returns-in_ok-self-in-LinesBetweenTypes
-returns-in_ok-self-in-LinesBetweenTypes c = record { ok = taken _ key.LinesBetweenTypes _ _ _ c.in_ok-self-in-LinesBetweenTypes.field-0 c.in-LinesBetweenTypes.is (search rules) refl; refused = tt }
-
-pub returns-in_err-self-in-MultiLineOutput : goal.returns-in_err-self-in-MultiLineOutput
-returns-in_err-self-in-MultiLineOutput c =
-    let p = err_from_is_err_and c.from_residual-in_err-self-in-MultiLineOutput.result c.from_residual-in_err-self-in-MultiLineOutput.ensures.1 in
-    rw (p.1, p.2) (record { ok = tt; refused = λ ne. refused _ key.MultiLineOutput _ _ c.in-MultiLineOutput.is (search rules) })
-
-pub returns-in_ok-self-in-MultiLineOutput : goal.returns-in_ok-self-in-MultiLineOutput
-returns-in_ok-self-in-MultiLineOutput c = record { ok = taken _ key.MultiLineOutput _ _ _ c.in_ok-self-in-MultiLineOutput.field-0 c.in-MultiLineOutput.is (search rules) refl; refused = tt }
-
-pub returns-in_err-self-in-OrderByType : goal.returns-in_err-self-in-OrderByType
-returns-in_err-self-in-OrderByType c =
-    let p = err_from_is_err_and c.from_residual-in_err-self-in-OrderByType.result c.from_residual-in_err-self-in-OrderByType.ensures.1 in
-    rw (p.1, p.2) (record { ok = tt; refused = λ ne. refused _ key.OrderByType _ _ c.in-OrderByType.is (search rules) })
-
-pub returns-in_ok-self-in-OrderByType : goal.returns-in_ok-self-in-OrderByType
-returns-in_ok-self-in-OrderByType c = record { ok = taken _ key.OrderByType _ _ _ c.in_ok-self-in-OrderByType.field-0 c.in-OrderByType.is (search rules) refl; refused = tt }
-
-pub returns-in_err-self-in-UseParentheses : goal.returns-in_err-self-in-UseParentheses
-returns-in_err-self-in-UseParentheses c =
-    let p = err_from_is_err_and c.from_residual-in_err-self-in-UseParentheses.result c.from_residual-in_err-self-in-UseParentheses.ensures.1 in
-    rw (p.1, p.2) (record { ok = tt; refused = λ ne. refused _ key.UseParentheses _ _ c.in-UseParentheses.is (search rules) })
-
-pub returns-in_ok-self-in-UseParentheses : goal.returns-in_ok-self-in-UseParentheses
-returns-in_ok-self-in-UseParentheses c = record { ok = taken _ key.UseParentheses _ _ _ c.in_ok-self-in-UseParentheses.field-0 c.in-UseParentheses.is (search rules) refl; refused = tt }
+pub returns-in-UseParentheses : goal.returns-in-UseParentheses
+returns-in-UseParentheses c = took _ key.UseParentheses _ _ _ _ _ _ c.in-UseParentheses.is c.flag-in-UseParentheses.ensures c.put-in-UseParentheses.ensures
 
 pub returns-in-Tool : goal.returns-in-Tool
 returns-in-Tool c =

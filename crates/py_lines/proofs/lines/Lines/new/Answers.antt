@@ -1,6 +1,6 @@
 use Rattle.std.proofs.Common.{ap}
 use Rattle.py_lines.specs.Reader.{Reader}
-use Rattle.py_lines.proofs.Advancing.{start_given}
+use Rattle.py_lines.proofs.Readers.LineAnswers.{start_given}
 use Rattle.py_lines.proofs.lines.Lines.new.Goals as goal
 
 pub returns-clause-given : goal.returns-clause-given

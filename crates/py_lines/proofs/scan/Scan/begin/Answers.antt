@@ -1,7 +1,7 @@
 use Rattle.std.proofs.Common.{Bool, Ok, refl, sym, subst}
-use Rattle.py_lines.specs.Scan.{Meets}
-use Rattle.py_lines.proofs.Starts.{StartsSo, starts_so}
-use Rattle.py_lines.proofs.Ascii.{operator_ascii}
+use Rattle.py_lines.specs.Private.Scan.{Meets}
+use Rattle.py_lines.proofs.Machine.Starts.{StartsSo, starts_so}
+use Rattle.py_lines.proofs.Text.CharacterTests.{operator_ascii}
 use Rattle.py_lines.proofs.scan.Scan.begin.Goals as goal
 
 pub stand-requires-clause-ascii : goal.stand-requires-clause-ascii

@@ -5,12 +5,12 @@ use Rattle.std.proofs.lemmas.Str.{length-encode}
 use Rattle.std.proofs.lemmas.List.{nil_from_length}
 use Rattle.std.proofs.lemmas.Bool.{and_parts}
 use Rattle.py_lines.specs.Character.{is_line_feed}
-use Rattle.py_lines.specs.Scan.{Takes, is_returned, is_return_mode, is_none, stack_of}
+use Rattle.py_lines.specs.Private.Scan.{Takes, is_returned, is_return_mode, none_open, stack_of}
 use Rattle.py_lines.specs.declared.scan.Progress.{Progress}
 use Rattle.py_lines.specs.declared.scan.Scan.{Scan}
-use Rattle.py_lines.proofs.Iterating.{advances}
-use Rattle.py_lines.proofs.Counting.{line_ends-bytes}
-use Rattle.py_lines.proofs.Running.{sound_run, under_way, at_line_end, refused, returned, follows_other, follows_nothing, way_order, way_stop, way_here}
+use Rattle.py_lines.proofs.Text.CharsIterator.{advances}
+use Rattle.py_lines.proofs.Scanner.LineCount.{line_ends-bytes}
+use Rattle.py_lines.proofs.Scanner.LineRun.{sound_run, under_way, at_line_end, refused, returned, follows_other, follows_nothing, way_order, way_stop, way_here}
 use Rattle.py_lines.proofs.scan.Scan.run.Goals as goal
 
 pub close-requires : goal.close-requires
@@ -123,7 +123,7 @@ close-requires-then-is_returned c = way_order c.loop-c.self c.loop-c.invariant.w
 pub returns-in_ok-close-2-clause-stops : goal.returns-in_ok-close-2-clause-stops
 returns-in_ok-close-2-clause-stops c =
     let inv = c.loop-c.invariant in
-    let parts = and_parts (is_return_mode c.loop-c.self.mode) (is_none (stack_of c.loop-c.self.brackets)) (sym c.is_returned.ensures ∙ c.if-is_returned.true) in
+    let parts = and_parts (is_return_mode c.loop-c.self.mode) (none_open (stack_of c.loop-c.self.brackets)) (sym c.is_returned.ensures ∙ c.if-is_returned.true) in
     record {
       read = c.loop-c.yielded;
       rest = chars_rest c.loop-c.c-iterator;

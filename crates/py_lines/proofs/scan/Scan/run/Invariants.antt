@@ -2,7 +2,7 @@ use Rattle.std.proofs.Common.{◌≡◌, ◌++◌, true}
 use Rattle.std.specs.Prelude.{encode_utf8_all}
 use Rattle.std.specs.Str.{all_scalars}
 use Rattle.std.specs.Str.Iter.{chars_rest}
-use Rattle.py_lines.specs.Scan.{IsUnderWay}
+use Rattle.py_lines.specs.Private.Scan.{IsUnderWay}
 use Rattle.py_lines.proofs.scan.Scan.run.Given as goal
 
 abbrev pub invariant-loop-c : goal.invariant-loop-c

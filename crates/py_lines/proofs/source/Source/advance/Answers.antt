@@ -1,6 +1,6 @@
 use Rattle.std.proofs.Common.{refl}
-use Rattle.py_lines.specs.Source.{reader_of}
-use Rattle.py_lines.proofs.Given.{all_given}
+use Rattle.py_lines.specs.Reader.View.{reader_of}
+use Rattle.py_lines.proofs.Lexings.GivenLines.{all_given}
 use Rattle.py_lines.proofs.source.Source.advance.Goals as goal
 
 pub returns-then-self : goal.returns-then-self

@@ -1,6 +1,6 @@
 use Rattle.std.proofs.Common.{ℕ, List, sym, ap, subst}
 use Rattle.py_lines.specs.Reader.{Reader, HasGiven, standing_at}
-use Rattle.py_lines.proofs.Advancing.{given_stands}
+use Rattle.py_lines.proofs.Readers.LineAnswers.{given_stands}
 use Rattle.py_lines.proofs.source.Source.at.Goals as goal
 
 pub returns-clause-goes_on : goal.returns-clause-goes_on

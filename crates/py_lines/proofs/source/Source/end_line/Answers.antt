@@ -1,5 +1,5 @@
 use Rattle.py_lines.specs.declared.scan.Stop.TheVariants.{LineEnd}
-use Rattle.py_lines.proofs.Advancing.{all_within, place_boundary, place_room, line_ended, few_lines_line, continues_line}
+use Rattle.py_lines.proofs.Readers.LineAnswers.{all_within, place_boundary, place_room, line_ended, few_lines_line, continues_line}
 use Rattle.py_lines.proofs.source.Source.end_line.Goals as goal
 
 pub give-requires-clause-within : goal.give-requires-clause-within

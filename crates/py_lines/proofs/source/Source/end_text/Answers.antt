@@ -3,11 +3,11 @@ use Rattle.std.specs.Str.{IsCharBoundary}
 use Rattle.py_lines.specs.declared.fault.LexError.{LexError}
 use Rattle.py_lines.specs.declared.mode.Mode.{Mode}
 use Rattle.py_lines.specs.declared.scan.Stop.TheVariants.{TextEnd}
-use Rattle.py_lines.specs.Machine.{is_final}
-use Rattle.py_lines.specs.Source.{Advances}
-use Rattle.py_lines.proofs.Running.{way_order}
-use Rattle.py_lines.proofs.Advancing.{all_within, place_room, place_boundary}
-use Rattle.py_lines.proofs.Ending.{stop_size, fails_at_bytes, fails_at_end, unfinished_within, continues_text, few_lines_text}
+use Rattle.py_lines.specs.Private.Machine.{is_final}
+use Rattle.py_lines.specs.Private.Source.{Advances}
+use Rattle.py_lines.proofs.Scanner.LineRun.{way_order}
+use Rattle.py_lines.proofs.Readers.LineAnswers.{all_within, place_room, place_boundary}
+use Rattle.py_lines.proofs.Readers.EndAnswers.{stop_size, fails_at_bytes, fails_at_end, unfinished_within, continues_text, few_lines_text}
 use Rattle.py_lines.proofs.source.Source.end_text.Goals as goal
 
 pub fail-requires-clause-within : goal.fail-requires-clause-within

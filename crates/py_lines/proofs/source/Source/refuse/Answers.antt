@@ -2,10 +2,10 @@ use Rattle.std.proofs.Common.{ℕ, ◌+◌, ◌≤◌, length, Err, sym, subst}
 use Rattle.std.specs.Str.{IsCharBoundary}
 use Rattle.py_lines.specs.declared.fault.LexError.{LexError}
 use Rattle.py_lines.specs.declared.scan.Stop.TheVariants.{Refused}
-use Rattle.py_lines.specs.Source.{Advances, FailsAt}
-use Rattle.py_lines.specs.Scan.{refused_place}
-use Rattle.py_lines.proofs.Advancing.{place_room, place_boundary}
-use Rattle.py_lines.proofs.Failing.{refused_within, fails_at_character}
+use Rattle.py_lines.specs.Private.Source.{Advances, KeepsFault}
+use Rattle.py_lines.specs.Private.Scan.{refused_place}
+use Rattle.py_lines.proofs.Readers.LineAnswers.{place_room, place_boundary}
+use Rattle.py_lines.proofs.Readers.FaultAnswers.{refused_within, fails_at_character}
 use Rattle.py_lines.proofs.source.Source.refuse.Goals as goal
 
 pub fail-requires-clause-within : goal.fail-requires-clause-within
@@ -21,5 +21,5 @@ fail-requires-clause-boundary c =
 pub returns : goal.returns
 returns c =
     let s = c.args.self.now in
-    let at = subst (λ (n : ℕ). FailsAt s c.character_kind.result n c.fail.result c.fail.new.self) c.refused_place-behind.ensures c.fail.ensures in
+    let at = subst (λ (n : ℕ). KeepsFault s c.character_kind.result n c.fail.result c.fail.new.self) c.refused_place-behind.ensures c.fail.ensures in
     subst (λ (e : LexError). Advances s (Err e) c.fail.new.self) (sym at.error_is) (fails_at_character s c.fail.new.self c.args.c c.character_kind.result c.fail.result c.requires at c.character_kind.ensures)

@@ -1,6 +1,6 @@
 use Rattle.std.proofs.Common.{ℕ, List, sym, subst, arith}
 use Rattle.py_lines.specs.Token.{EachLiesIn}
-use Rattle.py_lines.specs.Source.{line_of_source}
+use Rattle.py_lines.specs.Private.Source.{line_of_source}
 use Rattle.py_lines.specs.declared.token.Token.{Token}
 use Rattle.py_lines.proofs.source.Source.unit.Goals as goal
 

@@ -1,5 +1,5 @@
 use Rattle.std.proofs.Common.{arith}
-use Rattle.py_lines.proofs.TokenPlaces.{lies_at}
+use Rattle.py_lines.proofs.LogicalLines.TokenPlaces.{lies_at}
 use Rattle.py_lines.proofs.unit.Unit.word.Goals as goal
 
 pub range-requires-clause-start_le_end : goal.range-requires-clause-start_le_end

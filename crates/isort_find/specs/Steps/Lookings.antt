@@ -1,0 +1,39 @@
+-- How the bindings of a logical line are looked at.
+use Rattle.std.specs.Prelude.{◌≡◌, ◌+◌, true, Option, None, Some, Result, Ok, Err, List, [], ◌∷◌, ◌++◌, length}
+use Rattle.std.specs.List.{list_all}
+use Rattle.py_imports.specs.Bound.{Bound, bound_of}
+use Rattle.py_imports.specs.declared.binding.Binding.{Binding}
+use Rattle.isort_find.specs.Cursor.{Standing}
+use Rattle.isort_find.specs.Pending.{Looking}
+use Rattle.isort_find.specs.Steps.Standings.{has_key, Admits, standing_after}
+use Rattle.isort_find.specs.declared.error.FindError.{FindError}
+use Rattle.isort_find.specs.declared.error.FindError.TheVariants as error
+
+-- one more was looked at
+pub record Looks (old : Looking) (b : Bound) (new : Looking) : Type 0 where
+  pub left : old.left ≡ b ∷ new.left
+  pub place : new.place ≡ old.place
+  pub taken : new.taken ≡ old.taken + 1
+
+-- bindings were looked at whose keys were given before
+pub record Passes (s : Standing) (old new : Looking) : Type 0 where
+  pub dropped : List Bound
+  pub split : old.left ≡ dropped ++ new.left
+  pub known : list_all (has_key s.options.unique s.keys) dropped ≡ true
+  pub place : new.place ≡ old.place
+  pub taken : new.taken ≡ old.taken + length dropped
+
+-- after such bindings one with a new key was taken
+pub record TakesNew (s : Standing) (old : Looking) (b : Bound) (t : Standing) (new : Looking) : Type 0 where
+  pub between : Looking
+  pub admitted : Standing
+  pub passes : Passes s old between
+  pub looks : Looks between b new
+  pub admits : Admits s b true admitted
+  pub gives : t ≡ standing_after admitted new.place new.taken
+
+-- what is taken of the bindings that are left
+abbrev pub TakesNext : Standing → Looking → Result (Option Binding) FindError → Standing → Looking → Type 0
+TakesNext s old (Ok (Some b)) t new = TakesNew s old (bound_of b) t new
+TakesNext s old (Ok None) t new = Passes s old new × (new.left ≡ []) × (t ≡ s)
+TakesNext s old (Err e) t new = Passes s old new × (t ≡ s) × (e ≡ error.Memory)

@@ -1,0 +1,22 @@
+-- What is learned from the next logical line.
+use Rattle.std.specs.Prelude.{◌≡◌, ◌⊎◌, true, false, map}
+use Rattle.py_lines.specs.LogicalLine.{LogicalLine}
+use Rattle.py_lines.specs.Reader.{Reader, Continues, Ends, Fails, RunsOut}
+use Rattle.py_imports.specs.Bound.{bound_of}
+use Rattle.py_imports.specs.Binds.{Binds, IsBadAt}
+use Rattle.isort_find.specs.Found.{ends_top}
+use Rattle.isort_find.specs.declared.options.FindOptions.{FindOptions}
+use Rattle.isort_find.specs.declared.step.Step.{Step}
+use Rattle.isort_find.specs.declared.step.Step.TheVariants as step
+
+-- one more logical line was given, and P says what it is
+abbrev pub GivesLine : Reader → (LogicalLine → Type 0) → Reader → Type 0
+GivesLine old P new = (line : LogicalLine) × Continues old line new × P line
+
+-- what a step says of the next logical line: none follows where the text ends or has a fault
+abbrev pub StepsTo : FindOptions → Reader → Step → Reader → Type 0
+StepsTo options old (step.Bindings bindings) new = GivesLine old (λ line. Binds line (map bound_of bindings.items) × (ends_top options line ≡ false)) new
+StepsTo options old step.End new = GivesLine old (λ line. ends_top options line ≡ true) new ⊎ Ends old new
+StepsTo options old (step.Fault fault) new = GivesLine old (λ line. IsBadAt line fault × (ends_top options line ≡ false)) new ⊎ Fails old fault new
+StepsTo options old step.LineLost new = GivesLine old (λ line. Unit {0}) new
+StepsTo options old step.NoMemory new = RunsOut old new

@@ -1,0 +1,26 @@
+-- How a cursor moves.
+use Rattle.std.specs.Prelude.{◌≡◌, ℕ, Bool, false, not, Option, None, Some, List, [], ◌∷◌, ◌++◌, if◌then◌else◌}
+use Rattle.std.specs.List.{list_any}
+use Rattle.py_imports.specs.Bound.{Bound}
+use Rattle.isort_find.specs.Key.{Key, key_of, key_eq}
+use Rattle.isort_find.specs.Cursor.{Standing, next_count, keys_of}
+use Rattle.isort_find.specs.declared.options.ImportKey.{ImportKey}
+use Rattle.isort_find.specs.declared.pending.Place.{Place}
+
+-- whether the key of the binding is among these
+abbrev pub has_key : Option ImportKey → List Key → Bound → Bool
+has_key None keys b = false
+has_key (Some key) keys b = list_any (key_eq (key_of key b)) keys
+
+-- the cursor takes in the key of a new binding
+pub record Admits (old : Standing) (b : Bound) (is_new : Bool) (new : Standing) : Type 0 where
+  pub answer : is_new ≡ not (has_key old.options.unique old.keys b)
+  pub standing : new ≡ record old { keys = if is_new then old.keys ++ keys_of old.options.unique (b ∷ []) else old.keys }
+
+-- once a binding was given of the logical line at this place, the last of so many that were looked at
+abbrev pub standing_after : Standing → Place → ℕ → Standing
+standing_after old place taken = record { options = old.options; offset = place.offset; line = place.line; taken = taken; given = next_count old.given; keys = old.keys }
+
+-- before what follows at this place
+abbrev pub standing_before : Standing → Place → Standing
+standing_before old place = record { options = old.options; offset = place.offset; line = place.line; taken = 0; given = old.given; keys = old.keys }

@@ -1,0 +1,11 @@
+use Rattle.std.proofs.Common.{◌∷◌, subst}
+use Rattle.py_imports.specs.Grammar.{import_word, modules, AreItems, whole_module, IsImport}
+use Rattle.py_imports.specs.Reading.Lexemes.{rest_of}
+use Rattle.py_imports.specs.Reading.Items.{AreSameLists, ListsOf}
+use Rattle.py_imports.proofs.ReaderLemmas.{same_import}
+use Rattle.py_imports.proofs.items.ImportItems.new.Goals as goal
+
+pub returns-in-Import : goal.returns-in-Import
+returns-in-Import c =
+    let rest = rest_of c.new-tokens.result in
+    rw c.in-Import.is (subst (λ ts. AreSameLists (IsImport (import_word ∷ ts)) (ListsOf whole_module (AreItems modules rest))) c.new-tokens.ensures (same_import rest))

@@ -1,0 +1,40 @@
+-- What the program has bound of a statement.
+use Rattle.std.specs.Prelude.{◌≡◌, ℕ, ◌+◌, Some, List, ◌++◌, map, drop, slice_get}
+use Rattle.py_imports.specs.Grammar.{Imported}
+use Rattle.py_imports.specs.Statement.{significant, Place}
+use Rattle.py_imports.specs.Binds.{BindsAt, IsBadStart}
+use Rattle.py_imports.specs.Bound.{Bound, bound_at, bound_of}
+use Rattle.py_imports.specs.declared.binding.Binding.{Binding}
+use Rattle.py_imports.specs.declared.bindings.Head.{Head}
+use Rattle.py_imports.specs.declared.error.ImportError.{ImportError}
+use Rattle.py_imports.specs.declared.error.ImportError.TheVariants as error
+use Rattle.py_lines.specs.LogicalLine.{LogicalLine}
+use Rattle.py_lines.specs.declared.fault.Fault.{Fault}
+use Rattle.py_lines.specs.declared.fault.FaultKind.TheVariants.{BadImport}
+use Rattle.py_lines.specs.declared.token.Token.{Token}
+
+-- an import of one of these lists was read, and its bindings put after others
+pub record BindsOne (Are : List Imported → Type 0) (head : Head) (old new : List Binding) : Type 0 where
+  pub imported : List Imported
+  pub are : Are imported
+  pub adds : map bound_of new ≡ map bound_of old ++ map (bound_at head.line head.indented) imported
+
+-- why the items of a statement weren't bound: the fault that was to be answered, where it has no such list
+abbrev pub RefusesItems : (List Imported → Type 0) → Fault → ImportError → Type 0
+RefusesItems Are fault error.Memory = Unit {0}
+RefusesItems Are fault (error.Fault other) = (other ≡ fault) × ((is : List Imported) → ¬ (Are is))
+
+-- what the statement that starts here binds was put after others
+pub record BindsMore (line : LogicalLine) (p : Place) (old new : List Binding) : Type 0 where
+  pub bounds : List Bound
+  pub binds : BindsAt line p bounds
+  pub adds : map bound_of new ≡ map bound_of old ++ bounds
+
+-- why the statement that starts here wasn't bound
+abbrev pub RefusesAt : LogicalLine → Place → ImportError → Type 0
+RefusesAt line p error.Memory = Unit {0}
+RefusesAt line p (error.Fault fault) = IsBadStart line p × (fault ≡ record { kind = BadImport; offset = line.offset + p.token.start; line = p.token.line })
+
+-- the place of a token in a list, up to what stands before it
+abbrev pub IsPlaceAt : List Token → ℕ → Place → Type 0
+IsPlaceAt tokens i p = (slice_get tokens i ≡ Some p.token) × (p.behind ≡ significant (drop (i + 1) tokens))

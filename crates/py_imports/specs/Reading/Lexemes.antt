@@ -1,0 +1,54 @@
+-- What a reader of lexemes has before it.
+use Rattle.std.specs.Prelude.{◌≡◌, ℕ, ◌≤◌, ◌-◌, Bool, true, false, List, [], ◌∷◌, map, take, drop}
+use Rattle.std.specs.Option.{option_map}
+use Rattle.py_imports.specs.Binds.{terminal_in}
+use Rattle.py_imports.specs.Grammar.{Terminal, import_word, from_word, as_word, name, dot, comma, star, opening, closing, other, spelling}
+use Rattle.py_imports.specs.Reading.Parsing.{spelled_before, at_relative}
+use Rattle.py_imports.specs.Statement.{significant}
+use Rattle.py_imports.specs.declared.lexeme.Lexeme.{Lexeme}
+use Rattle.py_imports.specs.declared.lexeme.Lexeme.TheVariants as lexeme
+use Rattle.py_imports.specs.declared.lexemes.Lexemes.{Lexemes}
+
+-- a lexeme and what follows it
+abbrev pub followed_by : Lexeme → List Terminal → List Terminal
+followed_by lexeme.Import ts = import_word ∷ ts
+followed_by lexeme.From ts = from_word ∷ ts
+followed_by lexeme.As ts = as_word ∷ ts
+followed_by (lexeme.Name w) ts = name w.now ∷ ts
+followed_by lexeme.Dot ts = dot ∷ ts
+followed_by lexeme.Comma ts = comma ∷ ts
+followed_by lexeme.Star ts = star ∷ ts
+followed_by lexeme.Opening ts = opening ∷ ts
+followed_by lexeme.Closing ts = closing ∷ ts
+followed_by lexeme.Other ts = other ∷ ts
+followed_by lexeme.End ts = []
+
+-- what hasn't been read
+abbrev pub rest_of : Lexemes → List Terminal
+rest_of s = map (terminal_in s.unit.now.text.now) (significant (take (s.end - s.place) (drop s.place s.unit.now.tokens.now)))
+
+-- the second reads the same tokens as the first, and stands at the same place or further on
+pub record Follows (before after : Lexemes) : Type 0 where
+  pub unit : after.unit ≡ before.unit
+  pub end : after.end ≡ before.end
+  pub place : before.place ≤ after.place
+
+-- how the names and dots are spelled that are left
+abbrev pub names_text : Lexemes → List ℕ
+names_text s = spelling (rest_of s)
+
+-- whether a dot is next
+abbrev pub begins_dot : List Terminal → Bool
+begins_dot (dot ∷ ts) = true
+begins_dot _ = false
+
+-- whether the word `import` is next
+abbrev pub begins_import_word : List Terminal → Bool
+begins_import_word (import_word ∷ ts) = true
+begins_import_word _ = false
+
+-- the dots that a relative module begins with were passed
+pub record PassesDots (before : List Terminal) (dotted : Bool) (after : List Terminal) : Type 0 where
+  pub written : List ℕ
+  pub same : at_relative false before ≡ option_map (spelled_before written) (at_relative dotted after)
+  pub ended : begins_dot after ≡ false

@@ -1,0 +1,22 @@
+-- What is known of a line's first token that is no comment.
+use Rattle.std.specs.Prelude.{◌≡◌, ℕ, ◌+◌, Some, List, ◌∷◌, map, drop, slice_get}
+use Rattle.py_lines.specs.LogicalLine.{LogicalLine}
+use Rattle.py_lines.specs.declared.token.Token.{Token}
+use Rattle.py_lines.specs.declared.unit.UnitKind.TheVariants as unit_kind
+use Rattle.py_imports.specs.Binds.{terminal_in}
+use Rattle.py_imports.specs.Reading.Items.{with_first_word}
+use Rattle.py_imports.specs.Shape.{terminals_of}
+use Rattle.py_imports.specs.Statement.{significant}
+use Rattle.py_imports.specs.declared.items.Form.{Form}
+
+-- the first token that is no comment
+pub record IsFirstCode (tokens : List Token) (place : ℕ) : Type 0 where
+  pub first : Token
+  pub at : slice_get tokens place ≡ Some first
+  pub all : significant tokens ≡ first ∷ significant (drop (place + 1) tokens)
+
+-- the line is code, and its first token that is no comment begins an import statement
+pub record BeginsAt (line : LogicalLine) (place : ℕ) (form : Form) : Type 0 where
+  pub code : line.kind ≡ unit_kind.Code
+  pub first : IsFirstCode line.tokens place
+  pub begins : terminals_of line ≡ with_first_word form (map (terminal_in line.text) (significant (drop (place + 1) line.tokens)))

@@ -1,0 +1,132 @@
+ghost use Rattle.std.specs.Prelude.{◌≡◌, ◌<◌, ◌+◌, Some, length, map, slice_get, IfOk, OnOk, IfErr, string_bytes};
+ghost use Rattle.std.specs.Option.{option_map};
+ghost use Rattle.py_lines.specs.Lines.{line_in};
+ghost use Rattle.py_lines.specs.declared.fault.FaultKind.TheVariants.{BadImport};
+ghost use Rattle.py_lines.specs.declared.token.Token.{Token};
+ghost use Rattle.py_imports.specs.Statement.{Place};
+ghost use Rattle.py_imports.specs.Binds.{Binds, Refuses};
+ghost use Rattle.py_imports.specs.Bound.{bound_of, bound_at};
+ghost use Rattle.py_imports.specs.Reading.Items.{imported_of, AreLeft};
+ghost use Rattle.py_imports.specs.Reading.Bindings.{BindsOne, RefusesItems, BindsMore, RefusesAt, IsPlaceAt};
+
+use crate::binding::Binding;
+use crate::error::ImportError;
+use crate::items::{BadStatement, ImportItem, ImportItems, form_of};
+use crate::statement::{depth_past, divides, statement_end};
+use py_lines::{Fault, FaultKind, Unit};
+use std::alloc::{AllocError, Global};
+
+// What the bindings of one statement have in common.
+#[derive(Clone, Copy)]
+struct Head {
+    line: u64,
+    indented: bool,
+}
+
+// The text in memory of its own, if there is one.
+fn owned(alloc: Global, text: Option<&str>) -> Result<Option<String>, AllocError>
+    ensures { IfOk result (λ copy. option_map string_bytes copy ≡ option_map (λ t. t.now) text.entry) }
+{
+    match text {
+        Some(text) => Ok(Some(String::from_str(alloc, text)?)),
+        None => Ok(None),
+    }
+}
+
+// The binding of an item.
+fn binding_of(alloc: Global, head: Head, item: ImportItem<'_>) -> Result<Binding, AllocError>
+    ensures { IfOk result (λ b. bound_of b ≡ bound_at head.line head.indented (imported_of item.entry)) }
+{
+    let mut module_name = String::new(alloc);
+    item.module.push_onto(&mut module_name)?;
+    Ok(Binding {
+        line: head.line,
+        indented: head.indented,
+        module_name,
+        attribute_name: owned(alloc, item.attribute)?,
+        alias_name: owned(alloc, item.alias)?,
+    })
+}
+
+// Puts the bindings of a statement's items after `bindings`; or answers the fault, where it isn't in the grammar.
+fn bind_items(
+    alloc: Global,
+    mut items: ImportItems<'_>,
+    head: Head,
+    fault: Fault,
+    bindings: &mut Vec<Binding>,
+) -> Result<(), ImportError>
+    ensures ok { OnOk result (BindsOne (AreLeft items.entry) head bindings.old.items bindings.new.items) }
+    ensures err { IfErr result (λ e. RefusesItems (AreLeft items.entry) fault e) }
+{
+    'items: loop {
+        match items.next() {
+            Ok(Some(item)) => bindings.push(binding_of(alloc, head, item)?)?,
+            Ok(None) => return Ok(()),
+            Err(BadStatement) => return Err(ImportError::Fault(fault)),
+        }
+    }
+}
+
+// The fault of a bad statement that starts at `place`.
+fn fault_at(unit: &Unit<'_>, place: usize) -> Fault
+    requires { place < length unit.now.tokens.now }
+    ensures { (t : Token) → slice_get unit.now.tokens.now place ≡ Some t → result ≡ record { kind = BadImport; offset = unit.now.offset + t.start; line = t.line } }
+{
+    let token = unit.tokens[place];
+    Fault {
+        kind: FaultKind::BadImport,
+        offset: unit.offset + token.start as u64,
+        line: token.line,
+    }
+}
+
+// Puts what the statement that starts at `place` binds after `bindings`.
+fn bind_statement(
+    alloc: Global,
+    unit: &Unit<'_>,
+    place: usize,
+    bindings: &mut Vec<Binding>,
+) -> Result<(), ImportError>
+    requires { place < length unit.now.tokens.now }
+    ensures ok { OnOk result ((p : Place) → IsPlaceAt unit.now.tokens.now place p → BindsMore (line_in unit.now) p bindings.old.items bindings.new.items) }
+    ensures err { IfErr result (λ e. (p : Place) → IsPlaceAt unit.now.tokens.now place p → RefusesAt (line_in unit.now) p e) }
+{
+    let token = unit.tokens[place];
+    let Some(form) = form_of(token.kind, unit.word(place)) else {
+        return Ok(());
+    };
+    let end = statement_end(unit.tokens, place + 1);
+    let items = ImportItems::new(unit, form, place + 1, end);
+    let head = Head {
+        line: token.line,
+        indented: unit.indent > 0,
+    };
+    bind_items(alloc, items, head, fault_at(unit, place), bindings)
+}
+
+/// What all import statements of a logical line bind, in the order written (Python Language Reference, 7.11).
+///
+/// A statement starts with the line's first token, and after each `;` and `:` outside brackets.
+///
+/// - `Fault`: F9, at the first token of the first import statement that isn't in the grammar.
+/// - `Memory`: out of memory.
+pub fn bindings_of(alloc: Global, unit: &Unit<'_>) -> Result<Vec<Binding>, ImportError>
+    ensures ok { IfOk result (λ bindings. Binds (line_in unit.now) (map bound_of bindings.items)) }
+    ensures err { IfErr result (λ e. Refuses (line_in unit.now) e) }
+{
+    let mut bindings = Vec::new(alloc);
+    let mut depth: usize = 0;
+    let mut starts = true;
+    'tokens: for (place, token) in unit.tokens.iter().enumerate() {
+        if token.kind.is_comment() {
+            continue;
+        }
+        if starts {
+            bind_statement(alloc, unit, place, &mut bindings)?;
+        }
+        starts = divides(depth, token.kind);
+        depth = depth_past(depth, token.kind);
+    }
+    Ok(bindings)
+}

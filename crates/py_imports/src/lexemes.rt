@@ -1,0 +1,148 @@
+ghost use Rattle.std.specs.Prelude.{◌≡◌, ◌≢◌, ◌≤◌, ◌-◌, ◌++◌, ℕ, [], false, None, Some, length, map, take, drop, MatchBool, MatchOption, List};
+ghost use Rattle.std.specs.Option.{option_map};
+ghost use Rattle.py_imports.specs.Statement.{significant};
+ghost use Rattle.py_imports.specs.Binds.{terminal_in};
+ghost use Rattle.py_imports.specs.Reading.Parsing.{at_module, at_relative, alias_behind, at_item};
+ghost use Rattle.py_imports.specs.Grammar.{identifiers};
+
+use crate::lexeme::Lexeme;
+use py_lines::Unit;
+
+// The lexemes of some tokens of a logical line, which are read from left to right.
+#[derive(Clone, Copy)]
+pub(crate) struct Lexemes<'u> {
+    unit: &'u Unit<'u>,
+    place: usize,
+    end: usize,
+    ghost ordered: { place ≤ end },
+    ghost within: { end ≤ length unit.now.tokens.now },
+}
+
+impl<'u> Lexemes<'u> {
+    ghost use Rattle.py_imports.specs.Reading.Lexemes.{followed_by, rest_of, Follows, names_text, begins_import_word, PassesDots};
+
+    // The tokens from `place` up to `end`, of which none was read.
+    pub(crate) fn new(unit: &'u Unit<'u>, place: usize, end: usize) -> Lexemes<'u>
+        requires ordered { place ≤ end }
+        requires within { end ≤ length unit.now.tokens.now }
+        ensures { rest_of result ≡ map (terminal_in unit.now.text.now) (significant (take (end - place) (drop place unit.now.tokens.now))) }
+    {
+        Lexemes { unit, place, end }
+    }
+
+    // The next token that is no comment.
+    pub(crate) fn next(&mut self) -> Lexeme<'u>
+        ensures lexeme { rest_of self.old ≡ followed_by result (rest_of self.new) }
+        ensures further { Follows self.old self.new }
+    {
+        while self.place < self.end {
+            let token = self.unit.tokens[self.place];
+            let word = self.unit.word(self.place);
+            self.place += 1;
+            if !token.kind.is_comment() {
+                return Lexeme::of_token(token.kind, word);
+            }
+        }
+        Lexeme::End
+    }
+
+    // Whether the word `import` is next.
+    fn is_at_import(mut self) -> bool
+        ensures { result ≡ begins_import_word (rest_of self.entry) }
+    {
+        matches!(self.next(), Lexeme::Import)
+    }
+
+    // Whether nothing is left.
+    pub(crate) fn is_at_end(mut self) -> bool
+        ensures { MatchBool result (rest_of self.entry ≡ []) (rest_of self.entry ≢ []) }
+    {
+        matches!(self.next(), Lexeme::End)
+    }
+
+    // What was read since `start`.
+    fn since(self, start: Lexemes<'u>) -> Lexemes<'u>
+        requires { Follows start self }
+        ensures { rest_of start.entry ≡ rest_of result ++ rest_of self.entry }
+    {
+        Lexemes {
+            unit: self.unit,
+            place: start.place,
+            end: self.place,
+        }
+    }
+
+    // Reads a module, and answers its names and dots.
+    pub(crate) fn module(&mut self) -> Option<Lexemes<'u>>
+        ensures path { MatchOption result (at_module (rest_of self.old) ≡ None) (λ path. at_module (rest_of self.old) ≡ Some (record { spelled = names_text path; rest = rest_of self.new })) }
+        ensures further { Follows self.old self.new }
+    {
+        let start = *self;
+        'names: loop {
+            let Lexeme::Name(_) = self.next() else {
+                return None;
+            };
+            let mut after = *self;
+            match after.next() {
+                Lexeme::Dot => *self = after,
+                _ => return Some(self.since(start)),
+            }
+        }
+    }
+
+    // Passes the dots that a relative module begins with: whether there are any.
+    fn pass_dots(&mut self) -> bool
+        ensures dots { PassesDots (rest_of self.old) result (rest_of self.new) }
+        ensures further { Follows self.old self.new }
+    {
+        let mut dotted = false;
+        let mut after = *self;
+        'dots: while let Lexeme::Dot = after.next() {
+            dotted = true;
+            *self = after;
+        }
+        dotted
+    }
+
+    // Reads a relative module and the word `import` after it, and answers the module's names and dots.
+    pub(crate) fn relative_module(&mut self) -> Option<Lexemes<'u>>
+        ensures { MatchOption result (at_relative false (rest_of self.old) ≡ None) (λ path. at_relative false (rest_of self.old) ≡ Some (record { spelled = names_text path; rest = rest_of self.new })) }
+    {
+        let start = *self;
+        let dotted = self.pass_dots();
+        if !(dotted && self.is_at_import()) {
+            self.module()?;
+        }
+        let path = self.since(start);
+        match self.next() {
+            Lexeme::Import => Some(path),
+            _ => None,
+        }
+    }
+
+    // Reads the name after `as`, if that is what follows. There is no answer where no name comes after it.
+    pub(crate) fn alias(&mut self) -> Option<Option<&'u str>>
+        ensures { MatchOption result ((path : List ℕ) → alias_behind path (rest_of self.old) ≡ None) (λ alias. (path : List ℕ) → alias_behind path (rest_of self.old) ≡ Some (record { item = record { path = path; alias = option_map (λ a. a.now) alias }; rest = rest_of self.new })) }
+    {
+        let mut after = *self;
+        let Lexeme::As = after.next() else {
+            return Some(None);
+        };
+        let Lexeme::Name(name) = after.next() else {
+            return None;
+        };
+        *self = after;
+        Some(Some(name))
+    }
+
+    // Reads NAME [as NAME].
+    pub(crate) fn name_with_alias(&mut self) -> Option<(&'u str, Option<&'u str>)>
+        ensures { MatchOption result (at_item identifiers (rest_of self.old) ≡ None) (λ r. at_item identifiers (rest_of self.old) ≡ Some (record { item = record { path = r.0.now; alias = option_map (λ a. a.now) r.1 }; rest = rest_of self.new })) }
+    {
+        let Lexeme::Name(name) = self.next() else {
+            return None;
+        };
+        let alias = self.alias()?;
+        Some((name, alias))
+    }
+}

@@ -1,0 +1,322 @@
+-- The fault of a text, by where the machine stands when it can't go on.
+use Rattle.std.proofs.Common.{◌≡◌, ℕ, ◌<◌, ◌≤◌, Bool, true, false, cond, ◌||◌, eqb, Option, None, Some, List, [], ◌∷◌, ◌++◌, length, refl, sym, ap, ◌∙◌, subst, ⊎_elim, inl, inr, append-nil, arith, ◌⊎◌}
+use Rattle.std.proofs.lemmas.List.{append_cancel_right}
+use Rattle.std.proofs.lemmas.Bool.{cond_both, and_right, both_ways, cases_lt, cases_Bool, or_left, or_right, or_from}
+use Rattle.unicode_ident.proofs.Computing.{unicode_ident}
+use Rattle.py_lines.specs.Character.{is_mark, is_space, is_word_character, is_quote, is_operator, is_line_feed, is_return, is_break, is_backslash}
+use Rattle.py_lines.specs.Piece.{operator, Piece, spelled, AreReadBefore}
+use Rattle.py_lines.specs.Balance.{is_opening, is_closing, is_opener, is_closer}
+use Rattle.py_lines.specs.LogicalLine.{byte_len}
+use Rattle.py_lines.specs.Lexed.{IsBalancedReading, IsLive, InBracket, IsAtDepth, DiesAt, BreaksString, BreaksJoin, ClosesWrong, OpensTooDeep, IsCharacterFault, IsEndFault}
+use Rattle.py_lines.specs.declared.fault.FaultKind.{FaultKind}
+use Rattle.py_lines.specs.declared.fault.FaultKind.TheVariants as faults
+use Rattle.py_lines.specs.declared.mode.Mode.{Mode}
+use Rattle.py_lines.specs.declared.mode.Mode.TheVariants as modes
+use Rattle.py_lines.specs.declared.mode.Move.{Move}
+use Rattle.py_lines.specs.declared.mode.Move.TheVariants as moves
+use Rattle.py_lines.specs.Private.Machine.{Scanned, fresh, text_start, class_of, started, moved, step, run_from, move_of, short_move, long_move, is_final, is_prefix_spelling, in_short, in_long, is_behind_slash, character_kind, character_place, end_kind, end_place, top_place, Bracket, brackets_of, brackets_through, RunsTo}
+use Rattle.py_lines.proofs.Text.CharacterTests.{each_of, not_quote}
+use Rattle.py_lines.proofs.Pieces.PieceLists.{piece, spelled-push, AreReadBefore-first}
+use Rattle.py_lines.proofs.Machine.Starts.{start-operator}
+use Rattle.py_lines.proofs.Machine.PieceRuns.{scanned, pieces_at, run_from-append}
+use Rattle.py_lines.proofs.Pieces.OpenBrackets.{through-append, opener_pushes, StandsAt, level, inside, stands, room_in}
+use Rattle.py_lines.specs.Private.Machine.{Holds}
+use Rattle.py_lines.proofs.Machine.Soundness.{sound_at, ends_sound}
+use Rattle.py_lines.proofs.Machine.LiveTexts.{keeps, stack_closed, reading_at, run_of_reading, live_runs, runs_live}
+use Rattle.py_lines.proofs.Machine.OpenStrings.{in_short_string, in_long_string, behind_backslash, stands_in_short, stands_behind_slash, such_mode, same_state}
+
+-- the machine goes on
+pub record IsAlive (o : Option Scanned) : Type 0 where
+  pub to : Scanned
+  pub is : o ≡ Some to
+  pub st : List Bracket
+  pub stack : brackets_of to.done ≡ Some st
+
+one_more : (before : List ℕ) (s : Scanned) (c : ℕ) → run_from (Some text_start) before ≡ Some s → run_from (Some text_start) (before ++ c ∷ []) ≡ run_from (step s c) []
+one_more before s c runs = run_from-append (Some text_start) before (c ∷ []) ∙ ap (λ o. run_from o (c ∷ [])) runs
+
+-- so the text through the character is live
+pub alive_live : (before : List ℕ) (s : Scanned) (c : ℕ) → run_from (Some text_start) before ≡ Some s → IsAlive (step s c) → IsLive (before ++ c ∷ [])
+alive_live before s c runs alive = runs_live (before ++ c ∷ []) alive.to alive.st (record { run = one_more before s c runs ∙ ap (λ o. run_from o []) alive.is; stack = alive.stack })
+
+-- where no move is left, the text through the character isn't live
+pub dead_none : (before : List ℕ) (s : Scanned) (c : ℕ) → run_from (Some text_start) before ≡ Some s → step s c ≡ None → ¬ (IsLive (before ++ c ∷ []))
+dead_none before s c runs none live =
+    let found = live_runs (before ++ c ∷ []) live in
+    let stuck : None ≡ Some found.0 = sym (one_more before s c runs ∙ ap (λ o. run_from o []) none) ∙ found.2.run in
+    cc
+
+-- nor where the bracket fits no stack
+pub dead_brackets : (before : List ℕ) (s t : Scanned) (c : ℕ) → run_from (Some text_start) before ≡ Some s → step s c ≡ Some t → brackets_of t.done ≡ None → ¬ (IsLive (before ++ c ∷ []))
+dead_brackets before s t c runs steps none live =
+    let found = live_runs (before ++ c ∷ []) live in
+    let same = same_state (before ++ c ∷ []) t found.0 (one_more before s c runs ∙ ap (λ o. run_from o []) steps) found.2.run in
+    let stuck : None ≡ Some found.1 = sym none ∙ ap (λ (x : Scanned). brackets_of x.done) same ∙ found.2.stack in
+    cc
+
+-- a short string goes on at whatever breaks no line
+grows_alive : (done : List Piece) (m n : Mode) (held : List ℕ) (c : ℕ) (st : List Bracket) → brackets_of done ≡ Some st → IsAlive (moved (scanned done m held) c (moves.Grows n))
+grows_alive done m n held c st stack = record { to = scanned done n (held ++ c ∷ []); is = refl; st = st; stack = stack }
+
+closes_alive : (done : List Piece) (m : Mode) (held : List ℕ) (c : ℕ) (st : List Bracket) → is_opener (piece (class_of m) (held ++ c ∷ [])) ≡ false → is_closer (piece (class_of m) (held ++ c ∷ [])) ≡ false → brackets_of done ≡ Some st → IsAlive (moved (scanned done m held) c moves.Closes)
+closes_alive done m held c st opener closer stack = record { to = fresh (done ++ piece (class_of m) (held ++ c ∷ []) ∷ []); is = refl; st = st; stack = keeps done (piece (class_of m) (held ++ c ∷ [])) st opener closer stack }
+
+short_alive : (done : List Piece) (m : Mode) (held : List ℕ) (q c : ℕ) (st : List Bracket) → is_break c ≡ false → brackets_of done ≡ Some st → IsAlive (moved (scanned done m held) c (short_move q c))
+unfolding short_move
+short_alive done m held q c st no_break stack =
+    let P : Move → Type 0 = λ v. IsAlive (moved (scanned done m held) c v) in
+    cond_both (is_backslash c) _ _ P (λ slash. grows_alive done m (modes.Escape q) held c st stack)
+    (λ no_slash. cond_both (is_break c) _ _ P (λ break. absurd (both_ways _ no_break break)) (λ other. grows_alive done m (modes.Inside q) held c st stack))
+
+pub short_goes : (m : Mode) (done : List Piece) (held : List ℕ) (c : ℕ) (st : List Bracket) → in_short m ≡ true → is_break c ≡ false → brackets_of done ≡ Some st → IsAlive (step (scanned done m held) c)
+unfolding move_of
+short_goes (modes.Opened q) done held c st is no_break stack =
+    cond_both (eqb c q) _ _ (λ (v : Move). IsAlive (moved (scanned done (modes.Opened q) held) c v)) (λ same. grows_alive done (modes.Opened q) (modes.Empty q) held c st stack) (λ other. short_alive done (modes.Opened q) held q c st no_break stack)
+short_goes (modes.Inside q) done held c st is no_break stack =
+    cond_both (eqb c q) _ _ (λ (v : Move). IsAlive (moved (scanned done (modes.Inside q) held) c v)) (λ same. closes_alive done (modes.Inside q) held c st refl refl stack) (λ other. short_alive done (modes.Inside q) held q c st no_break stack)
+short_goes (modes.Escape q) done held c st is no_break stack =
+    cond_both (is_return c) _ _ (λ (v : Move). IsAlive (moved (scanned done (modes.Escape q) held) c v)) (λ h. grows_alive done (modes.Escape q) (modes.EscapeReturn q) held c st stack) (λ h. grows_alive done (modes.Escape q) (modes.Inside q) held c st stack)
+short_goes (modes.EscapeReturn q) done held c st is no_break stack =
+    let P : Move → Type 0 = λ v. IsAlive (moved (scanned done (modes.EscapeReturn q) held) c v) in
+    cond_both (is_line_feed c) _ _ P (λ h. grows_alive done (modes.EscapeReturn q) (modes.Inside q) held c st stack)
+    (λ h. cond_both (eqb c q) _ _ P (λ same. closes_alive done (modes.EscapeReturn q) held c st refl refl stack) (λ other. short_alive done (modes.EscapeReturn q) held q c st no_break stack))
+short_goes m done held c st is no_break stack = absurd (both_ways _ refl is)
+
+-- an opening bracket ends the open piece, or belongs to it
+opening-not : (p : ℕ → Bool) (c : ℕ) → (p 40 ≡ false) → (p 91 ≡ false) → (p 123 ≡ false) → is_opening c ≡ true → p c ≡ false
+unfolding is_opening
+opening-not p c a b d h = each_of (λ x. p x ≡ false) (40 ∷ 91 ∷ 123 ∷ []) c (a, (b, (d, tt))) h
+
+opening-not-word : (c : ℕ) → is_opening c ≡ true → is_word_character c ≡ false
+unfolding unicode_ident is_word_character
+opening-not-word c h = opening-not is_word_character c refl refl refl h
+
+opening-operator : (c : ℕ) → is_opening c ≡ true → is_operator c ≡ true
+unfolding is_opening is_operator
+opening-operator c h = each_of (λ x. is_operator x ≡ true) (40 ∷ 91 ∷ 123 ∷ []) c (refl, (refl, (refl, tt))) h
+
+opening-not-quote : (c : ℕ) → is_opening c ≡ true → is_quote c ≡ false
+unfolding is_quote
+opening-not-quote c h = opening-not is_quote c refl refl refl h
+
+abbrev EndsOrGrows : Move → Type 0
+EndsOrGrows v = (v ≡ moves.Breaks) ⊎ ((n : Mode) × (v ≡ moves.Grows n))
+
+long_grows : (q c : ℕ) → is_opening c ≡ true → long_move q c ≡ moves.Grows (modes.Long q)
+unfolding long_move is_backslash
+long_grows q c h = rw (opening-not is_backslash c refl refl refl h)
+
+opening_how : (m : Mode) (done : List Piece) (held : List ℕ) (c : ℕ) → Holds m done held → in_short m ≡ false → is_behind_slash m ≡ false → is_opening c ≡ true → EndsOrGrows (move_of m c)
+unfolding move_of is_mark is_space is_break is_line_feed
+opening_how modes.Start done held c holds short slash h = inl (rw (opening-not is_mark c refl refl refl h))
+opening_how modes.Free done held c holds short slash h = inl refl
+opening_how modes.Space done held c holds short slash h = inl (rw (opening-not is_space c refl refl refl h))
+opening_how (modes.Word s) done held c holds short slash h = inl (rw (opening-not-word c h, and_right (is_prefix_spelling s) (is_quote c) (opening-not-quote c h)))
+opening_how modes.Comment done held c holds short slash h = inr (modes.Comment, rw (opening-not is_break c refl refl refl h))
+opening_how (modes.Opened q) done held c holds short slash h = absurd (both_ways _ short refl)
+opening_how (modes.Inside q) done held c holds short slash h = absurd (both_ways _ short refl)
+opening_how (modes.Escape q) done held c holds short slash h = absurd (both_ways _ short refl)
+opening_how (modes.EscapeReturn q) done held c holds short slash h = absurd (both_ways _ short refl)
+opening_how (modes.Empty q) done held c holds short slash h = inl (rw (not_quote c q holds.opens (opening-not-quote c h)))
+opening_how (modes.Long q) done held c holds short slash h = inr (modes.Long q, rw (not_quote c q holds.opens (opening-not-quote c h)) (long_grows q c h))
+opening_how (modes.LongOne q) done held c holds short slash h = inr (modes.Long q, rw (not_quote c q holds.2.opens (opening-not-quote c h)) (long_grows q c h))
+opening_how (modes.LongTwo q) done held c holds short slash h = inr (modes.Long q, rw (not_quote c q holds.2.opens (opening-not-quote c h)) (long_grows q c h))
+opening_how (modes.LongEscape q) done held c holds short slash h = inr (modes.Long q, refl)
+opening_how modes.Backslash done held c holds short slash h = absurd (both_ways _ slash refl)
+opening_how modes.JoinReturn done held c holds short slash h = inl (rw (opening-not is_line_feed c refl refl refl h))
+opening_how modes.Return done held c holds short slash h = inl (rw (opening-not is_line_feed c refl refl refl h))
+
+-- an opening bracket that the machine refuses stands at depth 200
+pub opens_deep : (before : List ℕ) (s : Scanned) (st : List Bracket) (c : ℕ) → RunsTo before s st → ¬ (IsLive (before ++ c ∷ [])) → in_short s.mode ≡ false → is_behind_slash s.mode ≡ false → is_opening c ≡ true → IsAtDepth before c 200
+opens_deep before s st c runs dead short slash opens = go (opening_how s.mode s.done s.held c (sound_at before s runs.run).holds short slash opens)
+  where
+    ends : move_of s.mode c ≡ moves.Breaks → IsAtDepth before c 200
+    ends breaks =
+        let ps = pieces_at s in
+        let p = piece operator (c ∷ []) in
+        let to = fresh (ps ++ p ∷ []) in
+        let steps : step s c ≡ Some to = ap (moved s c) breaks ∙ ap (started ps c) (start-operator c (opening-operator c opens)) in
+        let stack = stack_closed s.mode s.done s.held st runs.stack in
+        let next = sound_at (before ++ c ∷ []) to (one_more before s c runs.run ∙ ap (λ o. run_from o []) steps) in
+        let full : 200 ≤ length st =
+        ⊎_elim
+        (λ (room : length st < 200). absurd (dead (alive_live before s c runs.run (record {
+          to = to;
+          is = steps;
+          st = record { opener = c; place = byte_len (spelled ps) } ∷ st;
+          stack = through-append (Some []) [] ps (p ∷ []) ∙ ap (λ o. brackets_through o ps (p ∷ [])) stack ∙ ap (λ o. brackets_through o (ps ++ p ∷ []) []) (opener_pushes st (byte_len (spelled ps)) p opens room);
+        }))))
+        (λ (h : 200 ≤ length st). h) (cases_lt (length st) 200) in
+        let room : length st ≤ 200 = room_in ps st stack in
+        let count : length st ≡ 200 = omega arith in
+        record {
+          pieces = ps;
+          spell = append_cancel_right (spelled ps) before (c ∷ []) (sym (spelled-push ps operator (c ∷ [])) ∙ sym (append-nil (spelled (ps ++ p ∷ []))) ∙ next.spell);
+          fit = AreReadBefore-first ps (p ∷ []) [] (next.fit []);
+          deep = (stands ps st stack).depth ∙ count;
+        }
+
+    go : EndsOrGrows (move_of s.mode c) → IsAtDepth before c 200
+    go (inl breaks) = ends breaks
+    go (inr (n, grows)) = absurd (dead (alive_live before s c runs.run (record { to = scanned s.done n (s.held ++ c ∷ []); is = ap (moved s c) grows; st = st; stack = runs.stack })))
+
+-- which kinds don't fit a character
+no_string : (before : List ℕ) (s : Scanned) (c : ℕ) → run_from (Some text_start) before ≡ Some s → in_short s.mode ≡ false → (offset : ℕ) → ¬ (BreaksString before c offset)
+no_string before s c runs short offset breaks = both_ways _ short (such_mode in_short before breaks.start s (stands_in_short before breaks.start breaks.inside) runs)
+
+no_join : (before : List ℕ) (s : Scanned) → run_from (Some text_start) before ≡ Some s → is_behind_slash s.mode ≡ false → (offset : ℕ) → ¬ (BreaksJoin before offset)
+no_join before s runs slash offset breaks = both_ways _ slash (such_mode is_behind_slash before breaks.start s (stands_behind_slash before breaks.start breaks.behind) runs)
+
+no_close : (before : List ℕ) (c : ℕ) → is_closing c ≡ false → (offset : ℕ) → ¬ (ClosesWrong before c offset)
+no_close before c closing offset wrong = both_ways _ closing wrong.closes
+
+no_deep : (before : List ℕ) (c : ℕ) → is_opening c ≡ false → (offset : ℕ) → ¬ (OpensTooDeep before c offset)
+no_deep before c opening offset deep = both_ways _ opening deep.opens
+
+pub break_in : (before : List ℕ) (s : Scanned) (st : List Bracket) (c : ℕ) → RunsTo before s st → ¬ (IsLive (before ++ c ∷ [])) → in_short s.mode ≡ true → is_break c ≡ true
+break_in before s st c runs dead short =
+    ⊎_elim (λ (h : is_break c ≡ true). h)
+    (λ (h : is_break c ≡ false). absurd (dead (alive_live before s c runs.run (short_goes s.mode s.done s.held c st short h runs.stack)))) (cases_Bool (is_break c))
+
+pub early : (s : Scanned) (before : List ℕ) → in_short s.mode || is_behind_slash s.mode ≡ true → byte_len (spelled s.done) ≡ character_place s before
+early s before h = sym (ap (λ (b : Bool). cond b (byte_len (spelled s.done)) (byte_len before)) h)
+
+pub late : (s : Scanned) (before : List ℕ) → in_short s.mode ≡ false → is_behind_slash s.mode ≡ false → character_place s before ≡ byte_len before
+late s before short slash = ap (λ (b : Bool). cond b (byte_len (spelled s.done)) (byte_len before)) (or_from _ _ short slash)
+
+-- the fault at the first character at which the machine can't go on
+pub character_fault : (characters before after : List ℕ) (c : ℕ) (s : Scanned) (st : List Bracket) → before ++ c ∷ after ≡ characters → RunsTo before s st → ¬ (IsLive (before ++ c ∷ [])) → IsCharacterFault (character_kind s.mode c) characters (character_place s before)
+character_fault characters before after c s st spell runs dead =
+    let dies : DiesAt characters before c = record { after = after; spell = spell; live = runs_live before s st runs; dead = dead } in
+    let sound = sound_at before s runs.run in
+    let P : FaultKind → Type 0 = λ kind. IsCharacterFault kind characters (character_place s before) in
+    cond_both (in_short s.mode) _ _ P
+    (λ short. record {
+      before = before;
+      c = c;
+      dies = dies;
+      fits = record { start = spelled s.done; breaks = break_in before s st c runs dead short; inside = in_short_string s before sound short; place = sym (early s before (or_left _ _ short)) };
+      first = tt;
+    })
+    (λ short. cond_both (is_behind_slash s.mode) _ _ P
+    (λ slash. record {
+      before = before;
+      c = c;
+      dies = dies;
+      fits = record { start = spelled s.done; behind = behind_backslash s before sound slash; place = sym (early s before (or_right _ _ slash)) };
+      first = (no_string before s c runs.run short, tt);
+    })
+    (λ slash. cond_both (is_closing c) _ _ P
+    (λ closing. record {
+      before = before;
+      c = c;
+      dies = dies;
+      fits = record { closes = closing; place = late s before short slash };
+      first = (no_string before s c runs.run short, (no_join before s runs.run slash, tt));
+    })
+    (λ closing. cond_both (is_opening c) _ _ P
+    (λ opening. record {
+      before = before;
+      c = c;
+      dies = dies;
+      fits = record { opens = opening; deep = opens_deep before s st c runs dead short slash opening; place = late s before short slash };
+      first = (no_string before s c runs.run short, (no_join before s runs.run slash, (no_close before c closing, tt)));
+    })
+    (λ opening. record {
+      before = before;
+      c = c;
+      dies = dies;
+      fits = late s before short slash;
+      first = (no_string before s c runs.run short, (no_join before s runs.run slash, (no_close before c closing, (no_deep before c opening, tt))));
+    }))))
+
+-- modes in which the text may not end
+pub short_not_end : (m : Mode) → in_short m ≡ true → is_final m ≡ false
+short_not_end (modes.Opened q) h = refl
+short_not_end (modes.Inside q) h = refl
+short_not_end (modes.Escape q) h = refl
+short_not_end (modes.EscapeReturn q) h = refl
+short_not_end m h = absurd (both_ways _ refl h)
+
+pub long_not_end : (m : Mode) → in_long m ≡ true → is_final m ≡ false
+long_not_end (modes.Long q) h = refl
+long_not_end (modes.LongOne q) h = refl
+long_not_end (modes.LongTwo q) h = refl
+long_not_end (modes.LongEscape q) h = refl
+long_not_end m h = absurd (both_ways _ refl h)
+
+pub slash_not_end : (m : Mode) → is_behind_slash m ≡ true → is_final m ≡ false
+slash_not_end modes.Backslash h = refl
+slash_not_end m h = absurd (both_ways _ refl h)
+
+others_end : (m : Mode) → in_short m ≡ false → in_long m ≡ false → is_behind_slash m ≡ false → is_final m ≡ true
+others_end modes.Start a b d = refl
+others_end modes.Free a b d = refl
+others_end modes.Space a b d = refl
+others_end (modes.Word s) a b d = refl
+others_end modes.Comment a b d = refl
+others_end (modes.Opened q) a b d = absurd (both_ways _ a refl)
+others_end (modes.Inside q) a b d = absurd (both_ways _ a refl)
+others_end (modes.Escape q) a b d = absurd (both_ways _ a refl)
+others_end (modes.EscapeReturn q) a b d = absurd (both_ways _ a refl)
+others_end (modes.Empty q) a b d = refl
+others_end (modes.Long q) a b d = absurd (both_ways _ b refl)
+others_end (modes.LongOne q) a b d = absurd (both_ways _ b refl)
+others_end (modes.LongTwo q) a b d = absurd (both_ways _ b refl)
+others_end (modes.LongEscape q) a b d = absurd (both_ways _ b refl)
+others_end modes.Backslash a b d = absurd (both_ways _ d refl)
+others_end modes.JoinReturn a b d = refl
+others_end modes.Return a b d = refl
+
+-- the innermost open bracket
+record IsTop (b : Bracket) (cs : List ℕ) : Type 0 where
+  start : List ℕ
+  open_at : InBracket cs start
+  place : b.place ≡ byte_len start
+
+top_of : (b : Bracket) (bs : List Bracket) (ps : List Piece) (cs : List ℕ) → StandsAt (b ∷ bs) ps → spelled ps ≡ cs → AreReadBefore ps [] → IsTop b cs
+top_of b bs ps cs (level _ _ empty within) spell fit = absurd (cc)
+top_of b bs ps cs (inside _ _ t others outer inner a is split out opens kind place within) spell fit =
+    let same : b ≡ t = cc in
+    record {
+      start = spelled outer;
+      open_at = record { outer = outer; opener = a; inner = inner; spell = ap spelled (sym split) ∙ spell; fit = subst (λ l. AreReadBefore l []) split fit; opens = opens; balanced = within; before = refl };
+      place = ap (λ (x : Bracket). x.place) same ∙ place;
+    }
+
+pub end_place_is : (s : Scanned) (st : List Bracket) → is_final s.mode ≡ false → end_place s st ≡ byte_len (spelled s.done)
+end_place_is s st h = ap (λ (b : Bool). cond b (top_place st) (byte_len (spelled s.done))) h
+
+bracket_fault : (characters tail : List ℕ) (s : Scanned) (st : List Bracket) → tail ≡ [] → RunsTo characters s st → ((pieces : List Piece) → ¬ (IsBalancedReading pieces characters)) → is_final s.mode ≡ true → IsEndFault faults.OpenBracket characters tail (end_place s st)
+bracket_fault characters tail s [] whole runs unread may = absurd (unread (pieces_at s) (reading_at characters s runs.run may runs.stack))
+bracket_fault characters tail s (b ∷ bs) whole runs unread may =
+    let at_end = ends_sound characters s runs.run may in
+    let stack = stack_closed s.mode s.done s.held (b ∷ bs) runs.stack in
+    let top = top_of b bs (pieces_at s) characters (stands (pieces_at s) (b ∷ bs) stack).at at_end.spell at_end.fit in
+    record {
+      start = top.start;
+      whole = whole;
+      live = runs_live characters s (b ∷ bs) runs;
+      ends_in = top.open_at;
+      place = ap (λ (x : Bool). cond x b.place (byte_len (spelled s.done))) may ∙ top.place;
+    }
+
+-- the fault at the end of a text on which the machine runs to its end
+pub end_fault : (characters tail : List ℕ) (s : Scanned) (st : List Bracket) → tail ≡ [] → RunsTo characters s st → ((pieces : List Piece) → ¬ (IsBalancedReading pieces characters)) → IsEndFault (end_kind s.mode) characters tail (end_place s st)
+end_fault characters tail s st whole runs unread =
+    let sound = sound_at characters s runs.run in
+    let live = runs_live characters s st runs in
+    let P : FaultKind → Type 0 = λ kind. IsEndFault kind characters tail (end_place s st) in
+    cond_both (in_short s.mode) _ _ P
+    (λ short. record { start = spelled s.done; whole = whole; live = live; ends_in = in_short_string s characters sound short; place = end_place_is s st (short_not_end s.mode short) })
+    (λ short. cond_both (in_long s.mode) _ _ P
+    (λ long. record { start = spelled s.done; whole = whole; live = live; ends_in = in_long_string s characters sound long; place = end_place_is s st (long_not_end s.mode long) })
+    (λ long. cond_both (is_behind_slash s.mode) _ _ P
+    (λ slash. record { start = spelled s.done; whole = whole; live = live; ends_in = behind_backslash s characters sound slash; place = end_place_is s st (slash_not_end s.mode slash) })
+    (λ slash. bracket_fault characters tail s st whole runs unread (others_end s.mode short long slash))))
+
+-- the text is read exactly where the machine comes to an end at which it may stop, with no bracket open
+pub unread_at : (characters : List ℕ) (s : Scanned) → run_from (Some text_start) characters ≡ Some s → is_final s.mode ≡ false → (pieces : List Piece) → ¬ (IsBalancedReading pieces characters)
+unread_at characters s runs may pieces reading =
+    let found = run_of_reading pieces characters reading in
+    both_ways _ (ap (λ (t : Scanned). is_final t.mode) (same_state characters found.to s found.runs runs) ∙ may) found.ends

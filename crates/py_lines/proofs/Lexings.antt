@@ -1,0 +1,7 @@
+-- The lines of a whole text, and its end or fault.
+pub mod LinePrefix
+pub mod Answers
+pub mod Uniqueness
+pub mod Existence
+pub mod GivenLines
+pub mod FirstLines

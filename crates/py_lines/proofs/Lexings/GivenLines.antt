@@ -1,0 +1,122 @@
+-- The next logical line, and how it follows the lines given so far.
+use Rattle.std.proofs.Common.{◌≡◌, ℕ, ◌+◌, ◌<◌, None, Some, List, [], ◌∷◌, ◌++◌, length, take, drop, refl, sym, ap, ◌∙◌, subst, ⊎_elim, inl, inr, append_assoc, append-nil, add_assoc, add-zero, arith, length-append, ◌⊎◌}
+use Rattle.std.specs.Prelude.{encode_utf8_all, IsUtf8}
+use Rattle.std.specs.Str.{StartsWithNoChar}
+use Rattle.std.proofs.lemmas.List.{take-append-drop, nil_from_length}
+use Rattle.std.proofs.lemmas.Str.{encodes-append, length-le-encodes}
+use Rattle.std.proofs.Math.Seq.{drop-append_seam}
+use Rattle.py_lines.specs.Piece.{line_end, Piece, spelled, AreReadBefore}
+use Rattle.py_lines.specs.Balance as brackets
+use Rattle.py_lines.specs.Balance.{IsBalanced, IsShallow, depth_through}
+use Rattle.py_lines.specs.LogicalLine.{LogicalLine, cut, byte_len, line_ends, line_of, lines_of}
+use Rattle.py_lines.specs.Lexed.{Decodes, EndsLine, IsLexed}
+use Rattle.py_lines.specs.Reader.{Reader, HasGiven}
+use Rattle.py_lines.specs.Private.Machine.{brackets_of}
+use Rattle.py_lines.proofs.Text.Utf8Prefixes.{one_decoding, front_chars}
+use Rattle.py_lines.proofs.Pieces.PieceLists.{spelled-append, AreReadBefore-append, MayFollow}
+use Rattle.py_lines.proofs.LogicalLines.Cuts.{byte_len-append, line_ends-pieces}
+use Rattle.py_lines.proofs.LogicalLines.NextLine.{line_ends-spelled, lines_of-push}
+use Rattle.py_lines.proofs.Pieces.OpenBrackets.{balanced-from_stack, balanced_depth, IsShallow-append, depth_through-append}
+use Rattle.py_lines.proofs.Lexings.LinePrefix.{read-first}
+
+-- Lines were given, the machine then went through `read`, and `after` follows, up to bytes that begin no character.
+pub record Situation (r : Reader) (characters : List ℕ) (lines : List LogicalLine) (read rest : List ℕ) : Type 0 where
+  pub given : HasGiven r lines
+  pub after : List ℕ
+  pub split : given.rest ≡ read ++ after
+  pub spells : encode_utf8_all given.characters ≡ characters
+  pub follow : encode_utf8_all after ≡ rest
+  pub tail_is : given.tail ≡ drop (length characters) r.text
+  pub ends : EndsLine given.pieces
+  pub here : drop r.place characters ≡ encode_utf8_all read ++ rest
+
+pub none_both : (a b : List ℕ) → a ++ b ≡ [] → (a ≡ []) × (b ≡ [])
+none_both [] b e = (refl, e)
+none_both (c ∷ cs) b e = absurd (cc)
+
+pub situate : (r : Reader) (characters : List ℕ) (lines : List LogicalLine) (read rest : List ℕ) → HasGiven r lines → IsUtf8 characters → characters ≡ take (length characters) r.text → StartsWithNoChar (drop (length characters) r.text) → r.place < length r.text → encode_utf8_all read ++ rest ≡ drop r.place characters → Situation r characters lines read rest
+situate r characters lines read rest given utf8 front bad more scanned =
+    let whole : encode_utf8_all utf8.0 ++ drop (length characters) r.text ≡ encode_utf8_all given.characters ++ given.tail
+    = ap (λ t. t ++ drop (length characters) r.text) (utf8.1.1 ∙ front) ∙ take-append-drop (length characters) r.text ∙ sym given.decodes.spell in
+    let same = one_decoding utf8.0 given.characters (drop (length characters) r.text) given.tail utf8.1.0 given.decodes.are bad given.decodes.bad whole in
+    let spells : encode_utf8_all given.characters ≡ characters = ap encode_utf8_all (sym same.0) ∙ utf8.1.1 in
+    let parts : characters ≡ encode_utf8_all (spelled given.pieces) ++ encode_utf8_all given.rest = sym spells ∙ ap encode_utf8_all (sym given.spell) ∙ encodes-append (spelled given.pieces) given.rest in
+    let left : drop r.place characters ≡ encode_utf8_all given.rest
+    = ap (λ (n : ℕ). drop n characters) given.place ∙ ap (drop (byte_len (spelled given.pieces))) parts ∙ drop-append_seam (encode_utf8_all (spelled given.pieces)) (encode_utf8_all given.rest) in
+    let next = front_chars read given.rest rest (sym left ∙ sym scanned) in
+    record {
+      given = given;
+      after = next.0;
+      split = next.1;
+      spells = spells;
+      follow = next.2;
+      tail_is = sym same.1;
+      ends = ⊎_elim (λ e. e) (λ none.
+          let nothing = none_both given.rest given.tail none in
+          absurd (omega (arith, given.place, ap length given.decodes.spell, length-append (encode_utf8_all given.characters) given.tail, ap length nothing.1, ap (λ t. length (encode_utf8_all t)) (sym given.spell ∙ ap (λ t. spelled given.pieces ++ t) nothing.0 ∙ append-nil (spelled given.pieces))))) given.ended;
+      here = sym scanned;
+    }
+
+-- the line ends of pieces and of a prefix of what follows
+pub base_lines : (base : List Piece) (front rest : List ℕ) → AreReadBefore base (front ++ rest) → line_ends (spelled base ++ front) ≡ line_ends (spelled base) + line_ends front
+base_lines base [] rest fit = ap line_ends (append-nil (spelled base)) ∙ sym (add-zero (line_ends (spelled base)))
+base_lines base (c ∷ cs) rest fit =
+    let near = read-first base c (cs ++ rest) cs fit in
+    line_ends-pieces base (c ∷ cs) near ∙ ap (λ (n : ℕ). n + line_ends (c ∷ cs)) (sym (line_ends-spelled base (c ∷ cs) near))
+
+-- a line that its end closed, or the text's end
+pub data IsEnded (u : List Piece) (nothing : Type 0) : Type 0 where
+  by_line : (body : List Piece) (last : Piece) → u ≡ body ++ last ∷ [] → last.class ≡ line_end → depth_through 0 body ≡ 0 → IsEnded u nothing
+  by_text : nothing → IsEnded u nothing
+
+-- the lines given, and one more
+pub one_more : (r n : Reader) (characters : List ℕ) (lines : List LogicalLine) (read rest : List ℕ) (u : List Piece) (s : Situation r characters lines read rest) → spelled u ≡ read → AreReadBefore u s.after → MayFollow s.given.pieces u → brackets_of u ≡ Some [] → cut 0 u ≡ u ∷ [] → IsEnded u (s.after ++ s.given.tail ≡ []) → n.text ≡ r.text → n.place ≡ r.place + byte_len read → n.line ≡ r.line + line_ends read → n.fault ≡ None → HasGiven n (lines ++ line_of r.place r.line u ∷ [])
+one_more r n characters lines read rest u s spell fit follows stacked whole ended text place line no_fault =
+    let given = s.given in
+    let base = given.pieces in
+    let base_fit : AreReadBefore base (read ++ s.after) = subst (AreReadBefore base) s.split given.fit in
+    let all : AreReadBefore (base ++ u) s.after = AreReadBefore-append base u s.after (subst (λ t. AreReadBefore base (t ++ s.after)) (sym spell) base_fit) fit follows in
+    let spelled_all : spelled (base ++ u) ≡ spelled base ++ read = spelled-append base u ∙ ap (λ t. spelled base ++ t) spell in
+    let balanced = balanced-from_stack u stacked in
+    let level : depth_through 0 base ≡ 0 = balanced_depth base given.balanced 0 in
+    record {
+      characters = given.characters;
+      tail = given.tail;
+      pieces = base ++ u;
+      rest = s.after;
+      decodes = subst (λ t. Decodes t given.characters given.tail) (sym text) given.decodes;
+      spell = ap (λ t. t ++ s.after) spelled_all ∙ append_assoc (spelled base) read s.after ∙ ap (λ t. spelled base ++ t) (sym s.split) ∙ given.spell;
+      fit = all;
+      balanced = brackets.both (base ++ u) base u refl given.balanced balanced.0;
+      shallow = IsShallow-append 0 base u given.shallow (subst (λ (d : ℕ). IsShallow d u) (sym level) balanced.1);
+      ended = ends base level ended;
+      place = place ∙ ap (λ (k : ℕ). k + byte_len read) given.place ∙ sym (byte_len-append (spelled base) read) ∙ ap byte_len (sym spelled_all);
+      line = line ∙ ap (λ (k : ℕ). k + line_ends read) given.line ∙ add_assoc 1 (line_ends (spelled base)) (line_ends read) ∙ ap (λ (k : ℕ). 1 + k) (sym (base_lines base read s.after base_fit) ∙ ap line_ends (sym spelled_all));
+      no_fault = no_fault;
+      cut = ap (λ l. l ++ line_of r.place r.line u ∷ []) given.cut ∙ ap (λ (k : ℕ). lines_of base ++ line_of k r.line u ∷ []) given.place ∙ ap (λ (k : ℕ). lines_of base ++ line_of (byte_len (spelled base)) k u ∷ []) given.line
+          ∙ sym (lines_of-push base u s.after s.ends whole all);
+    }
+  where
+    ends : (ps : List Piece) → depth_through 0 ps ≡ 0 → IsEnded u (s.after ++ s.given.tail ≡ []) → EndsLine (ps ++ u) ⊎ (s.after ++ s.given.tail ≡ [])
+    ends ps level (IsEnded.by_line body last is class deep) = inl (inr (ps ++ body, last, ap (λ l. ps ++ l) is ∙ sym (append_assoc ps body (last ∷ [])), class, depth_through-append 0 ps body ∙ ap (λ (d : ℕ). depth_through d body) level ∙ deep))
+    ends ps level (IsEnded.by_text none) = inr none
+
+-- where the lines given reach to the text's end, they are all its lines
+pub all_given : (r : Reader) (lines : List LogicalLine) → HasGiven r lines → r.place ≡ length r.text → IsLexed r.text lines None
+all_given r lines given ends =
+    let bytes : byte_len given.characters ≡ byte_len (spelled given.pieces) + byte_len given.rest = ap byte_len (sym given.spell) ∙ byte_len-append (spelled given.pieces) given.rest in
+    let total = ap length (sym given.decodes.spell) ∙ length-append (encode_utf8_all given.characters) given.tail in
+    let no_tail : given.tail ≡ [] = nil_from_length given.tail (omega (arith, given.place, ends, bytes, total)) in
+    let no_rest : given.rest ≡ [] = nil_from_length given.rest (omega (arith, given.place, ends, bytes, total, length-le-encodes given.rest)) in
+    record {
+      characters = given.characters;
+      pieces = given.pieces;
+      decodes = subst (λ t. Decodes r.text given.characters t) no_tail given.decodes;
+      reading = record {
+        spell = sym (append-nil (spelled given.pieces)) ∙ ap (λ t. spelled given.pieces ++ t) (sym no_rest) ∙ given.spell;
+        fit = subst (AreReadBefore given.pieces) no_rest given.fit;
+        balanced = given.balanced;
+        shallow = given.shallow;
+      };
+      cut = given.cut;
+    }

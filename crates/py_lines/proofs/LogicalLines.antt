@@ -1,0 +1,5 @@
+-- The logical lines that pieces are cut into.
+pub mod Cuts
+pub mod NextLine
+pub mod TokenPlaces
+pub mod WorkedRows

@@ -1,0 +1,206 @@
+-- Logical lines, one after another: where a line ends, the lines so far are done.
+use Rattle.std.proofs.Common.{◌≡◌, ℕ, ◌+◌, Bool, true, false, not, cond, ◌&&◌, ◌||◌, ◌==◌, List, [], ◌∷◌, ◌++◌, length, refl, sym, ap, ◌∙◌, ⊎_elim, inl, inr, append_assoc, length-append, arith}
+use Rattle.std.specs.List.{list_all, list_any}
+use Rattle.std.proofs.lemmas.Str.{encodes-append}
+use Rattle.std.specs.Prelude.{if◌then◌else◌}
+use Rattle.std.proofs.lemmas.Bool.{cond_both, both_ways, and_parts, and_left, and_from, or_parts, eq-eqb, false_from_ne_true, cases_Bool}
+use Rattle.unicode_ident.proofs.Computing.{unicode_ident}
+use Rattle.py_lines.specs.Character.{is_mark, is_space, is_word_character, is_word_start, is_digit, is_quote, is_operator, is_line_feed, is_return, is_break, is_hash}
+use Rattle.py_lines.specs.Piece.{Class, mark, space, word, string, operator, comment, join, line_end, Piece, begins, ends, joined, InClass, MayPrecede, spelled, AreReadBefore}
+use Rattle.py_lines.specs.Balance.{depth_after, depth_through}
+use Rattle.py_lines.specs.LogicalLine.{is_line_end_class, put_first, cut, byte_len, ends_line, line_ends}
+use Rattle.py_lines.specs.Lexed.{EndsLine}
+use Rattle.py_lines.proofs.Text.CharacterTests.{each_of, none_of}
+use Rattle.py_lines.proofs.Lexings.LinePrefix.{EndsNoLine}
+
+-- a CR at the end of a piece belongs to no LF after it
+ends-push : (p : ℕ → Bool) (text : List ℕ) (c : ℕ) → ends p (text ++ c ∷ []) ≡ p c
+ends-push p [] c = refl
+ends-push p (d ∷ []) c = refl
+ends-push p (d ∷ e ∷ text) c = ends-push p (e ∷ text) c
+
+ends-all : (p q : ℕ → Bool) (text : List ℕ) → ((c : ℕ) → p c ≡ true → q c ≡ false) → list_all p text ≡ true → ends q text ≡ false
+ends-all p q [] apart all = refl
+ends-all p q (c ∷ []) apart all = apart c (and_parts (p c) true all).0
+ends-all p q (c ∷ d ∷ cs) apart all = ends-all p q (d ∷ cs) apart (and_parts (p c) (list_all p (d ∷ cs)) all).1
+
+ends-none : (p q : ℕ → Bool) (text : List ℕ) → ((c : ℕ) → p c ≡ false → q c ≡ false) → list_any p text ≡ false → ends q text ≡ false
+ends-none p q [] apart none = refl
+ends-none p q (c ∷ []) apart none = apart c (or_parts (p c) false none).0
+ends-none p q (c ∷ d ∷ cs) apart none = ends-none p q (d ∷ cs) apart (or_parts (p c) (list_any p (d ∷ cs)) none).1
+
+mark-not-return : (c : ℕ) → is_mark c ≡ true → is_return c ≡ false
+unfolding is_mark is_return
+mark-not-return c h = none_of is_return (65279 ∷ []) c refl h
+
+space-not-return : (c : ℕ) → is_space c ≡ true → is_return c ≡ false
+unfolding is_space is_return
+space-not-return c h = none_of is_return (32 ∷ 9 ∷ 12 ∷ []) c refl h
+
+return-not-word : (c : ℕ) → is_return c ≡ true → is_word_character c ≡ false
+unfolding unicode_ident is_return is_word_character
+return-not-word c h = none_of is_word_character (13 ∷ []) c refl h
+
+return-not-start : (c : ℕ) → is_return c ≡ true → is_word_start c ≡ false
+unfolding unicode_ident is_return is_word_start is_digit
+return-not-start c h = none_of is_word_start (13 ∷ []) c refl h
+
+return-not-operator : (c : ℕ) → is_return c ≡ true → is_operator c ≡ false
+unfolding is_return is_operator
+return-not-operator c h = none_of is_operator (13 ∷ []) c refl h
+
+return-breaks : (c : ℕ) → is_return c ≡ true → is_break c ≡ true
+unfolding is_return is_break
+return-breaks c h = each_of (λ x. is_break x ≡ true) (13 ∷ []) c (refl, tt) h
+
+unbroken-not-return : (c : ℕ) → is_break c ≡ false → is_return c ≡ false
+unbroken-not-return c h = false_from_ne_true _ (λ k. both_ways _ h (return-breaks c k))
+
+hash-not-return : (c : ℕ) → is_hash c ≡ true → is_return c ≡ false
+unfolding is_hash is_return
+hash-not-return c h = none_of is_return (35 ∷ []) c refl h
+
+quote-not-return : (c : ℕ) → is_quote c ≡ true → is_return c ≡ false
+unfolding is_quote is_return
+quote-not-return c h = none_of is_return (39 ∷ 34 ∷ []) c refl h
+
+character-not-return : (c : ℕ) → is_word_character c ≡ true → is_return c ≡ false
+character-not-return c h = false_from_ne_true _ (λ k. both_ways _ (return-not-word c k) h)
+
+ends-word : (first : ℕ) (others : List ℕ) → is_word_start first ≡ true → list_all is_word_character others ≡ true → ends is_return (first ∷ others) ≡ false
+ends-word first [] opens run = false_from_ne_true _ (λ k. both_ways _ (return-not-start first k) opens)
+ends-word first (c ∷ cs) opens run = ends-all is_word_character is_return (c ∷ cs) character-not-return run
+
+ends-comment : (hash : ℕ) (body : List ℕ) → is_hash hash ≡ true → list_any is_break body ≡ false → ends is_return (hash ∷ body) ≡ false
+ends-comment hash [] opens none = hash-not-return hash opens
+ends-comment hash (c ∷ cs) opens none = ends-none is_break is_return (c ∷ cs) unbroken-not-return none
+
+ends-quote : (prefix body : List ℕ) (q : ℕ) → is_quote q ≡ true → ends is_return (prefix ++ (body ++ q ∷ [])) ≡ false
+ends-quote prefix body q quotes = ap (ends is_return) (sym (append_assoc prefix body (q ∷ []))) ∙ ends-push is_return (prefix ++ body) q ∙ quote-not-return q quotes
+
+-- no CR LF is cut between a piece and what follows
+pub uncut : (class : Class) (text rest : List ℕ) → InClass class text → MayPrecede class text rest → ends is_return text && begins is_line_feed rest ≡ false
+uncut mark text rest (c, is, passes) before = and_left _ _ (ap (ends is_return) is ∙ mark-not-return c passes)
+uncut space text rest (first, others, is, run) before = and_left _ _ (ends-all is_space is_return text space-not-return run)
+uncut word text rest (first, others, is, opens, run) before = and_left _ _ (ap (ends is_return) is ∙ ends-word first others opens run)
+uncut string text rest (inl short) before = and_left _ _ (ap (ends is_return) short.spell ∙ ends-quote short.prefix (short.quote ∷ joined short.items) short.quote short.opens)
+uncut string text rest (inr long) before =
+    let q = long.quote in
+    and_left _ _ (ap (ends is_return) (long.spell ∙ ap (λ t. long.prefix ++ (q ∷ q ∷ q ∷ t)) (sym (append_assoc (joined long.items) (q ∷ q ∷ []) (q ∷ [])))) ∙ ends-quote long.prefix (q ∷ q ∷ q ∷ (joined long.items ++ q ∷ q ∷ [])) q long.opens)
+uncut operator text rest (c, is, passes) before = and_left _ _ (ap (ends is_return) is ∙ false_from_ne_true _ (λ k. both_ways _ (return-not-operator c k) passes))
+uncut comment text rest (hash, body, is, opens, holds) before = and_left _ _ (ap (ends is_return) is ∙ ends-comment hash body opens holds)
+uncut join text rest is before = before
+uncut line_end text rest is before = before
+
+-- line ends of two texts, between which no CR LF is cut
+ends_line-first : (c : ℕ) (rest : List ℕ) → is_return c && begins is_line_feed rest ≡ false → ends_line c [] ≡ ends_line c rest
+ends_line-first c rest h =
+    ⊎_elim
+    (λ (k : is_return c ≡ true). ap (λ (b : Bool). is_line_feed c || (is_return c && not b)) (sym (sym (ap (λ (b : Bool). b && begins is_line_feed rest) k) ∙ h)))
+    (λ (k : is_return c ≡ false). ap (λ (b : Bool). is_line_feed c || (b && not false)) k ∙ sym (ap (λ (b : Bool). is_line_feed c || (b && not (begins is_line_feed rest))) k))
+    (cases_Bool (is_return c))
+
+-- what one character counts
+counted : Bool → ℕ
+counted b = if b then 1 else 0
+
+counted-first : (c : ℕ) (rest : List ℕ) → is_return c && begins is_line_feed rest ≡ false → counted (ends_line c rest) ≡ counted (ends_line c [])
+counted-first c rest h = ap counted (sym (ends_line-first c rest h))
+
+pub line_ends-append : (xs ys : List ℕ) → ends is_return xs && begins is_line_feed ys ≡ false → line_ends (xs ++ ys) ≡ line_ends xs + line_ends ys
+unfolding counted
+line_ends-append [] ys h = omega arith
+line_ends-append (c ∷ []) ys h =
+    let one = counted-first c ys h in
+    omega arith
+line_ends-append (c ∷ d ∷ xs) ys h =
+    let later = line_ends-append (d ∷ xs) ys h in
+    omega arith
+
+-- the line ends of pieces are those of their texts
+abbrev pub lines_in : List Piece → ℕ
+lines_in [] = 0
+lines_in (p ∷ ps) = line_ends p.text + lines_in ps
+
+pub line_ends-pieces : (ps : List Piece) (rest : List ℕ) → AreReadBefore ps rest → line_ends (spelled ps ++ rest) ≡ lines_in ps + line_ends rest
+line_ends-pieces [] rest fit = omega arith
+line_ends-pieces (p ∷ ps) rest fit =
+    let later = line_ends-pieces ps rest fit.3 in
+    let one : line_ends ((p.text ++ spelled ps) ++ rest) ≡ line_ends p.text + line_ends (spelled ps ++ rest) = ap line_ends (append_assoc p.text (spelled ps) rest) ∙ line_ends-append p.text (spelled ps ++ rest) (uncut p.class p.text (spelled ps ++ rest) fit.0 fit.1) in
+    omega arith
+
+pub byte_len-append : (xs ys : List ℕ) → byte_len (xs ++ ys) ≡ byte_len xs + byte_len ys
+byte_len-append xs ys = ap length (encodes-append xs ys) ∙ length-append _ _
+
+-- the parts that a list of pieces is cut into
+abbrev some_parts : List (List Piece) → Type 0
+some_parts [] = ⊥
+some_parts (u ∷ us) = Unit {0}
+
+put-some : (p : Piece) (us : List (List Piece)) → some_parts (put_first p us)
+put-some p [] = tt
+put-some p (u ∷ us) = tt
+
+cut-some : (d : ℕ) (p : Piece) (ps : List Piece) → some_parts (cut d (p ∷ ps))
+cut-some d p ps = cond_both (is_line_end_class p.class && (d == 0)) _ _ some_parts (λ h. tt) (λ h. put-some p (cut (depth_after d p) ps))
+
+put-append : (p : Piece) (us vs : List (List Piece)) → some_parts us → put_first p (us ++ vs) ≡ put_first p us ++ vs
+put-append p [] vs h = absurd h
+put-append p (u ∷ us) vs h = refl
+
+behind_nonempty : (body : List Piece) (last : Piece) (d : ℕ) → some_parts (cut d (body ++ last ∷ []))
+behind_nonempty [] last d = cut-some d last []
+behind_nonempty (p ∷ body) last d = cut-some d p (body ++ last ∷ [])
+
+pub line_depth : (p : Piece) (d : ℕ) → is_line_end_class p.class ≡ true → depth_after d p ≡ d
+line_depth p d h = go p.class p.text h
+  where
+    go : (class : Class) (text : List ℕ) → is_line_end_class class ≡ true → depth_after d (record { class = class; text = text }) ≡ d
+    go line_end text k = refl
+    go class text k = absurd (both_ways _ refl k)
+
+-- the cut after a line end at depth 0
+cut-line : (body : List Piece) (last : Piece) (qs : List Piece) (d : ℕ) → last.class ≡ line_end → depth_through d body ≡ 0 → cut d (body ++ last ∷ qs) ≡ cut d (body ++ last ∷ []) ++ cut 0 qs
+cut-line [] last qs d is deep =
+    let h : is_line_end_class last.class && (d == 0) ≡ true = and_from _ _ (ap is_line_end_class is) (eq-eqb d 0 deep) in
+    ap (λ (b : Bool). cond b ((last ∷ []) ∷ cut d qs) (put_first last (cut (depth_after d last) qs))) h
+    ∙ ap (λ (n : ℕ). (last ∷ []) ∷ cut n qs) deep
+    ∙ ap (λ us. us ++ cut 0 qs) (sym (ap (λ (b : Bool). cond b ((last ∷ []) ∷ []) (put_first last [])) h))
+cut-line (p ∷ body) last qs d is deep =
+    let later = cut-line body last qs (depth_after d p) is deep in
+    ⊎_elim
+    (λ (h : is_line_end_class p.class && (d == 0) ≡ true).
+    let level : depth_after d p ≡ d = line_depth p d (and_parts (is_line_end_class p.class) (d == 0) h).0 in
+    let same = cut-line body last qs d is (ap (λ (n : ℕ). depth_through n body) (sym level) ∙ deep) in
+    ap (λ (b : Bool). cond b ((p ∷ []) ∷ cut d (body ++ last ∷ qs)) (put_first p (cut (depth_after d p) (body ++ last ∷ qs)))) h
+    ∙ ap (λ us. (p ∷ []) ∷ us) same
+    ∙ ap (λ us. us ++ cut 0 qs) (sym (ap (λ (b : Bool). cond b ((p ∷ []) ∷ cut d (body ++ last ∷ [])) (put_first p (cut (depth_after d p) (body ++ last ∷ [])))) h)))
+    (λ (h : is_line_end_class p.class && (d == 0) ≡ false).
+    ap (λ (b : Bool). cond b ((p ∷ []) ∷ cut d (body ++ last ∷ qs)) (put_first p (cut (depth_after d p) (body ++ last ∷ qs)))) h
+    ∙ ap (put_first p) later
+    ∙ put-append p (cut (depth_after d p) (body ++ last ∷ [])) (cut 0 qs) (behind_nonempty body last (depth_after d p))
+    ∙ ap (λ us. us ++ cut 0 qs) (sym (ap (λ (b : Bool). cond b ((p ∷ []) ∷ cut d (body ++ last ∷ [])) (put_first p (cut (depth_after d p) (body ++ last ∷ [])))) h)))
+    (cases_Bool (is_line_end_class p.class && (d == 0)))
+
+-- pieces that end a line are cut from those after them
+pub cut-append : (ps qs : List Piece) → EndsLine ps → cut 0 (ps ++ qs) ≡ cut 0 ps ++ cut 0 qs
+cut-append ps qs (inl none) = ap (λ l. cut 0 (l ++ qs)) none ∙ ap (λ l. cut 0 l ++ cut 0 qs) (sym none)
+cut-append ps qs (inr (body, last, is, class, deep)) =
+    ap (λ l. cut 0 (l ++ qs)) is ∙ ap (cut 0) (append_assoc body (last ∷ []) qs) ∙ cut-line body last qs 0 class deep ∙ ap (λ l. cut 0 l ++ cut 0 qs) (sym is)
+
+-- pieces with no line end at depth 0 are one part
+one_part : (d : ℕ) (p : Piece) (ps : List Piece) → EndsNoLine d (p ∷ ps) → cut d (p ∷ ps) ≡ (p ∷ ps) ∷ []
+one_part d p [] none = ap (λ (b : Bool). cond b ((p ∷ []) ∷ []) (put_first p [])) none.0
+one_part d p (q ∷ ps) none =
+    ap (λ (b : Bool). cond b ((p ∷ []) ∷ cut d (q ∷ ps)) (put_first p (cut (depth_after d p) (q ∷ ps)))) none.0
+    ∙ ap (put_first p) (one_part (depth_after d p) q ps none.1)
+
+-- and so they are with one after them
+pub one_line : (d : ℕ) (body : List Piece) (last : Piece) → EndsNoLine d body → last.class ≡ line_end → depth_through d body ≡ 0 → cut d (body ++ last ∷ []) ≡ (body ++ last ∷ []) ∷ []
+one_line d [] last none is deep = ap (λ (b : Bool). cond b ((last ∷ []) ∷ []) (put_first last [])) (and_from _ _ (ap is_line_end_class is) (eq-eqb d 0 deep))
+one_line d (p ∷ body) last none is deep =
+    ap (λ (b : Bool). cond b ((p ∷ []) ∷ cut d (body ++ last ∷ [])) (put_first p (cut (depth_after d p) (body ++ last ∷ [])))) none.0
+    ∙ ap (put_first p) (one_line (depth_after d p) body last none.1 is deep)
+
+pub last_part : (p : Piece) (ps : List Piece) → EndsNoLine 0 (p ∷ ps) → cut 0 (p ∷ ps) ≡ (p ∷ ps) ∷ []
+last_part p ps none = one_part 0 p ps none

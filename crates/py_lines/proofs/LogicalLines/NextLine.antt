@@ -1,0 +1,121 @@
+-- One more logical line after those given, and one more token after those of a line.
+use Rattle.std.proofs.Common.{◌≡◌, ℕ, ◌+◌, Bool, true, false, ◌&&◌, ◌==◌, List, [], ◌∷◌, ◌++◌, refl, sym, ap, ◌∙◌, subst, append_assoc, append-nil, add_assoc, arith}
+use Rattle.std.proofs.lemmas.Bool.{cond_both}
+use Rattle.py_lines.specs.Character.{is_line_feed, is_return}
+use Rattle.py_lines.specs.Piece.{Piece, begins, ends, spelled, AreReadBefore}
+use Rattle.py_lines.specs.Balance.{depth_after}
+use Rattle.py_lines.specs.LogicalLine.{is_line_end_class, put_first, cut, byte_len, line_ends, LogicalLine, line_of, lines_from, lines_of, tokens_of_piece, tokens_from}
+use Rattle.py_lines.specs.Lexed.{EndsLine}
+use Rattle.py_lines.proofs.Pieces.PieceLists.{AreReadBefore-first}
+use Rattle.py_lines.proofs.LogicalLines.Cuts.{uncut, line_ends-append, lines_in, byte_len-append, cut-append}
+
+-- the characters of parts
+abbrev parts_spelled : List (List Piece) → List ℕ
+parts_spelled [] = []
+parts_spelled (u ∷ us) = spelled u ++ parts_spelled us
+
+abbrev parts_bytes : List (List Piece) → ℕ
+parts_bytes [] = 0
+parts_bytes (u ∷ us) = byte_len (spelled u) + parts_bytes us
+
+abbrev parts_lines : List (List Piece) → ℕ
+parts_lines [] = 0
+parts_lines (u ∷ us) = line_ends (spelled u) + parts_lines us
+
+put_spelled : (p : Piece) (us : List (List Piece)) → parts_spelled (put_first p us) ≡ p.text ++ parts_spelled us
+put_spelled p [] = append-nil (p.text ++ [])
+put_spelled p (u ∷ us) = append_assoc p.text (spelled u) (parts_spelled us)
+
+cut_spelled : (d : ℕ) (ps : List Piece) → parts_spelled (cut d ps) ≡ spelled ps
+cut_spelled d [] = refl
+cut_spelled d (p ∷ ps) =
+    cond_both (is_line_end_class p.class && (d == 0)) _ _ (λ us. parts_spelled us ≡ p.text ++ spelled ps)
+    (λ h. ap (λ t. t ++ parts_spelled (cut d ps)) (append-nil p.text) ∙ ap (λ t. p.text ++ t) (cut_spelled d ps))
+    (λ h. put_spelled p (cut (depth_after d p) ps) ∙ ap (λ t. p.text ++ t) (cut_spelled (depth_after d p) ps))
+
+put_bytes : (p : Piece) (us : List (List Piece)) → parts_bytes (put_first p us) ≡ byte_len p.text + parts_bytes us
+put_bytes p [] = ap (λ t. byte_len t + 0) (append-nil p.text)
+put_bytes p (u ∷ us) = ap (λ (n : ℕ). n + parts_bytes us) (byte_len-append p.text (spelled u)) ∙ add_assoc (byte_len p.text) (byte_len (spelled u)) (parts_bytes us)
+
+cut_bytes : (d : ℕ) (ps : List Piece) → parts_bytes (cut d ps) ≡ byte_len (spelled ps)
+cut_bytes d [] = refl
+cut_bytes d (p ∷ ps) =
+    cond_both (is_line_end_class p.class && (d == 0)) _ _ (λ us. parts_bytes us ≡ byte_len (p.text ++ spelled ps))
+    (λ h. ap (λ t. byte_len t + parts_bytes (cut d ps)) (append-nil p.text) ∙ ap (λ (n : ℕ). byte_len p.text + n) (cut_bytes d ps) ∙ sym (byte_len-append p.text (spelled ps)))
+    (λ h. put_bytes p (cut (depth_after d p) ps) ∙ ap (λ (n : ℕ). byte_len p.text + n) (cut_bytes (depth_after d p) ps) ∙ sym (byte_len-append p.text (spelled ps)))
+
+begins-front : (p : ℕ → Bool) (xs ys : List ℕ) → begins p (xs ++ ys) ≡ false → begins p xs ≡ false
+begins-front p [] ys h = refl
+begins-front p (x ∷ xs) ys h = h
+
+uncut-front : (b : Bool) (xs ys : List ℕ) → b && begins is_line_feed (xs ++ ys) ≡ false → b && begins is_line_feed xs ≡ false
+uncut-front true xs ys h = begins-front is_line_feed xs ys h
+uncut-front false xs ys h = refl
+
+put_lines : (p : Piece) (us : List (List Piece)) → ends is_return p.text && begins is_line_feed (parts_spelled us) ≡ false → parts_lines (put_first p us) ≡ line_ends p.text + parts_lines us
+put_lines p [] h = ap (λ t. line_ends t + 0) (append-nil p.text)
+put_lines p (u ∷ us) h = ap (λ (n : ℕ). n + parts_lines us) (line_ends-append p.text (spelled u) (uncut-front (ends is_return p.text) (spelled u) (parts_spelled us) h)) ∙ add_assoc (line_ends p.text) (line_ends (spelled u)) (parts_lines us)
+
+cut_lines : (d : ℕ) (ps : List Piece) (rest : List ℕ) → AreReadBefore ps rest → parts_lines (cut d ps) ≡ lines_in ps
+cut_lines d [] rest fit = refl
+cut_lines d (p ∷ ps) rest fit =
+    let whole = uncut-front (ends is_return p.text) (spelled ps) rest (uncut p.class p.text (spelled ps ++ rest) fit.0 fit.1) in
+    cond_both (is_line_end_class p.class && (d == 0)) _ _ (λ us. parts_lines us ≡ line_ends p.text + lines_in ps)
+    (λ h. ap (λ t. line_ends t + parts_lines (cut d ps)) (append-nil p.text) ∙ ap (λ (n : ℕ). line_ends p.text + n) (cut_lines d ps rest fit.3))
+    (λ h.
+    put_lines p (cut (depth_after d p) ps) (subst (λ t. ends is_return p.text && begins is_line_feed t ≡ false) (sym (cut_spelled (depth_after d p) ps)) whole)
+    ∙ ap (λ (n : ℕ). line_ends p.text + n) (cut_lines (depth_after d p) ps rest fit.3))
+
+-- the line ends of pieces are those of their texts together
+pub line_ends-spelled : (ps : List Piece) (rest : List ℕ) → AreReadBefore ps rest → line_ends (spelled ps) ≡ lines_in ps
+line_ends-spelled [] rest fit = refl
+line_ends-spelled (p ∷ ps) rest fit =
+    line_ends-append p.text (spelled ps) (uncut-front (ends is_return p.text) (spelled ps) rest (uncut p.class p.text (spelled ps ++ rest) fit.0 fit.1))
+    ∙ ap (λ (n : ℕ). line_ends p.text + n) (line_ends-spelled ps rest fit.3)
+
+lines_from-append : (offset line : ℕ) (us vs : List (List Piece)) → lines_from offset line (us ++ vs) ≡ lines_from offset line us ++ lines_from (offset + parts_bytes us) (line + parts_lines us) vs
+lines_from-append offset line [] vs =
+    let one : offset + 0 ≡ offset = omega arith in
+    let two : line + 0 ≡ line = omega arith in
+    ap (λ (n : ℕ). lines_from n line vs) (sym one) ∙ ap (λ (n : ℕ). lines_from (offset + 0) n vs) (sym two)
+lines_from-append offset line (u ∷ us) vs =
+    let b = byte_len (spelled u) in
+    let l = line_ends (spelled u) in
+    ap (λ x. line_of offset line u ∷ x)
+    (lines_from-append (offset + b) (line + l) us vs
+    ∙ ap (λ (n : ℕ). lines_from (offset + b) (line + l) us ++ lines_from n ((line + l) + parts_lines us) vs) (add_assoc offset b (parts_bytes us))
+    ∙ ap (λ (n : ℕ). lines_from (offset + b) (line + l) us ++ lines_from (offset + (b + parts_bytes us)) n vs) (add_assoc line l (parts_lines us)))
+
+-- a logical line after those given: its offset and its line are those of its place
+pub lines_of-push : (given unit : List Piece) (rest : List ℕ) → EndsLine given → cut 0 unit ≡ unit ∷ [] → AreReadBefore (given ++ unit) rest → lines_of (given ++ unit) ≡ lines_of given ++ line_of (byte_len (spelled given)) (1 + line_ends (spelled given)) unit ∷ []
+lines_of-push given unit rest ended one fit =
+    let first = AreReadBefore-first given unit rest fit in
+    let lines : parts_lines (cut 0 given) ≡ line_ends (spelled given) = cut_lines 0 given (spelled unit ++ rest) first ∙ sym (line_ends-spelled given (spelled unit ++ rest) first) in
+    let zero_more : 0 + parts_bytes (cut 0 given) ≡ parts_bytes (cut 0 given) = omega arith in
+    ap (lines_from 0 1) (cut-append given unit ended ∙ ap (λ us. cut 0 given ++ us) one)
+    ∙ lines_from-append 0 1 (cut 0 given) (unit ∷ [])
+    ∙ ap (λ (n : ℕ). lines_of given ++ line_of n (1 + parts_lines (cut 0 given)) unit ∷ []) (zero_more ∙ cut_bytes 0 given)
+    ∙ ap (λ (n : ℕ). lines_of given ++ line_of (byte_len (spelled given)) (1 + n) unit ∷ []) lines
+
+-- the logical lines of pieces that end a line stay, whatever pieces follow
+pub lines_of-more : (given others : List Piece) → EndsLine given → (more : List LogicalLine) × (lines_of (given ++ others) ≡ lines_of given ++ more)
+lines_of-more given others ended = (
+  lines_from (0 + parts_bytes (cut 0 given)) (1 + parts_lines (cut 0 given)) (cut 0 others),
+  ap (lines_from 0 1) (cut-append given others ended) ∙ lines_from-append 0 1 (cut 0 given) (cut 0 others),
+)
+
+-- the tokens of pieces, one list after another
+pub tokens_from-append : (start line : ℕ) (ps qs : List Piece) → tokens_from start line (ps ++ qs) ≡ tokens_from start line ps ++ tokens_from (start + byte_len (spelled ps)) (line + lines_in ps) qs
+tokens_from-append start line [] qs =
+    let one : start + byte_len [] ≡ start = omega arith in
+    let two : line + 0 ≡ line = omega arith in
+    ap (λ (n : ℕ). tokens_from n line qs) (sym one) ∙ ap (λ (n : ℕ). tokens_from (start + byte_len []) n qs) (sym two)
+tokens_from-append start line (p ∷ ps) qs =
+    let b = byte_len p.text in
+    let l = line_ends p.text in
+    let here = tokens_of_piece start (start + b) line p.class p.text in
+    ap (λ x. here ++ x)
+    (tokens_from-append (start + b) (line + l) ps qs
+    ∙ ap (λ (n : ℕ). tokens_from (start + b) (line + l) ps ++ tokens_from n ((line + l) + lines_in ps) qs) (add_assoc start b (byte_len (spelled ps)) ∙ ap (λ (n : ℕ). start + n) (sym (byte_len-append p.text (spelled ps))))
+    ∙ ap (λ (n : ℕ). tokens_from (start + b) (line + l) ps ++ tokens_from (start + byte_len (p.text ++ spelled ps)) n qs) (add_assoc line l (lines_in ps)))
+    ∙ sym (append_assoc here (tokens_from (start + b) (line + l) ps) _)

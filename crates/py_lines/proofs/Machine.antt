@@ -1,0 +1,12 @@
+-- The machine on the pieces of a text.
+pub mod Starts
+pub mod Spellings
+pub mod WordTokens
+pub mod PieceRuns
+pub mod StringRuns
+pub mod ReadingRuns
+pub mod OpenPieces
+pub mod Soundness
+pub mod LiveTexts
+pub mod OpenStrings
+pub mod EarlierPieces

@@ -1,0 +1,103 @@
+-- From pieces that it had, the machine goes as it goes alone, and so do its brackets.
+use Rattle.std.proofs.Common.{◌≡◌, ℕ, ◌+◌, Bool, true, false, ◌==◌, Option, None, Some, List, [], ◌∷◌, ◌++◌, length, refl, sym, ap, ◌∙◌, append_assoc, append-nil, arith}
+use Rattle.std.specs.Prelude.{nat_lt, if◌then◌else◌}
+use Rattle.py_lines.specs.Piece.{operator, line_end, Piece, spelled}
+use Rattle.py_lines.specs.Balance.{is_opener, is_closer, closing_of}
+use Rattle.py_lines.specs.LogicalLine.{first_or_zero, byte_len}
+use Rattle.py_lines.specs.declared.mode.Mode.{Mode}
+use Rattle.py_lines.specs.declared.mode.Mode.TheVariants as modes
+use Rattle.py_lines.specs.declared.mode.Move.{Move}
+use Rattle.py_lines.specs.declared.mode.Move.TheVariants as moves
+use Rattle.py_lines.specs.declared.mode.Start.{Start}
+use Rattle.py_lines.specs.declared.mode.Start.TheVariants as starts
+use Rattle.py_lines.specs.Private.Machine.{Scanned, fresh, class_of, closed, step, moved, started, run_from, move_of, start_of, Bracket, opened_by, closed_by, brackets_behind, brackets_through, brackets_of}
+use Rattle.py_lines.proofs.Pieces.PieceLists.{piece, spelled-append}
+use Rattle.py_lines.proofs.Pieces.OpenBrackets.{through-append}
+use Rattle.py_lines.proofs.LogicalLines.Cuts.{byte_len-append}
+
+-- the machine with pieces before its own
+abbrev pub behind : List Piece → Scanned → Scanned
+behind ps s = record { done = ps ++ s.done; mode = s.mode; held = s.held }
+
+abbrev pub behind_if : List Piece → Option Scanned → Option Scanned
+behind_if ps None = None
+behind_if ps (Some s) = Some (behind ps s)
+
+pub closed-behind : (ps done : List Piece) (m : Mode) (held : List ℕ) → closed m (ps ++ done) held ≡ ps ++ closed m done held
+closed-behind ps done modes.Start held = refl
+closed-behind ps done modes.Free held = refl
+closed-behind ps done m held = append_assoc ps done _
+
+started-behind : (ps done : List Piece) (c : ℕ) (st : Start) → started (ps ++ done) c st ≡ behind_if ps (started done c st)
+started-behind ps done c (starts.Open m) = refl
+started-behind ps done c starts.Operator = ap (λ l. Some (fresh l)) (append_assoc ps done (piece operator (c ∷ []) ∷ []))
+started-behind ps done c starts.LineEnd = ap (λ l. Some (fresh l)) (append_assoc ps done (piece line_end (c ∷ []) ∷ []))
+started-behind ps done c starts.Nothing = refl
+
+moved-behind : (ps : List Piece) (s : Scanned) (c : ℕ) (v : Move) → moved (behind ps s) c v ≡ behind_if ps (moved s c v)
+moved-behind ps s c (moves.Grows m) = refl
+moved-behind ps s c moves.Closes = ap (λ l. Some (fresh l)) (append_assoc ps s.done (piece (class_of s.mode) (s.held ++ c ∷ []) ∷ []))
+moved-behind ps s c moves.Breaks = ap (λ l. started l c (start_of c)) (closed-behind ps s.done s.mode s.held) ∙ started-behind ps (closed s.mode s.done s.held) c (start_of c)
+moved-behind ps s c moves.Refused = refl
+
+pub run-behind : (ps : List Piece) (o : Option Scanned) (cs : List ℕ) → run_from (behind_if ps o) cs ≡ behind_if ps (run_from o cs)
+run-behind ps None cs = refl
+run-behind ps (Some s) [] = refl
+run-behind ps (Some s) (c ∷ cs) = ap (λ o. run_from o cs) (moved-behind ps s c (move_of s.mode c)) ∙ run-behind ps (step s c) cs
+
+pub step-behind : (ps : List Piece) (s : Scanned) (c : ℕ) → step (behind ps s) c ≡ behind_if ps (step s c)
+step-behind ps s c = moved-behind ps s c (move_of s.mode c)
+
+-- brackets, so many bytes further
+abbrev pub shift : ℕ → List Bracket → List Bracket
+shift k [] = []
+shift k (b ∷ bs) = record { opener = b.opener; place = k + b.place } ∷ shift k bs
+
+abbrev pub shift_if : ℕ → Option (List Bracket) → Option (List Bracket)
+shift_if k None = None
+shift_if k (Some st) = Some (shift k st)
+
+length-shift : (k : ℕ) (st : List Bracket) → length (shift k st) ≡ length st
+length-shift k [] = refl
+length-shift k (b ∷ bs) = omega (arith, length-shift k bs)
+
+opened-shift : (k c place n : ℕ) (st : List Bracket) → n ≡ k + place → opened_by c n (shift k st) ≡ shift_if k (opened_by c place st)
+opened-shift k c place n st is = ap (λ (m : ℕ). if nat_lt m 200 then Some (record { opener = c; place = n } ∷ shift k st) else None) (length-shift k st) ∙ go (nat_lt (length st) 200)
+  where
+    go : (b : Bool) → (if b then Some (record { opener = c; place = n } ∷ shift k st) else None) ≡ shift_if k (if b then Some (record { opener = c; place = place } ∷ st) else None)
+    go true = ap (λ (m : ℕ). Some (record { opener = c; place = m } ∷ shift k st)) is
+    go false = refl
+
+closed-shift : (k c : ℕ) (st : List Bracket) → closed_by c (shift k st) ≡ shift_if k (closed_by c st)
+closed-shift k c [] = refl
+closed-shift k c (b ∷ bs) = go (c == closing_of b.opener)
+  where
+    go : (x : Bool) → (if x then Some (shift k bs) else None) ≡ shift_if k (if x then Some bs else None)
+    go true = refl
+    go false = refl
+
+behind-shift : (k place n : ℕ) (st : List Bracket) (p : Piece) → n ≡ k + place → brackets_behind (shift k st) n p ≡ shift_if k (brackets_behind st place p)
+unfolding brackets_behind
+behind-shift k place n st p is = go (is_opener p) (is_closer p)
+  where
+    go : (x y : Bool) → (if x then opened_by (first_or_zero p.text) n (shift k st) else (if y then closed_by (first_or_zero p.text) (shift k st) else Some (shift k st))) ≡ shift_if k (if x then opened_by (first_or_zero p.text) place st else (if y then closed_by (first_or_zero p.text) st else Some st))
+    go true y = opened-shift k (first_or_zero p.text) place n st is
+    go false true = closed-shift k (first_or_zero p.text) st
+    go false false = refl
+
+through-shift : (base ps done : List Piece) (o : Option (List Bracket)) → brackets_through (shift_if (byte_len (spelled base)) o) (base ++ done) ps ≡ shift_if (byte_len (spelled base)) (brackets_through o done ps)
+through-shift base ps done None = refl
+through-shift base [] done (Some st) = refl
+through-shift base (p ∷ ps) done (Some st) =
+    let k = byte_len (spelled base) in
+    ap (λ o. brackets_through o ((base ++ done) ++ p ∷ []) ps) (behind-shift k (byte_len (spelled done)) (byte_len (spelled (base ++ done))) st p (ap byte_len (spelled-append base done) ∙ byte_len-append (spelled base) (spelled done)))
+    ∙ ap (λ l. brackets_through (shift_if k (brackets_behind st (byte_len (spelled done)) p)) l ps) (append_assoc base done (p ∷ []))
+    ∙ through-shift base ps (done ++ p ∷ []) (brackets_behind st (byte_len (spelled done)) p)
+
+-- the brackets after pieces with none open
+pub stack-behind : (base local : List Piece) → brackets_of base ≡ Some [] → brackets_of (base ++ local) ≡ shift_if (byte_len (spelled base)) (brackets_of local)
+stack-behind base local level =
+    through-append (Some []) [] base local
+    ∙ ap (λ o. brackets_through o base local) level
+    ∙ ap (λ l. brackets_through (Some []) l local) (sym (append-nil base))
+    ∙ through-shift base local [] (Some [])

@@ -1,0 +1,184 @@
+-- What the open piece spells in each mode of the machine, and how it grows.
+use Rattle.std.proofs.Common.{◌≡◌, ℕ, Bool, true, false, cond, ◌==◌, eqb, List, [], ◌∷◌, ◌++◌, refl, sym, ap, ◌∙◌, subst, inl, inr, append_assoc, append-nil}
+use Rattle.std.specs.List.{list_all, list_any}
+use Rattle.std.proofs.lemmas.List.Folds.{list_all-append, list_any-append}
+use Rattle.std.proofs.lemmas.Bool.{and_parts, and_from, or_from, eqb-true, both_ways, false_from_ne_true, not_from_false}
+use Rattle.py_lines.specs.Character.{is_word_character, is_word_start, is_quote, is_backslash}
+use Rattle.py_lines.specs.Piece.{IsPrefix, is_item, is_bare, is_short_item, joined, has_triple, IsShortString, IsLongString, MayPrecede, string}
+use Rattle.py_lines.specs.Private.Machine.{IsFull, HoldsItems, HoldsSome, HoldsQuotes, HoldsFront, HoldsLong}
+use Rattle.py_lines.proofs.Pieces.PieceLists.{joined-append}
+use Rattle.py_lines.proofs.Text.CharacterTests.{prefix_word, quote-not-start, quote-not-word, slash-not-quote}
+use Rattle.py_lines.proofs.Pieces.TripleQuotes.{triple-left, triple-other}
+
+pub full-append : (xs ys : List ℕ) → IsFull ys → IsFull (xs ++ ys)
+full-append [] ys h = h
+full-append (x ∷ xs) ys h = tt
+
+pub list_all-push : {A : Type 0} (p : A → Bool) (cs : List A) (c : A) → list_all p cs ≡ true → p c ≡ true → list_all p (cs ++ c ∷ []) ≡ true
+list_all-push p cs c all one = list_all-append p cs (c ∷ []) ∙ and_from _ _ all (and_from (p c) true one refl)
+
+pub list_any-push : (p : ℕ → Bool) (cs : List ℕ) (c : ℕ) → list_any p cs ≡ false → p c ≡ false → list_any p (cs ++ c ∷ []) ≡ false
+list_any-push p cs c none one = list_any-append p cs (c ∷ []) ∙ or_from _ _ none (or_from (p c) false one refl)
+
+pub push : {x : ℕ} {xs : List ℕ} (held : List ℕ) (c : ℕ) → held ≡ x ∷ xs → held ++ c ∷ [] ≡ x ∷ (xs ++ c ∷ [])
+push held c is = ap (λ t. t ++ c ∷ []) is
+
+joined-push : (items : List (List ℕ)) (i : List ℕ) → joined (items ++ i ∷ []) ≡ joined items ++ i
+joined-push items i = joined-append items (i ∷ []) ∙ ap (λ t. joined items ++ t) (append-nil i)
+
+-- the quote that a string begins with, and what follows it
+from_quote : List ℕ → List ℕ
+from_quote [] = []
+from_quote (c ∷ cs) = cond (is_quote c) (c ∷ cs) (from_quote cs)
+
+start-not-quote : (c : ℕ) → is_word_start c ≡ true → is_quote c ≡ false
+start-not-quote c h = false_from_ne_true _ (λ k. both_ways _ (quote-not-start c k) h)
+
+character-not-quote : (c : ℕ) → is_word_character c ≡ true → is_quote c ≡ false
+character-not-quote c h = false_from_ne_true _ (λ k. both_ways _ (quote-not-word c k) h)
+
+past_letters : (letters : List ℕ) (q : ℕ) (body : List ℕ) → list_all is_word_character letters ≡ true → is_quote q ≡ true → from_quote (letters ++ q ∷ body) ≡ q ∷ body
+unfolding from_quote
+past_letters [] q body h quotes = rw quotes
+past_letters (c ∷ cs) q body h quotes =
+    let parts = and_parts (is_word_character c) (list_all is_word_character cs) h in
+    rw (character-not-quote c parts.0) (past_letters cs q body parts.1 quotes)
+
+past_prefix : (prefix : List ℕ) (q : ℕ) (body : List ℕ) → IsPrefix prefix → is_quote q ≡ true → from_quote (prefix ++ q ∷ body) ≡ q ∷ body
+unfolding from_quote
+past_prefix [] q body is quotes = rw quotes
+past_prefix (a ∷ bs) q body (inl none) quotes = absurd (cc)
+past_prefix (a ∷ bs) q body (inr is) quotes =
+    let letters = prefix_word a bs is in
+    rw (start-not-quote a letters.0) (past_letters bs q body letters.1 quotes)
+
+-- the quote that a string begins with, and what follows, are the same however its prefix is told
+pub same_quotes : (prefix other : List ℕ) (q r : ℕ) (body rest : List ℕ) → prefix ++ q ∷ body ≡ other ++ r ∷ rest → IsPrefix prefix → IsPrefix other → is_quote q ≡ true → is_quote r ≡ true → q ∷ body ≡ r ∷ rest
+same_quotes prefix other q r body rest same one two quotes also = sym (past_prefix prefix q body one quotes) ∙ ap from_quote same ∙ past_prefix other r rest two also
+
+not_one : (b : ℕ) (bs : List ℕ) (q r : ℕ) → b ∷ (bs ++ q ∷ []) ≡ r ∷ [] → ⊥
+not_one b [] q r h = cc
+not_one b (c ∷ cs) q r h = cc
+
+-- a short string that holds something is no empty one
+pub something : (prefix body : List ℕ) (q : ℕ) (text rest : List ℕ) → text ≡ prefix ++ (q ∷ body ++ q ∷ []) → IsPrefix prefix → is_quote q ≡ true → IsFull body → MayPrecede string text rest
+something prefix [] q text rest is begun opens full other r spell also quotes = absurd full
+something prefix (b ∷ bs) q text rest is begun opens full other r spell also quotes =
+    let same : q ∷ b ∷ (bs ++ q ∷ []) ≡ r ∷ r ∷ [] = same_quotes prefix other q r (b ∷ (bs ++ q ∷ [])) (r ∷ []) (sym is ∙ spell) begun also opens quotes in
+    let later : b ∷ (bs ++ q ∷ []) ≡ r ∷ [] = cc in
+    absurd (not_one b bs q r later)
+
+-- nor is a long one
+pub long_something : (prefix body : List ℕ) (q : ℕ) (text rest : List ℕ) → text ≡ prefix ++ (q ∷ q ∷ q ∷ body) → IsPrefix prefix → is_quote q ≡ true → MayPrecede string text rest
+long_something prefix body q text rest is begun opens other r spell also quotes =
+    let same : q ∷ q ∷ q ∷ body ≡ r ∷ r ∷ [] = same_quotes prefix other q r (q ∷ q ∷ body) (r ∷ []) (sym is ∙ spell) begun also opens quotes in
+    absurd (cc)
+
+-- one more item of a short string
+pub items_push : (q : ℕ) (held item : List ℕ) → HoldsItems q held → is_short_item q item ≡ true → IsFull item → HoldsSome q (held ++ item)
+items_push q held item before is full = record {
+  all = record {
+    prefix = before.prefix;
+    items = before.items ++ item ∷ [];
+    spell = ap (λ t. t ++ item) before.spell ∙ append_assoc before.prefix (q ∷ joined before.items) item ∙ ap (λ t. before.prefix ++ (q ∷ t)) (sym (joined-push before.items item));
+    begun = before.begun;
+    opens = before.opens;
+    each = list_all-push (is_short_item q) before.items item before.each is;
+  };
+  full = subst IsFull (sym (joined-push before.items item)) (full-append (joined before.items) item full);
+}
+
+-- one more item of a long string, which is no quote
+pub front_push : (q : ℕ) (held item : List ℕ) → HoldsFront q held → is_item item ≡ true → is_bare (λ d. d == q) item ≡ false → HoldsLong q (held ++ item)
+front_push q held item before is other = record {
+  prefix = before.prefix;
+  items = before.items ++ item ∷ [];
+  spell = ap (λ t. t ++ item) before.spell ∙ append_assoc before.prefix (q ∷ q ∷ q ∷ joined before.items) item ∙ ap (λ t. before.prefix ++ (q ∷ q ∷ q ∷ t)) (sym (joined-push before.items item));
+  begun = before.begun;
+  opens = before.opens;
+  each = list_all-push is_item before.items item before.each is;
+  open_yet = ap (has_triple q) (append_assoc before.items (item ∷ []) ((q ∷ []) ∷ (q ∷ []) ∷ [])) ∙ triple-other q before.items item ((q ∷ []) ∷ (q ∷ []) ∷ []) other before.open_yet refl;
+}
+
+-- a quote is an item of a long string
+quote_item : (q : ℕ) → is_quote q ≡ true → is_item (q ∷ []) ≡ true
+unfolding is_quote is_backslash
+quote_item q quotes = not_from_false _ (go q quotes)
+  where
+    go : (q : ℕ) → is_quote q ≡ true → is_backslash q ≡ false
+    go q quotes = false_from_ne_true _ (λ slash. both_ways _ (slash-not-quote q slash) quotes)
+
+-- after none, one or two quotes, a long string is open
+pub front_none : (q : ℕ) (held : List ℕ) → HoldsLong q held → HoldsFront q held
+front_none q held long = record {
+  prefix = long.prefix;
+  items = long.items;
+  spell = long.spell;
+  begun = long.begun;
+  opens = long.opens;
+  each = long.each;
+  open_yet = triple-left q long.items ((q ∷ []) ∷ (q ∷ []) ∷ []) long.open_yet;
+}
+
+pub front_one : (q : ℕ) (held : List ℕ) → HoldsLong q held → HoldsFront q (held ++ q ∷ [])
+front_one q held long = record {
+  prefix = long.prefix;
+  items = long.items ++ (q ∷ []) ∷ [];
+  spell = ap (λ t. t ++ q ∷ []) long.spell ∙ append_assoc long.prefix (q ∷ q ∷ q ∷ joined long.items) (q ∷ []) ∙ ap (λ t. long.prefix ++ (q ∷ q ∷ q ∷ t)) (sym (joined-push long.items (q ∷ [])));
+  begun = long.begun;
+  opens = long.opens;
+  each = list_all-push is_item long.items (q ∷ []) long.each (quote_item q long.opens);
+  open_yet = triple-left q (long.items ++ (q ∷ []) ∷ []) ((q ∷ []) ∷ []) (ap (has_triple q) (append_assoc long.items ((q ∷ []) ∷ []) ((q ∷ []) ∷ [])) ∙ long.open_yet);
+}
+
+pub front_two : (q : ℕ) (held : List ℕ) → HoldsLong q held → HoldsFront q (held ++ q ∷ q ∷ [])
+front_two q held long = record {
+  prefix = long.prefix;
+  items = long.items ++ (q ∷ []) ∷ (q ∷ []) ∷ [];
+  spell = ap (λ t. t ++ q ∷ q ∷ []) long.spell ∙ append_assoc long.prefix (q ∷ q ∷ q ∷ joined long.items) (q ∷ q ∷ []) ∙ ap (λ t. long.prefix ++ (q ∷ q ∷ q ∷ t)) (sym (joined-append long.items ((q ∷ []) ∷ (q ∷ []) ∷ [])));
+  begun = long.begun;
+  opens = long.opens;
+  each = list_all-append is_item long.items ((q ∷ []) ∷ (q ∷ []) ∷ []) ∙ and_from _ _ long.each (and_from _ _ (quote_item q long.opens) (and_from _ _ (quote_item q long.opens) refl));
+  open_yet = long.open_yet;
+}
+
+-- after the opening quote of a short string
+pub opened_items : (q : ℕ) (held : List ℕ) → HoldsQuotes (q ∷ []) q held → HoldsItems q held
+opened_items q held opened = record { prefix = opened.prefix; items = []; spell = opened.spell; begun = opened.begun; opens = opened.opens; each = refl }
+
+-- after the three opening quotes of a long string
+pub opened_long : (q : ℕ) (held : List ℕ) → HoldsQuotes (q ∷ q ∷ q ∷ []) q held → HoldsLong q held
+opened_long q held opened = record { prefix = opened.prefix; items = []; spell = opened.spell; begun = opened.begun; opens = opened.opens; each = refl; open_yet = refl }
+
+pub one_more_quote : (quotes : List ℕ) (q : ℕ) (held : List ℕ) (c : ℕ) → eqb c q ≡ true → HoldsQuotes quotes q held → HoldsQuotes (quotes ++ q ∷ []) q (held ++ c ∷ [])
+one_more_quote quotes q held c same before = record {
+  prefix = before.prefix;
+  spell = ap (λ t. t ++ c ∷ []) before.spell ∙ append_assoc before.prefix quotes (c ∷ []) ∙ ap (λ (d : ℕ). before.prefix ++ (quotes ++ d ∷ [])) (eqb-true c q same);
+  begun = before.begun;
+  opens = before.opens;
+}
+
+-- the closing quote of a short string
+unfoldable pub short_string : (q : ℕ) (held : List ℕ) (c : ℕ) → eqb c q ≡ true → HoldsItems q held → IsShortString (held ++ c ∷ [])
+short_string q held c same before = record {
+  prefix = before.prefix;
+  quote = q;
+  items = before.items;
+  spell = ap (λ t. t ++ c ∷ []) before.spell ∙ append_assoc before.prefix (q ∷ joined before.items) (c ∷ []) ∙ ap (λ (d : ℕ). before.prefix ++ (q ∷ joined before.items ++ d ∷ [])) (eqb-true c q same);
+  begun = before.begun;
+  opens = before.opens;
+  each = before.each;
+}
+
+-- the last quote of a long string
+unfoldable pub long_string : (q : ℕ) (before : List ℕ) → HoldsLong q before → IsLongString (before ++ q ∷ q ∷ q ∷ [])
+long_string q before long = record {
+  prefix = long.prefix;
+  quote = q;
+  items = long.items;
+  spell = ap (λ t. t ++ q ∷ q ∷ q ∷ []) long.spell ∙ append_assoc long.prefix (q ∷ q ∷ q ∷ joined long.items) (q ∷ q ∷ q ∷ []);
+  begun = long.begun;
+  opens = long.opens;
+  each = long.each;
+  first = long.open_yet;
+}

@@ -1,0 +1,252 @@
+-- What is open where the machine stands: a short string, a long string, or a backslash; and the other way round.
+use Rattle.std.proofs.Common.{◌≡◌, ℕ, Bool, true, false, Some, List, [], ◌∷◌, ◌++◌, refl, sym, ap, ◌∙◌, subst, inl, inr, append_assoc, append-nil}
+use Rattle.std.specs.List.{list_all}
+use Rattle.std.proofs.lemmas.Bool.{both_ways, false_from_ne_true}
+use Rattle.unicode_ident.proofs.Computing.{unicode_ident}
+use Rattle.py_lines.specs.Character.{is_mark, is_quote, is_word_start, is_digit, is_backslash}
+use Rattle.py_lines.specs.Piece.{Piece, IsPrefix, begins, is_item, is_short_item, joined, has_triple, spelled, AreReadBefore}
+use Rattle.py_lines.specs.Lexed.{IsUnescaped, IsShortFront, IsLongFront, InShortString, InLongString, BehindBackslash}
+use Rattle.py_lines.specs.declared.mode.Mode.{Mode}
+use Rattle.py_lines.specs.declared.mode.Mode.TheVariants as modes
+use Rattle.py_lines.specs.Private.Machine.{Scanned, text_start, run_from, in_short, in_long, is_behind_slash}
+use Rattle.py_lines.proofs.Text.CharacterTests.{none_of, prefix_word}
+use Rattle.py_lines.proofs.Machine.Starts.{start-slash}
+use Rattle.py_lines.proofs.Machine.PieceRuns.{scanned, pieces_at, StopsBefore, run_from-append, begun, grown}
+use Rattle.py_lines.proofs.Machine.StringRuns.{IsShortMode, short_escapes, short_body, opened_run, long_opened, run_long, mode_at, Seen, seen_after, long_escapes}
+use Rattle.py_lines.proofs.Machine.ReadingRuns.{Reaches, reach, MayBegin}
+use Rattle.py_lines.specs.Private.Machine.{Holds, HoldsItems, HoldsFront, IsSound}
+use Rattle.py_lines.proofs.Machine.OpenPieces.{opened_items, front_none, front_one, front_two}
+use Rattle.py_lines.proofs.Machine.Soundness.{returned_items}
+
+fit_held : (s : Scanned) (read : List ℕ) → IsSound s read → AreReadBefore s.done s.held
+fit_held s read sound = subst (AreReadBefore s.done) (append-nil s.held) (sound.fit [])
+
+short_front : (q : ℕ) (held : List ℕ) → HoldsItems q held → IsShortFront held
+short_front q held items = record {
+  prefix = items.prefix;
+  quote = q;
+  items = items.items;
+  last = [];
+  spell = items.spell ∙ ap (λ t. items.prefix ++ (q ∷ t)) (sym (append-nil (joined items.items)));
+  begun = items.begun;
+  opens = items.opens;
+  each = items.each;
+  escapes = inl refl;
+}
+
+short_escaped : (q : ℕ) (before : List ℕ) (slash : ℕ) → HoldsItems q before → is_backslash slash ≡ true → IsShortFront (before ++ slash ∷ [])
+short_escaped q before slash items slashes = record {
+  prefix = items.prefix;
+  quote = q;
+  items = items.items;
+  last = slash ∷ [];
+  spell = ap (λ t. t ++ slash ∷ []) items.spell ∙ append_assoc items.prefix (q ∷ joined items.items) (slash ∷ []);
+  begun = items.begun;
+  opens = items.opens;
+  each = items.each;
+  escapes = inr (slash, refl, slashes);
+}
+
+long_front : (q : ℕ) (held : List ℕ) → HoldsFront q held → IsLongFront held
+long_front q held front = record {
+  prefix = front.prefix;
+  quote = q;
+  items = front.items;
+  last = [];
+  spell = front.spell ∙ ap (λ t. front.prefix ++ (q ∷ q ∷ q ∷ t)) (sym (append-nil (joined front.items)));
+  begun = front.begun;
+  opens = front.opens;
+  each = front.each;
+  open_yet = front.open_yet;
+  escapes = inl refl;
+}
+
+long_escaped : (q : ℕ) (before : List ℕ) (slash : ℕ) → HoldsFront q before → is_backslash slash ≡ true → IsLongFront (before ++ slash ∷ [])
+long_escaped q before slash front slashes = record {
+  prefix = front.prefix;
+  quote = q;
+  items = front.items;
+  last = slash ∷ [];
+  spell = ap (λ t. t ++ slash ∷ []) front.spell ∙ append_assoc front.prefix (q ∷ q ∷ q ∷ joined front.items) (slash ∷ []);
+  begun = front.begun;
+  opens = front.opens;
+  each = front.each;
+  open_yet = front.open_yet;
+  escapes = inr (slash, refl, slashes);
+}
+
+short_held : (m : Mode) (done : List Piece) (held : List ℕ) → Holds m done held → in_short m ≡ true → IsShortFront held
+short_held (modes.Opened q) done held holds is = short_front q held (opened_items q held holds)
+short_held (modes.Inside q) done held holds is = short_front q held holds.all
+short_held (modes.Escape q) done held holds is = subst IsShortFront (sym holds.2) (short_escaped q holds.0 holds.1 holds.3 holds.4)
+short_held (modes.EscapeReturn q) done held holds is = short_front q held (returned_items q done held holds).all
+short_held m done held holds is = absurd (both_ways _ refl is)
+
+long_held : (m : Mode) (done : List Piece) (held : List ℕ) → Holds m done held → in_long m ≡ true → IsLongFront held
+long_held (modes.Long q) done held holds is = long_front q held (front_none q held holds)
+long_held (modes.LongOne q) done held holds is = long_front q held (subst (HoldsFront q) (sym holds.1) (front_one q holds.0 holds.2))
+long_held (modes.LongTwo q) done held holds is = long_front q held (subst (HoldsFront q) (sym holds.1) (front_two q holds.0 holds.2))
+long_held (modes.LongEscape q) done held holds is = subst IsLongFront (sym holds.2) (long_escaped q holds.0 holds.1 holds.3 holds.4)
+long_held m done held holds is = absurd (both_ways _ refl is)
+
+-- where the machine stands in a short string, the characters do
+pub in_short_string : (s : Scanned) (read : List ℕ) → IsSound s read → in_short s.mode ≡ true → InShortString read (spelled s.done)
+in_short_string s read sound is = record { pieces = s.done; front = s.held; spell = sound.spell; before = refl; fit = fit_held s read sound; inside = short_held s.mode s.done s.held sound.holds is }
+
+pub in_long_string : (s : Scanned) (read : List ℕ) → IsSound s read → in_long s.mode ≡ true → InLongString read (spelled s.done)
+in_long_string s read sound is = record { pieces = s.done; front = s.held; spell = sound.spell; before = refl; fit = fit_held s read sound; inside = long_held s.mode s.done s.held sound.holds is }
+
+slash_held : (m : Mode) (done : List Piece) (held : List ℕ) → Holds m done held → is_behind_slash m ≡ true → (slash : ℕ) × (held ≡ slash ∷ []) × (is_backslash slash ≡ true)
+slash_held modes.Backslash done held holds is = holds
+slash_held m done held holds is = absurd (both_ways _ refl is)
+
+pub behind_backslash : (s : Scanned) (read : List ℕ) → IsSound s read → is_behind_slash s.mode ≡ true → BehindBackslash read (spelled s.done)
+behind_backslash s read sound is =
+    let holds = slash_held s.mode s.done s.held sound.holds is in
+    record {
+      pieces = s.done;
+      slash = holds.0;
+      spell = ap (λ t. spelled s.done ++ t) (sym holds.1) ∙ sound.spell;
+      before = refl;
+      fit = subst (AreReadBefore s.done) holds.1 (fit_held s read sound);
+      slashes = holds.2;
+    }
+
+-- a string and a backslash don't begin with a mark
+start-not-mark : (c : ℕ) → is_word_start c ≡ true → is_mark c ≡ false
+unfolding unicode_ident is_word_start is_digit is_mark
+start-not-mark c h = false_from_ne_true _ (λ marks. both_ways _ (none_of is_word_start (65279 ∷ []) c refl marks) h)
+
+quote-not-mark : (c : ℕ) → is_quote c ≡ true → is_mark c ≡ false
+unfolding is_quote is_mark
+quote-not-mark c h = none_of is_mark (39 ∷ 34 ∷ []) c refl h
+
+slash-not-mark : (c : ℕ) → is_backslash c ≡ true → is_mark c ≡ false
+unfolding is_backslash is_mark
+slash-not-mark c h = none_of is_mark (92 ∷ []) c refl h
+
+front-unmarked : (prefix : List ℕ) (q : ℕ) (body : List ℕ) → IsPrefix prefix → is_quote q ≡ true → begins is_mark (prefix ++ q ∷ body) ≡ false
+front-unmarked [] q body is quotes = quote-not-mark q quotes
+front-unmarked (a ∷ bs) q body (inl empty) quotes = absurd (cc)
+front-unmarked (a ∷ bs) q body (inr is) quotes = start-not-mark a (prefix_word a bs is).0
+
+may_begin : (ps : List Piece) (rest : List ℕ) → begins is_mark rest ≡ false → MayBegin ps rest
+may_begin [] rest h = h
+may_begin (p ∷ ps) rest h = tt
+
+-- the machine stands after these characters, in such a mode, with pieces that spell `start` finished
+pub record StandsIn (is_such : Mode → Bool) (characters start : List ℕ) : Type 0 where
+  pub to : Scanned
+  pub runs : run_from (Some text_start) characters ≡ Some to
+  pub such : is_such to.mode ≡ true
+  pub before : spelled to.done ≡ start
+
+-- from the start to a prefix after pieces
+stands_in : (is_such : Mode → Bool) (characters start : List ℕ) (pieces : List Piece) (front : List ℕ) (reached : Reaches (spelled pieces) pieces front) (m : Mode) (held : List ℕ) → start ++ front ≡ characters → spelled pieces ≡ start → is_such m ≡ true → run_from (Some reached.to) front ≡ Some (scanned (pieces_at reached.to) m held) → StandsIn is_such characters start
+stands_in is_such characters start pieces front reached m held spell before such runs = record {
+  to = scanned (pieces_at reached.to) m held;
+  runs = ap (run_from (Some text_start)) (sym spell ∙ ap (λ t. t ++ front) (sym before))
+      ∙ run_from-append (Some text_start) (spelled pieces) front
+      ∙ ap (λ o. run_from o front) reached.runs
+      ∙ runs;
+  such = such;
+  before = ap spelled reached.pieces_are ∙ before;
+}
+
+is_short_mode : (q : ℕ) (m : Mode) → IsShortMode q m → in_short m ≡ true
+is_short_mode q m (inl is) = ap in_short is
+is_short_mode q m (inr (inl is)) = ap in_short is
+is_short_mode q m (inr (inr is)) = ap in_short is
+
+is_long_mode : (q : ℕ) (seen : Seen) → in_long (mode_at q seen) ≡ true
+is_long_mode q Seen.none = refl
+is_long_mode q Seen.one = refl
+is_long_mode q Seen.two = refl
+
+-- a run into a short string
+record ShortEnd (done : List Piece) (from : Mode) (held body : List ℕ) : Type 0 where
+  to : Mode
+  short : in_short to ≡ true
+  runs : run_from (Some (scanned done from held)) body ≡ Some (scanned done to (held ++ body))
+
+short_last : (done : List Piece) (q : ℕ) (m : Mode) (held last : List ℕ) → IsShortMode q m → is_quote q ≡ true → IsUnescaped last → ShortEnd done m held last
+short_last done q m held last short quotes (inl empty) =
+    subst (ShortEnd done m held) (sym empty) (record { to = m; short = is_short_mode q m short; runs = ap (λ t. Some (scanned done m t)) (sym (append-nil held)) })
+short_last done q m held last short quotes (inr (slash, is, slashes)) =
+    subst (ShortEnd done m held) (sym is) (record { to = modes.Escape q; short = refl; runs = grown done m (modes.Escape q) held slash [] (short_escapes q slash m short quotes slashes) })
+
+short_end : (done : List Piece) (q : ℕ) (held : List ℕ) (items : List (List ℕ)) (last : List ℕ) → is_quote q ≡ true → list_all (is_short_item q) items ≡ true → IsUnescaped last → ShortEnd done (modes.Opened q) held (joined items ++ last)
+short_end done q held [] last quotes each escapes = short_last done q (modes.Opened q) held last (inl refl) quotes escapes
+short_end done q held (i ∷ is) last quotes each escapes =
+    let body = short_body done q held i is quotes each in
+    let later = short_last done q body.to (held ++ joined (i ∷ is)) last (inr body.inside) quotes escapes in
+    record {
+      to = later.to;
+      short = later.short;
+      runs = run_from-append (Some (scanned done (modes.Opened q) held)) (joined (i ∷ is)) last
+          ∙ ap (λ o. run_from o last) body.runs
+          ∙ later.runs
+          ∙ ap (λ t. Some (scanned done later.to t)) (append_assoc held (joined (i ∷ is)) last);
+    }
+
+pub stands_in_short : (characters start : List ℕ) → InShortString characters start → StandsIn in_short characters start
+stands_in_short characters start short =
+    let front = short.inside in
+    let reached = reach short.pieces short.front short.fit in
+    let body = joined front.items ++ front.last in
+    let stops = subst (StopsBefore reached.to.mode) front.spell (reached.stops (may_begin short.pieces short.front (ap (begins is_mark) front.spell ∙ front-unmarked front.prefix front.quote body front.begun front.opens))) in
+    let inner = short_end (pieces_at reached.to) front.quote (front.prefix ++ front.quote ∷ []) front.items front.last front.opens front.each front.escapes in
+    stands_in in_short characters start short.pieces short.front reached inner.to _ short.spell short.before inner.short
+    (ap (run_from (Some reached.to)) front.spell ∙ opened_run reached.to front.prefix front.quote body front.begun front.opens stops ∙ inner.runs)
+
+-- a run into a long string
+record LongEnd (done : List Piece) (from : Mode) (held body : List ℕ) : Type 0 where
+  to : Mode
+  long : in_long to ≡ true
+  runs : run_from (Some (scanned done from held)) body ≡ Some (scanned done to (held ++ body))
+
+long_last : (done : List Piece) (q : ℕ) (seen : Seen) (held last : List ℕ) → is_quote q ≡ true → IsUnescaped last → LongEnd done (mode_at q seen) held last
+long_last done q seen held last quotes (inl empty) =
+    subst (LongEnd done (mode_at q seen) held) (sym empty) (record { to = mode_at q seen; long = is_long_mode q seen; runs = ap (λ t. Some (scanned done (mode_at q seen) t)) (sym (append-nil held)) })
+long_last done q seen held last quotes (inr (slash, is, slashes)) =
+    subst (LongEnd done (mode_at q seen) held) (sym is) (record { to = modes.LongEscape q; long = refl; runs = grown done (mode_at q seen) (modes.LongEscape q) held slash [] (long_escapes q slash seen quotes slashes) })
+
+long_end : (done : List Piece) (q : ℕ) (held : List ℕ) (items : List (List ℕ)) (last : List ℕ) → is_quote q ≡ true → list_all is_item items ≡ true → has_triple q items ≡ false → IsUnescaped last → LongEnd done (modes.Long q) held (joined items ++ last)
+long_end done q held items last quotes each triple escapes =
+    let later = long_last done q (seen_after q Seen.none items) (held ++ joined items) last quotes escapes in
+    record {
+      to = later.to;
+      long = later.long;
+      runs = run_from-append (Some (scanned done (modes.Long q) held)) (joined items) last
+          ∙ ap (λ o. run_from o last) (run_long done q Seen.none held items quotes each triple)
+          ∙ later.runs
+          ∙ ap (λ t. Some (scanned done later.to t)) (append_assoc held (joined items) last);
+    }
+
+pub stands_in_long : (characters start : List ℕ) → InLongString characters start → StandsIn in_long characters start
+stands_in_long characters start long =
+    let front = long.inside in
+    let reached = reach long.pieces long.front long.fit in
+    let q = front.quote in
+    let body = joined front.items ++ front.last in
+    let stops = subst (StopsBefore reached.to.mode) front.spell (reached.stops (may_begin long.pieces long.front (ap (begins is_mark) front.spell ∙ front-unmarked front.prefix q (q ∷ q ∷ body) front.begun front.opens))) in
+    let inner = long_end (pieces_at reached.to) q (front.prefix ++ q ∷ q ∷ q ∷ []) front.items front.last front.opens front.each front.open_yet front.escapes in
+    stands_in in_long characters start long.pieces long.front reached inner.to _ long.spell long.before inner.long
+    (ap (run_from (Some reached.to)) front.spell ∙ long_opened reached.to front.prefix q body front.begun front.opens stops ∙ inner.runs)
+
+pub stands_behind_slash : (characters start : List ℕ) → BehindBackslash characters start → StandsIn is_behind_slash characters start
+stands_behind_slash characters start behind =
+    let reached = reach behind.pieces (behind.slash ∷ []) behind.fit in
+    let stops = reached.stops (may_begin behind.pieces (behind.slash ∷ []) (slash-not-mark behind.slash behind.slashes)) in
+    stands_in is_behind_slash characters start behind.pieces (behind.slash ∷ []) reached modes.Backslash (behind.slash ∷ []) behind.spell behind.before refl
+    (begun reached.to behind.slash [] [] _ stops (start-slash behind.slash behind.slashes))
+
+-- so the mode says what is open
+pub same_state : (cs : List ℕ) (s t : Scanned) → run_from (Some text_start) cs ≡ Some s → run_from (Some text_start) cs ≡ Some t → s ≡ t
+same_state cs s t first second = cc
+
+pub such_mode : (is_such : Mode → Bool) (characters start : List ℕ) (s : Scanned) → StandsIn is_such characters start → run_from (Some text_start) characters ≡ Some s → is_such s.mode ≡ true
+such_mode is_such characters start s stands runs = ap (λ (t : Scanned). is_such t.mode) (same_state characters s stands.to runs stands.runs) ∙ stands.such
+
+pub such_start : (is_such : Mode → Bool) (characters start : List ℕ) (s : Scanned) → StandsIn is_such characters start → run_from (Some text_start) characters ≡ Some s → spelled s.done ≡ start
+such_start is_such characters start s stands runs = ap (λ (t : Scanned). spelled t.done) (same_state characters s stands.to runs stands.runs) ∙ stands.before

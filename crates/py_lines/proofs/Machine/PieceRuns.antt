@@ -1,0 +1,239 @@
+-- The machine goes through the text of a space, a word, a comment, an operator, a join, a line end or a mark.
+use Rattle.std.proofs.Common.{◌≡◌, ℕ, Bool, true, false, ◌&&◌, Option, None, Some, List, [], ◌∷◌, ◌++◌, refl, sym, ap, ◌∙◌, subst, inl, inr, append_assoc, append-nil, ◌⊎◌}
+use Rattle.std.specs.List.{list_all, list_any}
+use Rattle.std.proofs.lemmas.Bool.{and_parts, or_parts}
+use Rattle.py_lines.specs.Character.{is_space, is_word_character, is_word_start, is_quote, is_operator, is_line_feed, is_return, is_break, is_hash, is_backslash}
+use Rattle.py_lines.specs.Piece.{space, word, operator, comment, join, line_end, Piece, begins, ends, is_prefix, IsLineEnd, feed, return_feed, return}
+use Rattle.py_lines.specs.declared.mode.Spelling.{Spelling}
+use Rattle.py_lines.specs.declared.mode.Mode.{Mode}
+use Rattle.py_lines.specs.declared.mode.Mode.TheVariants as modes
+use Rattle.py_lines.specs.declared.mode.Move.{Move}
+use Rattle.py_lines.specs.declared.mode.Move.TheVariants as moves
+use Rattle.py_lines.specs.declared.mode.Start.{Start}
+use Rattle.py_lines.specs.Private.Machine.{Scanned, fresh, class_of, closed, started, moved, step, run_from, move_of, start_of, is_final, first_spelling, spelling_with, is_prefix_spelling}
+use Rattle.py_lines.proofs.Pieces.PieceLists.{piece}
+use Rattle.py_lines.specs.Private.Machine.{spelling_on}
+use Rattle.py_lines.proofs.Machine.Spellings.{prefix_spelling}
+use Rattle.py_lines.proofs.Machine.Starts.{start-space, start-word, start-operator, start-feed, start-return, start-hash, start-slash}
+
+abbrev pub scanned : List Piece → Mode → List ℕ → Scanned
+scanned done mode held = record { done = done; mode = mode; held = held }
+
+-- the pieces that a state has found, the open one with them
+abbrev pub pieces_at : Scanned → List Piece
+pieces_at s = closed s.mode s.done s.held
+
+-- the open piece may end before this text
+abbrev pub StopsBefore : Mode → List ℕ → Type 0
+StopsBefore m [] = is_final m ≡ true
+StopsBefore m (c ∷ cs) = move_of m c ≡ moves.Breaks
+
+-- the machine goes through a text from here, finds these pieces after those it had, and may stop before the rest
+pub record Finds (from : Scanned) (text : List ℕ) (pieces : List Piece) (rest : List ℕ) : Type 0 where
+  pub to : Scanned
+  pub runs : run_from (Some from) text ≡ Some to
+  pub pieces_are : pieces_at to ≡ pieces_at from ++ pieces
+  pub stops : StopsBefore to.mode rest
+
+-- two runs, one after the other
+pub run_from-append : (s : Option Scanned) (a b : List ℕ) → run_from s (a ++ b) ≡ run_from (run_from s a) b
+run_from-append None a b = refl
+run_from-append (Some s) [] b = refl
+run_from-append (Some s) (c ∷ a) b = run_from-append (step s c) a b
+
+-- a new piece begins where the machine may stop
+begin : (from : Scanned) (c : ℕ) (cs : List ℕ) (s : Start) → StopsBefore from.mode (c ∷ cs) → start_of c ≡ s → step from c ≡ started (pieces_at from) c s
+begin from c cs s stops starts_as = ap (moved from c) stops ∙ ap (started (pieces_at from) c) starts_as
+
+pub begun : (from : Scanned) (c : ℕ) (cs after : List ℕ) (s : Start) → StopsBefore from.mode (c ∷ after) → start_of c ≡ s → run_from (Some from) (c ∷ cs) ≡ run_from (started (pieces_at from) c s) cs
+begun from c cs after s stops starts_as = ap (λ o. run_from o cs) (begin from c after s stops starts_as)
+
+-- one more character in the open piece
+pub grown : (done : List Piece) (m n : Mode) (held : List ℕ) (c : ℕ) (cs : List ℕ) → move_of m c ≡ moves.Grows n → run_from (Some (scanned done m held)) (c ∷ cs) ≡ run_from (Some (scanned done n (held ++ c ∷ []))) cs
+grown done m n held c cs grows = ap (λ (v : Move). run_from (moved (scanned done m held) c v) cs) grows
+
+-- the last character of the open piece
+pub closes : (done : List Piece) (m : Mode) (held : List ℕ) (c : ℕ) → move_of m c ≡ moves.Closes → run_from (Some (scanned done m held)) (c ∷ []) ≡ Some (fresh (done ++ piece (class_of m) (held ++ c ∷ []) ∷ []))
+closes done m held c closing = ap (λ (v : Move). run_from (moved (scanned done m held) c v) []) closing
+
+pub longer : (done : List Piece) (m : Mode) (held : List ℕ) (c : ℕ) (cs : List ℕ) → Some (scanned done m ((held ++ c ∷ []) ++ cs)) ≡ Some (scanned done m (held ++ c ∷ cs))
+longer done m held c cs = ap (λ t. Some (scanned done m t)) (append_assoc held (c ∷ []) cs)
+
+pub all_held : (done : List Piece) (m : Mode) (held : List ℕ) → Some (scanned done m held) ≡ Some (scanned done m (held ++ []))
+all_held done m held = ap (λ t. Some (scanned done m t)) (sym (append-nil held))
+
+pub stops-free : (rest : List ℕ) → StopsBefore modes.Free rest
+unfolding move_of
+stops-free [] = refl
+stops-free (c ∷ cs) = refl
+
+-- a space
+grow-space : (c : ℕ) → is_space c ≡ true → move_of modes.Space c ≡ moves.Grows modes.Space
+unfolding move_of
+grow-space c h = rw h
+
+run_space : (done : List Piece) (held others : List ℕ) → list_all is_space others ≡ true → run_from (Some (scanned done modes.Space held)) others ≡ Some (scanned done modes.Space (held ++ others))
+run_space done held [] h = all_held done modes.Space held
+run_space done held (c ∷ cs) h =
+    let parts = and_parts (is_space c) (list_all is_space cs) h in
+    grown done _ _ held c cs (grow-space c parts.0) ∙ run_space done (held ++ c ∷ []) cs parts.1 ∙ longer done modes.Space held c cs
+
+stops-space : (rest : List ℕ) → begins is_space rest ≡ false → StopsBefore modes.Space rest
+unfolding move_of
+stops-space [] h = refl
+stops-space (c ∷ cs) h = rw h
+
+pub find_space : (from : Scanned) (first : ℕ) (others rest : List ℕ) → list_all is_space (first ∷ others) ≡ true → StopsBefore from.mode (first ∷ others ++ rest) → begins is_space rest ≡ false → Finds from (first ∷ others) (piece space (first ∷ others) ∷ []) rest
+find_space from first others rest run stops ends =
+    let parts = and_parts (is_space first) (list_all is_space others) run in
+    record {
+      to = scanned (pieces_at from) modes.Space (first ∷ others);
+      runs = begun from first others (others ++ rest) _ stops (start-space first parts.0) ∙ run_space _ (first ∷ []) others parts.1;
+      pieces_are = refl;
+      stops = stops-space rest ends;
+    }
+
+-- a word
+grow-word : (s : Spelling) (c : ℕ) → is_word_character c ≡ true → move_of (modes.Word s) c ≡ moves.Grows (modes.Word (spelling_with s c))
+unfolding move_of
+grow-word s c h = rw h
+
+pub run_word : (done : List Piece) (s : Spelling) (held others : List ℕ) → list_all is_word_character others ≡ true → run_from (Some (scanned done (modes.Word s) held)) others ≡ Some (scanned done (modes.Word (spelling_on s others)) (held ++ others))
+run_word done s held [] h = all_held done (modes.Word s) held
+run_word done s held (c ∷ cs) h =
+    let parts = and_parts (is_word_character c) (list_all is_word_character cs) h in
+    grown done _ _ held c cs (grow-word s c parts.0) ∙ run_word done (spelling_with s c) (held ++ c ∷ []) cs parts.1 ∙ longer done _ held c cs
+
+stops-word : (s : Spelling) (rest : List ℕ) → begins is_word_character rest ≡ false → is_prefix_spelling s && begins is_quote rest ≡ false → StopsBefore (modes.Word s) rest
+unfolding move_of
+stops-word s [] h k = refl
+stops-word s (c ∷ cs) h k = rw (h, k)
+
+pub find_word : (from : Scanned) (first : ℕ) (others rest : List ℕ) → is_word_start first ≡ true → list_all is_word_character others ≡ true → StopsBefore from.mode (first ∷ others ++ rest) → begins is_word_character rest ≡ false → is_prefix (first ∷ others) && begins is_quote rest ≡ false → Finds from (first ∷ others) (piece word (first ∷ others) ∷ []) rest
+find_word from first others rest opens run stops ends no_prefix = record {
+  to = scanned (pieces_at from) (modes.Word (spelling_on (first_spelling first) others)) (first ∷ others);
+  runs = begun from first others (others ++ rest) _ stops (start-word first opens) ∙ run_word _ _ (first ∷ []) others run;
+  pieces_are = refl;
+  stops = stops-word _ rest ends (subst (λ (b : Bool). b && begins is_quote rest ≡ false) (prefix_spelling first others) no_prefix);
+}
+
+-- an operator
+pub find_operator : (from : Scanned) (c : ℕ) (rest : List ℕ) → is_operator c ≡ true → StopsBefore from.mode (c ∷ rest) → Finds from (c ∷ []) (piece operator (c ∷ []) ∷ []) rest
+find_operator from c rest passes stops = record {
+  to = fresh (pieces_at from ++ piece operator (c ∷ []) ∷ []);
+  runs = begun from c [] rest _ stops (start-operator c passes);
+  pieces_are = refl;
+  stops = stops-free rest;
+}
+
+-- a comment
+grow-comment : (c : ℕ) → is_break c ≡ false → move_of modes.Comment c ≡ moves.Grows modes.Comment
+unfolding move_of
+grow-comment c h = rw h
+
+run_comment : (done : List Piece) (held body : List ℕ) → list_any is_break body ≡ false → run_from (Some (scanned done modes.Comment held)) body ≡ Some (scanned done modes.Comment (held ++ body))
+run_comment done held [] h = all_held done modes.Comment held
+run_comment done held (c ∷ cs) h =
+    let parts = or_parts (is_break c) (list_any is_break cs) h in
+    grown done _ _ held c cs (grow-comment c parts.0) ∙ run_comment done (held ++ c ∷ []) cs parts.1 ∙ longer done modes.Comment held c cs
+
+stops-comment : (rest : List ℕ) → (rest ≡ []) ⊎ (begins is_break rest ≡ true) → StopsBefore modes.Comment rest
+unfolding move_of
+stops-comment [] h = refl
+stops-comment (c ∷ cs) (inl none) = absurd (cc)
+stops-comment (c ∷ cs) (inr ends) = rw ends
+
+pub find_comment : (from : Scanned) (hash : ℕ) (body rest : List ℕ) → is_hash hash ≡ true → list_any is_break body ≡ false → StopsBefore from.mode (hash ∷ body ++ rest) → (rest ≡ []) ⊎ (begins is_break rest ≡ true) → Finds from (hash ∷ body) (piece comment (hash ∷ body) ∷ []) rest
+find_comment from hash body rest opens holds stops ends = record {
+  to = scanned (pieces_at from) modes.Comment (hash ∷ body);
+  runs = begun from hash body (body ++ rest) _ stops (start-hash hash opens) ∙ run_comment _ (hash ∷ []) body holds;
+  pieces_are = refl;
+  stops = stops-comment rest ends;
+}
+
+-- a line end
+return-closes : move_of modes.Return 10 ≡ moves.Closes
+unfolding move_of is_line_feed
+return-closes = refl
+
+stops-return : (rest : List ℕ) → begins is_line_feed rest ≡ false → StopsBefore modes.Return rest
+unfolding move_of
+stops-return [] h = refl
+stops-return (c ∷ cs) h = rw h
+
+return-is-one : is_return 13 ≡ true
+unfolding is_return
+return-is-one = refl
+
+feed-is-one : is_line_feed 10 ≡ true
+unfolding is_line_feed
+feed-is-one = refl
+
+pub find_line_end : (from : Scanned) (text rest : List ℕ) → IsLineEnd text → StopsBefore from.mode (text ++ rest) → ends is_return text && begins is_line_feed rest ≡ false → Finds from text (piece line_end text ∷ []) rest
+find_line_end from text rest (feed is) stops before =
+    subst (λ t. Finds from t (piece line_end t ∷ []) rest) (sym is) (record {
+      to = fresh (pieces_at from ++ piece line_end (10 ∷ []) ∷ []);
+      runs = begun from 10 [] rest _ (subst (λ t. StopsBefore from.mode (t ++ rest)) is stops) (start-feed 10 feed-is-one);
+      pieces_are = refl;
+      stops = stops-free rest;
+    })
+find_line_end from text rest (return_feed is) stops before =
+    subst (λ t. Finds from t (piece line_end t ∷ []) rest) (sym is) (record {
+      to = fresh (pieces_at from ++ piece line_end (13 ∷ 10 ∷ []) ∷ []);
+      runs = begun from 13 (10 ∷ []) (10 ∷ rest) _ (subst (λ t. StopsBefore from.mode (t ++ rest)) is stops) (start-return 13 return-is-one)
+          ∙ closes (pieces_at from) modes.Return (13 ∷ []) 10 return-closes;
+      pieces_are = refl;
+      stops = stops-free rest;
+    })
+find_line_end from text rest (return is) stops before =
+    subst (λ t. Finds from t (piece line_end t ∷ []) rest) (sym is) (record {
+      to = scanned (pieces_at from) modes.Return (13 ∷ []);
+      runs = begun from 13 [] rest _ (subst (λ t. StopsBefore from.mode (t ++ rest)) is stops) (start-return 13 return-is-one);
+      pieces_are = refl;
+      stops = stops-return rest (subst (λ (b : Bool). b && begins is_line_feed rest ≡ false) return-is-one (subst (λ t. ends is_return t && begins is_line_feed rest ≡ false) is before));
+    })
+
+-- a join
+slash-closes : move_of modes.Backslash 10 ≡ moves.Closes
+unfolding move_of is_line_feed
+slash-closes = refl
+
+slash-returns : move_of modes.Backslash 13 ≡ moves.Grows modes.JoinReturn
+unfolding move_of is_line_feed is_return
+slash-returns = refl
+
+join-closes : move_of modes.JoinReturn 10 ≡ moves.Closes
+unfolding move_of is_line_feed
+join-closes = refl
+
+stops-join : (rest : List ℕ) → begins is_line_feed rest ≡ false → StopsBefore modes.JoinReturn rest
+unfolding move_of
+stops-join [] h = refl
+stops-join (c ∷ cs) h = rw h
+
+pub find_join : (from : Scanned) (slash : ℕ) (end rest : List ℕ) → is_backslash slash ≡ true → IsLineEnd end → StopsBefore from.mode (slash ∷ end ++ rest) → ends is_return (slash ∷ end) && begins is_line_feed rest ≡ false → Finds from (slash ∷ end) (piece join (slash ∷ end) ∷ []) rest
+find_join from slash end rest slashes (feed is) stops before =
+    subst (λ t. Finds from (slash ∷ t) (piece join (slash ∷ t) ∷ []) rest) (sym is) (record {
+      to = fresh (pieces_at from ++ piece join (slash ∷ 10 ∷ []) ∷ []);
+      runs = begun from slash (10 ∷ []) (end ++ rest) _ stops (start-slash slash slashes)
+          ∙ closes (pieces_at from) modes.Backslash (slash ∷ []) 10 slash-closes;
+      pieces_are = refl;
+      stops = stops-free rest;
+    })
+find_join from slash end rest slashes (return_feed is) stops before =
+    subst (λ t. Finds from (slash ∷ t) (piece join (slash ∷ t) ∷ []) rest) (sym is) (record {
+      to = fresh (pieces_at from ++ piece join (slash ∷ 13 ∷ 10 ∷ []) ∷ []);
+      runs = begun from slash (13 ∷ 10 ∷ []) (end ++ rest) _ stops (start-slash slash slashes)
+          ∙ grown (pieces_at from) modes.Backslash _ (slash ∷ []) 13 (10 ∷ []) slash-returns
+          ∙ closes (pieces_at from) modes.JoinReturn (slash ∷ 13 ∷ []) 10 join-closes;
+      pieces_are = refl;
+      stops = stops-free rest;
+    })
+find_join from slash end rest slashes (return is) stops before =
+    subst (λ t. Finds from (slash ∷ t) (piece join (slash ∷ t) ∷ []) rest) (sym is) (record {
+      to = scanned (pieces_at from) modes.JoinReturn (slash ∷ 13 ∷ []);
+      runs = begun from slash (13 ∷ []) (end ++ rest) _ stops (start-slash slash slashes)
+          ∙ grown (pieces_at from) modes.Backslash _ (slash ∷ []) 13 [] slash-returns;
+      pieces_are = refl;
+      stops = stops-join rest (subst (λ (b : Bool). b && begins is_line_feed rest ≡ false) return-is-one (subst (λ t. ends is_return (slash ∷ t) && begins is_line_feed rest ≡ false) is before));
+    })

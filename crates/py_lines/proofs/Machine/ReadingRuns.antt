@@ -1,0 +1,159 @@
+-- The machine goes through every list of pieces that is read before what follows, and finds those pieces.
+use Rattle.std.proofs.Common.{◌≡◌, ℕ, true, false, ◌&&◌, Option, None, Some, List, [], ◌∷◌, ◌++◌, refl, sym, ap, ◌∙◌, subst, ⊎_elim, inl, inr, append_assoc, append-nil}
+use Rattle.std.specs.List.{list_all}
+use Rattle.std.specs.Str.{chars}
+use Rattle.std.proofs.lemmas.Str.{chars-encodes}
+use Rattle.std.proofs.lemmas.Bool.{both_ways, cases_Bool}
+use Rattle.py_lines.specs.Character.{is_mark, is_space, is_quote, is_return, is_line_feed}
+use Rattle.py_lines.specs.Piece.{Class, mark, space, word, string, operator, comment, join, line_end, Piece, InClass, MayPrecede, begins, ends, is_prefix, is_mark_class, begins_marked, spelled, AreReadBefore, Reads, ReadsText}
+use Rattle.py_lines.specs.declared.mode.Mode.TheVariants as modes
+use Rattle.py_lines.specs.declared.mode.Move.{Move}
+use Rattle.py_lines.specs.declared.mode.Move.TheVariants as moves
+use Rattle.py_lines.specs.Private.Machine.{Scanned, fresh, text_start, started, moved, run_from, move_of, start_of}
+use Rattle.py_lines.proofs.Pieces.PieceLists.{piece}
+use Rattle.py_lines.proofs.Machine.Starts.{start-mark}
+use Rattle.py_lines.proofs.Machine.PieceRuns.{pieces_at, StopsBefore, Finds, run_from-append, stops-free, find_space, find_word, find_operator, find_comment, find_line_end, find_join}
+use Rattle.py_lines.proofs.Machine.StringRuns.{find_short, find_long}
+
+-- a piece of any class but a mark
+pub find : (from : Scanned) (class : Class) (text rest : List ℕ) → is_mark_class class ≡ false → InClass class text → MayPrecede class text rest → StopsBefore from.mode (text ++ rest) → Finds from text (piece class text ∷ []) rest
+find from mark text rest unmarked is before stops = absurd (both_ways _ unmarked refl)
+find from space text rest unmarked (first, others, is, run) before stops =
+    let P : List ℕ → Type 0 = λ t. Finds from t (piece space t ∷ []) rest in
+    subst P (sym is) (find_space from first others rest (subst (λ t. list_all is_space t ≡ true) is run) (subst (λ t. StopsBefore from.mode (t ++ rest)) is stops) before)
+find from word text rest unmarked (first, others, is, opens, run) before stops =
+    let P : List ℕ → Type 0 = λ t. Finds from t (piece word t ∷ []) rest in
+    subst P (sym is) (find_word from first others rest opens run (subst (λ t. StopsBefore from.mode (t ++ rest)) is stops) before.0 (subst (λ t. is_prefix t && begins is_quote rest ≡ false) is before.1))
+find from string text rest unmarked (inl short) before stops =
+    let P : List ℕ → Type 0 = λ t. Finds from t (piece string t ∷ []) rest in
+    subst P (sym short.spell) (find_short from short.prefix short.quote short.items rest short.begun short.opens short.each
+    (subst (StopsBefore from.mode) (ap (λ t. t ++ rest) short.spell ∙ append_assoc short.prefix _ rest) stops)
+    (subst (λ t. MayPrecede string t rest) short.spell before))
+find from string text rest unmarked (inr long) before stops =
+    let P : List ℕ → Type 0 = λ t. Finds from t (piece string t ∷ []) rest in
+    subst P (sym long.spell) (find_long from long.prefix long.quote long.items rest long.begun long.opens long.each long.first
+    (subst (StopsBefore from.mode) (ap (λ t. t ++ rest) long.spell ∙ append_assoc long.prefix _ rest) stops))
+find from operator text rest unmarked (c, is, passes) before stops =
+    let P : List ℕ → Type 0 = λ t. Finds from t (piece operator t ∷ []) rest in
+    subst P (sym is) (find_operator from c rest passes (subst (λ t. StopsBefore from.mode (t ++ rest)) is stops))
+find from comment text rest unmarked (hash, body, is, opens, holds) before stops =
+    let P : List ℕ → Type 0 = λ t. Finds from t (piece comment t ∷ []) rest in
+    subst P (sym is) (find_comment from hash body rest opens holds (subst (λ t. StopsBefore from.mode (t ++ rest)) is stops) before)
+find from join text rest unmarked (slash, end, is, slashes, line) before stops =
+    let P : List ℕ → Type 0 = λ t. Finds from t (piece join t ∷ []) rest in
+    subst P (sym is) (find_join from slash end rest slashes line (subst (λ t. StopsBefore from.mode (t ++ rest)) is stops) (subst (λ t. ends is_return t && begins is_line_feed rest ≡ false) is before))
+find from line_end text rest unmarked is before stops = find_line_end from text rest is stops before
+
+-- pieces that are read before the rest are found, in their order
+pub find_all : (from : Scanned) (pieces : List Piece) (rest : List ℕ) → AreReadBefore pieces rest → begins_marked pieces ≡ false → StopsBefore from.mode (spelled pieces ++ rest) → Finds from (spelled pieces) pieces rest
+find_all from [] rest fit unmarked stops = record { to = from; runs = refl; pieces_are = sym (append-nil _); stops = stops }
+find_all from (p ∷ ps) rest fit unmarked stops =
+    let first = find from p.class p.text (spelled ps ++ rest) unmarked fit.0 fit.1 (subst (StopsBefore from.mode) (append_assoc p.text (spelled ps) rest) stops) in
+    let others = find_all first.to ps rest fit.3 fit.2 first.stops in
+    record {
+      to = others.to;
+      runs = run_from-append (Some from) p.text (spelled ps) ∙ ap (λ o. run_from o (spelled ps)) first.runs ∙ others.runs;
+      pieces_are = others.pieces_are ∙ ap (λ l. l ++ ps) first.pieces_are ∙ append_assoc (pieces_at from) (p ∷ []) ps;
+      stops = others.stops;
+    }
+
+-- no piece, and nothing that might be a mark, or some pieces
+abbrev pub MayBegin : List Piece → List ℕ → Type 0
+MayBegin [] rest = begins is_mark rest ≡ false
+MayBegin (p ∷ ps) rest = Unit {0}
+
+-- the machine goes through a text from its start, finds these pieces, and may stop before the rest
+pub record Reaches (text : List ℕ) (pieces : List Piece) (rest : List ℕ) : Type 0 where
+  pub to : Scanned
+  pub runs : run_from (Some text_start) text ≡ Some to
+  pub pieces_are : pieces_at to ≡ pieces
+  pub stops : MayBegin pieces rest → StopsBefore to.mode rest
+
+pieces_or : Option Scanned → List Piece
+pieces_or None = []
+pieces_or (Some s) = pieces_at s
+
+start-breaks : (c : ℕ) → is_mark c ≡ false → move_of modes.Start c ≡ moves.Breaks
+unfolding move_of
+start-breaks c h = rw h
+
+start-closes : (c : ℕ) → is_mark c ≡ true → move_of modes.Start c ≡ moves.Closes
+unfolding move_of
+start-closes c h = rw h
+
+free-breaks : (c : ℕ) → move_of modes.Free c ≡ moves.Breaks
+unfolding move_of
+free-breaks c = refl
+
+-- without a mark, the start is like any other place
+start_as_free : (text : List ℕ) (s : Scanned) (p : Piece) (ps : List Piece) → run_from (Some (fresh [])) text ≡ Some s → pieces_at s ≡ p ∷ ps → run_from (Some text_start) text ≡ Some s
+unfolding pieces_or
+start_as_free [] s p ps runs pieces_are =
+    let same : [] ≡ p ∷ ps = ap pieces_or runs ∙ pieces_are in
+    absurd (cc)
+start_as_free (c ∷ cs) s p ps runs pieces_are =
+    let so : run_from (started [] c (start_of c)) cs ≡ Some s = sym (ap (λ (v : Move). run_from (moved (fresh []) c v) cs) (free-breaks c)) ∙ runs in
+    ⊎_elim
+    (λ (h : is_mark c ≡ true).
+    let stuck : None ≡ Some s = sym (ap (λ v. run_from (started [] c v) cs) (start-mark c h)) ∙ so in
+    absurd (cc))
+    (λ (h : is_mark c ≡ false). ap (λ (v : Move). run_from (moved text_start c v) cs) (start-breaks c h) ∙ so)
+    (cases_Bool (is_mark c))
+
+stops-start : (rest : List ℕ) → begins is_mark rest ≡ false → StopsBefore modes.Start rest
+stops-start [] h = refl
+stops-start (c ∷ cs) h = start-breaks c h
+
+reach_others : (p : Piece) (ps : List Piece) (rest : List ℕ) → AreReadBefore (p ∷ ps) rest → is_mark_class p.class ≡ false → Reaches (spelled (p ∷ ps)) (p ∷ ps) rest
+reach_others p ps rest fit unmarked =
+    let found = find_all (fresh []) (p ∷ ps) rest fit unmarked (stops-free _) in
+    record {
+      to = found.to;
+      runs = start_as_free (spelled (p ∷ ps)) found.to p ps found.runs found.pieces_are;
+      pieces_are = found.pieces_are;
+      stops = λ h. found.stops;
+    }
+
+reach_marked : (text : List ℕ) (ps : List Piece) (rest : List ℕ) → AreReadBefore (piece mark text ∷ ps) rest → Reaches (spelled (piece mark text ∷ ps)) (piece mark text ∷ ps) rest
+reach_marked text ps rest fit =
+    let c = fit.0.0 in
+    let P : List ℕ → Type 0 = λ t. Reaches (t ++ spelled ps) (piece mark t ∷ ps) rest in
+    let found = find_all (fresh (piece mark (c ∷ []) ∷ [])) ps rest fit.3 fit.2 (stops-free _) in
+    subst P (sym fit.0.1) (record {
+      to = found.to;
+      runs = ap (λ (v : Move). run_from (moved text_start c v) (spelled ps)) (start-closes c fit.0.2) ∙ found.runs;
+      pieces_are = found.pieces_are;
+      stops = λ h. found.stops;
+    })
+
+-- pieces that are read before the rest are found from the start
+pub reach : (pieces : List Piece) (rest : List ℕ) → AreReadBefore pieces rest → Reaches (spelled pieces) pieces rest
+reach [] rest fit = record { to = text_start; runs = refl; pieces_are = refl; stops = stops-start rest }
+reach (p ∷ ps) rest fit = go p.class p.text fit
+  where
+    go : (class : Class) (text : List ℕ) → AreReadBefore (piece class text ∷ ps) rest → Reaches (spelled (piece class text ∷ ps)) (piece class text ∷ ps) rest
+    go mark text h = reach_marked text ps rest h
+    go space text h = reach_others (piece space text) ps rest h refl
+    go word text h = reach_others (piece word text) ps rest h refl
+    go string text h = reach_others (piece string text) ps rest h refl
+    go operator text h = reach_others (piece operator text) ps rest h refl
+    go comment text h = reach_others (piece comment text) ps rest h refl
+    go join text h = reach_others (piece join text) ps rest h refl
+    go line_end text h = reach_others (piece line_end text) ps rest h refl
+
+-- two lists of pieces that read the same characters are the same
+pub same_pieces : (pieces others : List Piece) → spelled pieces ≡ spelled others → AreReadBefore pieces [] → AreReadBefore others [] → pieces ≡ others
+unfolding pieces_or
+same_pieces pieces others same first second =
+    let one = reach pieces [] first in
+    let two = reach others [] second in
+    let states : Some one.to ≡ Some two.to = sym one.runs ∙ ap (run_from (Some text_start)) same ∙ two.runs in
+    sym one.pieces_are ∙ ap pieces_or states ∙ two.pieces_are
+
+pub one_reading_of : (pieces others : List Piece) (characters : List ℕ) → Reads pieces characters → Reads others characters → pieces ≡ others
+one_reading_of pieces others characters first second = same_pieces pieces others (first.spell ∙ sym second.spell) first.fit second.fit
+
+pub one_reading_of_text : (pieces others : List Piece) (text : List ℕ) → ReadsText pieces text → ReadsText others text → pieces ≡ others
+one_reading_of_text pieces others text first second =
+    same_pieces pieces others
+    (sym (chars-encodes (spelled pieces) first.scalars) ∙ ap chars (first.spell ∙ sym second.spell) ∙ chars-encodes (spelled others) second.scalars) first.fit second.fit

@@ -1,0 +1,63 @@
+-- A word's spelling, as the machine keeps it, says whether the word is the prefix of a string.
+use Rattle.std.proofs.Common.{◌≡◌, ℕ, false, ◌&&◌, ◌||◌, List, [], ◌∷◌, ◌++◌, refl, sym, ap, ◌∙◌, ⊎_elim, inl, inr, ◌⊎◌}
+use Rattle.std.proofs.lemmas.Bool.{cond_both}
+use Rattle.py_lines.specs.Character.{is_digit, is_r, is_b_or_f, is_u}
+use Rattle.py_lines.specs.Piece.{is_prefix}
+use Rattle.py_lines.specs.declared.mode.Spelling.{Spelling}
+use Rattle.py_lines.specs.declared.mode.Spelling.TheVariants as spellings
+use Rattle.py_lines.specs.Private.Machine.{first_spelling, spelling_with, is_prefix_spelling, spelling_on}
+use Rattle.py_lines.proofs.Text.CharacterTests.{r-not-digit, b_or_f-not-digit, b_or_f-not-r, u-not-digit, excluded}
+
+name_stays : (cs : List ℕ) → spelling_on spellings.Name cs ≡ spellings.Name
+unfolding spelling_with
+name_stays [] = refl
+name_stays (c ∷ cs) = name_stays cs
+
+number_stays : (cs : List ℕ) → spelling_on spellings.Number cs ≡ spellings.Number
+unfolding spelling_with
+number_stays [] = refl
+number_stays (c ∷ cs) = number_stays cs
+
+-- a word of three characters is no prefix
+third : (s : Spelling) (b c : ℕ) → (spelling_with (spelling_with s b) c ≡ spellings.Number) ⊎ (spelling_with (spelling_with s b) c ≡ spellings.Name)
+unfolding spelling_with
+third spellings.Number b c = inl refl
+third spellings.R b c = cond_both (is_b_or_f b) spellings.Prefix spellings.Name (λ s. (spelling_with s c ≡ spellings.Number) ⊎ (spelling_with s c ≡ spellings.Name)) (λ h. inr refl) (λ h. inr refl)
+third spellings.BOrF b c = cond_both (is_r b) spellings.Prefix spellings.Name (λ s. (spelling_with s c ≡ spellings.Number) ⊎ (spelling_with s c ≡ spellings.Name)) (λ h. inr refl) (λ h. inr refl)
+third spellings.Prefix b c = inr refl
+third spellings.Name b c = inr refl
+
+one_letter : (a : ℕ) → is_prefix (a ∷ []) ≡ is_prefix_spelling (first_spelling a)
+unfolding first_spelling
+one_letter a =
+    let P : Spelling → Type 0 = λ s. is_r a || is_b_or_f a || is_u a ≡ is_prefix_spelling s in
+    cond_both (is_digit a) _ _ P
+    (λ digit. rw (excluded is_digit is_r a (r-not-digit a) digit, excluded is_digit is_b_or_f a (b_or_f-not-digit a) digit, excluded is_digit is_u a (u-not-digit a) digit))
+    (λ n. cond_both (is_r a) _ _ P (λ r. rw r)
+    (λ not_r. cond_both (is_b_or_f a) _ _ P (λ b. rw (not_r, b))
+    (λ not_b. cond_both (is_u a) _ _ P (λ u. rw (not_r, not_b, u)) (λ not_u. rw (not_r, not_b, not_u)))))
+
+two_letters : (a b : ℕ) → is_prefix (a ∷ b ∷ []) ≡ is_prefix_spelling (spelling_with (first_spelling a) b)
+unfolding first_spelling spelling_with
+two_letters a b =
+    let P : Spelling → Type 0 = λ s. (is_r a && is_b_or_f b) || (is_b_or_f a && is_r b) ≡ is_prefix_spelling (spelling_with s b) in
+    cond_both (is_digit a) _ _ P
+    (λ digit. rw (excluded is_digit is_r a (r-not-digit a) digit, excluded is_digit is_b_or_f a (b_or_f-not-digit a) digit))
+    (λ n. cond_both (is_r a) _ _ P
+    (λ r. rw (r, excluded is_r is_b_or_f a (b_or_f-not-r a) r) (cond_both (is_b_or_f b) spellings.Prefix spellings.Name (λ s. is_b_or_f b || false ≡ is_prefix_spelling s) (λ h. rw h) (λ h. rw h)))
+    (λ not_r. cond_both (is_b_or_f a) _ _ P
+    (λ f. rw (not_r, f) (cond_both (is_r b) spellings.Prefix spellings.Name (λ s. is_r b ≡ is_prefix_spelling s) (λ h. rw h) (λ h. rw h)))
+    (λ not_b. cond_both (is_u a) _ _ P (λ u. rw (not_r, not_b)) (λ not_u. rw (not_r, not_b)))))
+
+-- a word is a prefix exactly where its spelling says so
+pub prefix_spelling : (first : ℕ) (others : List ℕ) → is_prefix (first ∷ others) ≡ is_prefix_spelling (spelling_on (first_spelling first) others)
+prefix_spelling first [] = one_letter first
+prefix_spelling first (b ∷ []) = two_letters first b
+prefix_spelling first (b ∷ c ∷ cs) =
+    ⊎_elim
+    (λ is. sym (ap is_prefix_spelling (ap (λ s. spelling_on s cs) is ∙ number_stays cs)))
+    (λ is. sym (ap is_prefix_spelling (ap (λ s. spelling_on s cs) is ∙ name_stays cs))) (third (first_spelling first) b c)
+
+pub spelling_on-push : (s : Spelling) (cs : List ℕ) (c : ℕ) → spelling_on s (cs ++ c ∷ []) ≡ spelling_with (spelling_on s cs) c
+spelling_on-push s [] c = refl
+spelling_on-push s (d ∷ cs) c = spelling_on-push (spelling_with s d) cs c

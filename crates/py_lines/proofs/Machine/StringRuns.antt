@@ -1,0 +1,397 @@
+-- The machine goes through the text of a string, item by item.
+use Rattle.std.proofs.Common.{◌≡◌, ℕ, Bool, true, false, not, cond, ◌&&◌, ◌==◌, eqb, Some, List, [], ◌∷◌, ◌++◌, refl, sym, ap, ◌∙◌, subst, ⊎_elim, inl, inr, append_assoc, ◌⊎◌}
+use Rattle.std.specs.List.{list_all}
+use Rattle.std.proofs.lemmas.List.Folds.{list_all-append}
+use Rattle.std.proofs.lemmas.Bool.{and_parts, and_from, or_parts, eq-eqb, eqb-true, both_ways, cases_Bool, not-true}
+use Rattle.py_lines.specs.Character.{is_quote, is_line_feed, is_return, is_break, is_backslash, is_barred}
+use Rattle.py_lines.specs.Piece.{string, Piece, begins, IsPrefix, is_item, is_bare, is_short_item, joined, begins_triple, has_triple, MayPrecede}
+use Rattle.py_lines.specs.declared.mode.Spelling.{Spelling}
+use Rattle.py_lines.specs.declared.mode.Mode.{Mode}
+use Rattle.py_lines.specs.declared.mode.Mode.TheVariants as modes
+use Rattle.py_lines.specs.declared.mode.Move.TheVariants as moves
+use Rattle.py_lines.specs.Private.Machine.{Scanned, fresh, run_from, move_of, short_move, long_move, first_spelling, is_prefix_spelling}
+use Rattle.py_lines.proofs.Pieces.PieceLists.{piece, joined-append}
+use Rattle.py_lines.proofs.Text.CharacterTests.{prefix_word, quote-not-word, quote-not-feed, not_quote, slash-not-quote, slash-not-feed, feed-not-quote, feed-not-slash, unbarred}
+use Rattle.py_lines.specs.Private.Machine.{spelling_on}
+use Rattle.py_lines.proofs.Machine.Spellings.{prefix_spelling}
+use Rattle.py_lines.proofs.Machine.Starts.{start-word, start-quote}
+use Rattle.py_lines.proofs.Machine.PieceRuns.{scanned, pieces_at, StopsBefore, Finds, run_from-append, begun, grown, closes, all_held, stops-free, run_word}
+
+-- a prefix, and the quote after it
+opens_at : (s : Spelling) (q : ℕ) → is_prefix_spelling s ≡ true → is_quote q ≡ true → move_of (modes.Word s) q ≡ moves.Grows (modes.Opened q)
+unfolding move_of
+opens_at s q prefix quotes = rw (quote-not-word q quotes, prefix, quotes)
+
+pub open_string : (from : Scanned) (prefix : List ℕ) (q : ℕ) (after : List ℕ) → IsPrefix prefix → is_quote q ≡ true → StopsBefore from.mode (prefix ++ q ∷ after) → run_from (Some from) (prefix ++ q ∷ []) ≡ Some (scanned (pieces_at from) (modes.Opened q) (prefix ++ q ∷ []))
+open_string from [] q after is quotes stops = begun from q [] after _ stops (start-quote q quotes)
+open_string from (a ∷ bs) q after (inl none) quotes stops = absurd (cc)
+open_string from (a ∷ bs) q after (inr is) quotes stops =
+    let letters = prefix_word a bs is in
+    begun from a (bs ++ q ∷ []) (bs ++ q ∷ after) _ stops (start-word a letters.0)
+    ∙ run_from-append (Some (scanned (pieces_at from) (modes.Word (first_spelling a)) (a ∷ []))) bs (q ∷ [])
+    ∙ ap (λ o. run_from o (q ∷ [])) (run_word (pieces_at from) _ (a ∷ []) bs letters.1)
+    ∙ grown (pieces_at from) (modes.Word (spelling_on (first_spelling a) bs)) (modes.Opened q) (a ∷ bs) q [] (opens_at _ q (sym (prefix_spelling a bs) ∙ is) quotes)
+
+-- in a short string that holds something
+abbrev pub HoldsShort : ℕ → Mode → Type 0
+HoldsShort q m = (m ≡ modes.Inside q) ⊎ (m ≡ modes.EscapeReturn q)
+
+-- in a short string, between two items
+abbrev pub IsShortMode : ℕ → Mode → Type 0
+IsShortMode q m = (m ≡ modes.Opened q) ⊎ HoldsShort q m
+
+opened_moves : (q c : ℕ) → eqb c q ≡ false → move_of (modes.Opened q) c ≡ short_move q c
+unfolding move_of
+opened_moves q c other = rw other
+
+inside_moves : (q c : ℕ) → eqb c q ≡ false → move_of (modes.Inside q) c ≡ short_move q c
+unfolding move_of
+inside_moves q c other = rw other
+
+returned_moves : (q c : ℕ) → eqb c q ≡ false → is_line_feed c ≡ false → move_of (modes.EscapeReturn q) c ≡ short_move q c
+unfolding move_of
+returned_moves q c other no_feed = rw (no_feed, other)
+
+pub short_moves : (q c : ℕ) (m : Mode) → IsShortMode q m → eqb c q ≡ false → is_line_feed c ≡ false → move_of m c ≡ short_move q c
+short_moves q c m (inl is) other no_feed = ap (λ (n : Mode). move_of n c) is ∙ opened_moves q c other
+short_moves q c m (inr (inl is)) other no_feed = ap (λ (n : Mode). move_of n c) is ∙ inside_moves q c other
+short_moves q c m (inr (inr is)) other no_feed = ap (λ (n : Mode). move_of n c) is ∙ returned_moves q c other no_feed
+
+short_bare : (q c : ℕ) → is_backslash c ≡ false → is_break c ≡ false → short_move q c ≡ moves.Grows (modes.Inside q)
+unfolding short_move
+short_bare q c no_slash no_break = rw (no_slash, no_break)
+
+short_slash : (q c : ℕ) → is_backslash c ≡ true → short_move q c ≡ moves.Grows (modes.Escape q)
+unfolding short_move
+short_slash q c slash = rw slash
+
+escape_return : (q c : ℕ) → is_return c ≡ true → move_of (modes.Escape q) c ≡ moves.Grows (modes.EscapeReturn q)
+unfolding move_of
+escape_return q c h = rw h
+
+escape_other : (q c : ℕ) → is_return c ≡ false → move_of (modes.Escape q) c ≡ moves.Grows (modes.Inside q)
+unfolding move_of
+escape_other q c h = rw h
+
+returned_feed : (q c : ℕ) → is_line_feed c ≡ true → move_of (modes.EscapeReturn q) c ≡ moves.Grows (modes.Inside q)
+unfolding move_of
+returned_feed q c h = rw h
+
+-- the machine goes through items of a short string
+pub record ShortRun (done : List Piece) (q : ℕ) (from : Mode) (held items : List ℕ) : Type 0 where
+  pub to : Mode
+  pub inside : HoldsShort q to
+  pub runs : run_from (Some (scanned done from held)) items ≡ Some (scanned done to (held ++ items))
+
+grown_three : (done : List Piece) (held : List ℕ) (m : Mode) (c d e : ℕ) → Some (scanned done m (((held ++ c ∷ []) ++ d ∷ []) ++ e ∷ [])) ≡ Some (scanned done m (held ++ c ∷ d ∷ e ∷ []))
+grown_three done held m c d e = ap (λ t. Some (scanned done m t)) (append_assoc (held ++ c ∷ []) (d ∷ []) (e ∷ []) ∙ append_assoc held (c ∷ []) (d ∷ e ∷ []))
+
+grown_two : (done : List Piece) (held : List ℕ) (m : Mode) (c d : ℕ) → Some (scanned done m ((held ++ c ∷ []) ++ d ∷ [])) ≡ Some (scanned done m (held ++ c ∷ d ∷ []))
+grown_two done held m c d = ap (λ t. Some (scanned done m t)) (append_assoc held (c ∷ []) (d ∷ []))
+
+-- a backslash in a short string
+pub short_escapes : (q c : ℕ) (m : Mode) → IsShortMode q m → is_quote q ≡ true → is_backslash c ≡ true → move_of m c ≡ moves.Grows (modes.Escape q)
+short_escapes q c m short quotes slash = short_moves q c m short (not_quote c q quotes (slash-not-quote c slash)) (slash-not-feed c slash) ∙ short_slash q c slash
+
+pub run_item : (done : List Piece) (q : ℕ) (m : Mode) (held item : List ℕ) → IsShortMode q m → is_quote q ≡ true → is_short_item q item ≡ true → ShortRun done q m held item
+run_item done q m held [] short quotes is = absurd (both_ways _ refl is)
+run_item done q m held (c ∷ []) short quotes is =
+    let parts = and_parts (not (is_backslash c)) (not (is_barred q c)) is in
+    let bare = unbarred q c (not-true _ parts.1) in
+    record {
+      to = modes.Inside q;
+      inside = inl refl;
+      runs = grown done m (modes.Inside q) held c [] (short_moves q c m short bare.0 bare.1 ∙ short_bare q c (not-true _ parts.0) bare.2);
+    }
+run_item done q m held (c ∷ d ∷ []) short quotes is =
+    let slash = (and_parts (is_backslash c) true is).0 in
+    ⊎_elim
+    (λ (h : is_return d ≡ true). record {
+      to = modes.EscapeReturn q;
+      inside = inr refl;
+      runs = grown done m (modes.Escape q) held c (d ∷ []) (short_escapes q c m short quotes slash)
+          ∙ grown done (modes.Escape q) (modes.EscapeReturn q) (held ++ c ∷ []) d [] (escape_return q d h)
+          ∙ grown_two done held _ c d;
+    })
+    (λ (h : is_return d ≡ false). record {
+      to = modes.Inside q;
+      inside = inl refl;
+      runs = grown done m (modes.Escape q) held c (d ∷ []) (short_escapes q c m short quotes slash)
+          ∙ grown done (modes.Escape q) (modes.Inside q) (held ++ c ∷ []) d [] (escape_other q d h)
+          ∙ grown_two done held _ c d;
+    }) (cases_Bool (is_return d))
+run_item done q m held (c ∷ d ∷ e ∷ []) short quotes is =
+    let parts = and_parts (is_backslash c && is_return d && is_line_feed e) true is in
+    let first = and_parts (is_backslash c && is_return d) (is_line_feed e) parts.0 in
+    let second = and_parts (is_backslash c) (is_return d) first.0 in
+    record {
+      to = modes.Inside q;
+      inside = inl refl;
+      runs = grown done m (modes.Escape q) held c (d ∷ e ∷ []) (short_escapes q c m short quotes second.0)
+          ∙ grown done (modes.Escape q) (modes.EscapeReturn q) (held ++ c ∷ []) d (e ∷ []) (escape_return q d second.1)
+          ∙ grown done (modes.EscapeReturn q) (modes.Inside q) ((held ++ c ∷ []) ++ d ∷ []) e [] (returned_feed q e first.1)
+          ∙ grown_three done held _ c d e;
+    }
+run_item done q m held (c ∷ d ∷ e ∷ f ∷ cs) short quotes is = absurd (both_ways _ refl is)
+
+pub run_items : (done : List Piece) (q : ℕ) (m : Mode) (held : List ℕ) (items : List (List ℕ)) → HoldsShort q m → is_quote q ≡ true → list_all (is_short_item q) items ≡ true → ShortRun done q m held (joined items)
+run_items done q m held [] short quotes each = record { to = m; inside = short; runs = all_held done m held }
+run_items done q m held (i ∷ is) short quotes each =
+    let parts = and_parts (is_short_item q i) (list_all (is_short_item q) is) each in
+    let first = run_item done q m held i (inr short) quotes parts.0 in
+    let others = run_items done q first.to (held ++ i) is first.inside quotes parts.1 in
+    record {
+      to = others.to;
+      inside = others.inside;
+      runs = run_from-append (Some (scanned done m held)) i (joined is)
+          ∙ ap (λ o. run_from o (joined is)) first.runs
+          ∙ others.runs
+          ∙ ap (λ t. Some (scanned done others.to t)) (append_assoc held i (joined is));
+    }
+
+close-inside : (q : ℕ) → move_of (modes.Inside q) q ≡ moves.Closes
+unfolding move_of
+close-inside q = rw (eq-eqb q q refl)
+
+close-returned : (q : ℕ) → is_quote q ≡ true → move_of (modes.EscapeReturn q) q ≡ moves.Closes
+unfolding move_of
+close-returned q quotes = rw (quote-not-feed q quotes, eq-eqb q q refl)
+
+pub close_short : (done : List Piece) (q : ℕ) (m : Mode) (held : List ℕ) → HoldsShort q m → is_quote q ≡ true → run_from (Some (scanned done m held)) (q ∷ []) ≡ Some (fresh (done ++ piece string (held ++ q ∷ []) ∷ []))
+close_short done q m held (inl is) quotes = subst (λ (n : Mode). run_from (Some (scanned done n held)) (q ∷ []) ≡ Some (fresh (done ++ piece string (held ++ q ∷ []) ∷ []))) (sym is) (closes done (modes.Inside q) held q (close-inside q))
+close_short done q m held (inr is) quotes = subst (λ (n : Mode). run_from (Some (scanned done n held)) (q ∷ []) ≡ Some (fresh (done ++ piece string (held ++ q ∷ []) ∷ []))) (sym is) (closes done (modes.EscapeReturn q) held q (close-returned q quotes))
+
+pub empty-opened : (q : ℕ) → move_of (modes.Opened q) q ≡ moves.Grows (modes.Empty q)
+unfolding move_of
+empty-opened q = rw (eq-eqb q q refl)
+
+stops-empty : (q : ℕ) (rest : List ℕ) → begins (λ c. c == q) rest ≡ false → StopsBefore (modes.Empty q) rest
+unfolding move_of
+stops-empty q [] h = refl
+stops-empty q (c ∷ cs) h = rw h
+
+-- a string's text, first its beginning with the opening quote
+front_first : (prefix : List ℕ) (q : ℕ) (body : List ℕ) → (prefix ++ q ∷ []) ++ body ≡ prefix ++ q ∷ body
+front_first prefix q body = append_assoc prefix (q ∷ []) body
+
+pub opened_run : (from : Scanned) (prefix : List ℕ) (q : ℕ) (body : List ℕ) → IsPrefix prefix → is_quote q ≡ true → StopsBefore from.mode (prefix ++ q ∷ body) → run_from (Some from) (prefix ++ q ∷ body) ≡ run_from (Some (scanned (pieces_at from) (modes.Opened q) (prefix ++ q ∷ []))) body
+opened_run from prefix q body is quotes stops =
+    ap (run_from (Some from)) (sym (front_first prefix q body))
+    ∙ run_from-append (Some from) (prefix ++ q ∷ []) body
+    ∙ ap (λ o. run_from o body) (open_string from prefix q body is quotes stops)
+
+-- the items of a short string, if there are some
+pub short_body : (done : List Piece) (q : ℕ) (held item : List ℕ) (items : List (List ℕ)) → is_quote q ≡ true → list_all (is_short_item q) (item ∷ items) ≡ true → ShortRun done q (modes.Opened q) held (joined (item ∷ items))
+short_body done q held item items quotes each =
+    let parts = and_parts (is_short_item q item) (list_all (is_short_item q) items) each in
+    let first = run_item done q (modes.Opened q) held item (inl refl) quotes parts.0 in
+    let others = run_items done q first.to (held ++ item) items first.inside quotes parts.1 in
+    record {
+      to = others.to;
+      inside = others.inside;
+      runs = run_from-append (Some (scanned done (modes.Opened q) held)) item (joined items)
+          ∙ ap (λ o. run_from o (joined items)) first.runs
+          ∙ others.runs
+          ∙ ap (λ t. Some (scanned done others.to t)) (append_assoc held item (joined items));
+    }
+
+-- where a state stops depends on the first character alone
+stops_so : (from : Scanned) (prefix : List ℕ) (q : ℕ) (body rest : List ℕ) → StopsBefore from.mode (prefix ++ q ∷ (body ++ rest)) → StopsBefore from.mode (prefix ++ q ∷ body)
+stops_so from [] q body rest h = h
+stops_so from (a ∷ bs) q body rest h = h
+
+pub find_short : (from : Scanned) (prefix : List ℕ) (q : ℕ) (items : List (List ℕ)) (rest : List ℕ) → IsPrefix prefix → is_quote q ≡ true → list_all (is_short_item q) items ≡ true → StopsBefore from.mode (prefix ++ q ∷ ((joined items ++ q ∷ []) ++ rest)) → MayPrecede string (prefix ++ (q ∷ joined items ++ q ∷ [])) rest → Finds from (prefix ++ (q ∷ joined items ++ q ∷ [])) (piece string (prefix ++ (q ∷ joined items ++ q ∷ [])) ∷ []) rest
+find_short from prefix q [] rest is quotes each stops before =
+    let done = pieces_at from in
+    record {
+      to = scanned done (modes.Empty q) ((prefix ++ q ∷ []) ++ q ∷ []);
+      runs = opened_run from prefix q (q ∷ []) is quotes (stops_so from prefix q (q ∷ []) rest stops)
+          ∙ grown done _ _ (prefix ++ q ∷ []) q [] (empty-opened q);
+      pieces_are = ap (λ t. done ++ piece string t ∷ []) (front_first prefix q (q ∷ []));
+      stops = stops-empty q rest (before prefix q refl is quotes);
+    }
+find_short from prefix q (i ∷ items) rest is quotes each stops before =
+    let done = pieces_at from in
+    let body = short_body done q (prefix ++ q ∷ []) i items quotes each in
+    let text = joined (i ∷ items) in
+    record {
+      to = fresh (done ++ piece string (((prefix ++ q ∷ []) ++ text) ++ q ∷ []) ∷ []);
+      runs = opened_run from prefix q (text ++ q ∷ []) is quotes (stops_so from prefix q (text ++ q ∷ []) rest stops)
+          ∙ run_from-append (Some (scanned done (modes.Opened q) (prefix ++ q ∷ []))) text (q ∷ [])
+          ∙ ap (λ o. run_from o (q ∷ [])) body.runs
+          ∙ close_short done q body.to ((prefix ++ q ∷ []) ++ text) body.inside quotes;
+      pieces_are = ap (λ t. done ++ piece string t ∷ []) (append_assoc (prefix ++ q ∷ []) text (q ∷ []) ∙ front_first prefix q (text ++ q ∷ []));
+      stops = stops-free rest;
+    }
+
+-- how many quotes stand directly before a place in a long string
+pub data Seen : Type 0 where
+  none : Seen
+  one : Seen
+  two : Seen
+
+abbrev pub mode_at : ℕ → Seen → Mode
+mode_at q none = modes.Long q
+mode_at q one = modes.LongOne q
+mode_at q two = modes.LongTwo q
+
+abbrev pub quotes_before : ℕ → Seen → List (List ℕ)
+quotes_before q none = []
+quotes_before q one = (q ∷ []) ∷ []
+quotes_before q two = (q ∷ []) ∷ (q ∷ []) ∷ []
+
+-- one more quote; the third closes the string
+abbrev pub next : Seen → Seen
+next none = one
+next one = two
+next two = two
+
+abbrev pub seen_with : ℕ → Seen → List ℕ → Seen
+seen_with q seen item = cond (is_bare (λ c. c == q) item) (next seen) none
+
+abbrev pub seen_after : ℕ → Seen → List (List ℕ) → Seen
+seen_after q seen [] = seen
+seen_after q seen (item ∷ items) = seen_after q (seen_with q seen item) items
+
+long_moves : (q c : ℕ) (seen : Seen) → eqb c q ≡ false → move_of (mode_at q seen) c ≡ long_move q c
+unfolding move_of
+long_moves q c none other = rw other
+long_moves q c one other = rw other
+long_moves q c two other = rw other
+
+long_bare : (q c : ℕ) → is_backslash c ≡ false → long_move q c ≡ moves.Grows (modes.Long q)
+unfolding long_move
+long_bare q c no_slash = rw no_slash
+
+long_slash : (q c : ℕ) → is_backslash c ≡ true → long_move q c ≡ moves.Grows (modes.LongEscape q)
+unfolding long_move
+long_slash q c slash = rw slash
+
+-- a backslash in a long string
+pub long_escapes : (q c : ℕ) (seen : Seen) → is_quote q ≡ true → is_backslash c ≡ true → move_of (mode_at q seen) c ≡ moves.Grows (modes.LongEscape q)
+long_escapes q c seen quotes slash = long_moves q c seen (not_quote c q quotes (slash-not-quote c slash)) ∙ long_slash q c slash
+
+long_escaped : (q c : ℕ) → move_of (modes.LongEscape q) c ≡ moves.Grows (modes.Long q)
+unfolding move_of
+long_escaped q c = refl
+
+long-one : (q : ℕ) → move_of (modes.Long q) q ≡ moves.Grows (modes.LongOne q)
+unfolding move_of
+long-one q = rw (eq-eqb q q refl)
+
+long-two : (q : ℕ) → move_of (modes.LongOne q) q ≡ moves.Grows (modes.LongTwo q)
+unfolding move_of
+long-two q = rw (eq-eqb q q refl)
+
+long-closes : (q : ℕ) → move_of (modes.LongTwo q) q ≡ moves.Closes
+unfolding move_of
+long-closes q = rw (eq-eqb q q refl)
+
+pub long-opens : (q : ℕ) → move_of (modes.Empty q) q ≡ moves.Grows (modes.Long q)
+unfolding move_of
+long-opens q = rw (eq-eqb q q refl)
+
+-- an item that is no quote of the string
+long_other : (done : List Piece) (q : ℕ) (seen : Seen) (held item : List ℕ) → is_quote q ≡ true → is_item item ≡ true → is_bare (λ c. c == q) item ≡ false → run_from (Some (scanned done (mode_at q seen) held)) item ≡ Some (scanned done (modes.Long q) (held ++ item))
+long_other done q seen held [] quotes is other = absurd (both_ways _ refl is)
+long_other done q seen held (c ∷ []) quotes is other = grown done (mode_at q seen) (modes.Long q) held c [] (long_moves q c seen other ∙ long_bare q c (not-true _ is))
+long_other done q seen held (c ∷ d ∷ []) quotes is other =
+    grown done (mode_at q seen) (modes.LongEscape q) held c (d ∷ []) (long_moves q c seen (not_quote c q quotes (slash-not-quote c is)) ∙ long_slash q c is)
+    ∙ grown done (modes.LongEscape q) (modes.Long q) (held ++ c ∷ []) d [] (long_escaped q d)
+    ∙ grown_two done held _ c d
+long_other done q seen held (c ∷ d ∷ e ∷ []) quotes is other =
+    let first = and_parts (is_backslash c && is_return d) (is_line_feed e) is in
+    let slash = (and_parts (is_backslash c) (is_return d) first.0).0 in
+    grown done (mode_at q seen) (modes.LongEscape q) held c (d ∷ e ∷ []) (long_moves q c seen (not_quote c q quotes (slash-not-quote c slash)) ∙ long_slash q c slash)
+    ∙ grown done (modes.LongEscape q) (modes.Long q) (held ++ c ∷ []) d (e ∷ []) (long_escaped q d)
+    ∙ grown done (modes.Long q) (modes.Long q) ((held ++ c ∷ []) ++ d ∷ []) e [] (long_moves q e none (not_quote e q quotes (feed-not-quote e first.1)) ∙ long_bare q e (feed-not-slash e first.1))
+    ∙ grown_three done held _ c d e
+long_other done q seen held (c ∷ d ∷ e ∷ f ∷ cs) quotes is other = absurd (both_ways _ refl is)
+
+bare_quote : (q : ℕ) (item : List ℕ) → is_bare (λ c. c == q) item ≡ true → item ≡ q ∷ []
+bare_quote q [] h = absurd (both_ways _ refl h)
+bare_quote q (c ∷ []) h = ap (λ d. d ∷ []) (eqb-true c q h)
+bare_quote q (c ∷ d ∷ cs) h = absurd (both_ways _ refl h)
+
+-- after a quote
+after_quote : (q : ℕ) (seen : Seen) (items : List (List ℕ)) → has_triple q (quotes_before q seen ++ (q ∷ []) ∷ items) ≡ false → has_triple q (quotes_before q (next seen) ++ items) ≡ false
+after_quote q none items h = h
+after_quote q one items h = h
+after_quote q two items h = absurd (both_ways _ (or_parts (begins_triple q ((q ∷ []) ∷ (q ∷ []) ∷ (q ∷ []) ∷ items)) _ h).0 (rw (eq-eqb q q refl)))
+
+tail_triple : (q : ℕ) (item : List ℕ) (items : List (List ℕ)) → has_triple q (item ∷ items) ≡ false → has_triple q items ≡ false
+tail_triple q item items h = (or_parts (begins_triple q (item ∷ items)) (has_triple q items) h).1
+
+-- after another item
+after_other : (q : ℕ) (seen : Seen) (item : List ℕ) (items : List (List ℕ)) → has_triple q (quotes_before q seen ++ item ∷ items) ≡ false → has_triple q items ≡ false
+after_other q none item items h = tail_triple q item items h
+after_other q one item items h = tail_triple q item items (tail_triple q (q ∷ []) (item ∷ items) h)
+after_other q two item items h = tail_triple q item items (tail_triple q (q ∷ []) (item ∷ items) (tail_triple q (q ∷ []) ((q ∷ []) ∷ item ∷ items) h))
+
+quote_grows : (done : List Piece) (q : ℕ) (seen : Seen) (held : List ℕ) (items : List (List ℕ)) → has_triple q (quotes_before q seen ++ (q ∷ []) ∷ items) ≡ false → run_from (Some (scanned done (mode_at q seen) held)) (q ∷ []) ≡ Some (scanned done (mode_at q (next seen)) (held ++ q ∷ []))
+quote_grows done q none held items h = grown done (modes.Long q) (modes.LongOne q) held q [] (long-one q)
+quote_grows done q one held items h = grown done (modes.LongOne q) (modes.LongTwo q) held q [] (long-two q)
+quote_grows done q two held items h = absurd (both_ways _ (or_parts (begins_triple q ((q ∷ []) ∷ (q ∷ []) ∷ (q ∷ []) ∷ items)) _ h).0 (rw (eq-eqb q q refl)))
+
+pub run_long : (done : List Piece) (q : ℕ) (seen : Seen) (held : List ℕ) (items : List (List ℕ)) → is_quote q ≡ true → list_all is_item items ≡ true → has_triple q (quotes_before q seen ++ items) ≡ false → run_from (Some (scanned done (mode_at q seen) held)) (joined items) ≡ Some (scanned done (mode_at q (seen_after q seen items)) (held ++ joined items))
+run_long done q seen held [] quotes each triple = all_held done (mode_at q seen) held
+run_long done q seen held (i ∷ is) quotes each triple =
+    let parts = and_parts (is_item i) (list_all is_item is) each in
+    run_from-append (Some (scanned done (mode_at q seen) held)) i (joined is)
+    ∙ ⊎_elim
+    (λ (h : is_bare (λ c. c == q) i ≡ true).
+    let same = bare_quote q i h in
+    let so = subst (λ (j : List ℕ). has_triple q (quotes_before q seen ++ j ∷ is) ≡ false) same triple in
+    ap (λ o. run_from o (joined is)) (subst (λ (j : List ℕ). run_from (Some (scanned done (mode_at q seen) held)) j ≡ Some (scanned done (mode_at q (next seen)) (held ++ j))) (sym same) (quote_grows done q seen held is so))
+    ∙ run_long done q (next seen) (held ++ i) is quotes parts.1 (after_quote q seen is so)
+    ∙ ap (λ (s : Seen). Some (scanned done (mode_at q (seen_after q s is)) ((held ++ i) ++ joined is))) (sym (ap (λ (b : Bool). cond b (next seen) none) h)))
+    (λ (h : is_bare (λ c. c == q) i ≡ false).
+    ap (λ o. run_from o (joined is)) (long_other done q seen held i quotes parts.0 h)
+    ∙ run_long done q none (held ++ i) is quotes parts.1 (after_other q seen i is triple)
+    ∙ ap (λ (s : Seen). Some (scanned done (mode_at q (seen_after q s is)) ((held ++ i) ++ joined is))) (sym (ap (λ (b : Bool). cond b (next seen) none) h)))
+    (cases_Bool (is_bare (λ c. c == q) i))
+    ∙ ap (λ t. Some (scanned done (mode_at q (seen_after q seen (i ∷ is))) t)) (append_assoc held i (joined is))
+
+seen_after-append : (q : ℕ) (seen : Seen) (xs ys : List (List ℕ)) → seen_after q seen (xs ++ ys) ≡ seen_after q (seen_after q seen xs) ys
+seen_after-append q seen [] ys = refl
+seen_after-append q seen (x ∷ xs) ys = seen_after-append q (seen_with q seen x) xs ys
+
+two_quotes : (q : ℕ) (seen : Seen) → seen_after q seen ((q ∷ []) ∷ (q ∷ []) ∷ []) ≡ two
+two_quotes q none = rw (eq-eqb q q refl)
+two_quotes q one = rw (eq-eqb q q refl)
+two_quotes q two = rw (eq-eqb q q refl)
+
+quotes_items : (q : ℕ) → is_quote q ≡ true → list_all is_item ((q ∷ []) ∷ (q ∷ []) ∷ []) ≡ true
+quotes_items q quotes = rw (no_slash q quotes)
+  where
+    no_slash : (q : ℕ) → is_quote q ≡ true → is_backslash q ≡ false
+    no_slash q quotes = ⊎_elim (λ (h : is_backslash q ≡ true). absurd (both_ways _ (slash-not-quote q h) quotes)) (λ (h : is_backslash q ≡ false). h) (cases_Bool (is_backslash q))
+
+-- after three quotes, up to an item before the last quote
+pub long_opened : (from : Scanned) (prefix : List ℕ) (q : ℕ) (body : List ℕ) → IsPrefix prefix → is_quote q ≡ true → StopsBefore from.mode (prefix ++ q ∷ q ∷ q ∷ body) → run_from (Some from) (prefix ++ q ∷ q ∷ q ∷ body) ≡ run_from (Some (scanned (pieces_at from) (modes.Long q) (prefix ++ q ∷ q ∷ q ∷ []))) body
+long_opened from prefix q body is quotes stops =
+    let done = pieces_at from in
+    opened_run from prefix q (q ∷ q ∷ body) is quotes stops
+    ∙ grown done _ _ (prefix ++ q ∷ []) q (q ∷ body) (empty-opened q)
+    ∙ grown done _ _ ((prefix ++ q ∷ []) ++ q ∷ []) q body (long-opens q)
+    ∙ ap (λ t. run_from (Some (scanned done (modes.Long q) t)) body) (append_assoc (prefix ++ q ∷ []) (q ∷ []) (q ∷ []) ∙ front_first prefix q (q ∷ q ∷ []))
+
+pub find_long : (from : Scanned) (prefix : List ℕ) (q : ℕ) (items : List (List ℕ)) (rest : List ℕ) → IsPrefix prefix → is_quote q ≡ true → list_all is_item items ≡ true → has_triple q (items ++ (q ∷ []) ∷ (q ∷ []) ∷ []) ≡ false → StopsBefore from.mode (prefix ++ q ∷ ((q ∷ q ∷ (joined items ++ q ∷ q ∷ q ∷ [])) ++ rest)) → Finds from (prefix ++ (q ∷ q ∷ q ∷ joined items ++ q ∷ q ∷ q ∷ [])) (piece string (prefix ++ (q ∷ q ∷ q ∷ joined items ++ q ∷ q ∷ q ∷ [])) ∷ []) rest
+find_long from prefix q items rest is quotes each triple stops =
+    let done = pieces_at from in
+    let all = items ++ (q ∷ []) ∷ (q ∷ []) ∷ [] in
+    let front = prefix ++ q ∷ q ∷ q ∷ [] in
+    let ends = joined items ++ q ∷ q ∷ q ∷ [] in
+    let cut : joined all ++ q ∷ [] ≡ ends = ap (λ t. t ++ q ∷ []) (joined-append items ((q ∷ []) ∷ (q ∷ []) ∷ [])) ∙ append_assoc (joined items) (q ∷ q ∷ []) (q ∷ []) in
+    let seen : seen_after q none all ≡ two = seen_after-append q none items ((q ∷ []) ∷ (q ∷ []) ∷ []) ∙ two_quotes q (seen_after q none items) in
+    record {
+      to = fresh (done ++ piece string ((front ++ joined all) ++ q ∷ []) ∷ []);
+      runs = long_opened from prefix q ends is quotes (stops_so from prefix q (q ∷ q ∷ ends) rest stops)
+          ∙ ap (run_from (Some (scanned done (modes.Long q) front))) (sym cut)
+          ∙ run_from-append (Some (scanned done (modes.Long q) front)) (joined all) (q ∷ [])
+          ∙ ap (λ o. run_from o (q ∷ [])) (run_long done q none front all quotes (list_all-append is_item items ((q ∷ []) ∷ (q ∷ []) ∷ []) ∙ and_from _ _ each (quotes_items q quotes)) triple)
+          ∙ ap (λ (s : Seen). run_from (Some (scanned done (mode_at q s) (front ++ joined all))) (q ∷ [])) seen
+          ∙ closes done (modes.LongTwo q) (front ++ joined all) q (long-closes q);
+      pieces_are = ap (λ t. done ++ piece string t ∷ []) (append_assoc front (joined all) (q ∷ []) ∙ ap (λ t. front ++ t) cut ∙ append_assoc prefix (q ∷ q ∷ q ∷ []) ends);
+      stops = stops-free rest;
+    }

@@ -1,0 +1,283 @@
+-- Brackets are in pairs exactly where a stack of open ones is empty at the end.
+use Rattle.std.proofs.Common.{◌≡◌, ℕ, suc, ◌<◌, ◌≤◌, Bool, true, false, ◌==◌, Option, None, Some, List, [], ◌∷◌, ◌++◌, length, nat_lt, refl, sym, ap, ◌∙◌, subst, append_assoc, append-nil, add-one, arith}
+use Rattle.std.proofs.lemmas.Bool.{cond_both, or_parts, or_from, both_ways, lt-ltb, ltb-true}
+use Rattle.py_lines.specs.Piece.{Class, mark, space, word, string, operator, comment, join, line_end, Piece, begins, spelled}
+use Rattle.py_lines.specs.Balance as balance
+use Rattle.py_lines.specs.Balance.{is_opening, is_closing, closing_of, is_operator_that, is_opener, is_closer, ArePair, IsBalanced, depth_after, depth_through, IsShallow}
+use Rattle.py_lines.specs.LogicalLine.{first_or_zero, byte_len}
+use Rattle.py_lines.specs.Private.Machine.{Bracket, closed_by, opened_by, brackets_behind, brackets_through, brackets_of}
+use Rattle.py_lines.proofs.Text.CharacterTests.{none_of}
+
+-- a closing bracket is no opening one
+closing-not-opening : (c : ℕ) → is_closing c ≡ true → is_opening c ≡ false
+unfolding is_closing is_opening
+closing-not-opening c h = none_of is_opening (41 ∷ 93 ∷ 125 ∷ []) c refl h
+
+begins-closing : (text : List ℕ) → begins is_closing text ≡ true → begins is_opening text ≡ false
+begins-closing [] h = refl
+begins-closing (c ∷ cs) h = closing-not-opening c h
+
+operator-closing : (class : Class) (text : List ℕ) → is_operator_that is_closing class text ≡ true → is_operator_that is_opening class text ≡ false
+operator-closing operator text h = begins-closing text h
+operator-closing mark text h = refl
+operator-closing space text h = refl
+operator-closing word text h = refl
+operator-closing string text h = refl
+operator-closing comment text h = refl
+operator-closing join text h = refl
+operator-closing line_end text h = refl
+
+pub closer-not-opener : (p : Piece) → is_closer p ≡ true → is_opener p ≡ false
+closer-not-opener p h = operator-closing p.class p.text h
+
+-- the first character of a piece that passes a test
+begins_first : (p q : ℕ → Bool) (text : List ℕ) → begins p text ≡ true → begins q text ≡ true → q (first_or_zero text) ≡ true
+begins_first p q [] h k = absurd (both_ways _ refl k)
+begins_first p q (c ∷ cs) h k = k
+
+first_begins : (p q : ℕ → Bool) (text : List ℕ) → begins p text ≡ true → q (first_or_zero text) ≡ true → begins q text ≡ true
+first_begins p q [] h k = absurd (both_ways _ refl h)
+first_begins p q (c ∷ cs) h k = k
+
+operator_begins : (p : ℕ → Bool) (class : Class) (text : List ℕ) → is_operator_that p class text ≡ true → begins p text ≡ true
+operator_begins p operator text h = h
+operator_begins p mark text h = absurd (both_ways _ refl h)
+operator_begins p space text h = absurd (both_ways _ refl h)
+operator_begins p word text h = absurd (both_ways _ refl h)
+operator_begins p string text h = absurd (both_ways _ refl h)
+operator_begins p comment text h = absurd (both_ways _ refl h)
+operator_begins p join text h = absurd (both_ways _ refl h)
+operator_begins p line_end text h = absurd (both_ways _ refl h)
+
+-- depth, piece by piece
+pub depth-opener : (d : ℕ) (p : Piece) → is_opener p ≡ true → depth_after d p ≡ suc d
+depth-opener d p h = rw (h, add-one)
+
+depth-closer : (d : ℕ) (p : Piece) → is_closer p ≡ true → depth_after (suc d) p ≡ d
+depth-closer d p h = rw (closer-not-opener p h, h) (omega arith)
+
+depth-other : (d : ℕ) (p : Piece) → is_opener p ≡ false → is_closer p ≡ false → depth_after d p ≡ d
+depth-other d p h k = rw (h, k)
+
+pub depth_through-append : (d : ℕ) (ps qs : List Piece) → depth_through d (ps ++ qs) ≡ depth_through (depth_through d ps) qs
+depth_through-append d [] qs = refl
+depth_through-append d (p ∷ ps) qs = depth_through-append (depth_after d p) ps qs
+
+pub IsShallow-append : (d : ℕ) (ps qs : List Piece) → IsShallow d ps → IsShallow (depth_through d ps) qs → IsShallow d (ps ++ qs)
+IsShallow-append d [] qs h k = k
+IsShallow-append d (p ∷ ps) qs h k = (h.0, IsShallow-append (depth_after d p) ps qs h.1 k)
+
+pub IsShallow-parts : (d : ℕ) (ps qs : List Piece) → IsShallow d (ps ++ qs) → IsShallow d ps × IsShallow (depth_through d ps) qs
+IsShallow-parts d [] qs h = (tt, h)
+IsShallow-parts d (p ∷ ps) qs h =
+    let others = IsShallow-parts (depth_after d p) ps qs h.1 in
+    ((h.0, others.0), others.1)
+
+-- a balanced list leaves the depth as it was
+pub balanced_depth : (ps : List Piece) → IsBalanced ps → (d : ℕ) → depth_through d ps ≡ d
+balanced_depth ps (balance.none _ is) d = ap (depth_through d) is
+balanced_depth ps (balance.one _ p is other) d =
+    let parts = or_parts (is_opener p) (is_closer p) other in
+    ap (depth_through d) is ∙ depth-other d p parts.0 parts.1
+balanced_depth ps (balance.pair _ inner a b is both within) d =
+    ap (depth_through d) is
+    ∙ depth_through-append d (a ∷ inner) (b ∷ [])
+    ∙ ap (λ (n : ℕ). depth_after (depth_through n inner) b) (depth-opener d a both.opens)
+    ∙ ap (λ (n : ℕ). depth_after n b) (balanced_depth inner within (suc d))
+    ∙ depth-closer d b both.closes
+balanced_depth ps (balance.both _ first second is left right) d =
+    ap (depth_through d) is
+    ∙ depth_through-append d first second
+    ∙ ap (λ (n : ℕ). depth_through n second) (balanced_depth first left d)
+    ∙ balanced_depth second right d
+
+-- stacks, one list of pieces after another
+pub through-append : (o : Option (List Bracket)) (done ps qs : List Piece) → brackets_through o done (ps ++ qs) ≡ brackets_through (brackets_through o done ps) (done ++ ps) qs
+through-append None done ps qs = refl
+through-append (Some st) done [] qs = ap (λ l. brackets_through (Some st) l qs) (sym (append-nil done))
+through-append (Some st) done (p ∷ ps) qs =
+    through-append (brackets_behind st (byte_len (spelled done)) p) (done ++ p ∷ []) ps qs
+    ∙ ap (λ l. brackets_through (brackets_through (brackets_behind st (byte_len (spelled done)) p) (done ++ p ∷ []) ps) l qs) (append_assoc done (p ∷ []) ps)
+
+bracket : ℕ → ℕ → Bracket
+bracket opener place = record { opener = opener; place = place }
+
+pub opener_pushes : (st : List Bracket) (place : ℕ) (p : Piece) → is_opener p ≡ true → length st < 200 → brackets_behind st place p ≡ Some (record { opener = first_or_zero p.text; place = place } ∷ st)
+unfolding brackets_behind
+opener_pushes st place p h deep = rw (h, lt-ltb (length st) 200 deep)
+
+pub closer_pops : (st : List Bracket) (place : ℕ) (b : Bracket) (p : Piece) → is_closer p ≡ true → first_or_zero p.text == closing_of b.opener ≡ true → brackets_behind (b ∷ st) place p ≡ Some st
+unfolding brackets_behind
+closer_pops st place b p h kind = rw (closer-not-opener p h, h, kind)
+
+pub other_keeps : (st : List Bracket) (place : ℕ) (p : Piece) → is_opener p ≡ false → is_closer p ≡ false → brackets_behind st place p ≡ Some st
+unfolding brackets_behind
+other_keeps st place p h k = rw (h, k)
+
+pair_kind : (a b : Piece) → ArePair a b → first_or_zero b.text == closing_of (first_or_zero a.text) ≡ true
+pair_kind a b both =
+    begins_first is_closing (λ d. d == closing_of (first_or_zero a.text)) b.text (operator_begins is_closing b.class b.text both.closes)
+    (begins_first is_opening (λ c. begins (λ d. d == closing_of c) b.text) a.text (operator_begins is_opening a.class a.text both.opens) both.kind)
+
+-- a balanced list leaves the stack as it was
+pub balanced_through : (ps : List Piece) → IsBalanced ps → (st : List Bracket) (done : List Piece) → IsShallow (length st) ps → brackets_through (Some st) done ps ≡ Some st
+balanced_through ps (balance.none _ is) st done shallow = ap (brackets_through (Some st) done) is
+balanced_through ps (balance.one _ p is other) st done shallow =
+    let parts = or_parts (is_opener p) (is_closer p) other in
+    ap (brackets_through (Some st) done) is ∙ ap (λ o. brackets_through o (done ++ p ∷ []) []) (other_keeps st (byte_len (spelled done)) p parts.0 parts.1)
+balanced_through ps (balance.pair _ inner a b is both within) st done shallow =
+    let parts = IsShallow-parts (length st) (a ∷ inner) (b ∷ []) (subst (IsShallow (length st)) is shallow) in
+    let top : Bracket = record { opener = first_or_zero a.text; place = byte_len (spelled done) } in
+    let middle : List Piece = done ++ a ∷ [] in
+    ap (brackets_through (Some st) done) is
+    ∙ through-append (Some st) done (a ∷ inner) (b ∷ [])
+    ∙ ap (λ o. brackets_through (brackets_through o middle inner) (done ++ a ∷ inner) (b ∷ [])) (opener_pushes st (byte_len (spelled done)) a both.opens (parts.0.0 both.opens))
+    ∙ ap (λ o. brackets_through o (done ++ a ∷ inner) (b ∷ [])) (balanced_through inner within (top ∷ st) middle (subst (λ (n : ℕ). IsShallow n inner) (depth-opener (length st) a both.opens) parts.0.1))
+    ∙ ap (λ o. brackets_through o ((done ++ a ∷ inner) ++ b ∷ []) []) (closer_pops st (byte_len (spelled (done ++ a ∷ inner))) top b both.closes (pair_kind a b both))
+balanced_through ps (balance.both _ first second is left right) st done shallow =
+    let parts = IsShallow-parts (length st) first second (subst (IsShallow (length st)) is shallow) in
+    ap (brackets_through (Some st) done) is
+    ∙ through-append (Some st) done first second
+    ∙ ap (λ o. brackets_through o (done ++ first) second) (balanced_through first left st done parts.0)
+    ∙ balanced_through second right st (done ++ first) (subst (λ (n : ℕ). IsShallow n second) (balanced_depth first left (length st)) parts.1)
+
+-- the brackets that are open after pieces, each with the balanced pieces after it
+pub data StandsAt : List Bracket → List Piece → Type 0 where
+  level : (bs : List Bracket) (ps : List Piece) → bs ≡ [] → IsBalanced ps → StandsAt bs ps
+  inside : (bs : List Bracket) (ps : List Piece) (b : Bracket) (others : List Bracket) (outer inner : List Piece) (a : Piece) → bs ≡ b ∷ others → ps ≡ outer ++ a ∷ inner → StandsAt others outer → is_opener a ≡ true → b.opener ≡ first_or_zero a.text → b.place ≡ byte_len (spelled outer) → IsBalanced inner → StandsAt bs ps
+
+pub record Stands (bs : List Bracket) (ps : List Piece) : Type 0 where
+  pub at : StandsAt bs ps
+  pub shallow : IsShallow 0 ps
+  pub depth : depth_through 0 ps ≡ length bs
+
+stands-more : (bs : List Bracket) (ps qs : List Piece) → StandsAt bs ps → IsBalanced qs → StandsAt bs (ps ++ qs)
+stands-more bs ps qs (level _ _ empty within) more = level bs (ps ++ qs) empty (balance.both (ps ++ qs) ps qs refl within more)
+stands-more bs ps qs (inside _ _ b others outer inner a is spell out opens kind place within) more =
+    inside bs (ps ++ qs) b others outer (inner ++ qs) a is (ap (λ l. l ++ qs) spell ∙ append_assoc outer (a ∷ inner) qs) out opens kind place (balance.both (inner ++ qs) inner qs refl within more)
+
+abbrev pub StandsIf : Option (List Bracket) → List Piece → Type 0
+StandsIf None ps = Unit {0}
+StandsIf (Some bs) ps = Stands bs ps
+
+depth_push : (ps : List Piece) (p : Piece) (n m : ℕ) → depth_through 0 ps ≡ n → depth_after n p ≡ m → depth_through 0 (ps ++ p ∷ []) ≡ m
+depth_push ps p n m before after = depth_through-append 0 ps (p ∷ []) ∙ ap (λ (d : ℕ). depth_after d p) before ∙ after
+
+shallow_push : (ps : List Piece) (p : Piece) → IsShallow 0 ps → (is_opener p ≡ true → depth_through 0 ps < 200) → IsShallow 0 (ps ++ p ∷ [])
+shallow_push ps p before room = IsShallow-append 0 ps (p ∷ []) before (room, tt)
+
+stands-opener : (bs : List Bracket) (ps : List Piece) (p : Piece) → Stands bs ps → is_opener p ≡ true → StandsIf (opened_by (first_or_zero p.text) (byte_len (spelled ps)) bs) (ps ++ p ∷ [])
+stands-opener bs ps p stands opens =
+    let top : Bracket = record { opener = first_or_zero p.text; place = byte_len (spelled ps) } in
+    cond_both (nat_lt (length bs) 200) (Some (top ∷ bs)) None (λ o. StandsIf o (ps ++ p ∷ []))
+    (λ room. record {
+      at = inside (top ∷ bs) (ps ++ p ∷ []) top bs ps [] p refl refl stands.at opens refl refl (balance.none [] refl);
+      shallow = shallow_push ps p stands.shallow (λ h. subst (λ (n : ℕ). n < 200) (sym stands.depth) (ltb-true (length bs) 200 room));
+      depth = depth_push ps p (length bs) (suc (length bs)) stands.depth (depth-opener (length bs) p opens);
+    })
+    (λ full. tt)
+
+not_deep : (ps : List Piece) (p : Piece) → is_opener p ≡ false → is_opener p ≡ true → depth_through 0 ps < 200
+not_deep ps p h k = absurd (both_ways _ h k)
+
+stands-pops : (b : Bracket) (bs : List Bracket) (ps : List Piece) (p : Piece) → StandsAt (b ∷ bs) ps → is_closer p ≡ true → first_or_zero p.text == closing_of b.opener ≡ true → StandsAt bs (ps ++ p ∷ [])
+stands-pops b bs ps p (level _ _ empty within) closes kind = absurd (cc)
+stands-pops b bs ps p (inside _ _ c others outer inner a is spell out opens kind place within) closes same =
+    let top : b ≡ c = cc in
+    let rest : others ≡ bs = cc in
+    let both : ArePair a p = record {
+      opens = opens;
+      closes = closes;
+      kind = first_begins is_opening (λ x. begins (λ d. d == closing_of x) p.text) a.text (operator_begins is_opening a.class a.text opens)
+          (first_begins is_closing (λ d. d == closing_of (first_or_zero a.text)) p.text (operator_begins is_closing p.class p.text closes)
+          (subst (λ (x : ℕ). first_or_zero p.text == closing_of x ≡ true) (ap (λ (x : Bracket). x.opener) top ∙ kind) same));
+    } in
+    subst (StandsAt bs) (sym (ap (λ l. l ++ p ∷ []) spell ∙ append_assoc outer (a ∷ inner) (p ∷ [])))
+    (stands-more bs outer (a ∷ inner ++ p ∷ []) (subst (λ l. StandsAt l outer) rest out) (balance.pair (a ∷ inner ++ p ∷ []) inner a p refl both within))
+
+stands-closer : (bs : List Bracket) (ps : List Piece) (p : Piece) → Stands bs ps → is_closer p ≡ true → StandsIf (closed_by (first_or_zero p.text) bs) (ps ++ p ∷ [])
+stands-closer [] ps p stands closes = tt
+stands-closer (b ∷ bs) ps p stands closes =
+    cond_both (first_or_zero p.text == closing_of b.opener) (Some bs) None (λ o. StandsIf o (ps ++ p ∷ []))
+    (λ same. record {
+      at = stands-pops b bs ps p stands.at closes same;
+      shallow = shallow_push ps p stands.shallow (not_deep ps p (closer-not-opener p closes));
+      depth = depth_push ps p (suc (length bs)) (length bs) stands.depth (depth-closer (length bs) p closes);
+    })
+    (λ other. tt)
+
+-- one more piece
+pub stands-push : (bs : List Bracket) (ps : List Piece) (p : Piece) → Stands bs ps → StandsIf (brackets_behind bs (byte_len (spelled ps)) p) (ps ++ p ∷ [])
+unfolding brackets_behind
+stands-push bs ps p stands =
+    cond_both (is_opener p) _ _ (λ o. StandsIf o (ps ++ p ∷ []))
+    (λ opens. stands-opener bs ps p stands opens)
+    (λ opens_not. cond_both (is_closer p) _ _ (λ o. StandsIf o (ps ++ p ∷ []))
+    (λ closes. stands-closer bs ps p stands closes)
+    (λ closes_not. record {
+      at = stands-more bs ps (p ∷ []) stands.at (balance.one (p ∷ []) p refl (or_from _ _ opens_not closes_not));
+      shallow = shallow_push ps p stands.shallow (not_deep ps p opens_not);
+      depth = depth_push ps p (length bs) (length bs) stands.depth (depth-other (length bs) p opens_not closes_not);
+    }))
+
+-- more pieces
+pub stands-through : (ps done : List Piece) (o : Option (List Bracket)) → StandsIf o done → StandsIf (brackets_through o done ps) (done ++ ps)
+stands-through ps done None stands = tt
+stands-through [] done (Some bs) stands = subst (Stands bs) (sym (append-nil done)) stands
+stands-through (p ∷ ps) done (Some bs) stands =
+    subst (StandsIf (brackets_through (brackets_behind bs (byte_len (spelled done)) p) (done ++ p ∷ []) ps)) (append_assoc done (p ∷ []) ps)
+    (stands-through ps (done ++ p ∷ []) (brackets_behind bs (byte_len (spelled done)) p) (stands-push bs done p stands))
+
+stands-none : Stands [] []
+stands-none = record { at = level [] [] refl (balance.none [] refl); shallow = tt; depth = refl }
+
+-- where the stack comes to, the pieces stand so
+pub stands : (ps : List Piece) (bs : List Bracket) → brackets_of ps ≡ Some bs → Stands bs ps
+stands ps bs runs = subst (λ o. StandsIf o ps) runs (stands-through ps [] (Some []) stands-none)
+
+balanced_at : (bs : List Bracket) (ps : List Piece) → bs ≡ [] → StandsAt bs ps → IsBalanced ps
+balanced_at bs ps empty (level _ _ is within) = within
+balanced_at bs ps empty (inside _ _ b others outer inner a is spell out opens kind place within) = absurd (cc)
+
+-- an empty stack at the end says that brackets are in pairs, and never more than 200 open
+pub balanced-from_stack : (ps : List Piece) → brackets_of ps ≡ Some [] → IsBalanced ps × IsShallow 0 ps
+balanced-from_stack ps runs =
+    let at_end = stands ps [] runs in
+    (balanced_at [] ps refl at_end.at, at_end.shallow)
+
+pub stack-from_balanced : (ps : List Piece) → IsBalanced ps → IsShallow 0 ps → brackets_of ps ≡ Some []
+stack-from_balanced ps balanced shallow = balanced_through ps balanced [] [] shallow
+
+-- the stack of the first pieces
+pub stack_before : (ps qs : List Piece) (bs : List Bracket) → brackets_of (ps ++ qs) ≡ Some bs → (first : List Bracket) × (brackets_of ps ≡ Some first)
+stack_before ps qs bs runs = go (brackets_of ps) refl
+  where
+    go : (o : Option (List Bracket)) → brackets_of ps ≡ o → (first : List Bracket) × (brackets_of ps ≡ Some first)
+    go None is =
+        let stuck : None ≡ Some bs = sym (ap (λ x. brackets_through x ps qs) is) ∙ sym (through-append (Some []) [] ps qs) ∙ runs in
+        absurd (cc)
+    go (Some first) is = (first, is)
+
+-- no more than 200 are open
+abbrev pub HasRoom : Option (List Bracket) → Type 0
+HasRoom None = Unit {0}
+HasRoom (Some bs) = length bs ≤ 200
+
+room-closer : (c : ℕ) (bs : List Bracket) → length bs ≤ 200 → HasRoom (closed_by c bs)
+room-closer c [] room = tt
+room-closer c (b ∷ bs) room = cond_both (c == closing_of b.opener) (Some bs) None HasRoom (λ same. omega arith) (λ other. tt)
+
+room-push : (bs : List Bracket) (place : ℕ) (p : Piece) → length bs ≤ 200 → HasRoom (brackets_behind bs place p)
+unfolding brackets_behind
+room-push bs place p room =
+    cond_both (is_opener p) _ _ HasRoom
+    (λ opens. cond_both (nat_lt (length bs) 200) _ _ HasRoom (λ less. ltb-true (length bs) 200 less) (λ full. tt))
+    (λ opens_not. cond_both (is_closer p) _ _ HasRoom (λ closes. room-closer (first_or_zero p.text) bs room) (λ closes_not. room))
+
+room-through : (ps done : List Piece) (o : Option (List Bracket)) → HasRoom o → HasRoom (brackets_through o done ps)
+room-through ps done None room = tt
+room-through [] done (Some bs) room = room
+room-through (p ∷ ps) done (Some bs) room = room-through ps (done ++ p ∷ []) (brackets_behind bs (byte_len (spelled done)) p) (room-push bs (byte_len (spelled done)) p room)
+
+pub room_in : (ps : List Piece) (bs : List Bracket) → brackets_of ps ≡ Some bs → length bs ≤ 200
+room_in ps bs runs = subst HasRoom runs (room-through ps [] (Some []) (omega arith))

@@ -1,0 +1,69 @@
+-- Lists of pieces one after another.
+use Rattle.std.proofs.Common.{◌≡◌, ℕ, false, List, [], ◌∷◌, ◌++◌, refl, sym, ap, ◌∙◌, subst, append_assoc, append-nil}
+use Rattle.py_lines.specs.Piece.{Class, Piece, InClass, MayPrecede, is_mark_class, begins_marked, spelled, AreReadBefore, joined}
+
+abbrev pub piece : Class → List ℕ → Piece
+piece class text = record { class = class; text = text }
+
+pub spelled-append : (ps qs : List Piece) → spelled (ps ++ qs) ≡ spelled ps ++ spelled qs
+spelled-append [] qs = refl
+spelled-append (p ∷ ps) qs = ap (λ t. p.text ++ t) (spelled-append ps qs) ∙ sym (append_assoc p.text (spelled ps) (spelled qs))
+
+-- no mark stands after a piece: whether the pieces are none, or the next one is no mark
+abbrev pub MayFollow : List Piece → List Piece → Type 0
+MayFollow [] qs = Unit {0}
+MayFollow (p ∷ ps) qs = begins_marked qs ≡ false
+
+begins_marked-append : (ps qs : List Piece) → begins_marked ps ≡ false → begins_marked qs ≡ false → begins_marked (ps ++ qs) ≡ false
+begins_marked-append [] qs first second = second
+begins_marked-append (p ∷ ps) qs first second = first
+
+-- pieces that are read before others, and these before the rest
+pub AreReadBefore-append : (ps qs : List Piece) (rest : List ℕ) → AreReadBefore ps (spelled qs ++ rest) → AreReadBefore qs rest → MayFollow ps qs → AreReadBefore (ps ++ qs) rest
+AreReadBefore-append [] qs rest first second follows = second
+AreReadBefore-append (p ∷ ps) qs rest first second follows = (
+  first.0,
+  subst (MayPrecede p.class p.text) (sym (append_assoc (spelled ps) (spelled qs) rest) ∙ ap (λ t. t ++ rest) (sym (spelled-append ps qs))) first.1,
+  begins_marked-append ps qs first.2 follows,
+  AreReadBefore-append ps qs rest first.3 second (later ps follows),
+)
+  where
+    later : (os : List Piece) → begins_marked qs ≡ false → MayFollow os qs
+    later [] h = tt
+    later (o ∷ os) h = h
+
+-- the second part of pieces that are read
+pub AreReadBefore-second : (ps qs : List Piece) (rest : List ℕ) → AreReadBefore (ps ++ qs) rest → AreReadBefore qs rest
+AreReadBefore-second [] qs rest fit = fit
+AreReadBefore-second (p ∷ ps) qs rest fit = AreReadBefore-second ps qs rest fit.3
+
+-- one more piece
+pub AreReadBefore-push : (ps : List Piece) (class : Class) (text rest : List ℕ) → AreReadBefore ps (text ++ rest) → InClass class text → MayPrecede class text rest → MayFollow ps (piece class text ∷ []) → AreReadBefore (ps ++ piece class text ∷ []) rest
+AreReadBefore-push ps class text rest fit is before follows =
+    AreReadBefore-append ps (piece class text ∷ []) rest (subst (AreReadBefore ps) (ap (λ t. t ++ rest) (sym (append-nil text))) fit) (is, before, refl, tt) follows
+
+pub spelled-push : (ps : List Piece) (class : Class) (text : List ℕ) → spelled (ps ++ piece class text ∷ []) ≡ spelled ps ++ text
+spelled-push ps class text = spelled-append ps (piece class text ∷ []) ∙ ap (λ t. spelled ps ++ t) (append-nil text)
+
+-- a piece that is no mark follows any pieces
+pub follows_any : (ps : List Piece) (class : Class) (text : List ℕ) → is_mark_class class ≡ false → MayFollow ps (piece class text ∷ [])
+follows_any [] class text h = tt
+follows_any (p ∷ ps) class text h = h
+
+pub joined-append : (xs ys : List (List ℕ)) → joined (xs ++ ys) ≡ joined xs ++ joined ys
+joined-append [] ys = refl
+joined-append (x ∷ xs) ys = ap (λ t. x ++ t) (joined-append xs ys) ∙ sym (append_assoc x (joined xs) (joined ys))
+
+-- the first part of pieces that are read
+pub AreReadBefore-first : (ps qs : List Piece) (rest : List ℕ) → AreReadBefore (ps ++ qs) rest → AreReadBefore ps (spelled qs ++ rest)
+AreReadBefore-first [] qs rest fit = tt
+AreReadBefore-first (p ∷ ps) qs rest fit = (
+  fit.0,
+  subst (MayPrecede p.class p.text) (ap (λ t. t ++ rest) (spelled-append ps qs) ∙ append_assoc (spelled ps) (spelled qs) rest) fit.1,
+  marked-first ps qs fit.2,
+  AreReadBefore-first ps qs rest fit.3,
+)
+  where
+    marked-first : (os rs : List Piece) → begins_marked (os ++ rs) ≡ false → begins_marked os ≡ false
+    marked-first [] rs h = refl
+    marked-first (o ∷ os) rs h = h

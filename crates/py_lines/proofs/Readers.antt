@@ -1,0 +1,4 @@
+-- What the reader of logical lines answers, from one state to the next.
+pub mod LineAnswers
+pub mod FaultAnswers
+pub mod EndAnswers

@@ -1,0 +1,220 @@
+-- The reader's state after a line.
+use Rattle.std.proofs.Common.{◌≡◌, ℕ, ◌+◌, ◌-◌, ◌<◌, ◌≤◌, true, None, Some, List, [], ◌∷◌, ◌++◌, length, take, drop, refl, sym, ap, ◌∙◌, subst, inl, append_assoc, append-nil, arith, length-append, length-drop, length-take}
+use Rattle.std.specs.Prelude.{encode_utf8_all, IsUtf8}
+use Rattle.std.specs.Str.{all_scalars, IsCharBoundary}
+use Rattle.std.specs.Borrow.{Bor}
+use Rattle.std.proofs.lemmas.List.{take-append-drop}
+use Rattle.std.proofs.lemmas.Str.{length-le-encodes, encodes-append, IsUtf8-drop, IsUtf8-had, IsCharBoundary-from_rest, IsCharBoundary-at_seam}
+use Rattle.std.proofs.Math.Seq.{take-append_seam}
+use Rattle.py_lines.specs.Piece.{Class, line_end, Piece, InClass, spelled, AreReadBefore}
+use Rattle.py_lines.specs.LogicalLine.{LogicalLine, cut, byte_len, line_ends, line_of, tokens_from, kind_of, indent_of, end_len_of}
+use Rattle.py_lines.specs.Balance.{depth_after}
+use Rattle.py_lines.specs.Balance as brackets
+use Rattle.py_lines.specs.Reader.{HasGiven, Continues, standing_at}
+use Rattle.py_lines.specs.Private.Machine.{Scanned, run_from, brackets_of}
+use Rattle.py_lines.specs.declared.scan.Scan.{Scan}
+use Rattle.py_lines.specs.declared.scan.Stop.{Stop}
+use Rattle.py_lines.specs.declared.scan.Stop.TheVariants as stops
+use Rattle.py_lines.specs.declared.source.Source.{Source}
+use Rattle.py_lines.specs.Private.Scan.{line_start}
+use Rattle.py_lines.specs.Reader.View.{reader_of}
+use Rattle.py_lines.specs.Private.Source.{line_of_source, first_mode, PassesLine, HasScanned}
+use Rattle.py_lines.specs.Token.{EachLiesIn}
+use Rattle.py_lines.proofs.Text.Utf8Prefixes.{front_chars, all_scalars-parts, one_decoding}
+use Rattle.py_lines.proofs.Pieces.PieceLists.{spelled-append, AreReadBefore-second}
+use Rattle.py_lines.proofs.Lexings.LinePrefix.{line_first}
+use Rattle.py_lines.proofs.LogicalLines.TokenPlaces.{tokens_lie}
+use Rattle.py_lines.proofs.LogicalLines.Cuts.{byte_len-append, one_line}
+use Rattle.py_lines.proofs.Scanner.LineCount.{line_ends-bytes}
+use Rattle.py_lines.proofs.Scanner.TextRun.{base_of, follows_base}
+use Rattle.py_lines.proofs.Lexings.GivenLines.{Situation, situate, IsEnded, one_more}
+use Rattle.py_lines.proofs.Scanner.PieceEnd.{no_class_bracket}
+use Rattle.py_lines.proofs.Lexings.FirstLines.{given_begin}
+
+-- the pieces of a line that was scanned whole, and what the scan says of them
+pub record IsLine (m : Scanned) (scan : Scan) (read : List ℕ) (end_len : ℕ) (u : List Piece) : Type 0 where
+  pub to : Scanned
+  pub runs : run_from (Some m) read ≡ Some to
+  pub spell : spelled u ≡ read
+  pub whole : cut 0 u ≡ u ∷ []
+  pub stacked : brackets_of u ≡ Some []
+  pub stop : scan.stop ≡ byte_len read
+  pub here : scan.count.line ≡ scan.line + line_ends read
+  pub tokens : scan.tokens.items ≡ tokens_from 0 scan.line u
+  pub kind : scan.kind ≡ kind_of u
+  pub indent : scan.indent ≡ indent_of u
+  pub ends : end_len ≡ end_len_of u
+  pub some : 0 < byte_len read
+
+-- where the scan stopped, given the lines so far
+pub situation : (s : Source) (stop : Stop) (lines : List LogicalLine) (has : HasScanned s stop) → HasGiven (reader_of s) lines → Situation (reader_of s) s.characters.now lines has.scans.read has.scans.rest
+situation s stop lines has given = situate (reader_of s) s.characters.now lines has.scans.read has.scans.rest given (IsUtf8-had _ s.text) s.front s.bad has.more has.scans.spell
+
+-- a place in what was scanned
+pub record Within (read : List ℕ) (behind : ℕ) : Type 0 where
+  pub front : List ℕ
+  pub later : List ℕ
+  pub split : front ++ later ≡ read
+  pub size : behind ≡ byte_len front
+
+-- what follows a place in the scanned line is text, and the place is a boundary
+pub front_spells : (s : Source) (stop : Stop) (has : HasScanned s stop) (behind : ℕ) (w : Within has.scans.read behind) → encode_utf8_all w.front ++ (encode_utf8_all w.later ++ has.scans.rest) ≡ drop s.place s.characters.now
+front_spells s stop has behind w = sym (append_assoc (encode_utf8_all w.front) (encode_utf8_all w.later) has.scans.rest) ∙ ap (λ t. t ++ has.scans.rest) (sym (encodes-append w.front w.later) ∙ ap encode_utf8_all w.split) ∙ has.scans.spell
+
+rest_text : (s : Source) (stop : Stop) (has : HasScanned s stop) (behind : ℕ) (w : Within has.scans.read behind) → IsUtf8 (encode_utf8_all w.later ++ has.scans.rest)
+rest_text s stop has behind w =
+    let utf8 = IsUtf8-drop s.characters.now s.place (IsUtf8-had _ s.text) s.boundary in
+    let next = front_chars w.front utf8.0 (encode_utf8_all w.later ++ has.scans.rest) (utf8.1.1 ∙ sym (front_spells s stop has behind w)) in
+    (next.0, ((all_scalars-parts w.front next.0 (ap all_scalars (sym next.1) ∙ utf8.1.0)).1, next.2))
+
+pub place_boundary : (s : Source) (stop : Stop) (has : HasScanned s stop) (behind : ℕ) → Within has.scans.read behind → IsCharBoundary s.characters.now (s.place + behind)
+place_boundary s stop has behind w =
+    subst (λ (n : ℕ). IsCharBoundary s.characters.now (s.place + n)) (sym w.size) (IsCharBoundary-from_rest s.characters.now s.place (byte_len w.front) s.within (IsCharBoundary-at_seam (drop s.place s.characters.now) (encode_utf8_all w.front) (encode_utf8_all w.later ++ has.scans.rest) (sym (front_spells s stop has behind w)) (rest_text s stop has behind w)))
+
+pub place_room : (s : Source) (stop : Stop) (has : HasScanned s stop) (behind : ℕ) → Within has.scans.read behind → s.place + behind ≤ length s.characters.now
+place_room s stop has behind w = omega (arith, w.size, ap length (front_spells s stop has behind w), length-append (encode_utf8_all w.front) (encode_utf8_all w.later ++ has.scans.rest), length-drop s.place s.characters.now, s.within)
+
+pub all_within : (read : List ℕ) (n : ℕ) → n ≡ byte_len read → Within read n
+all_within read n size = record { front = read; later = []; split = append-nil read; size = size }
+
+-- the logical line that was scanned
+given_line : (old mid new : Source) (stop : Stop) (has : HasScanned old stop) (end_len : ℕ) (u : List Piece) → IsLine (line_start (first_mode old.place)) mid.scan has.scans.read end_len u → mid.place ≡ old.place → mid.characters ≡ old.characters → mid.scan.line ≡ old.scan.line → PassesLine mid end_len new → line_of_source new ≡ line_of old.place old.line u
+given_line old mid new stop has end_len u line place characters same gives =
+    let start : new.start ≡ old.place = gives.start ∙ place in
+    let number : new.scan.line ≡ old.line = ap (λ (s : Scan). s.line) gives.scan ∙ same ∙ has.line in
+    let size : new.place - new.start ≡ byte_len has.scans.read = omega (arith, gives.place, gives.start, line.stop, place) in
+    let text : take (new.place - new.start) (drop new.start new.characters.now) ≡ encode_utf8_all (spelled u)
+    = ap (λ (n : ℕ). take n (drop new.start new.characters.now)) size ∙ ap (λ (n : ℕ). take (byte_len has.scans.read) (drop n new.characters.now)) start ∙ ap (λ (b : Bor (List ℕ)). take (byte_len has.scans.read) (drop old.place b.now)) (gives.characters ∙ characters)
+    ∙ ap (take (byte_len has.scans.read)) (sym has.scans.spell) ∙ take-append_seam (encode_utf8_all has.scans.read) has.scans.rest ∙ ap encode_utf8_all (sym line.spell) in
+    let kind = ap (λ (s : Scan). s.kind) gives.scan ∙ line.kind in
+    let tokens = ap (λ (s : Scan). s.tokens.items) gives.scan ∙ line.tokens ∙ ap (λ (n : ℕ). tokens_from 0 n u) (same ∙ has.line) in
+    let indent = ap (λ (s : Scan). s.indent) gives.scan ∙ line.indent in
+    let ends = gives.ends ∙ line.ends in
+    λ i. record { kind = kind i; text = text i; tokens = tokens i; offset = start i; line = number i; indent = indent i; end_len = ends i }
+
+-- its tokens lie in it
+lie_in_line : (new : Source) (offset number : ℕ) (u : List Piece) → line_of_source new ≡ line_of offset number u → all_scalars (spelled u) ≡ true → EachLiesIn (line_of_source new).text new.scan.tokens.items
+lie_in_line new offset number u is scalars = subst (λ (l : LogicalLine). EachLiesIn l.text l.tokens) (sym is) (tokens_lie number u scalars)
+
+-- one more line was given
+pub continues : (old mid new : Source) (stop : Stop) (has : HasScanned old stop) (end_len : ℕ) (u : List Piece) → IsLine (line_start (first_mode old.place)) mid.scan has.scans.read end_len u → mid.bytes ≡ old.bytes → mid.place ≡ old.place → mid.fault ≡ old.fault → mid.characters ≡ old.characters → mid.scan.line ≡ old.scan.line → PassesLine mid end_len new
+    → ((lines : List LogicalLine) (s : Situation (reader_of old) old.characters.now lines has.scans.read has.scans.rest) → AreReadBefore u s.after)
+    → ((lines : List LogicalLine) (s : Situation (reader_of old) old.characters.now lines has.scans.read has.scans.rest) → IsEnded u (s.after ++ s.given.tail ≡ []))
+    → Continues (reader_of old) (line_of_source new) (reader_of new) × EachLiesIn (line_of_source new).text new.scan.tokens.items
+continues old mid new stop has end_len u line bytes place fault characters same gives fit ended =
+    let is = given_line old mid new stop has end_len u line place characters same gives in
+    let size : length (line_of_source new).text ≡ byte_len has.scans.read = ap (λ (l : LogicalLine). length l.text) is ∙ ap byte_len line.spell in
+    let text : new.bytes.now ≡ old.bytes.now = ap (λ (b : Bor (List ℕ)). b.now) (gives.bytes ∙ bytes) in
+    let here : new.place ≡ old.place + byte_len has.scans.read = gives.place ∙ ap (λ (n : ℕ). n + mid.scan.stop) place ∙ ap (λ (n : ℕ). old.place + n) line.stop in
+    let no_fault : new.fault ≡ None = gives.fault ∙ fault ∙ has.no_fault in
+    let reached : new.line ≡ old.line + line_ends has.scans.read = gives.line ∙ line.here ∙ ap (λ (n : ℕ). n + line_ends has.scans.read) (same ∙ has.line) in
+    let more : (lines : List LogicalLine) → HasGiven (reader_of old) lines → HasGiven (reader_of new) (lines ++ line_of_source new ∷ [])
+    = λ lines given.
+    let s = situation old stop lines has given in
+    let base_fit = subst (AreReadBefore s.given.pieces) s.split s.given.fit in
+    let base = base_of old.place s.given.pieces (has.scans.read ++ s.after) base_fit s.ends s.given.place in
+    subst (λ (l : LogicalLine). HasGiven (reader_of new) (lines ++ l ∷ [])) (sym is) (one_more (reader_of old) (reader_of new) old.characters.now lines has.scans.read has.scans.rest u s line.spell (fit lines s) (follows_base old.place s.given.pieces u has.scans.read s.after line.to base line.spell (fit lines s) line.runs) line.stacked line.whole (ended lines s) text here reached no_fault) in (
+      record {
+        given = more;
+        begins = λ lines given. given_begin (reader_of new) (lines ++ line_of_source new ∷ []) (more lines given);
+        text = text;
+        place = here ∙ ap (λ (n : ℕ). old.place + n) (sym size);
+        some_text = omega (arith, size, line.some);
+        within = omega (arith, new.within, ap length new.front, length-take (length new.characters.now) new.bytes.now);
+        fault = has.no_fault;
+        no_fault = no_fault;
+      },
+      lie_in_line new old.place old.line u is (ap all_scalars line.spell ∙ has.scans.scalars),
+    )
+
+-- the bytes of the line end after pieces
+end_len-push : (ps : List Piece) (p : Piece) → p.class ≡ line_end → end_len_of (ps ++ p ∷ []) ≡ byte_len p.text
+end_len-push [] p ends = ap (λ (k : Class). end_len_of (record { class = k; text = p.text } ∷ [])) ends
+end_len-push (q ∷ []) p ends = ap (λ (k : Class). end_len_of (record { class = k; text = p.text } ∷ [])) ends
+end_len-push (q ∷ r ∷ rs) p ends = end_len-push (r ∷ rs) p ends
+
+-- a line end isn't empty
+first_bytes : (last : Piece) → last.class ≡ line_end → InClass last.class last.text → 0 < byte_len last.text
+first_bytes last class holds =
+    let text = line_first last class holds in
+    omega (arith, length-le-encodes last.text, ap length text.2)
+
+-- the characters after the scanned line
+has_after : (old : Source) (len : ℕ) → HasScanned old (stops.LineEnd len) → List ℕ
+has_after old len has = (rest_text old (stops.LineEnd len) has (byte_len has.scans.read) (all_within has.scans.read (byte_len has.scans.read) refl)).0
+
+after_is : (old : Source) (len : ℕ) (has : HasScanned old (stops.LineEnd len)) → encode_utf8_all (has_after old len has) ≡ has.scans.rest
+unfolding has_after all_within
+after_is old len has = (rest_text old (stops.LineEnd len) has (byte_len has.scans.read) (all_within has.scans.read (byte_len has.scans.read) refl)).1.1
+
+-- a line with its line end
+pub line_ended : (old : Source) (len : ℕ) (has : HasScanned old (stops.LineEnd len)) → IsLine (line_start (first_mode old.place)) old.scan has.scans.read len (has.scans.stops.body ++ has.scans.stops.last ∷ [])
+line_ended old len has =
+    let at = has.scans.stops in
+    let t = at.tallies in
+    let spell = append-nil (spelled (at.body ++ at.last ∷ [])) ∙ at.spell in
+    record {
+      to = at.to;
+      runs = at.runs;
+      spell = at.spell;
+      whole = one_line 0 at.body at.last at.are.one_line at.are.class at.are.level;
+      stacked = no_class_bracket at.body at.last at.are.class at.are.paired;
+      stop = t.stop ∙ ap byte_len spell;
+      here = t.here ∙ ap (λ l. old.scan.line + line_ends l) spell;
+      tokens = t.tokens;
+      kind = t.kind;
+      indent = t.indent;
+      ends = at.are.size ∙ sym (end_len-push at.body at.last at.are.class);
+      some = omega (arith, ap byte_len (sym at.spell ∙ spelled-append at.body (at.last ∷ [])), byte_len-append (spelled at.body) (at.last.text ++ []), ap byte_len (append-nil at.last.text), first_bytes at.last at.are.class (AreReadBefore-second at.body (at.last ∷ []) (has_after old len has) (at.fit (has_after old len has) (after_is old len has))).0);
+    }
+
+-- a line that its line end closed
+pub continues_line : (old new : Source) (len : ℕ) (has : HasScanned old (stops.LineEnd len)) → PassesLine old len new → Continues (reader_of old) (line_of_source new) (reader_of new) × EachLiesIn (line_of_source new).text new.scan.tokens.items
+continues_line old new len has gives =
+    let at = has.scans.stops in
+    continues old old new (stops.LineEnd len) has len (at.body ++ at.last ∷ []) (line_ended old len has) refl refl refl refl refl gives (λ lines s. at.fit s.after s.follow) (λ lines s. IsEnded.by_line at.body at.last refl at.are.class at.are.level)
+
+pub few_lines_line : (old : Source) (len : ℕ) (has : HasScanned old (stops.LineEnd len)) → old.scan.count.line ≤ old.place + old.scan.stop + 1
+few_lines_line old len has =
+    let line = line_ended old len has in
+    omega (arith, line.here, line.stop, line_ends-bytes has.scans.read, has.line, old.few_lines)
+
+-- a reader at the text's start has given no line
+pub start_given : (s : Source) → s.place ≡ 0 → s.line ≡ 1 → s.fault ≡ None → HasGiven (reader_of s) []
+start_given s place line fault =
+    let utf8 = IsUtf8-had _ s.text in
+    record {
+      characters = utf8.0;
+      tail = drop (length s.characters.now) s.bytes.now;
+      pieces = [];
+      rest = utf8.0;
+      decodes = record { are = utf8.1.0; spell = ap (λ t. t ++ drop (length s.characters.now) s.bytes.now) (utf8.1.1 ∙ s.front) ∙ take-append-drop (length s.characters.now) s.bytes.now; bad = s.bad };
+      spell = refl;
+      fit = tt;
+      balanced = brackets.none [] refl;
+      shallow = tt;
+      ended = inl (inl refl);
+      place = place;
+      line = line;
+      no_fault = fault;
+      cut = refl;
+    }
+
+-- where lines that a reader has given end, a character begins, and the lines before it are no more than its bytes
+pub record Stands (s : Source) (place line : ℕ) : Type 0 where
+  pub boundary : IsCharBoundary s.characters.now place
+  pub few_lines : line ≤ place + 1
+
+pub given_stands : (s : Source) (place line : ℕ) (lines : List LogicalLine) → HasGiven (standing_at s.bytes.now place line) lines → Stands s place line
+given_stands s place line lines given =
+    let utf8 = IsUtf8-had _ s.text in
+    let spelling = encode_utf8_all (spelled given.pieces) in
+    let whole : encode_utf8_all utf8.0 ++ drop (length s.characters.now) s.bytes.now ≡ encode_utf8_all given.characters ++ given.tail
+    = ap (λ t. t ++ drop (length s.characters.now) s.bytes.now) (utf8.1.1 ∙ s.front) ∙ take-append-drop (length s.characters.now) s.bytes.now ∙ sym given.decodes.spell in
+    let same = one_decoding utf8.0 given.characters (drop (length s.characters.now) s.bytes.now) given.tail utf8.1.0 given.decodes.are s.bad given.decodes.bad whole in
+    let split : s.characters.now ≡ spelling ++ encode_utf8_all given.rest = sym utf8.1.1 ∙ ap encode_utf8_all (same.0 ∙ sym given.spell) ∙ encodes-append (spelled given.pieces) given.rest in
+    let scalars = (all_scalars-parts (spelled given.pieces) given.rest (ap all_scalars given.spell ∙ given.decodes.are)).1 in
+    record {
+      boundary = subst (IsCharBoundary s.characters.now) (sym given.place) (IsCharBoundary-at_seam s.characters.now spelling (encode_utf8_all given.rest) split (given.rest, (scalars, refl)));
+      few_lines = omega (arith, given.place, given.line, line_ends-bytes (spelled given.pieces));
+    }

@@ -1,0 +1,8 @@
+-- The scan of one logical line follows the machine.
+pub mod BracketStack
+pub mod PieceEnd
+pub mod NextCharacter
+pub mod LineRun
+pub mod TextRun
+pub mod LineCount
+pub mod Increments

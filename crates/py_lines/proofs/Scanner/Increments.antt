@@ -1,0 +1,83 @@
+-- What one more piece, and one more character, do to what a reader counts.
+use Rattle.std.proofs.Common.{◌≡◌, ℕ, ◌+◌, Bool, true, false, not, ◌&&◌, ◌||◌, ◌==◌, Option, None, Some, List, [], ◌∷◌, ◌++◌, length, refl, sym, ap, ◌∙◌, arith}
+use Rattle.std.specs.Prelude.{if◌then◌else◌}
+use Rattle.std.proofs.lemmas.Bool.{and_right, both_ways}
+use Rattle.py_lines.specs.Character.{is_line_feed, is_return}
+use Rattle.py_lines.specs.Piece.{line_end, Piece, ends, return, spelled, AreReadBefore}
+use Rattle.py_lines.specs.Balance.{depth_after, depth_through}
+use Rattle.py_lines.specs.LogicalLine.{is_line_end_class, byte_len, ends_line, line_ends}
+use Rattle.py_lines.specs.Lexed.{EndsLine}
+use Rattle.py_lines.specs.declared.mode.Mode.TheVariants as modes
+use Rattle.py_lines.specs.Private.Scan.{counts_behind}
+use Rattle.py_lines.specs.Private.Machine.{text_start, run_from, Bracket, brackets_behind, brackets_through, brackets_of}
+use Rattle.py_lines.proofs.Text.CharacterTests.{return_is, feed-not-return}
+use Rattle.py_lines.proofs.Pieces.PieceLists.{piece, AreReadBefore-push, follows_any}
+use Rattle.py_lines.proofs.Pieces.OpenBrackets.{through-append, stands, depth_through-append}
+use Rattle.py_lines.proofs.Machine.Soundness.{sound_at}
+use Rattle.py_lines.proofs.Lexings.LinePrefix.{EndsNoLine, depth_front}
+
+-- the stack after one more piece
+pub stack_push : (done : List Piece) (p : Piece) (st : List Bracket) → brackets_of done ≡ Some st → brackets_of (done ++ p ∷ []) ≡ brackets_behind st (byte_len (spelled done)) p
+stack_push done p st stack = through-append (Some []) [] done (p ∷ []) ∙ ap (λ o. brackets_through o done (p ∷ [])) stack ∙ go (brackets_behind st (byte_len (spelled done)) p)
+  where
+    go : (o : Option (List Bracket)) → brackets_through o (done ++ p ∷ []) [] ≡ o
+    go None = refl
+    go (Some bs) = refl
+
+-- the depth after a line's pieces is the number of open brackets
+pub depth_is_stack : (front others : List Piece) (st : List Bracket) → EndsLine front → brackets_of (front ++ others) ≡ Some st → depth_through 0 others ≡ length st
+depth_is_stack front others st ended stack =
+    ap (λ (d : ℕ). depth_through d others) (sym (depth_front front ended)) ∙ sym (depth_through-append 0 front others) ∙ (stands (front ++ others) st stack).depth
+
+-- one more piece that doesn't end the line
+pub EndsNoLine-push : (d : ℕ) (ps : List Piece) (p : Piece) → EndsNoLine d ps → is_line_end_class p.class && (depth_through d ps == 0) ≡ false → EndsNoLine d (ps ++ p ∷ [])
+EndsNoLine-push d [] p none last = (last, tt)
+EndsNoLine-push d (q ∷ ps) p none last = (none.0, EndsNoLine-push (depth_after d q) ps p none.1 last)
+
+-- a CR that no LF follows is read before what follows
+pub return_read : (before : List ℕ) (done : List Piece) (held : List ℕ) (c : ℕ) (more : List ℕ) → run_from (Some text_start) before ≡ Some (record { done = done; mode = modes.Return; held = held }) → is_line_feed c ≡ false → AreReadBefore (done ++ piece line_end held ∷ []) (c ∷ more)
+return_read before done held c more runs other =
+    let sound = sound_at before (record { done = done; mode = modes.Return; held = held }) runs in
+    AreReadBefore-push done line_end held (c ∷ more) (sound.fit (c ∷ more)) (return (sound.holds.1 ∙ ap (λ d. d ∷ []) (return_is sound.holds.0 sound.holds.2))) (and_right _ _ other) (follows_any done line_end held refl)
+
+counted : Bool → ℕ
+counted b = if b then 1 else 0
+
+counts_alone : (c : ℕ) → counted (ends_line c []) ≡ counts_behind false c
+unfolding counted counts_behind
+counts_alone c = go (is_return c) (is_line_feed c)
+  where
+    go : (r f : Bool) → counted (f || (r && true)) ≡ (if r then 1 else (if f && true then 1 else 0))
+    go true true = refl
+    go true false = refl
+    go false true = refl
+    go false false = refl
+
+counts_two : (x c : ℕ) → counted (ends_line x (c ∷ [])) + counted (ends_line c []) ≡ counted (ends_line x []) + counts_behind (is_return x) c
+unfolding counted counts_behind
+counts_two x c = go (is_return x) (is_line_feed x) (is_return c) (is_line_feed c) (λ h. feed-not-return x h) (λ h. feed-not-return c h)
+  where
+    go : (rx fx rc fc : Bool) → (fx ≡ true → rx ≡ false) → (fc ≡ true → rc ≡ false) → counted (fx || (rx && not fc)) + counted (fc || (rc && true)) ≡ counted (fx || (rx && true)) + (if rc then 1 else (if fc && not rx then 1 else 0))
+    go rx fx true true a b = absurd (both_ways _ (b refl) refl)
+    go true true rc fc a b = absurd (both_ways _ (a refl) refl)
+    go true false true false a b = refl
+    go true false false true a b = refl
+    go true false false false a b = refl
+    go false true true false a b = refl
+    go false true false true a b = refl
+    go false true false false a b = refl
+    go false false true false a b = refl
+    go false false false true a b = refl
+    go false false false false a b = refl
+
+pub line_ends-step : (xs : List ℕ) (c : ℕ) → line_ends (xs ++ c ∷ []) ≡ line_ends xs + counts_behind (ends is_return xs) c
+unfolding counted
+line_ends-step [] c =
+    let one = counts_alone c in
+    omega arith
+line_ends-step (x ∷ []) c =
+    let two = counts_two x c in
+    omega arith
+line_ends-step (x ∷ y ∷ xs) c =
+    let later = line_ends-step (y ∷ xs) c in
+    omega arith

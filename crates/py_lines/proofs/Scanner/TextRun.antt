@@ -1,0 +1,202 @@
+-- The scan of one line is the machine's run over the whole text so far.
+use Rattle.std.proofs.Common.{◌≡◌, ℕ, zero, suc, ◌+◌, ◌<◌, true, false, ◌||◌, Option, None, Some, List, [], ◌∷◌, ◌++◌, length, refl, sym, ap, ◌∙◌, subst, inl, inr, append-nil, zero-add, arith}
+use Rattle.std.proofs.lemmas.Bool.{both_ways}
+use Rattle.std.proofs.lemmas.List.{same_from_push}
+use Rattle.std.proofs.lemmas.Str.{length-le-encodes}
+use Rattle.py_lines.specs.Piece.{Class, mark, line_end, Piece, is_mark_class, begins_marked, InClass, spelled, AreReadBefore}
+use Rattle.py_lines.specs.LogicalLine.{byte_len}
+use Rattle.py_lines.specs.Lexed.{EndsLine, IsLive}
+use Rattle.py_lines.specs.declared.mode.Mode.{Mode}
+use Rattle.py_lines.specs.declared.mode.Mode.TheVariants as modes
+use Rattle.py_lines.specs.Private.Machine.{Scanned, fresh, text_start, class_of, closed, started, step, run_from, start_of, IsSound, Bracket, brackets_of, RunsTo, in_short, is_behind_slash}
+use Rattle.py_lines.specs.Private.Scan.{line_start, stack_if}
+use Rattle.py_lines.specs.Private.Source.{first_mode}
+use Rattle.py_lines.proofs.Pieces.PieceLists.{piece, MayFollow, AreReadBefore-second, spelled-append}
+use Rattle.py_lines.proofs.Machine.Starts.{start-mark}
+use Rattle.py_lines.proofs.Machine.PieceRuns.{scanned, pieces_at, StopsBefore, run_from-append, stops-free}
+use Rattle.py_lines.proofs.Machine.PieceRuns as runs_of
+use Rattle.py_lines.proofs.Machine.ReadingRuns.{reach, MayBegin}
+use Rattle.py_lines.proofs.Pieces.OpenBrackets.{stack_before}
+use Rattle.py_lines.proofs.Machine.LiveTexts.{stack_closed, closed_grows}
+use Rattle.py_lines.proofs.Faults.FaultPlaces.{dead_none, dead_brackets}
+use Rattle.py_lines.proofs.Lexings.LinePrefix.{line_first}
+use Rattle.py_lines.proofs.LogicalLines.Cuts.{byte_len-append}
+use Rattle.py_lines.proofs.Machine.EarlierPieces.{behind, behind_if, run-behind, step-behind, closed-behind, shift, shift_if, stack-behind}
+
+-- a line begins soundly
+pub begun_sound : (n : ℕ) → IsSound (line_start (first_mode n)) []
+begun_sound zero = record { spell = refl; holds = (refl, refl); fit = λ more. tt }
+begun_sound (suc n) = record { spell = refl; holds = refl; fit = λ more. tt }
+
+-- pieces that end a line, and what the next line begins in
+pub data Base (n : ℕ) (base : List Piece) : Type 0 where
+  bare : base ≡ [] → first_mode n ≡ modes.Start → Base n base
+  lined : (body : List Piece) (last : Piece) → base ≡ body ++ last ∷ [] → last.class ≡ line_end → ((rest : List ℕ) → MayBegin base rest) → first_mode n ≡ modes.Free → Base n base
+
+free_mode : (n : ℕ) → 0 < n → first_mode n ≡ modes.Free
+free_mode zero positive = absurd (omega arith)
+free_mode (suc n) positive = refl
+
+begins_any : (body : List Piece) (last : Piece) (rest : List ℕ) → MayBegin (body ++ last ∷ []) rest
+begins_any [] last rest = tt
+begins_any (p ∷ ps) last rest = tt
+
+pub base_of : (n : ℕ) (base : List Piece) (rest : List ℕ) → AreReadBefore base rest → EndsLine base → n ≡ byte_len (spelled base) → Base n base
+base_of n base rest fit (inl none) size = Base.bare none (ap first_mode (size ∙ ap (λ l. byte_len (spelled l)) none))
+base_of n base rest fit (inr (body, last, is, class, level)) size =
+    let second = AreReadBefore-second body (last ∷ []) rest (subst (λ l. AreReadBefore l rest) is fit) in
+    let text = line_first last class second.0 in
+    let total : byte_len (spelled base) ≡ byte_len (spelled body) + byte_len (last.text ++ []) = ap (λ l. byte_len (spelled l)) is ∙ ap byte_len (spelled-append body (last ∷ [])) ∙ byte_len-append (spelled body) (last.text ++ []) in
+    let bytes : 0 < byte_len (last.text ++ []) = omega (arith, length-le-encodes (last.text ++ []), ap length (append-nil last.text ∙ text.2)) in
+    Base.lined body last is class (λ x. subst (λ l. MayBegin l x) (sym is) (begins_any body last x)) (free_mode n (omega (arith, size, total, bytes)))
+
+-- where the machine stands after pieces that end a line, nothing is open but perhaps a CR
+ended_mode : (m : Mode) (done : List Piece) (held : List ℕ) (body : List Piece) (last : Piece) → closed m done held ≡ body ++ last ∷ [] → last.class ≡ line_end → (in_short m ≡ false) × (is_behind_slash m ≡ false)
+ended_mode modes.Start done held body last is class = (refl, refl)
+ended_mode modes.Free done held body last is class = (refl, refl)
+ended_mode modes.Return done held body last is class = (refl, refl)
+ended_mode m done held body last is class =
+    let parts = same_from_push done body (piece (class_of m) held) last is in
+    let same : class_of m ≡ line_end = ap (λ (p : Piece). p.class) parts.1 ∙ class in
+    absurd (cc)
+
+-- the machine at a place of a line
+pub record Joined (base : List Piece) (read : List ℕ) (s : Scanned) (first : List Bracket) (after : List ℕ) : Type 0 where
+  pub state : Scanned
+  pub st : List Bracket
+  pub runs : RunsTo (spelled base ++ read) state st
+  pub pieces : pieces_at state ≡ base ++ pieces_at s
+  pub next : (c : ℕ) (more : List ℕ) → after ≡ c ∷ more → step state c ≡ behind_if base (step s c)
+  pub short : in_short state.mode ≡ in_short s.mode
+  pub slash : is_behind_slash state.mode ≡ is_behind_slash s.mode
+  pub start : in_short s.mode || is_behind_slash s.mode ≡ true → byte_len (spelled state.done) ≡ byte_len (spelled base) + byte_len (spelled s.done)
+  pub same : 0 < byte_len read → (state ≡ behind base s) × (st ≡ shift (byte_len (spelled base)) first)
+
+paired : (base : List Piece) (m : Mode) (done : List Piece) (held : List ℕ) → brackets_of base ≡ Some [] → closed m done held ≡ base → brackets_of done ≡ Some []
+paired base m done held level is =
+    let grows = closed_grows m done held in
+    let first = stack_before done grows.0 [] (ap brackets_of (sym grows.1 ∙ is) ∙ level) in
+    let same : Some first.0 ≡ Some [] = sym (stack_closed m done held first.0 first.1) ∙ ap brackets_of is ∙ level in
+    first.1 ∙ same
+
+-- from the start of a line, the machine goes as from its pieces
+pub from_base : (base : List Piece) (to : Scanned) (c : ℕ) (cs after : List ℕ) → pieces_at to ≡ base → StopsBefore to.mode (c ∷ after) → run_from (Some to) (c ∷ cs) ≡ behind_if base (run_from (Some (line_start modes.Free)) (c ∷ cs))
+from_base base to c cs after is stops =
+    runs_of.begun to c cs after (start_of c) stops refl
+    ∙ ap (λ l. run_from (started l c (start_of c)) cs) is
+    ∙ sym (runs_of.begun (fresh base) c cs after (start_of c) (stops-free (c ∷ after)) refl)
+    ∙ ap (λ l. run_from (Some (fresh l)) (c ∷ cs)) (sym (append-nil base))
+    ∙ run-behind base (Some (line_start modes.Free)) (c ∷ cs)
+
+step_as_run : (s : Scanned) (c : ℕ) → run_from (Some s) (c ∷ []) ≡ step s c
+step_as_run s c = go (step s c)
+  where
+    go : (o : Option Scanned) → run_from o [] ≡ o
+    go None = refl
+    go (Some t) = refl
+
+behind_nothing : (o : Option Scanned) → behind_if [] o ≡ o
+behind_nothing None = refl
+behind_nothing (Some t) = refl
+
+module _ (n : ℕ) (base : List Piece) (after : List ℕ) (level : brackets_of base ≡ Some []) where
+  -- something was read
+  full : (c : ℕ) (cs : List ℕ) (s : Scanned) (st : List Bracket) → AreReadBefore base ((c ∷ cs) ++ after) → Base n base → run_from (Some (line_start (first_mode n))) (c ∷ cs) ≡ Some s → brackets_of s.done ≡ Some st → RunsTo (spelled base ++ c ∷ cs) (behind base s) (shift (byte_len (spelled base)) st)
+  full c cs s st fit (Base.bare none mode) runs stacked =
+      record {
+        run = ap (λ l. run_from (Some text_start) (spelled l ++ c ∷ cs)) none ∙ ap (λ m. run_from (Some (line_start m)) (c ∷ cs)) (sym mode) ∙ runs ∙ ap (λ l. Some (behind l s)) (sym none);
+        stack = stack-behind base s.done level ∙ ap (shift_if (byte_len (spelled base))) stacked;
+      }
+  full c cs s st fit (Base.lined body last is class any mode) runs stacked =
+      let reached = reach base (c ∷ cs ++ after) fit in
+      record {
+        run = run_from-append (Some text_start) (spelled base) (c ∷ cs) ∙ ap (λ o. run_from o (c ∷ cs)) reached.runs ∙ from_base base reached.to c cs (cs ++ after) reached.pieces_are (reached.stops (any (c ∷ cs ++ after)))
+            ∙ ap (λ m. behind_if base (run_from (Some (line_start m)) (c ∷ cs))) (sym mode) ∙ ap (behind_if base) runs;
+        stack = stack-behind base s.done level ∙ ap (shift_if (byte_len (spelled base))) stacked;
+      }
+
+  joined_full : (c : ℕ) (cs : List ℕ) (s : Scanned) (st : List Bracket) → AreReadBefore base ((c ∷ cs) ++ after) → Base n base → run_from (Some (line_start (first_mode n))) (c ∷ cs) ≡ Some s → brackets_of s.done ≡ Some st → Joined base (c ∷ cs) s st after
+  joined_full c cs s st fit is runs stacked = record {
+    state = behind base s;
+    st = shift (byte_len (spelled base)) st;
+    runs = full c cs s st fit is runs stacked;
+    pieces = closed-behind base s.done s.mode s.held;
+    next = λ d more follows. step-behind base s d;
+    short = refl;
+    slash = refl;
+    same = λ full_text. (refl, refl);
+    start = λ open_yet. ap byte_len (spelled-append base s.done) ∙ byte_len-append (spelled base) (spelled s.done);
+  }
+
+  -- nothing was read yet
+  joined_none : (s : Scanned) (first : List Bracket) → AreReadBefore base ([] ++ after) → Base n base → line_start (first_mode n) ≡ s → Joined base [] s first after
+  joined_none s first fit (Base.bare none mode) is =
+      let here : text_start ≡ s = ap line_start (sym mode) ∙ is in
+      let nothing : base ≡ [] = none in
+      record {
+        state = s;
+        st = [];
+        runs = record { run = ap (λ l. run_from (Some text_start) (spelled l ++ [])) nothing ∙ ap (λ (t : Scanned). Some t) here; stack = ap (λ (t : Scanned). brackets_of t.done) (sym here) };
+        pieces = ap (λ l. l ++ pieces_at s) (sym nothing);
+        next = λ d more follows. sym (behind_nothing (step s d)) ∙ ap (λ l. behind_if l (step s d)) (sym nothing);
+        short = refl;
+        slash = refl;
+        same = λ full_text. absurd (omega (arith, full_text));
+        start = λ open_yet. sym (zero-add _) ∙ ap (λ l. byte_len (spelled l) + byte_len (spelled s.done)) (sym nothing);
+      }
+  joined_none s first fit (Base.lined body last is class any mode) begins =
+      let reached = reach base after fit in
+      let to = reached.to in
+      let here : line_start modes.Free ≡ s = ap line_start (sym mode) ∙ begins in
+      let closed_mode = ended_mode to.mode to.done to.held body last (reached.pieces_are ∙ is) class in
+      record {
+        state = to;
+        st = [];
+        runs = record { run = ap (run_from (Some text_start)) (append-nil (spelled base)) ∙ reached.runs; stack = paired base to.mode to.done to.held level reached.pieces_are };
+        pieces = reached.pieces_are ∙ sym (append-nil base) ∙ ap (λ (t : Scanned). base ++ pieces_at t) here;
+        next = λ d more follows. sym (step_as_run to d) ∙ from_base base to d [] more reached.pieces_are (subst (StopsBefore to.mode) follows (reached.stops (any after))) ∙ ap (behind_if base) (step_as_run (line_start modes.Free) d) ∙ ap (λ (t : Scanned). behind_if base (step t d)) here;
+        short = closed_mode.0 ∙ ap (λ (t : Scanned). in_short t.mode) here;
+        slash = closed_mode.1 ∙ ap (λ (t : Scanned). is_behind_slash t.mode) here;
+        same = λ full_text. absurd (omega (arith, full_text));
+        start = λ open_yet. absurd (both_ways _ (sym (ap (λ (t : Scanned). in_short t.mode || is_behind_slash t.mode) here)) open_yet);
+      }
+
+  -- the machine where the line has come
+  pub joined : (read : List ℕ) (s : Scanned) (st : List Bracket) → AreReadBefore base (read ++ after) → Base n base → run_from (Some (line_start (first_mode n))) read ≡ Some s → brackets_of s.done ≡ Some st → Joined base read s st after
+  joined [] s st fit is runs stacked = joined_none s st fit is (the_state (line_start (first_mode n)) s runs)
+    where
+      the_state : (a b : Scanned) → Some a ≡ Some b → a ≡ b
+      the_state a b same = cc
+  joined (c ∷ cs) s st fit is runs stacked = joined_full c cs s st fit is runs stacked
+
+  -- and at a place after some characters
+  pub joined_some : (c : ℕ) (cs : List ℕ) (s : Scanned) (st : List Bracket) → AreReadBefore base ((c ∷ cs) ++ after) → Base n base → run_from (Some (line_start (first_mode n))) (c ∷ cs) ≡ Some s → brackets_of s.done ≡ Some st → RunsTo (spelled base ++ c ∷ cs) (behind base s) (shift (byte_len (spelled base)) st)
+  joined_some c cs s st fit is runs stacked = full c cs s st fit is runs stacked
+
+-- a line after others begins with no mark
+pub follows_base : (n : ℕ) (base u : List Piece) (read after : List ℕ) (to : Scanned) → Base n base → spelled u ≡ read → AreReadBefore u after → run_from (Some (line_start (first_mode n))) read ≡ Some to → MayFollow base u
+follows_base n base u read after to (Base.bare none mode) spell fit runs = subst (λ l. MayFollow l u) (sym none) tt
+follows_base n base u read after to (Base.lined body last is class any mode) spell fit runs =
+    subst (λ l. MayFollow l u) (sym is) (any_follow body last (unmarked u fit (ap (λ m. run_from (Some (line_start m)) (spelled u)) (sym mode) ∙ ap (run_from (Some (line_start (first_mode n)))) spell ∙ runs)))
+  where
+    any_follow : (ps : List Piece) (p : Piece) → begins_marked u ≡ false → MayFollow (ps ++ p ∷ []) u
+    any_follow [] p h = h
+    any_follow (q ∷ qs) p h = h
+
+    no_mark : (class : Class) (text rest : List ℕ) → InClass class text → run_from (Some (line_start modes.Free)) (text ++ rest) ≡ Some to → is_mark_class class ≡ false
+    no_mark mark text rest (c, same, marks) goes =
+        let stuck : None ≡ Some to = sym (runs_of.begun (line_start modes.Free) c rest rest (start_of c) (stops-free (c ∷ rest)) refl ∙ ap (λ st. run_from (started [] c st) rest) (start-mark c marks)) ∙ ap (λ t. run_from (Some (line_start modes.Free)) (t ++ rest)) (sym same) ∙ goes in
+        absurd (cc)
+    no_mark class text rest holds goes = refl
+
+    unmarked : (us : List Piece) → AreReadBefore us after → run_from (Some (line_start modes.Free)) (spelled us) ≡ Some to → begins_marked us ≡ false
+    unmarked [] fit' goes = refl
+    unmarked (p ∷ ps) fit' goes = no_mark p.class p.text (spelled ps) fit'.0 goes
+
+-- a character that the line refuses ends the text's life
+pub dead_at : (base : List Piece) (read after more : List ℕ) (s : Scanned) (first : List Bracket) (c : ℕ) (j : Joined base read s first after) → brackets_of base ≡ Some [] → after ≡ c ∷ more → stack_if (step s c) ≡ None → ¬ (IsLive ((spelled base ++ read) ++ c ∷ []))
+dead_at base read after more s first c j level follows refuses = go (step s c) refl refuses
+  where
+    go : (o : Option Scanned) → step s c ≡ o → stack_if o ≡ None → ¬ (IsLive ((spelled base ++ read) ++ c ∷ []))
+    go None is none = dead_none (spelled base ++ read) j.state c j.runs.run (j.next c more follows ∙ ap (behind_if base) is)
+    go (Some t) is none = dead_brackets (spelled base ++ read) j.state (behind base t) c j.runs.run (j.next c more follows ∙ ap (behind_if base) is) (stack-behind base t.done level ∙ ap (shift_if (byte_len (spelled base))) none)

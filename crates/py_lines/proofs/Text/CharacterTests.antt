@@ -1,0 +1,151 @@
+-- What a test of a character says where the character is one of a list.
+use Rattle.std.proofs.Common.{◌≡◌, ℕ, ◌<◌, leb, Bool, true, false, ◌||◌, ◌&&◌, eqb, List, [], ◌∷◌, refl, sym, ap, ◌∙◌, subst, ⊎_elim}
+use Rattle.std.specs.Prelude.{codes}
+use Rattle.std.specs.List.{list_any, list_all}
+use Rattle.std.proofs.lemmas.Bool.{leb-false, or_cases, or_parts, and_parts, and_from, eqb-true, false_from_ne_true, both_ways}
+use Rattle.unicode_ident.proofs.Computing.{unicode_ident}
+use Rattle.py_lines.specs.Character.{is_one_of, is_mark, is_word_character, is_word_start, is_digit, is_quote, is_operator, is_line_feed, is_return, is_break, is_backslash, is_barred, is_r, is_b_or_f, is_u}
+use Rattle.py_lines.specs.Piece.{is_prefix}
+
+-- what each one of a list is
+abbrev pub Each : (ℕ → Type 0) → List ℕ → Type 0
+Each P [] = Unit {0}
+Each P (d ∷ ds) = P d × Each P ds
+
+-- what each one of a list is, one of it is
+pub each_of : (P : ℕ → Type 0) (ds : List ℕ) (c : ℕ) → Each P ds → is_one_of ds c ≡ true → P c
+each_of P [] c each one = absurd (both_ways _ refl one)
+each_of P (d ∷ ds) c each one =
+    ⊎_elim
+    (λ same. subst P (sym (eqb-true c d same)) each.0)
+    (λ later. each_of P ds c each.1 later) (or_cases (eqb c d) (is_one_of ds c) one)
+
+-- what is one of a list, none of which passes, doesn't pass
+pub none_of : (p : ℕ → Bool) (ds : List ℕ) (c : ℕ) → list_any p ds ≡ false → is_one_of ds c ≡ true → p c ≡ false
+none_of p [] c none one = absurd (both_ways _ refl one)
+none_of p (d ∷ ds) c none one =
+    ⊎_elim
+    (λ same. ap p (eqb-true c d same) ∙ (or_parts (p d) (list_any p ds) none).0)
+    (λ later. none_of p ds c (or_parts (p d) (list_any p ds) none).1 later) (or_cases (eqb c d) (is_one_of ds c) one)
+
+-- what passes one test and fails what another one passes, fails that other one
+pub excluded : (p q : ℕ → Bool) (c : ℕ) → (q c ≡ true → p c ≡ false) → p c ≡ true → q c ≡ false
+excluded p q c apart passes = false_from_ne_true _ (λ other. both_ways _ (apart other) passes)
+
+-- a test that singles out one character
+pub the_one : (d c : ℕ) → is_one_of (d ∷ []) c ≡ true → c ≡ d
+the_one d c one = each_of (λ x. x ≡ d) (d ∷ []) c (refl, tt) one
+
+pub feed_is : (c : ℕ) → is_line_feed c ≡ true → c ≡ 10
+unfolding is_line_feed
+feed_is c h = the_one 10 c h
+
+pub return_is : (c : ℕ) → is_return c ≡ true → c ≡ 13
+unfolding is_return
+return_is c h = the_one 13 c h
+
+pub mark_is : (c : ℕ) → is_mark c ≡ true → c ≡ 65279
+unfolding is_mark
+mark_is c h = the_one 65279 c h
+
+pub slash_is : (c : ℕ) → is_backslash c ≡ true → c ≡ 92
+unfolding is_backslash
+slash_is c h = the_one 92 c h
+
+pub r-not-digit : (c : ℕ) → is_r c ≡ true → is_digit c ≡ false
+unfolding is_r is_digit
+r-not-digit c h = none_of is_digit (codes "rR") c refl h
+
+pub b_or_f-not-digit : (c : ℕ) → is_b_or_f c ≡ true → is_digit c ≡ false
+unfolding is_b_or_f is_digit
+b_or_f-not-digit c h = none_of is_digit (codes "bBfF") c refl h
+
+pub b_or_f-not-r : (c : ℕ) → is_b_or_f c ≡ true → is_r c ≡ false
+unfolding is_b_or_f is_r
+b_or_f-not-r c h = none_of is_r (codes "bBfF") c refl h
+
+pub u-not-digit : (c : ℕ) → is_u c ≡ true → is_digit c ≡ false
+unfolding is_u is_digit
+u-not-digit c h = none_of is_digit (codes "uU") c refl h
+
+-- the letters of prefixes
+r-word : (c : ℕ) → is_r c ≡ true → (is_word_start c ≡ true) × (is_word_character c ≡ true)
+unfolding unicode_ident is_r is_word_start is_word_character is_digit
+r-word c h = each_of (λ x. (is_word_start x ≡ true) × (is_word_character x ≡ true)) (codes "rR") c ((refl, refl), ((refl, refl), tt)) h
+
+b_or_f-word : (c : ℕ) → is_b_or_f c ≡ true → (is_word_start c ≡ true) × (is_word_character c ≡ true)
+unfolding unicode_ident is_b_or_f is_word_start is_word_character is_digit
+b_or_f-word c h = each_of (λ x. (is_word_start x ≡ true) × (is_word_character x ≡ true)) (codes "bBfF") c ((refl, refl), ((refl, refl), ((refl, refl), ((refl, refl), tt)))) h
+
+u-word : (c : ℕ) → is_u c ≡ true → (is_word_start c ≡ true) × (is_word_character c ≡ true)
+unfolding unicode_ident is_u is_word_start is_word_character is_digit
+u-word c h = each_of (λ x. (is_word_start x ≡ true) × (is_word_character x ≡ true)) (codes "uU") c ((refl, refl), ((refl, refl), tt)) h
+
+-- a prefix is a word
+pub prefix_word : (a : ℕ) (bs : List ℕ) → is_prefix (a ∷ bs) ≡ true → (is_word_start a ≡ true) × (list_all is_word_character bs ≡ true)
+prefix_word a [] h = (⊎_elim (λ other. ⊎_elim (λ r. (r-word a r).0) (λ b. (b_or_f-word a b).0) (or_cases (is_r a) (is_b_or_f a) other)) (λ u. (u-word a u).0) (or_cases (is_r a || is_b_or_f a) (is_u a) h), refl)
+prefix_word a (b ∷ []) h =
+    ⊎_elim
+    (λ both. ((r-word a (and_parts (is_r a) (is_b_or_f b) both).0).0, and_from (is_word_character b) true (b_or_f-word b (and_parts (is_r a) (is_b_or_f b) both).1).1 refl))
+    (λ both. ((b_or_f-word a (and_parts (is_b_or_f a) (is_r b) both).0).0, and_from (is_word_character b) true (r-word b (and_parts (is_b_or_f a) (is_r b) both).1).1 refl)) (or_cases (is_r a && is_b_or_f b) (is_b_or_f a && is_r b) h)
+prefix_word a (b ∷ c ∷ cs) h = absurd (both_ways _ refl h)
+
+pub quote-not-word : (q : ℕ) → is_quote q ≡ true → is_word_character q ≡ false
+unfolding unicode_ident is_quote is_word_character
+quote-not-word q h = none_of is_word_character (codes "'\"") q refl h
+
+pub quote-not-start : (q : ℕ) → is_quote q ≡ true → is_word_start q ≡ false
+unfolding unicode_ident is_quote is_word_start is_digit
+quote-not-start q h = none_of is_word_start (codes "'\"") q refl h
+
+-- what isn't a quote differs from each quote
+pub not_quote : (c q : ℕ) → is_quote q ≡ true → is_quote c ≡ false → eqb c q ≡ false
+not_quote c q quotes other = false_from_ne_true _ (λ same. both_ways _ other (ap is_quote (eqb-true c q same) ∙ quotes))
+
+pub slash-not-quote : (c : ℕ) → is_backslash c ≡ true → is_quote c ≡ false
+unfolding is_backslash is_quote
+slash-not-quote c h = none_of is_quote (codes "\\") c refl h
+
+pub slash-not-feed : (c : ℕ) → is_backslash c ≡ true → is_line_feed c ≡ false
+unfolding is_backslash is_line_feed
+slash-not-feed c h = none_of is_line_feed (codes "\\") c refl h
+
+pub feed-not-quote : (c : ℕ) → is_line_feed c ≡ true → is_quote c ≡ false
+unfolding is_line_feed is_quote
+feed-not-quote c h = none_of is_quote (codes "\n") c refl h
+
+pub return-not-quote : (c : ℕ) → is_return c ≡ true → is_quote c ≡ false
+unfolding is_return is_quote
+return-not-quote c h = none_of is_quote (codes "\r") c refl h
+
+pub feed-not-slash : (c : ℕ) → is_line_feed c ≡ true → is_backslash c ≡ false
+unfolding is_line_feed is_backslash
+feed-not-slash c h = none_of is_backslash (codes "\n") c refl h
+
+pub return-not-slash : (c : ℕ) → is_return c ≡ true → is_backslash c ≡ false
+unfolding is_return is_backslash
+return-not-slash c h = none_of is_backslash (codes "\r") c refl h
+
+pub quote-not-feed : (c : ℕ) → is_quote c ≡ true → is_line_feed c ≡ false
+unfolding is_quote is_line_feed
+quote-not-feed c h = none_of is_line_feed (codes "'\"") c refl h
+
+-- what a short string may hold bare
+pub unbarred : (q c : ℕ) → is_barred q c ≡ false → (eqb c q ≡ false) × (is_line_feed c ≡ false) × (is_break c ≡ false)
+unfolding is_barred is_break is_line_feed
+unbarred q c h =
+    let first = or_parts (eqb c q) (is_one_of (codes "\n\r") c) h in
+    let second = or_parts (eqb c 10) (is_one_of (codes "\r") c) first.1 in
+    (first.0, ap (λ (b : Bool). b || false) second.0, first.1)
+
+pub barred : (q c : ℕ) → eqb c q ≡ false → is_break c ≡ false → is_barred q c ≡ false
+unfolding is_barred is_break
+barred q c quote break = rw (quote, break)
+
+pub feed-not-return : (c : ℕ) → is_line_feed c ≡ true → is_return c ≡ false
+unfolding is_line_feed is_return
+feed-not-return c h = none_of is_return (codes "\n") c refl h
+
+pub operator_ascii : (c : ℕ) → is_operator c ≡ true → c < 128
+unfolding is_operator
+operator_ascii c h = leb-false 128 c (none_of (λ d. leb 128 d) (codes "+-*/%@&|^~<>=!()[]{},:.;") c refl h)

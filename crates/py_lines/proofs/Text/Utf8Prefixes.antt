@@ -1,0 +1,73 @@
+-- Characters that a text begins with.
+use Rattle.std.proofs.Common.{◌≡◌, ℕ, ◌+◌, ◌<◌, ◌≤◌, length, take, drop, arith, length-append, true, List, [], ◌∷◌, ◌++◌, refl, sym, ap, ◌∙◌, subst, append_assoc}
+use Rattle.std.specs.Prelude.{encode_utf8_all, encode_utf8}
+use Rattle.std.specs.Str.{all_scalars}
+use Rattle.std.specs.Str.{StartsWithNoChar, IsValidUpTo, IsUtf8}
+use Rattle.std.proofs.lemmas.Str.{cons_from_encodes, encode_same, length-encode, len_utf8_bounds, IsUtf8-append, IsUtf8-encode}
+use Rattle.std.proofs.lemmas.List.{drop_all}
+use Rattle.std.proofs.Math.Seq.{take-add, take-append_seam}
+use Rattle.std.proofs.lemmas.Bool.{and_parts, and_from}
+
+-- characters whose bytes begin with those of others begin with these
+pub front_chars : (front all : List ℕ) (rest : List ℕ) → encode_utf8_all all ≡ encode_utf8_all front ++ rest → (after : List ℕ) × (all ≡ front ++ after) × (encode_utf8_all after ≡ rest)
+front_chars [] all rest e = (all, refl, e)
+front_chars (c ∷ cs) all rest e =
+    let first = cons_from_encodes all (encode_utf8_all cs ++ rest) c (e ∙ append_assoc (encode_utf8 c) (encode_utf8_all cs) rest) in
+    let others = front_chars cs first.0 rest first.2 in
+    (others.0, first.1 ∙ ap (λ l. c ∷ l) others.1, others.2)
+
+pub all_scalars-append : (a b : List ℕ) → all_scalars a ≡ true → all_scalars b ≡ true → all_scalars (a ++ b) ≡ true
+all_scalars-append [] b h k = k
+all_scalars-append (c ∷ cs) b h k = let parts = and_parts _ _ h in and_from _ _ parts.0 (all_scalars-append cs b parts.1 k)
+
+pub all_scalars-parts : (a b : List ℕ) → all_scalars (a ++ b) ≡ true → (all_scalars a ≡ true) × (all_scalars b ≡ true)
+all_scalars-parts [] b h = (refl, h)
+all_scalars-parts (c ∷ cs) b h =
+    let parts = and_parts _ _ h in
+    let others = all_scalars-parts cs b parts.1 in
+    (and_from _ _ parts.0 others.0, others.1)
+
+-- nothing begins with no character
+pub nothing_bad : StartsWithNoChar []
+nothing_bad c rest scalar is = let e = ap length is in omega (arith, length-append (encode_utf8 c) rest, length-encode c, len_utf8_bounds c, e)
+
+pub whole_text : (text bytes : List ℕ) → text ≡ bytes → StartsWithNoChar (drop (length text) bytes)
+whole_text text bytes is = subst StartsWithNoChar (sym (drop_all (length text) bytes (omega (arith, ap length is)))) nothing_bad
+
+-- after the longest prefix that is text, no character begins
+pub front_text : (text bytes : List ℕ) (n : ℕ) → IsValidUpTo bytes n → length text ≡ n → StartsWithNoChar (drop (length text) bytes)
+front_text text bytes n longest is = subst (λ (k : ℕ). StartsWithNoChar (drop k bytes)) (sym is)
+    (λ c rest scalar e.
+    let m : ℕ = n + length (encode_utf8 c) in
+    let grown : take m bytes ≡ take n bytes ++ encode_utf8 c = take-add n (length (encode_utf8 c)) bytes ∙ ap (λ t. take n bytes ++ take (length (encode_utf8 c)) t) e ∙ ap (λ t. take n bytes ++ t) (take-append_seam (encode_utf8 c) rest) in
+    longest.longest m (omega (arith, length-encode c, len_utf8_bounds c)) (subst IsUtf8 (sym grown) (IsUtf8-append (take n bytes) (encode_utf8 c) longest.front (IsUtf8-encode c scalar))))
+
+-- a text has one split into characters and bytes that begin with none
+pub one_decoding : (a b s t : List ℕ) → all_scalars a ≡ true → all_scalars b ≡ true → StartsWithNoChar s → StartsWithNoChar t → encode_utf8_all a ++ s ≡ encode_utf8_all b ++ t → (a ≡ b) × (s ≡ t)
+one_decoding [] [] s t are ares bad worse e = (refl, e)
+one_decoding [] (d ∷ ds) s t are ares bad worse e = absurd (bad d (encode_utf8_all ds ++ t) (and_parts _ _ ares).0 (e ∙ append_assoc (encode_utf8 d) (encode_utf8_all ds) t))
+one_decoding (c ∷ cs) [] s t are ares bad worse e = absurd (worse c (encode_utf8_all cs ++ s) (and_parts _ _ are).0 (sym e ∙ append_assoc (encode_utf8 c) (encode_utf8_all cs) s))
+one_decoding (c ∷ cs) (d ∷ ds) s t are ares bad worse e =
+    let heads = encode_same c d (encode_utf8_all cs ++ s) (encode_utf8_all ds ++ t) (sym (append_assoc (encode_utf8 c) (encode_utf8_all cs) s) ∙ e ∙ append_assoc (encode_utf8 d) (encode_utf8_all ds) t) in
+    let others = one_decoding cs ds s t (and_parts _ _ are).1 (and_parts _ _ ares).1 bad worse heads.1 in
+    ((λ i. heads.0 i ∷ others.0 i), others.1)
+
+-- of two prefixes of one list of characters the one of fewer bytes is a prefix of the other
+pub shorter_front : (a b x y : List ℕ) → a ++ x ≡ b ++ y → length (encode_utf8_all a) ≤ length (encode_utf8_all b) → (more : List ℕ) × (b ≡ a ++ more)
+shorter_front [] b x y e short = (b, refl)
+shorter_front (c ∷ cs) [] x y e short = absurd (omega (arith, length-append (encode_utf8 c) (encode_utf8_all cs), length-encode c, len_utf8_bounds c, short))
+shorter_front (c ∷ cs) (d ∷ ds) x y e short =
+    let same : c ≡ d = cc in
+    let rest : cs ++ x ≡ ds ++ y = cc in
+    let bytes = ap (λ (n : ℕ). length (encode_utf8 n)) same in
+    let others = shorter_front cs ds x y rest (omega (arith, length-append (encode_utf8 c) (encode_utf8_all cs), length-append (encode_utf8 d) (encode_utf8_all ds), bytes, short)) in
+    (others.0, (λ i. sym same i ∷ others.1 i))
+
+-- of two prefixes of one list of characters the one of fewer characters has fewer bytes
+pub bytes_in : (a b x y : List ℕ) → a ++ x ≡ b ++ y → length a < length b → length (encode_utf8_all a) ≤ length (encode_utf8_all b)
+bytes_in [] b x y e less = omega arith
+bytes_in (c ∷ cs) [] x y e less = absurd (omega arith)
+bytes_in (c ∷ cs) (d ∷ ds) x y e less =
+    let same : c ≡ d = cc in
+    let rest : cs ++ x ≡ ds ++ y = cc in
+    omega (arith, length-append (encode_utf8 c) (encode_utf8_all cs), length-append (encode_utf8 d) (encode_utf8_all ds), ap (λ (n : ℕ). length (encode_utf8 n)) same, bytes_in cs ds x y rest (omega arith))

@@ -1,0 +1,329 @@
+-- The machine that reads for `Lines`, one character at a time. It serves the contracts of private functions; what a
+-- text reads to is said by Piece, Balance, LogicalLine and Lexed, and proofs tie the two.
+use Rattle.std.specs.Prelude.{◌≡◌, ℕ, Bool, true, false, ◌==◌, ◌||◌, ◌&&◌, Option, None, Some, List, [], ◌∷◌, ◌++◌, length, nat_lt, if◌then◌else◌}
+use Rattle.py_lines.specs.Character.{is_mark, is_space, is_word_character, is_word_start, is_digit, is_quote, is_operator, is_line_feed, is_return, is_break, is_hash, is_backslash, is_r, is_b_or_f, is_u}
+use Rattle.std.specs.List.{list_all}
+use Rattle.py_lines.specs.Piece.{Class, mark, space, word, string, operator, comment, join, line_end, Piece, IsRun, IsComment, IsPrefix, is_item, is_short_item, joined, has_triple, spelled, AreReadBefore}
+use Rattle.py_lines.specs.Balance.{is_opening, is_closing, is_opener, is_closer, closing_of}
+use Rattle.py_lines.specs.LogicalLine.{first_or_zero, byte_len}
+use Rattle.py_lines.specs.declared.fault.FaultKind.{FaultKind}
+use Rattle.py_lines.specs.declared.fault.FaultKind.TheVariants as faults
+use Rattle.py_lines.specs.declared.token.TokKind.{TokKind}
+use Rattle.py_lines.specs.declared.token.TokKind.TheVariants as kinds
+use Rattle.py_lines.specs.declared.mode.Spelling.{Spelling}
+use Rattle.py_lines.specs.declared.mode.Spelling.TheVariants as spellings
+use Rattle.py_lines.specs.declared.mode.Mode.{Mode}
+use Rattle.py_lines.specs.declared.mode.Mode.TheVariants as modes
+use Rattle.py_lines.specs.declared.mode.Move.{Move}
+use Rattle.py_lines.specs.declared.mode.Move.TheVariants as moves
+use Rattle.py_lines.specs.declared.mode.Start.{Start}
+use Rattle.py_lines.specs.declared.mode.Start.TheVariants as starts
+
+-- the spelling of a word of one character
+unfoldable pub first_spelling : ℕ → Spelling
+first_spelling c =
+    if is_digit c then spellings.Number
+    else (if is_r c then spellings.R
+    else (if is_b_or_f c then spellings.BOrF
+    else (if is_u c then spellings.Prefix
+    else spellings.Name)))
+
+-- the spelling of a word with one more character
+unfoldable pub spelling_with : Spelling → ℕ → Spelling
+spelling_with spellings.Number c = spellings.Number
+spelling_with spellings.R c = if is_b_or_f c then spellings.Prefix else spellings.Name
+spelling_with spellings.BOrF c = if is_r c then spellings.Prefix else spellings.Name
+spelling_with other c = spellings.Name
+
+-- whether the word may be the prefix of a string
+abbrev pub is_prefix_spelling : Spelling → Bool
+is_prefix_spelling spellings.Number = false
+is_prefix_spelling spellings.Name = false
+is_prefix_spelling other = true
+
+-- the spelling of a word that goes on
+abbrev pub spelling_on : Spelling → List ℕ → Spelling
+spelling_on s [] = s
+spelling_on s (c ∷ cs) = spelling_on (spelling_with s c) cs
+
+-- what a character does in a short string that it doesn't end at once
+unfoldable pub short_move : ℕ → ℕ → Move
+short_move q c = if is_backslash c then moves.Grows (modes.Escape q) else (if is_break c then moves.Refused else moves.Grows (modes.Inside q))
+
+-- what a character other than the quote does in a long string
+unfoldable pub long_move : ℕ → ℕ → Move
+long_move q c = if is_backslash c then moves.Grows (modes.LongEscape q) else moves.Grows (modes.Long q)
+
+-- what a character does to the piece that is open
+unfoldable pub move_of : Mode → ℕ → Move
+move_of modes.Start c = if is_mark c then moves.Closes else moves.Breaks
+move_of modes.Free c = moves.Breaks
+move_of modes.Space c = if is_space c then moves.Grows modes.Space else moves.Breaks
+move_of (modes.Word s) c = if is_word_character c then moves.Grows (modes.Word (spelling_with s c)) else (if is_prefix_spelling s && is_quote c then moves.Grows (modes.Opened c) else moves.Breaks)
+move_of modes.Comment c = if is_break c then moves.Breaks else moves.Grows modes.Comment
+move_of (modes.Opened q) c = if c == q then moves.Grows (modes.Empty q) else short_move q c
+move_of (modes.Inside q) c = if c == q then moves.Closes else short_move q c
+move_of (modes.Escape q) c = if is_return c then moves.Grows (modes.EscapeReturn q) else moves.Grows (modes.Inside q)
+move_of (modes.EscapeReturn q) c = if is_line_feed c then moves.Grows (modes.Inside q) else (if c == q then moves.Closes else short_move q c)
+move_of (modes.Empty q) c = if c == q then moves.Grows (modes.Long q) else moves.Breaks
+move_of (modes.Long q) c = if c == q then moves.Grows (modes.LongOne q) else long_move q c
+move_of (modes.LongOne q) c = if c == q then moves.Grows (modes.LongTwo q) else long_move q c
+move_of (modes.LongTwo q) c = if c == q then moves.Closes else long_move q c
+move_of (modes.LongEscape q) c = moves.Grows (modes.Long q)
+move_of modes.Backslash c = if is_line_feed c then moves.Closes else (if is_return c then moves.Grows modes.JoinReturn else moves.Refused)
+move_of modes.JoinReturn c = if is_line_feed c then moves.Closes else moves.Breaks
+move_of modes.Return c = if is_line_feed c then moves.Closes else moves.Breaks
+
+-- what a character begins
+unfoldable pub start_of : ℕ → Start
+start_of c =
+    if is_word_start c then starts.Open (modes.Word (first_spelling c))
+    else (if is_space c then starts.Open modes.Space
+    else (if is_operator c then starts.Operator
+    else (if is_line_feed c then starts.LineEnd
+    else (if is_return c then starts.Open modes.Return
+    else (if is_quote c then starts.Open (modes.Opened c)
+    else (if is_hash c then starts.Open modes.Comment
+    else (if is_backslash c then starts.Open modes.Backslash
+    else starts.Nothing)))))))
+
+-- the pieces that are finished, and the one that is open
+pub record Scanned : Type 0 where
+  pub done : List Piece
+  pub mode : Mode
+  pub held : List ℕ
+
+-- finished pieces, with none open after them
+abbrev pub fresh : List Piece → Scanned
+fresh pieces = record { done = pieces; mode = modes.Free; held = [] }
+
+-- at the text's start
+abbrev pub text_start : Scanned
+text_start = record { done = []; mode = modes.Start; held = [] }
+
+-- the class of the open piece, and of what a character at the start or after no piece closes
+abbrev pub class_of : Mode → Class
+class_of modes.Start = mark
+class_of modes.Free = operator
+class_of modes.Space = space
+class_of (modes.Word s) = word
+class_of modes.Comment = comment
+class_of modes.Backslash = join
+class_of modes.JoinReturn = join
+class_of modes.Return = line_end
+class_of other = string
+
+-- the token that the open piece is, if it is one
+abbrev pub token_of : Mode → Option TokKind
+token_of modes.Start = None
+token_of modes.Free = None
+token_of modes.Space = None
+token_of (modes.Word spellings.Number) = Some kinds.Number
+token_of (modes.Word other) = Some kinds.Name
+token_of modes.Comment = Some kinds.Remark
+token_of modes.Backslash = None
+token_of modes.JoinReturn = None
+token_of modes.Return = None
+token_of other = Some kinds.Str
+
+-- the pieces, the open one with them
+abbrev pub closed : Mode → List Piece → List ℕ → List Piece
+closed modes.Start done held = done
+closed modes.Free done held = done
+closed m done held = done ++ record { class = class_of m; text = held } ∷ []
+
+-- a new piece after finished ones
+abbrev pub started : List Piece → ℕ → Start → Option Scanned
+started done c (starts.Open m) = Some (record { done = done; mode = m; held = c ∷ [] })
+started done c starts.Operator = Some (fresh (done ++ record { class = operator; text = c ∷ [] } ∷ []))
+started done c starts.LineEnd = Some (fresh (done ++ record { class = line_end; text = c ∷ [] } ∷ []))
+started done c starts.Nothing = None
+
+-- the state after a character that does this to the open piece
+abbrev pub moved : Scanned → ℕ → Move → Option Scanned
+moved s c (moves.Grows m) = Some (record { done = s.done; mode = m; held = s.held ++ c ∷ [] })
+moved s c moves.Closes = Some (fresh (s.done ++ record { class = class_of s.mode; text = s.held ++ c ∷ [] } ∷ []))
+moved s c moves.Breaks = started (closed s.mode s.done s.held) c (start_of c)
+moved s c moves.Refused = None
+
+-- one character
+abbrev pub step : Scanned → ℕ → Option Scanned
+step s c = moved s c (move_of s.mode c)
+
+-- characters, one after another
+abbrev pub run_from : Option Scanned → List ℕ → Option Scanned
+run_from None cs = None
+run_from (Some s) [] = Some s
+run_from (Some s) (c ∷ cs) = run_from (step s c) cs
+
+-- whether the text may end there, brackets aside
+abbrev pub is_final : Mode → Bool
+is_final modes.Start = true
+is_final modes.Free = true
+is_final modes.Space = true
+is_final (modes.Word s) = true
+is_final modes.Comment = true
+is_final (modes.Empty q) = true
+is_final modes.JoinReturn = true
+is_final modes.Return = true
+is_final other = false
+
+-- whether a short string is open
+abbrev pub in_short : Mode → Bool
+in_short (modes.Opened q) = true
+in_short (modes.Inside q) = true
+in_short (modes.Escape q) = true
+in_short (modes.EscapeReturn q) = true
+in_short other = false
+
+-- whether a long string is open
+abbrev pub in_long : Mode → Bool
+in_long (modes.Long q) = true
+in_long (modes.LongOne q) = true
+in_long (modes.LongTwo q) = true
+in_long (modes.LongEscape q) = true
+in_long other = false
+
+-- whether a backslash stands directly before, outside strings and comments
+abbrev pub is_behind_slash : Mode → Bool
+is_behind_slash modes.Backslash = true
+is_behind_slash other = false
+
+-- the fault of a character that the machine refuses in this mode
+abbrev pub character_kind : Mode → ℕ → FaultKind
+character_kind m c =
+    if in_short m then faults.OpenString
+    else (if is_behind_slash m then faults.BadJoin
+    else (if is_closing c then faults.WrongClose
+    else (if is_opening c then faults.TooDeep
+    else faults.BadChar)))
+
+-- its place, where the machine has read these characters before
+abbrev pub character_place : Scanned → List ℕ → ℕ
+character_place s before = if in_short s.mode || is_behind_slash s.mode then byte_len (spelled s.done) else byte_len before
+
+-- the fault of a text that ends where it may not
+abbrev pub end_kind : Mode → FaultKind
+end_kind m =
+    if in_short m then faults.OpenString
+    else (if in_long m then faults.OpenTriple
+    else (if is_behind_slash m then faults.BadJoin
+    else faults.OpenBracket))
+
+-- an open bracket, and the byte where it stands
+pub record Bracket : Type 0 where
+  pub opener : ℕ
+  pub place : ℕ
+
+-- the open brackets after a closing one, the innermost first; None where the innermost is none of its kind
+abbrev pub closed_by : ℕ → List Bracket → Option (List Bracket)
+closed_by c [] = None
+closed_by c (b ∷ bs) = if c == closing_of b.opener then Some bs else None
+
+-- the open brackets after an opening one at this byte; None at depth 200
+abbrev pub opened_by : ℕ → ℕ → List Bracket → Option (List Bracket)
+opened_by c place brackets = if nat_lt (length brackets) 200 then Some (record { opener = c; place = place } ∷ brackets) else None
+
+-- the open brackets after a piece that begins at this byte
+unfoldable pub brackets_behind : List Bracket → ℕ → Piece → Option (List Bracket)
+brackets_behind brackets place p =
+    if is_opener p then opened_by (first_or_zero p.text) place brackets
+    else (if is_closer p then closed_by (first_or_zero p.text) brackets
+    else Some brackets)
+
+-- the open brackets after pieces that follow finished ones
+abbrev pub brackets_through : Option (List Bracket) → List Piece → List Piece → Option (List Bracket)
+brackets_through None done ps = None
+brackets_through (Some brackets) done [] = Some brackets
+brackets_through (Some brackets) done (p ∷ ps) = brackets_through (brackets_behind brackets (byte_len (spelled done)) p) (done ++ p ∷ []) ps
+
+-- the open brackets after a text's first pieces
+abbrev pub brackets_of : List Piece → Option (List Bracket)
+brackets_of pieces = brackets_through (Some []) [] pieces
+
+-- the byte of the innermost open bracket
+abbrev pub top_place : List Bracket → ℕ
+top_place [] = 0
+top_place (b ∷ bs) = b.place
+
+-- the place of the fault at the text's end
+abbrev pub end_place : Scanned → List Bracket → ℕ
+end_place s brackets = if is_final s.mode then top_place brackets else byte_len (spelled s.done)
+
+-- The machine runs on the characters: to this state, with these brackets open. The characters begin
+-- some text that is read.
+pub record RunsTo (characters : List ℕ) (scanned : Scanned) (brackets : List Bracket) : Type 0 where
+  pub run : run_from (Some text_start) characters ≡ Some scanned
+  pub stack : brackets_of scanned.done ≡ Some brackets
+
+-- a text that isn't empty
+abbrev pub IsFull : List ℕ → Type 0
+IsFull [] = ⊥
+IsFull (c ∷ cs) = Unit {0}
+
+-- a prefix, a quote, and whole items of a short string
+pub record HoldsItems (q : ℕ) (held : List ℕ) : Type 0 where
+  pub prefix : List ℕ
+  pub items : List (List ℕ)
+  pub spell : held ≡ prefix ++ (q ∷ joined items)
+  pub begun : IsPrefix prefix
+  pub opens : is_quote q ≡ true
+  pub each : list_all (is_short_item q) items ≡ true
+
+-- items that are some characters together
+pub record HoldsSome (q : ℕ) (held : List ℕ) : Type 0 where
+  pub all : HoldsItems q held
+  pub full : IsFull (joined all.items)
+
+-- a prefix, and quotes
+pub record HoldsQuotes (quotes : List ℕ) (q : ℕ) (held : List ℕ) : Type 0 where
+  pub prefix : List ℕ
+  pub spell : held ≡ prefix ++ quotes
+  pub begun : IsPrefix prefix
+  pub opens : is_quote q ≡ true
+
+-- a prefix, three quotes, and whole items of a long string that isn't closed
+pub record HoldsFront (q : ℕ) (held : List ℕ) : Type 0 where
+  pub prefix : List ℕ
+  pub items : List (List ℕ)
+  pub spell : held ≡ prefix ++ (q ∷ q ∷ q ∷ joined items)
+  pub begun : IsPrefix prefix
+  pub opens : is_quote q ≡ true
+  pub each : list_all is_item items ≡ true
+  pub open_yet : has_triple q items ≡ false
+
+-- the same, not after a quote: two more quotes don't close it
+pub record HoldsLong (q : ℕ) (held : List ℕ) : Type 0 where
+  pub prefix : List ℕ
+  pub items : List (List ℕ)
+  pub spell : held ≡ prefix ++ (q ∷ q ∷ q ∷ joined items)
+  pub begun : IsPrefix prefix
+  pub opens : is_quote q ≡ true
+  pub each : list_all is_item items ≡ true
+  pub open_yet : has_triple q (items ++ (q ∷ []) ∷ (q ∷ []) ∷ []) ≡ false
+
+-- what the open piece spells, in each mode
+abbrev pub Holds : Mode → List Piece → List ℕ → Type 0
+Holds modes.Start done held = (done ≡ []) × (held ≡ [])
+Holds modes.Free done held = held ≡ []
+Holds modes.Space done held = IsRun is_space held
+Holds (modes.Word s) done held = (first : ℕ) × (others : List ℕ) × (held ≡ first ∷ others) × (is_word_start first ≡ true) × (list_all is_word_character others ≡ true) × (s ≡ spelling_on (first_spelling first) others)
+Holds modes.Comment done held = IsComment held
+Holds (modes.Opened q) done held = HoldsQuotes (q ∷ []) q held
+Holds (modes.Inside q) done held = HoldsSome q held
+Holds (modes.Escape q) done held = (before : List ℕ) × (slash : ℕ) × (held ≡ before ++ slash ∷ []) × HoldsItems q before × (is_backslash slash ≡ true)
+Holds (modes.EscapeReturn q) done held = (before : List ℕ) × (slash : ℕ) × (r : ℕ) × (held ≡ before ++ slash ∷ r ∷ []) × HoldsItems q before × (is_backslash slash ≡ true) × (is_return r ≡ true)
+Holds (modes.Empty q) done held = HoldsQuotes (q ∷ q ∷ []) q held
+Holds (modes.Long q) done held = HoldsLong q held
+Holds (modes.LongOne q) done held = (before : List ℕ) × (held ≡ before ++ q ∷ []) × HoldsLong q before
+Holds (modes.LongTwo q) done held = (before : List ℕ) × (held ≡ before ++ q ∷ q ∷ []) × HoldsLong q before
+Holds (modes.LongEscape q) done held = (before : List ℕ) × (slash : ℕ) × (held ≡ before ++ slash ∷ []) × HoldsFront q before × (is_backslash slash ≡ true)
+Holds modes.Backslash done held = (slash : ℕ) × (held ≡ slash ∷ []) × (is_backslash slash ≡ true)
+Holds modes.JoinReturn done held = (slash : ℕ) × (r : ℕ) × (held ≡ slash ∷ r ∷ []) × (is_backslash slash ≡ true) × (is_return r ≡ true)
+Holds modes.Return done held = (r : ℕ) × (held ≡ r ∷ []) × (is_return r ≡ true)
+
+-- the machine has read these characters, and stands so
+pub record IsSound (s : Scanned) (read : List ℕ) : Type 0 where
+  pub spell : spelled s.done ++ s.held ≡ read
+  pub holds : Holds s.mode s.done s.held
+  pub fit : (more : List ℕ) → AreReadBefore s.done (s.held ++ more)

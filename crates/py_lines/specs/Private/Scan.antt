@@ -1,0 +1,309 @@
+-- What the scan of one logical line holds, in the words of the machine. It serves the contracts of private functions.
+use Rattle.std.specs.Prelude.{◌≡◌, ℕ, ◌+◌, ◌-◌, ◌==◌, ◌&&◌, ◌||◌, not, Bool, true, false, Option, None, Some, Result, Ok, Err, List, [], ◌∷◌, ◌++◌, encode_utf8_all, if◌then◌else◌}
+use Rattle.std.specs.Str.{all_scalars}
+use Rattle.std.specs.Char.{len_utf8}
+use Rattle.std.specs.declared.alloc.AllocError.{AllocError}
+use Rattle.py_lines.specs.Character.{is_return, is_line_feed}
+use Rattle.py_lines.specs.Piece.{operator, line_end, Piece, ends, is_mark_class, spelled, AreReadBefore}
+use Rattle.py_lines.specs.Balance.{depth_after, depth_through}
+use Rattle.py_lines.specs.LogicalLine.{byte_len, line_ends, tokens_from, indent_of, kind_of, is_line_end_class}
+use Rattle.py_lines.specs.Private.Machine.{Scanned, fresh, step, run_from, token_of, Bracket, brackets_behind, brackets_of, in_short, is_behind_slash}
+use Rattle.py_lines.specs.declared.token.Token.{Token}
+use Rattle.py_lines.specs.declared.mode.Mode.{Mode}
+use Rattle.py_lines.specs.declared.mode.Mode.TheVariants as modes
+use Rattle.py_lines.specs.declared.mode.Start.{Start}
+use Rattle.py_lines.specs.declared.mode.Start.TheVariants as starts
+use Rattle.py_lines.specs.declared.token.TokKind.{TokKind}
+use Rattle.py_lines.specs.declared.token.TokKind.TheVariants as kind
+use Rattle.py_lines.specs.declared.unit.UnitKind.{UnitKind}
+use Rattle.py_lines.specs.declared.unit.UnitKind.TheVariants as unit_kind
+use Rattle.py_lines.specs.declared.count.Count.{Count}
+use Rattle.py_lines.specs.declared.brackets.OpenBracket.{OpenBracket}
+use Rattle.py_lines.specs.declared.brackets.Brackets.{Brackets}
+use Rattle.py_lines.specs.declared.scan.Progress.{Progress}
+use Rattle.py_lines.specs.declared.scan.Progress.TheVariants as progress
+use Rattle.py_lines.specs.declared.scan.Stop.{Stop}
+use Rattle.py_lines.specs.declared.scan.Stop.TheVariants as stops
+use Rattle.py_lines.specs.declared.scan.Scan.{Scan}
+
+-- what one more character counts after others: CR counts at once, and LF unless CR stands before it
+unfoldable pub counts_behind : Bool → ℕ → ℕ
+counts_behind after_return c = if is_return c then 1 else (if is_line_feed c && not after_return then 1 else 0)
+
+-- no line end stands at depth 0 in the pieces, which begin at this depth
+abbrev pub EndsNoLine : ℕ → List Piece → Type 0
+EndsNoLine d [] = Unit {0}
+EndsNoLine d (p ∷ ps) = (is_line_end_class p.class && (d == 0) ≡ false) × EndsNoLine (depth_after d p) ps
+
+-- a stack of open brackets, which the code keeps with the innermost last
+abbrev pub stack : List OpenBracket → List Bracket
+stack [] = []
+stack (b ∷ bs) = stack bs ++ record { opener = b.opener; place = b.place } ∷ []
+
+-- the open brackets, the innermost first
+abbrev pub stack_of : Brackets → List Bracket
+stack_of b = stack b.open.items
+
+-- the innermost bracket, if one is open
+abbrev pub IsInnermost : Option OpenBracket → List Bracket → Type 0
+IsInnermost None st = st ≡ []
+IsInnermost (Some b) st = (others : List Bracket) × (st ≡ record { opener = b.opener; place = b.place } ∷ others)
+
+-- an operator at this byte goes into the stack, or may not stand there
+abbrev pub Meets : Brackets → ℕ → ℕ → Result Bool AllocError → Brackets → Type 0
+Meets old c place (Ok true) new = brackets_behind (stack_of old) place (record { class = operator; text = c ∷ [] }) ≡ Some (stack_of new)
+Meets old c place (Ok false) new = (brackets_behind (stack_of old) place (record { class = operator; text = c ∷ [] }) ≡ None) × (new ≡ old)
+Meets old c place (Err e) new = Unit {0}
+
+-- the kind of a line with one more token
+abbrev pub kind_with : UnitKind → TokKind → UnitKind
+kind_with unit_kind.Blank kind.Remark = unit_kind.Comment
+kind_with k kind.Remark = k
+kind_with k other = unit_kind.Code
+
+-- the open piece became a token of this kind
+pub record Emits (old : Scan) (k : TokKind) (new : Scan) : Type 0 where
+  pub tokens : new.tokens.items ≡ old.tokens.items ++ record { kind = k; start = old.start; stop = old.stop; line = old.piece_line } ∷ []
+  pub kind : new.kind ≡ kind_with old.kind k
+  pub mode : new.mode ≡ old.mode
+  pub start : new.start ≡ old.start
+  pub stop : new.stop ≡ old.stop
+  pub piece_line : new.piece_line ≡ old.piece_line
+  pub line : new.line ≡ old.line
+  pub count : new.count ≡ old.count
+  pub margin : new.margin ≡ old.margin
+  pub indent : new.indent ≡ old.indent
+  pub brackets : new.brackets ≡ old.brackets
+
+-- a token from the open piece, if it is one
+abbrev pub tokens_with : Option TokKind → ℕ → ℕ → ℕ → List Token
+tokens_with None start stop line = []
+tokens_with (Some k) start stop line = record { kind = k; start = start; stop = stop; line = line } ∷ []
+
+-- whether the open piece is a backslash, with or without its line end
+abbrev pub is_join_mode : Mode → Bool
+is_join_mode modes.Backslash = true
+is_join_mode modes.JoinReturn = true
+is_join_mode other = false
+
+-- whether no piece is open, or a mark
+abbrev pub holds_nothing : Mode → Bool
+holds_nothing modes.Start = true
+holds_nothing modes.Free = true
+holds_nothing other = false
+
+-- the kind of a line with one more token, if there is one
+abbrev pub kind_through : UnitKind → Option TokKind → UnitKind
+kind_through old None = old
+kind_through old (Some k) = kind_with old k
+
+-- the kind of a line whose open piece is closed
+abbrev pub kind_closed : UnitKind → Mode → UnitKind
+kind_closed old m = if is_join_mode m then unit_kind.Code else kind_through old (token_of m)
+
+-- space after nothing except a mark is the indentation
+abbrev pub indent_closed : ℕ → Mode → Bool → ℕ → ℕ
+indent_closed old modes.Space true size = size
+indent_closed old other margin size = old
+
+-- the open piece is closed
+pub record Closes (old new : Scan) : Type 0 where
+  pub tokens : new.tokens.items ≡ old.tokens.items ++ tokens_with (token_of old.mode) old.start old.stop old.piece_line
+  pub kind : new.kind ≡ kind_closed old.kind old.mode
+  pub indent : new.indent ≡ indent_closed old.indent old.mode old.margin (old.stop - old.start)
+  pub margin : new.margin ≡ old.margin && holds_nothing old.mode
+  pub mode : new.mode ≡ modes.Free
+  pub start : new.start ≡ old.stop
+  pub stop : new.stop ≡ old.stop
+  pub piece_line : new.piece_line ≡ old.count.line
+  pub line : new.line ≡ old.line
+  pub count : new.count ≡ old.count
+  pub brackets : new.brackets ≡ old.brackets
+
+-- the count of lines after one more character
+pub record Counts (old : Count) (c : ℕ) (new : Count) : Type 0 where
+  pub line : new.line ≡ old.line + counts_behind old.after_return c
+  pub after : new.after_return ≡ is_return c
+
+-- one more character is read
+pub record ReadsCharacter (old : Scan) (c : ℕ) (new : Scan) : Type 0 where
+  pub stop : new.stop ≡ old.stop + len_utf8 c
+  pub count : Counts old.count c new.count
+  pub mode : new.mode ≡ old.mode
+  pub start : new.start ≡ old.start
+  pub piece_line : new.piece_line ≡ old.piece_line
+  pub line : new.line ≡ old.line
+  pub margin : new.margin ≡ old.margin
+  pub indent : new.indent ≡ old.indent
+  pub kind : new.kind ≡ old.kind
+  pub tokens : new.tokens ≡ old.tokens
+  pub brackets : new.brackets ≡ old.brackets
+
+-- a character that is a piece alone was taken, after closed ones: an operator, or a line end
+pub record AddsPiece (closed new : Scan) (c : ℕ) (k : Option TokKind) : Type 0 where
+  pub mode : new.mode ≡ modes.Free
+  pub start : new.start ≡ closed.stop + len_utf8 c
+  pub stop : new.stop ≡ closed.stop + len_utf8 c
+  pub count : Counts closed.count c new.count
+  pub piece_line : new.piece_line ≡ new.count.line
+  pub line : new.line ≡ closed.line
+  pub margin : new.margin ≡ false
+  pub indent : new.indent ≡ closed.indent
+  pub kind : new.kind ≡ kind_through closed.kind k
+  pub tokens : new.tokens.items ≡ closed.tokens.items ++ tokens_with k closed.start (closed.stop + len_utf8 c) closed.piece_line
+  pub brackets : new.brackets ≡ closed.brackets
+
+-- the open piece was closed, and then such a character was taken
+pub record ClosesAndAdds (old : Scan) (c : ℕ) (k : Option TokKind) (new : Scan) : Type 0 where
+  pub mid : Scan
+  pub closes : Closes old mid
+  pub stands : AddsPiece mid new c k
+
+-- the scan in another mode
+abbrev pub in_mode : Scan → Mode → Scan
+in_mode old m = record old { mode = m }
+
+-- a piece opened with a character, after the open one
+pub record ClosesAndOpens (old : Scan) (c : ℕ) (m : Mode) (new : Scan) : Type 0 where
+  pub mid : Scan
+  pub read : Scan
+  pub closes : Closes old mid
+  pub reads : ReadsCharacter mid c read
+  pub is : new ≡ in_mode read m
+
+-- whether no bracket is open
+abbrev pub none_open : List Bracket → Bool
+none_open [] = true
+none_open (b ∷ bs) = false
+
+-- what a line end comes to
+abbrev pub line_end_progress : Bool → ℕ → Progress
+line_end_progress true len = progress.LineEnded len
+line_end_progress false len = progress.Going
+
+-- the scan with other brackets
+abbrev pub with_brackets : Scan → Brackets → Scan
+with_brackets old b = record old { brackets = b }
+
+-- an operator came after the open piece, or may not stand there
+abbrev pub Operates : Scan → ℕ → Result Progress AllocError → Scan → Type 0
+Operates old c (Ok progress.Refused) new = (brackets_behind (stack_of old.brackets) old.stop (record { class = operator; text = c ∷ [] }) ≡ None) × (new ≡ old)
+Operates old c (Ok progress.Going) new = (met : Brackets) × (brackets_behind (stack_of old.brackets) old.stop (record { class = operator; text = c ∷ [] }) ≡ Some (stack_of met)) × ClosesAndAdds (with_brackets old met) c (Some (kind.Op c)) new
+Operates old c (Ok (progress.LineEnded len)) new = ⊥
+Operates old c (Err e) new = Unit {0}
+
+-- a character began a piece: the open one was closed, and then a piece opened, or was whole at once
+abbrev pub Begins : Scan → ℕ → Start → Result Progress AllocError → Scan → Type 0
+Begins old c (starts.Open m) r new = (r ≡ Ok progress.Going) × ClosesAndOpens old c m new
+Begins old c starts.Operator r new = Operates old c r new
+Begins old c starts.LineEnd r new = (r ≡ Ok (line_end_progress (none_open (stack_of old.brackets)) 1)) × ClosesAndAdds old c None new
+Begins old c starts.Nothing r new = (r ≡ Ok progress.Refused) × (new ≡ old)
+
+-- whether nothing stands before, or a mark alone
+abbrev pub is_margin : List Piece → Bool
+is_margin [] = true
+is_margin (p ∷ []) = is_mark_class p.class
+is_margin (p ∷ q ∷ ps) = false
+
+-- the scan keeps count of what the machine has found in its line
+pub record Tallies (scan : Scan) (s : Scanned) : Type 0 where
+  pub mode : scan.mode ≡ s.mode
+  pub start : scan.start ≡ byte_len (spelled s.done)
+  pub stop : scan.stop ≡ byte_len (spelled s.done ++ s.held)
+  pub piece_line : scan.piece_line ≡ scan.line + line_ends (spelled s.done)
+  pub here : scan.count.line ≡ scan.line + line_ends (spelled s.done ++ s.held)
+  pub after : scan.count.after_return ≡ ends is_return (spelled s.done ++ s.held)
+  pub margin : scan.margin ≡ is_margin s.done
+  pub indent : scan.indent ≡ indent_of s.done
+  pub kind : scan.kind ≡ kind_of s.done
+  pub tokens : scan.tokens.items ≡ tokens_from 0 scan.line s.done
+
+-- and it keeps the machine's open brackets
+abbrev pub IsStacked : Scan → Scanned → Type 0
+IsStacked scan s = brackets_of s.done ≡ Some (stack_of scan.brackets)
+
+-- nothing is read, and this mode is open
+abbrev pub line_start : Mode → Scanned
+line_start m = record { done = []; mode = m; held = [] }
+
+-- the open brackets where the machine comes to
+abbrev pub stack_if : Option Scanned → Option (List Bracket)
+stack_if None = None
+stack_if (Some s) = brackets_of s.done
+
+-- the machine goes on in the line
+pub record GoesOn (s : Scanned) (c : ℕ) (new : Scan) : Type 0 where
+  pub next : Scanned
+  pub goes : step s c ≡ Some next
+  pub tallies : Tallies new next
+  pub stacked : IsStacked new next
+  pub one_line : EndsNoLine 0 next.done
+
+-- pieces of one line, which the last ends
+pub record AreLine (body : List Piece) (last : Piece) (len : ℕ) : Type 0 where
+  pub one_line : EndsNoLine 0 body
+  pub class : last.class ≡ line_end
+  pub level : depth_through 0 body ≡ 0
+  pub paired : brackets_of body ≡ Some []
+  pub size : len ≡ byte_len last.text
+
+-- the machine comes to the line's end, with so many bytes of line end
+pub record ComesToEnd (s : Scanned) (c len : ℕ) (new : Scan) : Type 0 where
+  pub body : List Piece
+  pub last : Piece
+  pub goes : step s c ≡ Some (fresh (body ++ last ∷ []))
+  pub tallies : Tallies new (fresh (body ++ last ∷ []))
+  pub are : AreLine body last len
+
+-- what one more character comes to: a scan that refused it is as it was
+abbrev pub Takes : Scan → Scanned → ℕ → Result Progress AllocError → Scan → Type 0
+Takes old s c (Ok progress.Going) new = GoesOn s c new × (new.line ≡ old.line)
+Takes old s c (Ok (progress.LineEnded len)) new = ComesToEnd s c len new × (new.line ≡ old.line)
+Takes old s c (Ok progress.Refused) new = (stack_if (step s c) ≡ None) × (new ≡ old)
+Takes old s c (Err e) new = Unit {0}
+
+-- whether a CR that ends a line was read last
+abbrev pub is_return_mode : Mode → Bool
+is_return_mode modes.Return = true
+is_return_mode other = false
+
+-- the machine has gone through these characters of its line, none of which ended it
+pub record IsUnderWay (m : Mode) (scan : Scan) (read : List ℕ) : Type 0 where
+  pub state : Scanned
+  pub runs : run_from (Some (line_start m)) read ≡ Some state
+  pub tallies : Tallies scan state
+  pub stacked : IsStacked scan state
+  pub one_line : EndsNoLine 0 state.done
+
+-- these characters are a line with its line end, and may stand before what follows
+pub record IsAtLineEnd (m : Mode) (scan : Scan) (read rest : List ℕ) (len : ℕ) : Type 0 where
+  pub body : List Piece
+  pub last : Piece
+  pub are : AreLine body last len
+  pub to : Scanned
+  pub runs : run_from (Some (line_start m)) read ≡ Some to
+  pub spell : spelled (body ++ last ∷ []) ≡ read
+  pub fit : (after : List ℕ) → encode_utf8_all after ≡ rest → AreReadBefore (body ++ last ∷ []) after
+  pub tallies : Tallies scan (fresh (body ++ last ∷ []))
+
+-- whether the CR of a line end was read last, outside brackets
+abbrev pub is_returned : Scan → Bool
+is_returned scan = is_return_mode scan.mode && none_open (stack_of scan.brackets)
+
+-- the scan of a line's characters stops after these, with `rest` after them
+abbrev pub StopsSo : Mode → Scan → Stop → List ℕ → List ℕ → Type 0
+StopsSo m scan stops.TextEnd read rest = IsUnderWay m scan read × (rest ≡ []) × (is_returned scan ≡ false)
+StopsSo m scan (stops.LineEnd len) read rest = IsAtLineEnd m scan read rest len
+StopsSo m scan (stops.Refused c) read rest = (way : IsUnderWay m scan read) × (after : List ℕ) × (rest ≡ encode_utf8_all (c ∷ after)) × (stack_if (step way.state c) ≡ None) × (is_returned scan && not (is_line_feed c) ≡ false)
+
+-- where the scan of a text stops: after some of its characters
+pub record Scans (m : Mode) (text : List ℕ) (scan : Scan) (stop : Stop) : Type 0 where
+  pub read : List ℕ
+  pub rest : List ℕ
+  pub scalars : all_scalars read ≡ true
+  pub spell : encode_utf8_all read ++ rest ≡ text
+  pub stops : StopsSo m scan stop read rest
+
+-- where the fault of a refused character stands
+abbrev pub refused_place : Scan → ℕ
+refused_place scan = if in_short scan.mode || is_behind_slash scan.mode then scan.start else scan.stop

@@ -1,0 +1,166 @@
+//! Which characters the pieces of a text are made of (Python Language Reference, 2.1 to 2.6).
+
+ghost use Rattle.std.specs.Prelude.{◌≡◌};
+ghost use Rattle.py_lines.specs.Character.{is_mark, is_space, is_word_character, is_word_start, is_digit, is_quote, is_operator, is_line_feed, is_return, is_break, is_hash, is_backslash, is_r, is_b_or_f, is_u};
+ghost use Rattle.py_lines.specs.Balance.{is_opening, is_closing};
+
+/// U+FEFF, the byte order mark.
+#[tactic(auto, unfolding(crate::specs::Character::is_mark))]
+pub fn is_mark(c: char) -> bool
+    ensures { result ≡ is_mark c }
+{
+    c == '\u{feff}'
+}
+
+/// Space, tab and form feed.
+#[tactic(auto, unfolding(crate::specs::Character::is_space))]
+pub fn is_space(c: char) -> bool
+    ensures { result ≡ is_space c }
+{
+    matches!(c, ' ' | '\t' | '\x0c')
+}
+
+/// The characters that may continue an identifier.
+#[tactic(auto, unfolding(crate::specs::Character::is_word_character))]
+pub fn is_word_character(c: char) -> bool
+    ensures { result ≡ is_word_character c }
+{
+    unicode_ident::is_xid_continue(c)
+}
+
+/// The digits from 0 to 9.
+#[tactic(auto, unfolding(crate::specs::Character::is_digit))]
+pub fn is_digit(c: char) -> bool
+    ensures { result ≡ is_digit c }
+{
+    matches!(c, '0'..='9')
+}
+
+/// The characters that may begin an identifier, the underscore and the digits.
+#[tactic(auto, unfolding(crate::specs::Character::is_word_start))]
+pub fn is_word_start(c: char) -> bool
+    ensures { result ≡ is_word_start c }
+{
+    unicode_ident::is_xid_start(c) || c == '_' || is_digit(c)
+}
+
+/// The quotes of strings.
+#[tactic(auto, unfolding(crate::specs::Character::is_quote))]
+pub fn is_quote(c: char) -> bool
+    ensures { result ≡ is_quote c }
+{
+    matches!(c, '\'' | '"')
+}
+
+/// The characters of operators and delimiters, brackets among them.
+#[tactic(auto, unfolding(crate::specs::Character::is_operator))]
+pub fn is_operator(c: char) -> bool
+    ensures { result ≡ is_operator c }
+{
+    matches!(
+        c,
+        '+' | '-'
+            | '*'
+            | '/'
+            | '%'
+            | '@'
+            | '&'
+            | '|'
+            | '^'
+            | '~'
+            | '<'
+            | '>'
+            | '='
+            | '!'
+            | '('
+            | ')'
+            | '['
+            | ']'
+            | '{'
+            | '}'
+            | ','
+            | ':'
+            | '.'
+            | ';'
+    )
+}
+
+/// Line feed.
+#[tactic(auto, unfolding(crate::specs::Character::is_line_feed))]
+pub fn is_line_feed(c: char) -> bool
+    ensures { result ≡ is_line_feed c }
+{
+    c == '\n'
+}
+
+/// Carriage return.
+#[tactic(auto, unfolding(crate::specs::Character::is_return))]
+pub fn is_return(c: char) -> bool
+    ensures { result ≡ is_return c }
+{
+    c == '\r'
+}
+
+/// The characters of line ends.
+#[tactic(auto, unfolding(crate::specs::Character::is_break))]
+pub fn is_break(c: char) -> bool
+    ensures { result ≡ is_break c }
+{
+    matches!(c, '\n' | '\r')
+}
+
+/// What opens a comment.
+#[tactic(auto, unfolding(crate::specs::Character::is_hash))]
+pub fn is_hash(c: char) -> bool
+    ensures { result ≡ is_hash c }
+{
+    c == '#'
+}
+
+/// What joins lines, and escapes in strings.
+#[tactic(auto, unfolding(crate::specs::Character::is_backslash))]
+pub fn is_backslash(c: char) -> bool
+    ensures { result ≡ is_backslash c }
+{
+    c == '\\'
+}
+
+/// `r` in either case, in the prefix of a string.
+#[tactic(auto, unfolding(crate::specs::Character::is_r))]
+pub fn is_r(c: char) -> bool
+    ensures { result ≡ is_r c }
+{
+    matches!(c, 'r' | 'R')
+}
+
+/// `b` and `f` in either case, in the prefix of a string.
+#[tactic(auto, unfolding(crate::specs::Character::is_b_or_f))]
+pub fn is_b_or_f(c: char) -> bool
+    ensures { result ≡ is_b_or_f c }
+{
+    matches!(c, 'b' | 'B' | 'f' | 'F')
+}
+
+/// `u` in either case, in the prefix of a string.
+#[tactic(auto, unfolding(crate::specs::Character::is_u))]
+pub fn is_u(c: char) -> bool
+    ensures { result ≡ is_u c }
+{
+    matches!(c, 'u' | 'U')
+}
+
+/// Opening brackets.
+#[tactic(auto, unfolding(crate::specs::Balance::is_opening))]
+pub fn is_opening(c: char) -> bool
+    ensures { result ≡ is_opening c }
+{
+    matches!(c, '(' | '[' | '{')
+}
+
+/// Closing brackets.
+#[tactic(auto, unfolding(crate::specs::Balance::is_closing))]
+pub fn is_closing(c: char) -> bool
+    ensures { result ≡ is_closing c }
+{
+    matches!(c, ')' | ']' | '}')
+}
