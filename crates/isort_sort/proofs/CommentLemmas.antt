@@ -1,0 +1,201 @@
+-- What is cut off a comment, and the comments of a line one after another.
+use Rattle.std.proofs.Common.{◌≡◌, ℕ, ◌+◌, ◌-◌, ◌<◌, Bool, true, false, cond, ◌==◌, ◌||◌, ◌&&◌, Option, None, Some, MatchOption, Bor, lit<, List, [], ◌∷◌, ◌++◌, length, take, drop, get_or, append_assoc, length-drop, length-append, map, refl, sym, ap, ◌∙◌, arith}
+use Rattle.std.specs.Prelude.{filter, slice_range, if◌then◌else◌}
+use Rattle.std.specs.Char.{IsScalar, char_set_contains}
+use Rattle.std.specs.List.{list_all, list_any}
+use Rattle.std.specs.Str.Pattern.{FindsPrefixBy, FindsSuffixBy, HasCharAt, FindsCharPrefix, StripsPrefix, CutsPrefixes, CutsSuffixes, IsFullyTrimmed, IsTrimStartMatches, IsTrimEndMatches}
+use Rattle.std.specs.Option.{unwrap_or}
+use Rattle.std.proofs.lemmas.Bool.{lt-ltb, eqb-true, ne_eqb}
+use Rattle.std.proofs.lemmas.Bool.Decides.{nat_tests}
+use Rattle.std.proofs.lemmas.List.{take-append-drop, length-take, drop_more}
+use Rattle.std.proofs.lemmas.Str.{encode_ascii}
+use Rattle.std.proofs.lemmas.Str.Pattern.{drop_at_char}
+use Rattle.std.proofs.Math.Seq.{drop-length}
+use Rattle.py_lines.specs.Character.{is_space}
+use Rattle.py_lines.specs.declared.token.Token.{Token}
+use Rattle.py_imports.specs.Action.{says}
+use Rattle.py_imports.specs.Statement.{is_comment}
+use Rattle.py_imports.specs.declared.action.Action.TheVariants as action
+use Rattle.isort_sort.specs.Line.{without_start, without_end, stripped, is_text}
+use Rattle.isort_sort.specs.LinesRead.{without_hash}
+
+-- space, tab and form feed
+abbrev pub spaces : List ℕ
+spaces = 32 ∷ 9 ∷ 12 ∷ []
+
+-- a pattern of these characters finds what passes any test that agrees with it
+abbrev pub Finds : ((ℕ → Bool) → List ℕ → Option ℕ → Type 0) → List ℕ → Option ℕ → Type 0
+Finds F text found = (passes : ℕ → Bool) → ((c : ℕ) → char_set_contains spaces c ≡ passes c) → F passes text found
+
+is_space_set : (c : ℕ) → char_set_contains spaces c ≡ is_space c
+unfolding is_space
+is_space_set c = grind (arith, nat_tests)
+
+space_is_ascii : (c : ℕ) → is_space c ≡ true → c < 128
+unfolding is_space
+space_is_ascii c h = grind (arith, nat_tests)
+
+space_is_scalar : (c : ℕ) → c < 128 → IsScalar c
+space_is_scalar c h = rw (lt-ltb c 55296 (omega arith)) refl
+
+-- a text at whose start a space was found
+begins_so : (c n : ℕ) (text : List ℕ) → is_space c ≡ true → HasCharAt c text 0 n → text ≡ c ∷ drop n text
+begins_so c n text space here = drop_at_char c text 0 n here (space_is_ascii c space)
+
+cut_start : (text : List ℕ) (ns : List ℕ) (rest : List ℕ) → CutsPrefixes (Finds FindsPrefixBy) text ns rest → without_start text ≡ without_start rest
+cut_start text [] rest e = ap without_start (sym e)
+cut_start text (n ∷ ns) rest h =
+    let found = h.2 is_space is_space_set in
+    cut_start text ns h.0 h.1
+    ∙ ap without_start (begins_so found.0 n h.0 found.1 found.2)
+    ∙ ap (λ b. cond b (without_start (drop n h.0)) (found.0 ∷ drop n h.0)) found.1
+    ∙ ap without_start (sym h.3)
+
+-- a text that begins with no space
+bare_start : (text : List ℕ) → FindsPrefixBy is_space text None → without_start text ≡ text
+bare_start [] h = refl
+bare_start (b ∷ text) h = by (is_space b) refl
+  where
+    by : (x : Bool) → is_space b ≡ x → without_start (b ∷ text) ≡ b ∷ text
+    by true e =
+        let low = space_is_ascii b e in
+        let none = h b text (space_is_scalar b low) (ap (λ l. l ++ text) (sym (encode_ascii b low))) in
+        absurd (cc)
+    by false e = rw e refl
+
+trimmed_start : (text : List ℕ) → IsFullyTrimmed (Finds FindsPrefixBy) text → without_start text ≡ text
+trimmed_start text (None, finds, small) = bare_start text (finds is_space is_space_set)
+trimmed_start text (Some n, finds, small) =
+    let found = finds is_space is_space_set in
+    let whole = begins_so found.0 n text found.1 found.2 in
+    absurd (omega (arith, ap length whole, length-drop n text))
+
+-- what was cut of the start of a text
+pub start_is : (text rest : List ℕ) → IsTrimStartMatches (Finds FindsPrefixBy) text rest → rest ≡ without_start text
+start_is text rest h = sym (cut_start text h.0.0 rest h.0.1 ∙ trimmed_start rest h.1)
+
+-- a text at whose end a space was found
+ends_so : (c n : ℕ) (text : List ℕ) → is_space c ≡ true → HasCharAt c text (length text - n) (length text) → text ≡ take (length text - n) text ++ c ∷ []
+ends_so c n text space here =
+    sym (take-append-drop (length text - n) text)
+    ∙ ap (λ l. take (length text - n) text ++ l) (drop_at_char c text (length text - n) (length text) here (space_is_ascii c space) ∙ ap (λ l. c ∷ l) (drop-length text))
+
+all_but : (text : List ℕ) (c : ℕ) → is_space c ≡ true → list_all is_space (text ++ c ∷ []) ≡ list_all is_space text
+all_but [] c space = ap (λ b. b && true) space
+all_but (b ∷ text) c space = ap (λ x. is_space b && x) (all_but text c space)
+
+end_but : (text : List ℕ) (c : ℕ) → is_space c ≡ true → without_end (text ++ c ∷ []) ≡ without_end text
+end_but [] c space = ap (λ b. cond (b && true) [] (c ∷ [])) space
+end_but (b ∷ text) c space = ap (λ x. cond x [] (b ∷ without_end (text ++ c ∷ []))) (all_but (b ∷ text) c space) ∙ ap (λ l. cond (list_all is_space (b ∷ text)) [] (b ∷ l)) (end_but text c space)
+
+cut_end : (text : List ℕ) (ns : List ℕ) (rest : List ℕ) → CutsSuffixes (Finds FindsSuffixBy) text ns rest → without_end text ≡ without_end rest
+cut_end text [] rest e = ap without_end (sym e)
+cut_end text (n ∷ ns) rest h =
+    let found = h.2 is_space is_space_set in
+    cut_end text ns h.0 h.1
+    ∙ ap without_end (ends_so found.0 n h.0 found.1 found.2)
+    ∙ end_but (take (length h.0 - n) h.0) found.0 found.1
+    ∙ ap without_end (sym h.3)
+
+-- the last character, where there is one, is no space
+abbrev IsBareEnd : List ℕ → Type 0
+IsBareEnd text = (front : List ℕ) (c : ℕ) → text ≡ front ++ c ∷ [] → is_space c ≡ false
+
+none_all : (b : ℕ) (text : List ℕ) → IsBareEnd (b ∷ text) → list_all is_space (b ∷ text) ≡ false
+none_all b [] bare = ap (λ x. x && true) (bare [] b refl)
+none_all b (c ∷ text) bare = ap (λ x. is_space b && x) (none_all c text (λ front d e. bare (b ∷ front) d (ap (λ l. b ∷ l) e))) ∙ and_false (is_space b)
+  where
+    and_false : (x : Bool) → x && false ≡ false
+    and_false true = refl
+    and_false false = refl
+
+bare_end : (text : List ℕ) → IsBareEnd text → without_end text ≡ text
+bare_end [] bare = refl
+bare_end (b ∷ text) bare = ap (λ x. cond x [] (b ∷ without_end text)) (none_all b text bare) ∙ ap (λ l. b ∷ l) (bare_end text (λ front c e. bare (b ∷ front) c (ap (λ l. b ∷ l) e)))
+
+trimmed_end : (text : List ℕ) → IsFullyTrimmed (Finds FindsSuffixBy) text → without_end text ≡ text
+trimmed_end text (None, finds, small) = bare_end text (λ front c e. by front c e (is_space c) refl)
+  where
+    by : (front : List ℕ) (c : ℕ) → text ≡ front ++ c ∷ [] → (x : Bool) → is_space c ≡ x → is_space c ≡ false
+    by front c e true space =
+        let low = space_is_ascii c space in
+        finds is_space is_space_set c front (space_is_scalar c low) (e ∙ ap (λ l. front ++ l) (sym (encode_ascii c low)))
+    by front c e false space = space
+trimmed_end text (Some n, finds, small) =
+    let found = finds is_space is_space_set in
+    let whole = ends_so found.0 n text found.1 found.2 in
+    absurd (omega (arith, ap length whole, length-append (take (length text - n) text) (found.0 ∷ []), length-take (length text - n) text))
+
+-- what was cut off the end of a text
+pub end_is : (text rest : List ℕ) → IsTrimEndMatches (Finds FindsSuffixBy) text rest → rest ≡ without_end text
+end_is text rest h = sym (cut_end text h.0.0 rest h.0.1 ∙ trimmed_end rest h.1)
+
+-- what was left of a text when the `#` at its start was stripped, if there is one
+pub hash_cut : (comment : Bor (List ℕ)) (found : Option (Bor (List ℕ))) → MatchOption found (FindsCharPrefix 35 comment.now None) (λ rest. StripsPrefix (FindsCharPrefix 35) comment.now rest.now) → (unwrap_or found comment).now ≡ without_hash comment.now
+hash_cut comment None none = by comment.now none
+  where
+    by : (text : List ℕ) → FindsCharPrefix 35 text None → text ≡ without_hash text
+    by [] h = refl
+    by (b ∷ text) h = sym (rw (ne_eqb b 35 (λ e. h text (ap (λ x. x ∷ text) e ∙ ap (λ l. l ++ text) (sym (encode_ascii 35 (lit< tt)))))) refl)
+hash_cut comment (Some rest) cut = cut.2 ∙ sym (ap without_hash (drop_at_char 35 comment.now 0 cut.0 cut.1 (lit< tt)))
+
+-- the bytes of a token of this text
+abbrev word_in : List ℕ → Token → List ℕ
+word_in text t = slice_range text t.start t.stop
+
+-- whether a comment among these tokens of a text says `skip_file`
+abbrev pub says_skip_file : List ℕ → List Token → Bool
+says_skip_file text tokens = list_any (says action.SkipFile) (map (λ t. slice_range text t.start t.stop) (filter (λ t. is_comment t.kind) tokens))
+
+-- one token after the others
+pub says_on : (text : List ℕ) (tokens : List Token) (i : ℕ) (t : Token) → i < length tokens → says_skip_file text tokens ≡ says_skip_file text (drop i tokens) → says_skip_file text tokens ≡ is_comment (get_or tokens i t).kind && says action.SkipFile (word_in text (get_or tokens i t)) || says_skip_file text (drop (i + 1) tokens)
+says_on text tokens i t within e = e ∙ ap (says_skip_file text) (drop_more tokens i t within) ∙ by (is_comment (get_or tokens i t).kind)
+  where
+    others : List Token
+    others = filter (λ t. is_comment t.kind) (drop (i + 1) tokens)
+
+    by : (b : Bool) → list_any (says action.SkipFile) (map (λ t. slice_range text t.start t.stop) (cond b (get_or tokens i t ∷ others) others)) ≡ b && says action.SkipFile (word_in text (get_or tokens i t)) || list_any (says action.SkipFile) (map (λ t. slice_range text t.start t.stop) others)
+    by true = refl
+    by false = refl
+
+-- what a comment says, if it says something
+abbrev pub content_of : List ℕ → List (List ℕ)
+content_of comment = if is_text (stripped (without_hash comment)) then stripped (without_hash comment) ∷ [] else []
+
+-- what the comments among these tokens of a text say
+abbrev pub contents : List ℕ → List Token → List (List ℕ)
+contents text tokens = filter is_text (map (λ t. stripped (without_hash t)) (map (λ t. slice_range text t.start t.stop) (filter (λ t. is_comment t.kind) tokens)))
+
+-- one token after the others
+pub contents_on : (text : List ℕ) (tokens : List Token) (i : ℕ) (t : Token) (before after : List (List ℕ)) → i < length tokens → before ++ contents text (drop i tokens) ≡ contents text tokens → after ≡ before ++ (if is_comment (get_or tokens i t).kind then content_of (word_in text (get_or tokens i t)) else []) → after ++ contents text (drop (i + 1) tokens) ≡ contents text tokens
+contents_on text tokens i t before after within e here =
+    ap (λ l. l ++ contents text (drop (i + 1) tokens)) here
+    ∙ append_assoc before _ (contents text (drop (i + 1) tokens))
+    ∙ ap (λ l. before ++ l) (sym (by (is_comment (get_or tokens i t).kind)) ∙ sym (ap (contents text) (drop_more tokens i t within)))
+    ∙ e
+  where
+    others : List Token
+    others = filter (λ t. is_comment t.kind) (drop (i + 1) tokens)
+
+    by_text : (content : List ℕ) (cs : List (List ℕ)) (b : Bool) → cond b (content ∷ cs) cs ≡ cond b (content ∷ []) [] ++ cs
+    by_text content cs true = refl
+    by_text content cs false = refl
+
+    by : (b : Bool) → filter is_text (map (λ t. stripped (without_hash t)) (map (λ t. slice_range text t.start t.stop) (cond b (get_or tokens i t ∷ others) others))) ≡ (if b then content_of (word_in text (get_or tokens i t)) else []) ++ filter is_text (map (λ t. stripped (without_hash t)) (map (λ t. slice_range text t.start t.stop) others))
+    by true = by_text (stripped (without_hash (word_in text (get_or tokens i t)))) _ (is_text (stripped (without_hash (word_in text (get_or tokens i t)))))
+    by false = refl
+
+-- a comment that says something, and one that says nothing
+pub something : (comment word content : List ℕ) → word ≡ comment → content ≡ stripped (without_hash word) → (length content == 0) ≡ false → content_of comment ≡ content ∷ []
+something comment word content e f some = rw (← e) (rw (← f) (by content some))
+  where
+    by : (content : List ℕ) → (length content == 0) ≡ false → (if is_text content then content ∷ [] else []) ≡ content ∷ []
+    by [] some = absurd (cc)
+    by (b ∷ bs) some = refl
+
+pub nothing : (comment word content : List ℕ) → word ≡ comment → content ≡ stripped (without_hash word) → (length content == 0) ≡ true → content_of comment ≡ []
+nothing comment word content e f none = rw (← e) (rw (← f) (by content none))
+  where
+    by : (content : List ℕ) → (length content == 0) ≡ true → (if is_text content then content ∷ [] else []) ≡ []
+    by [] none = refl
+    by (b ∷ bs) none = absurd (omega (arith, eqb-true (length (b ∷ bs)) 0 none))

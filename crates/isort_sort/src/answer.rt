@@ -1,0 +1,72 @@
+//! What sorting answers.
+ghost use Rattle.std.specs.Prelude.{◌≡◌};
+ghost use Rattle.isort_sort.specs.Errors.{sort_error_of, sort_error_of_import};
+ghost use Rattle.isort_sort.specs.declared.answer.SortError.TheVariants.{Memory};
+
+use py_imports::ImportError;
+use py_lines::{Fault, LexError};
+use std::alloc::{AllocError, AllocFailed};
+use thiserror::Error;
+
+/// What sorting makes of a text.
+#[derive(Debug, Drop)]
+pub enum Sorted {
+    /// The text is sorted as it is.
+    Same,
+    /// The sorted text, which differs from the text.
+    Changed(String),
+    /// The text asks to be left as it is. No call gives this yet.
+    Skipped,
+}
+
+/// Why a text isn't sorted.
+#[derive(Clone, Copy, Debug, PartialEq, Eq, Error)]
+pub enum SortError {
+    /// There was no memory.
+    #[error("out of memory")]
+    Memory,
+    /// The fault of a text that isn't accepted: F1 to F8, or F9 for an import statement outside the grammar.
+    #[error("{0}")]
+    Fault(Fault),
+    /// The sorted text can't be written. `sort_code`, which writes nothing, never gives this.
+    #[error("cannot be written")]
+    Write,
+}
+
+impl From<AllocError> for SortError {
+    ghost from_gives = { λ _ e. e ≡ Memory };
+
+    fn from(_error: AllocError) -> SortError {
+        SortError::Memory
+    }
+}
+
+impl<T: Drop> From<AllocFailed<T>> for SortError {
+    ghost from_gives = { λ _ e. e ≡ Memory };
+
+    fn from(_error: AllocFailed<T>) -> SortError {
+        SortError::Memory
+    }
+}
+
+impl From<LexError> for SortError {
+    ghost from_gives = { λ given e. e ≡ sort_error_of given };
+
+    fn from(error: LexError) -> SortError {
+        match error {
+            LexError::Memory => SortError::Memory,
+            LexError::Fault(fault) => SortError::Fault(fault),
+        }
+    }
+}
+
+impl From<ImportError> for SortError {
+    ghost from_gives = { λ given e. e ≡ sort_error_of_import given };
+
+    fn from(error: ImportError) -> SortError {
+        match error {
+            ImportError::Memory => SortError::Memory,
+            ImportError::Fault(fault) => SortError::Fault(fault),
+        }
+    }
+}

@@ -1,0 +1,50 @@
+//! The comments of a logical line.
+ghost use Rattle.std.specs.Prelude.{◌≡◌, IfOk, map, string_bytes};
+ghost use Rattle.std.specs.List.{list_any};
+ghost use Rattle.py_lines.specs.Lines.{line_in};
+ghost use Rattle.py_imports.specs.Action.{says};
+ghost use Rattle.isort_sort.specs.Line.{comment_texts, stripped};
+ghost use Rattle.isort_sort.specs.LinesRead.{without_hash, comments_read};
+
+use py_imports::{Action, says};
+use py_lines::Unit;
+use std::alloc::{AllocError, Global};
+
+// The space that may stand between the tokens of a line (Python Language Reference, 2.1.9).
+const SPACE: [char; 3] = [' ', '\t', '\x0c'];
+
+// What a comment says: its text without `#`, and without the space round that.
+fn content(comment: &str) -> &str
+    ensures { result.now ≡ stripped (without_hash comment.now) }
+{
+    let text = comment.strip_prefix('#').unwrap_or(comment);
+    text.trim_start_matches(SPACE).trim_end_matches(SPACE)
+}
+
+/// Whether a comment of the line says `skip_file`.
+pub(crate) fn says_skip_file(unit: &Unit<'_>) -> bool
+    ensures { result ≡ list_any (says Action.SkipFile) (comment_texts (line_in unit.now)) }
+{
+    'tokens: for (place, token) in unit.tokens.iter().enumerate() {
+        if token.kind.is_comment() && says(unit.word(place), Action::SkipFile) {
+            return true;
+        }
+    }
+    false
+}
+
+/// The line's own comments: what each says, without the empty ones.
+pub(crate) fn own_comments(alloc: Global, unit: &Unit<'_>) -> Result<Vec<String>, AllocError>
+    ensures { IfOk result (λ comments. map string_bytes comments.items ≡ comments_read (line_in unit.now)) }
+{
+    let mut comments = Vec::new(alloc);
+    'tokens: for (place, token) in unit.tokens.iter().enumerate() {
+        if token.kind.is_comment() {
+            let content = content(unit.word(place));
+            if !content.is_empty() {
+                comments.push(content.to_string(alloc)?)?;
+            }
+        }
+    }
+    Ok(comments)
+}

@@ -1,0 +1,467 @@
+//! The layout of a block.
+ghost use Rattle.std.specs.Prelude.{◌≡◌, ◌≢◌, ◌++◌, [], IfOk, IfErr, OnOk, map, max, string_bytes};
+ghost use Rattle.std.specs.List.{AllByRecursion, join_by};
+ghost use Rattle.isort_settings.specs.Values.{values};
+ghost use Rattle.isort_sort.specs.Group.{group_value, IsTextOf};
+ghost use Rattle.isort_sort.specs.Layout.{gap_by_kind, gap_by_comment};
+ghost use Rattle.isort_sort.specs.LineEnd.{end_bytes};
+ghost use Rattle.isort_sort.specs.Packing.{text_with, HasSection};
+ghost use Rattle.isort_sort.specs.Values.{statement_value};
+
+use crate::answer::SortError;
+use crate::group::Group;
+use crate::line_end::LineEnd;
+use crate::statement::{Item, Statement};
+use crate::width::width;
+use crate::wrap_mode::WrapMode;
+use crate::wrapping::{Wrap, bracket_width, push_alias, push_head, push_items, push_remark};
+use isort_settings::Settings;
+use std::alloc::{AllocError, Global};
+use std::slice;
+
+/// How many blank lines stand between two statements, by their sections and forms.
+fn gap_by_kind(settings: &Settings, before: &Group, group: &Group) -> u32
+    requires first { HasSection (values settings.now) before.now }
+    requires second { HasSection (values settings.now) group.now }
+    ensures { result ≡ gap_by_kind (values settings.now) (statement_value before.now.statement)
+        (statement_value group.now.statement) }
+{
+    if before.section != group.section {
+        settings.lines_between_sections
+    } else if !settings.force_sort_within_sections
+        && !before.statement.is_from()
+        && group.statement.is_from()
+    {
+        settings.lines_between_types
+    } else {
+        0
+    }
+}
+
+/// How many blank lines the comments above a statement ask for.
+fn gap_by_comment(settings: &Settings, above: &[String]) -> u32
+    ensures { result ≡ gap_by_comment (values settings.now) (map string_bytes above.now) }
+{
+    if settings.ensure_newline_before_comments && !above.is_empty() {
+        1
+    } else {
+        0
+    }
+}
+
+/// How many blank lines stand between two statements, the second with the comments above it.
+fn gap(settings: &Settings, before: &Group, group: &Group) -> u32
+    requires first { HasSection (values settings.now) before.now }
+    requires second { HasSection (values settings.now) group.now }
+    ensures { result ≡ max
+        (gap_by_kind (values settings.now) (statement_value before.now.statement)
+        (statement_value group.now.statement))
+        (gap_by_comment (values settings.now) (map string_bytes group.now.above.items)) }
+{
+    gap_by_kind(settings, before, group).max(gap_by_comment(settings, &group.above))
+}
+
+/// How the statements of a block are laid out.
+#[derive(Clone, Copy)]
+struct Layout<'a> {
+    settings: &'a Settings,
+    /// The block's indentation.
+    indentation: &'a str,
+    /// What ends every line.
+    end: &'static str,
+}
+
+impl Layout<'_> {
+    ghost use Rattle.std.specs.Prelude.{replicate};
+    ghost use Rattle.std.specs.Option.{option_map};
+    ghost use Rattle.isort_sort.specs.Layout.{block_lines};
+    ghost use Rattle.isort_sort.specs.Packing.{
+      line_room,
+      packed,
+      cut_texts,
+      wraps,
+      wrapped_text,
+      names_text,
+      group_text,
+      laid_of,
+    };
+    ghost use Rattle.isort_sort.specs.Statement.{straight, star};
+    ghost use Rattle.isort_sort.specs.Values.{item_value};
+    ghost use Rattle.isort_sort.specs.Wrapping.{
+      flat,
+      four_spaces,
+      hanging,
+      hanging_in_brackets,
+      in_brackets,
+      is_forced,
+      items_text,
+      remark,
+      statement_lines,
+      trailing_comma,
+    };
+
+    /// How many characters the names on a line of a wrapped statement may have, where they are several.
+    fn line_room(&self, module: &str) -> usize
+        ensures { result ≡ line_room (values self.now.settings.now) self.now.indentation.now module.now }
+    {
+        let room = (self.settings.line_length as usize).saturating_sub(width(
+            self.indentation.as_bytes(),
+        ));
+        match WrapMode::of(self.settings) {
+            WrapMode::Grid => room
+                .saturating_sub(bracket_width(module))
+                .saturating_sub(",".len()),
+            WrapMode::HangingIndent => room.saturating_sub("    ".len() + ", \\".len()),
+            WrapMode::Vertical | WrapMode::VerticalHangingIndent => 0,
+        }
+    }
+
+    /// Puts the comma after the last name of a wrapped statement after `out`, where the settings ask for it.
+    fn push_trailing_comma(&self, out: &mut String) -> Result<(), AllocError>
+        ensures { OnOk result (string_bytes out.new ≡ string_bytes out.old
+            ++ trailing_comma (values self.now.settings.now)) }
+    {
+        if self.settings.include_trailing_comma {
+            out.push_str(",")?;
+        }
+        Ok(())
+    }
+
+    /// Puts a statement in brackets from its first line on after `out`: the modes 0 (grid) and 1 (vertical).
+    fn push_in_brackets(
+        &self,
+        out: &mut String,
+        module: &str,
+        items: &[Item],
+        comments: &[String],
+    ) -> Result<(), AllocError>
+        requires { items.now ≢ [] }
+        ensures { OnOk result (string_bytes out.new ≡ string_bytes out.old
+            ++ text_with self.now.end.now (in_brackets (values self.now.settings.now)
+            self.now.indentation.now module.now
+            (remark (map string_bytes comments.now))
+            (cut_texts (values self.now.settings.now) self.now.indentation.now module.now
+            (map item_value items.now)))) }
+    {
+        let wrap = Wrap {
+            room: self.line_room(module),
+            between: ",",
+            end: self.end,
+            indentation: self.indentation,
+            spaces: bracket_width(module),
+        };
+        out.push_str(self.indentation)?;
+        push_head(out, module)?;
+        out.push_str("(")?;
+        wrap.push_items(out, items)?;
+        self.push_trailing_comma(out)?;
+        out.push_str(")")?;
+        push_remark(out, comments)?;
+        out.push_str(self.end)
+    }
+
+    /// Puts the names of a wrapped statement after `out`, on lines that are indented further by four spaces.
+    fn push_further(
+        &self,
+        out: &mut String,
+        room: usize,
+        between: &'static str,
+        items: &[Item],
+    ) -> Result<(), AllocError>
+        ensures { OnOk result (string_bytes out.new ≡ string_bytes out.old
+            ++ (self.now.indentation.now ++ (four_spaces ++ join_by items_text
+            (between.now ++ (self.now.end.now ++ (self.now.indentation.now ++ four_spaces)))
+            (packed room (map item_value items.now))))) }
+    {
+        let wrap = Wrap {
+            room,
+            between,
+            end: self.end,
+            indentation: self.indentation,
+            spaces: 4,
+        };
+        out.push_str(self.indentation)?;
+        out.push_str("    ")?;
+        wrap.push_items(out, items)
+    }
+
+    /// Puts a statement after `out` whose names follow a backslash: the mode 2 (hanging indent).
+    fn push_hanging(
+        &self,
+        out: &mut String,
+        module: &str,
+        items: &[Item],
+        comments: &[String],
+    ) -> Result<(), AllocError>
+        requires { items.now ≢ [] }
+        ensures { OnOk result (string_bytes out.new ≡ string_bytes out.old
+            ++ text_with self.now.end.now (hanging self.now.indentation.now module.now
+            (remark (map string_bytes comments.now))
+            (cut_texts (values self.now.settings.now) self.now.indentation.now module.now
+            (map item_value items.now)))) }
+    {
+        out.push_str(self.indentation)?;
+        push_head(out, module)?;
+        out.push_str("\\")?;
+        out.push_str(self.end)?;
+        self.push_further(out, self.line_room(module), ", \\", items)?;
+        push_remark(out, comments)?;
+        out.push_str(self.end)
+    }
+
+    /// Puts a statement after `out` whose names stand on lines between the brackets: the mode 3 (vertical hanging
+    /// indent).
+    fn push_hanging_in_brackets(
+        &self,
+        out: &mut String,
+        module: &str,
+        items: &[Item],
+        comments: &[String],
+    ) -> Result<(), AllocError>
+        requires { items.now ≢ [] }
+        ensures { OnOk result (string_bytes out.new ≡ string_bytes out.old
+            ++ text_with self.now.end.now (hanging_in_brackets (values self.now.settings.now)
+            self.now.indentation.now module.now
+            (remark (map string_bytes comments.now))
+            (cut_texts (values self.now.settings.now) self.now.indentation.now module.now
+            (map item_value items.now)))) }
+    {
+        out.push_str(self.indentation)?;
+        push_head(out, module)?;
+        out.push_str("(")?;
+        push_remark(out, comments)?;
+        out.push_str(self.end)?;
+        self.push_further(out, self.line_room(module), ",", items)?;
+        self.push_trailing_comma(out)?;
+        out.push_str(self.end)?;
+        out.push_str(self.indentation)?;
+        out.push_str(")")?;
+        out.push_str(self.end)
+    }
+
+    /// Puts the lines of a wrapped statement after `out`.
+    fn push_wrapped(
+        &self,
+        out: &mut String,
+        module: &str,
+        items: &[Item],
+        comments: &[String],
+    ) -> Result<(), AllocError>
+        requires { items.now ≢ [] }
+        ensures { OnOk result (string_bytes out.new ≡ string_bytes out.old
+            ++ wrapped_text (values self.now.settings.now) self.now.indentation.now self.now.end.now module.now
+            (map string_bytes comments.now) (map item_value items.now)) }
+    {
+        match WrapMode::of(self.settings) {
+            WrapMode::Grid | WrapMode::Vertical => {
+                self.push_in_brackets(out, module, items, comments)
+            }
+            WrapMode::HangingIndent => self.push_hanging(out, module, items, comments),
+            WrapMode::VerticalHangingIndent => {
+                self.push_hanging_in_brackets(out, module, items, comments)
+            }
+        }
+    }
+
+    /// Puts names from a module after `out`, on one line without its line end.
+    fn push_one_line(
+        &self,
+        out: &mut String,
+        module: &str,
+        items: &[Item],
+        comments: &[String],
+    ) -> Result<(), AllocError>
+        ensures { OnOk result (string_bytes out.new ≡ string_bytes out.old
+            ++ flat self.now.indentation.now module.now (remark (map string_bytes comments.now))
+            (map item_value items.now)) }
+    {
+        out.push_str(self.indentation)?;
+        push_head(out, module)?;
+        push_items(out, items)?;
+        push_remark(out, comments)
+    }
+
+    /// Whether the settings ask for more lines than one.
+    fn is_forced(&self, items: &[Item]) -> bool
+        ensures { result ≡ is_forced (values self.now.settings.now) (map item_value items.now) }
+    {
+        let least = self.settings.force_grid_wrap as usize;
+        least > 0 && least <= items.len()
+    }
+
+    /// Whether a statement of names is wrapped, which would be this on one line.
+    fn wraps(&self, line: &[u8], items: &[Item]) -> bool
+        ensures { result ≡ wraps (values self.now.settings.now) line.now (map item_value items.now) }
+    {
+        let is_whole = match WrapMode::of(self.settings) {
+            WrapMode::Grid | WrapMode::Vertical => items.len() == 1,
+            WrapMode::HangingIndent | WrapMode::VerticalHangingIndent => false,
+        };
+        !is_whole && (self.is_forced(items) || width(line) > self.settings.line_length as usize)
+    }
+
+    /// Puts the lines of names from a module after `out`.
+    ///
+    /// The one line is written first, and taken back where the statement has to be wrapped.
+    fn push_names(
+        &self,
+        out: &mut String,
+        module: &str,
+        items: &[Item],
+        comments: &[String],
+    ) -> Result<(), AllocError>
+        requires { items.now ≢ [] }
+        ensures { OnOk result (string_bytes out.new ≡ string_bytes out.old
+            ++ names_text (values self.now.settings.now) self.now.indentation.now self.now.end.now module.now
+            (map string_bytes comments.now) (map item_value items.now)) }
+    {
+        let start = out.len();
+        self.push_one_line(out, module, items, comments)?;
+        if !self.wraps(&out.as_bytes()[start..], items) {
+            return out.push_str(self.end);
+        }
+        out.truncate(start);
+        self.push_wrapped(out, module, items, comments)
+    }
+
+    /// Puts `import MODULE` after `out`.
+    fn push_straight(
+        &self,
+        out: &mut String,
+        module: &str,
+        alias: &Option<String>,
+        comments: &[String],
+    ) -> Result<(), AllocError>
+        ensures { OnOk result (string_bytes out.new ≡ string_bytes out.old
+            ++ text_with self.now.end.now (statement_lines (values self.now.settings.now)
+            self.now.indentation.now (straight module.now (option_map string_bytes alias.now))
+            (remark (map string_bytes comments.now)) [] [])) }
+    {
+        out.push_str(self.indentation)?;
+        out.push_str("import ")?;
+        out.push_str(module)?;
+        push_alias(out, alias)?;
+        push_remark(out, comments)?;
+        out.push_str(self.end)
+    }
+
+    /// Puts `from MODULE import *` after `out`.
+    fn push_star(
+        &self,
+        out: &mut String,
+        module: &str,
+        comments: &[String],
+    ) -> Result<(), AllocError>
+        ensures { OnOk result (string_bytes out.new ≡ string_bytes out.old
+            ++ text_with self.now.end.now (statement_lines (values self.now.settings.now)
+            self.now.indentation.now (star module.now)
+            (remark (map string_bytes comments.now)) [] [])) }
+    {
+        out.push_str(self.indentation)?;
+        push_head(out, module)?;
+        out.push_str("*")?;
+        push_remark(out, comments)?;
+        out.push_str(self.end)
+    }
+
+    /// Puts the comments above a statement after `out`, each on a line.
+    fn push_above(&self, out: &mut String, above: &[String]) -> Result<(), AllocError>
+        ensures { OnOk result (string_bytes out.new ≡ string_bytes out.old
+            ++ text_with self.now.end.now
+            (map (λ c. self.now.indentation.now ++ c) (map string_bytes above.now))) }
+    {
+        for comment in above {
+            out.push_str(self.indentation)?;
+            out.push_str(comment.as_str())?;
+            out.push_str(self.end)?;
+        }
+        Ok(())
+    }
+
+    /// Puts a statement after `out`, with the comments above it.
+    fn push_group(&self, out: &mut String, group: &Group) -> Result<(), AllocError>
+        requires { (group_value group.now).items ≢ [] }
+        ensures { OnOk result (string_bytes out.new ≡ string_bytes out.old
+            ++ group_text (values self.now.settings.now) self.now.indentation.now self.now.end.now
+            (group_value group.now)) }
+    {
+        self.push_above(out, &group.above)?;
+        match &group.statement {
+            Statement::Straight { module, alias } => {
+                self.push_straight(out, module, alias, &group.comments)
+            }
+            Statement::Star { module } => self.push_star(out, module, &group.comments),
+            Statement::Names { module } => {
+                self.push_names(out, module, &group.items, &group.comments)
+            }
+            Statement::Single { module, item } => {
+                self.push_names(out, module, slice::from_ref(item), &group.comments)
+            }
+        }
+    }
+
+    /// Puts blank lines after `out`.
+    fn push_blank_lines(&self, out: &mut String, count: u32) -> Result<(), AllocError>
+        ensures { OnOk result (string_bytes out.new ≡ string_bytes out.old
+            ++ text_with self.now.end.now (replicate count [])) }
+    {
+        for _ in 0..count {
+            out.push_str(self.end)?;
+        }
+        Ok(())
+    }
+
+    /// Puts the lines of the groups after `out`, each with a line end.
+    fn push_groups(&self, out: &mut String, groups: &[Group]) -> Result<(), AllocError>
+        requires sections { AllByRecursion (HasSection (values self.now.settings.now)) groups.now }
+        requires items { AllByRecursion (λ g. (group_value g).items ≢ []) groups.now }
+        ensures { OnOk result (string_bytes out.new ≡ string_bytes out.old
+            ++ text_with self.now.end.now (block_lines (values self.now.settings.now)
+            self.now.indentation.now
+            (map (laid_of (values self.now.settings.now) self.now.indentation.now)
+            (map group_value groups.now)))) }
+    {
+        let Some((first, others)) = groups.split_first() else {
+            return Ok(());
+        };
+        self.push_group(out, first)?;
+        let mut before = first;
+        for group in others {
+            self.push_blank_lines(out, gap(self.settings, before, group))?;
+            self.push_group(out, group)?;
+            before = group;
+        }
+        Ok(())
+    }
+}
+
+/// The text of a block's statements, each line with the indentation and a line end; the last one without a line end
+/// unless `ended` is set.
+pub(crate) fn block_text(
+    alloc: Global,
+    settings: &Settings,
+    indentation: &str,
+    end: LineEnd,
+    ended: bool,
+    groups: &[Group],
+) -> Result<String, SortError>
+    requires items { AllByRecursion (λ g. (group_value g).items ≢ []) groups.now }
+    requires sections { AllByRecursion (HasSection (values settings.now)) groups.now }
+    ensures ok { IfOk result (λ text. IsTextOf (values settings.now) indentation.now (end_bytes end) ended
+        (map group_value groups.now) (string_bytes text)) }
+    ensures err { IfErr result (λ e. e ≡ SortError.Memory) }
+{
+    let mut text = String::new(alloc);
+    let end = end.as_str();
+    let layout = Layout {
+        settings,
+        indentation,
+        end,
+    };
+    layout.push_groups(&mut text, groups)?;
+    if !ended {
+        let len = text.len().saturating_sub(end.len());
+        text.truncate(len);
+    }
+    Ok(text)
+}

@@ -1,0 +1,167 @@
+//! The lines of a statement.
+ghost use Rattle.std.specs.Prelude.{◌≡◌, ◌-◌, ◌+◌, ◌≤◌, ◌++◌, OnOk, map, string_bytes, replicate};
+ghost use Rattle.std.specs.List.{join_by};
+ghost use Rattle.std.specs.Option.{SomeIff, option_map};
+ghost use Rattle.py_imports.specs.Spelled.{alias_text};
+ghost use Rattle.isort_sort.specs.Width as width;
+ghost use Rattle.isort_sort.specs.Values.{item_value};
+ghost use Rattle.isort_sort.specs.Wrapping.{item_text, items_text, head, remark};
+ghost use Rattle.isort_sort.specs.Packing.{packed};
+
+use crate::statement::Item;
+use crate::width::width;
+use std::alloc::AllocError;
+
+/// Puts ` as ALIAS` after `out`, where there is an alias.
+pub(crate) fn push_alias(out: &mut String, alias: &Option<String>) -> Result<(), AllocError>
+    ensures { OnOk result (string_bytes out.new ≡ string_bytes out.old ++ alias_text (option_map string_bytes alias.now)) }
+{
+    if let Some(alias) = alias {
+        out.push_str(" as ")?;
+        out.push_str(alias.as_str())?;
+    }
+    Ok(())
+}
+
+/// Puts an item after `out`.
+fn push_item(out: &mut String, item: &Item) -> Result<(), AllocError>
+    ensures { OnOk result (string_bytes out.new ≡ string_bytes out.old ++ item_text (item_value item.now)) }
+{
+    out.push_str(item.name.as_str())?;
+    push_alias(out, &item.alias)
+}
+
+/// Puts items after `out`, on one line.
+pub(crate) fn push_items(out: &mut String, items: &[Item]) -> Result<(), AllocError>
+    ensures { OnOk result (string_bytes out.new ≡ string_bytes out.old ++ items_text (map item_value items.now)) }
+{
+    let Some((first, others)) = items.split_first() else {
+        return Ok(());
+    };
+    push_item(out, first)?;
+    for item in others {
+        out.push_str(", ")?;
+        push_item(out, item)?;
+    }
+    Ok(())
+}
+
+/// Puts the joined comment after `out`, where there is one.
+pub(crate) fn push_remark(out: &mut String, comments: &[String]) -> Result<(), AllocError>
+    ensures { OnOk result (string_bytes out.new ≡ string_bytes out.old ++ remark (map string_bytes comments.now)) }
+{
+    let Some((first, others)) = comments.split_first() else {
+        return Ok(());
+    };
+    out.push_str("  # ")?;
+    out.push_str(first.as_str())?;
+    for comment in others {
+        out.push_str("; ")?;
+        out.push_str(comment.as_str())?;
+    }
+    Ok(())
+}
+
+/// Puts `from MODULE import ` after `out`.
+pub(crate) fn push_head(out: &mut String, module: &str) -> Result<(), AllocError>
+    ensures { OnOk result (string_bytes out.new ≡ string_bytes out.old ++ head module.now) }
+{
+    out.push_str("from ")?;
+    out.push_str(module)?;
+    out.push_str(" import ")
+}
+
+/// How many characters `from MODULE import (` has: where the names stand on the next lines, after the indentation.
+pub(crate) fn bracket_width(module: &str) -> usize
+    ensures { result ≡ width.width (head module.now) + 1 }
+{
+    "from ".len() + width(module.as_bytes()) + " import (".len()
+}
+
+/// Puts so many spaces after `out`.
+fn push_spaces(out: &mut String, count: usize) -> Result<(), AllocError>
+    ensures { OnOk result (string_bytes out.new ≡ string_bytes out.old ++ replicate count 32) }
+{
+    for _ in 0..count {
+        out.push_str(" ")?;
+    }
+    Ok(())
+}
+
+/// What is left of so many characters after an item, if it isn't longer.
+fn room_after(room: usize, item: &Item) -> Option<usize>
+    ensures { SomeIff result (width.width (item_text (item_value item.now)) ≤ room)
+        (room - width.width (item_text (item_value item.now))) }
+{
+    let room = room.checked_sub(width(item.name.as_bytes()))?;
+    match &item.alias {
+        None => Some(room),
+        Some(alias) => room
+            .checked_sub(" as ".len())?
+            .checked_sub(width(alias.as_bytes())),
+    }
+}
+
+/// What is left of so many characters after `, ` and an item, if they aren't longer.
+fn room_after_next(room: usize, item: &Item) -> Option<usize>
+    ensures { SomeIff result (2 + width.width (item_text (item_value item.now)) ≤ room)
+        (room - (2 + width.width (item_text (item_value item.now)))) }
+{
+    room_after(room.checked_sub(", ".len())?, item)
+}
+
+/// How the lines of a wrapped statement follow one another.
+#[derive(Clone, Copy)]
+pub(crate) struct Wrap<'a> {
+    /// How many characters the items of a line may have, where they are several.
+    pub(crate) room: usize,
+    /// What ends each line of items except the last, before the line end.
+    pub(crate) between: &'static str,
+    /// The line end.
+    pub(crate) end: &'static str,
+    /// The block's indentation, with which each line begins.
+    pub(crate) indentation: &'a str,
+    /// How many spaces follow the indentation on the next line.
+    pub(crate) spaces: usize,
+}
+
+impl Wrap<'_> {
+    ghost use Rattle.isort_sort.specs.Wrap.{next_line};
+
+    /// Puts the end of a line of items after `out`, and the beginning of the next line.
+    fn push_break(&self, out: &mut String) -> Result<(), AllocError>
+        ensures { OnOk result (string_bytes out.new ≡ string_bytes out.old ++ next_line self.now) }
+    {
+        out.push_str(self.between)?;
+        out.push_str(self.end)?;
+        out.push_str(self.indentation)?;
+        push_spaces(out, self.spaces)
+    }
+
+    /// Puts items after `out`, as many on each line as fit.
+    pub(crate) fn push_items(&self, out: &mut String, items: &[Item]) -> Result<(), AllocError>
+        ensures { OnOk result (string_bytes out.new ≡ string_bytes out.old
+            ++ join_by items_text (next_line self.now)
+            (packed self.now.room (map item_value items.now))) }
+    {
+        let Some((first, others)) = items.split_first() else {
+            return Ok(());
+        };
+        push_item(out, first)?;
+        let mut left = room_after(self.room, first).unwrap_or(0);
+        for item in others {
+            match room_after_next(left, item) {
+                Some(room) => {
+                    out.push_str(", ")?;
+                    left = room;
+                }
+                None => {
+                    self.push_break(out)?;
+                    left = room_after(self.room, item).unwrap_or(0);
+                }
+            }
+            push_item(out, item)?;
+        }
+        Ok(())
+    }
+}
