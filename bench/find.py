@@ -1,19 +1,20 @@
 #!/usr/bin/env python3
-"""Measures how fast isort lists imports, beside three other passes over the same bytes.
+"""Measures how fast isort lists imports, and compares it with three other passes over the same bytes.
 
     bench/find.py PROGRAM FOLDER [ROUNDS]
 
-PROGRAM is the built isort. The corpus is every `*.py` file below FOLDER, but for `site-packages`, that is UTF-8 without
-a byte order mark, ends in a line feed, is listed by isort without a fault, and is accepted by `ast.parse`. It is taken twice: the files apart, one process for each, and
-concatenated, from the first again as often as needed, to one text of about 40 MB. The passes are
+PROGRAM is the built isort. The corpus is every `*.py` file below FOLDER, except in `site-packages`, that is UTF-8
+without a byte order mark, ends in a line feed, is listed by isort without a fault, and is accepted by `ast.parse`. It is
+taken twice: the files apart, one process for each, and concatenated, from the first again as often as needed, to one
+text of about 40 MB. The passes are
 
 - `isort --identify -`;
 - `wc -m`, which counts characters;
 - a loop over bytes in C, which counts line feeds;
 - Python's `ast.parse` with a walk that collects the imports, in one process.
 
-Each is run ROUNDS times (3), and the best time counts. Times are wall clock with the start of the processes in them,
-but for `ast`, which is timed inside its process. A Markdown table is printed."""
+Each is run ROUNDS times (3), and the best time counts. Times are wall clock and include the start of the processes,
+except for `ast`, which is timed inside its process. A Markdown table is printed."""
 
 import ast
 import subprocess

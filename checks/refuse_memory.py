@@ -1,7 +1,7 @@
 #!/usr/bin/env python3
 """Refuses each growth of a crate's calls in turn.
 
-    bench/refuse_memory.py CRATE [JOBS]
+    checks/refuse_memory.py CRATE [JOBS]
 
 The crate has two tests that make the same calls: one makes a refused call again and compares the answers, the other
 makes each call once. For N = 1, 2 and so on, the tests are run with the N-th growth refused, JOBS runs at a time. The
@@ -13,7 +13,7 @@ import sys
 from concurrent.futures import ThreadPoolExecutor
 from pathlib import Path
 
-AGAIN = "tests::answers_the_same_behind_refused_memory"
+AGAIN = "tests::answers_the_same_after_refused_memory"
 ONCE = "tests::answers_at_once_with_ample_memory"
 
 

@@ -1,11 +1,12 @@
 #!/usr/bin/env python3
 """Lists the Python files that Python's own tokenizer accepts and isort's lexical layer refuses.
 
-    bench/check_lexer.py PROGRAM FOLDER..
+    checks/check_lexer.py PROGRAM FOLDER..
 
-PROGRAM is the built isort. Each word `import` and `from` of a file is spelled otherwise first, with as many letters, so
-that no import statement is found and the whole file is read. Files that are not UTF-8, or that the tokenizer refuses
-or finds an error token in, are left out. The last line counts the files read and those refused."""
+PROGRAM is the built isort. The files are all `*.py` below the folders. Each word `import` and `from` of a file is
+spelled otherwise first, with as many letters, so that no import statement is found and the whole file is read. Files
+that are not UTF-8, or that the tokenizer refuses or finds an error token in, are left out. The last line counts the
+files read and those refused. The status is 1 where one is refused."""
 
 import io
 import re

@@ -1,11 +1,12 @@
 #!/usr/bin/env python3
 """Compares what isort lists with what Python's own parser finds.
 
-    bench/check_imports.py PROGRAM FOLDER..
+    checks/check_imports.py PROGRAM FOLDER..
 
-PROGRAM is the built isort. Each import of each file is compared: its line, module, attribute and alias, in the order
-written. Files that are not UTF-8, or that `ast.parse` refuses, are left out, and so are those in which a coding comment
-names another encoding. The last line counts the files read, their imports, and the files that differ."""
+PROGRAM is the built isort. The files are all `*.py` below the folders. Each import of each file is compared: its line,
+module, attribute and alias, in the order written. Files that are not UTF-8, or that `ast.parse` refuses, are left out,
+and so are those in which a coding comment names another encoding. The last line counts the files read, their imports,
+and the files that differ. The status is 1 where one differs."""
 
 import ast
 import io
