@@ -1,62 +1,91 @@
-//! `isort --identify -` lists the imports of the Python text on standard input.
+//! The program `isort`: it sorts the import statements of Python files where they stand, tells whether they are sorted,
+//! or lists them.
+//!
+//! What it does with a text, and what it tells of it, stands in `isort_cmd`, with proofs. Here are the files, the
+//! streams and the process's status.
 #![tactic(auto)]
 
-use isort_cmd::{FindOptions, Metered, RunError, fault_text, identify};
-use std::io::{BufWriter, Write};
+mod messages;
+mod settings;
+mod task;
+
+use crate::messages::{print, tell, tell_no_memory, tell_result};
+use crate::settings::tell_refusal;
+use crate::task::Task;
+use isort_cmd::{Job, UsageError, command};
+use std::env;
+use std::io::{self, ErrorKind};
 use std::process::ExitCode;
-use std::{env, io};
 
 /// How many bytes a file may have.
 const MOST_BYTES: u64 = 1 << 30;
 
-/// What is printed for standard input, which is the only file so far.
-const PATH: &str = "-";
+/// The status where a file isn't sorted under a check, or where something could not be read, understood or written.
+const FAILED: u8 = 1;
 
-fn main(rt: HostRuntime) -> io::Result<ExitCode> {
-    if !asks_for_listing(&rt)? {
-        eprintln!(rt; "isort: U1 options do not go together")?;
-        return Ok(ExitCode::from(2));
-    }
-    let Err(error) = list(&rt) else {
-        return Ok(ExitCode::SUCCESS);
+/// The status of wrong usage, and of wrong settings.
+const REFUSED: u8 = 2;
+
+fn main(rt: HostRuntime) -> ExitCode {
+    let status = match words(&rt) {
+        Ok(words) => match command(rt.alloc(), words) {
+            Ok(job) => run(&rt, &job),
+            Err(error) => refuse(&rt, &error),
+        },
+        Err(error) => refuse_words(&rt, &error),
     };
-    match fault_text(rt.alloc(), PATH, &error) {
-        Ok(line) => eprint!(rt; "{line}")?,
-        Err(_) => eprintln!(rt; "isort: R5 out of memory")?,
-    }
-    Ok(ExitCode::FAILURE)
+    ExitCode::from(status)
 }
 
-// Whether the words after the program's name are `--identify -`, which is all that it knows so far.
-fn asks_for_listing(rt: &HostRuntime) -> io::Result<bool> {
-    let words: Vec<String> = env::args(rt)?.skip(1).collect(rt.alloc())?;
-    Ok(match words.as_slice() {
-        [option, file] => option.as_str() == "--identify" && file.as_str() == PATH,
-        _ => false,
-    })
+// The words of the command line, of which the first is the program's name.
+fn words(rt: &HostRuntime) -> io::Result<Vec<String>> {
+    Ok(env::args(rt)?.collect(rt.alloc())?)
 }
 
-// Lists the imports of standard input on standard output. A listing that can't be written whole is a failed write.
-fn list(rt: &HostRuntime) -> Result<(), RunError> {
-    let options = FindOptions {
-        unique: None,
-        top_only: false,
-    };
-    let mut reader = Metered::new(rt.stdin());
-    let Ok(out) = BufWriter::new(rt.alloc(), rt.stdout()) else {
-        return Err(RunError::Memory);
-    };
-    let mut writer = Metered::new(out);
-    let listed = identify(
-        rt.alloc(),
-        &mut reader,
-        &mut writer,
-        PATH,
-        options,
-        MOST_BYTES,
-    );
-    match writer.into_inner().flush() {
-        Ok(()) => listed,
-        Err(_) => Err(RunError::Write),
+// Words that can't be had: one of them is not UTF-8, or memory ran out.
+fn refuse_words(rt: &HostRuntime, error: &io::Error) -> u8 {
+    if error.kind() == ErrorKind::OutOfMemory {
+        tell_no_memory(rt);
+    } else {
+        tell(rt, "isort: the command line is not UTF-8\n");
     }
+    REFUSED
+}
+
+// Words that give no job. Only help that was asked for goes to standard output, and is no failure.
+fn refuse(rt: &HostRuntime, error: &UsageError) -> u8 {
+    if let UsageError::Help(text) = error {
+        return print_help(rt, text.as_str());
+    }
+    tell(rt, error.text());
+    REFUSED
+}
+
+fn print_help(rt: &HostRuntime, text: &str) -> u8 {
+    if print(rt, text).is_ok() {
+        return 0;
+    }
+    tell(rt, "isort: R3 cannot be written\n");
+    FAILED
+}
+
+// Does the job, and answers the process's status.
+fn run(rt: &HostRuntime, job: &Job) -> u8 {
+    match Task::new(rt, &job.action) {
+        Ok(task) => run_over_files(rt, job, &task),
+        Err(refusal) => {
+            tell_refusal(rt, &refusal);
+            REFUSED
+        }
+    }
+}
+
+// Takes the files in the order given. What comes of one says nothing of the next.
+fn run_over_files(rt: &HostRuntime, job: &Job, task: &Task) -> u8 {
+    let mut status = 0;
+    for path in &job.files {
+        let result = task.run(rt, path.as_str());
+        status = status.max(tell_result(rt, path.as_str(), &job.action, &result));
+    }
+    status
 }

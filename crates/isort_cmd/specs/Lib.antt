@@ -4,3 +4,10 @@ pub mod Written
 pub mod Printed
 pub mod FaultText
 pub mod Steps
+pub mod Options
+pub mod Choice
+pub mod CommandLine
+pub mod UsageText
+pub mod ParserSteps
+pub mod Sorting
+pub mod Reported

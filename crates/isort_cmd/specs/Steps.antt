@@ -11,12 +11,6 @@ IsReadError run.Read l = l ≡ last.Failed
 IsReadError run.NeverEnds l = l ≡ last.Interrupted 1000
 IsReadError _ l = ⊥
 
--- the errors of reading a text whole
-abbrev pub IsInputError : RunError → Type 0
-IsInputError (run.Fault f) = ⊥
-IsInputError run.Write = ⊥
-IsInputError _ = ⊤
-
 -- the errors of listing a text that was read
 abbrev pub IsOutputError : RunError → Type 0
 IsOutputError (run.Fault f) = ⊤

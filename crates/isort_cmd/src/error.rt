@@ -1,9 +1,9 @@
 ghost use Rattle.std.specs.Prelude.{◌≡◌};
-ghost use Rattle.isort_cmd.specs.FaultText.{fault_words};
 
 use isort_find::FindError;
+use isort_sort::SortError;
 use py_imports::ImportError;
-use py_lines::{Fault, FaultKind};
+use py_lines::Fault;
 use std::alloc::{AllocError, AllocFailed};
 use std::error::Error;
 use std::fmt;
@@ -25,23 +25,6 @@ pub enum RunError {
     NeverEnds,
 }
 
-// The label and the words of a fault.
-fn fault_words(kind: FaultKind) -> &'static str
-    ensures { result.now ≡ fault_words kind }
-{
-    match kind {
-        FaultKind::BadUtf8 => "F1 not UTF-8",
-        FaultKind::BadChar => "F2 unexpected character",
-        FaultKind::OpenString => "F3 string not closed",
-        FaultKind::OpenTriple => "F4 triple-quoted string not closed",
-        FaultKind::WrongClose => "F5 closing bracket without its opening",
-        FaultKind::OpenBracket => "F6 bracket not closed",
-        FaultKind::BadJoin => "F7 backslash not before a line end",
-        FaultKind::TooDeep => "F8 more than 200 brackets open",
-        FaultKind::BadImport => "F9 import statement not understood",
-    }
-}
-
 impl RunError {
     ghost use Rattle.isort_cmd.specs.FaultText.{error_words};
 
@@ -53,7 +36,7 @@ impl RunError {
             RunError::Read => "R1 cannot be read",
             RunError::TooLong => "R2 is too long",
             RunError::Write => "R3 cannot be written",
-            RunError::Fault(fault) => fault_words(fault.kind),
+            RunError::Fault(fault) => fault.kind.words(),
             RunError::Memory => "R5 out of memory",
             RunError::NeverEnds => "R6 reader never ends",
         }
@@ -119,6 +102,21 @@ impl From<ImportError> for RunError {
         match e {
             ImportError::Memory => RunError::Memory,
             ImportError::Fault(fault) => RunError::Fault(fault),
+        }
+    }
+}
+
+impl From<SortError> for RunError {
+    ghost use Rattle.std.specs.Prelude.{◌≡◌};
+    ghost use Rattle.isort_cmd.specs.RunError.{run_error_of_sort};
+
+    ghost from_gives = { λ e r. r ≡ run_error_of_sort e };
+
+    fn from(e: SortError) -> RunError {
+        match e {
+            SortError::Memory => RunError::Memory,
+            SortError::Fault(fault) => RunError::Fault(fault),
+            SortError::Write => RunError::Write,
         }
     }
 }

@@ -1,19 +1,35 @@
-//! The runs of `isort`: what they read, what they write, and how they fail.
+//! The command line of `isort`, and its runs: what they read, what they write, and how they fail.
 #![tactic(auto)]
 
+mod arguments;
+mod checking;
+mod choice;
+mod command_line;
 mod error;
+mod job;
 mod line;
 mod listing;
+mod message;
 mod metered;
 mod read;
-mod report;
+mod reporting;
+mod sorting;
+mod told;
+mod usage;
 mod write;
 
+pub use checking::check_run;
+pub use command_line::command;
 pub use error::RunError;
 pub use isort_find::{FindOptions, ImportKey};
+pub use isort_settings::{Profile, Settings, SettingsError};
+pub use isort_sort::Outcome;
+pub use job::{Action, Job};
 pub use listing::identify;
+pub use message::{fault_text, settings_text};
 pub use metered::{Last, Metered};
-pub use report::fault_text;
-
-#[cfg(test)]
-mod tests;
+pub use read::read_text;
+pub use reporting::report;
+pub use sorting::sort_run;
+pub use told::Report;
+pub use usage::UsageError;

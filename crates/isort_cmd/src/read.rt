@@ -2,7 +2,8 @@ ghost use Rattle.std.specs.Prelude.{◌≡◌, ◌≢◌, ◌<◌, ◌≤◌, �
 ghost use Rattle.std.specs.Io.{ReadsAtMost};
 ghost use Rattle.std.specs.Io.KnownBytes.{IsAtEnd, ReadConsumes};
 ghost use Rattle.isort_cmd.specs.Metered.{inner_of, last_of};
-ghost use Rattle.isort_cmd.specs.Steps.{IsInputError, IsReadError};
+ghost use Rattle.isort_cmd.specs.RunError.{IsInputError};
+ghost use Rattle.isort_cmd.specs.Steps.{IsReadError};
 
 use crate::error::RunError;
 use crate::metered::{Last, MOST_INTERRUPTIONS, Metered};
@@ -32,8 +33,15 @@ fn read_piece<R: Read>(reader: &mut Metered<R>, piece: &mut [u8]) -> Result<usiz
     }
 }
 
-// All bytes of the reader, of which there are at most `max`.
-pub(crate) fn read_text<R: Read>(
+/// All bytes of the reader, of which there may be `max`.
+///
+/// - `Read`: a read failed.
+/// - `TooLong`: more than `max` bytes came.
+/// - `NeverEnds`: a read was interrupted 1000 times in a row.
+/// - `Memory`: memory ran out.
+///
+/// After each answer except `Read` and `NeverEnds` the last call of `reader` is fine.
+pub fn read_text<R: Read>(
     alloc: Global,
     reader: &mut Metered<R>,
     max: u64,

@@ -16,6 +16,3 @@ pub use error::{FindError, ResumeError};
 pub use finder::Finder;
 pub use key::{KeyText, key_of};
 pub use options::{FindOptions, ImportKey};
-
-#[cfg(test)]
-mod tests;

@@ -20,6 +20,3 @@ pub use key::SettingKey;
 pub use profile::Profile;
 pub use section::Section;
 pub use settings::Settings;
-
-#[cfg(test)]
-mod tests;

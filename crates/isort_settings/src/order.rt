@@ -12,7 +12,7 @@ ghost use Rattle.isort_settings.specs.Orders.NameClasses.{place_of};
 use std::cmp::Ordering;
 
 /// The class of a name, in the order in which classes are sorted.
-#[derive(Clone, Copy, Debug, PartialEq, Eq, PartialOrd, Ord)]
+#[derive(Clone, Copy, PartialEq, Eq, PartialOrd, Ord)]
 pub enum NameClass {
     Constant,
     Class,

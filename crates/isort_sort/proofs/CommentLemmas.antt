@@ -15,9 +15,8 @@ use Rattle.py_lines.specs.Character.{is_space}
 use Rattle.py_lines.specs.declared.token.Token.{Token}
 use Rattle.py_imports.specs.Action.{says}
 use Rattle.py_imports.specs.Statement.{is_comment}
-use Rattle.py_imports.specs.declared.action.Action.TheVariants as action
-use Rattle.isort_sort.specs.Line.{without_start, without_end, stripped, is_text}
-use Rattle.isort_sort.specs.LinesRead.{without_hash}
+use Rattle.py_imports.specs.declared.action.Action.{Action}
+use Rattle.isort_sort.specs.Line.{without_hash, without_start, without_end, stripped, is_text}
 
 -- space, tab and form feed
 abbrev pub spaces : List ℕ
@@ -143,18 +142,37 @@ hash_cut comment (Some rest) cut = cut.2 ∙ sym (ap without_hash (drop_at_char 
 abbrev word_in : List ℕ → Token → List ℕ
 word_in text t = slice_range text t.start t.stop
 
--- whether a comment among these tokens of a text says `skip_file`
-abbrev pub says_skip_file : List ℕ → List Token → Bool
-says_skip_file text tokens = list_any (says action.SkipFile) (map (λ t. slice_range text t.start t.stop) (filter (λ t. is_comment t.kind) tokens))
+-- whether a comment among these tokens of a text says the action
+abbrev pub comments_say : Action → List ℕ → List Token → Bool
+comments_say a text tokens = list_any (says a) (map (λ t. slice_range text t.start t.stop) (filter (λ t. is_comment t.kind) tokens))
 
 -- one token after the others
-pub says_on : (text : List ℕ) (tokens : List Token) (i : ℕ) (t : Token) → i < length tokens → says_skip_file text tokens ≡ says_skip_file text (drop i tokens) → says_skip_file text tokens ≡ is_comment (get_or tokens i t).kind && says action.SkipFile (word_in text (get_or tokens i t)) || says_skip_file text (drop (i + 1) tokens)
-says_on text tokens i t within e = e ∙ ap (says_skip_file text) (drop_more tokens i t within) ∙ by (is_comment (get_or tokens i t).kind)
+pub says_on : (a : Action) (text : List ℕ) (tokens : List Token) (i : ℕ) (t : Token) → i < length tokens → comments_say a text tokens ≡ comments_say a text (drop i tokens) → comments_say a text tokens ≡ is_comment (get_or tokens i t).kind && says a (word_in text (get_or tokens i t)) || comments_say a text (drop (i + 1) tokens)
+says_on a text tokens i t within e = e ∙ ap (comments_say a text) (drop_more tokens i t within) ∙ by (is_comment (get_or tokens i t).kind)
   where
     others : List Token
     others = filter (λ t. is_comment t.kind) (drop (i + 1) tokens)
 
-    by : (b : Bool) → list_any (says action.SkipFile) (map (λ t. slice_range text t.start t.stop) (cond b (get_or tokens i t ∷ others) others)) ≡ b && says action.SkipFile (word_in text (get_or tokens i t)) || list_any (says action.SkipFile) (map (λ t. slice_range text t.start t.stop) others)
+    by : (b : Bool) → list_any (says a) (map (λ t. slice_range text t.start t.stop) (cond b (get_or tokens i t ∷ others) others)) ≡ b && says a (word_in text (get_or tokens i t)) || list_any (says a) (map (λ t. slice_range text t.start t.stop) others)
+    by true = refl
+    by false = refl
+
+-- the comments among these tokens of a text
+abbrev pub texts : List ℕ → List Token → List (List ℕ)
+texts text tokens = map (λ t. slice_range text t.start t.stop) (filter (λ t. is_comment t.kind) tokens)
+
+-- one token after the others
+pub texts_on : (text : List ℕ) (tokens : List Token) (i : ℕ) (t : Token) (before after : List (List ℕ)) → i < length tokens → before ++ texts text (drop i tokens) ≡ texts text tokens → after ≡ before ++ (if is_comment (get_or tokens i t).kind then word_in text (get_or tokens i t) ∷ [] else []) → after ++ texts text (drop (i + 1) tokens) ≡ texts text tokens
+texts_on text tokens i t before after within e here =
+    ap (λ l. l ++ texts text (drop (i + 1) tokens)) here
+    ∙ append_assoc before _ (texts text (drop (i + 1) tokens))
+    ∙ ap (λ l. before ++ l) (sym (by (is_comment (get_or tokens i t).kind)) ∙ sym (ap (texts text) (drop_more tokens i t within)))
+    ∙ e
+  where
+    others : List Token
+    others = filter (λ t. is_comment t.kind) (drop (i + 1) tokens)
+
+    by : (b : Bool) → map (λ t. slice_range text t.start t.stop) (cond b (get_or tokens i t ∷ others) others) ≡ (if b then word_in text (get_or tokens i t) ∷ [] else []) ++ map (λ t. slice_range text t.start t.stop) others
     by true = refl
     by false = refl
 

@@ -1,18 +1,18 @@
 -- The text of grouped members that are laid out is a layout of the members.
-use Rattle.std.proofs.Common.{◌≡◌, ℕ, Bool, Option, None, Some, List, [], ◌∷◌, map, refl, sym, ap, ◌∙◌, subst, inl, inr}
+use Rattle.std.proofs.Common.{◌≡◌, ℕ, zero, suc, Bool, true, false, cond, List, [], ◌∷◌, ◌++◌, map, flat_map, replicate, refl, sym, ap, ◌∙◌, subst, append-nil}
+use Rattle.std.specs.List.{join_by}
+use Rattle.std.proofs.lemmas.List.Concat.{flat_map-append}
 use Rattle.std.specs.List.{AllByRecursion}
 use Rattle.py_imports.specs.Grammar.{Item}
 use Rattle.isort_settings.specs.Values.{Values}
+use Rattle.isort_sort.specs.Arranged.{IsArranged}
+use Rattle.isort_sort.specs.Found.{Found, blanks_of}
 use Rattle.isort_sort.specs.Group.{Group, group_value, IsGrouped, AreGrouped, LaysOut, LayOut, IsTextOf}
-use Rattle.isort_sort.specs.Layout.{Laid, IsLaid, EachIsLaid}
+use Rattle.isort_sort.specs.Layout.{Laid, IsLaid, EachIsLaid, AreLaid, block_lines, text_of_lines}
 use Rattle.isort_sort.specs.Member.{Member, AreStatements, AreItemsOf, comments_of, above_of}
-use Rattle.isort_sort.specs.Reading.{IsRead}
-use Rattle.isort_sort.specs.Sorted.{first_end, IsLayout, IsSorted}
 use Rattle.isort_sort.specs.Statement.{Statement, module_of, section_of}
 use Rattle.isort_sort.specs.Wrapping.{IsCut, fits_line}
-use Rattle.isort_sort.specs.Values.{member_value}
 use Rattle.isort_sort.specs.declared.group.Group as code
-use Rattle.isort_sort.specs.declared.read.Block as read
 
 -- each group's section is that of its statement
 pub sections_right : (v : Values) (members : List Member) (groups : List code.Group) → AllByRecursion (IsGrouped v members) (map group_value groups) → AllByRecursion (λ g. (group_value g).section ≡ section_of v (group_value g).statement) groups
@@ -36,28 +36,28 @@ each_laid : (v : Values) (indentation : List ℕ) (members : List Member) (group
 each_laid v indentation members [] laid each out = subst (EachIsLaid v indentation members) (sym out) tt
 each_laid v indentation members (g ∷ gs) laid each out = subst (EachIsLaid v indentation members) (sym out.2) (laid_by v indentation members g out.0 each.0 out.3, each_laid v indentation members gs out.1 each.1 out.4)
 
-pub layout_of_groups : (v : Values) (indentation end : List ℕ) (ended : Bool) (members : List Member) (groups : List Group) (text : List ℕ) → AreGrouped v members groups → IsTextOf v indentation end ended groups text → IsLayout v end indentation ended members text
-layout_of_groups v indentation end ended members groups text grouped out = (
-  out.0,
-  record {
-    statements = subst (AreStatements v members) (same_statements v indentation groups out.0 out.1) grouped.statements;
-    each = each_laid v indentation members groups out.0 grouped.each out.1;
-  },
-  out.2,
-)
+-- grouped members that are laid out are their statements laid out
+pub are_laid : (v : Values) (indentation : List ℕ) (members : List Member) (groups : List Group) (laid : List Laid) → AreGrouped v members groups → LayOut v indentation groups laid → AreLaid v indentation members laid
+are_laid v indentation members groups laid grouped out = record {
+  statements = subst (AreStatements v members) (same_statements v indentation groups laid out) grouped.statements;
+  each = each_laid v indentation members groups laid grouped.each out;
+}
 
--- the sorted text of a text that is one block is its layout
-pub block_sorted : (text : List ℕ) (v : Values) (block : Option read.Block) (b : read.Block) (groups passed : List code.Group) (end sorted : List ℕ) → IsRead text block → block ≡ Some b → AreGrouped v (map member_value b.members.items) (map group_value groups) → end ≡ first_end text → passed ≡ groups → IsTextOf v [] end b.ended (map group_value passed) sorted → IsSorted text v sorted
-block_sorted text v block b groups passed end sorted is same grouped ends all out =
-    let r = subst (IsRead text) same is in
-    let written : IsTextOf v [] (first_end text) b.ended (map group_value groups) sorted =
-    subst (λ (gs : List code.Group). IsTextOf v [] (first_end text) b.ended (map group_value gs) sorted) all (subst (λ (e : List ℕ). IsTextOf v [] e b.ended (map group_value passed) sorted) ends out) in
-    record {
-      lines = r.0;
-      accepted = r.1;
-      sorts = inl (map member_value b.members.items, r.2, subst (λ (ended : Bool). IsLayout v (first_end text) [] ended (map member_value b.members.items) sorted) r.3 (layout_of_groups v [] (first_end text) b.ended (map member_value b.members.items) (map group_value groups) sorted grouped written));
-    }
+-- blank lines after the lines of a block
+blank_texts : (n : ℕ) (end : List ℕ) → flat_map (λ (l : List ℕ). l ++ end) (replicate n []) ≡ flat_map (λ (l : List ℕ). l) (replicate n end)
+blank_texts zero end = refl
+blank_texts (suc n) end = ap (λ (rest : List ℕ). end ++ rest) (blank_texts n end)
 
--- the sorted text of a text that is no block is the text
-pub plain_sorted : (text : List ℕ) (v : Values) → IsRead text None → IsSorted text v text
-plain_sorted text v r = record { lines = r.0; accepted = r.1; sorts = inr (r.2, refl) }
+with_blanks : (end : List ℕ) (ended : Bool) (blanks n : ℕ) (lines : List (List ℕ)) (text : List ℕ) → n ≡ cond ended blanks 0 → text ≡ text_of_lines end ended 0 lines ++ flat_map (λ (l : List ℕ). l) (replicate n end) → text ≡ text_of_lines end ended blanks lines
+with_blanks end true blanks n lines text e h =
+    let f : List ℕ → List ℕ = λ l. l ++ end in
+    h ∙ (λ i. flat_map f (append-nil lines i) ++ flat_map (λ (l : List ℕ). l) (replicate (e i) end))
+    ∙ ap (λ (rest : List ℕ). flat_map f lines ++ rest) (sym (blank_texts blanks end))
+    ∙ sym (flat_map-append f lines (replicate blanks []))
+with_blanks end false blanks n lines text e h = h ∙ ap (λ k. join_by (λ (l : List ℕ). l) end lines ++ flat_map (λ (l : List ℕ). l) (replicate k end)) e ∙ append-nil (join_by (λ (l : List ℕ). l) end lines)
+
+-- the layout of a block from its groups
+pub arranged : (v : Values) (end : List ℕ) (f : Found) (groups passed : List code.Group) (n : ℕ) (indentation written text : List ℕ) → AreGrouped v f.members (map group_value groups) → passed ≡ groups → indentation ≡ f.indentation → IsTextOf v indentation end f.ended (map group_value passed) written → n ≡ cond f.ended (blanks_of v f) 0 → text ≡ written ++ flat_map (λ (l : List ℕ). l) (replicate n end) → IsArranged v end f text
+arranged v end f groups passed n indentation written text grouped all same out count is =
+    let o = subst (λ (i : List ℕ). IsTextOf v i end f.ended (map group_value groups) written) same (subst (λ (gs : List code.Group). IsTextOf v indentation end f.ended (map group_value gs) written) all out) in
+    (o.0, are_laid v f.indentation f.members (map group_value groups) o.0 grouped o.1, with_blanks end f.ended (blanks_of v f) n (block_lines v f.indentation o.0) text count (is ∙ ap (λ (t : List ℕ). t ++ flat_map (λ (l : List ℕ). l) (replicate n end)) o.2))

@@ -1,85 +1,90 @@
--- A text has one sorted text.
-use Rattle.std.proofs.Common.{◌≡◌, ℕ, Bool, None, Option, List, [], ◌∷◌, ⊎_elim, map, refl, sym, ap, ◌∙◌, subst}
+-- An accepted text has one sorted text, and one list of blocks.
+use Rattle.std.proofs.Common.{◌≡◌, ℕ, Bool, true, false, None, Option, List, [], ◌++◌, ◌⊎◌, ⊎_elim, inl, inr, length, refl, sym, ap, ◌∙◌, subst}
+use Rattle.std.proofs.lemmas.Bool.{both_ways}
 use Rattle.py_lines.specs.LogicalLine.{LogicalLine}
 use Rattle.py_lines.specs.Lexed.{IsLexed}
 use Rattle.py_lines.specs.declared.fault.Fault.{Fault}
-use Rattle.py_imports.specs.Binds.{Binds}
-use Rattle.py_imports.specs.Bound.{Bound}
-use Rattle.py_imports.specs.Grammar.{Item}
 use Rattle.isort_settings.specs.Values.{Values}
-use Rattle.isort_sort.specs.Layout.{Laid, IsLaid, EachIsLaid, block_lines, text_of_lines}
-use Rattle.isort_sort.specs.Line.{imported_of}
-use Rattle.isort_sort.specs.Member.{Member, AreItemsOf, comments_of, above_of}
-use Rattle.isort_sort.specs.OneBlock.{IsMember, AreMembers, IsOneBlock, is_ended}
-use Rattle.isort_sort.specs.Sorted.{first_end, IsLayout, SortsLines, IsSorted}
-use Rattle.isort_sort.specs.Statement.{Statement, module_of}
-use Rattle.isort_sort.specs.Wrapping.{IsCut, fits_line}
-use Rattle.isort_sort.proofs.LengthLemmas.{fits_line_shrinks}
-use Rattle.isort_sort.proofs.OrderLemmas.{one_list_in_order}
-use Rattle.isort_sort.proofs.StatementLemmas.{AreOrders, item_cmp_total, statement_cmp_total}
-use Rattle.isort_sort.proofs.WrappingLemmas.{one_cut}
-
--- a logical line binds one list
-abbrev pub BindsOneList : Type 0
-BindsOneList = (line : LogicalLine) (bounds others : List Bound) → Binds line bounds → Binds line others → bounds ≡ others
+use Rattle.isort_sort.specs.Answers.{spans_from, AreBlocksOf}
+use Rattle.isort_sort.specs.Blocks.{Cut, IsCutAtBlocks}
+use Rattle.isort_sort.specs.Row.{Row, AreRows, skips_file}
+use Rattle.isort_sort.specs.Sorted.{first_end, mark_of, IsSortedCut, IsAccepted, IsSkipped, HasBlocks, IsLaidOut, IsSorted}
+use Rattle.isort_sort.specs.declared.answer.Block.{Block}
+use Rattle.isort_sort.proofs.OneBlocks.{one_cut_at_blocks}
+use Rattle.isort_sort.proofs.OneRows.{BindsOneList, one_rows}
+use Rattle.isort_sort.proofs.SomeBlocks.{some_cut_at_blocks}
+use Rattle.isort_sort.proofs.SomeRows.{some_rows}
+use Rattle.isort_sort.proofs.SortedCuts.{some_sorted_cut, one_sorted_cut}
+use Rattle.isort_sort.proofs.StatementLemmas.{AreOrders}
 
 -- a text has one list of logical lines
 abbrev pub HasOneLexing : Type 0
 HasOneLexing = (text : List ℕ) (lines others : List LogicalLine) (end other : Option Fault) → IsLexed text lines end → IsLexed text others other → lines ≡ others
 
-same_member : BindsOneList → (line : LogicalLine) (m n : Member) → IsMember line m → IsMember line n → m ≡ n
-same_member one line m n a b =
-    let imports : m.imports ≡ n.imports = a.imports ∙ ap (map imported_of) (one line a.bounds b.bounds a.binds b.binds) ∙ sym b.imports in
-    let comments : m.comments ≡ n.comments = a.comments ∙ sym b.comments in
-    let above : m.above ≡ n.above = a.above ∙ sym b.above in
-    λ i. record { imports = imports i; comments = comments i; above = above i }
+-- an accepted text is skipped or has blocks
+abbrev Cuts : List ℕ → List LogicalLine → Type 0
+Cuts text lines = IsSkipped text ⊎ ((cut : Cut) × HasBlocks text lines cut)
 
-same_members : BindsOneList → (lines : List LogicalLine) (ms ns : List Member) → AreMembers lines ms → AreMembers lines ns → ms ≡ ns
-same_members one [] ms ns a b = a ∙ sym b
-same_members one (line ∷ lines) ms ns a b =
-    a.2 ∙ (λ i. same_member one line a.0 b.0 a.3 b.3 i ∷ same_members one lines a.1 b.1 a.4 b.4 i) ∙ sym b.2
+cuts : (text : List ℕ) (lines : List LogicalLine) → IsAccepted text lines → Cuts text lines
+cuts text lines accepted = by (skips_file lines) refl
+  where
+    by : (b : Bool) → skips_file lines ≡ b → Cuts text lines
+    by true e = inl (lines, accepted, e)
+    by false e =
+        let rows = some_rows [] lines accepted.bounds accepted.good in
+        let cut = some_cut_at_blocks rows.0 in
+        inr (cut.0, record { accepted = accepted; unskipped = e; rows = rows.0; seen = rows.1; cut_at = cut.1 })
 
--- statements are laid out in one way
-same_laid : (v : Values) → AreOrders v → (indentation : List ℕ) (members : List Member) (s t : Laid) → s.statement ≡ t.statement → IsLaid v indentation members s → IsLaid v indentation members t → s ≡ t
-same_laid v o indentation members s t same a b =
-    let back : t.statement ≡ s.statement = sym same in
-    let listed : AreItemsOf v members s.statement t.items = subst (λ (u : Statement). AreItemsOf v members u t.items) back b.items in
-    let items : s.items ≡ t.items = one_list_in_order (item_cmp_total v o) _ s.items t.items a.items listed in
-    let other : IsCut (fits_line v indentation (module_of s.statement)) s.items t.cut =
-    subst (λ (u : Statement). IsCut (fits_line v indentation (module_of u)) s.items t.cut) back (subst (λ (is : List Item). IsCut (fits_line v indentation (module_of t.statement)) is t.cut) (sym items) b.cut) in
-    let cut : s.cut ≡ t.cut = one_cut _ (fits_line_shrinks v indentation (module_of s.statement)) s.items s.cut t.cut a.cut other in
-    let comments : s.comments ≡ t.comments = a.comments ∙ ap (comments_of v members) same ∙ sym b.comments in
-    let above : s.above ≡ t.above = a.above ∙ ap (above_of v members) same ∙ sym b.above in
-    λ i. record { statement = same i; items = items i; cut = cut i; comments = comments i; above = above i }
-
-each_same : (v : Values) → AreOrders v → (indentation : List ℕ) (members : List Member) (laid others : List Laid) → map (λ s. s.statement) laid ≡ map (λ s. s.statement) others → EachIsLaid v indentation members laid → EachIsLaid v indentation members others → laid ≡ others
-each_same v o indentation members [] [] same a b = refl
-each_same v o indentation members [] (t ∷ ts) same a b = absurd (cc)
-each_same v o indentation members (s ∷ ss) [] same a b = absurd (cc)
-each_same v o indentation members (s ∷ ss) (t ∷ ts) same a b =
-    let first : s.statement ≡ t.statement = cc in
-    let rest : map (λ (u : Laid). u.statement) ss ≡ map (λ (u : Laid). u.statement) ts = cc in
-    λ i. same_laid v o indentation members s t first a.0 b.0 i ∷ each_same v o indentation members ss ts rest a.1 b.1 i
-
-pub one_layout : (v : Values) → AreOrders v → (end indentation : List ℕ) (ended : Bool) (members : List Member) (a b : List ℕ) → IsLayout v end indentation ended members a → IsLayout v end indentation ended members b → a ≡ b
-one_layout v o end indentation ended members a b x y =
-    let statements = one_list_in_order (statement_cmp_total v o) _ _ _ x.1.statements y.1.statements in
-    x.2 ∙ ap (λ laid. text_of_lines end ended 0 (block_lines v indentation laid)) (each_same v o indentation members x.0 y.0 statements x.1.each y.1.each) ∙ sym y.2
-
-same_sorts : BindsOneList → (v : Values) → AreOrders v → (text : List ℕ) (lines : List LogicalLine) (a b : List ℕ) → SortsLines text v lines a → SortsLines text v lines b → a ≡ b
-same_sorts one v o text lines a b x y =
+pub some_sorted_text : (v : Values) → AreOrders v → (text : List ℕ) (lines : List LogicalLine) → IsAccepted text lines → (sorted : List ℕ) × IsSorted text v sorted
+some_sorted_text v o text lines accepted =
     ⊎_elim
-    (λ (h : (members : List Member) × IsOneBlock lines members × IsLayout v (first_end text) [] (is_ended lines) members a).
+    (λ (skipped : IsSkipped text). (text, inl (skipped, refl)))
+    (λ (h : (cut : Cut) × HasBlocks text lines cut).
+    let body = some_sorted_cut v o (first_end text) h.0 in
+    (mark_of lines ++ body.0, inr (record { lines = lines; cut = h.0; blocks = h.1; body = body.0; layouts = body.1; is = refl })))
+    (cuts text lines accepted)
+
+pub some_blocks : (text : List ℕ) (lines : List LogicalLine) → IsAccepted text lines → (blocks : List Block) × AreBlocksOf text blocks
+some_blocks text lines accepted =
     ⊎_elim
-    (λ (k : (members : List Member) × IsOneBlock lines members × IsLayout v (first_end text) [] (is_ended lines) members b).
-    one_layout v o (first_end text) [] (is_ended lines) h.0 a b h.2 (subst (λ (ms : List Member). IsLayout v (first_end text) [] (is_ended lines) ms b) (sym (same_members one lines h.0 k.0 h.1.each k.1.each)) k.2))
-    (λ (k : ((members : List Member) → ¬ (IsOneBlock lines members)) × (b ≡ text)). absurd (k.0 h.0 h.1)) y)
-    (λ (h : ((members : List Member) → ¬ (IsOneBlock lines members)) × (a ≡ text)).
-    ⊎_elim
-    (λ (k : (members : List Member) × IsOneBlock lines members × IsLayout v (first_end text) [] (is_ended lines) members b). absurd (h.0 k.0 k.1))
-    (λ (k : ((members : List Member) → ¬ (IsOneBlock lines members)) × (b ≡ text)). h.1 ∙ sym k.1) y) x
+    (λ (skipped : IsSkipped text). ([], inl (skipped, refl)))
+    (λ (h : (cut : Cut) × HasBlocks text lines cut). (spans_from (length (mark_of lines)) h.0, inr (lines, h.0, h.1, refl)))
+    (cuts text lines accepted)
+
+-- a skipped text has no blocks
+never_both : HasOneLexing → (text : List ℕ) (lines : List LogicalLine) (cut : Cut) → IsSkipped text → HasBlocks text lines cut → ⊥
+never_both lexing text lines cut s h =
+    let same = lexing text s.0 lines None None s.1.lexed h.accepted.lexed in
+    both_ways _ (ap skips_file same ∙ h.unskipped) s.2
+
+-- the same lines, and the same cut of their rows
+record IsSameCut (lines others : List LogicalLine) (cut other : Cut) : Type 0 where
+  lines_same : lines ≡ others
+  cut_same : cut ≡ other
+
+-- a text has one cut at blocks
+same_cut : HasOneLexing → BindsOneList → (text : List ℕ) (lines others : List LogicalLine) (cut other : Cut) → HasBlocks text lines cut → HasBlocks text others other → IsSameCut lines others cut other
+same_cut lexing one text lines others cut other a b =
+    let same = lexing text lines others None None a.accepted.lexed b.accepted.lexed in
+    let rows = one_rows one [] lines a.rows b.rows a.seen (subst (λ (ls : List LogicalLine). AreRows [] ls b.rows) (sym same) b.seen) in
+    record { lines_same = same; cut_same = one_cut_at_blocks a.rows cut other a.cut_at (subst (λ (rs : List Row). IsCutAtBlocks rs other) (sym rows) b.cut_at) }
+
+same_laid_out : HasOneLexing → BindsOneList → (v : Values) → AreOrders v → (text a b : List ℕ) → IsLaidOut text v a → IsLaidOut text v b → a ≡ b
+same_laid_out lexing one v o text a b x y =
+    let same = same_cut lexing one text x.lines y.lines x.cut y.cut x.blocks y.blocks in
+    let body = one_sorted_cut v o (first_end text) x.cut x.body y.body x.layouts (subst (λ (c : Cut). IsSortedCut v (first_end text) c y.body) (sym same.cut_same) y.layouts) in
+    x.is ∙ (λ i. mark_of (same.lines_same i) ++ body i) ∙ sym y.is
 
 pub one_sorted_text : HasOneLexing → BindsOneList → (v : Values) → AreOrders v → (text a b : List ℕ) → IsSorted text v a → IsSorted text v b → a ≡ b
-one_sorted_text lexing one v o text a b x y =
-    let lines = lexing text x.lines y.lines None None x.accepted.lexed y.accepted.lexed in
-    same_sorts one v o text x.lines a b x.sorts (subst (λ (ls : List LogicalLine). SortsLines text v ls b) (sym lines) y.sorts)
+one_sorted_text lexing one v o text a b (inl x) (inl y) = x.1 ∙ sym y.1
+one_sorted_text lexing one v o text a b (inl x) (inr y) = absurd (never_both lexing text y.lines y.cut x.0 y.blocks)
+one_sorted_text lexing one v o text a b (inr x) (inl y) = absurd (never_both lexing text x.lines x.cut y.0 x.blocks)
+one_sorted_text lexing one v o text a b (inr x) (inr y) = same_laid_out lexing one v o text a b x y
+
+pub one_list_of_blocks : HasOneLexing → BindsOneList → (text : List ℕ) (a b : List Block) → AreBlocksOf text a → AreBlocksOf text b → a ≡ b
+one_list_of_blocks lexing one text a b (inl x) (inl y) = x.1 ∙ sym y.1
+one_list_of_blocks lexing one text a b (inl x) (inr y) = absurd (never_both lexing text y.0 y.1 x.0 y.2)
+one_list_of_blocks lexing one text a b (inr x) (inl y) = absurd (never_both lexing text x.0 x.1 y.0 x.2)
+one_list_of_blocks lexing one text a b (inr x) (inr y) =
+    let same = same_cut lexing one text x.0 y.0 x.1 y.1 x.2 y.2 in
+    x.3 ∙ (λ i. spans_from (length (mark_of (same.lines_same i))) (same.cut_same i)) ∙ sym y.3

@@ -1,6 +1,7 @@
 -- A logical line as sorting sees it: its comments, and what it imports.
-use Rattle.std.specs.Prelude.{ℕ, Bool, true, false, List, [], ◌∷◌, map, filter, drop, slice_range, if◌then◌else◌}
+use Rattle.std.specs.Prelude.{ℕ, ◌==◌, Bool, true, false, List, [], ◌∷◌, map, filter, slice_range, if◌then◌else◌}
 use Rattle.std.specs.List.{list_all}
+use Rattle.std.specs.Str.{byte}
 use Rattle.py_lines.specs.Character.{is_space}
 use Rattle.py_lines.specs.LogicalLine.{LogicalLine}
 use Rattle.py_lines.specs.declared.token.Token.{Token}
@@ -35,9 +36,14 @@ abbrev pub is_text : List ℕ → Bool
 is_text [] = false
 is_text (b ∷ bs) = true
 
--- the line's comments as a statement joins them: what follows `#`, stripped, without the empty ones
+-- a text without the `#` that it begins with
+abbrev pub without_hash : List ℕ → List ℕ
+without_hash [] = []
+without_hash (b ∷ text) = if b == byte "#" then text else b ∷ text
+
+-- the line's comments as a statement joins them: each without its `#`, stripped, without the empty ones
 abbrev pub own_comments : LogicalLine → List (List ℕ)
-own_comments line = filter is_text (map (λ t. stripped (drop 1 t)) (comment_texts line))
+own_comments line = filter is_text (map (λ t. stripped (without_hash t)) (comment_texts line))
 
 -- what a binding imports
 abbrev pub imported_of : Bound → Imported

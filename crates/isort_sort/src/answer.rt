@@ -8,6 +8,17 @@ use py_lines::{Fault, LexError};
 use std::alloc::{AllocError, AllocFailed};
 use thiserror::Error;
 
+/// A block of a text: import lines that are sorted together.
+#[derive(Clone, Copy, Debug, PartialEq, Eq)]
+pub struct Block {
+    /// The byte at which its span begins, from the text's start.
+    pub start: u64,
+    /// The byte after its span, which takes in the blank lines after the last member.
+    pub stop: u64,
+    /// How many import lines are its members.
+    pub members: usize,
+}
+
 /// What sorting makes of a text.
 #[derive(Debug, Drop)]
 pub enum Sorted {
@@ -15,7 +26,18 @@ pub enum Sorted {
     Same,
     /// The sorted text, which differs from the text.
     Changed(String),
-    /// The text asks to be left as it is. No call gives this yet.
+    /// The text asks to be left as it is: it says `skip_file`.
+    Skipped,
+}
+
+/// What writing a sorted text came to.
+#[derive(Clone, Copy, Debug, PartialEq, Eq)]
+pub enum Outcome {
+    /// The text is sorted as it is.
+    Same,
+    /// The sorted text differs from the text.
+    Changed,
+    /// The text asks to be left as it is.
     Skipped,
 }
 
@@ -28,7 +50,7 @@ pub enum SortError {
     /// The fault of a text that isn't accepted: F1 to F8, or F9 for an import statement outside the grammar.
     #[error("{0}")]
     Fault(Fault),
-    /// The sorted text can't be written. `sort_code`, which writes nothing, never gives this.
+    /// The sorted text can't be written. No call that writes nothing gives this.
     #[error("cannot be written")]
     Write,
 }

@@ -3,8 +3,7 @@ ghost use Rattle.std.specs.Prelude.{◌≡◌, IfOk, map, string_bytes};
 ghost use Rattle.std.specs.List.{list_any};
 ghost use Rattle.py_lines.specs.Lines.{line_in};
 ghost use Rattle.py_imports.specs.Action.{says};
-ghost use Rattle.isort_sort.specs.Line.{comment_texts, stripped};
-ghost use Rattle.isort_sort.specs.LinesRead.{without_hash, comments_read};
+ghost use Rattle.isort_sort.specs.Line.{comment_texts, own_comments, stripped, without_hash};
 
 use py_imports::{Action, says};
 use py_lines::Unit;
@@ -21,12 +20,12 @@ fn content(comment: &str) -> &str
     text.trim_start_matches(SPACE).trim_end_matches(SPACE)
 }
 
-/// Whether a comment of the line says `skip_file`.
-pub(crate) fn says_skip_file(unit: &Unit<'_>) -> bool
-    ensures { result ≡ list_any (says Action.SkipFile) (comment_texts (line_in unit.now)) }
+/// Whether a comment of the line says the action.
+pub(crate) fn comments_say(unit: &Unit<'_>, action: Action) -> bool
+    ensures { result ≡ list_any (says action) (comment_texts (line_in unit.now)) }
 {
     'tokens: for (place, token) in unit.tokens.iter().enumerate() {
-        if token.kind.is_comment() && says(unit.word(place), Action::SkipFile) {
+        if token.kind.is_comment() && says(unit.word(place), action) {
             return true;
         }
     }
@@ -35,7 +34,7 @@ pub(crate) fn says_skip_file(unit: &Unit<'_>) -> bool
 
 /// The line's own comments: what each says, without the empty ones.
 pub(crate) fn own_comments(alloc: Global, unit: &Unit<'_>) -> Result<Vec<String>, AllocError>
-    ensures { IfOk result (λ comments. map string_bytes comments.items ≡ comments_read (line_in unit.now)) }
+    ensures { IfOk result (λ comments. map string_bytes comments.items ≡ own_comments (line_in unit.now)) }
 {
     let mut comments = Vec::new(alloc);
     'tokens: for (place, token) in unit.tokens.iter().enumerate() {
@@ -44,6 +43,19 @@ pub(crate) fn own_comments(alloc: Global, unit: &Unit<'_>) -> Result<Vec<String>
             if !content.is_empty() {
                 comments.push(content.to_string(alloc)?)?;
             }
+        }
+    }
+    Ok(comments)
+}
+
+/// The line's comments as they are written, with `#`.
+pub(crate) fn comment_texts(alloc: Global, unit: &Unit<'_>) -> Result<Vec<String>, AllocError>
+    ensures { IfOk result (λ comments. map string_bytes comments.items ≡ comment_texts (line_in unit.now)) }
+{
+    let mut comments = Vec::new(alloc);
+    'tokens: for (place, token) in unit.tokens.iter().enumerate() {
+        if token.kind.is_comment() {
+            comments.push(unit.word(place).to_string(alloc)?)?;
         }
     }
     Ok(comments)

@@ -237,6 +237,3 @@ pub(crate) fn group_members(
     groups.sort_by(|a, b| group_cmp(settings, a, b))?;
     Ok(groups)
 }
-
-#[cfg(test)]
-mod tests;

@@ -1,12 +1,16 @@
 //! Laws of the definitions, each proved as the contract of a function that does nothing.
-ghost use Rattle.std.specs.Prelude.{◌≡◌, ℕ, List};
-ghost use Rattle.py_imports.specs.Grammar.{Item};
+ghost use Rattle.std.specs.Prelude.{◌≡◌, ℕ, List, length};
 ghost use Rattle.py_lines.specs.LogicalLine.{LogicalLine};
+ghost use Rattle.py_imports.specs.Grammar.{Item};
 ghost use Rattle.isort_settings.specs.Values.{Values};
+ghost use Rattle.isort_sort.specs.Answers.{AreBlocksOf, StandBetween, with_layouts};
+ghost use Rattle.isort_sort.specs.Blocks.{Cut, IsCutAtBlocks};
 ghost use Rattle.isort_sort.specs.Member.{Member, AreStatements, AreItemsOf};
-ghost use Rattle.isort_sort.specs.Statement.{Statement};
+ghost use Rattle.isort_sort.specs.Row.{Row};
 ghost use Rattle.isort_sort.specs.Sorted.{IsAccepted, IsSorted};
+ghost use Rattle.isort_sort.specs.Statement.{Statement};
 ghost use Rattle.isort_sort.specs.Wrapping.{fits_line, IsCut};
+ghost use Rattle.isort_sort.specs.declared.answer.Block.{Block};
 
 use isort_settings::laws::{modules_are_totally_ordered, names_are_totally_ordered};
 use py_imports::laws::binds_or_is_bad;
@@ -36,7 +40,13 @@ pub fn one_cut()
     ensures one { (v : Values) (indentation m : List ℕ) (items : List Item) (a b : List (List Item)) → IsCut (fits_line v indentation m) items a → IsCut (fits_line v indentation m) items b → a ≡ b }
 {}
 
-/// An accepted text has one sorted text.
+/// Rows have one cut at blocks.
+pub fn one_cut_at_blocks()
+    ensures some { (rows : List Row) → (cut : Cut) × IsCutAtBlocks rows cut }
+    ensures one { (rows : List Row) (a b : Cut) → IsCutAtBlocks rows a → IsCutAtBlocks rows b → a ≡ b }
+{}
+
+/// A text that is accepted has a sorted text. No text has two.
 pub fn one_sorted_text()
     ensures some { (text : List ℕ) (v : Values) (lines : List LogicalLine) → IsAccepted text lines → (sorted : List ℕ) × IsSorted text v sorted }
     ensures one { (text : List ℕ) (v : Values) (a b : List ℕ) → IsSorted text v a → IsSorted text v b → a ≡ b }
@@ -45,4 +55,22 @@ pub fn one_sorted_text()
     binds_or_is_bad();
     modules_are_totally_ordered();
     names_are_totally_ordered();
+}
+
+/// A text that is accepted has a list of blocks. No text has two.
+pub fn one_list_of_blocks()
+    ensures some { (text : List ℕ) (lines : List LogicalLine) → IsAccepted text lines → (blocks : List Block) × AreBlocksOf text blocks }
+    ensures one { (text : List ℕ) (a b : List Block) → AreBlocksOf text a → AreBlocksOf text b → a ≡ b }
+{
+    one_lexing();
+    binds_or_is_bad();
+}
+
+/// Sorting changes nothing outside blocks. The spans of a text's blocks stand in the text one after another, and the
+/// sorted text is the text with each of these spans replaced by some text.
+pub fn only_blocks_change()
+    ensures apart { (text : List ℕ) (blocks : List Block) → AreBlocksOf text blocks → StandBetween 0 blocks (length text) }
+    ensures rest { (text : List ℕ) (v : Values) (sorted : List ℕ) (blocks : List Block) → IsSorted text v sorted → AreBlocksOf text blocks → (layouts : List (List ℕ)) × (length layouts ≡ length blocks) × (sorted ≡ with_layouts text 0 blocks layouts) }
+{
+    one_list_of_blocks();
 }

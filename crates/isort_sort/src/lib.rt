@@ -2,21 +2,23 @@
 #![tactic(auto)]
 
 mod answer;
+mod arrange;
 mod comment;
+mod finder;
 mod group;
 pub mod laws;
 mod layout;
 mod line_end;
 mod member;
 mod read;
+mod row;
+mod skip;
 mod sort;
+mod sorted_text;
 mod statement;
 mod width;
 mod wrap_mode;
 mod wrapping;
 
-pub use answer::{SortError, Sorted};
-pub use sort::sort_code;
-
-#[cfg(test)]
-mod tests;
+pub use answer::{Block, Outcome, SortError, Sorted};
+pub use sort::{blocks, check_code, sort_code};

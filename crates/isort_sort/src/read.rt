@@ -1,176 +1,186 @@
-//! Reading a text that is to be sorted.
-ghost use Rattle.std.specs.Prelude.{◌≡◌, List, ◌∷◌, [], ◌++◌, map, IfOk, IfErr};
+//! Reading a text that is to be sorted, and finding its blocks.
+ghost use Rattle.std.specs.Prelude.{◌≡◌, ℕ, ◌+◌, ◌-◌, ◌<◌, ◌≤◌, ◌^◌, MatchOption, ⊤, List, ◌∷◌, [], ◌++◌, length, map, IfOk, IfErr, OnOk};
 ghost use Rattle.py_lines.specs.Lines.{line_in};
 ghost use Rattle.py_lines.specs.LogicalLine.{LogicalLine};
 ghost use Rattle.py_imports.specs.Binds.{Binds};
 ghost use Rattle.py_imports.specs.Bound.{bound_of};
-ghost use Rattle.isort_sort.specs.Line.{own_comments};
-ghost use Rattle.isort_sort.specs.LinesRead.{comments_read, IsBlockSoFar};
-ghost use Rattle.isort_sort.specs.Reading.{IsRead, IsRefused};
+ghost use Rattle.isort_sort.specs.Answers.{IsRefused};
+ghost use Rattle.isort_sort.specs.FoundValues.{finding_value, IsCounted};
+ghost use Rattle.isort_sort.specs.Reading.{FindsLine, IsReadSoFar, IsReadBefore, IsFoundIn};
+ghost use Rattle.isort_sort.specs.Row.{mark_after};
+ghost use Rattle.isort_sort.specs.Sorted.{IsAccepted};
 
 use crate::answer::SortError;
-use crate::comment::own_comments;
-use crate::member::{Member, is_member};
+use crate::comment::{comment_texts, own_comments};
+use crate::finder::{BlockFinder, FoundBlock, LineStop};
+use crate::member::Member;
+use crate::row::{Role, indentation, is_off_after, mark_len, role_of};
+use crate::skip::SkipReader;
 use py_imports::{Binding, bindings_of};
 use py_lines::{Lines, Unit};
-use std::alloc::{AllocError, Global};
+use std::alloc::Global;
 
-/// A text that is one block.
+/// The blocks of a text.
 #[derive(Debug, Drop)]
-pub(crate) struct Block {
-    pub(crate) members: Vec<Member>,
-    /// Whether the last line has a line end.
-    pub(crate) ended: bool,
+pub(crate) struct FoundBlocks {
+    /// How many bytes of a byte order mark the text begins with.
+    pub(crate) mark: usize,
+    /// The blocks, in order.
+    pub(crate) blocks: Vec<FoundBlock>,
 }
 
-// The block with one more line, which binds `bindings`, if it still is one.
-fn with_line(
+/// What was found in a text.
+#[derive(Debug, Drop)]
+pub(crate) enum FoundText {
+    /// It asks to be left as it is.
+    Skipped,
+    /// Its blocks.
+    Blocks(FoundBlocks),
+}
+
+/// What is known of a text, as far as its lines were read.
+#[derive(Debug, Drop)]
+pub(crate) struct LineReader {
+    /// Whether a line was read.
+    pub(crate) begun: bool,
+    /// How many bytes of a byte order mark the first line begins with.
+    pub(crate) mark: usize,
+    /// Whether sorting is off after the lines.
+    pub(crate) off: bool,
+    pub(crate) skip: SkipReader,
+    pub(crate) blocks: BlockFinder,
+}
+
+impl LineReader {
+    /// A reader of no lines.
+    fn new(alloc: Global) -> LineReader
+        ensures start { IsReadSoFar [] result }
+        ensures counted { IsCounted (finding_value result.blocks) }
+        ensures place { (finding_value result.blocks).place ≡ 0 }
+    {
+        LineReader {
+            begun: false,
+            mark: 0,
+            off: false,
+            skip: SkipReader::new(),
+            blocks: BlockFinder::new(alloc, 0),
+        }
+    }
+
+    /// Reads one more line, which binds `bindings`.
+    fn push(
+        &mut self,
+        alloc: Global,
+        unit: &Unit<'_>,
+        bindings: Vec<Binding>,
+    ) -> Result<(), SortError>
+        requires binds { Binds (line_in unit.now) (map bound_of bindings.items) }
+        requires some_text { 0 < length (line_in unit.now).text }
+        requires counted { IsCounted (finding_value self.old.blocks) }
+        requires fits { (finding_value self.old.blocks).place + length (line_in unit.now).text < 2 ^ 64 }
+        ensures on { OnOk result ((lines : List LogicalLine) → IsReadSoFar lines self.old → IsReadSoFar (lines ++ line_in unit.now ∷ []) self.new) }
+        ensures counted { OnOk result (IsCounted (finding_value self.new.blocks)) }
+        ensures place { OnOk result ((finding_value self.new.blocks).place ≤ (finding_value self.old.blocks).place + length (line_in unit.now).text) }
+        ensures err { IfErr result (λ e. e ≡ SortError.Memory) }
+    {
+        let mark = self.begin(alloc, unit);
+        find_line(&mut self.blocks, alloc, unit, bindings, self.off, mark)?;
+        self.off = is_off_after(unit, self.off);
+        self.skip.push(unit);
+        Ok(())
+    }
+
+    // Begins the text where this line is its first. The result is how many bytes of a byte order mark the line has.
+    fn begin(&mut self, alloc: Global, unit: &Unit<'_>) -> usize
+        requires counted { IsCounted (finding_value self.old.blocks) }
+        ensures mark { (lines : List LogicalLine) → IsReadSoFar lines self.old → result ≡ mark_after lines (line_in unit.now) }
+        ensures before { (lines : List LogicalLine) → IsReadSoFar lines self.old → IsReadBefore lines (line_in unit.now) self.new }
+        ensures within { result ≤ length (line_in unit.now).text }
+        ensures further { MatchOption (finding_value self.new.blocks).opened ⊤ (λ o. result ≡ 0) }
+        ensures counted { IsCounted (finding_value self.new.blocks) }
+        ensures place { (finding_value self.new.blocks).place ≤ (finding_value self.old.blocks).place + result }
+    {
+        if self.begun {
+            return 0;
+        }
+        let mark = mark_len(unit);
+        self.begun = true;
+        self.mark = mark;
+        self.blocks = BlockFinder::new(alloc, mark);
+        mark
+    }
+
+    /// What was found in the text of the lines.
+    fn finish(self) -> Result<FoundText, SortError>
+        ensures ok { IfOk result (λ found. (text : List ℕ) (lines : List LogicalLine) → IsReadSoFar lines self → IsAccepted text lines → IsFoundIn text found) }
+        ensures err { IfErr result (λ e. e ≡ SortError.Memory) }
+    {
+        if self.skip.skips {
+            return Ok(FoundText::Skipped);
+        }
+        Ok(FoundText::Blocks(FoundBlocks {
+            mark: self.mark,
+            blocks: self.blocks.finish()?,
+        }))
+    }
+}
+
+// Hands a line that begins with so many bytes of a byte order mark to the finder; `off` says whether sorting is off.
+fn find_line(
+    blocks: &mut BlockFinder,
     alloc: Global,
-    block: Option<Block>,
     unit: &Unit<'_>,
     bindings: Vec<Binding>,
-) -> Result<Option<Block>, AllocError>
+    off: bool,
+    mark: usize,
+) -> Result<(), SortError>
     requires binds { Binds (line_in unit.now) (map bound_of bindings.items) }
-    requires comments { comments_read (line_in unit.now) ≡ own_comments (line_in unit.now) }
-    ensures { IfOk result (λ after. (lines : List LogicalLine) → IsBlockSoFar lines block → IsBlockSoFar (lines ++ line_in unit.now ∷ []) after) }
+    requires mark { mark ≤ length (line_in unit.now).text }
+    requires counted { IsCounted (finding_value blocks.old) }
+    requires further { MatchOption (finding_value blocks.old).opened ⊤ (λ o. mark < length (line_in unit.now).text) }
+    requires fits { (finding_value blocks.old).place + (length (line_in unit.now).text - mark) < 2 ^ 64 }
+    ensures on { OnOk result (FindsLine off mark (line_in unit.now) (finding_value blocks.old) (finding_value blocks.new)) }
+    ensures counted { OnOk result (IsCounted (finding_value blocks.new)) }
+    ensures place { OnOk result ((finding_value blocks.new).place ≡ (finding_value blocks.old).place + (length (line_in unit.now).text - mark)) }
+    ensures err { IfErr result (λ e. e ≡ SortError.Memory) }
 {
-    match block {
-        Some(mut block) if is_member(unit) => {
-            block.members.push(Member {
+    let line = LineStop {
+        stop: blocks.place() + (unit.text.len() - mark),
+        ended: unit.end_len > 0,
+    };
+    match role_of(unit, off) {
+        Role::Blank => blocks.push_blank(line),
+        Role::Comments => {
+            let comments = if blocks.is_open() {
+                comment_texts(alloc, unit)?
+            } else {
+                Vec::new(alloc)
+            };
+            blocks.push_comments(line, comments)?;
+        }
+        Role::Member => {
+            let member = Member {
                 bindings,
                 comments: own_comments(alloc, unit)?,
                 above: Vec::new(alloc),
-            })?;
-            block.ended = unit.end_len > 0;
-            Ok(Some(block))
+            };
+            blocks.push_member(alloc, line, indentation(unit), member)?;
         }
-        _ => Ok(None),
+        Role::Other(blank_lines) => blocks.push_other(line, blank_lines)?,
     }
+    Ok(())
 }
 
-/// The block that the text is, if it is one; or its fault.
-pub(crate) fn read_block(alloc: Global, text: &[u8]) -> Result<Option<Block>, SortError>
-    ensures ok { IfOk result (λ block. IsRead text.now block) }
+/// Reads a text: what is found in it, or its fault.
+pub(crate) fn find_blocks(alloc: Global, text: &[u8]) -> Result<FoundText, SortError>
+    ensures ok { IfOk result (λ found. IsFoundIn text.now found) }
     ensures err { IfErr result (λ e. IsRefused text.now e) }
 {
     let mut lines = Lines::new(alloc, text)?;
-    let mut block = Some(Block {
-        members: Vec::new(alloc),
-        ended: false,
-    });
+    let mut reader = LineReader::new(alloc);
     'lines: while let Some(unit) = lines.next_unit()? {
         let bindings = bindings_of(alloc, &unit)?;
-        block = with_line(alloc, block, &unit, bindings)?;
+        reader.push(alloc, &unit, bindings)?;
     }
-    Ok(block.filter(|block| !block.members.is_empty()))
-}
-
-#[cfg(test)]
-mod tests {
-    use super::*;
-    use py_lines::{Fault, FaultKind};
-    use std::test::Fail;
-
-    // Whether the member binds what these statements bind, and has these comments.
-    fn is_told(
-        alloc: Global,
-        member: &Member,
-        statements: &[&str],
-        comments: &[&str],
-    ) -> Result<bool, Fail> {
-        if member.bindings.len() != statements.len() || member.comments.len() != comments.len() {
-            return Ok(false);
-        }
-        for (binding, statement) in member.bindings.iter().zip(statements) {
-            if binding.statement(alloc)?.as_str() != *statement {
-                return Ok(false);
-            }
-        }
-        Ok(
-            member
-                .comments
-                .iter()
-                .zip(comments)
-                .all(|(comment, told)| comment.as_str() == *told),
-        )
-    }
-
-    #[test]
-    fn reads_members(rt: HostRuntime) -> Result<(), Fail> {
-        let text =
-            "from b import (  # one\n    c as d,\n    e\n)  ##\tto\u{3000} \x0c\r\nimport a.b, z #\t\n";
-        let block = read_block(rt.alloc(), text.as_bytes())?.ok_or("no block")?;
-        assert!(rt; block.ended);
-        assert_eq!(rt; block.members.len(), 2);
-        let statements = ["from b import c as d", "from b import e"];
-        let comments = ["one", "#\tto\u{3000}"];
-        assert!(rt; is_told(rt.alloc(), &block.members[0], &statements, &comments)?);
-        assert!(rt;
-            is_told(
-                rt.alloc(),
-                &block.members[1],
-                &["import a.b", "import z"],
-                &[]
-            )?
-        );
-        assert_eq!(rt; block.members[0].above.len(), 0);
-        Ok(())
-    }
-
-    #[test]
-    fn reads_last_line_without_end(rt: HostRuntime) -> Result<(), Fail> {
-        let block = read_block(rt.alloc(), b"import a\nimport b")?.ok_or("no block")?;
-        assert!(rt; !block.ended);
-        assert_eq!(rt; block.members.len(), 2);
-        Ok(())
-    }
-
-    #[test]
-    fn finds_no_block(rt: HostRuntime) -> Result<(), Fail> {
-        let texts = [
-            "",
-            "\u{feff}import a\n",
-            " import a\n",
-            "import a\n\nimport b\n",
-            "# c\nimport a\n",
-            "import a\nx = 1\n",
-            "import a; import b\n",
-            "import a\nif x: import b\n",
-            "\\\nimport a\n",
-            "from a import (b, # c\nd)\n",
-            "import a  # isort: skip\n",
-            "import a\nimport b  # isort:skip_file\n",
-        ];
-        for text in texts {
-            assert!(rt;
-                read_block(rt.alloc(), text.as_bytes())?.is_none(),
-                "{text:?}"
-            );
-        }
-        Ok(())
-    }
-
-    #[test]
-    fn tells_the_fault(rt: HostRuntime) -> Result<(), Fail> {
-        let texts = [
-            ("x = 1\nimport a.\n", FaultKind::BadImport, 6, 2),
-            ("import a.\nx = '\n", FaultKind::BadImport, 0, 1),
-            ("import a\nx = '\n", FaultKind::OpenString, 13, 2),
-            (
-                "import a\nimport b; from c import\n",
-                FaultKind::BadImport,
-                19,
-                2,
-            ),
-        ];
-        for (text, kind, offset, line) in texts {
-            let fault = Fault { kind, offset, line };
-            let told = match read_block(rt.alloc(), text.as_bytes()) {
-                Err(error) => error == SortError::Fault(fault),
-                Ok(_) => false,
-            };
-            assert!(rt; told, "{text:?}");
-        }
-        Ok(())
-    }
+    reader.finish()
 }

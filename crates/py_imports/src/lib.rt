@@ -19,6 +19,3 @@ pub use bindings::bindings_of;
 pub use declaration::is_declaration;
 pub use error::ImportError;
 pub use shape::{Shape, shape_of};
-
-#[cfg(test)]
-mod tests;

@@ -5,6 +5,7 @@ pub mod LogicalLine
 pub mod Lexed
 pub mod Reader
 pub mod Token
+pub mod FaultWords
 pub mod UnitLine
 pub mod Lines
 pub mod Private

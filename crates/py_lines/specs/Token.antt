@@ -1,7 +1,7 @@
 -- What kinds of tokens there are, and where the tokens of a unit lie in its text. Python Language Reference, 2.
-use Rattle.std.specs.Prelude.{◌≡◌, ℕ, ◌≤◌, Bool, true, false, Some, List, length, codes, slice_get}
+use Rattle.std.specs.Prelude.{◌≡◌, ℕ, ◌≤◌, Bool, true, false, Some, List, length, slice_get}
 use Rattle.std.specs.Str.{IsCharBoundary}
-use Rattle.py_lines.specs.Character.{is_one_of}
+use Rattle.py_lines.specs.Balance.{is_opening, is_closing}
 use Rattle.py_lines.specs.declared.token.TokKind.{TokKind}
 use Rattle.py_lines.specs.declared.token.TokKind.TheVariants as kind
 use Rattle.py_lines.specs.declared.token.Token.{Token}
@@ -18,11 +18,11 @@ is_operator_where passes _ = false
 
 -- `(`, `[` or `{`
 abbrev pub opens_bracket : TokKind → Bool
-opens_bracket k = is_operator_where (is_one_of (codes "([{")) k
+opens_bracket k = is_operator_where is_opening k
 
 -- `)`, `]` or `}`
 abbrev pub closes_bracket : TokKind → Bool
-closes_bracket k = is_operator_where (is_one_of (codes ")]}")) k
+closes_bracket k = is_operator_where is_closing k
 
 -- the token lies in the text, from one character's start to another's
 pub record LiesIn (text : List ℕ) (t : Token) : Type 0 where

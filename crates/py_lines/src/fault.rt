@@ -1,41 +1,64 @@
 ghost use Rattle.std.specs.Prelude.{◌≡◌};
 ghost use Rattle.py_lines.specs.declared.fault.LexError.TheVariants.{Memory};
+ghost use Rattle.py_lines.specs.FaultWords.{fault_words};
 
 use std::alloc::AllocError;
 use std::fmt;
 use thiserror::Error;
 
 /// What can be wrong with a text (Python Language Reference, chapter 2).
-#[derive(Clone, Copy, Debug, PartialEq, Eq, Error)]
+#[derive(Clone, Copy, Debug, PartialEq, Eq)]
 pub enum FaultKind {
     /// Bytes that begin no character of UTF-8.
-    #[error("F1 not UTF-8")]
     BadUtf8,
     /// A character that begins no piece of the lexical grammar.
-    #[error("F2 unexpected character")]
     BadChar,
     /// A line end or the text's end in a short string.
-    #[error("F3 string not closed")]
     OpenString,
     /// The text's end in a long string.
-    #[error("F4 triple-quoted string not closed")]
     OpenTriple,
     /// A closing bracket without its opening one.
-    #[error("F5 closing bracket without its opening")]
     WrongClose,
     /// The text's end inside brackets.
-    #[error("F6 bracket not closed")]
     OpenBracket,
     /// A backslash outside strings and comments that isn't before a line end (2.1.5).
-    #[error("F7 backslash not before a line end")]
     BadJoin,
     /// An opening bracket where 200 are open.
-    #[error("F8 more than 200 brackets open")]
     TooDeep,
     /// An import statement that isn't in the import grammar.
-    #[error("F9 import statement not understood")]
     BadImport,
 }
+
+impl FaultKind {
+    /// The label and the words that tell of the fault.
+    pub fn words(self) -> &'static str
+        ensures { result.now ≡ fault_words self }
+    {
+        match self {
+            FaultKind::BadUtf8 => "F1 not UTF-8",
+            FaultKind::BadChar => "F2 unexpected character",
+            FaultKind::OpenString => "F3 string not closed",
+            FaultKind::OpenTriple => "F4 triple-quoted string not closed",
+            FaultKind::WrongClose => "F5 closing bracket without its opening",
+            FaultKind::OpenBracket => "F6 bracket not closed",
+            FaultKind::BadJoin => "F7 backslash not before a line end",
+            FaultKind::TooDeep => "F8 more than 200 brackets open",
+            FaultKind::BadImport => "F9 import statement not understood",
+        }
+    }
+}
+
+impl fmt::Display for FaultKind {
+    ghost use Rattle.std.specs.Prelude.{Some};
+
+    ghost output = { λ k. Some (fault_words k) };
+
+    fn fmt<W: fmt::Write>(&self, f: &mut fmt::Formatter<W>) -> fmt::Result {
+        f.write_str(self.words())
+    }
+}
+
+impl std::error::Error for FaultKind {}
 
 /// What is wrong with a text, and where.
 #[derive(Clone, Copy, Debug, PartialEq, Eq)]

@@ -35,6 +35,7 @@ impl TokKind {
     }
 
     /// Whether it is an opening bracket: `(`, `[` or `{`.
+    #[tactic(auto, unfolding(crate::specs::Balance::is_opening))]
     pub fn is_opening(self) -> bool
         ensures { result ≡ opens_bracket self }
     {
@@ -45,6 +46,7 @@ impl TokKind {
     }
 
     /// Whether it is a closing bracket: `)`, `]` or `}`.
+    #[tactic(auto, unfolding(crate::specs::Balance::is_closing))]
     pub fn is_closing(self) -> bool
         ensures { result ≡ closes_bracket self }
     {

@@ -4,8 +4,8 @@ use Rattle.std.proofs.lemmas.Result.{err_from_is_err_and, IfErr-at_err, IfErr-we
 use Rattle.std.specs.Io.KnownBytes.{Keeps}
 use Rattle.isort_find.specs.declared.options.FindOptions.{FindOptions}
 use Rattle.isort_cmd.specs.Metered.{inner_of}
-use Rattle.isort_cmd.specs.RunError.{IsUnread}
-use Rattle.isort_cmd.specs.Steps.{IsInputError, IsOutputError}
+use Rattle.isort_cmd.specs.RunError.{IsInputError, IsUnread}
+use Rattle.isort_cmd.specs.Steps.{IsOutputError}
 use Rattle.isort_cmd.specs.Written.{LeavesAtError}
 use Rattle.isort_cmd.specs.declared.error.RunError.{RunError}
 use Rattle.isort_cmd.specs.declared.error.RunError.TheVariants as run

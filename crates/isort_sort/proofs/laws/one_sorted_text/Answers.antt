@@ -1,5 +1,4 @@
-use Rattle.isort_sort.proofs.OneSorted.{one_sorted_text}
-use Rattle.isort_sort.proofs.SomeSorted.{some_sorted_text}
+use Rattle.isort_sort.proofs.OneSorted.{some_sorted_text, one_sorted_text}
 use Rattle.isort_sort.proofs.StatementLemmas.{AreOrders}
 use Rattle.isort_sort.proofs.laws.one_sorted_text.Goals as goal
 

@@ -1,0 +1,2 @@
+import b
+from a import c,

@@ -1,0 +1,3 @@
+"""isort: skip_file"""
+import b
+import a

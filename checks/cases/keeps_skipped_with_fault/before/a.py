@@ -1,0 +1,4 @@
+"""isort: skip_file"""
+import b
+import a
+)

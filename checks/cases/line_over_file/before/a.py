@@ -1,0 +1,1 @@
+from m import dddd, aaaa, cccc, bbbb

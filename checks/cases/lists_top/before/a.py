@@ -1,0 +1,6 @@
+import a
+if a:
+    def f(): pass
+    import b
+@d
+x = (

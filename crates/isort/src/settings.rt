@@ -1,0 +1,89 @@
+//! The settings of a run that sorts.
+use crate::MOST_BYTES;
+use crate::messages::{tell, tell_error, tell_no_memory};
+use isort_cmd::{Metered, Profile, RunError, Settings, SettingsError, read_text, settings_text};
+use std::fs::File;
+use std::io::ErrorKind;
+
+/// The settings file of a folder, where the command line names none.
+const SETTINGS_FILE: &str = "pyproject.toml";
+
+/// What the command line says of the settings.
+#[derive(Drop)]
+pub(crate) struct Wishes<'a> {
+    /// The path of the settings file.
+    pub(crate) file: Option<&'a str>,
+    /// The name of the profile.
+    pub(crate) profile: Option<&'a str>,
+    /// The length of a line.
+    pub(crate) line_length: Option<u32>,
+    /// The wrap mode.
+    pub(crate) multi_line: Option<u32>,
+}
+
+/// Why there are no settings.
+#[derive(Drop)]
+pub(crate) enum Refusal<'a> {
+    /// The settings file at this path could not be read.
+    File(&'a str, RunError),
+    /// Something in the settings is wrong.
+    Settings(SettingsError),
+}
+
+impl From<SettingsError> for Refusal<'_> {
+    fn from(error: SettingsError) -> Self {
+        Refusal::Settings(error)
+    }
+}
+
+/// Tells why there are no settings.
+pub(crate) fn tell_refusal(rt: &HostRuntime, refusal: &Refusal<'_>) {
+    match refusal {
+        Refusal::File(path, error) => tell_error(rt, path, error),
+        Refusal::Settings(error) => match settings_text(rt.alloc(), error) {
+            Ok(line) => tell(rt, line.as_str()),
+            Err(_) => tell_no_memory(rt),
+        },
+    }
+}
+
+/// The settings: those of the profile, then what the settings file says, then what the command line says.
+pub(crate) fn settings<'a>(rt: &HostRuntime, wishes: &Wishes<'a>) -> Result<Settings, Refusal<'a>> {
+    let profile = match wishes.profile {
+        Some(name) => Some(Profile::read(name)?),
+        None => None,
+    };
+    let text = settings_bytes(rt, wishes.file)?;
+    let (mut settings, unknown) = Settings::from_pyproject(rt.alloc(), text.as_slice(), profile)?;
+    warn_of_unknown_keys(rt, unknown.as_slice());
+    if let Some(length) = wishes.line_length {
+        settings.set_line_length(length)?;
+    }
+    if let Some(mode) = wishes.multi_line {
+        settings.set_mode(mode)?;
+    }
+    Ok(settings)
+}
+
+// The bytes of the settings file. The folder's own may be missing, which is as good as an empty one.
+fn settings_bytes<'a>(rt: &HostRuntime, named: Option<&'a str>) -> Result<Vec<u8>, Refusal<'a>> {
+    let path = named.unwrap_or(SETTINGS_FILE);
+    let file = match File::open(rt, path) {
+        Ok(file) => file,
+        Err(error) if named.is_none() && error.kind() == ErrorKind::NotFound => {
+            return Ok(Vec::new(rt.alloc()));
+        }
+        Err(_) => return Err(Refusal::File(path, RunError::Read)),
+    };
+    match read_text(rt.alloc(), &mut Metered::new(file), MOST_BYTES) {
+        Ok(text) => Ok(text),
+        Err(error) => Err(Refusal::File(path, error)),
+    }
+}
+
+// Tells of each key that is none of ours, in the order of their bytes.
+fn warn_of_unknown_keys(rt: &HostRuntime, keys: &[String]) {
+    for key in keys {
+        let _lost = eprintln!(rt; "isort: settings: {key} ignored");
+    }
+}

@@ -1,0 +1,150 @@
+//! What is done with each file.
+use crate::MOST_BYTES;
+use crate::settings::{Refusal, Wishes, settings};
+use isort_cmd::{
+    Action, FindOptions, Metered, Outcome, RunError, Settings, check_run, identify, sort_run,
+};
+use std::fs::File;
+use std::io::{self, BufWriter, Read, Stdin, Write};
+
+/// The path that stands for standard input.
+const STANDARD_INPUT: &str = "-";
+
+/// What is done with each file.
+#[derive(Drop)]
+pub(crate) enum Task {
+    /// Its imports are listed on standard output: those that the options ask for.
+    List(FindOptions),
+    /// It is compared with its sorted text.
+    Check(Settings),
+    /// Its sorted text goes to standard output.
+    Print(Settings),
+    /// It is rewritten where its sorted text differs.
+    Rewrite(Settings),
+}
+
+impl Task {
+    /// What the action asks for. Listing needs no settings, and so reads none.
+    pub(crate) fn new<'a>(rt: &HostRuntime, action: &'a Action) -> Result<Task, Refusal<'a>> {
+        match action {
+            Action::Identify(options) => Ok(Task::List(*options)),
+            Action::Sort {
+                check,
+                to_stdout,
+                settings_file,
+                profile,
+                line_length,
+                multi_line,
+            } => {
+                let wishes = Wishes {
+                    file: settings_file.as_deref(),
+                    profile: profile.as_deref(),
+                    line_length: *line_length,
+                    multi_line: *multi_line,
+                };
+                let settings = settings(rt, &wishes)?;
+                Ok(if *check {
+                    Task::Check(settings)
+                } else if *to_stdout {
+                    Task::Print(settings)
+                } else {
+                    Task::Rewrite(settings)
+                })
+            }
+        }
+    }
+
+    /// Does it with the file at `path`. By then no file is open any more, so that what is told of it goes nowhere else,
+    /// even where the process was begun with a closed output.
+    pub(crate) fn run(&self, rt: &HostRuntime, path: &str) -> Result<Outcome, RunError> {
+        match self {
+            Task::List(options) => list(rt, path, *options),
+            Task::Check(settings) => check(rt, path, settings),
+            Task::Rewrite(settings) if path != STANDARD_INPUT => rewrite(rt, path, settings),
+            Task::Print(settings) | Task::Rewrite(settings) => print_sorted(rt, path, settings),
+        }
+    }
+}
+
+// Where a text comes from.
+#[derive(Drop)]
+enum Input {
+    Standard(Stdin),
+    File(File),
+}
+
+impl Read for Input {
+    fn read(&mut self, buf: &mut [u8]) -> io::Result<usize> {
+        match self {
+            Input::Standard(stdin) => stdin.read(buf),
+            Input::File(file) => file.read(buf),
+        }
+    }
+}
+
+// What the path stands for.
+fn open(rt: &HostRuntime, path: &str) -> Result<Input, RunError> {
+    if path == STANDARD_INPUT {
+        return Ok(Input::Standard(rt.stdin()));
+    }
+    match File::open(rt, path) {
+        Ok(file) => Ok(Input::File(file)),
+        Err(_) => Err(RunError::Read),
+    }
+}
+
+// Lists the imports on standard output. A listing that can't be written whole is a failed write.
+fn list(rt: &HostRuntime, path: &str, options: FindOptions) -> Result<Outcome, RunError> {
+    let mut reader = Metered::new(open(rt, path)?);
+    let Ok(out) = BufWriter::new(rt.alloc(), rt.stdout()) else {
+        return Err(RunError::Memory);
+    };
+    let mut writer = Metered::new(out);
+    let listed = identify(
+        rt.alloc(),
+        &mut reader,
+        &mut writer,
+        path,
+        options,
+        MOST_BYTES,
+    );
+    match writer.into_inner().flush() {
+        Ok(()) => listed.map(|()| Outcome::Same),
+        Err(_) => Err(RunError::Write),
+    }
+}
+
+// Compares the text with its sorted text.
+fn check(rt: &HostRuntime, path: &str, settings: &Settings) -> Result<Outcome, RunError> {
+    let mut reader = Metered::new(open(rt, path)?);
+    Ok(if check_run(rt.alloc(), &mut reader, settings, MOST_BYTES)? {
+        Outcome::Same
+    } else {
+        Outcome::Changed
+    })
+}
+
+// Puts the sorted text on standard output.
+fn print_sorted(rt: &HostRuntime, path: &str, settings: &Settings) -> Result<Outcome, RunError> {
+    let mut reader = Metered::new(open(rt, path)?);
+    let mut writer = Metered::new(rt.stdout());
+    sort_run(rt.alloc(), &mut reader, &mut writer, settings, MOST_BYTES)
+}
+
+// Sorts the text in memory, and writes the file only where that changed it.
+fn rewrite(rt: &HostRuntime, path: &str, settings: &Settings) -> Result<Outcome, RunError> {
+    let mut reader = Metered::new(open(rt, path)?);
+    let mut sorted = Metered::new(Vec::new(rt.alloc()));
+    let outcome = sort_run(rt.alloc(), &mut reader, &mut sorted, settings, MOST_BYTES)?;
+    drop(reader);
+    if outcome == Outcome::Changed && overwrite(rt, path, sorted.into_inner().as_slice()).is_err() {
+        return Err(RunError::Write);
+    }
+    Ok(outcome)
+}
+
+// Writes the text into the file that is there, so that its links and permissions stay.
+fn overwrite(rt: &HostRuntime, path: &str, text: &[u8]) -> io::Result<()> {
+    let mut file = File::options().write(true).truncate(true).open(rt, path)?;
+    file.write_all(text)
+}

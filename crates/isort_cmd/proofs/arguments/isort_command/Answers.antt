@@ -1,0 +1,25 @@
+use Rattle.std.proofs.Common.{◌≡◌, ◌∙◌, ap, ap₂, codes, Option, true, false}
+use Rattle.std.proofs.lemmas.Result.{IfOk-weaker}
+use Rattle.clap.specs.Simple.{app_of_fields}
+use Rattle.clap.specs.Words.{Rule, app_of, new_app, rule_of}
+use Rattle.clap.specs.declared.builder.arg.Arg.{Arg}
+use Rattle.clap.specs.declared.builder.range.ValueRange.{ValueRange}
+use Rattle.isort_cmd.specs.Options.{files_rule, isort_app, with_listing_rules, with_settings_rules, with_sorting_rules}
+use Rattle.isort_cmd.proofs.MatchLemmas.{some_is}
+use Rattle.isort_cmd.proofs.OptionLemmas.{added}
+use Rattle.isort_cmd.proofs.arguments.isort_command.Goals as goal
+
+pub returns : goal.returns
+unfolding isort_app
+returns c =
+    let files : rule_of c.help-files.result ≡ files_rule =
+    ap rule_of c.help-files.ensures ∙ ap rule_of c.num_args.ensures.0
+    ∙ ap₂ (λ (r : Rule) (range : Option ValueRange). record r { range = range }) (ap rule_of c.required.ensures ∙ ap (λ (r : Rule). record r { required = true }) c.new-2.ensures.rule) (some_is _ _ c.num_args.ensures.1) in
+    let local : c.help-files.result.global ≡ false =
+    ap (λ (a : Arg). a.global) c.help-files.ensures ∙ ap (λ (a : Arg). a.global) c.num_args.ensures.0 ∙ ap (λ (a : Arg). a.global) c.required.ensures ∙ c.new-2.ensures.optional.1 in
+    let start : app_of c.in_ok-command.command ≡ new_app (codes "isort") =
+    ap app_of_fields c.in_ok-command.ensures.0 ∙ ap app_of_fields c.after_help.ensures ∙ ap app_of_fields c.about.ensures ∙ c.new.ensures.app in
+    let first = added c.in_ok-arg.ensures local start files in
+    let second = c.in_ok-command-2.ensures ∙ ap with_listing_rules first in
+    let third = c.in_ok-command-3.ensures ∙ ap with_sorting_rules second in
+    IfOk-weaker c.with_settings_options.result _ _ (λ new h. h ∙ ap with_settings_rules third) c.with_settings_options.ensures

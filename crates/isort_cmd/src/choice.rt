@@ -1,0 +1,150 @@
+//! What the options of a command line ask for.
+ghost use Rattle.std.specs.Prelude.{◌≡◌, IfOk, IfErr, codes, map, unwrap_or, option_map, string_bytes, []};
+ghost use Rattle.clap.specs.Words.{all_of, first_of};
+ghost use Rattle.isort_cmd.specs.Choice.{IsAction, IsJob, is_forbidden, key_count, key_in, number_of, wants_sorting, was_given};
+ghost use Rattle.isort_cmd.specs.ParserSteps.{IsNoJob, rows_in};
+
+use crate::job::{Action, Job};
+use crate::usage::UsageError;
+use clap::ArgMatches;
+use clap::parser::ValueSource;
+use isort_find::{FindOptions, ImportKey};
+use std::alloc::Global;
+
+/// The job that the matches ask for.
+pub(crate) fn job_of(alloc: Global, matches: &ArgMatches<'_>) -> Result<Job, UsageError>
+    ensures ok { IfOk result (IsJob (rows_in matches.now)) }
+    ensures err { IfErr result (IsNoJob (rows_in matches.now)) }
+{
+    if is_forbidden(matches) {
+        return Err(UsageError::Together);
+    }
+    Ok(Job {
+        files: files_of(alloc, matches)?,
+        action: action_of(alloc, matches)?,
+    })
+}
+
+// Whether options were given that do not go together.
+fn is_forbidden(matches: &ArgMatches<'_>) -> bool
+    ensures { result ≡ is_forbidden (rows_in matches.now) }
+{
+    if was_given(matches, "identify") {
+        wants_sorting(matches) || key_count(matches) > 1
+    } else {
+        was_given(matches, "top-only") || key_count(matches) > 0
+    }
+}
+
+// Whether an option was given that goes with sorting alone.
+fn wants_sorting(matches: &ArgMatches<'_>) -> bool
+    ensures { result ≡ wants_sorting (rows_in matches.now) }
+{
+    was_given(matches, "check-only")
+        || was_given(matches, "check")
+        || was_given(matches, "stdout")
+        || was_given(matches, "settings-file")
+        || was_given(matches, "profile")
+        || was_given(matches, "line-length")
+        || was_given(matches, "multi-line")
+}
+
+// How many options that name a key were given.
+fn key_count(matches: &ArgMatches<'_>) -> usize
+    ensures { result ≡ key_count (rows_in matches.now) }
+{
+    usize::from(was_given(matches, "unique"))
+        + usize::from(was_given(matches, "packages"))
+        + usize::from(was_given(matches, "modules"))
+        + usize::from(was_given(matches, "attributes"))
+}
+
+fn action_of(alloc: Global, matches: &ArgMatches<'_>) -> Result<Action, UsageError>
+    ensures ok { IfOk result (IsAction (rows_in matches.now)) }
+    ensures err { IfErr result (λ e. e ≡ UsageError.Memory) }
+{
+    if was_given(matches, "identify") {
+        return Ok(Action::Identify(FindOptions {
+            unique: key_in(matches),
+            top_only: was_given(matches, "top-only"),
+        }));
+    }
+    Ok(Action::Sort {
+        check: was_given(matches, "check-only") || was_given(matches, "check"),
+        to_stdout: was_given(matches, "stdout"),
+        settings_file: text_of(alloc, matches, "settings-file")?,
+        profile: text_of(alloc, matches, "profile")?,
+        line_length: number_of(matches, "line-length"),
+        multi_line: number_of(matches, "multi-line"),
+    })
+}
+
+// The key of the option that names one.
+fn key_in(matches: &ArgMatches<'_>) -> Option<ImportKey>
+    ensures { result ≡ key_in (rows_in matches.now) }
+{
+    if was_given(matches, "unique") {
+        Some(ImportKey::Alias)
+    } else if was_given(matches, "packages") {
+        Some(ImportKey::Package)
+    } else if was_given(matches, "modules") {
+        Some(ImportKey::Module)
+    } else if was_given(matches, "attributes") {
+        Some(ImportKey::Attribute)
+    } else {
+        None
+    }
+}
+
+#[tactic(auto, using(crate::proofs::MatchLemmas::all_found))]
+fn files_of(alloc: Global, matches: &ArgMatches<'_>) -> Result<Vec<String>, UsageError>
+    ensures ok { IfOk result (λ files. map string_bytes files.items ≡ unwrap_or (all_of (codes "FILE") (rows_in matches.now)) []) }
+    ensures err { IfErr result (λ e. e ≡ UsageError.Memory) }
+{
+    match matches.get_raw("FILE") {
+        Some(paths) => copies(alloc, paths),
+        None => Ok(Vec::new(alloc)),
+    }
+}
+
+fn copies(alloc: Global, texts: &[&str]) -> Result<Vec<String>, UsageError>
+    ensures ok { IfOk result (λ all. map string_bytes all.items ≡ map (λ text. text.now) texts.now) }
+    ensures err { IfErr result (λ e. e ≡ UsageError.Memory) }
+{
+    let mut all = Vec::new(alloc);
+    for text in texts {
+        all.push(String::from_str(alloc, text)?)?;
+    }
+    Ok(all)
+}
+
+// The number that the option was given.
+fn number_of(matches: &ArgMatches<'_>, name: &str) -> Option<u32>
+    ensures { result ≡ number_of name.now (rows_in matches.now) }
+{
+    matches.get_one::<u32>(name)
+}
+
+// The text that the option was given.
+#[tactic(auto, using(crate::proofs::MatchLemmas::first_found))]
+fn text_of(
+    alloc: Global,
+    matches: &ArgMatches<'_>,
+    name: &str,
+) -> Result<Option<String>, UsageError>
+    ensures ok { IfOk result (λ text. option_map string_bytes text ≡ first_of name.now (rows_in matches.now)) }
+    ensures err { IfErr result (λ e. e ≡ UsageError.Memory) }
+{
+    match matches.get_str(name) {
+        Some(text) => Ok(Some(String::from_str(alloc, text)?)),
+        None => Ok(None),
+    }
+}
+
+// Whether the words gave the option.
+#[tactic(auto, using(crate::proofs::MatchLemmas::source_found))]
+fn was_given(matches: &ArgMatches<'_>, name: &str) -> bool
+    ensures { result ≡ was_given name.now (rows_in matches.now) }
+{
+    matches!(matches.value_source(name), Some(ValueSource::CommandLine))
+}

@@ -1,0 +1,88 @@
+ghost use Rattle.std.specs.Prelude.{◌≡◌, ◌≢◌, ◌≤◌, ◌<◌, ◌^◌, length, OnOk, IfOk, IfErr, IfSome};
+ghost use Rattle.std.specs.Io.KnownBytes.{IsAtEnd, Keeps};
+ghost use Rattle.py_lines.specs.declared.fault.Fault.{Fault};
+ghost use Rattle.isort_settings.specs.Values.{values};
+ghost use Rattle.isort_cmd.specs.Metered.{inner_of, last_of, IsGivenUp};
+ghost use Rattle.isort_cmd.specs.Sorting.{IsUnwritten, LeavesUnsorted, WritesSorted};
+ghost use Rattle.isort_cmd.specs.Steps.{IsOutputError};
+
+use crate::error::RunError;
+use crate::metered::{Last, Metered};
+use crate::read::read_text;
+use crate::write::write_whole;
+use isort_settings::Settings;
+use isort_sort::{Outcome, Sorted, sort_code};
+use std::alloc::Global;
+use std::io::{Read, Write};
+
+// Writes the sorted text, which is the text itself where it is sorted or asks to be left as it is.
+fn write_sorted<W: Write>(
+    alloc: Global,
+    text: &[u8],
+    writer: &mut Metered<W>,
+    settings: &Settings,
+) -> Result<Outcome, RunError>
+    requires fine { last_of writer.old ≡ Last.Fine }
+    ensures ok { IfOk result (λ outcome. WritesSorted text.now (values settings.now) outcome (W.contents (inner_of writer.old)) (W.contents (inner_of writer.new))) }
+    ensures err { IfErr result (λ e. LeavesUnsorted text.now (values settings.now) e (W.contents (inner_of writer.old)) (W.contents (inner_of writer.new))) }
+    ensures errors { IfErr result IsOutputError }
+    ensures unwritten { IfErr result (λ e. IsUnwritten e → Keeps (W.contents (inner_of writer.old)) (W.contents (inner_of writer.new))) }
+    ensures stopped { result ≡ Err RunError.Write → IsGivenUp (last_of writer.new) }
+    ensures fine { result ≢ Err RunError.Write → last_of writer.new ≡ Last.Fine }
+{
+    let sorted = sort_code(alloc, text, settings)?;
+    let (outcome, bytes) = match &sorted {
+        Sorted::Same => (Outcome::Same, text),
+        Sorted::Changed(changed) => (Outcome::Changed, changed.as_bytes()),
+        Sorted::Skipped => (Outcome::Skipped, text),
+    };
+    write_whole(writer, bytes)?;
+    Ok(outcome)
+}
+
+/// Sorts the imports of a Python text: reads `reader` to its end, and then writes the sorted text to `writer`, also
+/// where it is the text itself.
+///
+/// `Same` and `Skipped` say that it is: the text is sorted, or asks to be left as it is. `max` is how many bytes the
+/// text may have.
+///
+/// - `Read`: a read failed; nothing was written.
+/// - `TooLong`: more than `max` bytes came; nothing was written.
+/// - `NeverEnds`: a read was interrupted 1000 times in a row; nothing was written.
+/// - `Fault`: the text has this fault; nothing was written.
+/// - `Write`: a write failed, took no byte, or was interrupted 1000 times in a row; a prefix of the sorted text was
+///   written.
+/// - `Memory`: memory ran out; nothing was written.
+///
+/// After each answer except `Read` and `NeverEnds` the last call of `reader` is fine, and after each except `Write` that
+/// of `writer`: the next text can be sorted to it.
+pub fn sort_run<R: Read, W: Write>(
+    alloc: Global,
+    reader: &mut Metered<R>,
+    writer: &mut Metered<W>,
+    settings: &Settings,
+    max: u64,
+) -> Result<Outcome, RunError>
+    requires reader_fine { last_of reader.old ≡ Last.Fine }
+    requires writer_fine { last_of writer.old ≡ Last.Fine }
+    requires small { max ≤ 2 ^ 62 }
+
+    // Where the reader and the writer tell their bytes.
+    ensures ok { IfOk result (λ outcome. IfSome (R.remaining (inner_of reader.old)) (λ text. WritesSorted text (values settings.now) outcome (W.contents (inner_of writer.old)) (W.contents (inner_of writer.new)))) }
+    ensures end { OnOk result (IsAtEnd (R.remaining (inner_of reader.new))) }
+    ensures within { OnOk result (IfSome (R.remaining (inner_of reader.old)) (λ text. length text ≤ max)) }
+    ensures err { IfErr result (λ e. IfSome (R.remaining (inner_of reader.old)) (λ text. LeavesUnsorted text (values settings.now) e (W.contents (inner_of writer.old)) (W.contents (inner_of writer.new)))) }
+    ensures too_long { result ≡ Err RunError.TooLong → IfSome (R.remaining (inner_of reader.old)) (λ text. max < length text) }
+    ensures fault_within { (f : Fault) → result ≡ Err (RunError.Fault f) → IfSome (R.remaining (inner_of reader.old)) (λ text. length text ≤ max) }
+
+    // At any reader and writer.
+    ensures unwritten { IfErr result (λ e. IsUnwritten e → Keeps (W.contents (inner_of writer.old)) (W.contents (inner_of writer.new))) }
+    ensures read { result ≡ Err RunError.Read → last_of reader.new ≡ Last.Failed }
+    ensures never_ends { result ≡ Err RunError.NeverEnds → last_of reader.new ≡ Last.Interrupted 1000 }
+    ensures write { result ≡ Err RunError.Write → IsGivenUp (last_of writer.new) }
+    ensures reader_fine { result ≢ Err RunError.Read → result ≢ Err RunError.NeverEnds → last_of reader.new ≡ Last.Fine }
+    ensures writer_fine { result ≢ Err RunError.Write → last_of writer.new ≡ Last.Fine }
+{
+    let text = read_text(alloc, reader, max)?;
+    write_sorted(alloc, text.as_slice(), writer, settings)
+}

@@ -1,0 +1,86 @@
+-- What is known of a text's lines as they are read, and what is found in the text.
+use Rattle.std.proofs.Common.{◌≡◌, ℕ, Bool, true, false, None, Result, Ok, Err, IfOk, List, [], ◌∷◌, ◌++◌, length, drop, refl, sym, ap, ◌∙◌, subst}
+use Rattle.std.specs.Str.{IsUtf8}
+use Rattle.std.proofs.lemmas.Str.{IsUtf8-nil}
+use Rattle.py_lines.specs.LogicalLine.{LogicalLine}
+use Rattle.py_imports.specs.Shape.{mark_len}
+use Rattle.isort_sort.specs.Arranging.{AreUtf8, IsCutText}
+use Rattle.isort_sort.specs.Blocks.{Cut}
+use Rattle.isort_sort.specs.Finding.{IsFinding, closed_found}
+use Rattle.isort_sort.specs.Found.{Found}
+use Rattle.isort_sort.specs.FoundValues.{finding_value}
+use Rattle.isort_sort.specs.LineRole.{turned}
+use Rattle.isort_sort.specs.Reading.{is_some_line, IsSkipSoFar, FindsLine, IsReadSoFar, IsReadBefore, IsFoundIn}
+use Rattle.isort_sort.specs.Row.{mark_after}
+use Rattle.isort_sort.specs.Sorted.{texts_of, mark_of, IsAccepted, HasBlocks}
+use Rattle.isort_sort.specs.declared.answer.SortError.{SortError}
+use Rattle.isort_sort.specs.declared.read.FoundText.{FoundText}
+use Rattle.isort_sort.specs.declared.read.LineReader.{LineReader}
+use Rattle.isort_sort.proofs.FindingRows.{nothing_found, AreAll, all_found}
+use Rattle.isort_sort.proofs.LineLemmas.{rows_push, utf8_push, off_push, row_after}
+use Rattle.isort_sort.proofs.MarkLemmas.{rest_utf8, mark_utf8, mark_taken}
+use Rattle.isort_sort.proofs.RowsText.{text_of_rows}
+
+-- the first line
+pub beginning : (lines : List LogicalLine) (line : LogicalLine) (old new : LineReader) (mark : ℕ) → old.begun ≡ false → mark ≡ mark_len line → finding_value new.blocks ≡ record { found = []; opened = None; place = mark } → new.mark ≡ mark → new.begun ≡ true → new.off ≡ old.off → new.skip ≡ old.skip → IsReadSoFar lines old → IsReadBefore lines line new
+beginning [] line old new mark begun m fresh marked started off skip h =
+    let taken : mark ≡ length (mark_of (line ∷ [])) = m ∙ sym (mark_taken line) in
+    record {
+      rows = [];
+      seen = refl;
+      utf8 = tt;
+      finding = subst (λ (n : ℕ). IsFinding n [] (finding_value new.blocks)) taken (subst (IsFinding mark []) (sym fresh) (nothing_found mark));
+      mark = marked ∙ taken;
+      begun = started;
+      off = off ∙ h.off;
+      skip = subst (IsSkipSoFar []) (sym skip) h.skip;
+    }
+beginning (l ∷ ls) line old new mark begun m fresh marked started off skip h = absurd (let both : true ≡ false = sym h.begun ∙ begun in cc)
+
+after_utf8 : (lines : List LogicalLine) (line : LogicalLine) → IsUtf8 line.text → IsUtf8 (drop (mark_after lines line) line.text)
+after_utf8 [] line utf8 = rest_utf8 line utf8
+after_utf8 (l ∷ ls) line utf8 = utf8
+
+some_line : (lines : List LogicalLine) (line : LogicalLine) → true ≡ is_some_line (lines ++ line ∷ [])
+some_line [] line = refl
+some_line (l ∷ ls) line = refl
+
+-- a line was read
+pub read_on : (lines : List LogicalLine) (line : LogicalLine) (old new : LineReader) (off : Bool) (mark : ℕ) → off ≡ old.off → mark ≡ mark_after lines line → FindsLine off mark line (finding_value old.blocks) (finding_value new.blocks) → new.mark ≡ old.mark → new.begun ≡ old.begun → new.off ≡ turned off line → (IsSkipSoFar lines old.skip → IsSkipSoFar (lines ++ line ∷ []) new.skip) → IsReadBefore lines line old → IsReadSoFar (lines ++ line ∷ []) new
+read_on lines line old new off mark was m finds marked begun turns skips h =
+    let found = finds (length (mark_of (lines ++ line ∷ []))) h.rows h.finding in
+    record {
+      rows = h.rows ++ found.0 ∷ [];
+      seen = rows_push [] lines h.rows line found.0 h.seen (row_after lines line off mark found.0 (was ∙ h.off) m found.1);
+      utf8 = utf8_push h.rows found.0 h.utf8 (subst IsUtf8 (sym (found.1.text ∙ ap (λ n. drop n line.text) m)) (after_utf8 lines line found.1.utf8));
+      finding = found.2;
+      mark = marked ∙ h.mark;
+      begun = begun ∙ h.begun ∙ some_line lines line;
+      off = turns ∙ ap (λ b. turned b line) (was ∙ h.off) ∙ sym (off_push lines line);
+      skip = skips h.skip;
+    }
+
+mark_is_utf8 : (lines : List LogicalLine) → IsUtf8 (mark_of lines)
+mark_is_utf8 [] = IsUtf8-nil
+mark_is_utf8 (line ∷ lines) = mark_utf8 line
+
+-- the blocks of a text that was read to its end
+pub found_in : (text : List ℕ) (lines : List LogicalLine) (r : LineReader) (found : List Found) → r.skip.skips ≡ false → found ≡ closed_found None (finding_value r.blocks) → IsReadSoFar lines r → IsAccepted text lines → (of : List LogicalLine) × (cut : Cut) × HasBlocks text of cut × (r.mark ≡ length (mark_of of)) × IsCutText text (mark_of of) cut found
+found_in text lines r found skips all h accepted =
+    let blocks : AreAll (length (mark_of lines)) h.rows (closed_found None (finding_value r.blocks)) = all_found (length (mark_of lines)) h.rows (finding_value r.blocks) h.finding in (
+      lines,
+      blocks.cut,
+      record { accepted = accepted; unskipped = sym h.skip.skips ∙ skips; rows = h.rows; seen = h.seen; cut_at = blocks.is },
+      h.mark,
+      record {
+        split = text_of_rows text lines h.rows accepted.lexed h.seen ∙ ap (λ rows. mark_of lines ++ texts_of rows) (sym blocks.is.all);
+        spans = all ∙ blocks.found;
+        utf8_mark = mark_is_utf8 lines;
+        utf8 = subst AreUtf8 (sym blocks.is.all) h.utf8;
+      },
+    )
+
+-- the answer, where the text was read to its end
+pub answers : (text : List ℕ) (lines : List LogicalLine) (r : LineReader) (result : Result FoundText SortError) → IfOk result (λ found. (text : List ℕ) (lines : List LogicalLine) → IsReadSoFar lines r → IsAccepted text lines → IsFoundIn text found) → IsReadSoFar lines r → IsAccepted text lines → IfOk result (λ found. IsFoundIn text found)
+answers text lines r (Ok found) told h accepted = told text lines h accepted
+answers text lines r (Err e) told h accepted = tt

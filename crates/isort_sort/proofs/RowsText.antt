@@ -1,0 +1,55 @@
+-- A text is the texts of its rows, after its byte order mark.
+use Rattle.std.proofs.Common.{◌≡◌, ℕ, ◌+◌, Bool, true, false, cond, ◌&&◌, ◌==◌, None, List, [], ◌∷◌, ◌++◌, flat_map, take, drop, refl, sym, ap, ◌∙◌, append_assoc, append-nil}
+use Rattle.std.specs.Prelude.{encode_utf8_all}
+use Rattle.std.proofs.lemmas.Str.{encodes-append}
+use Rattle.std.proofs.lemmas.List.{take-append-drop}
+use Rattle.py_lines.specs.Balance.{depth_after}
+use Rattle.py_lines.specs.Lexed.{IsLexed}
+use Rattle.py_lines.specs.LogicalLine.{LogicalLine, is_line_end_class, put_first, cut, byte_len, line_ends, lines_from}
+use Rattle.py_lines.specs.Piece.{Piece, spelled}
+use Rattle.py_imports.specs.Shape.{mark_len}
+use Rattle.isort_sort.specs.Row.{Row, AreRows}
+use Rattle.isort_sort.specs.Sorted.{texts_of, mark_of}
+
+-- the characters of parts, one part after another
+put_spelled : (p : Piece) (us : List (List Piece)) → flat_map spelled (put_first p us) ≡ p.text ++ flat_map spelled us
+put_spelled p [] = append-nil (p.text ++ [])
+put_spelled p (u ∷ us) = append_assoc p.text (spelled u) (flat_map spelled us)
+
+cut_spelled : (depth : ℕ) (ps : List Piece) → flat_map spelled (cut depth ps) ≡ spelled ps
+cut_spelled depth [] = refl
+cut_spelled depth (p ∷ ps) = by (is_line_end_class p.class && (depth == 0)) (cut_spelled depth ps) (cut_spelled (depth_after depth p) ps)
+  where
+    by : (b : Bool) → flat_map spelled (cut depth ps) ≡ spelled ps → flat_map spelled (cut (depth_after depth p) ps) ≡ spelled ps → flat_map spelled (cond b ((p ∷ []) ∷ cut depth ps) (put_first p (cut (depth_after depth p) ps))) ≡ p.text ++ spelled ps
+    by true ended goes_on = (λ i. append-nil p.text i ++ ended i)
+    by false ended goes_on = put_spelled p (cut (depth_after depth p) ps) ∙ ap (λ (t : List ℕ). p.text ++ t) goes_on
+
+-- the texts of lines
+abbrev pub texts_of_lines : List LogicalLine → List ℕ
+texts_of_lines lines = flat_map (λ line. line.text) lines
+
+lines_spelled : (offset line : ℕ) (us : List (List Piece)) → texts_of_lines (lines_from offset line us) ≡ encode_utf8_all (flat_map spelled us)
+lines_spelled offset line [] = refl
+lines_spelled offset line (u ∷ us) = ap (λ (t : List ℕ). encode_utf8_all (spelled u) ++ t) (lines_spelled (offset + byte_len (spelled u)) (line + line_ends (spelled u)) us) ∙ sym (encodes-append (spelled u) (flat_map spelled us))
+
+-- a text is the texts of its lines
+pub text_of_lines : (text : List ℕ) (lines : List LogicalLine) → IsLexed text lines None → text ≡ texts_of_lines lines
+text_of_lines text lines is =
+    sym is.decodes.spell ∙ append-nil (encode_utf8_all is.characters) ∙ ap encode_utf8_all (sym is.reading.spell ∙ sym (cut_spelled 0 is.pieces))
+    ∙ sym (lines_spelled 0 1 (cut 0 is.pieces)) ∙ ap texts_of_lines (sym is.cut)
+
+-- rows after the first line have the texts of their lines
+later_rows : (first : LogicalLine) (others lines : List LogicalLine) (rows : List Row) → AreRows (first ∷ others) lines rows → texts_of_lines lines ≡ texts_of rows
+later_rows first others [] rows are = ap texts_of (sym are)
+later_rows first others (line ∷ lines) rows are =
+    (λ i. sym are.3.text i ++ later_rows first (others ++ line ∷ []) lines are.1 are.4 i) ∙ ap texts_of (sym are.2)
+
+pub text_of_rows : (text : List ℕ) (lines : List LogicalLine) (rows : List Row) → IsLexed text lines None → AreRows [] lines rows → text ≡ mark_of lines ++ texts_of rows
+text_of_rows text lines rows is are = text_of_lines text lines is ∙ whole lines are
+  where
+    whole : (all : List LogicalLine) → AreRows [] all rows → texts_of_lines all ≡ mark_of all ++ texts_of rows
+    whole [] none = ap texts_of (sym none)
+    whole (line ∷ others) each =
+        ap (λ (t : List ℕ). t ++ texts_of_lines others) (sym (take-append-drop (mark_len line) line.text))
+        ∙ append_assoc (take (mark_len line) line.text) (drop (mark_len line) line.text) (texts_of_lines others)
+        ∙ ap (λ (t : List ℕ). take (mark_len line) line.text ++ t) ((λ i. sym each.3.text i ++ later_rows line [] others each.1 each.4 i) ∙ ap texts_of (sym each.2))

@@ -1,0 +1,16 @@
+use Rattle.std.proofs.Common.{[], sym, refl, subst}
+use Rattle.isort_sort.specs.Finding.{IsFinding}
+use Rattle.isort_sort.proofs.FindingRows.{nothing_found}
+use Rattle.isort_sort.proofs.read.LineReader.new.Goals as goal
+
+pub returns-clause-start : goal.returns-clause-start
+returns-clause-start c = record {
+  rows = [];
+  seen = refl;
+  utf8 = tt;
+  finding = subst (IsFinding 0 []) (sym c.new-2.ensures.start) (nothing_found 0);
+  mark = refl;
+  begun = refl;
+  off = refl;
+  skip = c.new.ensures;
+}

@@ -1,0 +1,15 @@
+use Rattle.std.proofs.Common.{◌||◌, sym, ap, ◌∙◌}
+use Rattle.py_lines.specs.Lines.{line_in}
+use Rattle.isort_sort.specs.Reading.{has_code}
+use Rattle.isort_sort.proofs.SkipLemmas.{skip_pushed}
+use Rattle.isort_sort.proofs.skip.SkipReader.push.Goals as goal
+
+pub returns-then-self : goal.returns-then-self
+returns-then-self c = λ lines h.
+    let line = line_in c.args.unit.now in
+    skip_pushed lines line c.args.self.now _ c.skips_with.ensures (c.if-self.true ∙ sym (ap (λ b. b || has_code line) c.if-self.true)) h
+
+pub returns-else-self : goal.returns-else-self
+returns-else-self c = λ lines h.
+    let line = line_in c.args.unit.now in
+    skip_pushed lines line c.args.self.now _ c.skips_with.ensures (c.has_code.ensures ∙ sym (ap (λ b. b || has_code line) c.if-self.false)) h

@@ -1,0 +1,265 @@
+//! Finding the blocks of a text, line by line.
+ghost use Rattle.std.specs.Prelude.{◌≡◌, ◌+◌, ◌<◌, ◌≤◌, ◌^◌, [], None, MatchOption, IfOk, OnOk, IfErr, is_some, map, option_map, string_bytes};
+ghost use Rattle.isort_sort.specs.Finding.{after_blank, after_comments, after_member, after_other, begun_with, closed_found, closed_with, with_blank, with_comments, with_member};
+ghost use Rattle.isort_sort.specs.FoundValues.{before_value, finding_value, found_value, open_value, IsCounted};
+ghost use Rattle.isort_sort.specs.LineRole.{before_of};
+ghost use Rattle.isort_sort.specs.Values.{member_value};
+
+use crate::answer::SortError;
+use crate::member::Member;
+use crate::row::BlankLines;
+use std::alloc::Global;
+use std::mem;
+
+/// Where a line ends.
+#[derive(Clone, Copy)]
+pub(crate) struct LineStop {
+    /// The byte after it.
+    pub(crate) stop: usize,
+    /// Whether it has a line end.
+    pub(crate) ended: bool,
+}
+
+/// A block of a text, with what its layout needs.
+#[derive(Debug, Drop)]
+pub(crate) struct FoundBlock {
+    /// The byte at which its span begins.
+    pub(crate) start: usize,
+    /// The byte after its span.
+    pub(crate) stop: usize,
+    pub(crate) indentation: String,
+    pub(crate) members: Vec<Member>,
+    /// Whether its last line has a line end.
+    pub(crate) ended: bool,
+    /// How many of the blank lines after it have a line end.
+    pub(crate) blanks: usize,
+    /// What the line after these asks of the blank lines before it; none at the text's end.
+    pub(crate) next: Option<BlankLines>,
+}
+
+/// A block that may go on.
+#[derive(Debug, Drop)]
+struct OpenBlock {
+    block: FoundBlock,
+    /// The comments after its last member.
+    above: Vec<String>,
+    /// Whether a line with comments stands after its last member.
+    commented: bool,
+}
+
+impl OpenBlock {
+    /// A block that begins with this member.
+    fn begin(
+        alloc: Global,
+        start: usize,
+        line: LineStop,
+        indentation: &str,
+        member: Member,
+    ) -> Result<OpenBlock, SortError>
+        ensures ok { IfOk result (λ o. open_value o ≡ begun_with start line.stop line.ended indentation.now (member_value member)) }
+        ensures err { IfErr result (λ e. e ≡ SortError.Memory) }
+    {
+        let mut members = Vec::new(alloc);
+        members.push(member)?;
+        Ok(OpenBlock {
+            block: FoundBlock {
+                start,
+                stop: line.stop,
+                indentation: String::from_str(alloc, indentation)?,
+                members,
+                ended: line.ended,
+                blanks: 0,
+                next: None,
+            },
+            above: Vec::new(alloc),
+            commented: false,
+        })
+    }
+
+    /// The block with one member more, which takes the comments before it.
+    fn with_member(
+        mut self,
+        alloc: Global,
+        line: LineStop,
+        mut member: Member,
+    ) -> Result<OpenBlock, SortError>
+        ensures ok { IfOk result (λ o. open_value o ≡ with_member line.stop line.ended (member_value member) (open_value self)) }
+        ensures err { IfErr result (λ e. e ≡ SortError.Memory) }
+    {
+        member.above = mem::replace(&mut self.above, Vec::new(alloc));
+        self.block.members.push(member)?;
+        self.block.stop = line.stop;
+        self.block.ended = line.ended;
+        self.block.blanks = 0;
+        self.commented = false;
+        Ok(self)
+    }
+
+    /// Takes in a line without tokens.
+    fn push_blank(&mut self, line: LineStop)
+        requires { self.old.block.blanks + 1 < 2 ^ 64 }
+        ensures { open_value self.new ≡ with_blank line.stop line.ended (open_value self.old) }
+    {
+        if self.commented {
+            return;
+        }
+        self.block.stop = line.stop;
+        if line.ended {
+            self.block.blanks += 1;
+        }
+    }
+
+    /// Takes in comments.
+    fn push_comments(&mut self, mut comments: Vec<String>) -> Result<(), SortError>
+        ensures value { OnOk result (open_value self.new ≡ with_comments (map string_bytes comments.items) (open_value self.old)) }
+        ensures err { IfErr result (λ e. e ≡ SortError.Memory) }
+    {
+        self.above.append(&mut comments)?;
+        self.commented = true;
+        Ok(())
+    }
+
+    /// The block, which ends before a line that asks for these blank lines, or at the text's end.
+    fn close(self, next: Option<BlankLines>) -> FoundBlock
+        ensures { found_value result ≡ closed_with (before_value next) (open_value self) }
+    {
+        let mut block = self.block;
+        block.next = if self.commented {
+            Some(BlankLines::AsMany)
+        } else {
+            next
+        };
+        block
+    }
+}
+
+/// Finds the blocks of a text whose lines are handed in one after another.
+#[derive(Debug, Drop)]
+pub(crate) struct BlockFinder {
+    found: Vec<FoundBlock>,
+    open: Option<OpenBlock>,
+    /// The byte after the last line.
+    place: usize,
+}
+
+impl BlockFinder {
+    /// A finder for lines the first of which begins at this byte.
+    pub(crate) fn new(alloc: Global, start: usize) -> BlockFinder
+        ensures start { finding_value result ≡ record { found = []; opened = None; place = start } }
+        ensures counted { IsCounted (finding_value result) }
+    {
+        BlockFinder {
+            found: Vec::new(alloc),
+            open: None,
+            place: start,
+        }
+    }
+
+    /// Whether a block may go on.
+    pub(crate) fn is_open(&self) -> bool
+        ensures { result ≡ is_some (finding_value self.now).opened }
+    {
+        self.open.is_some()
+    }
+
+    /// The byte after the last line.
+    pub(crate) fn place(&self) -> usize
+        ensures { result ≡ (finding_value self.now).place }
+    {
+        self.place
+    }
+
+    /// Takes in a line without tokens.
+    pub(crate) fn push_blank(&mut self, line: LineStop)
+        requires counted { IsCounted (finding_value self.old) }
+        requires further { MatchOption (finding_value self.old).opened (Unit {0}) (λ o. (finding_value self.old).place < line.stop) }
+        ensures value { finding_value self.new ≡ after_blank line.stop line.ended (finding_value self.old) }
+        ensures counted { IsCounted (finding_value self.new) }
+    {
+        if let Some(open) = &mut self.open {
+            open.push_blank(line);
+        }
+        self.place = line.stop;
+    }
+
+    /// Takes in a line with comments alone; they are asked for only where a block may go on.
+    pub(crate) fn push_comments(
+        &mut self,
+        line: LineStop,
+        comments: Vec<String>,
+    ) -> Result<(), SortError>
+        requires counted { IsCounted (finding_value self.old) }
+        requires further { (finding_value self.old).place ≤ line.stop }
+        ensures value { OnOk result (finding_value self.new ≡ after_comments line.stop (map string_bytes comments.items) (finding_value self.old)) }
+        ensures counted { OnOk result (IsCounted (finding_value self.new)) }
+        ensures err { IfErr result (λ e. e ≡ SortError.Memory) }
+    {
+        if let Some(open) = &mut self.open {
+            open.push_comments(comments)?;
+        }
+        self.place = line.stop;
+        Ok(())
+    }
+
+    /// Takes in a member.
+    pub(crate) fn push_member(
+        &mut self,
+        alloc: Global,
+        line: LineStop,
+        indentation: &str,
+        member: Member,
+    ) -> Result<(), SortError>
+        ensures value { OnOk result (finding_value self.new ≡ after_member line.stop line.ended indentation.now (member_value member) (finding_value self.old)) }
+        ensures counted { OnOk result (IsCounted (finding_value self.new)) }
+        ensures err { IfErr result (λ e. e ≡ SortError.Memory) }
+    {
+        let start = mem::replace(&mut self.place, line.stop);
+        let open = match self.open.take() {
+            Some(open) if open.block.indentation.as_str() == indentation => {
+                open.with_member(alloc, line, member)?
+            }
+            other => {
+                self.close(other, Some(BlankLines::One))?;
+                OpenBlock::begin(alloc, start, line, indentation, member)?
+            }
+        };
+        self.open = Some(open);
+        Ok(())
+    }
+
+    /// Takes in a line that no block takes in.
+    pub(crate) fn push_other(&mut self, line: LineStop, next: BlankLines) -> Result<(), SortError>
+        ensures value { OnOk result (finding_value self.new ≡ after_other line.stop (before_of next) (finding_value self.old)) }
+        ensures counted { OnOk result (IsCounted (finding_value self.new)) }
+        ensures err { IfErr result (λ e. e ≡ SortError.Memory) }
+    {
+        self.place = line.stop;
+        let open = self.open.take();
+        self.close(open, Some(next))
+    }
+
+    /// All blocks of the lines.
+    pub(crate) fn finish(mut self) -> Result<Vec<FoundBlock>, SortError>
+        ensures ok { IfOk result (λ found. map found_value found.items ≡ closed_found None (finding_value self)) }
+        ensures err { IfErr result (λ e. e ≡ SortError.Memory) }
+    {
+        let open = self.open.take();
+        self.close(open, None)?;
+        Ok(self.found)
+    }
+
+    // Puts the block that ends, if there is one, among those found.
+    fn close(
+        &mut self,
+        ending: Option<OpenBlock>,
+        next: Option<BlankLines>,
+    ) -> Result<(), SortError>
+        ensures value { OnOk result (finding_value self.new ≡ record (finding_value self.old) { found = closed_found (before_value next) (record (finding_value self.old) { opened = option_map open_value ending }) }) }
+        ensures err { IfErr result (λ e. e ≡ SortError.Memory) }
+    {
+        if let Some(block) = ending {
+            self.found.push(block.close(next))?;
+        }
+        Ok(())
+    }
+}

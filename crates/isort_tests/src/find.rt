@@ -1,0 +1,435 @@
+use isort_find::laws::equal_keys;
+use isort_find::{Cursor, FindError, FindOptions, Finder, ImportKey, ResumeError, key_of};
+use py_imports::{Binding, ImportError};
+use py_lines::{Fault, FaultKind};
+use std::alloc::Global;
+use std::test::Fail;
+
+const fn options(unique: Option<ImportKey>, top_only: bool) -> FindOptions {
+    FindOptions { unique, top_only }
+}
+
+fn tell_binding(alloc: Global, binding: &Binding, out: &mut String) -> Result<(), Fail> {
+    let line = binding.line;
+    let indented = if binding.indented { "indented " } else { "" };
+    let statement = binding.statement(alloc)?;
+    writeln!(out, "{line} {indented}{statement}")?;
+    Ok(())
+}
+
+fn tell_fault(fault: Fault, out: &mut String) -> Result<(), Fail> {
+    let Fault { kind, offset, line } = fault;
+    writeln!(out, "{kind}, {offset}, {line}")?;
+    Ok(())
+}
+
+// What the next call answers goes after `out`, on a line of its own.
+fn tell(alloc: Global, finder: &mut Finder<'_>, out: &mut String) -> Result<(), Fail> {
+    match finder.next_import() {
+        Ok(Some(binding)) => tell_binding(alloc, &binding, out),
+        Ok(None) => {
+            out.push_str("end\n")?;
+            Ok(())
+        }
+        Err(FindError::Fault(fault)) => tell_fault(fault, out),
+        Err(error) => Err(Fail::from(error)),
+    }
+}
+
+fn tell_place(cursor: &Cursor, out: &mut String) -> Result<(), Fail> {
+    let offset = cursor.offset();
+    let given = cursor.given();
+    writeln!(out, "at {offset}, {given}")?;
+    Ok(())
+}
+
+// Tells so many answers, and where the finder stops after them.
+fn tell_some(
+    alloc: Global,
+    mut finder: Finder<'_>,
+    answers: usize,
+    out: &mut String,
+) -> Result<Cursor, Fail> {
+    for _ in 0..answers {
+        tell(alloc, &mut finder, out)?;
+    }
+    let cursor = finder.stop();
+    tell_place(&cursor, out)?;
+    Ok(cursor)
+}
+
+fn begun<'t>(alloc: Global, text: &'t str, options: FindOptions) -> Result<Finder<'t>, Fail> {
+    Ok(Finder::new(alloc, text.as_bytes(), options)?)
+}
+
+fn resumed<'t>(alloc: Global, text: &'t str, cursor: Cursor) -> Result<Finder<'t>, Fail> {
+    match Finder::resume(alloc, text.as_bytes(), cursor) {
+        Ok(finder) => Ok(finder),
+        Err((_, error)) => Err(Fail::from(error)),
+    }
+}
+
+// So many answers, then a stop, and then so many more.
+fn story(
+    alloc: Global,
+    text: &str,
+    options: FindOptions,
+    answers: usize,
+    more: usize,
+) -> Result<String, Fail> {
+    let mut out = String::new(alloc);
+    let cursor = tell_some(alloc, begun(alloc, text, options)?, answers, &mut out)?;
+    let _ = tell_some(alloc, resumed(alloc, text, cursor)?, more, &mut out)?;
+    Ok(out)
+}
+
+#[test]
+fn gives_the_first_of_each_key(rt: HostRuntime) -> Result<(), Fail> {
+    let text = "import a.b\nfrom a import c\nfrom .a import d\nfrom a import c as e\n";
+    for (key, answers, told) in [
+        (
+            ImportKey::Package,
+            1,
+            "1 import a.b\nat 0, 1\n3 from .a import d\nend\nat 65, 2\n",
+        ),
+        (
+            ImportKey::Module,
+            2,
+            "1 import a.b\n2 from a import c\nat 11, 2\n3 from .a import d\nend\nat 65, 3\n",
+        ),
+        (
+            ImportKey::Attribute,
+            2,
+            "1 import a.b\n2 from a import c\nat 11, 2\n3 from .a import d\nend\nat 65, 3\n",
+        ),
+        (
+            ImportKey::Alias,
+            3,
+            "1 import a.b\n2 from a import c\n3 from .a import d\nat 27, 3\n4 from a import c as e\nend\nat 65, 4\n",
+        ),
+    ] {
+        let found = story(rt.alloc(), text, options(Some(key), false), answers, 2)?;
+        assert_eq!(rt; found.as_str(), told);
+    }
+    Ok(())
+}
+
+#[test]
+fn drops_later_imports(rt: HostRuntime) -> Result<(), Fail> {
+    for (text, answers, more, told) in [
+        (
+            "import a, b, a as c\nimport b.c\n",
+            2,
+            2,
+            "1 import a\n1 import b\nat 0, 2\n2 import b.c\nend\nat 31, 3\n",
+        ),
+        (
+            "import a\nimport a, b\nimport b\n",
+            1,
+            2,
+            "1 import a\nat 0, 1\n2 import b\nend\nat 30, 2\n",
+        ),
+        (
+            "import a\nimport b, a, c, b, d\nimport a, e\n",
+            3,
+            3,
+            "1 import a\n2 import b\n2 import c\nat 9, 3\n2 import d\n3 import e\nend\nat 42, 5\n",
+        ),
+        ("", 2, 1, "end\nend\nat 0, 0\nend\nat 0, 0\n"),
+        ("\u{feff}", 2, 1, "end\nend\nat 3, 0\nend\nat 3, 0\n"),
+    ] {
+        let found = story(
+            rt.alloc(),
+            text,
+            options(Some(ImportKey::Module), false),
+            answers,
+            more,
+        )?;
+        assert_eq!(rt; found.as_str(), told);
+    }
+    Ok(())
+}
+
+#[test]
+fn stops_at_the_top(rt: HostRuntime) -> Result<(), Fail> {
+    let text = "import a\nif a:\n    def f(): pass\n    import b\n@d\nx = (\n";
+    for (top_only, told) in [
+        (
+            true,
+            "1 import a\n4 indented import b\nend\nend\nat 46, 2\nend\nat 46, 2\n",
+        ),
+        (
+            false,
+            "1 import a\n4 indented import b\nF6 bracket not closed, 53, 6\nF6 bracket not closed, 53, 6\nat 49, 2\nF6 bracket not closed, 53, 6\nat 49, 2\n",
+        ),
+    ] {
+        let found = story(rt.alloc(), text, options(None, top_only), 4, 1)?;
+        assert_eq!(rt; found.as_str(), told);
+    }
+    Ok(())
+}
+
+#[test]
+fn keeps_faults(rt: HostRuntime) -> Result<(), Fail> {
+    for (text, told) in [
+        (
+            "import a\nimport b\nx = (1,",
+            "1 import a\n2 import b\nF6 bracket not closed, 22, 3\nat 18, 2\nF6 bracket not closed, 22, 3\nat 18, 2\n",
+        ),
+        (
+            "import a\nfrom b import c,\n",
+            "1 import a\nF9 import statement not understood, 9, 2\nF9 import statement not understood, 9, 2\nat 9, 1\nF9 import statement not understood, 9, 2\nat 9, 1\n",
+        ),
+        (
+            "import a\n\u{feff}",
+            "1 import a\nF2 unexpected character, 9, 2\nF2 unexpected character, 9, 2\nat 9, 1\nF2 unexpected character, 9, 2\nat 9, 1\n",
+        ),
+        (
+            "import a\ndef f(): x = )\n",
+            "1 import a\nF5 closing bracket without its opening, 22, 2\nF5 closing bracket without its opening, 22, 2\nat 9, 1\nF5 closing bracket without its opening, 22, 2\nat 9, 1\n",
+        ),
+    ] {
+        let found = story(rt.alloc(), text, options(None, true), 3, 1)?;
+        assert_eq!(rt; found.as_str(), told);
+    }
+    Ok(())
+}
+
+#[test]
+fn goes_on_inside_a_line(rt: HostRuntime) -> Result<(), Fail> {
+    let found = story(rt.alloc(), "import a, b, c", options(None, false), 2, 2)?;
+    assert_eq!(rt;
+        found.as_str(),
+        "1 import a\n1 import b\nat 0, 2\n1 import c\nend\nat 14, 3\n"
+    );
+    Ok(())
+}
+
+// What is told where a cursor after 14 bytes is refused.
+fn refused(alloc: Global) -> Result<String, Fail> {
+    let mut out = String::new(alloc);
+    let finder = begun(alloc, "import a, b, c", options(None, false))?;
+    let cursor = tell_some(alloc, finder, 4, &mut out)?;
+    match Finder::resume(alloc, b"import a", cursor) {
+        Err((cursor, ResumeError::TextTooShort)) => {
+            tell_place(&cursor, &mut out)?;
+            Ok(out)
+        }
+        _ => Err(Fail::from("the text is too short")),
+    }
+}
+
+#[test]
+fn refuses_short_texts(rt: HostRuntime) -> Result<(), Fail> {
+    let told = refused(rt.alloc())?;
+    assert_eq!(rt;
+        told.as_str(),
+        "1 import a\n1 import b\n1 import c\nend\nat 14, 3\nat 14, 3\n"
+    );
+    Ok(())
+}
+
+// What makes a call again where memory is refused, or not.
+#[derive(Clone, Copy)]
+struct Patience {
+    alloc: Global,
+    is_patient: bool,
+}
+
+impl Patience {
+    fn finder<'t>(self, text: &'t str) -> Result<Finder<'t>, FindError> {
+        let asked = options(Some(ImportKey::Attribute), false);
+        match Finder::new(self.alloc, text.as_bytes(), asked) {
+            Err(_) if self.is_patient => Finder::new(self.alloc, text.as_bytes(), asked),
+            finder => finder,
+        }
+    }
+
+    fn next(self, finder: &mut Finder<'_>) -> Result<Option<Binding>, FindError> {
+        match finder.next_import() {
+            Err(FindError::Memory) if self.is_patient => finder.next_import(),
+            answer => answer,
+        }
+    }
+
+    fn resumed<'t>(self, text: &'t str, cursor: Cursor) -> Result<Finder<'t>, Fail> {
+        match Finder::resume(self.alloc, text.as_bytes(), cursor) {
+            Ok(finder) => Ok(finder),
+            Err((cursor, _)) if self.is_patient => resumed(self.alloc, text, cursor),
+            Err((_, error)) => Err(Fail::from(error)),
+        }
+    }
+
+    fn statement(self, binding: &Binding) -> Result<String, ImportError> {
+        match binding.statement(self.alloc) {
+            Err(_) if self.is_patient => binding.statement(self.alloc),
+            statement => statement,
+        }
+    }
+
+    // Whether the binding is that of the statement on the line.
+    fn tells(self, binding: &Binding, line: u64, statement: &str) -> Result<bool, Fail> {
+        let spelled = self.statement(binding)?;
+        Ok(binding.line == line && spelled.as_str() == statement)
+    }
+
+    // Asks a finder that goes on from the cursor for this import, and stops it again.
+    fn passes(
+        self,
+        text: &str,
+        cursor: Cursor,
+        line: u64,
+        statement: &str,
+    ) -> Result<Cursor, Fail> {
+        let mut finder = self.resumed(text, cursor)?;
+        let binding = self.next(&mut finder)?.ok_or("an import is missing")?;
+        match self.tells(&binding, line, statement)? {
+            true => Ok(finder.stop()),
+            false => Err(Fail::from("another import was told")),
+        }
+    }
+
+    // What such a finder tells after the last import.
+    fn end(self, text: &str, cursor: Cursor) -> Result<Option<Fault>, Fail> {
+        let mut finder = self.resumed(text, cursor)?;
+        match self.next(&mut finder) {
+            Ok(None) => Ok(None),
+            Err(FindError::Fault(fault)) => Ok(Some(fault)),
+            _ => Err(Fail::from("another import was told")),
+        }
+    }
+}
+
+// Asks for these imports one by one, and for what comes after them.
+fn ask(
+    patience: Patience,
+    text: &str,
+    told: &[(u64, &str)],
+    end: Option<Fault>,
+) -> Result<(), Fail> {
+    let mut cursor = patience.finder(text)?.stop();
+    for (line, statement) in told.iter() {
+        cursor = patience.passes(text, cursor, *line, statement)?;
+    }
+    match patience.end(text, cursor)? == end {
+        true => Ok(()),
+        false => Err(Fail::from("another end was told")),
+    }
+}
+
+fn ask_all(patience: Patience) -> Result<(), Fail> {
+    ask(
+        patience,
+        "import a, b, c",
+        &[(1, "import a"), (1, "import b"), (1, "import c")],
+        None,
+    )?;
+    ask(
+        patience,
+        "import a.b\nfrom a import c\nfrom .a import d\nfrom a import c as e\n",
+        &[
+            (1, "import a.b"),
+            (2, "from a import c"),
+            (3, "from .a import d"),
+        ],
+        None,
+    )?;
+    let fault = Fault {
+        kind: FaultKind::OpenBracket,
+        offset: 22,
+        line: 3,
+    };
+    ask(
+        patience,
+        "import a\nimport b\nx = (1,",
+        &[(1, "import a"), (2, "import b")],
+        Some(fault),
+    )
+}
+
+// checks/refuse_memory.py runs this with each growth refused in turn. Each call that is refused is made again, and
+// answers what it would have answered.
+#[test]
+fn answers_the_same_after_refused_memory(rt: HostRuntime) -> Result<(), Fail> {
+    ask_all(Patience {
+        alloc: rt.alloc(),
+        is_patient: true,
+    })
+}
+
+// The same growths, where none is refused: that script is done when this passes.
+#[test]
+fn answers_at_once_with_ample_memory(rt: HostRuntime) -> Result<(), Fail> {
+    ask_all(Patience {
+        alloc: rt.alloc(),
+        is_patient: false,
+    })
+}
+
+#[test]
+fn keeps_its_options(rt: HostRuntime) -> Result<(), Fail> {
+    let asked = options(Some(ImportKey::Alias), true);
+    let cursor = begun(rt.alloc(), "import a", asked)?.stop();
+    assert_eq!(rt; cursor.options(), asked);
+    Ok(())
+}
+
+// The first import of a text.
+fn first_of(alloc: Global, text: &str) -> Result<Binding, Fail> {
+    let mut finder = begun(alloc, text, options(None, false))?;
+    let binding: Binding = finder.next_import()?.ok_or("an import is missing")?;
+    Ok(binding)
+}
+
+// Whether the first imports of two texts have one key.
+fn is_one(alloc: Global, one: &str, other: &str, key: ImportKey) -> Result<bool, Fail> {
+    let one = key_of(alloc, &first_of(alloc, one)?, key)?;
+    let other = key_of(alloc, &first_of(alloc, other)?, key)?;
+    Ok(equal_keys(&one, &other))
+}
+
+#[test]
+fn makes_package_keys(rt: HostRuntime) -> Result<(), Fail> {
+    for (one, other, same) in [
+        ("from ..x.y import z", "from ..x import w", true),
+        ("from ..x import w", "from .x import w", false),
+        ("from . import z", "from .z import z", false),
+        ("from . import z", "from . import y", true),
+        ("import a.b", "import a", true),
+    ] {
+        let found = is_one(rt.alloc(), one, other, ImportKey::Package)?;
+        assert_eq!(rt; found, same);
+    }
+    Ok(())
+}
+
+#[test]
+fn makes_other_keys(rt: HostRuntime) -> Result<(), Fail> {
+    for (one, other, key, same) in [
+        ("import a.b", "import a", ImportKey::Module, false),
+        ("import a as b", "from a import b", ImportKey::Module, true),
+        (
+            "import a as b",
+            "from a import b",
+            ImportKey::Attribute,
+            false,
+        ),
+        (
+            "from . import z",
+            "from . import z as y",
+            ImportKey::Attribute,
+            true,
+        ),
+        (
+            "from . import z",
+            "from . import z as y",
+            ImportKey::Alias,
+            false,
+        ),
+        ("import a as b", "import a as b", ImportKey::Alias, true),
+    ] {
+        let found = is_one(rt.alloc(), one, other, key)?;
+        assert_eq!(rt; found, same);
+    }
+    Ok(())
+}

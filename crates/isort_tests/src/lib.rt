@@ -1,0 +1,24 @@
+//! Tests of the libraries, each by its public calls. They stand in a crate of their own, since a crate with tests is proved
+//! twice.
+#![tactic(auto)]
+
+#[cfg(test)]
+mod command_line;
+#[cfg(test)]
+mod faults;
+#[cfg(test)]
+mod find;
+#[cfg(test)]
+mod imports;
+#[cfg(test)]
+mod lines;
+#[cfg(test)]
+mod report;
+#[cfg(test)]
+mod runs;
+#[cfg(test)]
+mod settings;
+#[cfg(test)]
+mod sort;
+#[cfg(test)]
+mod sorting_runs;
