@@ -21,7 +21,7 @@ pub(crate) struct LineStop {
 }
 
 /// A block of a text, with what its layout needs.
-#[derive(Debug, Drop)]
+#[derive(Drop)]
 pub(crate) struct FoundBlock {
     /// The byte at which its span begins.
     pub(crate) start: usize,
@@ -38,7 +38,7 @@ pub(crate) struct FoundBlock {
 }
 
 /// A block that may go on.
-#[derive(Debug, Drop)]
+#[derive(Drop)]
 struct OpenBlock {
     block: FoundBlock,
     /// The comments after its last member.
@@ -134,7 +134,7 @@ impl OpenBlock {
 }
 
 /// Finds the blocks of a text whose lines are handed in one after another.
-#[derive(Debug, Drop)]
+#[derive(Drop)]
 pub(crate) struct BlockFinder {
     found: Vec<FoundBlock>,
     open: Option<OpenBlock>,

@@ -22,7 +22,7 @@ use std::cmp::Ordering;
 use std::mem;
 
 /// A statement of a block, with what the members bring to it.
-#[derive(Debug, Drop)]
+#[derive(Drop)]
 pub(crate) struct Group {
     /// The section of its module.
     pub(crate) section: Section,
@@ -36,7 +36,7 @@ pub(crate) struct Group {
 }
 
 /// What was seen of a statement, in source order.
-#[derive(Debug, Drop)]
+#[derive(Drop)]
 struct Gathered {
     /// The items of `Names`; none for the other statements.
     items: Vec<Item>,
@@ -135,7 +135,7 @@ fn group_cmp(settings: &Settings, a: &Group, b: &Group) -> Ordering
 type Statements = IndexMap<Statement, Gathered>;
 
 /// An import, with what it brings to its statement.
-#[derive(Debug, Drop)]
+#[derive(Drop)]
 struct Import {
     statement: Statement,
     /// Its item, if the statement is one of names.

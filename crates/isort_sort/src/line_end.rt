@@ -4,7 +4,7 @@ ghost use Rattle.isort_sort.specs.Sorted.{first_end};
 ghost use Rattle.isort_sort.specs.LineEnd.{end_bytes};
 
 /// A line end (Python Language Reference, 2.1.2).
-#[derive(Clone, Copy, Debug, PartialEq, Eq)]
+#[derive(Clone, Copy)]
 pub(crate) enum LineEnd {
     /// LF.
     LineFeed,

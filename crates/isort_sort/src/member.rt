@@ -2,7 +2,7 @@
 use py_imports::Binding;
 
 /// A member of a block: an import line.
-#[derive(Debug, Drop)]
+#[derive(Drop)]
 pub(crate) struct Member {
     /// What it binds, in the order written.
     pub(crate) bindings: Vec<Binding>,

@@ -21,7 +21,7 @@ use py_lines::{Lines, Unit};
 use std::alloc::Global;
 
 /// The blocks of a text.
-#[derive(Debug, Drop)]
+#[derive(Drop)]
 pub(crate) struct FoundBlocks {
     /// How many bytes of a byte order mark the text begins with.
     pub(crate) mark: usize,
@@ -30,7 +30,7 @@ pub(crate) struct FoundBlocks {
 }
 
 /// What was found in a text.
-#[derive(Debug, Drop)]
+#[derive(Drop)]
 pub(crate) enum FoundText {
     /// It asks to be left as it is.
     Skipped,
@@ -39,7 +39,7 @@ pub(crate) enum FoundText {
 }
 
 /// What is known of a text, as far as its lines were read.
-#[derive(Debug, Drop)]
+#[derive(Drop)]
 pub(crate) struct LineReader {
     /// Whether a line was read.
     pub(crate) begun: bool,

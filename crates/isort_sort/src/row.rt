@@ -10,7 +10,7 @@ use py_imports::{Action, Shape, is_declaration, shape_of};
 use py_lines::{Unit, UnitKind};
 
 /// What a line asks of the blank lines between a block and itself.
-#[derive(Clone, Copy, Debug, PartialEq, Eq)]
+#[derive(Clone, Copy)]
 pub(crate) enum BlankLines {
     /// Two, before a declaration.
     Two,
@@ -21,7 +21,7 @@ pub(crate) enum BlankLines {
 }
 
 /// What a logical line is to sorting.
-#[derive(Clone, Copy, Debug, PartialEq, Eq)]
+#[derive(Clone, Copy)]
 pub(crate) enum Role {
     /// A member of a block.
     Member,

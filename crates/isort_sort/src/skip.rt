@@ -47,7 +47,7 @@ fn string_skips(unit: &Unit<'_>) -> bool
 }
 
 /// Whether a text asks to be left as it is (isort documentation, "Action Comments"), as far as its lines were read.
-#[derive(Clone, Copy, Debug)]
+#[derive(Clone, Copy)]
 pub(crate) struct SkipReader {
     /// Whether a comment says `skip_file`, or the string that the text begins with.
     pub(crate) skips: bool,

@@ -16,14 +16,14 @@ use py_imports::Binding;
 use std::cmp::Ordering;
 
 /// An item of `from MODULE import ..`: a name, and its alias.
-#[derive(Debug, Drop, PartialEq, Eq, Hash)]
+#[derive(Drop, PartialEq, Eq, Hash)]
 pub(crate) struct Item {
     pub(crate) name: String,
     pub(crate) alias: Option<String>,
 }
 
 /// A statement that sorting writes: what tells it from the other statements of its block.
-#[derive(Debug, Drop, PartialEq, Eq, Hash)]
+#[derive(Drop, PartialEq, Eq, Hash)]
 pub(crate) enum Statement {
     /// `import MODULE`, perhaps with an alias.
     Straight {

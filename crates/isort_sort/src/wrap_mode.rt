@@ -5,7 +5,7 @@ ghost use Rattle.isort_sort.specs.WrapMode.{IsMode};
 use isort_settings::Settings;
 
 /// How a statement is wrapped: isort's `multi_line_output`, 0 to 3.
-#[derive(Clone, Copy, Debug, PartialEq, Eq)]
+#[derive(Clone, Copy)]
 pub(crate) enum WrapMode {
     /// In brackets from the first line on, as many names on each line as fit.
     Grid,

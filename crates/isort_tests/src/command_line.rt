@@ -11,95 +11,112 @@ fn read(alloc: Global, words: &[&str]) -> Result<Job, UsageError> {
     command(alloc, all)
 }
 
-const TOGETHER: [&[&str]; 7] = [
-    &["isort", "--identify", "--modules", "--packages", "-"],
-    &["isort", "--packages", "a.py"],
-    &["isort", "--top-only", "a.py"],
-    &["isort", "--identify", "--check", "a.py"],
-    &["isort", "--identify", "-d", "a.py"],
-    &["isort", "--identify", "--profile", "black", "a.py"],
-    &["isort", "--identify", "-m", "3", "a.py"],
+// How words are refused.
+#[derive(Clone, Copy, PartialEq, Eq)]
+enum Refusal {
+    Together,
+    Refused,
+    Help,
+}
+
+const HELP: &str = "Sort the import statements of Python files, or list them.\n";
+
+// Words, how they are refused, and how the text of that begins, where there is one.
+const REFUSALS: &[(&[&str], Refusal, &str)] = &[
+    (
+        &["isort", "--identify", "--modules", "--packages", "-"],
+        Refusal::Together,
+        "",
+    ),
+    (&["isort", "--packages", "a.py"], Refusal::Together, ""),
+    (&["isort", "--top-only", "a.py"], Refusal::Together, ""),
+    (
+        &["isort", "--identify", "--check", "a.py"],
+        Refusal::Together,
+        "",
+    ),
+    (
+        &["isort", "--identify", "-d", "a.py"],
+        Refusal::Together,
+        "",
+    ),
+    (
+        &["isort", "--identify", "--profile", "black", "a.py"],
+        Refusal::Together,
+        "",
+    ),
+    (
+        &["isort", "--identify", "-m", "3", "a.py"],
+        Refusal::Together,
+        "",
+    ),
+    (
+        &["isort"],
+        Refusal::Refused,
+        "error: the following required arguments were not provided:\n",
+    ),
+    (
+        &["isort", "-c", "-c", "a.py"],
+        Refusal::Refused,
+        "error: the argument '--check-only' cannot be used multiple times\n",
+    ),
+    (
+        &["isort", "-x", "a.py"],
+        Refusal::Refused,
+        "error: unexpected argument '-x' found\n",
+    ),
+    (
+        &["isort", "a.py", "-l"],
+        Refusal::Refused,
+        "error: a value is required for '--line-length <N>' but none was supplied\n",
+    ),
+    (
+        &["isort", "-l", "x", "a.py"],
+        Refusal::Refused,
+        "error: invalid value 'x' for '--line-length <N>'",
+    ),
+    (
+        &["isort", "-l=-1", "a.py"],
+        Refusal::Refused,
+        "error: invalid value '-1' for '--line-length <N>'",
+    ),
+    (
+        &["isort", "-m", "4294967296", "a.py"],
+        Refusal::Refused,
+        "error: invalid value '4294967296' for '--multi-line <N>'",
+    ),
+    (&["isort", "--help"], Refusal::Help, HELP),
+    (&["isort", "-h"], Refusal::Help, HELP),
 ];
 
+fn is_refused(read: &Result<Job, UsageError>, refusal: Refusal, start: &str) -> bool {
+    match read {
+        Err(UsageError::Together) => refusal == Refusal::Together,
+        Err(UsageError::Refused(text)) => {
+            refusal == Refusal::Refused && text.as_str().starts_with(start)
+        }
+        Err(UsageError::Help(text)) => refusal == Refusal::Help && text.as_str().starts_with(start),
+        _ => false,
+    }
+}
+
 #[test]
-fn tells_what_does_not_go_together(rt: HostRuntime) {
-    for words in TOGETHER {
+fn refuses_words(rt: HostRuntime) {
+    for (words, refusal, start) in REFUSALS {
         assert!(rt;
-            matches!(read(rt.alloc(), words), Err(UsageError::Together)),
+            is_refused(&read(rt.alloc(), words), *refusal, start),
             "{words:?}"
         );
     }
 }
 
-fn is_refused(read: &Result<Job, UsageError>, start: &str) -> bool {
-    match read {
-        Err(UsageError::Refused(text)) => text.as_str().starts_with(start),
-        _ => false,
-    }
-}
-
-const REFUSED: [(&[&str], &str); 7] = [
-    (
-        &["isort"],
-        "error: the following required arguments were not provided:\n",
-    ),
-    (
-        &["isort", "-c", "-c", "a.py"],
-        "error: the argument '--check-only' cannot be used multiple times\n",
-    ),
-    (
-        &["isort", "-x", "a.py"],
-        "error: unexpected argument '-x' found\n",
-    ),
-    (
-        &["isort", "a.py", "-l"],
-        "error: a value is required for '--line-length <N>' but none was supplied\n",
-    ),
-    (
-        &["isort", "-l", "x", "a.py"],
-        "error: invalid value 'x' for '--line-length <N>'",
-    ),
-    (
-        &["isort", "-l=-1", "a.py"],
-        "error: invalid value '-1' for '--line-length <N>'",
-    ),
-    (
-        &["isort", "-m", "4294967296", "a.py"],
-        "error: invalid value '4294967296' for '--multi-line <N>'",
-    ),
-];
-
-#[test]
-fn refuses_wrong_words(rt: HostRuntime) {
-    for (words, start) in REFUSED {
-        assert!(rt; is_refused(&read(rt.alloc(), words), start), "{words:?}");
-    }
-}
-
-fn is_help(read: &Result<Job, UsageError>, start: &str) -> bool {
-    match read {
-        Err(UsageError::Help(text)) => text.as_str().starts_with(start),
-        _ => false,
-    }
-}
-
-#[test]
-fn helps(rt: HostRuntime) {
-    let start = "Sort the import statements of Python files, or list them.\n";
-    for word in ["--help", "-h"] {
-        assert!(rt;
-            is_help(&read(rt.alloc(), &["isort", word]), start),
-            "{word}"
-        );
-    }
-}
-
 fn are_named(files: &[String], names: &[&str]) -> bool {
+    for (file, name) in files.iter().zip(names) {
+        if file.as_str() != *name {
+            return false;
+        }
+    }
     files.len() == names.len()
-        && files
-            .iter()
-            .zip(names)
-            .all(|(file, name)| file.as_str() == *name)
 }
 
 fn is_listing(read: &Result<Job, UsageError>, names: &[&str], wanted: FindOptions) -> bool {

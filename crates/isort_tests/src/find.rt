@@ -83,125 +83,147 @@ fn story(
     Ok(out)
 }
 
-#[test]
-fn gives_the_first_of_each_key(rt: HostRuntime) -> Result<(), Fail> {
-    let text = "import a.b\nfrom a import c\nfrom .a import d\nfrom a import c as e\n";
-    for (key, answers, told) in [
-        (
-            ImportKey::Package,
-            1,
-            "1 import a.b\nat 0, 1\n3 from .a import d\nend\nat 65, 2\n",
-        ),
-        (
-            ImportKey::Module,
-            2,
-            "1 import a.b\n2 from a import c\nat 11, 2\n3 from .a import d\nend\nat 65, 3\n",
-        ),
-        (
-            ImportKey::Attribute,
-            2,
-            "1 import a.b\n2 from a import c\nat 11, 2\n3 from .a import d\nend\nat 65, 3\n",
-        ),
-        (
-            ImportKey::Alias,
-            3,
-            "1 import a.b\n2 from a import c\n3 from .a import d\nat 27, 3\n4 from a import c as e\nend\nat 65, 4\n",
-        ),
-    ] {
-        let found = story(rt.alloc(), text, options(Some(key), false), answers, 2)?;
-        assert_eq!(rt; found.as_str(), told);
-    }
-    Ok(())
+const ALIKE: &str = "import a.b\nfrom a import c\nfrom .a import d\nfrom a import c as e\n";
+
+const DECLARED: &str = "import a\nif a:\n    def f(): pass\n    import b\n@d\nx = (\n";
+
+// A text, the options, how many answers are told before a stop and how many after it, and what is told.
+type Story = (
+    &'static str,
+    (Option<ImportKey>, bool),
+    (usize, usize),
+    &'static str,
+);
+
+// The first import of each key is given.
+const FIRST: &[Story] = &[
+    (
+        ALIKE,
+        (Some(ImportKey::Package), false),
+        (1, 2),
+        "1 import a.b\nat 0, 1\n3 from .a import d\nend\nat 65, 2\n",
+    ),
+    (
+        ALIKE,
+        (Some(ImportKey::Module), false),
+        (2, 2),
+        "1 import a.b\n2 from a import c\nat 11, 2\n3 from .a import d\nend\nat 65, 3\n",
+    ),
+    (
+        ALIKE,
+        (Some(ImportKey::Attribute), false),
+        (2, 2),
+        "1 import a.b\n2 from a import c\nat 11, 2\n3 from .a import d\nend\nat 65, 3\n",
+    ),
+    (
+        ALIKE,
+        (Some(ImportKey::Alias), false),
+        (3, 2),
+        "1 import a.b\n2 from a import c\n3 from .a import d\nat 27, 3\n4 from a import c as e\nend\nat 65, 4\n",
+    ),
+];
+
+// Later imports of a key are dropped.
+const LATER: &[Story] = &[
+    (
+        "import a, b, a as c\nimport b.c\n",
+        (Some(ImportKey::Module), false),
+        (2, 2),
+        "1 import a\n1 import b\nat 0, 2\n2 import b.c\nend\nat 31, 3\n",
+    ),
+    (
+        "import a\nimport a, b\nimport b\n",
+        (Some(ImportKey::Module), false),
+        (1, 2),
+        "1 import a\nat 0, 1\n2 import b\nend\nat 30, 2\n",
+    ),
+    (
+        "import a\nimport b, a, c, b, d\nimport a, e\n",
+        (Some(ImportKey::Module), false),
+        (3, 3),
+        "1 import a\n2 import b\n2 import c\nat 9, 3\n2 import d\n3 import e\nend\nat 42, 5\n",
+    ),
+    (
+        "",
+        (Some(ImportKey::Module), false),
+        (2, 1),
+        "end\nend\nat 0, 0\nend\nat 0, 0\n",
+    ),
+    (
+        "\u{feff}",
+        (Some(ImportKey::Module), false),
+        (2, 1),
+        "end\nend\nat 3, 0\nend\nat 3, 0\n",
+    ),
+];
+
+// The finder stops at the top if it is asked to.
+const TOP: &[Story] = &[
+    (
+        DECLARED,
+        (None, true),
+        (4, 1),
+        "1 import a\n4 indented import b\nend\nend\nat 46, 2\nend\nat 46, 2\n",
+    ),
+    (
+        DECLARED,
+        (None, false),
+        (4, 1),
+        "1 import a\n4 indented import b\nF6 bracket not closed, 53, 6\nF6 bracket not closed, 53, 6\nat 49, 2\nF6 bracket not closed, 53, 6\nat 49, 2\n",
+    ),
+];
+
+// A fault is told again and again.
+const FAULTS: &[Story] = &[
+    (
+        "import a\nimport b\nx = (1,",
+        (None, true),
+        (3, 1),
+        "1 import a\n2 import b\nF6 bracket not closed, 22, 3\nat 18, 2\nF6 bracket not closed, 22, 3\nat 18, 2\n",
+    ),
+    (
+        "import a\nfrom b import c,\n",
+        (None, true),
+        (3, 1),
+        "1 import a\nF9 import statement not understood, 9, 2\nF9 import statement not understood, 9, 2\nat 9, 1\nF9 import statement not understood, 9, 2\nat 9, 1\n",
+    ),
+    (
+        "import a\n\u{feff}",
+        (None, true),
+        (3, 1),
+        "1 import a\nF2 unexpected character, 9, 2\nF2 unexpected character, 9, 2\nat 9, 1\nF2 unexpected character, 9, 2\nat 9, 1\n",
+    ),
+    (
+        "import a\ndef f(): x = )\n",
+        (None, true),
+        (3, 1),
+        "1 import a\nF5 closing bracket without its opening, 22, 2\nF5 closing bracket without its opening, 22, 2\nat 9, 1\nF5 closing bracket without its opening, 22, 2\nat 9, 1\n",
+    ),
+];
+
+// The finder goes on inside a line.
+const INSIDE: &[Story] = &[(
+    "import a, b, c",
+    (None, false),
+    (2, 2),
+    "1 import a\n1 import b\nat 0, 2\n1 import c\nend\nat 14, 3\n",
+)];
+
+const STORIES: &[&[Story]] = &[FIRST, LATER, TOP, FAULTS, INSIDE];
+
+// Whether a story is told so.
+fn is_told(alloc: Global, told: &Story) -> Result<bool, Fail> {
+    let (text, (unique, top_only), (answers, more), want) = *told;
+    Ok(story(alloc, text, options(unique, top_only), answers, more)?.as_str() == want)
 }
 
 #[test]
-fn drops_later_imports(rt: HostRuntime) -> Result<(), Fail> {
-    for (text, answers, more, told) in [
-        (
-            "import a, b, a as c\nimport b.c\n",
-            2,
-            2,
-            "1 import a\n1 import b\nat 0, 2\n2 import b.c\nend\nat 31, 3\n",
-        ),
-        (
-            "import a\nimport a, b\nimport b\n",
-            1,
-            2,
-            "1 import a\nat 0, 1\n2 import b\nend\nat 30, 2\n",
-        ),
-        (
-            "import a\nimport b, a, c, b, d\nimport a, e\n",
-            3,
-            3,
-            "1 import a\n2 import b\n2 import c\nat 9, 3\n2 import d\n3 import e\nend\nat 42, 5\n",
-        ),
-        ("", 2, 1, "end\nend\nat 0, 0\nend\nat 0, 0\n"),
-        ("\u{feff}", 2, 1, "end\nend\nat 3, 0\nend\nat 3, 0\n"),
-    ] {
-        let found = story(
-            rt.alloc(),
-            text,
-            options(Some(ImportKey::Module), false),
-            answers,
-            more,
-        )?;
-        assert_eq!(rt; found.as_str(), told);
+fn tells_stories(rt: HostRuntime) -> Result<(), Fail> {
+    for stories in STORIES {
+        for told in *stories {
+            assert!(rt; is_told(rt.alloc(), told)?, "{}", told.3);
+        }
     }
-    Ok(())
-}
-
-#[test]
-fn stops_at_the_top(rt: HostRuntime) -> Result<(), Fail> {
-    let text = "import a\nif a:\n    def f(): pass\n    import b\n@d\nx = (\n";
-    for (top_only, told) in [
-        (
-            true,
-            "1 import a\n4 indented import b\nend\nend\nat 46, 2\nend\nat 46, 2\n",
-        ),
-        (
-            false,
-            "1 import a\n4 indented import b\nF6 bracket not closed, 53, 6\nF6 bracket not closed, 53, 6\nat 49, 2\nF6 bracket not closed, 53, 6\nat 49, 2\n",
-        ),
-    ] {
-        let found = story(rt.alloc(), text, options(None, top_only), 4, 1)?;
-        assert_eq!(rt; found.as_str(), told);
-    }
-    Ok(())
-}
-
-#[test]
-fn keeps_faults(rt: HostRuntime) -> Result<(), Fail> {
-    for (text, told) in [
-        (
-            "import a\nimport b\nx = (1,",
-            "1 import a\n2 import b\nF6 bracket not closed, 22, 3\nat 18, 2\nF6 bracket not closed, 22, 3\nat 18, 2\n",
-        ),
-        (
-            "import a\nfrom b import c,\n",
-            "1 import a\nF9 import statement not understood, 9, 2\nF9 import statement not understood, 9, 2\nat 9, 1\nF9 import statement not understood, 9, 2\nat 9, 1\n",
-        ),
-        (
-            "import a\n\u{feff}",
-            "1 import a\nF2 unexpected character, 9, 2\nF2 unexpected character, 9, 2\nat 9, 1\nF2 unexpected character, 9, 2\nat 9, 1\n",
-        ),
-        (
-            "import a\ndef f(): x = )\n",
-            "1 import a\nF5 closing bracket without its opening, 22, 2\nF5 closing bracket without its opening, 22, 2\nat 9, 1\nF5 closing bracket without its opening, 22, 2\nat 9, 1\n",
-        ),
-    ] {
-        let found = story(rt.alloc(), text, options(None, true), 3, 1)?;
-        assert_eq!(rt; found.as_str(), told);
-    }
-    Ok(())
-}
-
-#[test]
-fn goes_on_inside_a_line(rt: HostRuntime) -> Result<(), Fail> {
-    let found = story(rt.alloc(), "import a, b, c", options(None, false), 2, 2)?;
-    assert_eq!(rt;
-        found.as_str(),
-        "1 import a\n1 import b\nat 0, 2\n1 import c\nend\nat 14, 3\n"
-    );
     Ok(())
 }
 
@@ -366,11 +388,15 @@ fn answers_at_once_with_ample_memory(rt: HostRuntime) -> Result<(), Fail> {
     })
 }
 
+// The options of a cursor that stopped at once.
+fn stopped(alloc: Global, asked: FindOptions) -> Result<FindOptions, Fail> {
+    Ok(begun(alloc, "import a", asked)?.stop().options())
+}
+
 #[test]
 fn keeps_its_options(rt: HostRuntime) -> Result<(), Fail> {
     let asked = options(Some(ImportKey::Alias), true);
-    let cursor = begun(rt.alloc(), "import a", asked)?.stop();
-    assert_eq!(rt; cursor.options(), asked);
+    assert_eq!(rt; stopped(rt.alloc(), asked)?, asked);
     Ok(())
 }
 
@@ -388,48 +414,64 @@ fn is_one(alloc: Global, one: &str, other: &str, key: ImportKey) -> Result<bool,
     Ok(equal_keys(&one, &other))
 }
 
-#[test]
-fn makes_package_keys(rt: HostRuntime) -> Result<(), Fail> {
-    for (one, other, same) in [
-        ("from ..x.y import z", "from ..x import w", true),
-        ("from ..x import w", "from .x import w", false),
-        ("from . import z", "from .z import z", false),
-        ("from . import z", "from . import y", true),
-        ("import a.b", "import a", true),
-    ] {
-        let found = is_one(rt.alloc(), one, other, ImportKey::Package)?;
-        assert_eq!(rt; found, same);
-    }
-    Ok(())
-}
+// Two statements, a key, and whether their imports have one such key.
+const KEYS: &[(&str, &str, ImportKey, bool)] = &[
+    (
+        "from ..x.y import z",
+        "from ..x import w",
+        ImportKey::Package,
+        true,
+    ),
+    (
+        "from ..x import w",
+        "from .x import w",
+        ImportKey::Package,
+        false,
+    ),
+    (
+        "from . import z",
+        "from .z import z",
+        ImportKey::Package,
+        false,
+    ),
+    (
+        "from . import z",
+        "from . import y",
+        ImportKey::Package,
+        true,
+    ),
+    ("import a.b", "import a", ImportKey::Package, true),
+    ("import a.b", "import a", ImportKey::Module, false),
+    ("import a as b", "from a import b", ImportKey::Module, true),
+    (
+        "import a as b",
+        "from a import b",
+        ImportKey::Attribute,
+        false,
+    ),
+    (
+        "from . import z",
+        "from . import z as y",
+        ImportKey::Attribute,
+        true,
+    ),
+    (
+        "from . import z",
+        "from . import z as y",
+        ImportKey::Alias,
+        false,
+    ),
+    ("import a as b", "import a as b", ImportKey::Alias, true),
+];
 
 #[test]
-fn makes_other_keys(rt: HostRuntime) -> Result<(), Fail> {
-    for (one, other, key, same) in [
-        ("import a.b", "import a", ImportKey::Module, false),
-        ("import a as b", "from a import b", ImportKey::Module, true),
-        (
-            "import a as b",
-            "from a import b",
-            ImportKey::Attribute,
-            false,
-        ),
-        (
-            "from . import z",
-            "from . import z as y",
-            ImportKey::Attribute,
-            true,
-        ),
-        (
-            "from . import z",
-            "from . import z as y",
-            ImportKey::Alias,
-            false,
-        ),
-        ("import a as b", "import a as b", ImportKey::Alias, true),
-    ] {
-        let found = is_one(rt.alloc(), one, other, key)?;
-        assert_eq!(rt; found, same);
+fn makes_keys(rt: HostRuntime) -> Result<(), Fail> {
+    for (one, other, key, same) in KEYS {
+        assert_eq!(rt;
+            is_one(rt.alloc(), one, other, *key)?,
+            *same,
+            "{one}, {other}"
+        );
     }
     Ok(())
 }

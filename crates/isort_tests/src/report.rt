@@ -2,7 +2,6 @@ use isort_cmd::{Action, RunError, report};
 use isort_find::FindOptions;
 use isort_sort::Outcome;
 use std::alloc::Global;
-use std::test::Fail;
 
 const UNSORTED: &str = "ERROR: b.py Imports are incorrectly sorted and/or formatted.\n";
 
@@ -19,61 +18,75 @@ const fn sort(check: bool, to_stdout: bool) -> Action {
     }
 }
 
-const LIST: Action = Action::Identify(FindOptions {
-    unique: None,
-    top_only: false,
-});
+// An action: none of the two flags of sorting for a listing.
+const fn action(flags: Option<(bool, bool)>) -> Action {
+    match flags {
+        Some((check, to_stdout)) => sort(check, to_stdout),
+        None => Action::Identify(FindOptions {
+            unique: None,
+            top_only: false,
+        }),
+    }
+}
+
+const CHANGED: Result<Outcome, RunError> = Ok(Outcome::Changed);
+
+const SAME: Result<Outcome, RunError> = Ok(Outcome::Same);
+
+const SKIPPED: Result<Outcome, RunError> = Ok(Outcome::Skipped);
+
+const FAILED: Result<Outcome, RunError> = Err(RunError::Read);
+
+const LIST: Option<(bool, bool)> = None;
+
+const SORT: Option<(bool, bool)> = Some((false, false));
+
+const TO_STDOUT: Option<(bool, bool)> = Some((false, true));
+
+const CHECK: Option<(bool, bool)> = Some((true, false));
+
+const CHECK_TO_STDOUT: Option<(bool, bool)> = Some((true, true));
+
+// A path, an action, its answer, and what is told: the two texts and the status.
+type Row = (
+    &'static str,
+    Option<(bool, bool)>,
+    Result<Outcome, RunError>,
+    &'static str,
+    &'static str,
+    u8,
+);
+
+const ROWS: &[Row] = &[
+    ("b.py", SORT, CHANGED, "Fixing b.py\n", "", 0),
+    ("-", SORT, CHANGED, "", "", 0),
+    ("b.py", TO_STDOUT, CHANGED, "", "", 0),
+    ("b.py", CHECK, CHANGED, "", UNSORTED, 1),
+    ("b.py", CHECK_TO_STDOUT, CHANGED, "", UNSORTED, 1),
+    ("b.py", LIST, CHANGED, "", "", 0),
+    ("b.py", SORT, SAME, "", "", 0),
+    ("b.py", CHECK, SAME, "", "", 0),
+    ("b.py", LIST, SAME, "", "", 0),
+    ("b.py", SORT, SKIPPED, "", "", 0),
+    ("b.py", CHECK, SKIPPED, "", "", 0),
+    ("b.py", LIST, SKIPPED, "", "", 0),
+    ("b.py", SORT, FAILED, "", UNREAD, 1),
+    ("b.py", CHECK, FAILED, "", UNREAD, 1),
+    ("b.py", LIST, FAILED, "", UNREAD, 1),
+];
 
 // Whether this is told of a file.
-fn tells(
-    alloc: Global,
-    path: &str,
-    action: &Action,
-    answer: Result<Outcome, RunError>,
-    out: &str,
-    err: &str,
-    status: u8,
-) -> bool {
-    match report(alloc, path, action, &answer) {
+fn is_told(alloc: Global, row: &Row) -> bool {
+    let (path, flags, answer, out, err, status) = *row;
+    match report(alloc, path, &action(flags), &answer) {
         Ok(told) => told.out.as_str() == out && told.err.as_str() == err && told.status == status,
         Err(_) => false,
     }
 }
 
 #[test]
-fn tells_of_changes(rt: HostRuntime) -> Result<(), Fail> {
-    for (path, action, out, err, status) in [
-        ("b.py", sort(false, false), "Fixing b.py\n", "", 0),
-        ("-", sort(false, false), "", "", 0),
-        ("b.py", sort(false, true), "", "", 0),
-        ("b.py", sort(true, false), "", UNSORTED, 1),
-        ("b.py", sort(true, true), "", UNSORTED, 1),
-        ("b.py", LIST, "", "", 0),
-    ] {
-        let changed = Ok(Outcome::Changed);
-        assert!(rt;
-            tells(rt.alloc(), path, &action, changed, out, err, status),
-            "{path}"
-        );
+fn tells_of_files(rt: HostRuntime) {
+    for (i, row) in ROWS.iter().enumerate() {
+        assert!(rt; is_told(rt.alloc(), row), "row {i}");
     }
-    Ok(())
-}
-
-#[test]
-fn tells_nothing_of_sorted_files(rt: HostRuntime) -> Result<(), Fail> {
-    for outcome in [Outcome::Same, Outcome::Skipped] {
-        for action in [sort(false, false), sort(true, false), LIST] {
-            assert!(rt; tells(rt.alloc(), "b.py", &action, Ok(outcome), "", "", 0));
-        }
-    }
-    Ok(())
-}
-
-#[test]
-fn tells_of_failures(rt: HostRuntime) -> Result<(), Fail> {
-    for action in [sort(false, false), sort(true, false), LIST] {
-        let failed = Err(RunError::Read);
-        assert!(rt; tells(rt.alloc(), "b.py", &action, failed, "", UNREAD, 1));
-    }
-    Ok(())
 }

@@ -1,5 +1,5 @@
 use isort_settings::Settings;
-use isort_sort::{Block, SortError, Sorted, blocks, check_code, sort_code};
+use isort_sort::{Block, Outcome, SortError, Sorted, blocks, check_code, sort_code};
 use py_lines::{Fault, FaultKind};
 use std::alloc::Global;
 use std::process::Abort;
@@ -18,13 +18,16 @@ fn sorted(alloc: Global, lines: &str, text: &str) -> Result<String, Fail> {
     }
 }
 
+/// Whether the text is sorted to this one, under the settings of these lines of `[tool.isort]`.
+fn is_sorted(alloc: Global, lines: &str, text: &str, want: &str) -> Result<bool, Fail> {
+    Ok(sorted(alloc, lines, text)?.as_str() == want)
+}
+
 /// Each text is sorted to the one beside it, and that one stays as it is.
 fn each_is_sorted(rt: &impl Abort, alloc: Global, cases: &[Case]) -> Result<(), Fail> {
     for (lines, text, want) in cases {
-        let once = sorted(alloc, lines, text)?;
-        assert!(rt; once.as_str() == *want, "{lines}\n{text}\n{once}");
-        let twice = sorted(alloc, lines, want)?;
-        assert!(rt; twice.as_str() == *want, "again: {lines}\n{want}\n{twice}");
+        assert!(rt; is_sorted(alloc, lines, text, want)?, "{lines}\n{text}");
+        assert!(rt; is_sorted(alloc, lines, want, want)?, "{lines}\n{want}");
     }
     Ok(())
 }
@@ -551,125 +554,186 @@ fn heeds_action_comments(rt: HostRuntime) -> Result<(), Fail> {
     each_is_sorted(&rt, rt.alloc(), ACTIONS)
 }
 
-const SAME: &[&str] = &[
-    "",
-    "\u{feff}",
-    "x = 1\n",
-    "  import b\n import a\n",
-    "import b  # isort: skip\nimport a\n",
-    "import b; import a\n",
-    "import a\n\nx = 'isort: skip_file'\n",
+/// A text, and how it is answered.
+const ANSWERS: &[(&str, Outcome)] = &[
+    ("", Outcome::Same),
+    ("\u{feff}", Outcome::Same),
+    ("x = 1\n", Outcome::Same),
+    ("  import b\n import a\n", Outcome::Same),
+    ("import b  # isort: skip\nimport a\n", Outcome::Same),
+    ("import b; import a\n", Outcome::Same),
+    ("import a\n\nx = 'isort: skip_file'\n", Outcome::Same),
+    (
+        "\"\"\"isort: skip_file\"\"\"\nimport b\nimport a\n",
+        Outcome::Skipped,
+    ),
+    (
+        "# about\n\nr'isort:skip_file'; x = 1\nimport b\nimport a\n",
+        Outcome::Skipped,
+    ),
+    ("# isort: skip_file\nimport b\nimport a\n", Outcome::Skipped),
+    ("import b\nimport a  # isort: skip_file\n", Outcome::Skipped),
+    (
+        "from b import (  # isort: skip_file\n    c)\nimport a\n",
+        Outcome::Skipped,
+    ),
+    ("import b\nimport a\n# isort: skip_file", Outcome::Skipped),
+    ("import b\nimport a\n", Outcome::Changed),
+    ("import a\nx = 1\n", Outcome::Changed),
+    ("import b\nimport a\n'isort: skip_file'\n", Outcome::Changed),
+    (
+        "x = 'isort: skip_file'\nimport b\nimport a\n",
+        Outcome::Changed,
+    ),
+    (
+        "# isort: skip_files\nimport b\nimport a\n",
+        Outcome::Changed,
+    ),
 ];
 
+/// Whether the text is sorted so and checked so. A text that is skipped has no blocks.
+fn is_answered(
+    alloc: Global,
+    settings: &Settings,
+    text: &str,
+    want: Outcome,
+) -> Result<bool, SortError> {
+    let text = text.as_bytes();
+    let answer = match sort_code(alloc, text, settings)? {
+        Sorted::Same => Outcome::Same,
+        Sorted::Changed(_) => Outcome::Changed,
+        Sorted::Skipped => Outcome::Skipped,
+    };
+    let same = check_code(alloc, text, settings)?;
+    let without_blocks = blocks(alloc, text)?.is_empty();
+    Ok(
+        answer == want
+            && same == (want != Outcome::Changed)
+            && (without_blocks || want != Outcome::Skipped),
+    )
+}
+
 #[test]
-fn leaves_sorted_texts(rt: HostRuntime) -> Result<(), Fail> {
+fn answers_texts(rt: HostRuntime) -> Result<(), Fail> {
     let settings = Settings::plain(rt.alloc())?;
-    for text in SAME {
-        let same = matches!(
-            sort_code(rt.alloc(), text.as_bytes(), &settings)?,
-            Sorted::Same
-        );
-        assert!(rt; same, "{text}");
-        assert!(rt;
-            check_code(rt.alloc(), text.as_bytes(), &settings)?,
-            "{text}"
-        );
+    for (text, want) in ANSWERS {
+        assert!(rt; is_answered(rt.alloc(), &settings, text, *want)?, "{text}");
     }
     Ok(())
 }
 
-const SKIPPED: &[&str] = &[
-    "\"\"\"isort: skip_file\"\"\"\nimport b\nimport a\n",
-    "# about\n\nr'isort:skip_file'; x = 1\nimport b\nimport a\n",
-    "# isort: skip_file\nimport b\nimport a\n",
-    "import b\nimport a  # isort: skip_file\n",
-    "from b import (  # isort: skip_file\n    c)\nimport a\n",
-    "import b\nimport a\n# isort: skip_file",
-];
-
-#[test]
-fn skips_texts(rt: HostRuntime) -> Result<(), Fail> {
-    let settings = Settings::plain(rt.alloc())?;
-    for text in SKIPPED {
-        let skipped = matches!(
-            sort_code(rt.alloc(), text.as_bytes(), &settings)?,
-            Sorted::Skipped
-        );
-        assert!(rt; skipped, "{text}");
-        assert!(rt;
-            check_code(rt.alloc(), text.as_bytes(), &settings)?,
-            "{text}"
-        );
-        assert!(rt; blocks(rt.alloc(), text.as_bytes())?.is_empty(), "{text}");
-    }
-    Ok(())
-}
-
-const UNSORTED: &[&str] = &[
-    "import b\nimport a\n",
-    "import a\nx = 1\n",
-    "import b\nimport a\n'isort: skip_file'\n",
-    "x = 'isort: skip_file'\nimport b\nimport a\n",
-    "# isort: skip_files\nimport b\nimport a\n",
-];
-
-#[test]
-fn tells_unsorted_texts(rt: HostRuntime) -> Result<(), Fail> {
-    let settings = Settings::plain(rt.alloc())?;
-    for text in UNSORTED {
-        assert!(rt;
-            !check_code(rt.alloc(), text.as_bytes(), &settings)?,
-            "{text}"
-        );
-    }
-    Ok(())
-}
-
-/// A text, and the start, the stop and the number of members of each block.
-type Spans = (&'static str, &'static [(u64, u64, usize)]);
+/// A text and its blocks.
+type Spans = (&'static str, &'static [Block]);
 
 const SPANS: &[Spans] = &[
     ("", &[]),
     ("\u{feff}", &[]),
     ("x = 1\n", &[]),
-    ("import b\nimport a\n\nx = 1\n", &[(0, 19, 2)]),
-    ("\u{feff}import b\nimport a\n", &[(3, 21, 2)]),
+    (
+        "import b\nimport a\n\nx = 1\n",
+        &[Block {
+            start: 0,
+            stop: 19,
+            members: 2,
+        }],
+    ),
+    (
+        "\u{feff}import b\nimport a\n",
+        &[Block {
+            start: 3,
+            stop: 21,
+            members: 2,
+        }],
+    ),
     (
         "import b\n# isort: split\nimport a\n",
-        &[(0, 9, 1), (24, 33, 1)],
+        &[
+            Block {
+                start: 0,
+                stop: 9,
+                members: 1,
+            },
+            Block {
+                start: 24,
+                stop: 33,
+                members: 1,
+            },
+        ],
     ),
     (
         "import z  # one\n# about a\nimport a\nimport z  # two\n",
-        &[(0, 51, 3)],
+        &[Block {
+            start: 0,
+            stop: 51,
+            members: 3,
+        }],
     ),
     (
         "if a:\n    import sys\n    import os\nx = 1\n",
-        &[(6, 35, 2)],
+        &[Block {
+            start: 6,
+            stop: 35,
+            members: 2,
+        }],
     ),
     (
         "if a:\n    import b\nimport c\n",
-        &[(6, 19, 1), (19, 28, 1)],
+        &[
+            Block {
+                start: 6,
+                stop: 19,
+                members: 1,
+            },
+            Block {
+                start: 19,
+                stop: 28,
+                members: 1,
+            },
+        ],
     ),
-    ("import b\n\nimport a\n\n\n", &[(0, 21, 2)]),
-    ("import a\n\n# k\n", &[(0, 10, 1)]),
-    ("import a\n# k\n\nx = 1\n", &[(0, 9, 1)]),
-    ("import a\n# isort: off\nimport b\n", &[(0, 9, 1)]),
+    (
+        "import b\n\nimport a\n\n\n",
+        &[Block {
+            start: 0,
+            stop: 21,
+            members: 2,
+        }],
+    ),
+    (
+        "import a\n\n# k\n",
+        &[Block {
+            start: 0,
+            stop: 10,
+            members: 1,
+        }],
+    ),
+    (
+        "import a\n# k\n\nx = 1\n",
+        &[Block {
+            start: 0,
+            stop: 9,
+            members: 1,
+        }],
+    ),
+    (
+        "import a\n# isort: off\nimport b\n",
+        &[Block {
+            start: 0,
+            stop: 9,
+            members: 1,
+        }],
+    ),
 ];
+
+/// Whether these are the blocks of the text.
+fn has_blocks(alloc: Global, text: &str, spans: &[Block]) -> Result<bool, SortError> {
+    Ok(blocks(alloc, text.as_bytes())?.as_slice() == spans)
+}
 
 #[test]
 fn finds_blocks(rt: HostRuntime) -> Result<(), Fail> {
     for (text, spans) in SPANS {
-        let found = blocks(rt.alloc(), text.as_bytes())?;
-        let same = found.len() == spans.len()
-            && found.iter().zip(*spans).all(|(block, (start, stop, members))| {
-                *block
-                    == Block {
-                        start: *start,
-                        stop: *stop,
-                        members: *members,
-                    }
-            });
-        assert!(rt; same, "{text}\n{found:?}");
+        assert!(rt; has_blocks(rt.alloc(), text, spans)?, "{text}");
     }
     Ok(())
 }
@@ -687,6 +751,14 @@ const FAULTS: &[Faulty] = &[
     ("# isort: skip_file\n)", FaultKind::WrongClose, 19, 2),
 ];
 
+/// Whether each call refuses the text so.
+fn is_refused(alloc: Global, settings: &Settings, text: &str, want: SortError) -> bool {
+    let text = text.as_bytes();
+    sort_code(alloc, text, settings).err() == Some(want)
+        && check_code(alloc, text, settings).err() == Some(want)
+        && blocks(alloc, text).err() == Some(want)
+}
+
 #[test]
 fn refuses_faults(rt: HostRuntime) -> Result<(), Fail> {
     let settings = Settings::plain(rt.alloc())?;
@@ -696,13 +768,7 @@ fn refuses_faults(rt: HostRuntime) -> Result<(), Fail> {
             offset: *offset,
             line: *line,
         });
-        let text = text.as_bytes();
-        let sorted = sort_code(rt.alloc(), text, &settings).err();
-        assert!(rt; sorted == Some(want), "{text:?}");
-        let checked = check_code(rt.alloc(), text, &settings).err();
-        assert!(rt; checked == Some(want), "{text:?}");
-        let found = blocks(rt.alloc(), text).err();
-        assert!(rt; found == Some(want), "{text:?}");
+        assert!(rt; is_refused(rt.alloc(), &settings, text, want), "{text}");
     }
     Ok(())
 }
