@@ -37,4 +37,4 @@ bytes_of-lines_from (u ∷ us) offset line = ap (λ n. byte_len (spelled u) + n)
 
 -- the lines that a reader has given are the text's bytes up to its place
 pub bytes_given : (reader : Reader) (lines : List LogicalLine) → HasGiven reader lines → bytes_of lines ≡ reader.place
-bytes_given reader lines h = ap bytes_of h.cut ∙ bytes_of-lines_from (cut 0 h.pieces) 0 1 ∙ ap byte_len (spelled_parts-cut h.pieces 0) ∙ sym h.place
+bytes_given reader lines h = ap bytes_of h.first.cut ∙ bytes_of-lines_from (cut 0 h.first.pieces) 0 1 ∙ ap byte_len (spelled_parts-cut h.first.pieces 0) ∙ sym h.first.here

@@ -17,6 +17,8 @@ mod report;
 #[cfg(test)]
 mod runs;
 #[cfg(test)]
+mod scanner;
+#[cfg(test)]
 mod settings;
 #[cfg(test)]
 mod sort;

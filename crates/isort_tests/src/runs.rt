@@ -57,71 +57,133 @@ fn lists(alloc: Global, text: &[u8], lines: &str, want: Result<(), RunError>) ->
     lists_found(alloc, text, ALL, lines, want)
 }
 
+// Texts, their lines, and how the listing ends.
+const LISTED: &[(&[u8], &str, Result<(), RunError>)] = &[
+    (b"", "", Ok(())),
+    (b"\xef\xbb\xbf", "", Ok(())),
+    (
+        b"import os, sys as s",
+        "p.py:1 import os\np.py:1 import sys as s\n",
+        Ok(()),
+    ),
+    (
+        b"x = \"import a\"  # import b\nimport c",
+        "p.py:2 import c\n",
+        Ok(()),
+    ),
+    (
+        b"\"\"\"a \\\" import a\nimport b\n\"\"\"\ny = \"\"\nimport c\n",
+        "p.py:5 import c\n",
+        Ok(()),
+    ),
+    (
+        b"from a import (  # k\n    b as x,  # l\n    c,\n)\n",
+        "p.py:1 from a import b as x\np.py:1 from a import c\n",
+        Ok(()),
+    ),
+    (
+        b"x = 1 + \\\r\n  2\r\nfrom . .x import y\r\n",
+        "p.py:3 from ..x import y\n",
+        Ok(()),
+    ),
+    (
+        b"if a: import b; from c import *\nraise X from Y\nz = yield from w\n",
+        "p.py:1 import b\np.py:1 from c import *\n",
+        Ok(()),
+    ),
+    (
+        b"if a:\n    import b\n",
+        "p.py:2 indented import b\n",
+        Ok(()),
+    ),
+    (b"import \xc3\xa9", "p.py:1 import é\n", Ok(())),
+    (
+        b"import a\nimport b\nx = (1,",
+        "p.py:1 import a\np.py:2 import b\n",
+        Err(RunError::Fault(Fault {
+            kind: FaultKind::OpenBracket,
+            offset: 22,
+            line: 3,
+        })),
+    ),
+    (
+        b"import a\nfrom b import c,\n",
+        "p.py:1 import a\n",
+        Err(RunError::Fault(Fault {
+            kind: FaultKind::BadImport,
+            offset: 9,
+            line: 2,
+        })),
+    ),
+    (
+        b"import a; import\n",
+        "",
+        Err(RunError::Fault(Fault {
+            kind: FaultKind::BadImport,
+            offset: 10,
+            line: 1,
+        })),
+    ),
+    (
+        b"x = 'abc\n",
+        "",
+        Err(RunError::Fault(Fault {
+            kind: FaultKind::OpenString,
+            offset: 4,
+            line: 1,
+        })),
+    ),
+    (
+        b"\"\"\"a",
+        "",
+        Err(RunError::Fault(Fault {
+            kind: FaultKind::OpenTriple,
+            offset: 0,
+            line: 1,
+        })),
+    ),
+    (
+        b"x = )",
+        "",
+        Err(RunError::Fault(Fault {
+            kind: FaultKind::WrongClose,
+            offset: 4,
+            line: 1,
+        })),
+    ),
+    (
+        b"x = \\ 1\n",
+        "",
+        Err(RunError::Fault(Fault {
+            kind: FaultKind::BadJoin,
+            offset: 4,
+            line: 1,
+        })),
+    ),
+    (
+        b"$",
+        "",
+        Err(RunError::Fault(Fault {
+            kind: FaultKind::BadChar,
+            offset: 0,
+            line: 1,
+        })),
+    ),
+    (
+        b"a\xff",
+        "",
+        Err(RunError::Fault(Fault {
+            kind: FaultKind::BadUtf8,
+            offset: 1,
+            line: 1,
+        })),
+    ),
+];
+
 #[test]
 fn lists_texts(rt: HostRuntime) -> Result<(), Fail> {
-    let cases: [(&[u8], &str, Result<(), RunError>); 19] = [
-        (b"", "", Ok(())),
-        (b"\xef\xbb\xbf", "", Ok(())),
-        (
-            b"import os, sys as s",
-            "p.py:1 import os\np.py:1 import sys as s\n",
-            Ok(()),
-        ),
-        (
-            b"x = \"import a\"  # import b\nimport c",
-            "p.py:2 import c\n",
-            Ok(()),
-        ),
-        (
-            b"\"\"\"a \\\" import a\nimport b\n\"\"\"\ny = \"\"\nimport c\n",
-            "p.py:5 import c\n",
-            Ok(()),
-        ),
-        (
-            b"from a import (  # k\n    b as x,  # l\n    c,\n)\n",
-            "p.py:1 from a import b as x\np.py:1 from a import c\n",
-            Ok(()),
-        ),
-        (
-            b"x = 1 + \\\r\n  2\r\nfrom . .x import y\r\n",
-            "p.py:3 from ..x import y\n",
-            Ok(()),
-        ),
-        (
-            b"if a: import b; from c import *\nraise X from Y\nz = yield from w\n",
-            "p.py:1 import b\np.py:1 from c import *\n",
-            Ok(()),
-        ),
-        (
-            b"if a:\n    import b\n",
-            "p.py:2 indented import b\n",
-            Ok(()),
-        ),
-        ("import é".as_bytes(), "p.py:1 import é\n", Ok(())),
-        (
-            b"import a\nimport b\nx = (1,",
-            "p.py:1 import a\np.py:2 import b\n",
-            Err(fault(FaultKind::OpenBracket, 22, 3)),
-        ),
-        (
-            b"import a\nfrom b import c,\n",
-            "p.py:1 import a\n",
-            Err(fault(FaultKind::BadImport, 9, 2)),
-        ),
-        (
-            b"import a; import\n",
-            "",
-            Err(fault(FaultKind::BadImport, 10, 1)),
-        ),
-        (b"x = 'abc\n", "", Err(fault(FaultKind::OpenString, 4, 1))),
-        (b"\"\"\"a", "", Err(fault(FaultKind::OpenTriple, 0, 1))),
-        (b"x = )", "", Err(fault(FaultKind::WrongClose, 4, 1))),
-        (b"x = \\ 1\n", "", Err(fault(FaultKind::BadJoin, 4, 1))),
-        (b"$", "", Err(fault(FaultKind::BadChar, 0, 1))),
-        (b"a\xff", "", Err(fault(FaultKind::BadUtf8, 1, 1))),
-    ];
-    for (text, lines, want) in cases {
-        assert!(rt; lists(rt.alloc(), text, lines, want), "{lines}");
+    for (text, lines, want) in LISTED {
+        assert!(rt; lists(rt.alloc(), text, lines, *want), "{lines}");
     }
     Ok(())
 }
@@ -472,60 +534,91 @@ fn notes_empty_writes(rt: HostRuntime) -> Result<(), Fail> {
     Ok(())
 }
 
+// Whether the line tells of the error.
+fn is_error_line(alloc: Global, error: &RunError, want: &str) -> Result<bool, RunError> {
+    Ok(fault_text(alloc, "-", error)?.as_str() == want)
+}
+
+// Errors, and the line that tells of each.
+const ERRORS: &[(RunError, &str)] = &[
+    (
+        RunError::Fault(Fault {
+            kind: FaultKind::BadUtf8,
+            offset: 1,
+            line: 1,
+        }),
+        "-:1: F1 not UTF-8\n",
+    ),
+    (
+        RunError::Fault(Fault {
+            kind: FaultKind::BadChar,
+            offset: 13,
+            line: 2,
+        }),
+        "-:2: F2 unexpected character\n",
+    ),
+    (
+        RunError::Fault(Fault {
+            kind: FaultKind::OpenString,
+            offset: 4,
+            line: 1,
+        }),
+        "-:1: F3 string not closed\n",
+    ),
+    (
+        RunError::Fault(Fault {
+            kind: FaultKind::BadImport,
+            offset: 9,
+            line: 2,
+        }),
+        "-:2: F9 import statement not understood\n",
+    ),
+    (RunError::Read, "isort: -: R1 cannot be read\n"),
+    (RunError::TooLong, "isort: -: R2 is too long\n"),
+    (RunError::Write, "isort: -: R3 cannot be written\n"),
+    (RunError::Memory, "isort: -: R5 out of memory\n"),
+    (RunError::NeverEnds, "isort: -: R6 reader never ends\n"),
+];
+
 #[test]
 fn tells_errors(rt: HostRuntime) -> Result<(), Fail> {
-    let cases = [
-        (fault(FaultKind::BadUtf8, 1, 1), "-:1: F1 not UTF-8\n"),
-        (
-            fault(FaultKind::BadChar, 13, 2),
-            "-:2: F2 unexpected character\n",
-        ),
-        (
-            fault(FaultKind::OpenString, 4, 1),
-            "-:1: F3 string not closed\n",
-        ),
-        (
-            fault(FaultKind::BadImport, 9, 2),
-            "-:2: F9 import statement not understood\n",
-        ),
-        (RunError::Read, "isort: -: R1 cannot be read\n"),
-        (RunError::TooLong, "isort: -: R2 is too long\n"),
-        (RunError::Write, "isort: -: R3 cannot be written\n"),
-        (RunError::Memory, "isort: -: R5 out of memory\n"),
-        (RunError::NeverEnds, "isort: -: R6 reader never ends\n"),
-    ];
-    for (error, want) in cases {
-        let text = fault_text(rt.alloc(), "-", &error)?;
-        assert_eq!(rt; text.as_str(), want);
+    for (error, want) in ERRORS {
+        assert!(rt; is_error_line(rt.alloc(), error, want)?, "{want}");
     }
     Ok(())
 }
 
+// Whether the line tells why settings are refused.
+fn is_settings_line(alloc: Global, error: &SettingsError, want: &str) -> Result<bool, RunError> {
+    Ok(settings_text(alloc, error)?.as_str() == want)
+}
+
+// Why settings are refused, and the line that tells of it.
+const REFUSALS: &[(SettingsError, &str)] = &[
+    (SettingsError::BadToml, "isort: settings: S1 not TOML\n"),
+    (
+        SettingsError::BadValue(SettingKey::LineLength),
+        "isort: settings: S2 bad value for line_length\n",
+    ),
+    (
+        SettingsError::BadValue(SettingKey::ToolIsort),
+        "isort: settings: S2 bad value for tool.isort\n",
+    ),
+    (
+        SettingsError::UnknownProfile,
+        "isort: settings: S3 unknown profile\n",
+    ),
+    (
+        SettingsError::UnsupportedMode,
+        "isort: settings: S4 unsupported multi_line_output\n",
+    ),
+    (SettingsError::Memory, "isort: R5 out of memory\n"),
+];
+
 #[test]
 fn tells_of_settings(rt: HostRuntime) -> Result<(), Fail> {
-    let cases = [
-        (SettingsError::BadToml, "isort: settings: S1 not TOML\n"),
-        (
-            SettingsError::BadValue(SettingKey::LineLength),
-            "isort: settings: S2 bad value for line_length\n",
-        ),
-        (
-            SettingsError::BadValue(SettingKey::ToolIsort),
-            "isort: settings: S2 bad value for tool.isort\n",
-        ),
-        (
-            SettingsError::UnknownProfile,
-            "isort: settings: S3 unknown profile\n",
-        ),
-        (
-            SettingsError::UnsupportedMode,
-            "isort: settings: S4 unsupported multi_line_output\n",
-        ),
-        (SettingsError::Memory, "isort: R5 out of memory\n"),
-    ];
-    for (error, want) in cases {
-        let text = settings_text(rt.alloc(), &error)?;
-        assert_eq!(rt; text.as_str(), want);
+    for (error, want) in REFUSALS {
+        assert!(rt; is_settings_line(rt.alloc(), error, want)?, "{want}");
     }
     Ok(())
 }

@@ -42,20 +42,23 @@ fn sorts(
     got == want && writer.into_inner().as_slice() == written.as_bytes()
 }
 
+// Texts, how many bytes are taken, how each is sorted, and what is written.
+const SORTS: &[(&str, u16, Result<Outcome, RunError>, &str)] = &[
+    (UNSORTED, 1000, Ok(Outcome::Changed), SORTED),
+    (SORTED, 1000, Ok(Outcome::Same), SORTED),
+    (SKIPPED, 1000, Ok(Outcome::Skipped), SKIPPED),
+    ("", 0, Ok(Outcome::Same), ""),
+    (BROKEN, 1000, Err(WRONG_CLOSE), ""),
+    (BROKEN, 22, Err(RunError::TooLong), ""),
+];
+
 #[test]
 fn sorts_texts(rt: HostRuntime) -> Result<(), Fail> {
     let settings = Settings::plain(rt.alloc())?;
-    let cases = [
-        (UNSORTED, 1000, Ok(Outcome::Changed), SORTED),
-        (SORTED, 1000, Ok(Outcome::Same), SORTED),
-        (SKIPPED, 1000, Ok(Outcome::Skipped), SKIPPED),
-        ("", 0, Ok(Outcome::Same), ""),
-        (BROKEN, 1000, Err(WRONG_CLOSE), ""),
-        (BROKEN, 22, Err(RunError::TooLong), ""),
-    ];
-    for (text, max, want, written) in cases {
+    for (text, max, want, written) in SORTS {
+        let max = u64::from(*max);
         assert!(rt;
-            sorts(rt.alloc(), &settings, text, max, want, written),
+            sorts(rt.alloc(), &settings, text, max, *want, written),
             "{text}"
         );
     }
@@ -69,18 +72,21 @@ fn checked(alloc: Global, settings: &Settings, text: &str, max: u64) -> Result<b
     check_run(alloc, &mut Metered::new(text.as_bytes()), settings, max)
 }
 
+// Texts, how many bytes are taken, and what a check answers.
+const CHECKS: &[(&str, u16, Result<bool, RunError>)] = &[
+    (UNSORTED, 1000, Ok(false)),
+    (SORTED, 1000, Ok(true)),
+    (SKIPPED, 1000, Ok(true)),
+    (BROKEN, 1000, Err(WRONG_CLOSE)),
+    (BROKEN, 22, Err(RunError::TooLong)),
+];
+
 #[test]
 fn checks_texts(rt: HostRuntime) -> Result<(), Fail> {
     let settings = Settings::plain(rt.alloc())?;
-    let cases = [
-        (UNSORTED, 1000, Ok(false)),
-        (SORTED, 1000, Ok(true)),
-        (SKIPPED, 1000, Ok(true)),
-        (BROKEN, 1000, Err(WRONG_CLOSE)),
-        (BROKEN, 22, Err(RunError::TooLong)),
-    ];
-    for (text, max, want) in cases {
-        assert_eq!(rt; checked(rt.alloc(), &settings, text, max), want, "{text}");
+    for (text, max, want) in CHECKS {
+        let max = u64::from(*max);
+        assert_eq!(rt; checked(rt.alloc(), &settings, text, max), *want, "{text}");
     }
     Ok(())
 }

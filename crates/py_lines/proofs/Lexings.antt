@@ -5,3 +5,7 @@ pub mod Uniqueness
 pub mod Existence
 pub mod GivenLines
 pub mod FirstLines
+pub mod SettledLines
+pub mod DecidedFaults
+pub mod SettledFront
+pub mod SettledOrder

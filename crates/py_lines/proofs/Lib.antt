@@ -4,5 +4,6 @@ pub mod Machine
 pub mod Faults
 pub mod LogicalLines
 pub mod Lexings
-pub mod Scanner
+pub mod LineScan
 pub mod Readers
+pub mod Feeds

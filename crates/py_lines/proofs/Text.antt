@@ -1,5 +1,9 @@
--- Characters, and the bytes that spell them.
+-- Characters, the bytes that spell them, and vectors of bytes.
 pub mod CharacterTests
 pub mod Utf8Prefixes
 pub mod Decoding
 pub mod CharsIterator
+pub mod Continued
+pub mod Utf8Shapes
+pub mod Incomplete
+pub mod Lanes

@@ -7,7 +7,7 @@ use Rattle.py_lines.specs.Piece.{line_end, Piece, IsPrefix, is_item, is_short_it
 use Rattle.py_lines.specs.Balance.{is_opening, is_closing, is_opener, IsBalanced, IsShallow, depth_through}
 use Rattle.py_lines.specs.LogicalLine.{LogicalLine, lines_of, byte_len, line_ends}
 use Rattle.py_lines.specs.declared.fault.FaultKind.{FaultKind}
-use Rattle.py_lines.specs.declared.fault.FaultKind.TheVariants.{BadUtf8, BadChar, OpenString, OpenTriple, WrongClose, OpenBracket, BadJoin, TooDeep}
+use Rattle.py_lines.specs.declared.fault.FaultKind.TheVariants.{BadUtf8, BadChar, OpenString, OpenTriple, WrongClose, OpenBracket, BadJoin, TooDeep, BadImport}
 use Rattle.py_lines.specs.declared.fault.Fault.{Fault}
 
 -- the bytes are the UTF-8 of these characters, and then `tail`, which begins with no character
@@ -71,32 +71,30 @@ pub record IsLongFront (text : List ℕ) : Type 0 where
   pub open_yet : has_triple quote items ≡ false
   pub escapes : IsUnescaped last
 
--- pieces that spell `start`, and then a short string that is still open
-pub record InShortString (characters start : List ℕ) : Type 0 where
+-- pieces that spell `start`, and then something that is still open
+pub record Stands (IsOpen : List ℕ → Type 0) (characters start : List ℕ) : Type 0 where
   pub pieces : List Piece
   pub front : List ℕ
   pub spell : start ++ front ≡ characters
   pub before : spelled pieces ≡ start
   pub fit : AreReadBefore pieces front
-  pub inside : IsShortFront front
+  pub inside : IsOpen front
 
--- pieces that spell `start`, and then a long string that is still open
-pub record InLongString (characters start : List ℕ) : Type 0 where
-  pub pieces : List Piece
-  pub front : List ℕ
-  pub spell : start ++ front ≡ characters
-  pub before : spelled pieces ≡ start
-  pub fit : AreReadBefore pieces front
-  pub inside : IsLongFront front
+-- one backslash
+abbrev pub IsSlash : List ℕ → Type 0
+IsSlash front = (slash : ℕ) × (front ≡ slash ∷ []) × (is_backslash slash ≡ true)
 
--- pieces that spell `start`, and then a backslash, which stands in no string and no comment
-pub record BehindBackslash (characters start : List ℕ) : Type 0 where
-  pub pieces : List Piece
-  pub slash : ℕ
-  pub spell : start ++ slash ∷ [] ≡ characters
-  pub before : spelled pieces ≡ start
-  pub fit : AreReadBefore pieces (slash ∷ [])
-  pub slashes : is_backslash slash ≡ true
+-- a short string that starts after `start` is still open
+abbrev pub InShortString : List ℕ → List ℕ → Type 0
+InShortString characters start = Stands IsShortFront characters start
+
+-- a long string that starts after `start` is still open
+abbrev pub InLongString : List ℕ → List ℕ → Type 0
+InLongString characters start = Stands IsLongFront characters start
+
+-- a backslash, which stands in no string and no comment, comes after `start`
+abbrev pub BehindBackslash : List ℕ → List ℕ → Type 0
+BehindBackslash characters start = Stands IsSlash characters start
 
 -- pieces that read the characters before `c`, with this many brackets open
 pub record IsAtDepth (characters : List ℕ) (c depth : ℕ) : Type 0 where
@@ -155,7 +153,10 @@ FitsCharacter BadJoin before c offset = BreaksJoin before offset
 FitsCharacter WrongClose before c offset = ClosesWrong before c offset
 FitsCharacter TooDeep before c offset = OpensTooDeep before c offset
 FitsCharacter BadChar before c offset = offset ≡ byte_len before
-FitsCharacter other before c offset = ⊥
+FitsCharacter BadUtf8 before c offset = ⊥
+FitsCharacter OpenTriple before c offset = ⊥
+FitsCharacter OpenBracket before c offset = ⊥
+FitsCharacter BadImport before c offset = ⊥
 
 -- the kinds that go before this one where several fit a character: F3, F7, F5, F8, F2
 abbrev pub kinds_before : FaultKind → List FaultKind
@@ -163,7 +164,11 @@ kinds_before BadJoin = OpenString ∷ []
 kinds_before WrongClose = OpenString ∷ BadJoin ∷ []
 kinds_before TooDeep = OpenString ∷ BadJoin ∷ WrongClose ∷ []
 kinds_before BadChar = OpenString ∷ BadJoin ∷ WrongClose ∷ TooDeep ∷ []
-kinds_before other = []
+kinds_before OpenString = []
+kinds_before BadUtf8 = []
+kinds_before OpenTriple = []
+kinds_before OpenBracket = []
+kinds_before BadImport = []
 
 -- none of these kinds fits the character, at any byte
 abbrev pub NoneFits : List FaultKind → List ℕ → ℕ → Type 0
@@ -184,7 +189,11 @@ IsOpenAtEnd OpenString characters start = InShortString characters start
 IsOpenAtEnd OpenTriple characters start = InLongString characters start
 IsOpenAtEnd BadJoin characters start = BehindBackslash characters start
 IsOpenAtEnd OpenBracket characters start = InBracket characters start
-IsOpenAtEnd other characters start = ⊥
+IsOpenAtEnd BadUtf8 characters start = ⊥
+IsOpenAtEnd BadChar characters start = ⊥
+IsOpenAtEnd WrongClose characters start = ⊥
+IsOpenAtEnd TooDeep characters start = ⊥
+IsOpenAtEnd BadImport characters start = ⊥
 
 -- the fault of a text that is UTF-8 and live, but has no reading
 pub record IsEndFault (kind : FaultKind) (characters tail : List ℕ) (offset : ℕ) : Type 0 where

@@ -3,6 +3,9 @@ pub mod Piece
 pub mod Balance
 pub mod LogicalLine
 pub mod Lexed
+pub mod Settled
+pub mod Given
+pub mod Scanning
 pub mod Reader
 pub mod Token
 pub mod FaultWords

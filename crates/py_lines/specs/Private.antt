@@ -3,3 +3,5 @@
 pub mod Machine
 pub mod Scan
 pub mod Source
+pub mod Run
+pub mod Feed

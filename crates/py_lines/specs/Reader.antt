@@ -1,10 +1,9 @@
 -- The state of a reader of logical lines: the text, how far it has been given, on which line, and its fault once met.
 pub mod View
-use Rattle.std.specs.Prelude.{◌≡◌, ℕ, ◌+◌, ◌<◌, ◌≤◌, ◌⊎◌, Option, None, Some, List, [], ◌∷◌, ◌++◌, length}
-use Rattle.py_lines.specs.Piece.{Piece, spelled, AreReadBefore}
-use Rattle.py_lines.specs.Balance.{IsBalanced, IsShallow}
-use Rattle.py_lines.specs.LogicalLine.{LogicalLine, lines_of, byte_len, line_ends}
-use Rattle.py_lines.specs.Lexed.{Decodes, EndsLine, IsLexed, BeginsLexing}
+use Rattle.std.specs.Prelude.{◌≡◌, ℕ, ◌+◌, ◌<◌, ◌≤◌, Option, None, Some, List, [], ◌∷◌, ◌++◌, length}
+use Rattle.py_lines.specs.LogicalLine.{LogicalLine}
+use Rattle.py_lines.specs.Lexed.{IsLexed, BeginsLexing}
+use Rattle.py_lines.specs.Given.{AreFirstLines}
 use Rattle.py_lines.specs.declared.fault.Fault.{Fault}
 
 -- `place` is the byte up to which units were given, and `line` is its line
@@ -22,23 +21,10 @@ standing_at text place line = record { text = text; place = place; line = line; 
 abbrev pub at_start : List ℕ → Reader
 at_start text = standing_at text 0 1
 
--- These are the first logical lines of the reader's text, up to its place: they are cut from pieces that are
--- read before the rest of the text, and end a line or the text. No fault was met yet.
+-- these are the first logical lines of the reader's text, up to its place and line, and no fault was met yet
 pub record HasGiven (reader : Reader) (lines : List LogicalLine) : Type 0 where
-  pub characters : List ℕ
-  pub tail : List ℕ
-  pub pieces : List Piece
-  pub rest : List ℕ
-  pub decodes : Decodes reader.text characters tail
-  pub spell : spelled pieces ++ rest ≡ characters
-  pub fit : AreReadBefore pieces rest
-  pub balanced : IsBalanced pieces
-  pub shallow : IsShallow 0 pieces
-  pub ended : EndsLine pieces ⊎ (rest ++ tail ≡ [])
-  pub place : reader.place ≡ byte_len (spelled pieces)
-  pub line : reader.line ≡ 1 + line_ends (spelled pieces)
+  pub first : AreFirstLines reader.text reader.place reader.line lines
   pub no_fault : reader.fault ≡ None
-  pub cut : lines ≡ lines_of pieces
 
 -- one more logical line is given, and the lines still begin the lexing of the whole text
 pub record Continues (old : Reader) (line : LogicalLine) (new : Reader) : Type 0 where

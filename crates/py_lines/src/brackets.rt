@@ -37,6 +37,7 @@ pub struct Brackets {
 }
 
 impl Brackets {
+    ghost use Rattle.py_lines.specs.Private.Run.{may_stand};
     ghost use Rattle.py_lines.specs.Private.Scan.{stack_of, none_open, IsInnermost, Meets};
 
     pub fn new(alloc: Global) -> Brackets
@@ -60,11 +61,27 @@ impl Brackets {
         self.open.is_empty()
     }
 
-    #[tactic(auto, using(crate::proofs::Scanner::BracketStack::last_in))]
+    #[tactic(auto, using(crate::proofs::LineScan::BracketStack::last_in))]
     pub fn innermost(&self) -> Option<OpenBracket>
         ensures { IsInnermost result (stack_of self.now) }
     {
         self.open.last().copied()
+    }
+
+    /// Whether an operator may stand next.
+    pub fn allows(&self, c: char) -> bool
+        ensures { result ≡ may_stand (stack_of self.now) c }
+    {
+        if is_opening(c) {
+            self.open.len() < DEPTH
+        } else if is_closing(c) {
+            match self.innermost() {
+                Some(bracket) => c == bracket.closer(),
+                None => false,
+            }
+        } else {
+            true
+        }
     }
 
     /// Whether an operator may stand at this byte: a closing bracket closes the innermost open one, and an opening one

@@ -3,6 +3,9 @@
 ghost use Rattle.std.specs.Prelude.{◌≡◌};
 ghost use Rattle.py_lines.specs.Character.{is_mark, is_space, is_word_character, is_word_start, is_digit, is_quote, is_operator, is_line_feed, is_return, is_break, is_hash, is_backslash, is_r, is_b_or_f, is_u};
 ghost use Rattle.py_lines.specs.Balance.{is_opening, is_closing};
+ghost use Rattle.py_lines.specs.Private.Run.{is_apart};
+
+use crate::run::is_word_byte;
 
 /// U+FEFF, the byte order mark.
 #[tactic(auto, unfolding(crate::specs::Character::is_mark))]
@@ -21,11 +24,15 @@ pub fn is_space(c: char) -> bool
 }
 
 /// The characters that may continue an identifier.
-#[tactic(auto, unfolding(crate::specs::Character::is_word_character))]
+#[tactic(auto, using(crate::proofs::LineScan::Runs::word_byte_continues), unfolding(crate::specs::Character::is_word_character))]
 pub fn is_word_character(c: char) -> bool
     ensures { result ≡ is_word_character c }
 {
-    unicode_ident::is_xid_continue(c)
+    if c.is_ascii() {
+        is_word_byte(c as u8)
+    } else {
+        unicode_ident::is_xid_continue(c)
+    }
 }
 
 /// The digits from 0 to 9.
@@ -37,11 +44,15 @@ pub fn is_digit(c: char) -> bool
 }
 
 /// The characters that may begin an identifier, the underscore and the digits.
-#[tactic(auto, unfolding(crate::specs::Character::is_word_start))]
+#[tactic(auto, using(crate::proofs::LineScan::Runs::word_byte_starts), unfolding(crate::specs::Character::is_word_start))]
 pub fn is_word_start(c: char) -> bool
     ensures { result ≡ is_word_start c }
 {
-    unicode_ident::is_xid_start(c) || c == '_' || is_digit(c)
+    if c.is_ascii() {
+        is_word_byte(c as u8)
+    } else {
+        unicode_ident::is_xid_start(c) || c == '_' || is_digit(c)
+    }
 }
 
 /// The quotes of strings.
@@ -123,6 +134,13 @@ pub fn is_backslash(c: char) -> bool
     ensures { result ≡ is_backslash c }
 {
     c == '\\'
+}
+
+/// What a line end, a comment or a join of lines begins with.
+pub fn is_apart(c: char) -> bool
+    ensures { result ≡ is_apart c }
+{
+    is_break(c) || is_hash(c) || is_backslash(c)
 }
 
 /// `r` in either case, in the prefix of a string.

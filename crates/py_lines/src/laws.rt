@@ -1,10 +1,12 @@
 //! Laws of the definitions, which the checker proves as contracts of functions that do nothing.
 
-ghost use Rattle.std.specs.Prelude.{◌≡◌, ℕ, Option, List};
+ghost use Rattle.std.specs.Prelude.{◌≡◌, ℕ, Option, Some, List, ◌++◌, take};
 ghost use Rattle.py_lines.specs.Piece.{Piece, Reads, ReadsText};
 ghost use Rattle.py_lines.specs.LogicalLine.{LogicalLine};
 ghost use Rattle.py_lines.specs.Lexed.{IsFaultAt, IsReadOrFaulty, IsLexed, BeginsLexing};
 ghost use Rattle.py_lines.specs.Reader.{Reader, HasGiven};
+ghost use Rattle.py_lines.specs.Settled.{IsSettled, Decides};
+ghost use Rattle.py_lines.specs.Given.{AreFirstLines};
 ghost use Rattle.py_lines.specs.declared.fault.Fault.{Fault};
 ghost use Rattle.py_lines.specs.declared.fault.FaultKind.{FaultKind};
 
@@ -36,4 +38,18 @@ pub fn one_lexing()
 #[tactic(auto, using(crate::proofs::Lexings::FirstLines::given_begin))]
 pub fn given_lines_begin_the_text()
     ensures begin { (reader : Reader) (lines : List LogicalLine) → HasGiven reader lines → BeginsLexing reader.text lines }
+{}
+
+/// What the known bytes of a text settle stays, whatever follows them. They settle one list of lines, which begins the
+/// lexing of each text that begins with them. More bytes settle no fewer lines. The first lines of a text, up to some
+/// byte, begin with those that the bytes before it settle. A fault that the known bytes decide is that of each text that
+/// begins with them, after the same lines.
+#[tactic(auto, using(crate::proofs::Lexings::SettledLines::settled_begin, crate::proofs::Lexings::DecidedFaults::decided_lexing))]
+pub fn settled_is_final()
+    ensures one { (text : List ℕ) (lines others : List LogicalLine) → IsSettled text lines → IsSettled text others → lines ≡ others }
+    ensures lines { (text more : List ℕ) (lines : List LogicalLine) → IsSettled text lines → BeginsLexing (text ++ more) lines }
+    ensures grow { (text more : List ℕ) (lines others : List LogicalLine) → IsSettled text lines → IsSettled (text ++ more) others → (rest : List LogicalLine) × (others ≡ lines ++ rest) }
+    ensures within { (text : List ℕ) (place line : ℕ) (lines others : List LogicalLine) → AreFirstLines text place line lines → IsSettled (take place text) others → (more : List LogicalLine) × (lines ≡ others ++ more) }
+    ensures fault { (text more : List ℕ) (fault : Fault) (lines : List LogicalLine) (end : Option Fault) → Decides text fault → IsLexed (text ++ more) lines end → end ≡ Some fault }
+    ensures all { (text more : List ℕ) (fault : Fault) (lines : List LogicalLine) → Decides text fault → IsLexed text lines (Some fault) → IsLexed (text ++ more) lines (Some fault) }
 {}

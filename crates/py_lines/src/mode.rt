@@ -1,7 +1,8 @@
 //! The machine that reads a text one character at a time.
 
-ghost use Rattle.std.specs.Prelude.{◌≡◌, ◌==◌, ◌||◌, ◌&&◌};
+ghost use Rattle.std.specs.Prelude.{◌≡◌, ◌<◌, ◌==◌, ◌||◌, ◌&&◌, length};
 ghost use Rattle.py_lines.specs.Private.Machine.{first_spelling, spelling_with, is_prefix_spelling, token_of, is_final, short_move, long_move, move_of, start_of, in_short, in_long, is_behind_slash, character_kind, end_kind};
+ghost use Rattle.py_lines.specs.Private.Run.{word_spelling, is_free};
 ghost use Rattle.py_lines.specs.Private.Scan.{is_join_mode, is_return_mode, holds_nothing};
 
 use crate::character::{
@@ -113,6 +114,18 @@ impl Spelling {
         }
     }
 
+    /// The spelling of a word of ASCII, which isn't empty.
+    pub fn of_word(bytes: &[u8]) -> Spelling
+        requires { 0 < length bytes.now }
+        ensures { result ≡ word_spelling bytes.now }
+    {
+        let mut spelling = Spelling::of(bytes[0] as char);
+        for i in 1..bytes.len() {
+            spelling = spelling.with(bytes[i] as char);
+        }
+        spelling
+    }
+
     /// Whether the word spells the prefix of a string.
     fn is_prefix(self) -> bool
         ensures { result ≡ is_prefix_spelling self }
@@ -181,6 +194,13 @@ impl Mode {
         ensures { result ≡ holds_nothing self }
     {
         matches!(self, Mode::Start | Mode::Free)
+    }
+
+    /// Whether no piece is open, after the text's start.
+    pub fn is_free(self) -> bool
+        ensures { result ≡ is_free self }
+    {
+        matches!(self, Mode::Free)
     }
 
     /// Whether a short string is open.
@@ -298,6 +318,7 @@ impl Mode {
 
 impl Start {
     /// What a character begins where no piece is open.
+    #[inline(always)]
     #[tactic(auto, unfolding(crate::specs::Private::Machine::start_of))]
     pub fn of(c: char) -> Start
         ensures { result ≡ start_of c }

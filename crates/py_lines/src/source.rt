@@ -12,7 +12,7 @@ use crate::unit::Unit;
 use std::alloc::Global;
 
 /// The text that the bytes begin with, up to the first that begin no character.
-fn utf8_front(bytes: &[u8]) -> &str
+pub fn utf8_front(bytes: &[u8]) -> &str
     ensures front { result.now ≡ take (length result.now) bytes.now }
     ensures bad { StartsWithNoChar (drop (length result.now) bytes.now) }
 {

@@ -18,7 +18,7 @@ pub record FrontTo (characters : List ℕ) (offset : ℕ) : Type 0 where
 pub end_rest : (kind : FaultKind) (characters start : List ℕ) → IsOpenAtEnd kind characters start → (rest : List ℕ) × (start ++ rest ≡ characters)
 end_rest faults.OpenString characters start is = (is.front, is.spell)
 end_rest faults.OpenTriple characters start is = (is.front, is.spell)
-end_rest faults.BadJoin characters start is = (is.slash ∷ [], is.spell)
+end_rest faults.BadJoin characters start is = (is.front, is.spell)
 end_rest faults.OpenBracket characters start is =
     let inside = is.opener ∷ is.inner in
     (spelled inside, ap (λ t. t ++ spelled inside) (sym is.before) ∙ sym (spelled-append is.outer inside) ∙ is.spell)
@@ -42,7 +42,7 @@ directly_before before after c offset place = record { front = before; rest = c 
 
 fitted : (kind : FaultKind) (before after : List ℕ) (c offset : ℕ) → FitsCharacter kind before c offset → FrontTo (before ++ c ∷ after) offset
 fitted faults.OpenString before after c offset fits = opened_before before after fits.start fits.inside.front c offset fits.inside.spell fits.place
-fitted faults.BadJoin before after c offset fits = opened_before before after fits.start (fits.behind.slash ∷ []) c offset fits.behind.spell fits.place
+fitted faults.BadJoin before after c offset fits = opened_before before after fits.start fits.behind.front c offset fits.behind.spell fits.place
 fitted faults.WrongClose before after c offset fits = directly_before before after c offset fits.place
 fitted faults.TooDeep before after c offset fits = directly_before before after c offset fits.place
 fitted faults.BadChar before after c offset fits = directly_before before after c offset fits

@@ -220,7 +220,7 @@ cause kind characters tail offset (inl fault) = Cause.by_character fault
 cause kind characters tail offset (inr fault) = Cause.by_end fault
 
 -- a text that dies at a character isn't live
-not_live : (characters : List ℕ) (kind : FaultKind) (offset : ℕ) → IsCharacterFault kind characters offset → IsLive characters → ⊥
+pub not_live : (characters : List ℕ) (kind : FaultKind) (offset : ℕ) → IsCharacterFault kind characters offset → IsLive characters → ⊥
 not_live characters kind offset fault live = fault.dies.dead (live_prefix (fault.before ++ fault.c ∷ []) fault.dies.after (subst IsLive (sym fault.dies.spell ∙ sym (append_assoc fault.before (fault.c ∷ []) fault.dies.after)) live))
 
 same_causes : (characters tail : List ℕ) (kind other : FaultKind) (offset place : ℕ) → Cause kind characters tail offset → Cause other characters tail place → AreSame kind offset other place

@@ -22,8 +22,8 @@ no_bytes k none =
     let bound = length-le-encodes k in
     nil_from_length k (omega arith)
 
-same_front : (b a d e : List ℕ) → b ++ a ≡ d ++ e → byte_len b ≡ byte_len d → b ≡ d
-same_front b a d e same bytes = go (either b a d e same)
+pub same_place : (b a d e : List ℕ) → b ++ a ≡ d ++ e → byte_len b ≡ byte_len d → b ≡ d
+same_place b a d e same bytes = go (either b a d e same)
   where
     go : Either b d e → b ≡ d
     go (Either.shorter k one) =
@@ -44,7 +44,7 @@ pub record IsLineOf (fault : Fault) (characters : List ℕ) : Type 0 where
 
 line_at : (fault : Fault) (characters : List ℕ) → IsLineOf fault characters → (before after : List ℕ) → before ++ after ≡ characters → byte_len before ≡ fault.offset → fault.line ≡ 1 + line_ends before
 line_at fault characters is before after spell place =
-    is.line ∙ ap (λ t. 1 + line_ends t) (same_front is.front is.rest before after (is.spell ∙ sym spell) (is.place ∙ sym place))
+    is.line ∙ ap (λ t. 1 + line_ends t) (same_place is.front is.rest before after (is.spell ∙ sym spell) (is.place ∙ sym place))
 
 -- the text is read, where the machine may stop with no bracket open
 pub read_at : (text characters : List ℕ) (s : Scanned) → Decodes text characters [] → RunsTo characters s [] → is_final s.mode ≡ true → IsLexedWhole text (lines_of (pieces_at s))

@@ -13,20 +13,22 @@ nothing_given : (text : List ℕ) → HasGiven (at_start text) []
 nothing_given text =
     let of = decoding text in
     record {
-      characters = of.characters;
-      tail = of.tail;
-      pieces = [];
-      rest = of.characters;
-      decodes = of.decodes;
-      spell = refl;
-      fit = tt;
-      balanced = brackets.none [] refl;
-      shallow = tt;
-      ended = inl (inl refl);
-      place = refl;
-      line = refl;
+      first = record {
+        characters = of.characters;
+        tail = of.tail;
+        pieces = [];
+        rest = of.characters;
+        decodes = of.decodes;
+        spell = refl;
+        fit = tt;
+        balanced = brackets.none [] refl;
+        shallow = tt;
+        ended = inl (inl refl, λ none. refl);
+        here = refl;
+        number = refl;
+        cut = refl;
+      };
       no_fault = refl;
-      cut = refl;
     }
 
 -- every text is lexed

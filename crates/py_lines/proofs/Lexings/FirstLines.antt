@@ -27,7 +27,7 @@ use Rattle.py_lines.proofs.Lexings.LinePrefix.{read-alone, depth_front, live_pre
 use Rattle.py_lines.proofs.LogicalLines.Cuts.{line_depth}
 use Rattle.py_lines.proofs.LogicalLines.NextLine.{lines_of-more}
 use Rattle.py_lines.proofs.Machine.EarlierPieces.{behind, behind_if, closed-behind}
-use Rattle.py_lines.proofs.Scanner.TextRun.{Base, base_of, from_base}
+use Rattle.py_lines.proofs.LineScan.TextRun.{Base, base_of, from_base}
 use Rattle.py_lines.proofs.Lexings.Answers.{IsLineOf, HasFront, read_at, refused_at_character, refused_at_end, refused_at_bytes}
 use Rattle.py_lines.proofs.Lexings.GivenLines.{none_both, all_given}
 
@@ -191,33 +191,33 @@ ended_reading base rest fit balanced shallow (inl none) = record { spell = refl;
 ended_reading base rest fit balanced shallow (inr (body, last, is, class, deep)) = record { spell = refl; fit = subst (λ l. AreReadBefore l []) (sym is) (read-alone body last rest class (subst (λ l. AreReadBefore l rest) is fit)); balanced = balanced; shallow = shallow }
 
 -- from lines that end a line
-from_line : (r : Reader) (lines : List LogicalLine) (given : HasGiven r lines) → EndsLine given.pieces → BeginsLexing r.text (lines_of given.pieces)
-from_line r lines given ended = go (goes given.characters)
+from_line : (r : Reader) (lines : List LogicalLine) (given : HasGiven r lines) → EndsLine given.first.pieces → BeginsLexing r.text (lines_of given.first.pieces)
+from_line r lines given ended = go (goes given.first.characters)
   where
-    go : Goes given.characters → BeginsLexing r.text (lines_of given.pieces)
+    go : Goes given.first.characters → BeginsLexing r.text (lines_of given.first.pieces)
     go (Goes.through s st runs) =
-        let grown = grows_from given.pieces given.rest [] s (subst (AreReadBefore given.pieces) (sym (append-nil given.rest)) given.fit) ended (ap (run_from (Some text_start)) given.spell ∙ runs.run) in
-        at_end r.text given.characters given.tail s st given.pieces given.decodes runs (onward given.pieces grown.0 s ended grown.1)
-    go (Goes.up_to before c after s st spell runs dead) = on (either (spelled given.pieces) given.rest before (c ∷ after) (given.spell ∙ sym spell))
+        let grown = grows_from given.first.pieces given.first.rest [] s (subst (AreReadBefore given.first.pieces) (sym (append-nil given.first.rest)) given.first.fit) ended (ap (run_from (Some text_start)) given.first.spell ∙ runs.run) in
+        at_end r.text given.first.characters given.first.tail s st given.first.pieces given.first.decodes runs (onward given.first.pieces grown.0 s ended grown.1)
+    go (Goes.up_to before c after s st spell runs dead) = on (either (spelled given.first.pieces) given.first.rest before (c ∷ after) (given.first.spell ∙ sym spell))
       where
-        on : Either (spelled given.pieces) before (c ∷ after) → BeginsLexing r.text (lines_of given.pieces)
+        on : Either (spelled given.first.pieces) before (c ∷ after) → BeginsLexing r.text (lines_of given.first.pieces)
         on (Either.shorter k one) =
-            let left : given.rest ≡ k ++ c ∷ after = append_cancel_left (spelled given.pieces) given.rest (k ++ c ∷ after) (given.spell ∙ sym spell ∙ ap (λ t. t ++ c ∷ after) one ∙ append_assoc (spelled given.pieces) k (c ∷ after)) in
-            let grown = grows_from given.pieces k (c ∷ after) s (subst (AreReadBefore given.pieces) left given.fit) ended (ap (run_from (Some text_start)) (sym one) ∙ runs.run) in
-            at_character r.text given.characters given.tail before after c s st given.pieces given.decodes spell runs dead (onward given.pieces grown.0 s ended grown.1)
+            let left : given.first.rest ≡ k ++ c ∷ after = append_cancel_left (spelled given.first.pieces) given.first.rest (k ++ c ∷ after) (given.first.spell ∙ sym spell ∙ ap (λ t. t ++ c ∷ after) one ∙ append_assoc (spelled given.first.pieces) k (c ∷ after)) in
+            let grown = grows_from given.first.pieces k (c ∷ after) s (subst (AreReadBefore given.first.pieces) left given.first.fit) ended (ap (run_from (Some text_start)) (sym one) ∙ runs.run) in
+            at_character r.text given.first.characters given.first.tail before after c s st given.first.pieces given.first.decodes spell runs dead (onward given.first.pieces grown.0 s ended grown.1)
         on (Either.longer d k later one two) =
             let first : c ≡ d = cc in
-            let live = reading_live given.pieces (spelled given.pieces) (ended_reading given.pieces given.rest given.fit given.balanced given.shallow ended) in
+            let live = reading_live given.first.pieces (spelled given.first.pieces) (ended_reading given.first.pieces given.first.rest given.first.fit given.first.balanced given.first.shallow ended) in
             absurd (dead (subst (λ (n : ℕ). IsLive (before ++ n ∷ [])) (sym first) (live_prefix (before ++ d ∷ []) k (subst IsLive (one ∙ sym (append_assoc before (d ∷ []) k)) live))))
 
 -- lines that a reader has given begin the lexing of its text
 pub given_begin : (reader : Reader) (lines : List LogicalLine) → HasGiven reader lines → BeginsLexing reader.text lines
-given_begin reader lines given = ⊎_elim (λ ended. subst (BeginsLexing reader.text) (sym given.cut) (from_line reader lines given ended)) at_the_end given.ended
+given_begin reader lines given = ⊎_elim (λ ended. subst (BeginsLexing reader.text) (sym given.first.cut) (from_line reader lines given ended.0)) at_the_end given.first.ended
   where
-    at_the_end : given.rest ++ given.tail ≡ [] → BeginsLexing reader.text lines
+    at_the_end : given.first.rest ++ given.first.tail ≡ [] → BeginsLexing reader.text lines
     at_the_end none =
-        let nothing = none_both given.rest given.tail none in
-        let all : spelled given.pieces ≡ given.characters = sym (append-nil (spelled given.pieces)) ∙ ap (λ t. spelled given.pieces ++ t) (sym nothing.0) ∙ given.spell in
-        let text : encode_utf8_all given.characters ≡ reader.text = sym (append-nil (encode_utf8_all given.characters)) ∙ ap (λ t. encode_utf8_all given.characters ++ t) (sym nothing.1) ∙ given.decodes.spell in
-        let place : reader.place ≡ length reader.text = given.place ∙ ap byte_len all ∙ ap length text in
+        let nothing = none_both given.first.rest given.first.tail none in
+        let all : spelled given.first.pieces ≡ given.first.characters = sym (append-nil (spelled given.first.pieces)) ∙ ap (λ t. spelled given.first.pieces ++ t) (sym nothing.0) ∙ given.first.spell in
+        let text : encode_utf8_all given.first.characters ≡ reader.text = sym (append-nil (encode_utf8_all given.first.characters)) ∙ ap (λ t. encode_utf8_all given.first.characters ++ t) (sym nothing.1) ∙ given.first.decodes.spell in
+        let place : reader.place ≡ length reader.text = given.first.here ∙ ap byte_len all ∙ ap length text in
         record { more = []; end = None; lexed = subst (λ l. IsLexed reader.text l None) (sym (append-nil lines)) (all_given reader lines given place) }

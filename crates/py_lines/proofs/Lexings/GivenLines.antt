@@ -11,6 +11,7 @@ use Rattle.py_lines.specs.Balance.{IsBalanced, IsShallow, depth_through}
 use Rattle.py_lines.specs.LogicalLine.{LogicalLine, cut, byte_len, line_ends, line_of, lines_of}
 use Rattle.py_lines.specs.Lexed.{Decodes, EndsLine, IsLexed}
 use Rattle.py_lines.specs.Reader.{Reader, HasGiven}
+use Rattle.py_lines.specs.Settled.{EndsForGood}
 use Rattle.py_lines.specs.Private.Machine.{brackets_of}
 use Rattle.py_lines.proofs.Text.Utf8Prefixes.{one_decoding, front_chars}
 use Rattle.py_lines.proofs.Pieces.PieceLists.{spelled-append, AreReadBefore-append, MayFollow}
@@ -23,11 +24,11 @@ use Rattle.py_lines.proofs.Lexings.LinePrefix.{read-first}
 pub record Situation (r : Reader) (characters : List ℕ) (lines : List LogicalLine) (read rest : List ℕ) : Type 0 where
   pub given : HasGiven r lines
   pub after : List ℕ
-  pub split : given.rest ≡ read ++ after
-  pub spells : encode_utf8_all given.characters ≡ characters
+  pub split : given.first.rest ≡ read ++ after
+  pub spells : encode_utf8_all given.first.characters ≡ characters
   pub follow : encode_utf8_all after ≡ rest
-  pub tail_is : given.tail ≡ drop (length characters) r.text
-  pub ends : EndsLine given.pieces
+  pub tail_is : given.first.tail ≡ drop (length characters) r.text
+  pub ends : EndsLine given.first.pieces
   pub here : drop r.place characters ≡ encode_utf8_all read ++ rest
 
 pub none_both : (a b : List ℕ) → a ++ b ≡ [] → (a ≡ []) × (b ≡ [])
@@ -36,14 +37,14 @@ none_both (c ∷ cs) b e = absurd (cc)
 
 pub situate : (r : Reader) (characters : List ℕ) (lines : List LogicalLine) (read rest : List ℕ) → HasGiven r lines → IsUtf8 characters → characters ≡ take (length characters) r.text → StartsWithNoChar (drop (length characters) r.text) → r.place < length r.text → encode_utf8_all read ++ rest ≡ drop r.place characters → Situation r characters lines read rest
 situate r characters lines read rest given utf8 front bad more scanned =
-    let whole : encode_utf8_all utf8.0 ++ drop (length characters) r.text ≡ encode_utf8_all given.characters ++ given.tail
-    = ap (λ t. t ++ drop (length characters) r.text) (utf8.1.1 ∙ front) ∙ take-append-drop (length characters) r.text ∙ sym given.decodes.spell in
-    let same = one_decoding utf8.0 given.characters (drop (length characters) r.text) given.tail utf8.1.0 given.decodes.are bad given.decodes.bad whole in
-    let spells : encode_utf8_all given.characters ≡ characters = ap encode_utf8_all (sym same.0) ∙ utf8.1.1 in
-    let parts : characters ≡ encode_utf8_all (spelled given.pieces) ++ encode_utf8_all given.rest = sym spells ∙ ap encode_utf8_all (sym given.spell) ∙ encodes-append (spelled given.pieces) given.rest in
-    let left : drop r.place characters ≡ encode_utf8_all given.rest
-    = ap (λ (n : ℕ). drop n characters) given.place ∙ ap (drop (byte_len (spelled given.pieces))) parts ∙ drop-append_seam (encode_utf8_all (spelled given.pieces)) (encode_utf8_all given.rest) in
-    let next = front_chars read given.rest rest (sym left ∙ sym scanned) in
+    let whole : encode_utf8_all utf8.0 ++ drop (length characters) r.text ≡ encode_utf8_all given.first.characters ++ given.first.tail
+    = ap (λ t. t ++ drop (length characters) r.text) (utf8.1.1 ∙ front) ∙ take-append-drop (length characters) r.text ∙ sym given.first.decodes.spell in
+    let same = one_decoding utf8.0 given.first.characters (drop (length characters) r.text) given.first.tail utf8.1.0 given.first.decodes.are bad given.first.decodes.bad whole in
+    let spells : encode_utf8_all given.first.characters ≡ characters = ap encode_utf8_all (sym same.0) ∙ utf8.1.1 in
+    let parts : characters ≡ encode_utf8_all (spelled given.first.pieces) ++ encode_utf8_all given.first.rest = sym spells ∙ ap encode_utf8_all (sym given.first.spell) ∙ encodes-append (spelled given.first.pieces) given.first.rest in
+    let left : drop r.place characters ≡ encode_utf8_all given.first.rest
+    = ap (λ (n : ℕ). drop n characters) given.first.here ∙ ap (drop (byte_len (spelled given.first.pieces))) parts ∙ drop-append_seam (encode_utf8_all (spelled given.first.pieces)) (encode_utf8_all given.first.rest) in
+    let next = front_chars read given.first.rest rest (sym left ∙ sym scanned) in
     record {
       given = given;
       after = next.0;
@@ -51,9 +52,9 @@ situate r characters lines read rest given utf8 front bad more scanned =
       spells = spells;
       follow = next.2;
       tail_is = sym same.1;
-      ends = ⊎_elim (λ e. e) (λ none.
-          let nothing = none_both given.rest given.tail none in
-          absurd (omega (arith, given.place, ap length given.decodes.spell, length-append (encode_utf8_all given.characters) given.tail, ap length nothing.1, ap (λ t. length (encode_utf8_all t)) (sym given.spell ∙ ap (λ t. spelled given.pieces ++ t) nothing.0 ∙ append-nil (spelled given.pieces))))) given.ended;
+      ends = ⊎_elim (λ e. e.0) (λ none.
+          let nothing = none_both given.first.rest given.first.tail none in
+          absurd (omega (arith, given.first.here, ap length given.first.decodes.spell, length-append (encode_utf8_all given.first.characters) given.first.tail, ap length nothing.1, ap (λ t. length (encode_utf8_all t)) (sym given.first.spell ∙ ap (λ t. spelled given.first.pieces ++ t) nothing.0 ∙ append-nil (spelled given.first.pieces))))) given.first.ended;
       here = sym scanned;
     }
 
@@ -64,59 +65,66 @@ base_lines base (c ∷ cs) rest fit =
     let near = read-first base c (cs ++ rest) cs fit in
     line_ends-pieces base (c ∷ cs) near ∙ ap (λ (n : ℕ). n + line_ends (c ∷ cs)) (sym (line_ends-spelled base (c ∷ cs) near))
 
+-- pieces that end a line do so for good, or the text ends there
+pub ends_for_good : (pieces : List Piece) (left : List ℕ) → EndsLine pieces → EndsForGood pieces left ⊎ (left ≡ [])
+ends_for_good pieces [] ended = inr refl
+ends_for_good pieces (c ∷ cs) ended = inl (ended, λ none. absurd (cc))
+
 -- a line that its end closed, or the text's end
 pub data IsEnded (u : List Piece) (nothing : Type 0) : Type 0 where
   by_line : (body : List Piece) (last : Piece) → u ≡ body ++ last ∷ [] → last.class ≡ line_end → depth_through 0 body ≡ 0 → IsEnded u nothing
   by_text : nothing → IsEnded u nothing
 
 -- the lines given, and one more
-pub one_more : (r n : Reader) (characters : List ℕ) (lines : List LogicalLine) (read rest : List ℕ) (u : List Piece) (s : Situation r characters lines read rest) → spelled u ≡ read → AreReadBefore u s.after → MayFollow s.given.pieces u → brackets_of u ≡ Some [] → cut 0 u ≡ u ∷ [] → IsEnded u (s.after ++ s.given.tail ≡ []) → n.text ≡ r.text → n.place ≡ r.place + byte_len read → n.line ≡ r.line + line_ends read → n.fault ≡ None → HasGiven n (lines ++ line_of r.place r.line u ∷ [])
+pub one_more : (r n : Reader) (characters : List ℕ) (lines : List LogicalLine) (read rest : List ℕ) (u : List Piece) (s : Situation r characters lines read rest) → spelled u ≡ read → AreReadBefore u s.after → MayFollow s.given.first.pieces u → brackets_of u ≡ Some [] → cut 0 u ≡ u ∷ [] → IsEnded u (s.after ++ s.given.first.tail ≡ []) → n.text ≡ r.text → n.place ≡ r.place + byte_len read → n.line ≡ r.line + line_ends read → n.fault ≡ None → HasGiven n (lines ++ line_of r.place r.line u ∷ [])
 one_more r n characters lines read rest u s spell fit follows stacked whole ended text place line no_fault =
     let given = s.given in
-    let base = given.pieces in
-    let base_fit : AreReadBefore base (read ++ s.after) = subst (AreReadBefore base) s.split given.fit in
+    let base = given.first.pieces in
+    let base_fit : AreReadBefore base (read ++ s.after) = subst (AreReadBefore base) s.split given.first.fit in
     let all : AreReadBefore (base ++ u) s.after = AreReadBefore-append base u s.after (subst (λ t. AreReadBefore base (t ++ s.after)) (sym spell) base_fit) fit follows in
     let spelled_all : spelled (base ++ u) ≡ spelled base ++ read = spelled-append base u ∙ ap (λ t. spelled base ++ t) spell in
     let balanced = balanced-from_stack u stacked in
-    let level : depth_through 0 base ≡ 0 = balanced_depth base given.balanced 0 in
+    let level : depth_through 0 base ≡ 0 = balanced_depth base given.first.balanced 0 in
     record {
-      characters = given.characters;
-      tail = given.tail;
-      pieces = base ++ u;
-      rest = s.after;
-      decodes = subst (λ t. Decodes t given.characters given.tail) (sym text) given.decodes;
-      spell = ap (λ t. t ++ s.after) spelled_all ∙ append_assoc (spelled base) read s.after ∙ ap (λ t. spelled base ++ t) (sym s.split) ∙ given.spell;
-      fit = all;
-      balanced = brackets.both (base ++ u) base u refl given.balanced balanced.0;
-      shallow = IsShallow-append 0 base u given.shallow (subst (λ (d : ℕ). IsShallow d u) (sym level) balanced.1);
-      ended = ends base level ended;
-      place = place ∙ ap (λ (k : ℕ). k + byte_len read) given.place ∙ sym (byte_len-append (spelled base) read) ∙ ap byte_len (sym spelled_all);
-      line = line ∙ ap (λ (k : ℕ). k + line_ends read) given.line ∙ add_assoc 1 (line_ends (spelled base)) (line_ends read) ∙ ap (λ (k : ℕ). 1 + k) (sym (base_lines base read s.after base_fit) ∙ ap line_ends (sym spelled_all));
+      first = record {
+        characters = given.first.characters;
+        tail = given.first.tail;
+        pieces = base ++ u;
+        rest = s.after;
+        decodes = subst (λ t. Decodes t given.first.characters given.first.tail) (sym text) given.first.decodes;
+        spell = ap (λ t. t ++ s.after) spelled_all ∙ append_assoc (spelled base) read s.after ∙ ap (λ t. spelled base ++ t) (sym s.split) ∙ given.first.spell;
+        fit = all;
+        balanced = brackets.both (base ++ u) base u refl given.first.balanced balanced.0;
+        shallow = IsShallow-append 0 base u given.first.shallow (subst (λ (d : ℕ). IsShallow d u) (sym level) balanced.1);
+        ended = ends base level ended;
+        here = place ∙ ap (λ (k : ℕ). k + byte_len read) given.first.here ∙ sym (byte_len-append (spelled base) read) ∙ ap byte_len (sym spelled_all);
+        number = line ∙ ap (λ (k : ℕ). k + line_ends read) given.first.number ∙ add_assoc 1 (line_ends (spelled base)) (line_ends read) ∙ ap (λ (k : ℕ). 1 + k) (sym (base_lines base read s.after base_fit) ∙ ap line_ends (sym spelled_all));
+        cut = ap (λ l. l ++ line_of r.place r.line u ∷ []) given.first.cut ∙ ap (λ (k : ℕ). lines_of base ++ line_of k r.line u ∷ []) given.first.here ∙ ap (λ (k : ℕ). lines_of base ++ line_of (byte_len (spelled base)) k u ∷ []) given.first.number
+            ∙ sym (lines_of-push base u s.after s.ends whole all);
+      };
       no_fault = no_fault;
-      cut = ap (λ l. l ++ line_of r.place r.line u ∷ []) given.cut ∙ ap (λ (k : ℕ). lines_of base ++ line_of k r.line u ∷ []) given.place ∙ ap (λ (k : ℕ). lines_of base ++ line_of (byte_len (spelled base)) k u ∷ []) given.line
-          ∙ sym (lines_of-push base u s.after s.ends whole all);
     }
   where
-    ends : (ps : List Piece) → depth_through 0 ps ≡ 0 → IsEnded u (s.after ++ s.given.tail ≡ []) → EndsLine (ps ++ u) ⊎ (s.after ++ s.given.tail ≡ [])
-    ends ps level (IsEnded.by_line body last is class deep) = inl (inr (ps ++ body, last, ap (λ l. ps ++ l) is ∙ sym (append_assoc ps body (last ∷ [])), class, depth_through-append 0 ps body ∙ ap (λ (d : ℕ). depth_through d body) level ∙ deep))
+    ends : (ps : List Piece) → depth_through 0 ps ≡ 0 → IsEnded u (s.after ++ s.given.first.tail ≡ []) → EndsForGood (ps ++ u) (s.after ++ s.given.first.tail) ⊎ (s.after ++ s.given.first.tail ≡ [])
+    ends ps level (IsEnded.by_line body last is class deep) = ends_for_good (ps ++ u) (s.after ++ s.given.first.tail) (inr (ps ++ body, last, ap (λ l. ps ++ l) is ∙ sym (append_assoc ps body (last ∷ [])), class, depth_through-append 0 ps body ∙ ap (λ (d : ℕ). depth_through d body) level ∙ deep))
     ends ps level (IsEnded.by_text none) = inr none
 
 -- where the lines given reach to the text's end, they are all its lines
 pub all_given : (r : Reader) (lines : List LogicalLine) → HasGiven r lines → r.place ≡ length r.text → IsLexed r.text lines None
 all_given r lines given ends =
-    let bytes : byte_len given.characters ≡ byte_len (spelled given.pieces) + byte_len given.rest = ap byte_len (sym given.spell) ∙ byte_len-append (spelled given.pieces) given.rest in
-    let total = ap length (sym given.decodes.spell) ∙ length-append (encode_utf8_all given.characters) given.tail in
-    let no_tail : given.tail ≡ [] = nil_from_length given.tail (omega (arith, given.place, ends, bytes, total)) in
-    let no_rest : given.rest ≡ [] = nil_from_length given.rest (omega (arith, given.place, ends, bytes, total, length-le-encodes given.rest)) in
+    let bytes : byte_len given.first.characters ≡ byte_len (spelled given.first.pieces) + byte_len given.first.rest = ap byte_len (sym given.first.spell) ∙ byte_len-append (spelled given.first.pieces) given.first.rest in
+    let total = ap length (sym given.first.decodes.spell) ∙ length-append (encode_utf8_all given.first.characters) given.first.tail in
+    let no_tail : given.first.tail ≡ [] = nil_from_length given.first.tail (omega (arith, given.first.here, ends, bytes, total)) in
+    let no_rest : given.first.rest ≡ [] = nil_from_length given.first.rest (omega (arith, given.first.here, ends, bytes, total, length-le-encodes given.first.rest)) in
     record {
-      characters = given.characters;
-      pieces = given.pieces;
-      decodes = subst (λ t. Decodes r.text given.characters t) no_tail given.decodes;
+      characters = given.first.characters;
+      pieces = given.first.pieces;
+      decodes = subst (λ t. Decodes r.text given.first.characters t) no_tail given.first.decodes;
       reading = record {
-        spell = sym (append-nil (spelled given.pieces)) ∙ ap (λ t. spelled given.pieces ++ t) (sym no_rest) ∙ given.spell;
-        fit = subst (AreReadBefore given.pieces) no_rest given.fit;
-        balanced = given.balanced;
-        shallow = given.shallow;
+        spell = sym (append-nil (spelled given.first.pieces)) ∙ ap (λ t. spelled given.first.pieces ++ t) (sym no_rest) ∙ given.first.spell;
+        fit = subst (AreReadBefore given.first.pieces) no_rest given.first.fit;
+        balanced = given.first.balanced;
+        shallow = given.first.shallow;
       };
-      cut = given.cut;
+      cut = given.first.cut;
     }

@@ -87,7 +87,7 @@ split (x ∷ xs) ys (z ∷ zs) w ws same =
     go first (Split.in_first k one two) = Split.in_first k (ap (λ p. p ∷ xs) first ∙ ap (λ l. z ∷ l) one) two
 
 -- a line end at depth 0 stands in no such pieces
-no_end_in : (d : ℕ) (k : List Piece) (w : Piece) (ws : List Piece) → EndsNoLine d (k ++ w ∷ ws) → depth_through d k ≡ 0 → w.class ≡ line_end → ⊥
+pub no_end_in : (d : ℕ) (k : List Piece) (w : Piece) (ws : List Piece) → EndsNoLine d (k ++ w ∷ ws) → depth_through d k ≡ 0 → w.class ≡ line_end → ⊥
 no_end_in d [] w ws none deep is = both_ways _ none.0 (and_from _ _ (ap is_line_end_class is) (eq-eqb d 0 deep))
 no_end_in d (p ∷ k) w ws none deep is = no_end_in (depth_after d p) k w ws none.1 deep is
 
@@ -120,12 +120,12 @@ front_stack front others st runs ended =
     first.1 ∙ ap (λ l. Some l) none
 
 -- a line end that the machine has found stays, though CR may get LF after it
-record Stays (body : List Piece) (last : Piece) (all : List Piece) : Type 0 where
-  line : Piece
-  others : List Piece
-  is : all ≡ body ++ line ∷ others
-  class : line.class ≡ line_end
-  longer : length last.text ≤ length line.text
+pub record Stays (body : List Piece) (last : Piece) (all : List Piece) : Type 0 where
+  pub line : Piece
+  pub others : List Piece
+  pub is : all ≡ body ++ line ∷ others
+  pub class : line.class ≡ line_end
+  pub longer : length last.text ≤ length line.text
 
 stays_as : (body : List Piece) (last : Piece) (all ps : List Piece) → last.class ≡ line_end → all ≡ (body ++ last ∷ []) ++ ps → Stays body last all
 stays_as body last all ps is spell = record { line = last; others = ps; is = spell ∙ append_assoc body (last ∷ []) ps; class = is; longer = omega arith }
@@ -178,7 +178,7 @@ stays_return body last done held (c ∷ cs) s class is runs =
     runs
 
 -- a line end at the end of the pieces that a state has found
-line_stays : (m : Mode) (done : List Piece) (held x : List ℕ) (s : Scanned) (body : List Piece) (last : Piece) → run_from (Some (record { done = done; mode = m; held = held })) x ≡ Some s → closed m done held ≡ body ++ last ∷ [] → last.class ≡ line_end → Stays body last (pieces_at s)
+pub line_stays : (m : Mode) (done : List Piece) (held x : List ℕ) (s : Scanned) (body : List Piece) (last : Piece) → run_from (Some (record { done = done; mode = m; held = held })) x ≡ Some s → closed m done held ≡ body ++ last ∷ [] → last.class ≡ line_end → Stays body last (pieces_at s)
 line_stays modes.Start done held x s body last runs is class = stays_done body last done x (Some (record { done = done; mode = modes.Start; held = held })) s class is ([], sym (append-nil done)) runs
 line_stays modes.Free done held x s body last runs is class = stays_done body last done x (Some (record { done = done; mode = modes.Free; held = held })) s class is ([], sym (append-nil done)) runs
 line_stays modes.Return done held x s body last runs is class = stays_return body last done held x s class is runs
@@ -236,7 +236,7 @@ front_read m done held before front others body last runs spell is class =
     let fit = (sound_at before (record { done = done; mode = m; held = held }) runs).fit [] in
     part_before front others body last done (piece (class_of m) held) (held ++ []) is class (sym spell) (λ (same : class_of m ≡ line_end). cc) fit
 
-front_fits : (before : List ℕ) (s : Scanned) (front others : List Piece) → run_from (Some text_start) before ≡ Some s → pieces_at s ≡ front ++ others → EndsLine front → AreReadBefore front []
+pub front_fits : (before : List ℕ) (s : Scanned) (front others : List Piece) → run_from (Some text_start) before ≡ Some s → pieces_at s ≡ front ++ others → EndsLine front → AreReadBefore front []
 front_fits before s front others runs pieces (inl none) = subst (λ l. AreReadBefore l []) (sym none) tt
 front_fits before s front others runs pieces (inr (body, last, is, class, deep)) = front_read s.mode s.done s.held before front others body last runs pieces is class
 
@@ -257,10 +257,10 @@ either (x ∷ xs) ys (z ∷ zs) ws same =
     go first (Either.shorter k one) = Either.shorter k (ap (λ c. c ∷ zs) (sym first) ∙ ap (λ t. x ∷ t) one)
     go first (Either.longer c k after one two) = Either.longer c k after (ap (λ d. d ∷ xs) first ∙ ap (λ t. z ∷ t) one) two
 
-length_line : (body : List Piece) (p : Piece) (ps : List Piece) → length (spelled (body ++ p ∷ ps)) ≡ length (spelled body) + (length p.text + length (spelled ps))
+pub length_line : (body : List Piece) (p : Piece) (ps : List Piece) → length (spelled (body ++ p ∷ ps)) ≡ length (spelled body) + (length p.text + length (spelled ps))
 length_line body p ps = ap length (spelled-append body (p ∷ ps)) ∙ length-append (spelled body) (p.text ++ spelled ps) ∙ ap (λ (n : ℕ). length (spelled body) + n) (length-append p.text (spelled ps))
 
-within : (front others rivals body : List Piece) (last : Piece) (all : List Piece) → all ≡ front ++ others → EndsLine front → EndsNoLine 0 others → rivals ≡ body ++ last ∷ [] → depth_through 0 body ≡ 0 → Stays body last all → length (spelled rivals) ≤ length (spelled front)
+pub within : (front others rivals body : List Piece) (last : Piece) (all : List Piece) → all ≡ front ++ others → EndsLine front → EndsNoLine 0 others → rivals ≡ body ++ last ∷ [] → depth_through 0 body ≡ 0 → Stays body last all → length (spelled rivals) ≤ length (spelled front)
 within front others rivals body last all pieces ended none is deep stays = go (split front others body stays.line stays.others (sym pieces ∙ stays.is))
   where
     go : Split front others body stays.line stays.others → length (spelled rivals) ≤ length (spelled front)

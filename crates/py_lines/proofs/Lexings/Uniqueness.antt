@@ -4,16 +4,17 @@ use Rattle.std.proofs.Math.Seq.{take-append_seam}
 use Rattle.py_lines.specs.Piece.{Piece, spelled}
 use Rattle.py_lines.specs.LogicalLine.{LogicalLine, lines_of}
 use Rattle.py_lines.specs.Lexed.{Decodes, IsBalancedReading, IsFront, IsLexicalFault, IsLexedWhole, IsLexedToFault, IsLexed}
+use Rattle.py_lines.specs.Settled.{IsSettledFront, IsSettled}
 use Rattle.py_lines.specs.declared.fault.Fault.{Fault}
 use Rattle.py_lines.proofs.Machine.ReadingRuns.{one_reading_of}
 use Rattle.py_lines.proofs.Faults.Uniqueness.{one_fault_of}
 use Rattle.py_lines.proofs.Faults.FaultPrefixes.{fault_front}
 use Rattle.py_lines.proofs.Text.Utf8Prefixes.{one_decoding}
 
-decoded : (text a b s t : List ℕ) → Decodes text a s → Decodes text b t → (a ≡ b) × (s ≡ t)
+pub decoded : (text a b s t : List ℕ) → Decodes text a s → Decodes text b t → (a ≡ b) × (s ≡ t)
 decoded text a b s t d e = one_decoding a b s t d.are e.are d.bad e.bad (d.spell ∙ sym e.spell)
 
-same_reading : (p q : List Piece) (characters : List ℕ) → IsBalancedReading p characters → IsBalancedReading q characters → p ≡ q
+pub same_reading : (p q : List Piece) (characters : List ℕ) → IsBalancedReading p characters → IsBalancedReading q characters → p ≡ q
 same_reading p q characters r s = one_reading_of p q characters (record { spell = r.spell; fit = r.fit }) (record { spell = s.spell; fit = s.fit })
 
 -- prefixes of one length are the same
@@ -44,7 +45,7 @@ one_lexing_of text lines others (Some fault) (Some second) r s =
     r.cut ∙ ap lines_of (one_front r.pieces s.pieces s.characters (subst (λ (t : List ℕ). IsFront r.pieces t) same.0 r.front) s.front) ∙ sym s.cut
 
 -- its fault is of one kind, at one byte, on one line
-same_fault : (characters tail : List ℕ) (fault second : Fault) → IsLexicalFault characters tail fault → IsLexicalFault characters tail second → fault ≡ second
+pub same_fault : (characters tail : List ℕ) (fault second : Fault) → IsLexicalFault characters tail fault → IsLexicalFault characters tail second → fault ≡ second
 same_fault characters tail fault second f g =
     let is = one_fault_of characters tail fault.kind second.kind fault.offset second.offset f.place g.place in
     let at = fault_front fault.kind characters tail fault.offset f.place in
@@ -58,3 +59,17 @@ one_end_of text lines others (Some fault) None r s = absurd (never_both text oth
 one_end_of text lines others (Some fault) (Some second) r s =
     let same = decoded text r.characters s.characters r.tail s.tail r.decodes s.decodes in
     ap Some (same_fault s.characters s.tail fault second (subst (λ (t : List ℕ). IsLexicalFault t s.tail fault) same.0 (subst (λ (t : List ℕ). IsLexicalFault r.characters t fault) same.1 r.refused)) s.refused)
+
+-- the known bytes settle one list of lines
+one_settled_front : (p q : List Piece) (characters tail : List ℕ) → IsSettledFront p characters tail → IsSettledFront q characters tail → p ≡ q
+one_settled_front p q characters tail f g =
+    let shorter = f.longest q g.rest g.spell g.reading g.ended in
+    let longer = g.longest p f.rest f.spell f.reading f.ended in
+    let len : length (spelled p) ≡ length (spelled q) = omega (arith, shorter, longer) in
+    let same = same_front (spelled p) (spelled q) f.rest g.rest (f.spell ∙ sym g.spell) len in
+    same_reading p q (spelled q) (subst (λ (t : List ℕ). IsBalancedReading p t) same f.reading) g.reading
+
+pub one_settled : (text : List ℕ) (lines others : List LogicalLine) → IsSettled text lines → IsSettled text others → lines ≡ others
+one_settled text lines others r s =
+    let same = decoded text r.characters s.characters r.tail s.tail r.decodes s.decodes in
+    r.cut ∙ ap lines_of (one_settled_front r.pieces s.pieces s.characters s.tail (subst (λ (t : List ℕ). IsSettledFront r.pieces s.characters t) same.1 (subst (λ (t : List ℕ). IsSettledFront r.pieces t r.tail) same.0 r.front)) s.front) ∙ sym s.cut

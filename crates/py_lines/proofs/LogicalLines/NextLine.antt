@@ -1,6 +1,8 @@
 -- One more logical line after those given, and one more token after those of a line.
 use Rattle.std.proofs.Common.{◌≡◌, ℕ, ◌+◌, Bool, true, false, ◌&&◌, ◌==◌, List, [], ◌∷◌, ◌++◌, refl, sym, ap, ◌∙◌, subst, append_assoc, append-nil, add_assoc, arith}
+use Rattle.std.specs.Prelude.{encode_utf8_all}
 use Rattle.std.proofs.lemmas.Bool.{cond_both}
+use Rattle.std.proofs.lemmas.Str.{encodes-append}
 use Rattle.py_lines.specs.Character.{is_line_feed, is_return}
 use Rattle.py_lines.specs.Piece.{Piece, begins, ends, spelled, AreReadBefore}
 use Rattle.py_lines.specs.Balance.{depth_after}
@@ -119,3 +121,20 @@ tokens_from-append start line (p ∷ ps) qs =
     ∙ ap (λ (n : ℕ). tokens_from (start + b) (line + l) ps ++ tokens_from n ((line + l) + lines_in ps) qs) (add_assoc start b (byte_len (spelled ps)) ∙ ap (λ (n : ℕ). start + n) (sym (byte_len-append p.text (spelled ps))))
     ∙ ap (λ (n : ℕ). tokens_from (start + b) (line + l) ps ++ tokens_from (start + byte_len (p.text ++ spelled ps)) n qs) (add_assoc line l (lines_in ps)))
     ∙ sym (append_assoc here (tokens_from (start + b) (line + l) ps) _)
+
+-- the bytes of logical lines, one after another
+abbrev pub texts : List LogicalLine → List ℕ
+texts [] = []
+texts (l ∷ ls) = l.text ++ texts ls
+
+pub texts-append : (ls ms : List LogicalLine) → texts (ls ++ ms) ≡ texts ls ++ texts ms
+texts-append [] ms = refl
+texts-append (l ∷ ls) ms = ap (λ t. l.text ++ t) (texts-append ls ms) ∙ sym (append_assoc l.text (texts ls) (texts ms))
+
+texts_from : (offset line : ℕ) (us : List (List Piece)) → texts (lines_from offset line us) ≡ encode_utf8_all (parts_spelled us)
+texts_from offset line [] = refl
+texts_from offset line (u ∷ us) = ap (λ t. encode_utf8_all (spelled u) ++ t) (texts_from (offset + byte_len (spelled u)) (line + line_ends (spelled u)) us) ∙ sym (encodes-append (spelled u) (parts_spelled us))
+
+-- the logical lines of pieces hold the bytes that the pieces spell
+pub texts-lines : (ps : List Piece) → texts (lines_of ps) ≡ encode_utf8_all (spelled ps)
+texts-lines ps = texts_from 0 1 (cut 0 ps) ∙ ap encode_utf8_all (cut_spelled 0 ps)

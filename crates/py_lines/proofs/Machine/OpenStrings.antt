@@ -5,7 +5,7 @@ use Rattle.std.proofs.lemmas.Bool.{both_ways, false_from_ne_true}
 use Rattle.unicode_ident.proofs.Computing.{unicode_ident}
 use Rattle.py_lines.specs.Character.{is_mark, is_quote, is_word_start, is_digit, is_backslash}
 use Rattle.py_lines.specs.Piece.{Piece, IsPrefix, begins, is_item, is_short_item, joined, has_triple, spelled, AreReadBefore}
-use Rattle.py_lines.specs.Lexed.{IsUnescaped, IsShortFront, IsLongFront, InShortString, InLongString, BehindBackslash}
+use Rattle.py_lines.specs.Lexed.{IsUnescaped, IsShortFront, IsLongFront, IsSlash, InShortString, InLongString, BehindBackslash}
 use Rattle.py_lines.specs.declared.mode.Mode.{Mode}
 use Rattle.py_lines.specs.declared.mode.Mode.TheVariants as modes
 use Rattle.py_lines.specs.Private.Machine.{Scanned, text_start, run_from, in_short, in_long, is_behind_slash}
@@ -101,16 +101,7 @@ slash_held modes.Backslash done held holds is = holds
 slash_held m done held holds is = absurd (both_ways _ refl is)
 
 pub behind_backslash : (s : Scanned) (read : List ℕ) → IsSound s read → is_behind_slash s.mode ≡ true → BehindBackslash read (spelled s.done)
-behind_backslash s read sound is =
-    let holds = slash_held s.mode s.done s.held sound.holds is in
-    record {
-      pieces = s.done;
-      slash = holds.0;
-      spell = ap (λ t. spelled s.done ++ t) (sym holds.1) ∙ sound.spell;
-      before = refl;
-      fit = subst (AreReadBefore s.done) holds.1 (fit_held s read sound);
-      slashes = holds.2;
-    }
+behind_backslash s read sound is = record { pieces = s.done; front = s.held; spell = sound.spell; before = refl; fit = fit_held s read sound; inside = slash_held s.mode s.done s.held sound.holds is }
 
 -- a string and a backslash don't begin with a mark
 start-not-mark : (c : ℕ) → is_word_start c ≡ true → is_mark c ≡ false
@@ -235,11 +226,14 @@ stands_in_long characters start long =
     (ap (run_from (Some reached.to)) front.spell ∙ long_opened reached.to front.prefix q body front.begun front.opens stops ∙ inner.runs)
 
 pub stands_behind_slash : (characters start : List ℕ) → BehindBackslash characters start → StandsIn is_behind_slash characters start
-stands_behind_slash characters start behind =
-    let reached = reach behind.pieces (behind.slash ∷ []) behind.fit in
-    let stops = reached.stops (may_begin behind.pieces (behind.slash ∷ []) (slash-not-mark behind.slash behind.slashes)) in
-    stands_in is_behind_slash characters start behind.pieces (behind.slash ∷ []) reached modes.Backslash (behind.slash ∷ []) behind.spell behind.before refl
-    (begun reached.to behind.slash [] [] _ stops (start-slash behind.slash behind.slashes))
+stands_behind_slash characters start behind = go behind.inside
+  where
+    go : IsSlash behind.front → StandsIn is_behind_slash characters start
+    go (slash, is, slashes) =
+        let reached = reach behind.pieces (slash ∷ []) (subst (AreReadBefore behind.pieces) is behind.fit) in
+        let stops = reached.stops (may_begin behind.pieces (slash ∷ []) (slash-not-mark slash slashes)) in
+        stands_in is_behind_slash characters start behind.pieces (slash ∷ []) reached modes.Backslash (slash ∷ []) (ap (λ t. start ++ t) (sym is) ∙ behind.spell) behind.before refl
+        (begun reached.to slash [] [] _ stops (start-slash slash slashes))
 
 -- so the mode says what is open
 pub same_state : (cs : List ℕ) (s t : Scanned) → run_from (Some text_start) cs ≡ Some s → run_from (Some text_start) cs ≡ Some t → s ≡ t

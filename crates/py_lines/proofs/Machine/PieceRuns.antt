@@ -72,13 +72,13 @@ grow-space : (c : ℕ) → is_space c ≡ true → move_of modes.Space c ≡ mov
 unfolding move_of
 grow-space c h = rw h
 
-run_space : (done : List Piece) (held others : List ℕ) → list_all is_space others ≡ true → run_from (Some (scanned done modes.Space held)) others ≡ Some (scanned done modes.Space (held ++ others))
+pub run_space : (done : List Piece) (held others : List ℕ) → list_all is_space others ≡ true → run_from (Some (scanned done modes.Space held)) others ≡ Some (scanned done modes.Space (held ++ others))
 run_space done held [] h = all_held done modes.Space held
 run_space done held (c ∷ cs) h =
     let parts = and_parts (is_space c) (list_all is_space cs) h in
     grown done _ _ held c cs (grow-space c parts.0) ∙ run_space done (held ++ c ∷ []) cs parts.1 ∙ longer done modes.Space held c cs
 
-stops-space : (rest : List ℕ) → begins is_space rest ≡ false → StopsBefore modes.Space rest
+pub stops-space : (rest : List ℕ) → begins is_space rest ≡ false → StopsBefore modes.Space rest
 unfolding move_of
 stops-space [] h = refl
 stops-space (c ∷ cs) h = rw h
@@ -104,7 +104,7 @@ run_word done s held (c ∷ cs) h =
     let parts = and_parts (is_word_character c) (list_all is_word_character cs) h in
     grown done _ _ held c cs (grow-word s c parts.0) ∙ run_word done (spelling_with s c) (held ++ c ∷ []) cs parts.1 ∙ longer done _ held c cs
 
-stops-word : (s : Spelling) (rest : List ℕ) → begins is_word_character rest ≡ false → is_prefix_spelling s && begins is_quote rest ≡ false → StopsBefore (modes.Word s) rest
+pub stops-word : (s : Spelling) (rest : List ℕ) → begins is_word_character rest ≡ false → is_prefix_spelling s && begins is_quote rest ≡ false → StopsBefore (modes.Word s) rest
 unfolding move_of
 stops-word s [] h k = refl
 stops-word s (c ∷ cs) h k = rw (h, k)

@@ -29,9 +29,9 @@ use Rattle.py_lines.proofs.Machine.LiveTexts.{keeps}
 use Rattle.py_lines.proofs.Pieces.OpenBrackets.{stack-from_balanced}
 use Rattle.py_lines.proofs.Lexings.Answers.{IsLineOf, HasFront, refused_at_character}
 use Rattle.py_lines.proofs.LogicalLines.Cuts.{byte_len-append}
-use Rattle.py_lines.proofs.Scanner.NextCharacter.{closed_one_line}
-use Rattle.py_lines.proofs.Scanner.LineRun.{sound_run, way_stop}
-use Rattle.py_lines.proofs.Scanner.TextRun.{begun_sound, base_of, Joined, joined, dead_at}
+use Rattle.py_lines.proofs.LineScan.NextCharacter.{closed_one_line}
+use Rattle.py_lines.proofs.LineScan.LineRun.{sound_run, way_stop}
+use Rattle.py_lines.proofs.LineScan.TextRun.{begun_sound, base_of, Joined, joined, dead_at}
 use Rattle.py_lines.proofs.Lexings.GivenLines.{Situation, base_lines}
 use Rattle.py_lines.proofs.Readers.LineAnswers.{situation, Within, front_spells, all_within}
 
@@ -57,7 +57,7 @@ open_return modes.Return done held c [] stacked refuses not_yet is =
     (λ other none. both_ways _ not_yet (ap not other)) refuses)
 open_return m done held c st stacked refuses not_yet is = absurd (cc)
 
-same_kind : (m n : Mode) (c : ℕ) → in_short m ≡ in_short n → is_behind_slash m ≡ is_behind_slash n → character_kind m c ≡ character_kind n c
+pub same_kind : (m n : Mode) (c : ℕ) → in_short m ≡ in_short n → is_behind_slash m ≡ is_behind_slash n → character_kind m c ≡ character_kind n c
 same_kind m n c short slash = rw (short, slash) refl
 
 place_by : (b : Bool) (place k start stop done whole : ℕ) → place ≡ k → (b ≡ true → done ≡ k + start) → whole ≡ k + stop → place + (if b then start else stop) ≡ (if b then done else whole)
@@ -71,29 +71,29 @@ module _ (old : Source) (stop : Stop) (has : HasScanned old stop) where
   abbrev pub here : (lines : List LogicalLine) → HasGiven (reader_of old) lines → Situation (reader_of old) old.characters.now lines has.scans.read has.scans.rest
   here lines given = situation old stop lines has given
 
-  pub base_fit : (lines : List LogicalLine) (given : HasGiven (reader_of old) lines) → AreReadBefore (here lines given).given.pieces (has.scans.read ++ (here lines given).after)
-  base_fit lines given = subst (AreReadBefore (here lines given).given.pieces) (here lines given).split (here lines given).given.fit
+  pub base_fit : (lines : List LogicalLine) (given : HasGiven (reader_of old) lines) → AreReadBefore (here lines given).given.first.pieces (has.scans.read ++ (here lines given).after)
+  base_fit lines given = subst (AreReadBefore (here lines given).given.first.pieces) (here lines given).split (here lines given).given.first.fit
 
-  pub level : (lines : List LogicalLine) (given : HasGiven (reader_of old) lines) → brackets_of (here lines given).given.pieces ≡ Some []
-  level lines given = stack-from_balanced (here lines given).given.pieces (here lines given).given.balanced (here lines given).given.shallow
+  pub level : (lines : List LogicalLine) (given : HasGiven (reader_of old) lines) → brackets_of (here lines given).given.first.pieces ≡ Some []
+  level lines given = stack-from_balanced (here lines given).given.first.pieces (here lines given).given.first.balanced (here lines given).given.first.shallow
 
   -- the machine over the whole text so far
-  pub joins : (lines : List LogicalLine) (given : HasGiven (reader_of old) lines) (way : IsUnderWay (first_mode old.place) old.scan has.scans.read) → Joined (here lines given).given.pieces has.scans.read way.state (stack_of old.scan.brackets) (here lines given).after
+  pub joins : (lines : List LogicalLine) (given : HasGiven (reader_of old) lines) (way : IsUnderWay (first_mode old.place) old.scan has.scans.read) → Joined (here lines given).given.first.pieces has.scans.read way.state (stack_of old.scan.brackets) (here lines given).after
   joins lines given way =
       let s = here lines given in
-      joined old.place s.given.pieces s.after (level lines given) has.scans.read way.state (stack_of old.scan.brackets) (base_fit lines given)
-      (base_of old.place s.given.pieces (has.scans.read ++ s.after) (base_fit lines given) s.ends s.given.place) way.runs way.stacked
+      joined old.place s.given.first.pieces s.after (level lines given) has.scans.read way.state (stack_of old.scan.brackets) (base_fit lines given)
+      (base_of old.place s.given.first.pieces (has.scans.read ++ s.after) (base_fit lines given) s.ends s.given.first.here) way.runs way.stacked
 
-  pub whole : (lines : List LogicalLine) (given : HasGiven (reader_of old) lines) → (spelled (here lines given).given.pieces ++ has.scans.read) ++ (here lines given).after ≡ (here lines given).given.characters
+  pub whole : (lines : List LogicalLine) (given : HasGiven (reader_of old) lines) → (spelled (here lines given).given.first.pieces ++ has.scans.read) ++ (here lines given).after ≡ (here lines given).given.first.characters
   whole lines given =
       let s = here lines given in
-      append_assoc (spelled s.given.pieces) has.scans.read s.after ∙ ap (λ t. spelled s.given.pieces ++ t) (sym s.split) ∙ s.given.spell
+      append_assoc (spelled s.given.first.pieces) has.scans.read s.after ∙ ap (λ t. spelled s.given.first.pieces ++ t) (sym s.split) ∙ s.given.first.spell
 
   -- the line of a place in the line that was being read
-  pub line_of_fault : (lines : List LogicalLine) (given : HasGiven (reader_of old) lines) (kind : FaultKind) (behind : ℕ) (fault : Fault) → IsFaultAfter old kind behind fault → Within has.scans.read behind → IsLineOf fault (here lines given).given.characters
+  pub line_of_fault : (lines : List LogicalLine) (given : HasGiven (reader_of old) lines) (kind : FaultKind) (behind : ℕ) (fault : Fault) → IsFaultAfter old kind behind fault → Within has.scans.read behind → IsLineOf fault (here lines given).given.first.characters
   line_of_fault lines given kind behind fault at w =
       let s = here lines given in
-      let base = s.given.pieces in
+      let base = s.given.first.pieces in
       let taken : encode_utf8_all w.front ≡ take behind (drop old.place old.characters.now)
       = sym (ap (take behind) (sym (front_spells old stop has behind w)) ∙ ap (λ (n : ℕ). take n (encode_utf8_all w.front ++ (encode_utf8_all w.later ++ has.scans.rest))) w.size ∙ take-append_seam (encode_utf8_all w.front) (encode_utf8_all w.later ++ has.scans.rest)) in
       let split : w.front ++ (w.later ++ s.after) ≡ has.scans.read ++ s.after = sym (append_assoc w.front w.later s.after) ∙ ap (λ t. t ++ s.after) w.split in
@@ -101,12 +101,12 @@ module _ (old : Source) (stop : Stop) (has : HasScanned old stop) where
         front = spelled base ++ w.front;
         rest = w.later ++ s.after;
         spell = append_assoc (spelled base) w.front (w.later ++ s.after) ∙ ap (λ t. spelled base ++ t) split ∙ sym (append_assoc (spelled base) has.scans.read s.after) ∙ whole lines given;
-        place = omega (arith, at.place, w.size, s.given.place, byte_len-append (spelled base) w.front);
-        line = omega (arith, at.line w.front taken, s.given.line, base_lines base w.front (w.later ++ s.after) (subst (AreReadBefore base) (sym split) (base_fit lines given)));
+        place = omega (arith, at.place, w.size, s.given.first.here, byte_len-append (spelled base) w.front);
+        line = omega (arith, at.line w.front taken, s.given.first.number, base_lines base w.front (w.later ++ s.after) (subst (AreReadBefore base) (sym split) (base_fit lines given)));
       }
 
   -- the lines given are the prefix
-  pub has_front : (lines : List LogicalLine) (given : HasGiven (reader_of old) lines) (way : IsUnderWay (first_mode old.place) old.scan has.scans.read) → (way.state.mode ≡ modes.Return → none_open (stack_of old.scan.brackets) ≡ false) → HasFront (joins lines given way).state (here lines given).given.pieces
+  pub has_front : (lines : List LogicalLine) (given : HasGiven (reader_of old) lines) (way : IsUnderWay (first_mode old.place) old.scan has.scans.read) → (way.state.mode ≡ modes.Return → none_open (stack_of old.scan.brackets) ≡ false) → HasFront (joins lines given way).state (here lines given).given.first.pieces
   has_front lines given way open_yet = record {
     others = pieces_at way.state;
     spell = (joins lines given way).pieces;
@@ -121,15 +121,15 @@ module _ (old : Source) (stop : Stop) (has : HasScanned old stop) where
       (λ h. record { front = spelled way.state.done; later = way.state.held; split = sound.spell; size = way.tallies.start })
       (λ h. all_within has.scans.read old.scan.stop (way_stop (first_mode old.place) old.scan has.scans.read way start_sound))
 
-  refused_offset : (lines : List LogicalLine) (given : HasGiven (reader_of old) lines) (way : IsUnderWay (first_mode old.place) old.scan has.scans.read) → old.place + refused_place old.scan ≡ character_place (joins lines given way).state (spelled (here lines given).given.pieces ++ has.scans.read)
+  refused_offset : (lines : List LogicalLine) (given : HasGiven (reader_of old) lines) (way : IsUnderWay (first_mode old.place) old.scan has.scans.read) → old.place + refused_place old.scan ≡ character_place (joins lines given way).state (spelled (here lines given).given.first.pieces ++ has.scans.read)
   refused_offset lines given way =
       let j = joins lines given way in
       let s = here lines given in
-      let base = s.given.pieces in
+      let base = s.given.first.pieces in
       let flags : in_short old.scan.mode || is_behind_slash old.scan.mode ≡ in_short way.state.mode || is_behind_slash way.state.mode = ap (λ (m : Mode). in_short m || is_behind_slash m) way.tallies.mode in
       let state_flags : in_short way.state.mode || is_behind_slash way.state.mode ≡ in_short j.state.mode || is_behind_slash j.state.mode = ap (λ (b : Bool). b || is_behind_slash way.state.mode) (sym j.short) ∙ ap (λ (b : Bool). in_short j.state.mode || b) (sym j.slash) in
       ap (λ (b : Bool). old.place + (if b then old.scan.start else old.scan.stop)) flags
-      ∙ place_by (in_short way.state.mode || is_behind_slash way.state.mode) old.place (byte_len (spelled base)) old.scan.start old.scan.stop (byte_len (spelled j.state.done)) (byte_len (spelled base ++ has.scans.read)) s.given.place
+      ∙ place_by (in_short way.state.mode || is_behind_slash way.state.mode) old.place (byte_len (spelled base)) old.scan.start old.scan.stop (byte_len (spelled j.state.done)) (byte_len (spelled base ++ has.scans.read)) s.given.first.here
       (λ h. j.start h ∙ ap (λ (n : ℕ). byte_len (spelled base) + n) (sym way.tallies.start))
       (byte_len-append (spelled base) has.scans.read ∙ ap (λ (n : ℕ). byte_len (spelled base) + n) (sym (way_stop (first_mode old.place) old.scan has.scans.read way start_sound)))
       ∙ ap (λ (b : Bool). if b then byte_len (spelled j.state.done) else byte_len (spelled base ++ has.scans.read)) state_flags
@@ -145,10 +145,10 @@ fails_at_character old new c kind error has at kind_is =
     let j = joins old stop has lines given way in
     let follows : s.after ≡ c ∷ more = encodes_same s.after (c ∷ more) (s.follow ∙ has.scans.stops.2) in
     let open_yet = open_return way.state.mode way.state.done way.state.held c (stack_of old.scan.brackets) way.stacked has.scans.stops.3 (ap (λ (m : Mode). (is_return_mode m && none_open (stack_of old.scan.brackets)) && not (is_line_feed c)) (sym way.tallies.mode) ∙ has.scans.stops.4) in
-    let spell = ap (λ t. (spelled s.given.pieces ++ has.scans.read) ++ t) (sym follows) ∙ whole old stop has lines given in
-    subst (λ l. IsLexedToFault old.bytes.now l at.fault) (sym s.given.cut)
-    (refused_at_character old.bytes.now s.given.characters s.given.tail (spelled s.given.pieces ++ has.scans.read) more c j.state j.st s.given.pieces at.fault s.given.decodes spell j.runs
-    (dead_at s.given.pieces has.scans.read s.after more way.state (stack_of old.scan.brackets) c j (level old stop has lines given) follows has.scans.stops.3)
+    let spell = ap (λ t. (spelled s.given.first.pieces ++ has.scans.read) ++ t) (sym follows) ∙ whole old stop has lines given in
+    subst (λ l. IsLexedToFault old.bytes.now l at.fault) (sym s.given.first.cut)
+    (refused_at_character old.bytes.now s.given.first.characters s.given.first.tail (spelled s.given.first.pieces ++ has.scans.read) more c j.state j.st s.given.first.pieces at.fault s.given.first.decodes spell j.runs
+    (dead_at s.given.first.pieces has.scans.read s.after more way.state (stack_of old.scan.brackets) c j (level old stop has lines given) follows has.scans.stops.3)
     (has_front old stop has lines given way open_yet)
     (at.at.is ∙ kind_is ∙ ap (λ (m : Mode). character_kind m c) way.tallies.mode ∙ same_kind way.state.mode j.state.mode c (sym j.short) (sym j.slash))
     (at.at.place ∙ refused_offset old stop has lines given way)

@@ -12,11 +12,12 @@ use Rattle.py_lines.specs.Balance.{depth_after}
 use Rattle.py_lines.specs.Balance as brackets
 use Rattle.py_lines.specs.Reader.{HasGiven, Continues, standing_at}
 use Rattle.py_lines.specs.Private.Machine.{Scanned, run_from, brackets_of}
+use Rattle.py_lines.specs.declared.mode.Mode.{Mode}
 use Rattle.py_lines.specs.declared.scan.Scan.{Scan}
 use Rattle.py_lines.specs.declared.scan.Stop.{Stop}
 use Rattle.py_lines.specs.declared.scan.Stop.TheVariants as stops
 use Rattle.py_lines.specs.declared.source.Source.{Source}
-use Rattle.py_lines.specs.Private.Scan.{line_start}
+use Rattle.py_lines.specs.Private.Scan.{IsAtLineEnd, line_start}
 use Rattle.py_lines.specs.Reader.View.{reader_of}
 use Rattle.py_lines.specs.Private.Source.{line_of_source, first_mode, PassesLine, HasScanned}
 use Rattle.py_lines.specs.Token.{EachLiesIn}
@@ -25,10 +26,10 @@ use Rattle.py_lines.proofs.Pieces.PieceLists.{spelled-append, AreReadBefore-seco
 use Rattle.py_lines.proofs.Lexings.LinePrefix.{line_first}
 use Rattle.py_lines.proofs.LogicalLines.TokenPlaces.{tokens_lie}
 use Rattle.py_lines.proofs.LogicalLines.Cuts.{byte_len-append, one_line}
-use Rattle.py_lines.proofs.Scanner.LineCount.{line_ends-bytes}
-use Rattle.py_lines.proofs.Scanner.TextRun.{base_of, follows_base}
+use Rattle.py_lines.proofs.LineScan.LineCount.{line_ends-bytes}
+use Rattle.py_lines.proofs.LineScan.TextRun.{base_of, follows_base}
 use Rattle.py_lines.proofs.Lexings.GivenLines.{Situation, situate, IsEnded, one_more}
-use Rattle.py_lines.proofs.Scanner.PieceEnd.{no_class_bracket}
+use Rattle.py_lines.proofs.LineScan.PieceEnd.{no_class_bracket}
 use Rattle.py_lines.proofs.Lexings.FirstLines.{given_begin}
 
 -- the pieces of a line that was scanned whole, and what the scan says of them
@@ -99,7 +100,7 @@ lie_in_line new offset number u is scalars = subst (λ (l : LogicalLine). EachLi
 -- one more line was given
 pub continues : (old mid new : Source) (stop : Stop) (has : HasScanned old stop) (end_len : ℕ) (u : List Piece) → IsLine (line_start (first_mode old.place)) mid.scan has.scans.read end_len u → mid.bytes ≡ old.bytes → mid.place ≡ old.place → mid.fault ≡ old.fault → mid.characters ≡ old.characters → mid.scan.line ≡ old.scan.line → PassesLine mid end_len new
     → ((lines : List LogicalLine) (s : Situation (reader_of old) old.characters.now lines has.scans.read has.scans.rest) → AreReadBefore u s.after)
-    → ((lines : List LogicalLine) (s : Situation (reader_of old) old.characters.now lines has.scans.read has.scans.rest) → IsEnded u (s.after ++ s.given.tail ≡ []))
+    → ((lines : List LogicalLine) (s : Situation (reader_of old) old.characters.now lines has.scans.read has.scans.rest) → IsEnded u (s.after ++ s.given.first.tail ≡ []))
     → Continues (reader_of old) (line_of_source new) (reader_of new) × EachLiesIn (line_of_source new).text new.scan.tokens.items
 continues old mid new stop has end_len u line bytes place fault characters same gives fit ended =
     let is = given_line old mid new stop has end_len u line place characters same gives in
@@ -111,9 +112,9 @@ continues old mid new stop has end_len u line bytes place fault characters same 
     let more : (lines : List LogicalLine) → HasGiven (reader_of old) lines → HasGiven (reader_of new) (lines ++ line_of_source new ∷ [])
     = λ lines given.
     let s = situation old stop lines has given in
-    let base_fit = subst (AreReadBefore s.given.pieces) s.split s.given.fit in
-    let base = base_of old.place s.given.pieces (has.scans.read ++ s.after) base_fit s.ends s.given.place in
-    subst (λ (l : LogicalLine). HasGiven (reader_of new) (lines ++ l ∷ [])) (sym is) (one_more (reader_of old) (reader_of new) old.characters.now lines has.scans.read has.scans.rest u s line.spell (fit lines s) (follows_base old.place s.given.pieces u has.scans.read s.after line.to base line.spell (fit lines s) line.runs) line.stacked line.whole (ended lines s) text here reached no_fault) in (
+    let base_fit = subst (AreReadBefore s.given.first.pieces) s.split s.given.first.fit in
+    let base = base_of old.place s.given.first.pieces (has.scans.read ++ s.after) base_fit s.ends s.given.first.here in
+    subst (λ (l : LogicalLine). HasGiven (reader_of new) (lines ++ l ∷ [])) (sym is) (one_more (reader_of old) (reader_of new) old.characters.now lines has.scans.read has.scans.rest u s line.spell (fit lines s) (follows_base old.place s.given.first.pieces u has.scans.read s.after line.to base line.spell (fit lines s) line.runs) line.stacked line.whole (ended lines s) text here reached no_fault) in (
       record {
         given = more;
         begins = λ lines given. given_begin (reader_of new) (lines ++ line_of_source new ∷ []) (more lines given);
@@ -128,7 +129,7 @@ continues old mid new stop has end_len u line bytes place fault characters same 
     )
 
 -- the bytes of the line end after pieces
-end_len-push : (ps : List Piece) (p : Piece) → p.class ≡ line_end → end_len_of (ps ++ p ∷ []) ≡ byte_len p.text
+pub end_len-push : (ps : List Piece) (p : Piece) → p.class ≡ line_end → end_len_of (ps ++ p ∷ []) ≡ byte_len p.text
 end_len-push [] p ends = ap (λ (k : Class). end_len_of (record { class = k; text = p.text } ∷ [])) ends
 end_len-push (q ∷ []) p ends = ap (λ (k : Class). end_len_of (record { class = k; text = p.text } ∷ [])) ends
 end_len-push (q ∷ r ∷ rs) p ends = end_len-push (r ∷ rs) p ends
@@ -148,9 +149,8 @@ unfolding has_after all_within
 after_is old len has = (rest_text old (stops.LineEnd len) has (byte_len has.scans.read) (all_within has.scans.read (byte_len has.scans.read) refl)).1.1
 
 -- a line with its line end
-pub line_ended : (old : Source) (len : ℕ) (has : HasScanned old (stops.LineEnd len)) → IsLine (line_start (first_mode old.place)) old.scan has.scans.read len (has.scans.stops.body ++ has.scans.stops.last ∷ [])
-line_ended old len has =
-    let at = has.scans.stops in
+pub line_at_end : (m : Mode) (scan : Scan) (read rest : List ℕ) (len : ℕ) (at : IsAtLineEnd m scan read rest len) (after : List ℕ) → encode_utf8_all after ≡ rest → IsLine (line_start m) scan read len (at.body ++ at.last ∷ [])
+line_at_end m scan read rest len at after is =
     let t = at.tallies in
     let spell = append-nil (spelled (at.body ++ at.last ∷ [])) ∙ at.spell in
     record {
@@ -160,13 +160,16 @@ line_ended old len has =
       whole = one_line 0 at.body at.last at.are.one_line at.are.class at.are.level;
       stacked = no_class_bracket at.body at.last at.are.class at.are.paired;
       stop = t.stop ∙ ap byte_len spell;
-      here = t.here ∙ ap (λ l. old.scan.line + line_ends l) spell;
+      here = t.here ∙ ap (λ l. scan.line + line_ends l) spell;
       tokens = t.tokens;
       kind = t.kind;
       indent = t.indent;
       ends = at.are.size ∙ sym (end_len-push at.body at.last at.are.class);
-      some = omega (arith, ap byte_len (sym at.spell ∙ spelled-append at.body (at.last ∷ [])), byte_len-append (spelled at.body) (at.last.text ++ []), ap byte_len (append-nil at.last.text), first_bytes at.last at.are.class (AreReadBefore-second at.body (at.last ∷ []) (has_after old len has) (at.fit (has_after old len has) (after_is old len has))).0);
+      some = omega (arith, ap byte_len (sym at.spell ∙ spelled-append at.body (at.last ∷ [])), byte_len-append (spelled at.body) (at.last.text ++ []), ap byte_len (append-nil at.last.text), first_bytes at.last at.are.class (AreReadBefore-second at.body (at.last ∷ []) after (at.fit after is)).0);
     }
+
+pub line_ended : (old : Source) (len : ℕ) (has : HasScanned old (stops.LineEnd len)) → IsLine (line_start (first_mode old.place)) old.scan has.scans.read len (has.scans.stops.body ++ has.scans.stops.last ∷ [])
+line_ended old len has = line_at_end (first_mode old.place) old.scan has.scans.read has.scans.rest len has.scans.stops (has_after old len has) (after_is old len has)
 
 -- a line that its line end closed
 pub continues_line : (old new : Source) (len : ℕ) (has : HasScanned old (stops.LineEnd len)) → PassesLine old len new → Continues (reader_of old) (line_of_source new) (reader_of new) × EachLiesIn (line_of_source new).text new.scan.tokens.items
@@ -184,20 +187,22 @@ pub start_given : (s : Source) → s.place ≡ 0 → s.line ≡ 1 → s.fault �
 start_given s place line fault =
     let utf8 = IsUtf8-had _ s.text in
     record {
-      characters = utf8.0;
-      tail = drop (length s.characters.now) s.bytes.now;
-      pieces = [];
-      rest = utf8.0;
-      decodes = record { are = utf8.1.0; spell = ap (λ t. t ++ drop (length s.characters.now) s.bytes.now) (utf8.1.1 ∙ s.front) ∙ take-append-drop (length s.characters.now) s.bytes.now; bad = s.bad };
-      spell = refl;
-      fit = tt;
-      balanced = brackets.none [] refl;
-      shallow = tt;
-      ended = inl (inl refl);
-      place = place;
-      line = line;
+      first = record {
+        characters = utf8.0;
+        tail = drop (length s.characters.now) s.bytes.now;
+        pieces = [];
+        rest = utf8.0;
+        decodes = record { are = utf8.1.0; spell = ap (λ t. t ++ drop (length s.characters.now) s.bytes.now) (utf8.1.1 ∙ s.front) ∙ take-append-drop (length s.characters.now) s.bytes.now; bad = s.bad };
+        spell = refl;
+        fit = tt;
+        balanced = brackets.none [] refl;
+        shallow = tt;
+        ended = inl (inl refl, λ none. refl);
+        here = place;
+        number = line;
+        cut = refl;
+      };
       no_fault = fault;
-      cut = refl;
     }
 
 -- where lines that a reader has given end, a character begins, and the lines before it are no more than its bytes
@@ -208,13 +213,13 @@ pub record Stands (s : Source) (place line : ℕ) : Type 0 where
 pub given_stands : (s : Source) (place line : ℕ) (lines : List LogicalLine) → HasGiven (standing_at s.bytes.now place line) lines → Stands s place line
 given_stands s place line lines given =
     let utf8 = IsUtf8-had _ s.text in
-    let spelling = encode_utf8_all (spelled given.pieces) in
-    let whole : encode_utf8_all utf8.0 ++ drop (length s.characters.now) s.bytes.now ≡ encode_utf8_all given.characters ++ given.tail
-    = ap (λ t. t ++ drop (length s.characters.now) s.bytes.now) (utf8.1.1 ∙ s.front) ∙ take-append-drop (length s.characters.now) s.bytes.now ∙ sym given.decodes.spell in
-    let same = one_decoding utf8.0 given.characters (drop (length s.characters.now) s.bytes.now) given.tail utf8.1.0 given.decodes.are s.bad given.decodes.bad whole in
-    let split : s.characters.now ≡ spelling ++ encode_utf8_all given.rest = sym utf8.1.1 ∙ ap encode_utf8_all (same.0 ∙ sym given.spell) ∙ encodes-append (spelled given.pieces) given.rest in
-    let scalars = (all_scalars-parts (spelled given.pieces) given.rest (ap all_scalars given.spell ∙ given.decodes.are)).1 in
+    let spelling = encode_utf8_all (spelled given.first.pieces) in
+    let whole : encode_utf8_all utf8.0 ++ drop (length s.characters.now) s.bytes.now ≡ encode_utf8_all given.first.characters ++ given.first.tail
+    = ap (λ t. t ++ drop (length s.characters.now) s.bytes.now) (utf8.1.1 ∙ s.front) ∙ take-append-drop (length s.characters.now) s.bytes.now ∙ sym given.first.decodes.spell in
+    let same = one_decoding utf8.0 given.first.characters (drop (length s.characters.now) s.bytes.now) given.first.tail utf8.1.0 given.first.decodes.are s.bad given.first.decodes.bad whole in
+    let split : s.characters.now ≡ spelling ++ encode_utf8_all given.first.rest = sym utf8.1.1 ∙ ap encode_utf8_all (same.0 ∙ sym given.first.spell) ∙ encodes-append (spelled given.first.pieces) given.first.rest in
+    let scalars = (all_scalars-parts (spelled given.first.pieces) given.first.rest (ap all_scalars given.first.spell ∙ given.first.decodes.are)).1 in
     record {
-      boundary = subst (IsCharBoundary s.characters.now) (sym given.place) (IsCharBoundary-at_seam s.characters.now spelling (encode_utf8_all given.rest) split (given.rest, (scalars, refl)));
-      few_lines = omega (arith, given.place, given.line, line_ends-bytes (spelled given.pieces));
+      boundary = subst (IsCharBoundary s.characters.now) (sym given.first.here) (IsCharBoundary-at_seam s.characters.now spelling (encode_utf8_all given.first.rest) split (given.first.rest, (scalars, refl)));
+      few_lines = omega (arith, given.first.here, given.first.number, line_ends-bytes (spelled given.first.pieces));
     }

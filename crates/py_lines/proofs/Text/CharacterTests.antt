@@ -40,6 +40,10 @@ pub feed_is : (c : ℕ) → is_line_feed c ≡ true → c ≡ 10
 unfolding is_line_feed
 feed_is c h = the_one 10 c h
 
+pub feed_from : (c : ℕ) → c ≡ 10 → is_line_feed c ≡ true
+unfolding is_line_feed
+feed_from c same = ap (is_one_of (10 ∷ [])) same
+
 pub return_is : (c : ℕ) → is_return c ≡ true → c ≡ 13
 unfolding is_return
 return_is c h = the_one 13 c h

@@ -1,5 +1,5 @@
 -- Characters that a text begins with.
-use Rattle.std.proofs.Common.{◌≡◌, ℕ, ◌+◌, ◌<◌, ◌≤◌, length, take, drop, arith, length-append, true, List, [], ◌∷◌, ◌++◌, refl, sym, ap, ◌∙◌, subst, append_assoc}
+use Rattle.std.proofs.Common.{◌≡◌, ℕ, ◌+◌, ◌≤◌, length, take, drop, arith, length-append, true, List, [], ◌∷◌, ◌++◌, refl, sym, ap, ◌∙◌, subst, append_assoc}
 use Rattle.std.specs.Prelude.{encode_utf8_all, encode_utf8}
 use Rattle.std.specs.Str.{all_scalars}
 use Rattle.std.specs.Str.{StartsWithNoChar, IsValidUpTo, IsUtf8}
@@ -63,8 +63,8 @@ shorter_front (c ∷ cs) (d ∷ ds) x y e short =
     let others = shorter_front cs ds x y rest (omega (arith, length-append (encode_utf8 c) (encode_utf8_all cs), length-append (encode_utf8 d) (encode_utf8_all ds), bytes, short)) in
     (others.0, (λ i. sym same i ∷ others.1 i))
 
--- of two prefixes of one list of characters the one of fewer characters has fewer bytes
-pub bytes_in : (a b x y : List ℕ) → a ++ x ≡ b ++ y → length a < length b → length (encode_utf8_all a) ≤ length (encode_utf8_all b)
+-- of two prefixes of one list of characters the one of no more characters has no more bytes
+pub bytes_in : (a b x y : List ℕ) → a ++ x ≡ b ++ y → length a ≤ length b → length (encode_utf8_all a) ≤ length (encode_utf8_all b)
 bytes_in [] b x y e less = omega arith
 bytes_in (c ∷ cs) [] x y e less = absurd (omega arith)
 bytes_in (c ∷ cs) (d ∷ ds) x y e less =

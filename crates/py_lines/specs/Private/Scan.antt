@@ -1,10 +1,10 @@
 -- What the scan of one logical line holds, in the words of the machine. It serves the contracts of private functions.
-use Rattle.std.specs.Prelude.{◌≡◌, ℕ, ◌+◌, ◌-◌, ◌==◌, ◌&&◌, ◌||◌, not, Bool, true, false, Option, None, Some, Result, Ok, Err, List, [], ◌∷◌, ◌++◌, encode_utf8_all, if◌then◌else◌}
+use Rattle.std.specs.Prelude.{◌≡◌, ℕ, ◌+◌, ◌-◌, ◌==◌, ◌&&◌, ◌||◌, not, Bool, true, false, Option, None, Some, Result, Ok, Err, List, [], ◌∷◌, ◌++◌, encode_utf8_all, if◌then◌else◌, ◌⊎◌}
 use Rattle.std.specs.Str.{all_scalars}
 use Rattle.std.specs.Char.{len_utf8}
 use Rattle.std.specs.declared.alloc.AllocError.{AllocError}
 use Rattle.py_lines.specs.Character.{is_return, is_line_feed}
-use Rattle.py_lines.specs.Piece.{operator, line_end, Piece, ends, is_mark_class, spelled, AreReadBefore}
+use Rattle.py_lines.specs.Piece.{operator, line_end, Piece, ends, is_mark_class, spelled, AreReadBefore, begins}
 use Rattle.py_lines.specs.Balance.{depth_after, depth_through}
 use Rattle.py_lines.specs.LogicalLine.{byte_len, line_ends, tokens_from, indent_of, kind_of, is_line_end_class}
 use Rattle.py_lines.specs.Private.Machine.{Scanned, fresh, step, run_from, token_of, Bracket, brackets_behind, brackets_of, in_short, is_behind_slash}
@@ -303,6 +303,29 @@ pub record Scans (m : Mode) (text : List ℕ) (scan : Scan) (stop : Stop) : Type
   pub scalars : all_scalars read ≡ true
   pub spell : encode_utf8_all read ++ rest ≡ text
   pub stops : StopsSo m scan stop read rest
+
+-- these characters are a line with its line end, whatever follows, except LF after CR
+abbrev pub IsLineBefore : Mode → Scan → List ℕ → ℕ → Type 0
+IsLineBefore m scan read len = (after : List ℕ) → (ends is_return read ≡ true → begins is_line_feed after ≡ false) → IsAtLineEnd m scan read (encode_utf8_all after) len
+
+-- What follows a line's end: nothing is known of it after LF, and after CR there is a byte that is no LF.
+abbrev pub EndsWhole : List ℕ → List ℕ → Type 0
+EndsWhole read rest = (ends is_return read ≡ false) ⊎ ((b : ℕ) × (more : List ℕ) × (rest ≡ b ∷ more) × (b ≡ 10 → ⊥))
+
+-- The scan of a line stops after these characters of it, with `rest` after them. Where the text ends here, more may follow.
+abbrev pub StopsIn : Mode → Scan → Stop → List ℕ → List ℕ → Type 0
+StopsIn m scan stops.TextEnd read rest = IsUnderWay m scan read × (rest ≡ [])
+StopsIn m scan (stops.LineEnd len) read rest = IsLineBefore m scan read len × EndsWhole read rest
+StopsIn m scan (stops.Refused c) read rest = StopsSo m scan (stops.Refused c) read rest
+
+-- where the scan of a line stops that began with this text
+pub record ScansIn (m : Mode) (line : ℕ) (whole : List ℕ) (scan : Scan) (stop : Stop) : Type 0 where
+  pub read : List ℕ
+  pub rest : List ℕ
+  pub scalars : all_scalars read ≡ true
+  pub spell : encode_utf8_all read ++ rest ≡ whole
+  pub stops : StopsIn m scan stop read rest
+  pub number : scan.line ≡ line
 
 -- where the fault of a refused character stands
 abbrev pub refused_place : Scan → ℕ

@@ -4,7 +4,7 @@ use Rattle.std.specs.Str.Iter.{chars_rest}
 use Rattle.std.proofs.lemmas.Str.{encodes_same}
 use Rattle.std.proofs.lemmas.List.{nil_from_length}
 use Rattle.py_lines.specs.LogicalLine.{line_ends}
-use Rattle.py_lines.proofs.Scanner.LineCount.{counted_push, line_ends-bytes}
+use Rattle.py_lines.proofs.LineScan.LineCount.{counted_push, line_ends-bytes}
 use Rattle.py_lines.proofs.Text.CharsIterator.{advances}
 use Rattle.py_lines.proofs.count.line_behind.Goals as goal
 

@@ -1,7 +1,7 @@
 use Rattle.std.proofs.Common.{◌≡◌, ◌++◌}
 use Rattle.std.specs.Prelude.{encode_utf8_all}
 use Rattle.std.specs.Str.Iter.{chars_rest}
-use Rattle.py_lines.proofs.Scanner.LineCount.{Counted}
+use Rattle.py_lines.proofs.LineScan.LineCount.{Counted}
 use Rattle.py_lines.proofs.count.line_behind.Given as goal
 
 abbrev pub invariant-loop-c : goal.invariant-loop-c

@@ -1,6 +1,6 @@
 use Rattle.std.proofs.Common.{◌≡◌, ℕ, ◌==◌, length, ap, ◌∙◌, arith}
 use Rattle.std.specs.Vec.{vec_len}
-use Rattle.py_lines.proofs.Scanner.BracketStack.{empty_none}
+use Rattle.py_lines.proofs.LineScan.BracketStack.{empty_none}
 use Rattle.py_lines.proofs.brackets.Brackets.is_empty.Goals as goal
 
 pub returns : goal.returns

@@ -3,7 +3,7 @@ use Rattle.std.proofs.lemmas.Bool.{eq-eqb}
 use Rattle.py_lines.specs.Private.Scan.{stack, stack_of}
 use Rattle.py_lines.specs.Private.Machine.{Bracket}
 use Rattle.py_lines.specs.declared.brackets.OpenBracket.{OpenBracket}
-use Rattle.py_lines.proofs.Scanner.BracketStack.{length-stack, stack-push, pops, too_deep, opens_at, closes_none, closes_wrong, closes_top, keeps_at}
+use Rattle.py_lines.proofs.LineScan.BracketStack.{length-stack, stack-push, pops, too_deep, opens_at, closes_none, closes_wrong, closes_top, keeps_at}
 use Rattle.py_lines.proofs.brackets.Brackets.meet.Goals as goal
 
 pub returns-then-len-ge-DEPTH : goal.returns-then-len-ge-DEPTH

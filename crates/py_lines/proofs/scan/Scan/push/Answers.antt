@@ -1,7 +1,7 @@
 use Rattle.std.proofs.Common.{◌≡◌, false, sym, ap, ◌∙◌}
 use Rattle.py_lines.specs.Private.Machine.{move_of}
 use Rattle.py_lines.specs.declared.mode.Mode.{Mode}
-use Rattle.py_lines.proofs.Scanner.NextCharacter.{takes_grown, takes_closed, takes_returned, takes_broken}
+use Rattle.py_lines.proofs.LineScan.NextCharacter.{takes_grown, takes_closed, takes_returned, takes_broken}
 use Rattle.py_lines.specs.Private.Scan.{is_return_mode}
 use Rattle.std.proofs.lemmas.Bool.{both_ways}
 use Rattle.py_lines.proofs.scan.Scan.push.Goals as goal

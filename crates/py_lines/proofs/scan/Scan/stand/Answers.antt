@@ -1,7 +1,7 @@
 use Rattle.std.proofs.Common.{◌∙◌, refl, ap, ◌++◌, ◌∷◌, []}
 use Rattle.py_lines.specs.declared.token.TokKind.TheVariants.{Op}
 use Rattle.py_lines.specs.Private.Scan.{kind_with}
-use Rattle.py_lines.proofs.Scanner.LineCount.{same_token, counts_from}
+use Rattle.py_lines.proofs.LineScan.LineCount.{same_token, counts_from}
 use Rattle.py_lines.proofs.scan.Scan.stand.Goals as goal
 
 pub returns : goal.returns

@@ -5,7 +5,7 @@ use Rattle.py_lines.specs.declared.mode.Mode.{Mode}
 use Rattle.py_lines.specs.declared.scan.Stop.TheVariants.{TextEnd}
 use Rattle.py_lines.specs.Private.Machine.{is_final}
 use Rattle.py_lines.specs.Private.Source.{Advances}
-use Rattle.py_lines.proofs.Scanner.LineRun.{way_order}
+use Rattle.py_lines.proofs.LineScan.LineRun.{way_order}
 use Rattle.py_lines.proofs.Readers.LineAnswers.{all_within, place_room, place_boundary}
 use Rattle.py_lines.proofs.Readers.EndAnswers.{stop_size, fails_at_bytes, fails_at_end, unfinished_within, continues_text, few_lines_text}
 use Rattle.py_lines.proofs.source.Source.end_text.Goals as goal

@@ -1,0 +1,20 @@
+-- What is settled and decided where a text is fed in pieces.
+pub mod Known
+pub mod SettledSoFar
+pub mod DecidedSoFar
+pub mod Released
+pub mod Ended
+pub mod Steps
+pub mod Loops
+pub mod Begun
+pub mod Characters
+pub mod ReadyLines
+pub mod NextHeld
+pub mod Chunks
+pub mod FailedHeld
+pub mod EndedHeld
+pub mod LineInChunk
+pub mod FedHeld
+pub mod FedScanner
+pub mod FinishedHeld
+pub mod ReleasedHeld

@@ -1,0 +1,101 @@
+-- A piece that is taken by chunks.
+use Rattle.std.proofs.Common.{◌≡◌, ℕ, ◌+◌, ◌-◌, ◌<◌, ◌≤◌, false, Option, None, Some, Err, List, [], ◌++◌, length, take, drop, refl, sym, ap, ◌∙◌, subst, inr, append_assoc, append-nil, arith, length-drop}
+use Rattle.std.specs.Prelude.{is_some}
+use Rattle.std.specs.Global.{Vec}
+use Rattle.std.proofs.lemmas.List.{take_all}
+use Rattle.std.proofs.Math.Seq.{take-add}
+use Rattle.py_lines.specs.declared.feed.Feed.{Feed}
+use Rattle.py_lines.specs.declared.fault.LexError.{LexError}
+use Rattle.py_lines.specs.declared.fault.LexError.TheVariants as lex
+use Rattle.py_lines.specs.Private.Scan.{Tallies, IsStacked, line_start}
+use Rattle.py_lines.specs.Private.Source.{first_mode}
+use Rattle.py_lines.specs.Private.Feed.{Restarts, IsOpen, IsChunk, HoldsMore, IsScanned, IsHeldSo, IsUnchanged, ScansHeld, FailsWith, FailsPiece, IsLastChunk, StopsTaking, TakesSome, FeedsSo}
+
+pub none_is : (r : Option ℕ) → is_some r ≡ false → r ≡ None
+none_is None h = refl
+none_is (Some n) h = absurd (cc)
+
+pub holds_none : (f : Feed) → HoldsMore f [] f
+holds_none f = record { held = sym (append-nil f.held.items); place = refl; line = refl; ended = refl }
+
+-- a scan that was begun anew is that of a line of which nothing was read
+pub restarts_open : (old new : Feed) → Restarts old new → IsOpen new [] new.held.items
+restarts_open old new r = record {
+  scalars = refl;
+  spell = refl;
+  way = record {
+    state = line_start (first_mode new.place);
+    runs = refl;
+    tallies = subst (λ (n : ℕ). Tallies new.scan (line_start (first_mode n))) (sym r.text.place) r.tallies;
+    stacked = subst (λ (n : ℕ). IsStacked new.scan (line_start (first_mode n))) (sym r.text.place) r.stacked;
+    one_line = tt;
+  };
+  number = r.number ∙ sym r.text.line;
+}
+
+pub restarts_unchanged : (old new : Feed) → old.ready ≡ None → Restarts old new → IsUnchanged old new
+restarts_unchanged old new ready r = record {
+  same = record { held = ap (λ (v : Vec ℕ). v.items) r.text.held ∙ sym (append-nil old.held.items); place = r.text.place; line = r.text.line; ended = r.text.ended };
+  ready = r.ready;
+  fault = r.fault;
+  state = subst (λ o. IsHeldSo o new) (sym (r.ready ∙ ready)) ([], new.held.items, restarts_open old new r);
+}
+
+-- no bytes are fed
+pub none_taken : (old new : Feed) (piece : List ℕ) (error : LexError) → old.ready ≡ None → old.fault ≡ None → ScansHeld old (Err error) new → FeedsSo old piece (Err error) new
+none_taken old new piece (lex.Fault f) ready fault fails = inr (fault, record { not_ready = ready; n = 0; within = omega arith; mid = old; more = holds_none old; fails = fails })
+none_taken old new piece lex.Memory ready fault r = (fault, ready, restarts_unchanged old new ready r)
+
+-- the next bytes of a piece
+pub rest_is : (piece : List ℕ) (taken : ℕ) → take (length piece - taken) (drop taken piece) ≡ drop taken piece
+rest_is piece taken = take_all (length piece - taken) (drop taken piece) (omega (arith, length-drop taken piece))
+
+pub grows : (old mid new : Feed) (piece chunk : List ℕ) (taken len : ℕ) → HoldsMore old (take taken piece) mid → HoldsMore mid chunk new → chunk ≡ take len (drop taken piece) → HoldsMore old (take (taken + len) piece) new
+grows old mid new piece chunk taken len a b is = record {
+  held = b.held ∙ ap (λ l. l ++ chunk) a.held ∙ append_assoc old.held.items (take taken piece) chunk ∙ ap (λ l. old.held.items ++ (take taken piece ++ l)) is ∙ ap (λ l. old.held.items ++ l) (sym (take-add taken len piece));
+  place = b.place ∙ a.place;
+  line = b.line ∙ a.line;
+  ended = b.ended ∙ a.ended;
+}
+
+-- the chunk taken last
+pub last_chunk : (old mid : Feed) (piece held rest : List ℕ) (taken len : ℕ) → HoldsMore old (take taken piece) mid → mid.ready ≡ None → ((taken ≡ 0 → piece ≡ []) → IsScanned mid.ready mid) → held ≡ mid.held.items → rest ≡ drop taken piece → IsChunk held rest len → IsLastChunk old piece (taken + len)
+last_chunk old mid piece held rest taken len more ready scanned held_is rest_is chunk = record {
+  before = taken;
+  len = len;
+  sum = refl;
+  mid = mid;
+  more = more;
+  chunk = subst (λ l. IsChunk mid.held.items l len) rest_is (subst (λ l. IsChunk l rest len) held_is chunk);
+  scanned = λ some. subst (λ r. IsScanned r mid) ready (scanned (λ zero. absurd (omega (arith, some, zero))));
+}
+
+-- a fault in the chunk that was taken
+pub chunk_fails : (old mid new : Feed) (piece chunk : List ℕ) (taken len : ℕ) (error : LexError) → old.ready ≡ None → taken + len ≤ length piece → HoldsMore old (take taken piece) mid → chunk ≡ take len (drop taken piece) → (w : FailsWith mid chunk error new) → FailsPiece old piece error new
+chunk_fails old mid new piece chunk taken len error ready within more is w = record {
+  not_ready = ready;
+  n = taken + len;
+  within = within;
+  mid = w.mid;
+  more = grows old mid w.mid piece chunk taken len more w.more is;
+  fails = w.fails;
+}
+
+-- where a growth was refused after the first bytes
+pub stops_short : (old mid new : Feed) (piece : List ℕ) (taken : ℕ) → old.ready ≡ None → taken ≤ length piece → (taken ≡ 0 → ⊥) → HoldsMore old (take taken piece) mid → mid.fault ≡ old.fault → mid.ready ≡ None → ((taken ≡ 0 → piece ≡ []) → IsScanned mid.ready mid) → IsUnchanged mid new → TakesSome old piece taken new
+stops_short old mid new piece taken ready within some more fault mid_ready scanned u =
+    let s = u.same in
+    let is_ready : new.ready ≡ None = u.ready ∙ mid_ready in
+    record {
+      not_ready = ready;
+      within = within;
+      some = λ zero. absurd (some zero);
+      more = record { held = s.held ∙ append-nil mid.held.items ∙ more.held; place = s.place ∙ more.place; line = s.line ∙ more.line; ended = s.ended ∙ more.ended };
+      fault = u.fault ∙ fault;
+      stops = subst (λ r. StopsTaking old piece taken r new) (sym is_ready) (mid, s, subst (λ r. IsScanned r mid) mid_ready (scanned (λ zero. absurd (some zero))), subst (λ r. IsHeldSo r new) is_ready u.state);
+    }
+
+-- what a scan of all that is held leaves, once bytes were taken
+pub stops_taking : (old new : Feed) (piece : List ℕ) (taken : ℕ) (ready : Option ℕ) → IsScanned ready new → (0 < taken → IsLastChunk old piece taken) → StopsTaking old piece taken ready new
+stops_taking old new piece taken None s last = (new, holds_none new, s, (s.0, s.1, s.2))
+stops_taking old new piece taken (Some n) s last = (s, last)

@@ -1,0 +1,132 @@
+-- Which faults the known bytes decide: where the machine refuses a character, and where no bytes complete a character.
+use Rattle.std.proofs.Common.{◌≡◌, ℕ, ◌+◌, Bool, true, false, not, ◌&&◌, ◌||◌, Some, None, List, [], ◌∷◌, ◌++◌, refl, sym, ap, ◌∙◌, subst, append_assoc, append-nil, arith}
+use Rattle.std.specs.Prelude.{if◌then◌else◌}
+use Rattle.std.specs.Str.{StartsWithNoChar}
+use Rattle.py_lines.specs.Character.{is_line_feed}
+use Rattle.py_lines.specs.Piece.{spelled, AreReadBefore}
+use Rattle.py_lines.specs.LogicalLine.{LogicalLine, byte_len, line_ends}
+use Rattle.py_lines.specs.Lexed.{Decodes, IsLive, IsLexicalFault, IsLexed, IsLexedToFault}
+use Rattle.py_lines.specs.Settled.{IsHopeless, StaysFaulty, Decides}
+use Rattle.py_lines.specs.declared.fault.Fault.{Fault}
+use Rattle.py_lines.specs.declared.fault.FaultKind.{FaultKind}
+use Rattle.py_lines.specs.declared.fault.FaultKind.TheVariants as faults
+use Rattle.py_lines.specs.declared.mode.Mode.TheVariants as modes
+use Rattle.py_lines.specs.Private.Machine.{Scanned, run_from, step, in_short, is_behind_slash, character_kind, character_place, Bracket, brackets_of}
+use Rattle.py_lines.specs.Private.Scan.{EndsNoLine, line_start, none_open, is_return_mode, stack_if}
+use Rattle.py_lines.specs.Private.Source.{first_mode}
+use Rattle.py_lines.proofs.Text.Utf8Prefixes.{nothing_bad}
+use Rattle.py_lines.proofs.Machine.PieceRuns.{pieces_at}
+use Rattle.py_lines.proofs.Machine.LiveTexts.{runs_live}
+use Rattle.py_lines.proofs.Faults.FaultPlaces.{character_fault}
+use Rattle.py_lines.proofs.Faults.Uniqueness.{not_live}
+use Rattle.py_lines.proofs.Lexings.Answers.{IsLineOf, HasFront, refused_at_character, refused_at_bytes}
+use Rattle.py_lines.proofs.Lexings.GivenLines.{base_lines}
+use Rattle.py_lines.proofs.Lexings.DecidedFaults.{stays_at}
+use Rattle.py_lines.proofs.Lexings.Uniqueness.{decoded}
+use Rattle.py_lines.proofs.LogicalLines.Cuts.{byte_len-append}
+use Rattle.py_lines.proofs.LineScan.NextCharacter.{closed_one_line}
+use Rattle.py_lines.proofs.LineScan.TextRun.{base_of, Joined, joined, dead_at}
+use Rattle.py_lines.proofs.Readers.FaultAnswers.{open_return, same_kind}
+use Rattle.py_lines.proofs.Readers.LineAnswers.{Within}
+use Rattle.py_lines.proofs.Feeds.Known as of
+use Rattle.py_lines.proofs.Feeds.Known.{IsKnown}
+
+-- where a character is refused in the line that is open
+abbrev pub refused_behind : Scanned → List ℕ → ℕ
+refused_behind s read = if in_short s.mode || is_behind_slash s.mode then byte_len (spelled s.done) else byte_len read
+
+place_of : (b : Bool) (n done whole first all : ℕ) → (b ≡ true → all ≡ n + done) → first ≡ n + whole → n + (if b then done else whole) ≡ (if b then all else first)
+place_of true n done whole first all one two = sym (one refl)
+place_of false n done whole first all one two = sym two
+
+module _ (text : List ℕ) (place line : ℕ) (lines : List LogicalLine) (read rest : List ℕ) (k : IsKnown text place line lines read rest) where
+  -- the line of a fault in what was read
+  pub line_behind : (kind : FaultKind) (behind : ℕ) (front later : List ℕ) (fault : Fault) → front ++ later ≡ read → behind ≡ byte_len front → fault.offset ≡ place + behind → fault.line ≡ line + line_ends front → (characters after : List ℕ) → (spelled k.base ++ read) ++ after ≡ characters → IsLineOf fault characters
+  line_behind kind behind front later fault split size at number characters after spell = record {
+    front = spelled k.base ++ front;
+    rest = later ++ after;
+    spell = append_assoc (spelled k.base) front (later ++ after) ∙ ap (λ t. spelled k.base ++ t) (sym (append_assoc front later after) ∙ ap (λ t. t ++ after) split) ∙ sym (append_assoc (spelled k.base) read after) ∙ spell;
+    place = omega (arith, at, size, k.here, byte_len-append (spelled k.base) front);
+    line = omega (arith, number, k.number, base_lines k.base front (later ++ k.more) (subst (AreReadBefore k.base) (ap (λ t. t ++ k.more) (sym split) ∙ append_assoc front later k.more) k.fit));
+  }
+
+  pub front_of : (s : Scanned) (st : List Bracket) (runs : run_from (Some (line_start (first_mode place))) read ≡ Some s) (stacked : brackets_of s.done ≡ Some st) → EndsNoLine 0 s.done → (s.mode ≡ modes.Return → none_open st ≡ false) → HasFront (of.joins text place line lines read rest k s st runs stacked).state k.base
+  front_of s st runs stacked one_line open_yet = record {
+    others = pieces_at s;
+    spell = (of.joins text place line lines read rest k s st runs stacked).pieces;
+    ended = k.ended;
+    none = closed_one_line s.mode s.done s.held st stacked one_line open_yet;
+  }
+
+  -- no bytes complete those that are left
+  pub decided_bytes : (s : Scanned) (st : List Bracket) → run_from (Some (line_start (first_mode place))) read ≡ Some s → brackets_of s.done ≡ Some st → EndsNoLine 0 s.done → (s.mode ≡ modes.Return → none_open st ≡ false) → (d : ℕ) (ds : List ℕ) → rest ≡ d ∷ ds → IsHopeless rest → (fault : Fault) → fault.kind ≡ faults.BadUtf8 → fault.offset ≡ place + byte_len read → fault.line ≡ line + line_ends read → Decides (of.bytes text place line lines read rest k) fault × IsLexed (of.bytes text place line lines read rest k) lines (Some fault)
+  decided_bytes s st runs stacked one_line open_yet d ds is hopeless fault kind at number =
+      let j = of.joins text place line lines read rest k s st runs stacked in
+      let characters = spelled k.base ++ read in
+      let bad : StartsWithNoChar rest = subst StartsWithNoChar (append-nil rest) (hopeless []) in
+      let decodes : Decodes (of.bytes text place line lines read rest k) characters (d ∷ ds) = subst (λ t. Decodes (of.bytes text place line lines read rest k) characters t) is (of.decodes text place line lines read rest k bad) in
+      let lexed = refused_at_bytes (of.bytes text place line lines read rest k) characters d ds j.state j.st k.base fault decodes j.runs (front_of s st runs stacked one_line open_yet) kind
+      (omega (arith, at, k.here, byte_len-append (spelled k.base) read))
+      (line_behind faults.BadUtf8 (byte_len read) read [] fault (append-nil read) refl at number characters [] (append-nil _)) in (
+        record {
+          characters = lexed.characters;
+          tail = lexed.tail;
+          decodes = lexed.decodes;
+          refused = lexed.refused;
+          stays = subst (λ (f : FaultKind). StaysFaulty f lexed.characters lexed.tail fault.offset) (sym kind)
+              (let same = decoded (of.bytes text place line lines read rest k) characters lexed.characters (d ∷ ds) lexed.tail decodes lexed.decodes in subst IsHopeless (is ∙ same.1) hopeless);
+        },
+        subst (λ l. IsLexedToFault (of.bytes text place line lines read rest k) l fault) (sym k.cut) lexed,
+      )
+
+  -- the known bytes decide nothing where the machine has gone through them and more may complete those that are left
+  pub undecided : (s : Scanned) (st : List Bracket) → run_from (Some (line_start (first_mode place))) read ≡ Some s → brackets_of s.done ≡ Some st → StartsWithNoChar rest → ¬ (IsHopeless rest) → (fault : Fault) → ¬ (Decides (of.bytes text place line lines read rest k) fault)
+  undecided s st runs stacked bad more fault d =
+      let j = of.joins text place line lines read rest k s st runs stacked in
+      let same = decoded (of.bytes text place line lines read rest k) (spelled k.base ++ read) d.characters rest d.tail (of.decodes text place line lines read rest k bad) d.decodes in
+      go fault.kind same.0 same.1 (runs_live (spelled k.base ++ read) j.state j.st j.runs) d.stays
+    where
+      go : (kind : FaultKind) → spelled k.base ++ read ≡ d.characters → rest ≡ d.tail → IsLive (spelled k.base ++ read) → StaysFaulty kind d.characters d.tail fault.offset → ⊥
+      go faults.BadUtf8 one two live hopeless = more (subst IsHopeless (sym two) hopeless)
+      go kind one two live dies = not_live d.characters kind fault.offset dies (subst IsLive one live)
+
+-- the next character is refused
+module _ (text : List ℕ) (place line : ℕ) (lines : List LogicalLine) (read : List ℕ) (c : ℕ) (k : IsKnown text place line lines (read ++ c ∷ []) []) where
+  abbrev all_known : List ℕ
+  all_known = of.bytes text place line lines (read ++ c ∷ []) [] k
+
+  before_fit : AreReadBefore k.base (read ++ c ∷ k.more)
+  before_fit = subst (AreReadBefore k.base) (append_assoc read (c ∷ []) k.more) k.fit
+
+  joins_before : (s : Scanned) (st : List Bracket) → run_from (Some (line_start (first_mode place))) read ≡ Some s → brackets_of s.done ≡ Some st → Joined k.base read s st (c ∷ k.more)
+  joins_before s st runs stacked = joined place k.base (c ∷ k.more) (of.level text place line lines (read ++ c ∷ []) [] k) read s st before_fit (base_of place k.base (read ++ c ∷ k.more) before_fit k.ended k.here) runs stacked
+
+  pub decided_character : (s : Scanned) (st : List Bracket) → run_from (Some (line_start (first_mode place))) read ≡ Some s → brackets_of s.done ≡ Some st → EndsNoLine 0 s.done → stack_if (step s c) ≡ None → (is_return_mode s.mode && none_open st) && not (is_line_feed c) ≡ false → (fault : Fault) → fault.kind ≡ character_kind s.mode c → fault.offset ≡ place + refused_behind s read → (w : Within read (refused_behind s read)) → fault.line ≡ line + line_ends w.front → Decides all_known fault × IsLexed all_known lines (Some fault)
+  decided_character s st runs stacked one_line refuses not_yet fault kind at w number =
+      let j = joins_before s st runs stacked in
+      let level = of.level text place line lines (read ++ c ∷ []) [] k in
+      let characters = spelled k.base ++ (read ++ c ∷ []) in
+      let spell : (spelled k.base ++ read) ++ c ∷ [] ≡ characters = append_assoc (spelled k.base) read (c ∷ []) in
+      let decodes : Decodes all_known characters [] = of.decodes text place line lines (read ++ c ∷ []) [] k nothing_bad in
+      let dead = dead_at k.base read (c ∷ k.more) k.more s st c j level refl refuses in
+      let open_yet = open_return s.mode s.done s.held c st stacked refuses not_yet in
+      let front : HasFront j.state k.base = record { others = pieces_at s; spell = j.pieces; ended = k.ended; none = closed_one_line s.mode s.done s.held st stacked one_line open_yet } in
+      let kind_is : fault.kind ≡ character_kind j.state.mode c = kind ∙ same_kind s.mode j.state.mode c (sym j.short) (sym j.slash) in
+      let flags : in_short s.mode || is_behind_slash s.mode ≡ in_short j.state.mode || is_behind_slash j.state.mode = ap (λ (b : Bool). b || is_behind_slash s.mode) (sym j.short) ∙ ap (λ (b : Bool). in_short j.state.mode || b) (sym j.slash) in
+      let here : fault.offset ≡ character_place j.state (spelled k.base ++ read) =
+      at ∙ ap (λ (n : ℕ). n + refused_behind s read) k.here
+      ∙ place_of (in_short s.mode || is_behind_slash s.mode) (byte_len (spelled k.base)) (byte_len (spelled s.done)) (byte_len read) (byte_len (spelled k.base ++ read)) (byte_len (spelled j.state.done)) j.start (byte_len-append (spelled k.base) read)
+      ∙ ap (λ (b : Bool). if b then byte_len (spelled j.state.done) else byte_len (spelled k.base ++ read)) flags in
+      let lexed = refused_at_character all_known characters [] (spelled k.base ++ read) [] c j.state j.st k.base fault decodes spell j.runs dead front kind_is here
+      (line_behind text place line lines (read ++ c ∷ []) [] k fault.kind (refused_behind s read) w.front (w.later ++ c ∷ []) fault (sym (append_assoc w.front w.later (c ∷ [])) ∙ ap (λ t. t ++ c ∷ []) w.split) w.size at number characters [] (append-nil _)) in
+      let found = character_fault characters (spelled k.base ++ read) [] c j.state j.st spell j.runs dead in (
+        record {
+          characters = characters;
+          tail = [];
+          decodes = decodes;
+          refused = (let same = decoded all_known characters lexed.characters [] lexed.tail decodes lexed.decodes in
+              subst (λ t. IsLexicalFault characters t fault) (sym same.1) (subst (λ t. IsLexicalFault t lexed.tail fault) (sym same.0) lexed.refused));
+          stays = subst (λ (n : ℕ). StaysFaulty fault.kind characters [] n) (sym here) (subst (λ (f : FaultKind). StaysFaulty f characters [] (character_place j.state (spelled k.base ++ read))) (sym kind_is) (stays_at (character_kind j.state.mode c) characters [] (character_place j.state (spelled k.base ++ read)) found));
+        },
+        subst (λ l. IsLexedToFault all_known l fault) (sym k.cut) lexed,
+      )

@@ -1,0 +1,144 @@
+-- What the bytes fed settle and decide, where they were scanned.
+use Rattle.std.proofs.Common.{◌≡◌, ℕ, ◌+◌, ◌<◌, ◌⊎◌, true, false, ◌&&◌, None, Some, List, [], ◌∷◌, ◌++◌, length, take, drop, refl, sym, ap, ◌∙◌, subst, ⊎_elim, inl, inr, append-nil, arith, length-append}
+use Rattle.std.specs.Prelude.{encode_utf8_all}
+use Rattle.std.proofs.lemmas.Bool.{cases_lt}
+use Rattle.std.proofs.lemmas.List.{drop-drop, take_all}
+use Rattle.std.proofs.Math.Seq.{take-add, take-append_seam}
+use Rattle.py_lines.specs.Character.{is_return}
+use Rattle.py_lines.specs.Piece.{ends, spelled}
+use Rattle.py_lines.specs.LogicalLine.{LogicalLine}
+use Rattle.py_lines.specs.Piece.{AreReadBefore}
+use Rattle.py_lines.specs.Lexed.{Decodes, IsBalancedReading, IsLive, EndsLine}
+use Rattle.py_lines.specs.Settled.{IsHopeless, StaysFaulty, IsSettled, Decides}
+use Rattle.py_lines.specs.Given.{AreFirstLines}
+use Rattle.py_lines.specs.Scanning.{GoesOnWith, HoldsReady}
+use Rattle.py_lines.specs.Scanning.View.{line_of_feed}
+use Rattle.py_lines.specs.declared.fault.Fault.{Fault}
+use Rattle.py_lines.specs.declared.fault.FaultKind.{FaultKind}
+use Rattle.py_lines.specs.declared.fault.FaultKind.TheVariants as faults
+use Rattle.py_lines.specs.declared.feed.Feed.{Feed}
+use Rattle.py_lines.specs.declared.mode.Mode.{Mode}
+use Rattle.py_lines.specs.declared.mode.Mode.TheVariants as modes
+use Rattle.py_lines.specs.Private.Machine.{Bracket}
+use Rattle.py_lines.specs.Private.Scan.{line_start, is_return_mode, none_open, stack_of, EndsWhole}
+use Rattle.py_lines.specs.Private.Source.{first_mode}
+use Rattle.py_lines.specs.Private.Feed.{IsEnded, IsChunk, IsScanned, EndsLineHeld}
+use Rattle.py_lines.proofs.Text.Utf8Prefixes.{nothing_bad}
+use Rattle.py_lines.proofs.Text.Incomplete.{part_none}
+use Rattle.py_lines.proofs.Machine.LiveTexts.{reading_live}
+use Rattle.py_lines.proofs.Faults.Uniqueness.{not_live}
+use Rattle.py_lines.proofs.Lexings.Uniqueness.{decoded}
+use Rattle.py_lines.proofs.Feeds.Known.{IsKnown, known_after, is_known}
+use Rattle.py_lines.proofs.Feeds.SettledSoFar.{MayGetFeed, Follow, settled_open, settled_ready, ended_before}
+use Rattle.py_lines.proofs.Feeds.DecidedSoFar.{undecided}
+use Rattle.py_lines.proofs.Feeds.ReadyLines.{line_of_ended}
+use Rattle.py_lines.proofs.Feeds.NextHeld.{next_pieces, next_line, next_is, next_some}
+use Rattle.py_lines.proofs.Feeds.LineInChunk.{line_break, follows_chunk}
+
+-- bytes that the text goes on with, and then more
+pub goes_joined : (text : List ℕ) (place : ℕ) (a b : List ℕ) → GoesOnWith text place a → GoesOnWith text (place + length a) b → GoesOnWith text place (a ++ b)
+goes_joined text place a b one two =
+    ap (λ (n : ℕ). take n (drop place text)) (length-append a b)
+    ∙ take-add (length a) (length b) (drop place text)
+    ∙ ap (λ t. t ++ take (length b) (drop (length a) (drop place text))) one
+    ∙ ap (λ t. a ++ take (length b) t) (drop-drop (length a) place text)
+    ∙ ap (λ t. a ++ t) two
+
+may_get : (m : Mode) (st : List Bracket) (rest : List ℕ) → (is_return_mode m && none_open st ≡ true → rest ≡ []) → MayGetFeed m st rest
+may_get modes.Return [] rest last = last refl
+may_get modes.Return (b ∷ bs) rest last = tt
+may_get m st rest last = tt
+
+-- no line has ended in what is held, which was scanned
+module _ (text : List ℕ) (f : Feed) (lines : List LogicalLine) (first : AreFirstLines text f.place f.line lines) (goes : GoesOnWith text f.place f.held.items) (s : IsScanned None f) where
+  pub settled_scanned : 0 < length f.held.items → IsSettled (take (f.place + length f.held.items) text) lines
+  settled_scanned some =
+      let o = s.2 in
+      let part = s.3 in
+      let k = is_known text f.place f.line lines s.0 s.1 first o.scalars (subst (GoesOnWith text f.place) (sym o.spell) goes) (omega (arith, some, ap length o.spell)) in
+      let last : MayGetFeed o.way.state.mode (stack_of f.scan.brackets) s.1 = may_get o.way.state.mode (stack_of f.scan.brackets) s.1 (λ h. part.last (ap (λ (m : Mode). is_return_mode m && none_open (stack_of f.scan.brackets)) o.way.tallies.mode ∙ h)) in
+      subst (λ l. IsSettled (take (f.place + length l) text) lines) o.spell (settled_open text f.place f.line lines s.0 s.1 k o.way.state (stack_of f.scan.brackets) o.way.runs o.way.stacked o.way.one_line part.none (omega (arith, some, ap length o.spell)) last)
+
+  pub undecided_scanned : 0 < length f.held.items → (fault : Fault) → ¬ (Decides (take (f.place + length f.held.items) text) fault)
+  undecided_scanned some fault =
+      let o = s.2 in
+      let part = s.3 in
+      let k = is_known text f.place f.line lines s.0 s.1 first o.scalars (subst (GoesOnWith text f.place) (sym o.spell) goes) (omega (arith, some, ap length o.spell)) in
+      subst (λ l. ¬ (Decides (take (f.place + length l) text) fault)) o.spell (undecided text f.place f.line lines s.0 s.1 k o.way.state (stack_of f.scan.brackets) o.way.runs o.way.stacked part.none part.more fault)
+
+-- where a line has ended for good in what was held, the lines given aren't all that is settled
+pub never_before : (text : List ℕ) (new mid : Feed) (lines : List LogicalLine) (n : ℕ) (all after r : List ℕ) → IsEnded new n all after → encode_utf8_all all ++ r ≡ mid.held.items → EndsWhole all r → AreFirstLines text new.place new.line lines → GoesOnWith text new.place mid.held.items → (0 < length mid.held.items → IsSettled (take (new.place + length mid.held.items) text) lines) → ⊥
+never_before text new mid lines n all after r e spell whole first goes settled =
+    let f : Feed = record new { held = mid.held } in
+    let ended : IsEnded f n all r = record { scalars = e.scalars; spell = spell; at = e.at; number = e.number } in
+    let some : 0 < length (encode_utf8_all all) = (line_of_ended f n all r ended [] (λ returned. refl)).0.some in
+    let size = length-append (encode_utf8_all all) r in
+    let k = is_known text new.place new.line lines all r first e.scalars (subst (GoesOnWith text new.place) (sym spell) goes) (omega (arith, some, size)) in
+    let next = next_line text f lines n all r ended whole k in
+    let good : r ≡ [] → ends is_return (spelled (next_pieces text f lines n all r ended whole k)) ≡ false = λ none. ap (ends is_return) next.spell ∙ by_whole whole none in
+    ended_before text new.place new.line lines all r k (next_pieces text f lines n all r ended whole k) next (subst (λ l. IsSettled (take (new.place + length l) text) lines) (sym spell) (settled (omega (arith, some, size, ap length spell)))) good (next_some text f lines n all r ended whole k)
+  where
+    by_whole : EndsWhole all r → r ≡ [] → ends is_return all ≡ false
+    by_whole (inl feed) none = feed
+    by_whole (inr (b, more, is, other)) none = absurd (omega (arith, ap length (sym is ∙ none)))
+
+-- the line that has ended with the bytes taken last is settled, and what is held is it, with at most one byte more
+module _ (text : List ℕ) (new mid : Feed) (lines : List LogicalLine) (n : ℕ) (e : EndsLineHeld n new) (rest : List ℕ) (len : ℕ) (chunk : IsChunk mid.held.items rest len) (held : new.held.items ≡ mid.held.items ++ take len rest) (first : AreFirstLines text new.place new.line lines) (goes : GoesOnWith text new.place new.held.items) (before : GoesOnWith text new.place mid.held.items) (settled : 0 < length mid.held.items → IsSettled (take (new.place + length mid.held.items) text) lines) where
+  fed_some : 0 < length (encode_utf8_all e.all)
+  fed_some = (line_of_ended new n e.all e.after e.ended [] (λ returned. refl)).0.some
+
+  fed_known : IsKnown text new.place new.line lines e.all e.after
+  fed_known = is_known text new.place new.line lines e.all e.after first e.ended.scalars (subst (GoesOnWith text new.place) (sym e.ended.spell) goes) (omega (arith, fed_some, length-append (encode_utf8_all e.all) e.after))
+
+  follows : ((e.after ≡ []) × (ends is_return e.all ≡ false)) ⊎ ((b : ℕ) × (e.after ≡ b ∷ []) × (b ≡ 10 → ⊥))
+  follows = follows_chunk mid.held.items rest e.all e.after len chunk (e.ended.spell ∙ held) (line_break new.place e.all fed_known.more _ (next_line text new lines n e.all e.after e.ended e.whole fed_known)) (λ r spell whole. never_before text new mid lines n e.all e.after r e.ended spell whole first before settled) e.whole
+
+  pub settled_fed : IsSettled (take (new.place + length new.held.items) text) (lines ++ line_of_feed new n ∷ [])
+  settled_fed =
+      let u = next_pieces text new lines n e.all e.after e.ended e.whole fed_known in
+      let next = next_line text new lines n e.all e.after e.ended e.whole fed_known in
+      let follow : Follow u e.after = ⊎_elim (λ done. Follow.by_feed done.0 (ap (ends is_return) next.spell ∙ done.1)) (λ one. Follow.by_byte one.0 one.1 one.2) follows in
+      subst (λ l. IsSettled (take (new.place + length l) text) (lines ++ line_of_feed new n ∷ [])) e.ended.spell
+      (subst (λ x. IsSettled (take (new.place + length (encode_utf8_all e.all ++ e.after)) text) (lines ++ x ∷ [])) (sym (next_is text new lines n e.all e.after e.ended e.whole fed_known))
+      (settled_ready text new.place new.line lines e.all e.after fed_known u next follow))
+
+  pub whole_fed : HoldsReady new.held.items (Some (line_of_feed new n))
+  whole_fed =
+      let stop = (line_of_ended new n e.all e.after e.ended [] (λ returned. refl)).0.stop in
+      let text_is : take new.scan.stop new.held.items ≡ encode_utf8_all e.all = ap (λ (m : ℕ). take m new.held.items) stop ∙ ap (take (length (encode_utf8_all e.all))) (sym e.ended.spell) ∙ take-append_seam (encode_utf8_all e.all) e.after in
+      (e.after, sym e.ended.spell ∙ ap (λ t. t ++ e.after) (sym text_is), ⊎_elim (λ done. omega (arith, ap length done.0)) (λ one. omega (arith, ap length one.1)) follows)
+
+-- nothing is decided where the lines given end
+module _ (text : List ℕ) (place line : ℕ) (lines : List LogicalLine) (first : AreFirstLines text place line lines) (fault : Fault) where
+  after_line : EndsLine first.pieces → ¬ (Decides (take (place + 0) text) fault)
+  after_line ends =
+      let k = known_after text place line lines [] [] first refl refl ends in
+      undecided text place line lines [] [] k (line_start (first_mode place)) [] refl refl nothing_bad part_none fault
+
+  both_none : (a b : List ℕ) → a ++ b ≡ [] → (a ≡ []) × (b ≡ [])
+  both_none [] b none = (refl, none)
+  both_none (x ∷ xs) b none = absurd (cc)
+
+  after_text : first.rest ++ first.tail ≡ [] → ¬ (Decides (take (place + 0) text) fault)
+  after_text nothing d =
+      let parts = both_none first.rest first.tail nothing in
+      let characters : first.characters ≡ spelled first.pieces = sym first.spell ∙ ap (λ t. spelled first.pieces ++ t) parts.0 ∙ append-nil (spelled first.pieces) in
+      let size : length text ≡ place = ap length (sym first.decodes.spell) ∙ ap (λ t. length (encode_utf8_all first.characters ++ t)) parts.1 ∙ ap length (append-nil (encode_utf8_all first.characters)) ∙ ap (λ t. length (encode_utf8_all t)) characters ∙ sym first.here in
+      let all : take (place + 0) text ≡ text = take_all (place + 0) text (omega (arith, size)) in
+      let same = decoded (take (place + 0) text) first.characters d.characters first.tail d.tail (subst (λ t. Decodes t first.characters first.tail) (sym all) first.decodes) d.decodes in
+      let reading : IsBalancedReading first.pieces (spelled first.pieces) = record { spell = refl; fit = subst (AreReadBefore first.pieces) parts.0 first.fit; balanced = first.balanced; shallow = first.shallow } in
+      go fault.kind (sym same.1 ∙ parts.1) (subst IsLive (sym characters ∙ same.0) (reading_live first.pieces (spelled first.pieces) reading)) d.stays
+    where
+      go : (kind : FaultKind) → d.tail ≡ [] → IsLive d.characters → StaysFaulty kind d.characters d.tail fault.offset → ⊥
+      go faults.BadUtf8 none live hopeless = part_none (subst IsHopeless none hopeless)
+      go kind none live dies = not_live d.characters kind fault.offset dies live
+
+  pub undecided_first : ¬ (Decides (take (place + 0) text) fault)
+  undecided_first d = ⊎_elim (λ good. after_line good.0 d) (λ nothing. after_text nothing d) first.ended
+
+-- nor where what is held was scanned, and no line has ended in it
+pub undecided_fed : (text : List ℕ) (f : Feed) (lines : List LogicalLine) → AreFirstLines text f.place f.line lines → GoesOnWith text f.place f.held.items → IsScanned None f → (fault : Fault) → ¬ (Decides (take (f.place + length f.held.items) text) fault)
+undecided_fed text f lines first goes s fault d = ⊎_elim
+    (λ some. undecided_scanned text f lines first goes s some fault d)
+    (λ none. undecided_first text f.place f.line lines first fault (subst (λ (n : ℕ). Decides (take (f.place + n) text) fault) (omega (arith, none)) d))
+    (cases_lt 0 (length f.held.items))

@@ -1,0 +1,102 @@
+-- The bytes of a text that are known: those of the lines given, characters after them, and a part of a character.
+use Rattle.std.proofs.Common.{◌≡◌, ℕ, ◌+◌, ◌<◌, true, Some, List, [], ◌∷◌, ◌++◌, length, take, drop, refl, sym, ap, ◌∙◌, subst, ⊎_elim, append_assoc, arith, length-append}
+use Rattle.std.proofs.lemmas.List.{length-take}
+use Rattle.std.specs.Prelude.{encode_utf8_all}
+use Rattle.std.specs.Str.{all_scalars, StartsWithNoChar}
+use Rattle.std.proofs.lemmas.List.{take-append-drop}
+use Rattle.std.proofs.lemmas.Str.{encodes-append}
+use Rattle.std.proofs.Math.Seq.{take-add, take-append_seam, drop-append_seam}
+use Rattle.py_lines.specs.Piece.{Piece, spelled, AreReadBefore}
+use Rattle.py_lines.specs.Balance.{IsBalanced, IsShallow}
+use Rattle.py_lines.specs.LogicalLine.{LogicalLine, lines_of, byte_len, line_ends}
+use Rattle.py_lines.specs.Lexed.{Decodes, EndsLine}
+use Rattle.py_lines.specs.Given.{AreFirstLines}
+use Rattle.py_lines.specs.Scanning.{GoesOnWith}
+use Rattle.py_lines.specs.Private.Machine.{Scanned, run_from, Bracket, brackets_of}
+use Rattle.py_lines.specs.Private.Scan.{line_start}
+use Rattle.py_lines.specs.Private.Source.{first_mode}
+use Rattle.py_lines.proofs.Text.Continued.{goes_on}
+use Rattle.py_lines.proofs.Text.Utf8Prefixes.{all_scalars-parts, all_scalars-append}
+use Rattle.py_lines.proofs.Pieces.OpenBrackets.{stack-from_balanced}
+use Rattle.py_lines.proofs.LineScan.TextRun.{Base, base_of, Joined, joined}
+
+-- the lines given, the characters read after them and the bytes left, which are all that is known of the text
+pub record IsKnown (text : List ℕ) (place line : ℕ) (lines : List LogicalLine) (read rest : List ℕ) : Type 0 where
+  pub base : List Piece
+  pub more : List ℕ
+  pub fit : AreReadBefore base (read ++ more)
+  pub balanced : IsBalanced base
+  pub shallow : IsShallow 0 base
+  pub ended : EndsLine base
+  pub here : place ≡ byte_len (spelled base)
+  pub number : line ≡ 1 + line_ends (spelled base)
+  pub cut : lines ≡ lines_of base
+  pub scalars : all_scalars (spelled base ++ read) ≡ true
+  pub known : take (place + length (encode_utf8_all read ++ rest)) text ≡ encode_utf8_all (spelled base ++ read) ++ rest
+  pub tail : List ℕ
+  pub beyond : List ℕ
+  pub follow : encode_utf8_all more ++ tail ≡ rest ++ beyond
+
+-- where the lines given end a line
+pub known_after : (text : List ℕ) (place line : ℕ) (lines : List LogicalLine) (read rest : List ℕ) (first : AreFirstLines text place line lines) → all_scalars read ≡ true → GoesOnWith text place (encode_utf8_all read ++ rest) → EndsLine first.pieces → IsKnown text place line lines read rest
+known_after text place line lines read rest first fine goes ends =
+    let base = first.pieces in
+    let held = encode_utf8_all read ++ rest in
+    let left = encode_utf8_all first.rest ++ first.tail in
+    let bytes = encode_utf8_all (spelled base) in
+    let whole : text ≡ bytes ++ left = sym first.decodes.spell ∙ ap (λ t. encode_utf8_all t ++ first.tail) (sym first.spell) ∙ ap (λ t. t ++ first.tail) (encodes-append (spelled base) first.rest) ∙ append_assoc bytes (encode_utf8_all first.rest) first.tail in
+    let behind : drop place text ≡ left = ap (λ (n : ℕ). drop n text) first.here ∙ ap (drop (byte_len (spelled base))) whole ∙ drop-append_seam bytes left in
+    let front : take place text ≡ bytes = ap (λ (n : ℕ). take n text) first.here ∙ ap (take (byte_len (spelled base))) whole ∙ take-append_seam bytes left in
+    let taken : take (length held) left ≡ held = ap (take (length held)) (sym behind) ∙ goes in
+    let split : encode_utf8_all read ++ (rest ++ drop (length held) left) ≡ left = sym (append_assoc (encode_utf8_all read) rest (drop (length held) left)) ∙ ap (λ t. t ++ drop (length held) left) (sym taken) ∙ take-append-drop (length held) left in
+    let parts = all_scalars-parts (spelled base) first.rest (ap all_scalars first.spell ∙ first.decodes.are) in
+    let on = goes_on read (rest ++ drop (length held) left) first.rest first.tail fine parts.1 first.decodes.bad split in
+    record {
+      base = base;
+      more = on.rest;
+      fit = subst (AreReadBefore base) on.split first.fit;
+      balanced = first.balanced;
+      shallow = first.shallow;
+      ended = ends;
+      here = first.here;
+      number = first.number;
+      cut = first.cut;
+      scalars = all_scalars-append (spelled base) read parts.0 fine;
+      known = take-add place (length held) text ∙ ap (λ t. t ++ take (length held) (drop place text)) front ∙ ap (λ t. bytes ++ t) goes ∙ sym (append_assoc bytes (encode_utf8_all read) rest) ∙ ap (λ t. t ++ rest) (sym (encodes-append (spelled base) read));
+      tail = first.tail;
+      beyond = drop (length held) left;
+      follow = on.left;
+    }
+
+no_length : (a b : List ℕ) → a ++ b ≡ [] → length (encode_utf8_all a) + length b ≡ 0
+no_length [] [] h = refl
+no_length [] (d ∷ ds) h = absurd (cc)
+no_length (c ∷ cs) b h = absurd (cc)
+
+-- and they do, where bytes follow them
+pub is_known : (text : List ℕ) (place line : ℕ) (lines : List LogicalLine) (read rest : List ℕ) → AreFirstLines text place line lines → all_scalars read ≡ true → GoesOnWith text place (encode_utf8_all read ++ rest) → 0 < length (encode_utf8_all read ++ rest) → IsKnown text place line lines read rest
+is_known text place line lines read rest first fine goes some = known_after text place line lines read rest first fine goes (⊎_elim (λ good. good.0) (λ nothing. absurd (
+    let held = encode_utf8_all read ++ rest in
+    let left = encode_utf8_all first.rest ++ first.tail in
+    let bytes = encode_utf8_all (spelled first.pieces) in
+    let whole : text ≡ bytes ++ left = sym first.decodes.spell ∙ ap (λ t. encode_utf8_all t ++ first.tail) (sym first.spell) ∙ ap (λ t. t ++ first.tail) (encodes-append (spelled first.pieces) first.rest) ∙ append_assoc bytes (encode_utf8_all first.rest) first.tail in
+    let behind : drop place text ≡ left = ap (λ (n : ℕ). drop n text) first.here ∙ ap (drop (byte_len (spelled first.pieces))) whole ∙ drop-append_seam bytes left in
+    let none : length left ≡ 0 = length-append (encode_utf8_all first.rest) first.tail ∙ no_length first.rest first.tail nothing in
+    omega (arith, some, none, ap length goes, ap length behind, length-take (length held) (drop place text)))) first.ended)
+
+module _ (text : List ℕ) (place line : ℕ) (lines : List LogicalLine) (read rest : List ℕ) (k : IsKnown text place line lines read rest) where
+  abbrev pub bytes : List ℕ
+  bytes = take (place + length (encode_utf8_all read ++ rest)) text
+
+  pub decodes : StartsWithNoChar rest → Decodes bytes (spelled k.base ++ read) rest
+  decodes bad = record { are = k.scalars; spell = sym k.known; bad = bad }
+
+  pub level : brackets_of k.base ≡ Some []
+  level = stack-from_balanced k.base k.balanced k.shallow
+
+  pub stands : Base place k.base
+  stands = base_of place k.base (read ++ k.more) k.fit k.ended k.here
+
+  -- the machine over the whole text so far
+  pub joins : (s : Scanned) (st : List Bracket) → run_from (Some (line_start (first_mode place))) read ≡ Some s → brackets_of s.done ≡ Some st → Joined k.base read s st k.more
+  joins s st runs stacked = joined place k.base k.more level read s st k.fit stands runs stacked

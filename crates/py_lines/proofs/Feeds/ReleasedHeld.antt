@@ -1,0 +1,117 @@
+-- The line that is ready is released, as a caller of the scanner sees it.
+use Rattle.std.proofs.Common.{◌≡◌, ℕ, ◌+◌, ◌<◌, Option, None, Some, List, [], ◌∷◌, ◌++◌, length, take, drop, refl, sym, ap, ◌∙◌, subst, append_assoc, append-nil, arith, length-append}
+use Rattle.std.specs.Prelude.{encode_utf8_all, IsSome}
+use Rattle.std.proofs.lemmas.Bool.{both_ways}
+use Rattle.std.proofs.lemmas.List.{take-append-drop, drop-drop}
+use Rattle.std.proofs.Math.Seq.{take-append_seam, drop-append_seam}
+use Rattle.py_lines.specs.LogicalLine.{LogicalLine, byte_len, line_ends}
+use Rattle.py_lines.specs.Lexed.{IsLexed, IsLexedWhole}
+use Rattle.py_lines.specs.Settled.{IsSettled}
+use Rattle.py_lines.specs.Given.{AreFirstLines}
+use Rattle.py_lines.specs.Scanning.{Scanning, GoesOnWith, IsScanning, HasEnded, HoldsReady, Releases, fed_of, ready_lines}
+use Rattle.py_lines.specs.Scanning.View.{line_of_feed, ready_of, scanning_of}
+use Rattle.py_lines.specs.declared.feed.Feed.{Feed}
+use Rattle.py_lines.specs.Private.Feed.{IsReady, StandsSo, IsSoundFeed, LetsGo}
+use Rattle.py_lines.proofs.LineScan.LineCount.{line_ends-bytes}
+use Rattle.py_lines.proofs.Feeds.Known.{is_known}
+use Rattle.py_lines.proofs.Feeds.Released.{released, last_released}
+
+-- a line is ready where a caller sees one
+pub ready_from : (f : Feed) → IsSoundFeed f → IsSome (ready_of f f.ready) → (n : ℕ) × (f.ready ≡ Some n) × IsReady f n
+ready_from f sound some = go f.ready refl sound.state some
+  where
+    go : (ready : Option ℕ) → f.ready ≡ ready → StandsSo ready f → IsSome (ready_of f ready) → (n : ℕ) × (f.ready ≡ Some n) × IsReady f n
+    go None is stands some = absurd (both_ways _ refl some)
+    go (Some n) is stands some = (n, is, stands)
+
+-- what the text goes on with after the first of these bytes
+goes_after : (text : List ℕ) (place : ℕ) (first later : List ℕ) → GoesOnWith text place (first ++ later) → GoesOnWith text (place + length first) later
+goes_after text place first later goes =
+    let behind : first ++ (later ++ drop (length (first ++ later)) (drop place text)) ≡ drop place text = sym (append_assoc first later (drop (length (first ++ later)) (drop place text))) ∙ ap (λ t. t ++ drop (length (first ++ later)) (drop place text)) (sym goes) ∙ take-append-drop (length (first ++ later)) (drop place text) in
+    let left : drop (place + length first) text ≡ later ++ drop (length (first ++ later)) (drop place text) = sym (drop-drop (length first) place text) ∙ ap (drop (length first)) (sym behind) ∙ drop-append_seam first (later ++ drop (length (first ++ later)) (drop place text)) in
+    ap (take (length later)) left ∙ take-append_seam later (drop (length (first ++ later)) (drop place text))
+
+module _ (old new : Feed) (n : ℕ) (ready : old.ready ≡ Some n) (r : IsReady old n) (go : LetsGo old new) where
+  -- the line and what comes after it
+  text_is : take old.scan.stop old.held.items ≡ encode_utf8_all r.read
+  text_is = ap (λ (l : LogicalLine). l.text) r.line_is ∙ ap encode_utf8_all r.spells
+
+  rest_is : new.held.items ≡ r.rest
+  rest_is = go.held ∙ ap (λ (m : ℕ). drop m old.held.items) r.stop ∙ ap (drop (byte_len r.read)) (sym r.spell) ∙ drop-append_seam (encode_utf8_all r.read) r.rest
+
+  size : length old.held.items ≡ byte_len r.read + length new.held.items
+  size = ap length (sym r.spell) ∙ length-append (encode_utf8_all r.read) r.rest ∙ ap (λ l. byte_len r.read + length l) (sym rest_is)
+
+  fed_is : fed_of (scanning_of new) ≡ fed_of (scanning_of old)
+  fed_is = omega (arith, go.place, r.stop, size)
+
+  none_ready : ready_of new new.ready ≡ None
+  none_ready = ap (ready_of new) go.ready
+
+  -- the lines that reach to the end of this line reach to where the scanner stands now
+  first_here : (text : List ℕ) (lines : List LogicalLine) → AreFirstLines text (old.place + byte_len r.read) (old.line + line_ends r.read) lines → AreFirstLines text new.place new.line lines
+  first_here text lines first =
+      let place : new.place ≡ old.place + byte_len r.read = go.place ∙ ap (λ (m : ℕ). old.place + m) r.stop in
+      let line : new.line ≡ old.line + line_ends r.read = go.line ∙ r.here in
+      subst (λ (m : ℕ). AreFirstLines text m new.line lines) (sym place) (subst (λ (m : ℕ). AreFirstLines text (old.place + byte_len r.read) m lines) (sym line) first)
+
+  scans_on : (text : List ℕ) (lines : List LogicalLine) → IsScanning (scanning_of old) text lines → IsScanning (scanning_of new) text (lines ++ line_of_feed old n ∷ []) × IsSettled (take (fed_of (scanning_of new)) text) (lines ++ line_of_feed old n ∷ [])
+  scans_on text lines scanning =
+      let goes : GoesOnWith text old.place (encode_utf8_all r.read ++ r.rest) = subst (GoesOnWith text old.place) (sym r.spell) scanning.held in
+      let some : 0 < length (encode_utf8_all r.read ++ r.rest) = omega (arith, r.some, length-append (encode_utf8_all r.read) r.rest) in
+      let k = is_known text old.place old.line lines r.read r.rest scanning.first r.scalars goes some in
+      let settled_old : IsSettled (take (old.place + length old.held.items) text) (lines ++ line_of_feed old n ∷ []) = subst (λ x. IsSettled (take (old.place + length old.held.items) text) (lines ++ ready_lines (ready_of old x))) ready (scanning.settled (omega (arith, some, ap length r.spell))) in
+      let settled_known : IsSettled (take (old.place + length (encode_utf8_all r.read ++ r.rest)) text) (lines ++ line_of_feed old n ∷ []) = subst (λ l. IsSettled (take (old.place + length l) text) (lines ++ line_of_feed old n ∷ [])) (sym r.spell) settled_old in
+      let settled_new : IsSettled (take (fed_of (scanning_of new)) text) (lines ++ line_of_feed old n ∷ []) = subst (λ (m : ℕ). IsSettled (take m text) (lines ++ line_of_feed old n ∷ [])) (sym fed_is) settled_old in
+      let first : AreFirstLines text (old.place + byte_len r.read) (old.line + line_ends r.read) (lines ++ line_of_feed old n ∷ []) = released text old.place old.line lines r.read r.rest k (line_of_feed old n) text_is settled_known in
+      let place : new.place ≡ old.place + byte_len r.read = go.place ∙ ap (λ (m : ℕ). old.place + m) r.stop in
+      let held : GoesOnWith text new.place new.held.items = subst (λ (m : ℕ). GoesOnWith text m new.held.items) (sym place) (subst (GoesOnWith text (old.place + byte_len r.read)) (sym rest_is) (goes_after text old.place (encode_utf8_all r.read) r.rest goes)) in (
+        record {
+          first = first_here text (lines ++ line_of_feed old n ∷ []) first;
+          held = held;
+          settled = λ more. subst (λ x. IsSettled (take (fed_of (scanning_of new)) text) ((lines ++ line_of_feed old n ∷ []) ++ ready_lines x)) (sym none_ready) (subst (IsSettled (take (fed_of (scanning_of new)) text)) (sym (append-nil (lines ++ line_of_feed old n ∷ []))) settled_new);
+          whole = subst (HoldsReady new.held.items) (sym none_ready) tt;
+          open_yet = go.ended ∙ scanning.open_yet;
+          no_fault = go.fault ∙ scanning.no_fault;
+        },
+        settled_new,
+      )
+
+  ends_on : (text : List ℕ) (lines : List LogicalLine) → HasEnded (scanning_of old) text lines → HasEnded (scanning_of new) text (lines ++ line_of_feed old n ∷ [])
+  ends_on text lines ended =
+      let all : IsLexedWhole text (lines ++ line_of_feed old n ∷ []) = subst (λ x. IsLexed text (lines ++ ready_lines (ready_of old x)) None) ready ended.lexed in
+      record {
+        first = first_here text (lines ++ line_of_feed old n ∷ []) (last_released text old.place old.line lines r.read (line_of_feed old n) text_is ended.first all);
+        lexed = subst (λ x. IsLexed text ((lines ++ line_of_feed old n ∷ []) ++ ready_lines x) None) (sym none_ready) (subst (λ l. IsLexed text l None) (sym (append-nil (lines ++ line_of_feed old n ∷ []))) all);
+        held = go.held ∙ ap (drop old.scan.stop) ended.held ∙ drop-drop old.scan.stop old.place text ∙ ap (λ (m : ℕ). drop m text) (sym go.place);
+        whole = subst (HoldsReady new.held.items) (sym none_ready) tt;
+        ended = go.ended ∙ ended.ended;
+        no_fault = go.fault ∙ ended.no_fault;
+      }
+
+  pub releases : Releases (scanning_of old) (scanning_of new)
+  releases = record {
+    unit = line_of_feed old n;
+    was = ap (ready_of old) ready;
+    scans = scans_on;
+    ends = ends_on;
+    place = go.place ∙ ap (λ (m : ℕ). old.place + m) (r.stop ∙ ap length (sym text_is));
+    held = sym (take-append-drop old.scan.stop old.held.items) ∙ ap (λ t. take old.scan.stop old.held.items ++ t) (sym go.held);
+    none_ready = none_ready;
+    ended = go.ended;
+    fault = go.fault;
+  }
+
+  -- the state after it
+  pub released_sound : IsSoundFeed old → IsSoundFeed new
+  released_sound sound = record {
+    fits = omega (arith, fed_is, sound.fits);
+    few_lines = omega (arith, go.place, go.line, r.stop, r.here, line_ends-bytes r.read, sound.few_lines);
+    state = subst (λ x. StandsSo x new) (sym go.ready) (λ no_fault. ([], new.held.items, go.opens));
+  }
+
+-- both, where a caller sees a line that is ready
+pub release_seen : (old new : Feed) (seen : Scanning) → scanning_of old ≡ seen → IsSoundFeed old → IsSome seen.ready → LetsGo old new → Releases seen (scanning_of new) × IsSoundFeed new
+release_seen old new seen is sound some go =
+    let at = ready_from old sound (subst (λ (s : Scanning). IsSome s.ready) (sym is) some) in
+    (subst (λ (s : Scanning). Releases s (scanning_of new)) is (releases old new at.0 at.1 at.2 go), released_sound old new at.0 at.1 at.2 go sound)

@@ -1,0 +1,169 @@
+-- What the known bytes settle: the lines given, where the machine has found no line end after them, or one line more.
+use Rattle.std.proofs.Common.{◌≡◌, ℕ, ◌<◌, ◌≤◌, ◌⊎◌, Bool, false, Some, List, [], ◌∷◌, ◌++◌, length, refl, sym, ap, ◌∙◌, subst, ⊎_elim, inl, inr, append_assoc, append-nil, arith, length-append}
+use Rattle.std.specs.Prelude.{encode_utf8_all}
+use Rattle.std.specs.Str.{StartsWithNoChar}
+use Rattle.std.proofs.lemmas.Bool.{cases_lt, and_from, false_from_ne_true}
+use Rattle.std.proofs.lemmas.Str.{encodes-append, encodes_same, encode_ascii}
+use Rattle.py_lines.specs.Character.{is_line_feed, is_return}
+use Rattle.py_lines.specs.Piece.{line_end, Piece, ends, spelled, AreReadBefore}
+use Rattle.py_lines.specs.Balance.{depth_through}
+use Rattle.py_lines.specs.LogicalLine.{LogicalLine, cut, byte_len, line_of, lines_of}
+use Rattle.py_lines.specs.Lexed.{Decodes, IsBalancedReading, EndsLine}
+use Rattle.py_lines.specs.Settled.{EndsForGood, IsSettled}
+use Rattle.py_lines.specs.Private.Machine.{Scanned, run_from, Bracket, brackets_of, IsSound}
+use Rattle.py_lines.specs.Private.Scan.{EndsNoLine, line_start}
+use Rattle.py_lines.specs.Private.Source.{first_mode}
+use Rattle.py_lines.specs.declared.mode.Mode.{Mode}
+use Rattle.py_lines.specs.declared.mode.Mode.TheVariants as modes
+use Rattle.std.proofs.Math.Utf8.{low_scalar}
+use Rattle.py_lines.specs.Balance as brackets
+use Rattle.py_lines.specs.Balance.{IsShallow}
+use Rattle.py_lines.proofs.Text.CharacterTests.{return_is, feed_is}
+use Rattle.py_lines.proofs.Text.Continued.{goes_on}
+use Rattle.py_lines.proofs.Text.Utf8Prefixes.{all_scalars-append, nothing_bad}
+use Rattle.py_lines.proofs.Text.Utf8Shapes.{no_char}
+use Rattle.py_lines.proofs.Pieces.PieceLists.{spelled-append, AreReadBefore-append, AreReadBefore-second}
+use Rattle.py_lines.proofs.Pieces.OpenBrackets.{balanced-from_stack, balanced_depth, depth_through-append, IsShallow-append}
+use Rattle.py_lines.proofs.LogicalLines.NextLine.{lines_of-push, texts, texts-lines}
+use Rattle.py_lines.proofs.Lexings.LinePrefix.{read-alone}
+use Rattle.py_lines.proofs.Lexings.SettledLines.{ends-line}
+use Rattle.py_lines.proofs.Machine.PieceRuns.{scanned, pieces_at}
+use Rattle.py_lines.proofs.Lexings.SettledFront.{EndsNoneYet, settled_at, settled_line}
+use Rattle.py_lines.proofs.LineScan.NextCharacter.{closed_one_line}
+use Rattle.py_lines.proofs.LineScan.LineRun.{sound_run}
+use Rattle.py_lines.proofs.LineScan.TextRun.{begun_sound, follows_base}
+use Rattle.py_lines.proofs.Feeds.Known as of
+use Rattle.py_lines.proofs.Feeds.Known.{IsKnown}
+
+-- a CR that ends the line, unless LF follows, is the last byte known
+abbrev pub MayGetFeed : Mode → List Bracket → List ℕ → Type 0
+MayGetFeed modes.Return [] rest = rest ≡ []
+MayGetFeed m st rest = Unit {0}
+
+ends_none : (m : Mode) (done : List Piece) (held read rest : List ℕ) (st : List Bracket) → IsSound (scanned done m held) read → brackets_of done ≡ Some st → EndsNoLine 0 done → MayGetFeed m st rest → EndsNoneYet (pieces_at (scanned done m held)) rest
+ends_none modes.Return done held read rest [] sound stacked one_line last = EndsNoneYet.by_return done held refl one_line (sound.holds.1 ∙ ap (λ d. d ∷ []) (return_is sound.holds.0 sound.holds.2)) last
+ends_none modes.Return done held read rest (b ∷ bs) sound stacked one_line last = EndsNoneYet.none (closed_one_line modes.Return done held (b ∷ bs) stacked one_line (λ same. refl))
+ends_none m done held read rest st sound stacked one_line last = EndsNoneYet.none (closed_one_line m done held st stacked one_line (λ same. absurd (cc)))
+
+nothing_known : (read rest : List ℕ) → read ++ rest ≡ [] → length (encode_utf8_all read ++ rest) ≡ 0
+nothing_known [] [] h = refl
+nothing_known [] (d ∷ ds) h = absurd (cc)
+nothing_known (c ∷ cs) rest h = absurd (cc)
+
+module _ (text : List ℕ) (place line : ℕ) (lines : List LogicalLine) (read rest : List ℕ) (k : IsKnown text place line lines read rest) where
+  -- no line has ended since
+  pub settled_open : (s : Scanned) (st : List Bracket) → run_from (Some (line_start (first_mode place))) read ≡ Some s → brackets_of s.done ≡ Some st → EndsNoLine 0 s.done → StartsWithNoChar rest → 0 < length (encode_utf8_all read ++ rest) → MayGetFeed s.mode st rest → IsSettled (of.bytes text place line lines read rest k) lines
+  settled_open s st runs stacked one_line bad some last =
+      let j = of.joins text place line lines read rest k s st runs stacked in
+      let sound = sound_run (first_mode place) read s (begun_sound place) runs in
+      let good : EndsForGood k.base (read ++ rest) = (k.ended, λ none. absurd (omega (arith, some, nothing_known read rest none))) in
+      record {
+        characters = spelled k.base ++ read;
+        tail = rest;
+        pieces = k.base;
+        decodes = of.decodes text place line lines read rest k bad;
+        front = settled_at (spelled k.base ++ read) rest j.state j.st k.base (pieces_at s) read j.runs j.pieces good (ends_none s.mode s.done s.held read rest st sound stacked one_line last) refl;
+        cut = k.cut;
+      }
+
+-- a byte of a longer character begins none alone
+wide_alone : (b : ℕ) → 128 ≤ b → StartsWithNoChar (b ∷ [])
+wide_alone b wide = no_char (b ∷ []) (λ g. let t = g.second wide in omega arith)
+
+no_feed : (c : ℕ) → (c ≡ 10 → ⊥) → is_line_feed c ≡ false
+no_feed c h = false_from_ne_true _ (λ feeds. h (feed_is c feeds))
+
+nothing_of : (a b c : List ℕ) → encode_utf8_all a ++ b ≡ c → a ++ b ≡ [] → c ≡ []
+nothing_of [] b c is none = sym is ∙ none
+nothing_of (x ∷ xs) b c is none = absurd (cc)
+
+-- bytes after a line that its line end has closed: none, or one that follows a CR and is no LF
+pub data Follow (u : List Piece) (rest : List ℕ) : Type 0 where
+  by_feed : rest ≡ [] → ends is_return (spelled u) ≡ false → Follow u rest
+  by_byte : (b : ℕ) → rest ≡ b ∷ [] → (b ≡ 10 → ⊥) → Follow u rest
+
+-- a line after the lines given, which may stand before what follows
+pub record IsNextLine (place : ℕ) (read more : List ℕ) (u : List Piece) : Type 0 where
+  pub body : List Piece
+  pub last : Piece
+  pub is : u ≡ body ++ last ∷ []
+  pub class : last.class ≡ line_end
+  pub level : depth_through 0 body ≡ 0
+  pub spell : spelled u ≡ read
+  pub fit : AreReadBefore u more
+  pub whole : cut 0 u ≡ u ∷ []
+  pub stacked : brackets_of u ≡ Some []
+  pub to : Scanned
+  pub runs : run_from (Some (line_start (first_mode place))) read ≡ Some to
+
+module _ (text : List ℕ) (place line : ℕ) (lines : List LogicalLine) (read rest : List ℕ) (k : IsKnown text place line lines read rest) (u : List Piece) (next : IsNextLine place read k.more u) where
+  all_fit : AreReadBefore (k.base ++ u) k.more
+  all_fit = AreReadBefore-append k.base u k.more (subst (λ t. AreReadBefore k.base (t ++ k.more)) (sym next.spell) k.fit) next.fit (follows_base place k.base u read k.more next.to (of.stands text place line lines read rest k) next.spell next.fit next.runs)
+
+  all_spelled : spelled (k.base ++ u) ≡ spelled k.base ++ read
+  all_spelled = spelled-append k.base u ∙ ap (λ t. spelled k.base ++ t) next.spell
+
+  ends_line : EndsLine (k.base ++ u)
+  ends_line = inr (
+    k.base ++ next.body,
+    next.last,
+    ap (λ l. k.base ++ l) next.is ∙ sym (append_assoc k.base next.body (next.last ∷ [])),
+    next.class,
+    depth_through-append 0 k.base next.body ∙ ap (λ (d : ℕ). depth_through d next.body) (balanced_depth k.base k.balanced 0) ∙ next.level,
+  )
+
+  all_reading : IsBalancedReading (k.base ++ u) (spelled (k.base ++ u))
+  all_reading =
+      let split : k.base ++ u ≡ (k.base ++ next.body) ++ next.last ∷ [] = ap (λ l. k.base ++ l) next.is ∙ sym (append_assoc k.base next.body (next.last ∷ [])) in
+      let balanced = balanced-from_stack u next.stacked in
+      let level : depth_through 0 k.base ≡ 0 = balanced_depth k.base k.balanced 0 in
+      record {
+        spell = refl;
+        fit = subst (λ l. AreReadBefore l []) (sym split) (read-alone (k.base ++ next.body) next.last k.more next.class (subst (λ l. AreReadBefore l k.more) split all_fit));
+        balanced = brackets.both (k.base ++ u) k.base u refl k.balanced balanced.0;
+        shallow = IsShallow-append 0 k.base u k.shallow (subst (λ (d : ℕ). IsShallow d u) (sym level) balanced.1);
+      }
+
+  last_ends : (p : ℕ → Bool) → ends p (spelled (k.base ++ u)) ≡ ends p (spelled u)
+  last_ends p =
+      let holds = (AreReadBefore-second next.body (next.last ∷ []) k.more (subst (λ l. AreReadBefore l k.more) next.is next.fit)).0 in
+      let split : k.base ++ u ≡ (k.base ++ next.body) ++ next.last ∷ [] = ap (λ l. k.base ++ l) next.is ∙ sym (append_assoc k.base next.body (next.last ∷ [])) in
+      ap (λ (l : List Piece). ends p (spelled l)) split ∙ ends-line p (k.base ++ next.body) next.last next.class holds ∙ sym (ends-line p next.body next.last next.class holds) ∙ ap (λ (l : List Piece). ends p (spelled l)) (sym next.is)
+
+  cut_all : lines ++ line_of place line u ∷ [] ≡ lines_of (k.base ++ u)
+  cut_all =
+      ap (λ l. l ++ line_of place line u ∷ []) k.cut ∙ ap (λ (n : ℕ). lines_of k.base ++ line_of n line u ∷ []) k.here ∙ ap (λ (n : ℕ). lines_of k.base ++ line_of (byte_len (spelled k.base)) n u ∷ []) k.number
+      ∙ sym (lines_of-push k.base u k.more k.ended next.whole all_fit)
+
+  by_rest : (characters tail left : List ℕ) → Decodes (of.bytes text place line lines read rest k) characters tail → spelled (k.base ++ u) ++ left ≡ characters → EndsForGood (k.base ++ u) (left ++ tail) → (left ≡ []) ⊎ ((c : ℕ) × (left ≡ c ∷ []) × (is_line_feed c ≡ false) × (tail ≡ [])) → IsSettled (of.bytes text place line lines read rest k) (lines ++ line_of place line u ∷ [])
+  by_rest characters tail left decodes spell good near = record { characters = characters; tail = tail; pieces = k.base ++ u; decodes = decodes; front = settled_line characters tail (k.base ++ u) left spell all_reading good near; cut = cut_all }
+
+  -- one line more is settled
+  pub settled_ready : Follow u rest → IsSettled (of.bytes text place line lines read rest k) (lines ++ line_of place line u ∷ [])
+  settled_ready (Follow.by_feed nothing no_cr) =
+      by_rest (spelled k.base ++ read) [] [] (subst (λ t. Decodes (of.bytes text place line lines read rest k) (spelled k.base ++ read) t) nothing (of.decodes text place line lines read rest k (subst StartsWithNoChar (sym nothing) nothing_bad)))
+      (append-nil (spelled (k.base ++ u)) ∙ all_spelled) (ends_line, λ h. last_ends is_return ∙ no_cr) (inl refl)
+  settled_ready (Follow.by_byte b is other) = ⊎_elim narrow wide (cases_lt b 128)
+    where
+      wide : 128 ≤ b → IsSettled (of.bytes text place line lines read rest k) (lines ++ line_of place line u ∷ [])
+      wide high = by_rest (spelled k.base ++ read) rest [] (of.decodes text place line lines read rest k (subst StartsWithNoChar (sym is) (wide_alone b high)))
+          (append-nil (spelled (k.base ++ u)) ∙ all_spelled) (ends_line, λ none. absurd (omega (arith, ap length (sym is ∙ none)))) (inl refl)
+
+      narrow : b < 128 → IsSettled (of.bytes text place line lines read rest k) (lines ++ line_of place line u ∷ [])
+      narrow low =
+          let scalars = all_scalars-append (spelled k.base ++ read) (b ∷ []) k.scalars (and_from _ _ (low_scalar b (omega arith)) refl) in
+          let bytes : encode_utf8_all ((spelled k.base ++ read) ++ b ∷ []) ++ [] ≡ of.bytes text place line lines read rest k
+          = append-nil _ ∙ encodes-append (spelled k.base ++ read) (b ∷ []) ∙ ap (λ t. encode_utf8_all (spelled k.base ++ read) ++ t) (append-nil _ ∙ encode_ascii b low ∙ sym is) ∙ sym k.known in
+          by_rest ((spelled k.base ++ read) ++ b ∷ []) [] (b ∷ []) (record { are = scalars; spell = bytes; bad = nothing_bad })
+          (ap (λ t. t ++ b ∷ []) all_spelled) (ends_line, λ none. absurd (omega (arith, ap length none)))
+          (inr (b, refl, no_feed b other, refl))
+
+  -- a line that has ended for good in the known bytes is settled: the lines given are then not all that is
+  pub ended_before : IsSettled (of.bytes text place line lines read rest k) lines → (rest ≡ [] → ends is_return (spelled u) ≡ false) → 0 < length read → ⊥
+  ended_before s good some =
+      let on = goes_on (spelled k.base ++ read) rest s.characters s.tail k.scalars s.decodes.are s.decodes.bad (sym k.known ∙ sym s.decodes.spell) in
+      let spell : spelled (k.base ++ u) ++ on.rest ≡ s.characters = ap (λ t. t ++ on.rest) all_spelled ∙ sym on.split in
+      let ended : EndsForGood (k.base ++ u) (on.rest ++ s.tail) = (ends_line, λ none. last_ends is_return ∙ good (nothing_of on.rest s.tail rest on.left none)) in
+      let bound = s.front.longest (k.base ++ u) on.rest spell all_reading ended in
+      let same : spelled s.pieces ≡ spelled k.base = encodes_same (spelled s.pieces) (spelled k.base) (sym (texts-lines s.pieces) ∙ ap texts (sym s.cut ∙ k.cut) ∙ texts-lines k.base) in
+      omega (arith, bound, ap length same, ap length all_spelled, length-append (spelled k.base) read, some)

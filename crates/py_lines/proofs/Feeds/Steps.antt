@@ -1,0 +1,95 @@
+-- One character more of what a scanner holds.
+use Rattle.std.proofs.Common.{◌≡◌, ℕ, ◌+◌, ◌<◌, ◌≤◌, true, ◌||◌, List, [], ◌∷◌, ◌++◌, length, take, drop, inr, refl, sym, ap, ◌∙◌, subst, append_assoc, append-nil, arith, length-append, length-drop, ◌-◌}
+use Rattle.std.specs.Prelude.{encode_utf8, encode_utf8_all, IsUtf8}
+use Rattle.std.specs.Str.{all_scalars, StartsWithNoChar}
+use Rattle.std.specs.Char.{IsScalar}
+use Rattle.std.proofs.lemmas.Bool.{and_from, and_parts, cond_both}
+use Rattle.std.proofs.lemmas.Str.{encodes-append, encode_ascii, encodes_same}
+use Rattle.std.proofs.lemmas.List.{take_all}
+use Rattle.std.proofs.Math.Seq.{take-append_seam, drop-append_seam}
+use Rattle.py_lines.specs.Character.{is_line_feed}
+use Rattle.py_lines.specs.Piece.{begins, spelled}
+use Rattle.py_lines.specs.LogicalLine.{byte_len, line_ends}
+use Rattle.py_lines.specs.declared.feed.Feed.{Feed}
+use Rattle.py_lines.specs.Private.Machine.{in_short, is_behind_slash, IsSound}
+use Rattle.std.specs.Global.{Vec}
+use Rattle.py_lines.specs.Private.Scan.{Closes, is_return_mode, IsAtLineEnd, is_returned, refused_place}
+use Rattle.py_lines.specs.Private.Source.{first_mode}
+use Rattle.py_lines.specs.Private.Feed.{KeepsText, IsOpen, EndsLineHeld}
+use Rattle.py_lines.proofs.Text.Utf8Prefixes.{all_scalars-append, all_scalars-parts}
+use Rattle.py_lines.proofs.LogicalLines.Cuts.{byte_len-append}
+use Rattle.py_lines.proofs.LineScan.LineCount.{line_ends-bytes}
+use Rattle.py_lines.proofs.LineScan.LineRun.{sound_run, returned, way_order, way_stop, way_here}
+use Rattle.py_lines.proofs.LineScan.LineStops.{return_ends}
+use Rattle.py_lines.proofs.LineScan.TextRun.{begun_sound}
+use Rattle.py_lines.proofs.Readers.LineAnswers.{Within, all_within}
+
+module _ (f : Feed) (read rest : List ℕ) (o : IsOpen f read rest) where
+  pub open_sound : IsSound o.way.state read
+  open_sound = sound_run (first_mode f.place) read o.way.state (begun_sound f.place) o.way.runs
+
+  pub open_order : f.scan.start ≤ f.scan.stop
+  open_order = way_order f.scan o.way.state o.way.tallies
+
+  pub open_stop : f.scan.stop ≡ byte_len read
+  open_stop = way_stop (first_mode f.place) f.scan read o.way (begun_sound f.place)
+
+  pub open_here : f.scan.count.line ≡ f.line + line_ends read
+  open_here = way_here (first_mode f.place) f.scan read o.way (begun_sound f.place) ∙ ap (λ (n : ℕ). n + line_ends read) o.number
+
+  pub open_size : length f.held.items ≡ byte_len read + length rest
+  open_size = ap length (sym o.spell) ∙ length-append (encode_utf8_all read) rest
+
+  pub open_lines : line_ends read ≤ byte_len read
+  open_lines = line_ends-bytes read
+
+  -- a place in what was scanned
+  pub within_held : (behind : ℕ) (w : Within read behind) → (behind ≤ byte_len read) × (take behind f.held.items ≡ encode_utf8_all w.front) × IsUtf8 (take behind f.held.items)
+  within_held behind w =
+      let size : byte_len read ≡ byte_len w.front + byte_len w.later = ap byte_len (sym w.split) ∙ byte_len-append w.front w.later in
+      let spell : f.held.items ≡ encode_utf8_all w.front ++ (encode_utf8_all w.later ++ rest) = sym o.spell ∙ ap (λ t. encode_utf8_all t ++ rest) (sym w.split) ∙ ap (λ t. t ++ rest) (encodes-append w.front w.later) ∙ append_assoc (encode_utf8_all w.front) (encode_utf8_all w.later) rest in
+      let taken : take behind f.held.items ≡ encode_utf8_all w.front = ap (λ (n : ℕ). take n f.held.items) w.size ∙ ap (take (byte_len w.front)) spell ∙ take-append_seam (encode_utf8_all w.front) (encode_utf8_all w.later ++ rest) in
+      let scalars = (all_scalars-parts w.front w.later (ap all_scalars w.split ∙ o.scalars)).0 in
+      (omega (arith, size, w.size), taken, (w.front, (scalars, sym taken)))
+
+  pub refused_held : Within read (refused_place f.scan)
+  refused_held =
+      cond_both (in_short f.scan.mode || is_behind_slash f.scan.mode) f.scan.start f.scan.stop (Within read)
+      (λ h. record { front = spelled o.way.state.done; later = o.way.state.held; split = open_sound.spell; size = o.way.tallies.start })
+      (λ h. all_within read f.scan.stop open_stop)
+
+-- the characters with one more, in front of what is left
+pub spell_more : (read rest held : List ℕ) (c : ℕ) → encode_utf8_all read ++ (encode_utf8 c ++ rest) ≡ held → encode_utf8_all (read ++ c ∷ []) ++ rest ≡ held
+spell_more read rest held c spell = ap (λ t. t ++ rest) (encodes-append read (c ∷ []) ∙ ap (λ t. encode_utf8_all read ++ t) (append-nil (encode_utf8 c))) ∙ append_assoc (encode_utf8_all read) (encode_utf8 c) rest ∙ spell
+
+pub scalars_more : (read : List ℕ) (c : ℕ) → all_scalars read ≡ true → IsScalar c → all_scalars (read ++ c ∷ []) ≡ true
+scalars_more read c fine scalar = all_scalars-append read (c ∷ []) fine (and_from _ _ scalar refl)
+
+-- what is held next
+pub held_next : (f : Feed) (read rest : List ℕ) → IsOpen f read rest → drop f.scan.stop f.held.items ≡ rest
+held_next f read rest o = ap (λ (n : ℕ). drop n f.held.items) (open_stop f read rest o) ∙ ap (drop (byte_len read)) (sym o.spell) ∙ drop-append_seam (encode_utf8_all read) rest
+
+-- the bytes after the place where the scan stands
+pub next_is : (f : Feed) (read rest held : List ℕ) → IsOpen f read rest → held ≡ f.held.items → take (length held - f.scan.stop) (drop f.scan.stop held) ≡ rest
+next_is f read rest held o same = take_all (length held - f.scan.stop) (drop f.scan.stop held) (omega (arith, length-drop f.scan.stop held)) ∙ ap (drop f.scan.stop) same ∙ held_next f read rest o
+
+-- bytes that begin no character don't begin with LF
+no_feed : (b : ℕ) (more : List ℕ) → StartsWithNoChar (b ∷ more) → b ≡ 10 → ⊥
+no_feed b more none ten = none 10 more refl (ap (λ (n : ℕ). n ∷ more) ten ∙ ap (λ t. t ++ more) (sym (encode_ascii 10 (omega arith))))
+
+-- a line that such bytes show to have ended in CR
+pub ends_returned : (old new : Feed) (read rest : List ℕ) (o : IsOpen old read rest) → 0 < length rest → StartsWithNoChar rest → is_returned old.scan ≡ true → KeepsText old new → Closes old.scan new.scan → EndsLineHeld 1 new
+ends_returned old new read [] o some none is keeps closes = absurd (omega arith)
+ends_returned old new read (b ∷ more) o some none is keeps closes =
+    let parts = and_parts _ _ is in
+    record {
+      all = read;
+      after = b ∷ more;
+      ended = record {
+        scalars = o.scalars;
+        spell = o.spell ∙ ap (λ (v : Vec ℕ). v.items) (sym keeps.held);
+        at = λ after h. subst (λ (n : ℕ). IsAtLineEnd (first_mode n) new.scan read (encode_utf8_all after) 1) (sym keeps.place) (returned (first_mode old.place) old.scan new.scan read (encode_utf8_all after) o.way (begun_sound old.place) parts.0 parts.1 closes (λ a spells. ap (begins is_line_feed) (encodes_same a after spells) ∙ h (return_ends o.way.state read (open_sound old read (b ∷ more) o) (ap is_return_mode (sym o.way.tallies.mode) ∙ parts.0))));
+        number = closes.line ∙ o.number ∙ sym keeps.line;
+      };
+      whole = inr (b, more, refl, no_feed b more none);
+    }

@@ -1,0 +1,149 @@
+-- A fault that the known bytes of a text decide is that of every text that begins with them.
+use Rattle.std.proofs.Common.{◌≡◌, ℕ, ◌+◌, ◌≤◌, Option, None, Some, List, [], ◌∷◌, ◌++◌, length, refl, sym, ap, ◌∙◌, subst, append_assoc}
+use Rattle.std.specs.Prelude.{encode_utf8_all}
+use Rattle.std.specs.Str.{StartsWithNoChar}
+use Rattle.py_lines.specs.Piece.{Piece, spelled}
+use Rattle.py_lines.specs.LogicalLine.{LogicalLine, byte_len, line_ends}
+use Rattle.py_lines.specs.Lexed.{Decodes, IsBalancedReading, IsLive, EndsLine, IsFront, IsCharacterFault, IsFaultAt, IsLexicalFault, IsLexed}
+use Rattle.py_lines.specs.Settled.{StaysFaulty, Decides}
+use Rattle.py_lines.specs.declared.fault.FaultKind.{FaultKind}
+use Rattle.py_lines.specs.declared.fault.FaultKind.TheVariants as faults
+use Rattle.py_lines.specs.declared.fault.Fault.{Fault}
+use Rattle.py_lines.proofs.Text.Continued.{goes_on}
+use Rattle.py_lines.proofs.Text.Decoding.{decoding}
+use Rattle.py_lines.proofs.Machine.LiveTexts.{reading_live}
+use Rattle.py_lines.proofs.Faults.FaultPrefixes.{fault_front}
+use Rattle.py_lines.proofs.Faults.Verdict.{character_at}
+use Rattle.py_lines.proofs.Lexings.LinePrefix.{live_prefix, Either, either}
+use Rattle.py_lines.proofs.Lexings.Uniqueness.{decoded, same_fault}
+use Rattle.py_lines.proofs.Lexings.Answers.{same_place}
+
+-- a text that dies at a character has no reading, nor has one that goes on from there
+dies_unread : (kind : FaultKind) (characters : List ℕ) (offset : ℕ) → IsCharacterFault kind characters offset → (pieces : List Piece) → ¬ (IsBalancedReading pieces characters)
+dies_unread kind characters offset fault pieces reading = fault.dies.dead (live_prefix (fault.before ++ fault.c ∷ []) fault.dies.after (subst IsLive (sym fault.dies.spell ∙ sym (append_assoc fault.before (fault.c ∷ []) fault.dies.after)) (reading_live pieces characters reading)))
+
+-- its fault stays where it is
+goes_on_faulty : (kind : FaultKind) (characters rest : List ℕ) (offset : ℕ) → IsCharacterFault kind characters offset → IsCharacterFault kind (characters ++ rest) offset
+goes_on_faulty kind characters rest offset fault = record {
+  before = fault.before;
+  c = fault.c;
+  dies = record { after = fault.dies.after ++ rest; spell = sym (append_assoc fault.before (fault.c ∷ fault.dies.after) rest) ∙ ap (λ t. t ++ rest) fault.dies.spell; live = fault.dies.live; dead = fault.dies.dead };
+  fits = fault.fits;
+  first = fault.first;
+}
+
+-- the same prefix of a text that goes on ends a line, and is the longest
+front_on : (kind : FaultKind) (characters rest : List ℕ) (offset : ℕ) (pieces : List Piece) → IsCharacterFault kind characters offset → IsFront pieces characters → IsFront pieces (characters ++ rest)
+front_on kind characters rest offset pieces fault front = record {
+  rest = front.rest ++ rest;
+  spell = sym (append_assoc (spelled pieces) front.rest rest) ∙ ap (λ t. t ++ rest) front.spell;
+  reading = front.reading;
+  ended = front.ended;
+  longest = longest;
+}
+  where
+    whole : (fault.before ++ fault.c ∷ []) ++ fault.dies.after ≡ characters
+    whole = append_assoc fault.before (fault.c ∷ []) fault.dies.after ∙ fault.dies.spell
+
+    longest : (others : List Piece) (after : List ℕ) → spelled others ++ after ≡ characters ++ rest → IsBalancedReading others (spelled others) → EndsLine others → length (spelled others) ≤ length (spelled pieces)
+    longest others after spell reading ended = go (either (spelled others) after (fault.before ++ fault.c ∷ []) (fault.dies.after ++ rest) (spell ∙ ap (λ t. t ++ rest) (sym whole) ∙ append_assoc (fault.before ++ fault.c ∷ []) fault.dies.after rest))
+      where
+        go : Either (spelled others) (fault.before ++ fault.c ∷ []) (fault.dies.after ++ rest) → length (spelled others) ≤ length (spelled pieces)
+        go (Either.shorter k one) = front.longest others (k ++ fault.dies.after) (sym (append_assoc (spelled others) k fault.dies.after) ∙ ap (λ t. t ++ fault.dies.after) (sym one) ∙ whole) reading ended
+        go (Either.longer c k later one two) = absurd (fault.dies.dead (live_prefix (fault.before ++ fault.c ∷ []) (c ∷ k) (subst IsLive one (reading_live others (spelled others) reading))))
+
+-- the line of a fault stays
+line_on : (characters tail rest other : List ℕ) (fault : Fault) → IsLexicalFault characters tail fault → IsFaultAt fault.kind characters tail fault.offset → (before after : List ℕ) → before ++ after ≡ characters ++ rest → byte_len before ≡ fault.offset → fault.line ≡ 1 + line_ends before
+line_on characters tail rest other fault refused at before after spell place =
+    let found = fault_front fault.kind characters tail fault.offset at in
+    refused.line found.front found.rest found.spell found.place ∙ ap (λ t. 1 + line_ends t) (same_place found.front (found.rest ++ rest) before after (sym (append_assoc found.front found.rest rest) ∙ ap (λ t. t ++ rest) found.spell ∙ sym spell) (found.place ∙ sym place))
+
+-- a fault at a character stays
+pub stays_at : (kind : FaultKind) (characters tail : List ℕ) (offset : ℕ) → IsCharacterFault kind characters offset → StaysFaulty kind characters tail offset
+stays_at faults.BadUtf8 characters tail offset fault = absurd fault.fits
+stays_at kind characters tail offset fault = fault
+
+-- the known bytes, and what they say of a text that goes on
+pub record Continued (text more : List ℕ) (fault : Fault) (characters tail : List ℕ) : Type 0 where
+  pub whole : List ℕ
+  pub left : List ℕ
+  pub decodes : Decodes (text ++ more) whole left
+  pub refused : IsLexicalFault whole left fault
+  pub stays : StaysFaulty fault.kind whole left fault.offset
+  pub front : (pieces : List Piece) → IsFront pieces characters → IsFront pieces whole
+
+by_character : (text more : List ℕ) (fault : Fault) (d : Decides text fault) → IsCharacterFault fault.kind d.characters fault.offset → Continued text more fault d.characters d.tail
+by_character text more fault d stays =
+    let w = decoding (text ++ more) in
+    let on = goes_on d.characters (d.tail ++ more) w.characters w.tail d.decodes.are w.decodes.are w.decodes.bad (sym (append_assoc (encode_utf8_all d.characters) d.tail more) ∙ ap (λ t. t ++ more) d.decodes.spell ∙ sym w.decodes.spell) in
+    let later = goes_on_faulty fault.kind d.characters on.rest fault.offset stays in
+    record {
+      whole = d.characters ++ on.rest;
+      left = w.tail;
+      decodes = subst (λ t. Decodes (text ++ more) t w.tail) on.split w.decodes;
+      refused = record {
+        unread = λ all. dies_unread fault.kind (d.characters ++ on.rest) fault.offset later;
+        place = character_at fault.kind (d.characters ++ on.rest) w.tail fault.offset later;
+        line = line_on d.characters d.tail on.rest w.tail fault d.refused d.refused.place;
+      };
+      stays = stays_at fault.kind (d.characters ++ on.rest) w.tail fault.offset later;
+      front = λ pieces front. front_on fault.kind d.characters on.rest fault.offset pieces stays front;
+    }
+
+nothing_left : (a b : List ℕ) → a ++ b ≡ [] → a ≡ []
+nothing_left [] b h = refl
+nothing_left (c ∷ cs) b h = absurd (cc)
+
+by_bytes : (text more : List ℕ) (fault : Fault) (d : Decides text fault) → fault.kind ≡ faults.BadUtf8 → ((after : List ℕ) → StartsWithNoChar (d.tail ++ after)) → Continued text more fault d.characters d.tail
+by_bytes text more fault d is hopeless =
+    let at : IsFaultAt faults.BadUtf8 d.characters d.tail fault.offset = subst (λ (k : FaultKind). IsFaultAt k d.characters d.tail fault.offset) is d.refused.place in
+    record {
+      whole = d.characters;
+      left = d.tail ++ more;
+      decodes = record { are = d.decodes.are; spell = sym (append_assoc (encode_utf8_all d.characters) d.tail more) ∙ ap (λ t. t ++ more) d.decodes.spell; bad = hopeless more };
+      refused = record {
+        unread = λ nothing. absurd (at.bad (nothing_left d.tail more nothing));
+        place = subst (λ (k : FaultKind). IsFaultAt k d.characters (d.tail ++ more) fault.offset) (sym is) (record { bad = λ nothing. at.bad (nothing_left d.tail more nothing); live = at.live; place = at.place });
+        line = d.refused.line;
+      };
+      stays = subst (λ (k : FaultKind). StaysFaulty k d.characters (d.tail ++ more) fault.offset) (sym is) (λ after. subst StartsWithNoChar (sym (append_assoc d.tail more after)) (hopeless (more ++ after)));
+      front = λ pieces front. front;
+    }
+
+continued : (text more : List ℕ) (fault : Fault) (d : Decides text fault) → Continued text more fault d.characters d.tail
+continued text more fault d = go fault.kind refl d.stays
+  where
+    go : (kind : FaultKind) → fault.kind ≡ kind → StaysFaulty kind d.characters d.tail fault.offset → Continued text more fault d.characters d.tail
+    go faults.BadUtf8 is stays = by_bytes text more fault d is stays
+    go kind is stays = by_character text more fault d (subst (λ (k : FaultKind). IsCharacterFault k d.characters fault.offset) (sym is) stays)
+
+-- more bytes decide it too
+pub decided_more : (text more : List ℕ) (fault : Fault) → Decides text fault → Decides (text ++ more) fault
+decided_more text more fault d =
+    let on = continued text more fault d in
+    record { characters = on.whole; tail = on.left; decodes = on.decodes; refused = on.refused; stays = on.stays }
+
+-- so it is that of each such text, and the lines before it are the same
+pub decided_lexing : (text more : List ℕ) (fault : Fault) (lines : List LogicalLine) → Decides text fault → IsLexed text lines (Some fault) → IsLexed (text ++ more) lines (Some fault)
+decided_lexing text more fault lines d lexed =
+    let on = continued text more fault d in
+    let same = decoded text lexed.characters d.characters lexed.tail d.tail lexed.decodes d.decodes in
+    record {
+      characters = on.whole;
+      tail = on.left;
+      pieces = lexed.pieces;
+      decodes = on.decodes;
+      front = on.front lexed.pieces (subst (IsFront lexed.pieces) same.0 lexed.front);
+      refused = on.refused;
+      cut = lexed.cut;
+    }
+
+pub decided_fault : (text more : List ℕ) (fault : Fault) (lines : List LogicalLine) (end : Option Fault) → Decides text fault → IsLexed (text ++ more) lines end → end ≡ Some fault
+decided_fault text more fault lines None d lexed =
+    let on = continued text more fault d in
+    let same = decoded (text ++ more) lexed.characters on.whole [] on.left lexed.decodes on.decodes in
+    absurd (on.refused.unread (sym same.1) lexed.pieces (subst (λ t. IsBalancedReading lexed.pieces t) same.0 lexed.reading))
+decided_fault text more fault lines (Some other) d lexed =
+    let on = continued text more fault d in
+    let same = decoded (text ++ more) lexed.characters on.whole lexed.tail on.left lexed.decodes on.decodes in
+    ap Some (same_fault on.whole on.left other fault (subst (λ (t : List ℕ). IsLexicalFault t on.left other) same.0 (subst (λ (t : List ℕ). IsLexicalFault lexed.characters t other) same.1 lexed.refused)) on.refused)

@@ -1,0 +1,12 @@
+-- The scan of one logical line follows the machine.
+pub mod BracketStack
+pub mod PieceEnd
+pub mod NextCharacter
+pub mod LineRun
+pub mod TextRun
+pub mod LineCount
+pub mod Increments
+pub mod Runs
+pub mod ShortPieces
+pub mod EarlyEnds
+pub mod LineStops

@@ -1,0 +1,111 @@
+-- The stack of open brackets that the code keeps is the machine's.
+use Rattle.std.proofs.Common.{◌≡◌, ℕ, suc, Bool, ◌-◌, ◌<◌, ◌≤◌, true, false, eqb, ◌==◌, Option, None, Some, List, [], ◌∷◌, ◌++◌, length, slice_get, refl, sym, ap, ◌∙◌, subst, arith, length-append}
+use Rattle.std.specs.Prelude.{option_to_list, nat_lt, is_some, if◌then◌else◌}
+use Rattle.std.proofs.lemmas.Bool.{false_from_ne_true, ltb-true, eqb-true, eq-eqb}
+use Rattle.py_lines.specs.Piece.{operator, Piece}
+use Rattle.py_lines.specs.Balance.{is_opening, is_closing, closing_of}
+use Rattle.py_lines.specs.Private.Machine.{Bracket, brackets_behind, opened_by, closed_by}
+use Rattle.py_lines.specs.Private.Run.{may_stand}
+use Rattle.py_lines.specs.Private.Scan.{stack, none_open, IsInnermost}
+use Rattle.py_lines.specs.declared.brackets.OpenBracket.{OpenBracket}
+use Rattle.py_lines.proofs.Pieces.PieceLists.{piece}
+use Rattle.py_lines.proofs.Pieces.OpenBrackets.{opener_pushes, closer_pops, other_keeps}
+
+abbrev entry : OpenBracket → Bracket
+entry b = record { opener = b.opener; place = b.place }
+
+pub stack-push : (bs : List OpenBracket) (b : OpenBracket) → stack (bs ++ b ∷ []) ≡ entry b ∷ stack bs
+stack-push [] b = refl
+stack-push (a ∷ bs) b = ap (λ l. l ++ entry a ∷ []) (stack-push bs b)
+
+pub length-stack : (bs : List OpenBracket) → length (stack bs) ≡ length bs
+length-stack [] = refl
+length-stack (b ∷ bs) = omega (arith, length-append (stack bs) (entry b ∷ []), length-stack bs)
+
+pub none_length : (st : List Bracket) (n : ℕ) → length st ≡ n → n == 0 ≡ none_open st
+none_length [] n is = eq-eqb n 0 (sym is)
+none_length (b ∷ bs) n is = false_from_ne_true _ (λ (h : n == 0 ≡ true). omega (arith, eqb-true n 0 h, is))
+
+pub empty_none : (bs : List OpenBracket) → length bs == 0 ≡ none_open (stack bs)
+empty_none bs = none_length (stack bs) (length bs) (length-stack bs)
+
+-- the last bracket is the innermost
+deeper : (o : Option OpenBracket) (st ts : List Bracket) → IsInnermost o st → 0 < length st → IsInnermost o (st ++ ts)
+deeper None st ts is some = absurd (omega (arith, ap length is, some))
+deeper (Some b) st ts is some = (is.0 ++ ts, ap (λ l. l ++ ts) is.1)
+
+pub last_in : (bs : List OpenBracket) → IsInnermost (slice_get bs (length bs - 1)) (stack bs)
+last_in [] = refl
+last_in (b ∷ []) = ([], refl)
+last_in (a ∷ b ∷ bs) =
+    let places : suc (length (b ∷ bs) - 1) ≡ length (a ∷ b ∷ bs) - 1 = omega arith in
+    subst (λ (n : ℕ). IsInnermost (slice_get (a ∷ b ∷ bs) n) (stack (b ∷ bs) ++ entry a ∷ [])) places
+    (deeper (slice_get (b ∷ bs) (length (b ∷ bs) - 1)) (stack (b ∷ bs)) (entry a ∷ []) (last_in (b ∷ bs)) (omega (arith, length-stack (b ∷ bs))))
+
+pub pops : (old new : List OpenBracket) (r : Option OpenBracket) (x : OpenBracket) (b : Bracket) (others : List Bracket) → r ≡ Some x → old ≡ new ++ option_to_list r → stack old ≡ b ∷ others → stack new ≡ others
+pops old new None y b others some is top = absurd (cc)
+pops old new (Some x) y b others some is top =
+    let both : entry x ∷ stack new ≡ b ∷ others = sym (stack-push new x) ∙ ap stack (sym is) ∙ top in
+    cc
+
+one : ℕ → Piece
+one c = record { class = operator; text = c ∷ [] }
+
+-- an operator at a byte
+pub too_deep : (st : List Bracket) (place c : ℕ) → is_opening c ≡ true → 200 ≤ length st → brackets_behind st place (record { class = operator; text = c ∷ [] }) ≡ None
+unfolding brackets_behind
+too_deep st place c opens deep = rw (opens, false_from_ne_true (nat_lt (length st) 200) (λ (less : nat_lt (length st) 200 ≡ true). omega (arith, ltb-true (length st) 200 less, deep)))
+
+pub opens_at : (st : List Bracket) (place c : ℕ) → is_opening c ≡ true → length st < 200 → brackets_behind st place (record { class = operator; text = c ∷ [] }) ≡ Some (record { opener = c; place = place } ∷ st)
+opens_at st place c opens room = opener_pushes st place (piece operator (c ∷ [])) opens room
+
+pub closes_none : (st : List Bracket) (place c : ℕ) → st ≡ [] → is_opening c ≡ false → is_closing c ≡ true → brackets_behind st place (record { class = operator; text = c ∷ [] }) ≡ None
+unfolding brackets_behind
+closes_none st place c none other closes = rw (none, other, closes) refl
+
+pub closes_wrong : (st : List Bracket) (place c : ℕ) (b : Bracket) (others : List Bracket) → st ≡ b ∷ others → is_opening c ≡ false → is_closing c ≡ true → (c ≡ closing_of b.opener → ⊥) → brackets_behind st place (record { class = operator; text = c ∷ [] }) ≡ None
+unfolding brackets_behind
+closes_wrong st place c b others top other closes unlike = rw (top, other, closes, false_from_ne_true (eqb c (closing_of b.opener)) (λ h. unlike (eqb-true c (closing_of b.opener) h))) refl
+
+pub closes_top : (st : List Bracket) (place c : ℕ) (b : Bracket) (others : List Bracket) → st ≡ b ∷ others → is_opening c ≡ false → is_closing c ≡ true → eqb c (closing_of b.opener) ≡ true → brackets_behind st place (record { class = operator; text = c ∷ [] }) ≡ Some others
+closes_top st place c b others top other closes like = ap (λ s. brackets_behind s place (piece operator (c ∷ []))) top ∙ closer_pops others place b (piece operator (c ∷ [])) closes like
+
+pub keeps_at : (st : List Bracket) (place c : ℕ) → is_opening c ≡ false → is_closing c ≡ false → brackets_behind st place (record { class = operator; text = c ∷ [] }) ≡ Some st
+keeps_at st place c opens closes = other_keeps st place (piece operator (c ∷ [])) opens closes
+
+-- whether an operator may stand next
+pub opens_so : (st : List Bracket) (c : ℕ) → is_opening c ≡ true → nat_lt (length st) 200 ≡ may_stand st c
+unfolding brackets_behind
+opens_so st c opens = rw opens (go (nat_lt (length st) 200))
+  where
+    go : (b : Bool) → b ≡ is_some (if b then Some (record { opener = c; place = 0 } ∷ st) else None)
+    go true = refl
+    go false = refl
+
+pub closes_so : (st : List Bracket) (c : ℕ) (b : Bracket) (others : List Bracket) → st ≡ b ∷ others → is_opening c ≡ false → is_closing c ≡ true → c == closing_of b.opener ≡ may_stand st c
+unfolding brackets_behind
+closes_so st c b others top other closes = rw (top, other, closes) (go (c == closing_of b.opener))
+  where
+    go : (k : Bool) → k ≡ is_some (if k then Some others else None)
+    go true = refl
+    go false = refl
+
+pub closes_nothing : (st : List Bracket) (c : ℕ) → st ≡ [] → is_opening c ≡ false → is_closing c ≡ true → false ≡ may_stand st c
+closes_nothing st c none other closes = ap is_some (sym (closes_none st 0 c none other closes))
+
+pub stands_anywhere : (st : List Bracket) (c : ℕ) → is_opening c ≡ false → is_closing c ≡ false → true ≡ may_stand st c
+stands_anywhere st c opens closes = ap is_some (sym (keeps_at st 0 c opens closes))
+
+-- an operator that may not stand at a byte may not stand next
+pub refused_anywhere : (st : List Bracket) (place c : ℕ) → brackets_behind st place (record { class = operator; text = c ∷ [] }) ≡ None → may_stand st c ≡ false
+unfolding brackets_behind
+refused_anywhere st place c none = go (is_opening c) (is_closing c) none
+  where
+    go : (o k : Bool) → (if o then opened_by c place st else (if k then closed_by c st else Some st)) ≡ None → is_some (if o then opened_by c 0 st else (if k then closed_by c st else Some st)) ≡ false
+    go true k e = opened (nat_lt (length st) 200) e
+      where
+        opened : (b : Bool) → (if b then Some (record { opener = c; place = place } ∷ st) else None) ≡ None → is_some (if b then Some (record { opener = c; place = 0 } ∷ st) else None) ≡ false
+        opened true f = absurd (cc)
+        opened false f = refl
+    go false true e = ap is_some e
+    go false false e = absurd (cc)

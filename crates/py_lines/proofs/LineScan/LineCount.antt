@@ -1,0 +1,58 @@
+-- The count of lines follows the line ends of the characters.
+use Rattle.std.proofs.Common.{◌≡◌, ℕ, ◌+◌, ◌≤◌, Bool, cond, List, [], ◌∷◌, ◌++◌, length, refl, sym, ap, ◌∙◌, subst, append-nil, arith}
+use Rattle.std.specs.Prelude.{encode_utf8}
+use Rattle.std.specs.Char.{len_utf8}
+use Rattle.std.proofs.lemmas.Str.{length-encode, length-le-encodes}
+use Rattle.std.proofs.lemmas.Bool.{cond_both}
+use Rattle.py_lines.specs.Character.{is_return}
+use Rattle.py_lines.specs.Piece.{ends}
+use Rattle.py_lines.specs.LogicalLine.{byte_len, ends_line, line_ends}
+use Rattle.py_lines.specs.Private.Scan.{counts_behind, Counts}
+use Rattle.py_lines.specs.declared.count.Count.{Count}
+use Rattle.py_lines.specs.declared.token.Token.{Token}
+use Rattle.py_lines.specs.declared.token.TokKind.{TokKind}
+use Rattle.py_lines.proofs.LogicalLines.Cuts.{byte_len-append}
+use Rattle.py_lines.proofs.LineScan.Increments.{line_ends-step}
+
+abbrev pub token : TokKind → ℕ → ℕ → ℕ → Token
+token k start stop line = record { kind = k; start = start; stop = stop; line = line }
+
+pub same_token : (k : TokKind) (a b m n x y : ℕ) → a ≡ b → m ≡ n → x ≡ y → token k a m x ≡ token k b n y
+same_token k a b m n x y first second third = λ i. record { kind = k; start = first i; stop = second i; line = third i }
+
+pub counts_from : (old : Count) (c : ℕ) (mid new : Count) → new ≡ mid → Counts old c mid → Counts old c new
+counts_from old c mid new is counts = subst (Counts old c) (sym is) counts
+
+pub byte_len-one : (c : ℕ) → byte_len (c ∷ []) ≡ len_utf8 c
+byte_len-one c = ap length (append-nil (encode_utf8 c)) ∙ length-encode c
+
+-- the bytes with one more character
+pub byte_len-push : (cs : List ℕ) (c : ℕ) → byte_len (cs ++ c ∷ []) ≡ byte_len cs + len_utf8 c
+byte_len-push cs c = byte_len-append cs (c ∷ []) ∙ ap (λ (n : ℕ). byte_len cs + n) (byte_len-one c)
+
+pub ends-last : (p : ℕ → Bool) (text : List ℕ) (c : ℕ) → ends p (text ++ c ∷ []) ≡ p c
+ends-last p [] c = refl
+ends-last p (d ∷ []) c = refl
+ends-last p (d ∷ e ∷ text) c = ends-last p (e ∷ text) c
+
+-- what the count has come to after characters
+pub record Counted (line : ℕ) (count : Count) (read : List ℕ) : Type 0 where
+  pub here : count.line ≡ line + line_ends read
+  pub after : count.after_return ≡ ends is_return read
+
+pub counted_push : (line : ℕ) (old new : Count) (read : List ℕ) (c : ℕ) → Counted line old read → Counts old c new → Counted line new (read ++ c ∷ [])
+counted_push line old new read c is counts = record {
+  here = counts.line ∙ ap (λ (b : Bool). old.line + counts_behind b c) is.after ∙ omega (arith, is.here, line_ends-step read c);
+  after = counts.after ∙ sym (ends-last is_return read c);
+}
+
+-- a text has no more line ends than characters
+one_end : (c : ℕ) (cs : List ℕ) → cond (ends_line c cs) 1 0 ≤ 1
+one_end c cs = cond_both (ends_line c cs) 1 0 (λ n. n ≤ 1) (λ h. omega arith) (λ h. omega arith)
+
+pub line_ends-le : (cs : List ℕ) → line_ends cs ≤ length cs
+line_ends-le [] = omega arith
+line_ends-le (c ∷ cs) = omega (arith, one_end c cs, line_ends-le cs)
+
+pub line_ends-bytes : (cs : List ℕ) → line_ends cs ≤ byte_len cs
+line_ends-bytes cs = omega (arith, line_ends-le cs, length-le-encodes cs)

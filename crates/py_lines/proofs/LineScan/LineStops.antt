@@ -1,0 +1,231 @@
+-- The scan of a line goes on in more text, and stops.
+use Rattle.std.proofs.Common.{◌≡◌, ℕ, ◌+◌, ◌≤◌, Bool, true, false, not, ◌&&◌, Ok, List, [], ◌∷◌, ◌++◌, length, inl, inr, refl, sym, ap, ◌∙◌, subst, arith, length-append, lit<, get_or}
+use Rattle.std.specs.Prelude.{encode_utf8, encode_utf8_all, IsUtf8}
+use Rattle.std.proofs.lemmas.Bool.{and_parts, both_ways, false_from_ne_true}
+use Rattle.std.proofs.lemmas.Str.{encode_ascii, encode_same, encodes_same, length-encode, len_utf8_bounds}
+use Rattle.py_lines.specs.Character.{is_line_feed, is_return}
+use Rattle.py_lines.specs.Piece.{Piece, ends, begins, spelled}
+use Rattle.py_lines.specs.declared.mode.Mode.{Mode}
+use Rattle.py_lines.specs.declared.mode.Mode.TheVariants as modes
+use Rattle.py_lines.specs.declared.scan.Progress.{Progress}
+use Rattle.py_lines.specs.declared.scan.Progress.TheVariants as progress
+use Rattle.py_lines.specs.declared.scan.Scan.{Scan}
+use Rattle.py_lines.specs.declared.scan.Stop.{Stop}
+use Rattle.py_lines.specs.declared.scan.Stop.TheVariants as stops
+use Rattle.py_lines.specs.Private.Machine.{Scanned, IsSound, start_of}
+use Rattle.py_lines.specs.Private.Scan.{Tallies, IsStacked, Takes, Begins, Closes, line_start, stack_of, none_open, is_returned, is_return_mode, EndsNoLine, IsAtLineEnd, EndsWhole, ScansIn, Scans}
+use Rattle.py_lines.specs.Private.Run.{Holds, HasAsciiQuote, Reached, ReachedShut, is_free}
+use Rattle.py_lines.proofs.LineScan.EarlyEnds.{TakesFrom, taken_free, taken_open, stands_reached, stands_shut, shut_none}
+use Rattle.py_lines.proofs.LineScan.ShortPieces.{free_is, open_reached}
+use Rattle.py_lines.proofs.Text.CharacterTests.{feed_from, feed_is}
+use Rattle.py_lines.proofs.Text.CharsIterator.{advances}
+use Rattle.py_lines.proofs.Text.Utf8Prefixes.{front_chars}
+use Rattle.py_lines.proofs.Pieces.PieceLists.{AreReadBefore-second}
+use Rattle.py_lines.proofs.LogicalLines.Cuts.{uncut}
+use Rattle.py_lines.proofs.Lexings.SettledLines.{ends-line, ends-append}
+use Rattle.py_lines.proofs.LineScan.LineRun.{sound_run, at_line_end, refused, returned, follows_nothing}
+use Rattle.py_lines.proofs.LineScan.Runs.{reached_character, reached_run, way_quote}
+
+-- wherever in a line the scan stood before a text, it stands now before another
+abbrev pub GoesTo : Scan → List ℕ → Scan → List ℕ → Type 0
+GoesTo old text new rest = (m : Mode) (line : ℕ) (whole : List ℕ) → IsUtf8 whole → IsSound (line_start m) [] → Reached m line whole old text → Reached m line whole new rest
+
+-- and it stops so
+abbrev pub StopsNow : Scan → List ℕ → Scan → Stop → Type 0
+StopsNow old text new stop = (m : Mode) (line : ℕ) (whole : List ℕ) → IsUtf8 whole → IsSound (line_start m) [] → Reached m line whole old text → ScansIn m line whole new stop
+
+-- it stands somewhere in a line
+abbrev pub StandsBefore : Scan → List ℕ → Type 0
+StandsBefore old text = (m : Mode) × (line : ℕ) × (whole : List ℕ) × IsUtf8 whole × IsSound (line_start m) [] × Reached m line whole old text
+
+-- the same, where it may have closed the open piece early
+abbrev pub ShutsTo : Scan → List ℕ → Scan → List ℕ → Type 0
+ShutsTo old text new rest = (m : Mode) (line : ℕ) (whole : List ℕ) → IsUtf8 whole → IsSound (line_start m) [] → Reached m line whole old text → ReachedShut m line whole new rest
+
+-- what a character comes to, wherever the machine is
+pub record TakesTo (old : Scan) (c : ℕ) (p : Progress) (new : Scan) : Type 0 where
+  pub begun : is_free old.mode ≡ true → Begins old c (start_of c) (Ok p) new
+  pub taken : (s : Scanned) (read : List ℕ) → is_free old.mode ≡ false → IsSound s read → EndsNoLine 0 s.done → is_returned old && not (is_line_feed c) ≡ false → Tallies old s → IsStacked old s → Takes old s c (Ok p) new
+
+-- what standing in a line tells
+pub goes_room : (old : Scan) (text : List ℕ) (new : Scan) (rest : List ℕ) → StandsBefore old text → GoesTo old text new rest → new.stop + length rest ≡ old.stop + length text
+goes_room old text new rest (m, line, whole, utf8, start, r) goes = (stands_reached m line whole new rest start (goes m line whole utf8 start r)).room ∙ sym (stands_reached m line whole old text start r).room
+
+pub goes_quote : (old : Scan) (text : List ℕ) (new : Scan) (rest : List ℕ) → StandsBefore old text → GoesTo old text new rest → HasAsciiQuote new.mode
+goes_quote old text new rest (m, line, whole, utf8, start, r) goes = let o = goes m line whole utf8 start r in way_quote m new o.read o.way start
+
+pub shuts_order : (old : Scan) (text : List ℕ) (new : Scan) (rest : List ℕ) → StandsBefore old text → ShutsTo old text new rest → new.start ≤ new.stop
+shuts_order old text new rest (m, line, whole, utf8, start, r) shuts = (stands_shut m line whole new rest start (shuts m line whole utf8 start r)).order
+
+pub shuts_room : (old : Scan) (text : List ℕ) (new : Scan) (rest : List ℕ) → StandsBefore old text → ShutsTo old text new rest → new.stop + length rest ≡ old.stop + length text
+shuts_room old text new rest (m, line, whole, utf8, start, r) shuts = (stands_shut m line whole new rest start (shuts m line whole utf8 start r)).room ∙ sym (stands_reached m line whole old text start r).room
+
+pub shuts_lines : (old : Scan) (text : List ℕ) (new : Scan) (rest : List ℕ) → StandsBefore old text → ShutsTo old text new rest → new.count.line ≤ old.line + new.stop
+shuts_lines old text new rest (m, line, whole, utf8, start, r) shuts =
+    let stood = stands_shut m line whole new rest start (shuts m line whole utf8 start r) in
+    omega (arith, stood.lines, stood.line, r.line)
+
+-- a line that its line end has closed ends in LF, where LF may follow it
+pub feed_last : (m : Mode) (scan : Scan) (read : List ℕ) (len : ℕ) → IsAtLineEnd m scan read (encode_utf8_all (10 ∷ [])) len → ends is_return read ≡ false
+unfolding is_line_feed
+feed_last m scan read len at =
+    let fit = at.fit (10 ∷ []) refl in
+    let second = AreReadBefore-second at.body (at.last ∷ []) (10 ∷ []) fit in
+    let apart = uncut at.last.class at.last.text (10 ∷ []) second.0 second.1 in
+    ap (ends is_return) (sym at.spell) ∙ ends-line is_return at.body at.last at.are.class second.0 ∙ by_true (ends is_return at.last.text) apart
+  where
+    by_true : (b : Bool) → b && true ≡ false → b ≡ false
+    by_true true h = h
+    by_true false h = refl
+
+-- where CR is open, it was read last
+return_at : (m : Mode) (done : List Piece) (held read : List ℕ) → IsSound (record { done = done; mode = m; held = held }) read → is_return_mode m ≡ true → ends is_return read ≡ true
+return_at modes.Return done held read sound is = ap (ends is_return) (sym sound.spell ∙ ap (λ t. spelled done ++ t) sound.holds.1) ∙ ends-append is_return (spelled done) sound.holds.0 [] ∙ sound.holds.2
+return_at m done held read sound is = absurd (both_ways _ refl is)
+
+pub return_ends : (s : Scanned) (read : List ℕ) → IsSound s read → is_return_mode s.mode ≡ true → ends is_return read ≡ true
+return_ends s read sound is = return_at s.mode s.done s.held read sound is
+
+-- what begins with another character begins with no byte of LF
+other_whole : (read bytes : List ℕ) (c : ℕ) (rest : List ℕ) → bytes ≡ encode_utf8 c ++ rest → is_line_feed c ≡ false → EndsWhole read bytes
+other_whole read [] c rest is other = absurd (omega (arith, ap length is, length-append (encode_utf8 c) rest, length-encode c, len_utf8_bounds c))
+other_whole read (b ∷ more) c rest is other = inr (
+  b,
+  more,
+  refl,
+  (λ ten.
+      let bytes : encode_utf8 10 ++ more ≡ encode_utf8 c ++ rest = ap (λ t. t ++ more) (encode_ascii 10 (lit< tt)) ∙ ap (λ (n : ℕ). n ∷ more) (sym ten) ∙ is in
+      both_ways (is_line_feed c) other (feed_from c (sym (encode_same 10 c more rest bytes).0))),
+)
+
+not_true : (b : Bool) → not b ≡ true → b ≡ false
+not_true true h = sym h
+not_true false h = refl
+
+-- a run of characters was held
+pub goes_run : (first : Scan) (text : List ℕ) (old new : Scan) (before rest : List ℕ) → GoesTo first text old before → Holds old before rest new → GoesTo first text new rest
+goes_run first text old new before rest goes holds m line whole utf8 start r = reached_run m line whole old new before rest (goes m line whole utf8 start r) holds
+
+module _ (first : Scan) (text : List ℕ) (old : Scan) (before : List ℕ) (shuts : ShutsTo first text old before) where
+  module _ (c : ℕ) (rest : List ℕ) (is : before ≡ encode_utf8 c ++ rest) (new : Scan) where
+    -- where the machine takes it
+    taken_at : (p : Progress) (m : Mode) (line : ℕ) (whole : List ℕ) → IsSound (line_start m) [] → is_returned old && not (is_line_feed c) ≡ false → TakesTo old c p new → ReachedShut m line whole old before → TakesFrom m line whole before c p new
+    taken_at p m line whole start not_yet takes o = go (is_free old.mode) refl
+      where
+        go : (b : Bool) → is_free old.mode ≡ b → TakesFrom m line whole before c p new
+        go true free = taken_free m line whole before c p new start old rest o is (free_is old.mode free) (takes.begun free)
+        go false other = taken_open m line whole before c p new start old o other not_yet (λ s read. takes.taken s read other)
+
+    -- a character was taken
+    pub goes_character : is_returned old && not (is_line_feed c) ≡ false → TakesTo old c progress.Going new → GoesTo first text new rest
+    goes_character not_yet takes m line whole utf8 start r =
+        let from = taken_at progress.Going m line whole start not_yet takes (shuts m line whole utf8 start r) in
+        reached_character m line whole from.from new before rest c from.reached utf8 is from.takes
+
+    -- it ended the line
+    pub stops_line : (len : ℕ) → is_returned old && not (is_line_feed c) ≡ false → TakesTo old c (progress.LineEnded len) new → StopsNow first text new (stops.LineEnd len)
+    stops_line len not_yet takes m line whole utf8 start r =
+        let from = taken_at (progress.LineEnded len) m line whole start not_yet takes (shuts m line whole utf8 start r) in
+        let o = from.reached in
+        let on = advances whole o.read c before rest utf8 o.spell is in
+        let at : (after : List ℕ) → IsAtLineEnd m new (o.read ++ c ∷ []) (encode_utf8_all after) len = λ after. at_line_end m from.from new o.read (encode_utf8_all after) c len o.way start from.takes in
+        record {
+          read = o.read ++ c ∷ [];
+          rest = rest;
+          scalars = on.scalars;
+          spell = on.spell;
+          stops = ((λ after apart. at after), inl (feed_last m new (o.read ++ c ∷ []) len (at (10 ∷ []))));
+          number = from.takes.1 ∙ o.line;
+        }
+
+    -- the line had ended before it
+    pub stops_returned : is_returned old && not (is_line_feed c) ≡ true → Closes old new → StopsNow first text new (stops.LineEnd 1)
+    stops_returned ended closes m line whole utf8 start r =
+        let both = and_parts _ _ ended in
+        let parts = and_parts _ _ both.0 in
+        let o = open_reached m line whole old before (return_open old.mode parts.0) (shuts m line whole utf8 start r) in
+        let returns = return_ends o.way.state o.read (sound_run m o.read o.way.state start o.way.runs) (ap is_return_mode (sym o.way.tallies.mode) ∙ parts.0) in
+        record {
+          read = o.read;
+          rest = before;
+          scalars = o.scalars;
+          spell = o.spell;
+          stops = ((λ after apart. returned m old new o.read (encode_utf8_all after) o.way start parts.0 parts.1 closes (λ a spells. ap (begins is_line_feed) (encodes_same a after spells) ∙ apart returns)), other_whole o.read before c rest is (not_true (is_line_feed c) both.1));
+          number = closes.line ∙ o.line;
+        }
+      where
+        return_open : (n : Mode) → is_return_mode n ≡ true → is_free n ≡ false
+        return_open modes.Return h = refl
+        return_open n h = absurd (both_ways _ refl h)
+
+    -- it was refused
+    pub stops_refused : is_returned old && not (is_line_feed c) ≡ false → TakesTo old c progress.Refused new → StopsNow first text new (stops.Refused c)
+    stops_refused not_yet takes m line whole utf8 start r =
+        let from = taken_at progress.Refused m line whole start not_yet takes (shuts m line whole utf8 start r) in
+        let o = from.reached in
+        let on = advances whole o.read c before rest utf8 o.spell is in
+        record {
+          read = o.read;
+          rest = before;
+          scalars = o.scalars;
+          spell = o.spell;
+          stops = refused m from.from new o.read c on.after before o.way from.not_yet from.takes (is ∙ ap (λ t. encode_utf8 c ++ t) on.follow);
+          number = ap (λ (s : Scan). s.line) from.takes.1 ∙ o.line;
+        }
+
+  -- the text ends
+  pub stops_text : before ≡ [] → StopsNow first text old stops.TextEnd
+  stops_text none m line whole utf8 start r =
+      let o = shut_none m line whole old before none (shuts m line whole utf8 start r) in
+      record {
+        read = o.read;
+        rest = before;
+        scalars = o.scalars;
+        spell = o.spell;
+        stops = (o.way, none);
+        number = o.line;
+      }
+
+-- at a line's start the scan stands before all of it
+pub begun_reached : (old : Scan) (text : List ℕ) → Tallies old (line_start old.mode) → IsStacked old (line_start old.mode) → Reached old.mode old.line text old text
+begun_reached old text tallies stacked = record {
+  read = [];
+  way = record { state = line_start old.mode; runs = refl; tallies = tallies; stacked = stacked; one_line = tt };
+  spell = refl;
+  scalars = refl;
+  line = refl;
+}
+
+-- where the text ends after CR, the line ends there
+pub scans_returned : (m : Mode) (line : ℕ) (text : List ℕ) (old new : Scan) → IsSound (line_start m) [] → ScansIn m line text old stops.TextEnd → is_returned old ≡ true → Closes old new → Scans m text new (stops.LineEnd 1)
+scans_returned m line text old new start scans ended closes =
+    let parts = and_parts (is_return_mode old.mode) (none_open (stack_of old.brackets)) ended in
+    record {
+      read = scans.read;
+      rest = scans.rest;
+      scalars = scans.scalars;
+      spell = scans.spell;
+      stops = returned m old new scans.read _ scans.stops.0 start parts.0 parts.1 closes (λ after spells. follows_nothing _ after scans.stops.1 spells);
+    }
+
+-- what follows a line's end begins with no LF where CR ended it
+apart_from : (read rest after : List ℕ) → EndsWhole read rest → encode_utf8_all after ≡ rest → ends is_return read ≡ true → begins is_line_feed after ≡ false
+apart_from read rest after (inl ended) spells returns = absurd (both_ways _ ended returns)
+apart_from read rest [] (inr (b, more, is, other)) spells returns = refl
+apart_from read rest (c ∷ cs) (inr (b, more, is, other)) spells returns = false_from_ne_true (is_line_feed c) (λ feeds.
+    let bytes : 10 ∷ encode_utf8_all cs ≡ b ∷ more = ap (λ t. t ++ encode_utf8_all cs) (sym (encode_ascii 10 (lit< tt)) ∙ ap encode_utf8 (sym (feed_is c feeds))) ∙ spells ∙ is in
+    other (ap (λ t. get_or t 0 0) (sym bytes)))
+
+-- and elsewhere it stops as it does in the line
+pub scans_alone : (m : Mode) (line : ℕ) (text : List ℕ) (scan : Scan) (stop : Stop) → IsUtf8 text → (stop ≡ stops.TextEnd → is_returned scan ≡ false) → ScansIn m line text scan stop → Scans m text scan stop
+scans_alone m line text scan stops.TextEnd utf8 open_yet scans = record { read = scans.read; rest = scans.rest; scalars = scans.scalars; spell = scans.spell; stops = (scans.stops.0, scans.stops.1, open_yet refl) }
+scans_alone m line text scan (stops.LineEnd len) utf8 open_yet scans =
+    let split = front_chars scans.read utf8.0 scans.rest (utf8.1.1 ∙ sym scans.spell) in
+    record {
+      read = scans.read;
+      rest = scans.rest;
+      scalars = scans.scalars;
+      spell = scans.spell;
+      stops = subst (λ (t : List ℕ). IsAtLineEnd m scan scans.read t len) split.2 (scans.stops.0 split.0 (λ returns. apart_from scans.read scans.rest split.0 scans.stops.1 split.2 returns));
+    }
+scans_alone m line text scan (stops.Refused c) utf8 open_yet scans = record { read = scans.read; rest = scans.rest; scalars = scans.scalars; spell = scans.spell; stops = scans.stops }

@@ -1,0 +1,291 @@
+-- The scan follows the machine from character to character.
+use Rattle.std.proofs.Common.{◌≡◌, ℕ, ◌+◌, Bool, true, false, not, ◌&&◌, ◌==◌, Option, None, Some, Result, Ok, Err, OnOk, List, [], ◌∷◌, ◌++◌, length, refl, sym, ap, ◌∙◌, subst, append_assoc, append-nil, arith, lit<}
+use Rattle.std.specs.Char.{len_utf8}
+use Rattle.std.specs.declared.alloc.AllocError.{AllocError}
+use Rattle.std.proofs.lemmas.Bool.{cond_both, both_ways}
+use Rattle.std.proofs.lemmas.Str.{encode_ascii}
+use Rattle.py_lines.specs.Character.{is_word_character, is_quote, is_line_feed, is_return}
+use Rattle.py_lines.specs.Piece.{Class, operator, line_end, Piece, ends, is_mark_class, spelled, AreReadBefore}
+use Rattle.py_lines.specs.Balance.{depth_through}
+use Rattle.py_lines.specs.LogicalLine.{is_line_end_class, byte_len, line_ends, tokens_of_piece, tokens_from, kind_of, space_len}
+use Rattle.py_lines.specs.declared.token.TokKind.{TokKind}
+use Rattle.py_lines.specs.declared.token.TokKind.TheVariants as kind
+use Rattle.py_lines.specs.declared.mode.Mode.{Mode}
+use Rattle.py_lines.specs.declared.mode.Mode.TheVariants as modes
+use Rattle.py_lines.specs.declared.mode.Move.{Move}
+use Rattle.py_lines.specs.declared.mode.Move.TheVariants as moves
+use Rattle.py_lines.specs.declared.mode.Start.{Start}
+use Rattle.py_lines.specs.declared.mode.Start.TheVariants as starts
+use Rattle.py_lines.specs.declared.brackets.Brackets.{Brackets}
+use Rattle.py_lines.specs.declared.scan.Progress.{Progress}
+use Rattle.py_lines.specs.declared.scan.Progress.TheVariants as progress
+use Rattle.py_lines.specs.declared.scan.Scan.{Scan}
+use Rattle.py_lines.specs.Private.Machine.{Scanned, fresh, class_of, closed, token_of, step, moved, started, move_of, start_of, Holds, IsSound, is_prefix_spelling, Bracket, brackets_behind, brackets_of}
+use Rattle.py_lines.specs.Private.Scan.{tokens_with, kind_through, Closes, ReadsCharacter, AddsPiece, ClosesAndAdds, ClosesAndOpens, Operates, Begins, Tallies, IsStacked, EndsNoLine, Takes, stack_if, stack_of, none_open, is_returned, is_return_mode, in_mode, with_brackets, line_end_progress}
+use Rattle.py_lines.proofs.Pieces.PieceLists.{piece, spelled-push, AreReadBefore-first}
+use Rattle.py_lines.proofs.Text.CharacterTests.{feed_is, return_is}
+use Rattle.py_lines.proofs.Machine.Starts.{starts_so, StartsSo}
+use Rattle.py_lines.proofs.Machine.PieceRuns.{scanned}
+use Rattle.py_lines.proofs.Pieces.OpenBrackets.{stands}
+use Rattle.py_lines.proofs.Machine.LiveTexts.{keeps, stack_closed}
+use Rattle.py_lines.proofs.Machine.Soundness.{SoundIf, step_sound}
+use Rattle.py_lines.proofs.Lexings.LinePrefix.{closed_spells}
+use Rattle.py_lines.proofs.LogicalLines.Cuts.{byte_len-append}
+use Rattle.py_lines.proofs.LineScan.Increments.{stack_push, EndsNoLine-push}
+use Rattle.py_lines.proofs.LineScan.LineCount.{byte_len-push, byte_len-one, counted_push}
+use Rattle.py_lines.proofs.LineScan.BracketStack.{none_length}
+use Rattle.py_lines.proofs.LineScan.PieceEnd.{shut_as, closes_shut, margin_push, indent_other, no_bracket, tokens_push, kind_operator, kind_line_end}
+
+-- one more character in the piece that is open
+pub tallies_read : (old mid : Scan) (s : Scanned) (c : ℕ) (m : Mode) → Tallies old s → ReadsCharacter old c mid → Tallies (in_mode mid m) (scanned s.done m (s.held ++ c ∷ []))
+tallies_read old mid s c m tallies reads =
+    let longer : (spelled s.done ++ s.held) ++ c ∷ [] ≡ spelled s.done ++ (s.held ++ c ∷ []) = append_assoc (spelled s.done) s.held (c ∷ []) in
+    let counted = counted_push old.line old.count mid.count (spelled s.done ++ s.held) c (record { here = tallies.here; after = tallies.after }) reads.count in
+    record {
+      mode = refl;
+      start = reads.start ∙ tallies.start;
+      stop = reads.stop ∙ ap (λ (n : ℕ). n + len_utf8 c) tallies.stop ∙ sym (byte_len-push (spelled s.done ++ s.held) c) ∙ ap byte_len longer;
+      piece_line = reads.piece_line ∙ tallies.piece_line ∙ ap (λ (n : ℕ). n + line_ends (spelled s.done)) (sym reads.line);
+      here = counted.here ∙ ap (λ t. old.line + line_ends t) longer ∙ ap (λ (n : ℕ). n + line_ends (spelled s.done ++ (s.held ++ c ∷ []))) (sym reads.line);
+      after = counted.after ∙ ap (ends is_return) longer;
+      margin = reads.margin ∙ tallies.margin;
+      indent = reads.indent ∙ tallies.indent;
+      kind = reads.kind ∙ tallies.kind;
+      tokens = ap (λ v. v.items) reads.tokens ∙ tallies.tokens ∙ ap (λ (n : ℕ). tokens_from 0 n s.done) (sym reads.line);
+    }
+
+in_its_mode : (mid : Scan) (s : Scanned) → mid.mode ≡ s.mode → Tallies (in_mode mid s.mode) s → Tallies mid s
+in_its_mode mid s same t = record { mode = same; start = t.start; stop = t.stop; piece_line = t.piece_line; here = t.here; after = t.after; margin = t.margin; indent = t.indent; kind = t.kind; tokens = t.tokens }
+
+other_brackets : (old : Scan) (met : Brackets) (s : Scanned) → Tallies old s → Tallies (with_brackets old met) s
+other_brackets old met s t = record { mode = t.mode; start = t.start; stop = t.stop; piece_line = t.piece_line; here = t.here; after = t.after; margin = t.margin; indent = t.indent; kind = t.kind; tokens = t.tokens }
+
+-- what closes with a character has its class's token
+closing_token : (m : Mode) (c : ℕ) → move_of m c ≡ moves.Closes → (m ≡ modes.Free → ⊥) × ((held : List ℕ) (start stop line : ℕ) → tokens_of_piece start stop line (class_of m) held ≡ tokens_with (token_of m) start stop line)
+unfolding move_of
+closing_token modes.Free c h = absurd (cc)
+closing_token (modes.Word s) c h = absurd (cond_both (is_word_character c) _ _ (λ (v : Move). v ≡ moves.Closes → ⊥) (λ _ e. cc) (λ _. cond_both (is_prefix_spelling s && is_quote c) _ _ (λ (v : Move). v ≡ moves.Closes → ⊥) (λ _ e. cc) (λ _ e. cc)) h)
+closing_token m c h = ((λ e. cc), (λ held a b l. refl))
+
+start_done : (m : Mode) (done : List Piece) (held : List ℕ) → Holds m done held → m ≡ modes.Start → done ≡ []
+start_done modes.Start done held holds is = holds.0
+start_done m done held holds is = absurd (cc)
+
+-- a piece closed with a character
+tallies_closed : (old mid new : Scan) (s : Scanned) (read : List ℕ) (c : ℕ) → move_of s.mode c ≡ moves.Closes → IsSound s read → Tallies old s → ReadsCharacter old c mid → Closes mid new → Tallies new (fresh (s.done ++ piece (class_of s.mode) (s.held ++ c ∷ []) ∷ []))
+tallies_closed old mid new s read c move sound tallies reads closes =
+    let longer : Scanned = scanned s.done s.mode (s.held ++ c ∷ []) in
+    let token = closing_token s.mode c move in
+    shut_as mid new s.done s.mode (s.held ++ c ∷ []) (s.held ++ []) closes (sound.fit []) (in_its_mode mid longer (reads.mode ∙ tallies.mode) (tallies_read old mid s c s.mode tallies reads)) (token.1 (s.held ++ c ∷ [])) (start_done s.mode s.done s.held sound.holds) token.0
+
+-- the depth says whether a bracket is open
+depth_none : (ps : List Piece) (st : List Bracket) → brackets_of ps ≡ Some st → depth_through 0 ps == 0 ≡ none_open st
+depth_none ps st stacked = none_length st (depth_through 0 ps) (sym (stands ps st stacked).depth)
+
+pub none_level : (ps : List Piece) (st : List Bracket) → brackets_of ps ≡ Some st → none_open st ≡ true → depth_through 0 ps ≡ 0
+none_level ps [] stacked none = (stands ps [] stacked).depth
+none_level ps (b ∷ bs) stacked none = absurd (both_ways _ refl none)
+
+pub none_stack : (ps : List Piece) (st : List Bracket) → brackets_of ps ≡ Some st → none_open st ≡ true → brackets_of ps ≡ Some []
+none_stack ps [] stacked none = stacked
+none_stack ps (b ∷ bs) stacked none = absurd (both_ways _ refl none)
+
+-- a line end after pieces of a line
+takes_end : (old new : Scan) (s : Scanned) (c len : ℕ) (body : List Piece) (text : List ℕ) (st : List Bracket) → step s c ≡ Some (fresh (body ++ piece line_end text ∷ [])) → Tallies new (fresh (body ++ piece line_end text ∷ [])) → brackets_of body ≡ Some st → EndsNoLine 0 body → len ≡ byte_len text → stack_of new.brackets ≡ st → new.line ≡ old.line → (b : Bool) → none_open st ≡ b → Takes old s c (Ok (line_end_progress b len)) new
+takes_end old new s c len body text st goes tallies stacked none size same line true empty =
+    (record { body = body; last = piece line_end text; goes = goes; tallies = tallies; are = record { one_line = none; class = refl; level = none_level body st stacked empty; paired = none_stack body st stacked empty; size = size } }, line)
+takes_end old new s c len body text st goes tallies stacked none size same line false full = (
+  record {
+    next = fresh (body ++ piece line_end text ∷ []);
+    goes = goes;
+    tallies = tallies;
+    stacked = keeps body (piece line_end text) st refl refl stacked ∙ ap (λ l. Some l) (sym same);
+    one_line = EndsNoLine-push 0 body (piece line_end text) none (depth_none body st stacked ∙ full);
+  },
+  line,
+)
+
+-- a character in the open piece
+pub takes_grown : (old mid : Scan) (s : Scanned) (c : ℕ) (m : Mode) → move_of s.mode c ≡ moves.Grows m → Tallies old s → IsStacked old s → EndsNoLine 0 s.done → ReadsCharacter old c mid → Takes old s c (Ok progress.Going) (in_mode mid m)
+takes_grown old mid s c m move tallies stacked none reads = (
+  record {
+    next = scanned s.done m (s.held ++ c ∷ []);
+    goes = ap (moved s c) move;
+    tallies = tallies_read old mid s c m tallies reads;
+    stacked = stacked ∙ ap (λ b. Some (stack_of b)) (sym reads.brackets);
+    one_line = none;
+  },
+  reads.line,
+)
+
+class_closed : (m : Mode) → (m ≡ modes.Return → ⊥) → is_line_end_class (class_of m) ≡ false
+class_closed modes.Return other = absurd (other refl)
+class_closed m other = refl
+
+-- a character that closes a piece other than CR LF
+pub takes_closed : (old mid new : Scan) (s : Scanned) (read : List ℕ) (c : ℕ) → move_of s.mode c ≡ moves.Closes → (s.mode ≡ modes.Return → ⊥) → IsSound s read → Tallies old s → IsStacked old s → EndsNoLine 0 s.done → ReadsCharacter old c mid → Closes mid new → Takes old s c (Ok progress.Going) new
+takes_closed old mid new s read c move other sound tallies stacked none reads closes =
+    let p : Piece = piece (class_of s.mode) (s.held ++ c ∷ []) in
+    let brackets = no_bracket s.mode (s.held ++ c ∷ []) (closing_token s.mode c move).0 in (
+      record {
+        next = fresh (s.done ++ p ∷ []);
+        goes = ap (moved s c) move;
+        tallies = tallies_closed old mid new s read c move sound tallies reads closes;
+        stacked = keeps s.done p (stack_of old.brackets) brackets.0 brackets.1 stacked ∙ ap (λ b. Some (stack_of b)) (sym (closes.brackets ∙ reads.brackets));
+        one_line = EndsNoLine-push 0 s.done p none (ap (λ (b : Bool). b && (depth_through 0 s.done == 0)) (class_closed s.mode other));
+      },
+      closes.line ∙ reads.line,
+    )
+
+-- LF after CR
+return_feeds : (c : ℕ) → move_of modes.Return c ≡ moves.Closes → is_line_feed c ≡ true
+unfolding move_of
+return_feeds c h = cond_both (is_line_feed c) _ _ (λ (v : Move). v ≡ moves.Closes → is_line_feed c ≡ true) (λ is e. is) (λ _ e. absurd (cc)) h
+
+feed_size : byte_len (10 ∷ []) ≡ 1
+feed_size = ap length (ap (λ t. t ++ []) (encode_ascii 10 (lit< tt)))
+
+return_size : byte_len (13 ∷ []) ≡ 1
+return_size = ap length (ap (λ t. t ++ []) (encode_ascii 13 (lit< tt)))
+
+pub one_feed : (c : ℕ) → is_line_feed c ≡ true → 1 ≡ byte_len (c ∷ [])
+one_feed c is = sym (ap (λ (d : ℕ). byte_len (d ∷ [])) (feed_is c is) ∙ feed_size)
+
+pub one_return : (c : ℕ) → is_return c ≡ true → 1 ≡ byte_len (c ∷ [])
+one_return c is = sym (ap (λ (d : ℕ). byte_len (d ∷ [])) (return_is c is) ∙ return_size)
+
+both_ends : (held : List ℕ) (r c : ℕ) → held ≡ r ∷ [] → is_return r ≡ true → is_line_feed c ≡ true → 2 ≡ byte_len (held ++ c ∷ [])
+both_ends held r c is returns feeds = omega (arith, ap (λ t. byte_len (t ++ c ∷ [])) is, byte_len-append (r ∷ []) (c ∷ []), one_return r returns, one_feed c feeds)
+
+pub takes_ended : (old mid new : Scan) (done : List Piece) (held read : List ℕ) (c : ℕ) (p : Progress) → move_of modes.Return c ≡ moves.Closes → IsSound (scanned done modes.Return held) read → Tallies old (scanned done modes.Return held) → IsStacked old (scanned done modes.Return held) → EndsNoLine 0 done → ReadsCharacter old c mid → Closes mid new → p ≡ line_end_progress (none_open (stack_of new.brackets)) 2 → Takes old (scanned done modes.Return held) c (Ok p) new
+takes_ended old mid new done held read c p move sound tallies stacked none reads closes is =
+    let same : stack_of new.brackets ≡ stack_of old.brackets = ap stack_of (closes.brackets ∙ reads.brackets) in
+    let s : Scanned = scanned done modes.Return held in
+    subst (λ (q : Progress). Takes old s c (Ok q) new) (sym is)
+    (takes_end old new s c 2 done (held ++ c ∷ []) (stack_of old.brackets) (ap (moved s c) move) (tallies_closed old mid new s read c move sound tallies reads closes) stacked none (both_ends held sound.holds.0 c sound.holds.1 sound.holds.2 (return_feeds c move)) same (closes.line ∙ reads.line) (none_open (stack_of new.brackets)) (ap none_open (sym same)))
+
+pub takes_returned : (old mid new : Scan) (done : List Piece) (m : Mode) (held read : List ℕ) (c : ℕ) (p : Progress) → is_return_mode m ≡ true → move_of m c ≡ moves.Closes → IsSound (scanned done m held) read → Tallies old (scanned done m held) → IsStacked old (scanned done m held) → EndsNoLine 0 done → ReadsCharacter old c mid → Closes mid new → p ≡ line_end_progress (none_open (stack_of new.brackets)) 2 → Takes old (scanned done m held) c (Ok p) new
+takes_returned old mid new done modes.Return held read c p returns move sound tallies stacked none reads closes is = takes_ended old mid new done held read c p move sound tallies stacked none reads closes is
+takes_returned old mid new done m held read c p returns move sound tallies stacked none reads closes is = absurd (both_ways _ refl returns)
+
+-- a character of its own after closed pieces
+tallies_standing : (mid new : Scan) (pieces : List Piece) (c : ℕ) (class : Class) (k : Option TokKind) (rest : List ℕ) → ((start stop line : ℕ) → tokens_of_piece start stop line class (c ∷ []) ≡ tokens_with k start stop line) → kind_of (pieces ++ piece class (c ∷ []) ∷ []) ≡ kind_through (kind_of pieces) k → space_len class (c ∷ []) ≡ 0 → is_mark_class class ≡ false → AreReadBefore pieces rest → Tallies mid (fresh pieces) → AddsPiece mid new c k → Tallies new (fresh (pieces ++ piece class (c ∷ []) ∷ []))
+tallies_standing mid new pieces c class k rest token kinds no_space unmarked fit tallies stands =
+    let p : Piece = piece class (c ∷ []) in
+    let spells = spelled-push pieces class (c ∷ []) in
+    let before : mid.stop ≡ byte_len (spelled pieces) = tallies.stop ∙ ap byte_len (append-nil (spelled pieces)) in
+    let stop : new.stop ≡ byte_len (spelled pieces ++ c ∷ []) = stands.stop ∙ ap (λ (n : ℕ). n + len_utf8 c) before ∙ sym (byte_len-push (spelled pieces) c) in
+    let counted = counted_push mid.line mid.count new.count (spelled pieces ++ []) c (record { here = tallies.here; after = tallies.after }) stands.count in
+    let whole : (spelled pieces ++ []) ++ c ∷ [] ≡ spelled (pieces ++ p ∷ []) = ap (λ t. t ++ c ∷ []) (append-nil (spelled pieces)) ∙ sym spells in
+    let here : new.count.line ≡ new.line + line_ends (spelled (pieces ++ p ∷ [])) = counted.here ∙ ap (λ t. mid.line + line_ends t) whole ∙ ap (λ (n : ℕ). n + line_ends (spelled (pieces ++ p ∷ []))) (sym stands.line) in
+    let in_line : tokens_from 0 new.line (pieces ++ p ∷ []) ≡ tokens_from 0 mid.line pieces ++ tokens_of_piece (byte_len (spelled pieces)) (byte_len (spelled pieces) + len_utf8 c) (mid.line + line_ends (spelled pieces)) class (c ∷ [])
+    = rw stands.line (tokens_push mid.line pieces p rest fit ∙ rw (byte_len-one c) refl) in
+    record {
+      mode = stands.mode;
+      start = stands.start ∙ sym stands.stop ∙ stop ∙ ap byte_len (sym spells);
+      stop = stop ∙ ap byte_len (sym spells ∙ sym (append-nil _));
+      piece_line = stands.piece_line ∙ here;
+      here = here ∙ ap (λ t. new.line + line_ends t) (sym (append-nil _));
+      after = counted.after ∙ ap (ends is_return) (whole ∙ sym (append-nil _));
+      margin = stands.margin ∙ sym (margin_push pieces p unmarked);
+      indent = stands.indent ∙ tallies.indent ∙ sym (indent_other pieces p no_space);
+      kind = stands.kind ∙ ap (λ u. kind_through u k) tallies.kind ∙ sym kinds;
+      tokens = stands.tokens ∙ rw (tallies.tokens, tallies.start, before, tallies.piece_line) (ap (λ l. tokens_from 0 mid.line pieces ++ l) (sym (token _ _ _)) ∙ sym in_line);
+    }
+
+-- CR outside brackets is no part of a line that goes on
+pub closed_one_line : (m : Mode) (done : List Piece) (held : List ℕ) (st : List Bracket) → brackets_of done ≡ Some st → EndsNoLine 0 done → (m ≡ modes.Return → none_open st ≡ false) → EndsNoLine 0 (closed m done held)
+closed_one_line modes.Start done held st stacked none open_yet = none
+closed_one_line modes.Free done held st stacked none open_yet = none
+closed_one_line modes.Return done held st stacked none open_yet = EndsNoLine-push 0 done (piece line_end held) none (depth_none done st stacked ∙ open_yet refl)
+closed_one_line m done held st stacked none open_yet = EndsNoLine-push 0 done (piece (class_of m) held) none refl
+
+return_breaks : (m : Mode) (c : ℕ) (st : List Bracket) → move_of m c ≡ moves.Breaks → (is_return_mode m && none_open st) && not (is_line_feed c) ≡ false → m ≡ modes.Return → none_open st ≡ false
+unfolding move_of
+return_breaks modes.Return c [] move not_yet is = cond_both (is_line_feed c) _ _ (λ (v : Move). v ≡ moves.Breaks → false ≡ true → true ≡ false) (λ _ e. absurd (cc)) (λ _ e f. sym f) move (cond_both (is_line_feed c) _ _ (λ (v : Move). v ≡ moves.Breaks → false ≡ true) (λ _ e. absurd (cc)) (λ other e. sym not_yet ∙ ap not other) move)
+return_breaks modes.Return c (b ∷ bs) move not_yet is = refl
+return_breaks m c st move not_yet is = absurd (cc)
+
+module _ (old new : Scan) (done : List Piece) (m : Mode) (held read : List ℕ) (c : ℕ) (breaks : move_of m c ≡ moves.Breaks) (sound : IsSound (scanned done m held) read) (none : EndsNoLine 0 done) (not_yet : is_returned old && not (is_line_feed c) ≡ false) (tallies : Tallies old (scanned done m held)) (stacked : IsStacked old (scanned done m held)) where
+  s : Scanned
+  s = scanned done m held
+
+  pieces : List Piece
+  pieces = closed m done held
+
+  -- what the machine comes to is sound
+  next_sound : (st : Start) → start_of c ≡ st → SoundIf (started (closed m done held) c st) (read ++ c ∷ [])
+  next_sound st starts_as = subst (λ o. SoundIf o (read ++ c ∷ [])) (ap (moved (scanned done m held) c) breaks ∙ ap (started (closed m done held) c) starts_as) (step_sound done m held read c sound)
+
+  goes_as : (st : Start) → start_of c ≡ st → step (scanned done m held) c ≡ started (closed m done held) c st
+  goes_as st starts_as = ap (moved (scanned done m held) c) breaks ∙ ap (started (closed m done held) c) starts_as
+
+  closed_stack : brackets_of (closed m done held) ≡ Some (stack_of old.brackets)
+  closed_stack = stack_closed m done held (stack_of old.brackets) stacked
+
+  closed_line : EndsNoLine 0 (closed m done held)
+  closed_line = closed_one_line m done held (stack_of old.brackets) stacked none (return_breaks m c (stack_of old.brackets) breaks (ap (λ (n : Mode). (is_return_mode n && none_open (stack_of old.brackets)) && not (is_line_feed c)) (sym tallies.mode) ∙ not_yet))
+
+  place : old.stop ≡ byte_len (spelled (closed m done held))
+  place = tallies.stop ∙ ap byte_len (sym (closed_spells m done held sound.holds))
+
+  operator_stack : brackets_of (closed m done held ++ piece operator (c ∷ []) ∷ []) ≡ brackets_behind (stack_of old.brackets) old.stop (piece operator (c ∷ []))
+  operator_stack = stack_push (closed m done held) (piece operator (c ∷ [])) (stack_of old.brackets) closed_stack ∙ ap (λ (n : ℕ). brackets_behind (stack_of old.brackets) n (piece operator (c ∷ []))) (sym place)
+
+  takes_open : (n : Mode) → start_of c ≡ starts.Open n → ClosesAndOpens old c n new → Takes old (scanned done m held) c (Ok progress.Going) new
+  takes_open n starts_as opens =
+      let shut = closes_shut old opens.mid done m held read opens.closes sound tallies in
+      let P : Scan → Type 0 = λ x. Takes old (scanned done m held) c (Ok progress.Going) x in
+      subst P (sym opens.is) (
+        record {
+          next = scanned (closed m done held) n (c ∷ []);
+          goes = goes_as (starts.Open n) starts_as;
+          tallies = tallies_read opens.mid opens.read (fresh (closed m done held)) c n shut opens.reads;
+          stacked = closed_stack ∙ ap (λ b. Some (stack_of b)) (sym (opens.reads.brackets ∙ opens.closes.brackets));
+          one_line = closed_line;
+        },
+        opens.reads.line ∙ opens.closes.line,
+      )
+
+  takes_operator : (r : Result Progress AllocError) → start_of c ≡ starts.Operator → Operates old c r new → Takes old (scanned done m held) c r new
+  takes_operator (Ok progress.Going) starts_as (met, is, behind) =
+      let fit = AreReadBefore-first (closed m done held) (piece operator (c ∷ []) ∷ []) [] ((next_sound starts.Operator starts_as).fit []) in
+      let shut = closes_shut (with_brackets old met) behind.mid done m held read behind.closes sound (other_brackets old met (scanned done m held) tallies) in (
+        record {
+          next = fresh (closed m done held ++ piece operator (c ∷ []) ∷ []);
+          goes = goes_as starts.Operator starts_as;
+          tallies = tallies_standing behind.mid new (closed m done held) c operator (Some (kind.Op c)) _ (λ a b l. refl) (kind_operator (closed m done held) (c ∷ []) c) refl refl fit shut behind.stands;
+          stacked = operator_stack ∙ is ∙ ap (λ b. Some (stack_of b)) (sym (behind.stands.brackets ∙ behind.closes.brackets));
+          one_line = EndsNoLine-push 0 (closed m done held) (piece operator (c ∷ [])) closed_line refl;
+        },
+        behind.stands.line ∙ behind.closes.line,
+      )
+  takes_operator (Ok (progress.LineEnded len)) starts_as never = absurd never
+  takes_operator (Ok progress.Refused) starts_as (is, same) = (ap stack_if (goes_as starts.Operator starts_as) ∙ operator_stack ∙ is, same)
+  takes_operator (Err e) starts_as it = tt
+
+  takes_feed : (r : Result Progress AllocError) → start_of c ≡ starts.LineEnd → r ≡ Ok (line_end_progress (none_open (stack_of old.brackets)) 1) → ClosesAndAdds old c None new → Takes old (scanned done m held) c r new
+  takes_feed r starts_as is behind =
+      let fit = AreReadBefore-first (closed m done held) (piece line_end (c ∷ []) ∷ []) [] ((next_sound starts.LineEnd starts_as).fit []) in
+      let shut = closes_shut old behind.mid done m held read behind.closes sound tallies in
+      let feeds : is_line_feed c ≡ true = subst (StartsSo c) starts_as (starts_so c) in
+      let P : Result Progress AllocError → Type 0 = λ q. Takes old (scanned done m held) c q new in
+      subst P (sym is)
+      (takes_end old new (scanned done m held) c 1 (closed m done held) (c ∷ []) (stack_of old.brackets) (goes_as starts.LineEnd starts_as)
+      (tallies_standing behind.mid new (closed m done held) c line_end None _ (λ a b l. refl) (kind_line_end (closed m done held) (c ∷ [])) refl refl fit shut behind.stands)
+      closed_stack closed_line (one_feed c feeds) (ap stack_of (behind.stands.brackets ∙ behind.closes.brackets)) (behind.stands.line ∙ behind.closes.line) (none_open (stack_of old.brackets)) refl)
+
+  takes_start : (st : Start) (r : Result Progress AllocError) → start_of c ≡ st → Begins old c st r new → Takes old (scanned done m held) c r new
+  takes_start (starts.Open n) r starts_as (is, opens) =
+      let P : Result Progress AllocError → Type 0 = λ q. Takes old (scanned done m held) c q new in
+      subst P (sym is) (takes_open n starts_as opens)
+  takes_start starts.Operator r starts_as operates = takes_operator r starts_as operates
+  takes_start starts.LineEnd r starts_as (is, behind) = takes_feed r starts_as is behind
+  takes_start starts.Nothing r starts_as (is, same) =
+      let P : Result Progress AllocError → Type 0 = λ q. Takes old (scanned done m held) c q new in
+      subst P (sym is) (ap stack_if (goes_as starts.Nothing starts_as), same)
+
+  -- a character that breaks the open piece
+  pub takes_broken : (r : Result Progress AllocError) → OnOk r (Begins old c (start_of c) r new) → Takes old (scanned done m held) c r new
+  takes_broken (Ok p) begins = takes_start (start_of c) (Ok p) refl begins
+  takes_broken (Err e) begins = tt

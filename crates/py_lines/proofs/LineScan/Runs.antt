@@ -1,0 +1,330 @@
+-- Characters that leave the open piece as it is are held in one step.
+use Rattle.std.proofs.Common.{◌≡◌, ℕ, ◌+◌, ◌<◌, ◌≤◌, ◌⊎◌, inl, inr, Bool, true, false, leb, not, ◌||◌, ◌&&◌, ◌==◌, Some, List, [], ◌∷◌, ◌++◌, length, take, drop, slice_index, refl, sym, ap, ◌∙◌, subst, append_assoc, append-nil, arith, ⊎_elim, take-append-drop, length-append, lit<, zero, suc, add-one}
+use Rattle.std.specs.Prelude.{encode_utf8_all, encode_utf8}
+use Rattle.std.specs.Str.{all_scalars, IsUtf8, IsCharBoundary}
+use Rattle.std.specs.List.{list_all}
+use Rattle.std.proofs.lemmas.Bool.{and_parts, and_from, cases_lt, both_ways, eqb-true, false_from_ne_true, or_parts, leb-false}
+use Rattle.std.proofs.lemmas.List.{get_or-append-add, length-take-le, get_or-take}
+use Rattle.std.proofs.lemmas.Bool.Decides.{nat_tests}
+use Rattle.std.proofs.lemmas.Str.{IsUtf8-take, IsCharBoundary-start, IsCharBoundary-before_ascii, IsCharBoundary-after_ascii, IsCharBoundary-end, encodes-append, length-encode, len_utf8_bounds, char_from_byte, byte_from_char}
+use Rattle.py_lines.specs.Character.{is_space, is_word_character, is_break, is_backslash, is_return, is_line_feed}
+use Rattle.py_lines.specs.Piece.{ends, spelled}
+use Rattle.py_lines.specs.LogicalLine.{byte_len, line_ends}
+use Rattle.py_lines.specs.declared.mode.Spelling.TheVariants as spellings
+use Rattle.py_lines.specs.declared.mode.Mode.{Mode}
+use Rattle.py_lines.specs.declared.mode.Mode.TheVariants as modes
+use Rattle.py_lines.specs.declared.mode.Move.TheVariants as moves
+use Rattle.py_lines.specs.declared.scan.Scan.{Scan}
+use Rattle.py_lines.specs.Piece.{Piece}
+use Rattle.py_lines.specs.Private.Machine.{Scanned, run_from, move_of, short_move, long_move, spelling_with, IsFull, Holds as HoldsOpen}
+use Rattle.py_lines.specs.Private.Scan.{Tallies, IsStacked, IsUnderWay, line_start, stack_of, counts_behind}
+use Rattle.py_lines.specs.Private.Run.{IsRunOf, is_word_byte, is_body_byte, stays, ReadsRun, Holds, HasAsciiQuote, Reached}
+use Rattle.unicode_ident.proofs.IdentLemmas.{is_xid_continue-ascii, is_xid_start-ascii}
+use Rattle.py_lines.specs.Character.{is_one_of}
+use Rattle.std.specs.Prelude.{codes, nat_le}
+use Rattle.py_lines.specs.Character.{is_word_start, is_digit}
+use Rattle.py_lines.proofs.Text.CharacterTests.{none_of, excluded}
+use Rattle.py_lines.specs.Character.{is_quote}
+use Rattle.std.specs.Prelude.{if◌then◌else◌}
+use Rattle.py_lines.proofs.LineScan.Increments.{line_ends-step}
+use Rattle.py_lines.proofs.LineScan.LineCount.{ends-last}
+use Rattle.py_lines.proofs.LineScan.LineRun.{sound_run, under_way}
+use Rattle.py_lines.proofs.Text.CharsIterator.{advances}
+use Rattle.py_lines.specs.declared.scan.Progress.TheVariants as progress
+use Rattle.py_lines.specs.Private.Scan.{Takes}
+use Rattle.std.proofs.Common.{Ok}
+use Rattle.py_lines.proofs.Text.Utf8Prefixes.{all_scalars-append}
+use Rattle.py_lines.specs.Private.Machine.{IsSound}
+use Rattle.py_lines.proofs.LogicalLines.Cuts.{byte_len-append}
+use Rattle.py_lines.specs.LogicalLine.{tokens_from}
+use Rattle.py_lines.proofs.Machine.PieceRuns.{scanned, run_from-append, grown, longer, all_held}
+
+-- a byte of words continues a word
+pub word_byte_low : (c : ℕ) → is_word_byte c ≡ true → c < 128
+unfolding is_word_byte
+word_byte_low c h = grind (arith, nat_tests)
+
+pub word_byte_continues : (c : ℕ) → c < 128 → is_word_character c ≡ is_word_byte c
+unfolding is_word_byte is_word_character
+word_byte_continues c low = is_xid_continue-ascii c low
+
+-- and begins one
+pub word_byte_starts : (c : ℕ) → c < 128 → is_word_start c ≡ is_word_byte c
+unfolding is_word_byte is_word_start is_digit
+word_byte_starts c low = ap (λ (b : Bool). (b || (c == 95)) || (nat_le 48 c && nat_le c 57)) (is_xid_start-ascii c low) ∙ go (nat_le 48 c && nat_le c 57) (nat_le 65 c && nat_le c 90) (nat_le 97 c && nat_le c 122) (c == 95)
+  where
+    go : (d u l e : Bool) → ((u || l) || e) || d ≡ ((d || u) || l) || e
+    go true true l e = refl
+    go true false true e = refl
+    go true false false true = refl
+    go true false false false = refl
+    go false true l e = refl
+    go false false true e = refl
+    go false false false true = refl
+    go false false false false = refl
+
+word_byte-no_break : (c : ℕ) → is_break c ≡ true → is_word_byte c ≡ false
+unfolding is_word_byte is_break
+word_byte-no_break c h = none_of is_word_byte (codes "\n\r") c refl h
+
+space-no_break : (c : ℕ) → is_break c ≡ true → is_space c ≡ false
+unfolding is_space is_break
+space-no_break c h = none_of is_space (codes "\n\r") c refl h
+
+pub body_parts : (q c : ℕ) → is_body_byte q c ≡ true → (c == q ≡ false) × (is_backslash c ≡ false) × (is_break c ≡ false)
+unfolding is_body_byte is_backslash is_break
+body_parts q c h = go (c == q) (c == 92) (is_one_of (codes "\n\r") c) h
+  where
+    go : (a b d : Bool) → not (a || (b || d)) ≡ true → (a ≡ false) × (b || false ≡ false) × (d ≡ false)
+    go true b d e = absurd (both_ways _ refl e)
+    go false true d e = absurd (both_ways _ refl e)
+    go false false true e = absurd (both_ways _ refl e)
+    go false false false e = (refl, refl, refl)
+
+no_longer : (b : Bool) → not b ≡ true → b ≡ false
+no_longer true h = sym h
+no_longer false h = refl
+
+-- what stays grows the open piece, in its mode
+pub stays-grows : (m : Mode) (c : ℕ) → stays m c ≡ true → move_of m c ≡ moves.Grows m
+unfolding move_of short_move long_move spelling_with
+stays-grows modes.Space c h = rw h refl
+stays-grows (modes.Word spellings.Number) c h = rw (word_byte_continues c (word_byte_low c h) ∙ h) refl
+stays-grows (modes.Word spellings.Name) c h = rw (word_byte_continues c (word_byte_low c h) ∙ h) refl
+stays-grows modes.Comment c h = rw (no_longer (is_break c) h) refl
+stays-grows (modes.Inside q) c h = let parts = body_parts q c h in rw (parts.0, parts.1, parts.2) refl
+stays-grows (modes.Long q) c h = let parts = body_parts q c h in rw (parts.0, parts.1) refl
+stays-grows m c h = absurd (both_ways _ refl h)
+
+-- and ends no line
+pub stays-no_break : (m : Mode) (c : ℕ) → stays m c ≡ true → is_break c ≡ false
+stays-no_break modes.Space c h = excluded is_space is_break c (space-no_break c) h
+stays-no_break (modes.Word spellings.Number) c h = excluded is_word_byte is_break c (word_byte-no_break c) h
+stays-no_break (modes.Word spellings.Name) c h = excluded is_word_byte is_break c (word_byte-no_break c) h
+stays-no_break modes.Comment c h = no_longer (is_break c) h
+stays-no_break (modes.Inside q) c h = (body_parts q c h).2
+stays-no_break (modes.Long q) c h = (body_parts q c h).2
+stays-no_break m c h = absurd (both_ways _ refl h)
+
+-- the machine holds them
+pub held_run : (done : List Piece) (m : Mode) (held run : List ℕ) → list_all (stays m) run ≡ true → run_from (Some (scanned done m held)) run ≡ Some (scanned done m (held ++ run))
+held_run done m held [] all = all_held done m held
+held_run done m held (c ∷ cs) all =
+    let parts = and_parts (stays m c) (list_all (stays m) cs) all in
+    grown done m m held c cs (stays-grows m c parts.0) ∙ held_run done m (held ++ c ∷ []) cs parts.1 ∙ longer done m held c cs
+
+-- the bytes of characters stay where a quote is one byte, and then the characters do
+pub space_low : (c : ℕ) → is_space c ≡ true → c < 128
+unfolding is_space
+space_low c h = leb-false 128 c (none_of (λ d. leb 128 d) (codes " \t" ++ 0x0C ∷ []) c refl h)
+
+pub break_low : (c : ℕ) → is_break c ≡ true → c < 128
+unfolding is_break
+break_low c h = leb-false 128 c (none_of (λ d. leb 128 d) (codes "\n\r") c refl h)
+
+differs : (c d : ℕ) → d < 128 → 128 ≤ c → c == d ≡ false
+differs c d low high = false_from_ne_true _ (λ same. absurd (omega (arith, low, high, eqb-true c d same)))
+
+body_high : (q c : ℕ) → q < 128 → 128 ≤ c → is_body_byte q c ≡ true
+unfolding is_body_byte
+body_high q c low high = rw (differs c q low high, differs c 92 (lit< tt) high, differs c 10 (lit< tt) high, differs c 13 (lit< tt) high) refl
+
+stays-high : (m : Mode) (b c : ℕ) → HasAsciiQuote m → 128 ≤ b → 128 ≤ c → stays m b ≡ true → stays m c ≡ true
+stays-high modes.Space b c quote first second h = absurd (omega (arith, first, space_low b h))
+stays-high (modes.Word spellings.Number) b c quote first second h = absurd (omega (arith, first, word_byte_low b h))
+stays-high (modes.Word spellings.Name) b c quote first second h = absurd (omega (arith, first, word_byte_low b h))
+stays-high modes.Comment b c quote first second h = ap not (false_from_ne_true _ (λ (breaks : is_break c ≡ true). absurd (omega (arith, second, break_low c breaks))))
+stays-high (modes.Inside q) b c quote first second h = body_high q c quote second
+stays-high (modes.Long q) b c quote first second h = body_high q c quote second
+stays-high m b c quote first second h = absurd (both_ways _ refl h)
+
+ascii_or_high : (m : Mode) (c : ℕ) (rest : List ℕ) → HasAsciiQuote m → stays m (slice_index (encode_utf8 c ++ rest) 0) ≡ true → stays m c ≡ true
+ascii_or_high m c rest quote h =
+    let some : 0 < length (encode_utf8 c ++ rest) = omega (arith, length-append (encode_utf8 c) rest, length-encode c, len_utf8_bounds c) in
+    ⊎_elim
+    (λ (low : slice_index (encode_utf8 c ++ rest) 0 < 128). subst (λ (n : ℕ). stays m n ≡ true) (sym (char_from_byte (encode_utf8 c ++ rest) rest c refl low some)) h)
+    (λ (high : 128 ≤ slice_index (encode_utf8 c ++ rest) 0).
+    ⊎_elim
+    (λ (low : c < 128). absurd (omega (arith, high, low, byte_from_char (encode_utf8 c ++ rest) rest c refl low)))
+    (λ (more : 128 ≤ c). stays-high m _ c quote high more h) (cases_lt c 128)) (cases_lt (slice_index (encode_utf8 c ++ rest) 0) 128)
+
+pub characters_stay : (m : Mode) (cs : List ℕ) → HasAsciiQuote m → ((i : ℕ) → i < length (encode_utf8_all cs) → stays m (slice_index (encode_utf8_all cs) i) ≡ true) → list_all (stays m) cs ≡ true
+characters_stay m [] quote each = refl
+characters_stay m (c ∷ cs) quote each =
+    and_from (stays m c) (list_all (stays m) cs)
+    (ascii_or_high m c (encode_utf8_all cs) quote (each 0 (omega (arith, length-append (encode_utf8 c) (encode_utf8_all cs), length-encode c, len_utf8_bounds c))))
+    (characters_stay m cs quote (λ i less. subst (λ (n : ℕ). stays m n ≡ true) (later i) (each (length (encode_utf8 c) + i) (omega (arith, length-append (encode_utf8 c) (encode_utf8_all cs))))))
+  where
+    later : (i : ℕ) → slice_index (encode_utf8 c ++ encode_utf8_all cs) (length (encode_utf8 c) + i) ≡ slice_index (encode_utf8_all cs) i
+    later i = get_or-append-add (encode_utf8 c) (encode_utf8_all cs) i 0
+
+-- a quote is one byte
+pub quote_ascii : (q : ℕ) → is_quote q ≡ true → q < 128
+unfolding is_quote
+quote_ascii q h = leb-false 128 q (none_of (λ d. leb 128 d) (codes "'\"") q refl h)
+
+pub sound_quote : (m : Mode) (done : List Piece) (held : List ℕ) → HoldsOpen m done held → HasAsciiQuote m
+sound_quote (modes.Inside q) done held holds = quote_ascii q holds.all.opens
+sound_quote (modes.Long q) done held holds = quote_ascii q holds.opens
+sound_quote m done held holds = tt
+
+-- a run may be cut off
+after_low : (bytes : List ℕ) (n : ℕ) → IsUtf8 bytes → n ≤ length bytes → ((i : ℕ) → i < n → slice_index bytes i < 128) → IsCharBoundary bytes n
+after_low bytes zero utf8 within low = IsCharBoundary-start bytes utf8
+after_low bytes (suc n) utf8 within low = subst (IsCharBoundary bytes) (add-one n) (IsCharBoundary-after_ascii bytes n utf8 (omega (arith, within)) (low n (omega arith)))
+
+before_low : (bytes : List ℕ) (n : ℕ) → n ≤ length bytes → (n < length bytes → slice_index bytes n < 128) → IsCharBoundary bytes n
+before_low bytes n within low =
+    ⊎_elim
+    (λ (less : n < length bytes). IsCharBoundary-before_ascii bytes n less (low less))
+    (λ (all : length bytes ≤ n). let same : length bytes ≡ n = omega (arith, all, within) in subst (IsCharBoundary bytes) same (IsCharBoundary-end bytes)) (cases_lt n (length bytes))
+
+not_high : (m : Mode) (b : ℕ) → (128 ≤ b → stays m b ≡ true) → stays m b ≡ false → b < 128
+not_high m b high is = ⊎_elim (λ (low : b < 128). low) (λ (more : 128 ≤ b). absurd (both_ways _ is (high more))) (cases_lt b 128)
+
+pub run_boundary : (m : Mode) (bytes : List ℕ) (n : ℕ) → IsUtf8 bytes → HasAsciiQuote m → IsRunOf (stays m) bytes n → IsCharBoundary bytes n
+run_boundary modes.Space bytes n utf8 quote run = after_low bytes n utf8 run.within (λ i less. space_low _ (run.each i less))
+run_boundary (modes.Word spellings.Number) bytes n utf8 quote run = after_low bytes n utf8 run.within (λ i less. word_byte_low _ (run.each i less))
+run_boundary (modes.Word spellings.Name) bytes n utf8 quote run = after_low bytes n utf8 run.within (λ i less. word_byte_low _ (run.each i less))
+run_boundary modes.Comment bytes n utf8 quote run = before_low bytes n run.within (λ less. not_high modes.Comment _ (λ high. ap not (false_from_ne_true _ (λ breaks. absurd (omega (arith, high, break_low _ breaks))))) (run.ends less))
+run_boundary (modes.Inside q) bytes n utf8 quote run = before_low bytes n run.within (λ less. not_high (modes.Inside q) _ (λ high. body_high q _ quote high) (run.ends less))
+run_boundary (modes.Long q) bytes n utf8 quote run = before_low bytes n run.within (λ less. not_high (modes.Long q) _ (λ high. body_high q _ quote high) (run.ends less))
+run_boundary m bytes n utf8 quote run = after_low bytes n utf8 run.within (λ i less. absurd (both_ways _ refl (run.each i less)))
+
+-- what a text's run holds
+pub record HeldIn (m : Mode) (text : List ℕ) (n : ℕ) : Type 0 where
+  pub run : List ℕ
+  pub spell : encode_utf8_all run ++ drop n text ≡ text
+  pub scalars : all_scalars run ≡ true
+  pub size : byte_len run ≡ n
+  pub stay : list_all (stays m) run ≡ true
+
+pub held_in : (m : Mode) (text : List ℕ) (n : ℕ) → IsUtf8 text → HasAsciiQuote m → IsRunOf (stays m) text n → HeldIn m text n
+held_in m text n utf8 quote run =
+    let front = IsUtf8-take text n utf8 (run_boundary m text n utf8 quote run) in
+    let size : length (take n text) ≡ n = length-take-le n text run.within in
+    record {
+      run = front.0;
+      spell = ap (λ t. t ++ drop n text) front.1.1 ∙ take-append-drop n text;
+      scalars = front.1.0;
+      size = ap length front.1.1 ∙ size;
+      stay = characters_stay m front.0 quote (λ i less.
+          let short : i < n = omega (arith, less, ap length front.1.1, size) in
+          subst (λ (t : List ℕ). stays m (slice_index t i) ≡ true) (sym front.1.1) (subst (λ (b : ℕ). stays m b ≡ true) (sym (get_or-take n text i 0 short)) (run.each i short)));
+    }
+
+full_from : (run : List ℕ) → 0 < byte_len run → IsFull run
+full_from [] some = absurd (omega (arith, some))
+full_from (c ∷ cs) some = tt
+
+none_from : (run : List ℕ) → byte_len run ≡ 0 → run ≡ []
+none_from [] none = refl
+none_from (c ∷ cs) none = absurd (omega (arith, none, length-append (encode_utf8 c) (encode_utf8_all cs), length-encode c, len_utf8_bounds c))
+
+-- a run was read, or none
+pub holds_run : (old new : Scan) (text : List ℕ) (n : ℕ) → HeldIn old.mode text n → ((0 < n) × ((run : List ℕ) → byte_len run ≡ n → ReadsRun old run new)) ⊎ ((n ≤ 0) × (new ≡ old)) → Holds old text (drop n text) new
+holds_run old new text n held how = record {
+  run = held.run;
+  spell = held.spell;
+  scalars = held.scalars;
+  stay = held.stay;
+  reads = ⊎_elim (λ some. inr (full_from held.run (omega (arith, held.size, some.0)), some.1 held.run held.size)) (λ none. inl (none_from held.run (omega (arith, held.size, none.0)), none.1)) how;
+}
+
+-- no line ends in a run
+pub counts_none : (after : Bool) (c : ℕ) → is_break c ≡ false → counts_behind after c ≡ 0
+unfolding counts_behind is_break is_return is_line_feed
+counts_none after c none = go (c == 10) (c == 13) none
+  where
+    go : (f r : Bool) → f || (r || false) ≡ false → ◌≡◌ {A = ℕ} (if (r || false) then 1 else (if (f || false) && not after then 1 else 0)) 0
+    go true r e = absurd (both_ways _ e refl)
+    go false true e = absurd (both_ways _ e refl)
+    go false false e = refl
+
+pub line_ends-run : (before run : List ℕ) → list_all (λ d. not (is_break d)) run ≡ true → line_ends (before ++ run) ≡ line_ends before
+line_ends-run before [] all = ap line_ends (append-nil before)
+line_ends-run before (c ∷ cs) all =
+    let parts = and_parts (not (is_break c)) (list_all (λ d. not (is_break d)) cs) all in
+    ap line_ends (sym (append_assoc before (c ∷ []) cs)) ∙ line_ends-run (before ++ c ∷ []) cs parts.1 ∙ omega (arith, line_ends-step before c, counts_none (ends is_return before) c (no_longer (is_break c) parts.0))
+
+pub break-return : (c : ℕ) → is_break c ≡ false → is_return c ≡ false
+unfolding is_break is_return
+break-return c h = (or_parts (c == 10) (is_one_of (codes "\r") c) h).1
+
+pub ends-run : (before run : List ℕ) → IsFull run → list_all (λ d. not (is_break d)) run ≡ true → ends is_return (before ++ run) ≡ false
+ends-run before [] full all = absurd full
+ends-run before (c ∷ []) full all = ends-last is_return before c ∙ break-return c (no_longer (is_break c) (and_parts (not (is_break c)) true all).0)
+ends-run before (c ∷ d ∷ cs) full all =
+    let parts = and_parts (not (is_break c)) (list_all (λ e. not (is_break e)) (d ∷ cs)) all in
+    ap (ends is_return) (sym (append_assoc before (c ∷ []) (d ∷ cs))) ∙ ends-run (before ++ c ∷ []) (d ∷ cs) tt parts.1
+
+-- what stays ends no line
+pub all_no_break : (m : Mode) (run : List ℕ) → list_all (stays m) run ≡ true → list_all (λ d. not (is_break d)) run ≡ true
+all_no_break m [] all = refl
+all_no_break m (c ∷ cs) all =
+    let parts = and_parts (stays m c) (list_all (stays m) cs) all in
+    and_from (not (is_break c)) (list_all (λ d. not (is_break d)) cs) (ap not (stays-no_break m c parts.0)) (all_no_break m cs parts.1)
+
+-- the scan keeps count over a run
+pub tallies_run : (old new : Scan) (s : Scanned) (run : List ℕ) → list_all (λ d. not (is_break d)) run ≡ true → IsFull run → Tallies old s → ReadsRun old run new → Tallies new (scanned s.done s.mode (s.held ++ run))
+tallies_run old new s run all full tallies reads =
+    let longer : (spelled s.done ++ s.held) ++ run ≡ spelled s.done ++ (s.held ++ run) = append_assoc (spelled s.done) s.held run in
+    record {
+      mode = reads.mode ∙ tallies.mode;
+      start = reads.start ∙ tallies.start;
+      stop = reads.stop ∙ ap (λ (n : ℕ). n + byte_len run) tallies.stop ∙ sym (byte_len-append (spelled s.done ++ s.held) run) ∙ ap byte_len longer;
+      piece_line = reads.piece_line ∙ tallies.piece_line ∙ ap (λ (n : ℕ). n + line_ends (spelled s.done)) (sym reads.line);
+      here = reads.here ∙ tallies.here ∙ ap (λ (n : ℕ). old.line + n) (sym (line_ends-run (spelled s.done ++ s.held) run all) ∙ ap line_ends longer) ∙ ap (λ (n : ℕ). n + line_ends (spelled s.done ++ (s.held ++ run))) (sym reads.line);
+      after = reads.after ∙ sym (ends-run (spelled s.done ++ s.held) run full all) ∙ ap (ends is_return) longer;
+      margin = reads.margin ∙ tallies.margin;
+      indent = reads.indent ∙ tallies.indent;
+      kind = reads.kind ∙ tallies.kind;
+      tokens = ap (λ v. v.items) reads.tokens ∙ tallies.tokens ∙ ap (λ (n : ℕ). tokens_from 0 n s.done) (sym reads.line);
+    }
+
+-- and follows the machine
+pub way_held : (m : Mode) (old new : Scan) (read text rest : List ℕ) (way : IsUnderWay m old read) (holds : Holds old text rest new) → IsUnderWay m new (read ++ holds.run)
+way_held m old new read text rest way holds =
+    ⊎_elim
+    (λ none. record {
+      state = way.state;
+      runs = ap (λ t. run_from (Some (line_start m)) (read ++ t)) none.0 ∙ ap (run_from (Some (line_start m))) (append-nil read) ∙ way.runs;
+      tallies = subst (λ (n : Scan). Tallies n way.state) (sym none.1) way.tallies;
+      stacked = subst (λ (n : Scan). IsStacked n way.state) (sym none.1) way.stacked;
+      one_line = way.one_line;
+    })
+    (λ some.
+    let all : list_all (stays way.state.mode) holds.run ≡ true = subst (λ (n : Mode). list_all (stays n) holds.run ≡ true) way.tallies.mode holds.stay in
+    record {
+      state = scanned way.state.done way.state.mode (way.state.held ++ holds.run);
+      runs = run_from-append (Some (line_start m)) read holds.run ∙ ap (λ o. run_from o holds.run) way.runs ∙ held_run way.state.done way.state.mode way.state.held holds.run all;
+      tallies = tallies_run old new way.state holds.run (all_no_break way.state.mode holds.run all) some.0 way.tallies some.1;
+      stacked = way.stacked ∙ ap (λ b. Some (stack_of b)) (sym some.1.brackets);
+      one_line = way.one_line;
+    }) holds.reads
+
+-- over a run too
+pub reached_run : (m : Mode) (at : ℕ) (text : List ℕ) (old new : Scan) (mid rest : List ℕ) → Reached m at text old mid → Holds old mid rest new → Reached m at text new rest
+reached_run m at text old new mid rest r holds = record {
+  read = r.read ++ holds.run;
+  way = way_held m old new r.read mid rest r.way holds;
+  spell = ap (λ t. t ++ rest) (encodes-append r.read holds.run) ∙ append_assoc (encode_utf8_all r.read) (encode_utf8_all holds.run) rest ∙ ap (λ t. encode_utf8_all r.read ++ t) holds.spell ∙ r.spell;
+  scalars = all_scalars-append r.read holds.run r.scalars holds.scalars;
+  line = ⊎_elim (λ none. ap (λ (s : Scan). s.line) none.1) (λ some. some.1.line) holds.reads ∙ r.line;
+}
+
+-- the mode's quote is one byte on the way
+pub way_quote : (m : Mode) (scan : Scan) (read : List ℕ) (way : IsUnderWay m scan read) → IsSound (line_start m) [] → HasAsciiQuote scan.mode
+way_quote m scan read way start = subst HasAsciiQuote (sym way.tallies.mode) (sound_quote way.state.mode way.state.done way.state.held (sound_run m read way.state start way.runs).holds)
+
+-- and over a character
+pub reached_character : (m : Mode) (at : ℕ) (text : List ℕ) (old new : Scan) (before rest : List ℕ) (c : ℕ) (r : Reached m at text old before) → IsUtf8 text → before ≡ encode_utf8 c ++ rest → Takes old r.way.state c (Ok progress.Going) new → Reached m at text new rest
+reached_character m at text old new before rest c r utf8 is takes =
+    let on = advances text r.read c before rest utf8 r.spell is in
+    record {
+      read = r.read ++ c ∷ [];
+      way = under_way m old new r.read c r.way takes;
+      spell = on.spell;
+      scalars = on.scalars;
+      line = takes.1 ∙ r.line;
+    }

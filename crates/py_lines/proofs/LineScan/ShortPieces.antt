@@ -1,0 +1,663 @@
+-- Words, spaces and operators that runs of bytes spell are taken whole.
+use Rattle.std.proofs.Common.{◌≡◌, ℕ, zero, suc, ◌+◌, ◌-◌, ◌<◌, ◌≤◌, ◌⊎◌, inl, inr, Bool, true, false, cond, not, ◌||◌, ◌&&◌, None, Some, Ok, List, [], ◌∷◌, ◌++◌, length, take, drop, slice_index, slice_get, refl, sym, ap, ◌∙◌, subst, append_assoc, append-nil, arith, ⊎_elim, take-append-drop, length-append, lit<, take_all, length-drop}
+use Rattle.std.specs.Prelude.{encode_utf8_all, encode_utf8, codes, nat_lt}
+use Rattle.std.specs.Str.{all_scalars, IsUtf8, IsCharBoundary}
+use Rattle.std.specs.List.{list_all}
+use Rattle.std.specs.Char.{is_ascii_digit, len_utf8}
+use Rattle.std.proofs.lemmas.Bool.{and_parts, and_from, and_right, or_cases, both_ways, eq-eqb}
+use Rattle.std.proofs.lemmas.Bool.Decides.{nat_tests}
+use Rattle.std.proofs.lemmas.List.Folds.{list_all-append}
+use Rattle.std.proofs.lemmas.List.{length-take-le}
+use Rattle.std.proofs.lemmas.Str.{encode_ascii, len_utf8_ascii, encodes-append, IsCharBoundary-at_seam}
+use Rattle.std.proofs.Math.Utf8.{low_scalar}
+use Rattle.std.proofs.Math.Seq.{drop-append_seam}
+use Rattle.py_lines.proofs.Text.Utf8Prefixes.{all_scalars-append, all_scalars-parts, front_chars}
+use Rattle.py_lines.specs.Character.{is_one_of, is_space, is_word_start, is_word_character, is_digit, is_quote, is_operator, is_break, is_line_feed, is_hash, is_backslash}
+use Rattle.py_lines.proofs.Pieces.PieceLists.{piece}
+use Rattle.py_lines.specs.declared.brackets.Brackets.{Brackets}
+use Rattle.py_lines.specs.Piece.{operator, Piece, begins, ends}
+use Rattle.py_lines.specs.LogicalLine.{byte_len}
+use Rattle.py_lines.specs.declared.count.Count.{Count}
+use Rattle.py_lines.specs.declared.token.TokKind.{TokKind}
+use Rattle.py_lines.specs.declared.token.TokKind.TheVariants as kind
+use Rattle.py_lines.specs.declared.mode.Spelling.{Spelling}
+use Rattle.py_lines.specs.declared.mode.Spelling.TheVariants as spellings
+use Rattle.py_lines.specs.declared.mode.Mode.{Mode}
+use Rattle.py_lines.specs.declared.mode.Mode.TheVariants as modes
+use Rattle.py_lines.specs.declared.mode.Move.TheVariants as moves
+use Rattle.py_lines.specs.declared.mode.Start.{Start}
+use Rattle.py_lines.specs.declared.mode.Start.TheVariants as starts
+use Rattle.py_lines.specs.declared.scan.Progress.TheVariants as progress
+use Rattle.py_lines.specs.declared.scan.Scan.{Scan}
+use Rattle.py_lines.specs.Private.Machine.{fresh, closed, moved, started, run_from, token_of, move_of, start_of, short_move, first_spelling, spelling_with, spelling_on, is_prefix_spelling, IsFull, IsSound, Bracket, brackets_behind}
+use Rattle.py_lines.specs.Private.Scan.{Closes, ReadsCharacter, Meets, Begins, ClosesAndAdds, Tallies, line_start, stack_of, none_open, is_return_mode, indent_closed, with_brackets, tokens_with, kind_through, kind_closed, holds_nothing}
+use Rattle.py_lines.specs.Private.Run.{IsRunOf, is_word_byte, may_stand, follows, is_free, word_spelling, word_mode, space_mode, opened, ReadsRun, AddsToken, TakesRun, TakesOperator, TakesPiece, Reached, ReachedShut, is_apart, may_begin, is_text_byte, is_body_byte, TakesString}
+use Rattle.py_lines.proofs.Text.CharacterTests.{operator_ascii, none_of, the_one}
+use Rattle.py_lines.proofs.Machine.PieceRuns.{scanned, run_from-append, run_word, run_space, grown}
+use Rattle.py_lines.proofs.Machine.Starts.{start-word, start-space, start-operator, start-quote}
+use Rattle.py_lines.proofs.Machine.WordTokens.{word_token}
+use Rattle.py_lines.proofs.Machine.LiveTexts.{stack_closed}
+use Rattle.py_lines.proofs.LineScan.PieceEnd.{closes_shut, to_code}
+use Rattle.py_lines.proofs.LineScan.NextCharacter.{closed_one_line, takes_broken, takes_closed}
+use Rattle.py_lines.proofs.LineScan.LineRun.{sound_run}
+use Rattle.py_lines.proofs.LineScan.Runs.{counts_none, break-return, stays-no_break, word_byte_low, word_byte_continues, word_byte_starts, space_low, break_low, quote_ascii, body_parts, held_run, tallies_run, reached_character}
+
+-- a run of bytes as a list
+pub record RunOf (passes : ℕ → Bool) (bytes : List ℕ) (len : ℕ) : Type 0 where
+  pub spell : take len bytes ++ drop len bytes ≡ bytes
+  pub size : length (take len bytes) ≡ len
+  pub full : IsFull (take len bytes)
+  pub all : list_all passes (take len bytes) ≡ true
+  pub ends : begins passes (drop len bytes) ≡ false
+
+all_pass : (passes : ℕ → Bool) (bytes : List ℕ) (n : ℕ) → n ≤ length bytes → ((i : ℕ) → i < n → passes (slice_index bytes i) ≡ true) → list_all passes (take n bytes) ≡ true
+all_pass passes bytes zero within each = refl
+all_pass passes [] (suc n) within each = refl
+all_pass passes (b ∷ bs) (suc n) within each = and_from (passes b) (list_all passes (take n bs)) (each 0 (omega arith)) (all_pass passes bs n (omega (arith, within)) (λ i less. each (suc i) (omega (arith, less))))
+
+none_begins : (passes : ℕ → Bool) (bytes : List ℕ) (n : ℕ) → n ≤ length bytes → (n < length bytes → passes (slice_index bytes n) ≡ false) → begins passes (drop n bytes) ≡ false
+none_begins passes [] zero within none = refl
+none_begins passes (b ∷ bs) zero within none = none (omega arith)
+none_begins passes [] (suc n) within none = refl
+none_begins passes (b ∷ bs) (suc n) within none = none_begins passes bs n (omega (arith, within)) (λ less. none (omega (arith, less)))
+
+full_run : (passes : ℕ → Bool) (bytes : List ℕ) (n : ℕ) → begins passes bytes ≡ true → begins passes (drop n bytes) ≡ false → IsFull (take n bytes)
+full_run passes bytes zero some none = absurd (both_ways _ none some)
+full_run passes [] (suc n) some none = absurd (both_ways _ refl some)
+full_run passes (b ∷ bs) (suc n) some none = tt
+
+pub run_of : (passes : ℕ → Bool) (bytes : List ℕ) (n : ℕ) → IsRunOf passes bytes n → begins passes bytes ≡ true → RunOf passes bytes n
+run_of passes bytes n is some =
+    let none = none_begins passes bytes n is.within is.ends in
+    record {
+      spell = take-append-drop n bytes;
+      size = length-take-le n bytes is.within;
+      full = full_run passes bytes n some none;
+      all = all_pass passes bytes n is.within is.each;
+      ends = none;
+    }
+
+-- the spelling of a word with one more character
+pub spelling_push : (cs : List ℕ) (c : ℕ) → IsFull cs → word_spelling (cs ++ c ∷ []) ≡ spelling_with (word_spelling cs) c
+spelling_push [] c full = absurd full
+spelling_push (b ∷ bs) c full = go (first_spelling b) bs
+  where
+    go : (s : Spelling) (xs : List ℕ) → spelling_on s (xs ++ c ∷ []) ≡ spelling_with (spelling_on s xs) c
+    go s [] = refl
+    go s (x ∷ xs) = go (spelling_with s x) xs
+
+-- a token closes an open word
+pub token_closes : (old new : Scan) (s : Spelling) (k : TokKind) (len : ℕ) → token_of (modes.Word s) ≡ Some k → (k ≡ kind.Remark → ⊥) → AddsToken old k len new → Closes (opened old (modes.Word s) len) new
+token_closes old new s k len token other adds = record {
+  tokens = adds.tokens ∙ ap (λ o. old.tokens.items ++ tokens_with o old.stop (old.stop + len) old.count.line) (sym token);
+  kind = adds.kind ∙ sym (ap (λ o. kind_through old.kind o) token ∙ to_code old.kind k other);
+  indent = adds.indent;
+  margin = adds.margin ∙ sym (and_right old.margin false refl);
+  mode = adds.mode;
+  start = adds.start;
+  stop = adds.stop;
+  piece_line = adds.piece_line;
+  line = adds.line;
+  count = λ i. record { line = adds.here i; after_return = adds.after i };
+  brackets = adds.brackets;
+}
+
+-- an open space is closed
+pub space_closes : (old : Scan) (len : ℕ) (indent : ℕ) → indent ≡ indent_closed old.indent modes.Space old.margin len → Closes (opened old modes.Space len) (record (opened old modes.Space len) { mode = modes.Free; start = old.stop + len; margin = false; indent = indent })
+space_closes old len indent is =
+    let size : (old.stop + len) - old.stop ≡ len = omega arith in
+    record {
+      tokens = sym (append-nil old.tokens.items);
+      kind = refl;
+      indent = is ∙ ap (λ (n : ℕ). indent_closed old.indent modes.Space old.margin n) (sym size);
+      margin = sym (and_right old.margin false refl);
+      mode = refl;
+      start = refl;
+      stop = refl;
+      piece_line = refl;
+      line = refl;
+      count = refl;
+      brackets = refl;
+    }
+
+-- the run that a piece is made of
+pub takes_run : (passes : ℕ → Bool) (next : List Bracket → ℕ → Bool) (mode_of : List ℕ → Mode) (old : Scan) (bytes : List ℕ) (len : ℕ) (new : Scan) → IsRunOf passes bytes len → begins passes bytes ≡ true → (new ≡ opened old (mode_of (take len bytes)) len) ⊎ (Closes (opened old (mode_of (take len bytes)) len) new × (begins (next (stack_of old.brackets)) (drop len bytes) ≡ true)) → TakesRun passes next mode_of old bytes len new
+takes_run passes next mode_of old bytes len new is some how =
+    let r = run_of passes bytes len is some in
+    record { run = take len bytes; after = drop len bytes; spell = r.spell; size = r.size; full = r.full; all = r.all; ends = r.ends; how = how }
+
+-- the token of a word
+pub word_kind : (cs : List ℕ) → IsFull cs → token_of (word_mode cs) ≡ Some (cond (begins is_digit cs) kind.Number kind.Name)
+word_kind [] full = absurd full
+word_kind (c ∷ cs) full = word_token c cs
+
+pub full_take : (bytes : List ℕ) (n : ℕ) → 1 ≤ n → n < length bytes → IsFull (take n bytes)
+full_take bytes zero some within = absurd (omega (arith, some))
+full_take [] (suc n) some within = absurd (omega (arith, within))
+full_take (b ∷ bs) (suc n) some within = tt
+
+-- what follows a run, as a slice from its end says it
+pub followed_by : (next : List Bracket → ℕ → Bool) (st : List Bracket) (bytes : List ℕ) (len : ℕ) (b : Bool) → b ≡ begins (next st) (take (length bytes - len) (drop len bytes)) → begins (next st) (drop len bytes) ≡ b
+followed_by next st bytes len b is = ap (begins (next st)) (sym (take_all (length bytes - len) (drop len bytes) (omega (arith, length-drop len bytes)))) ∙ sym is
+
+-- whether a word is a number
+digit_same : (c : ℕ) → is_ascii_digit c ≡ is_digit c
+unfolding is_digit
+digit_same c = refl
+
+begin_take : (passes : ℕ → Bool) (bytes : List ℕ) (n : ℕ) → IsFull (take n bytes) → begins passes (take n bytes) ≡ passes (slice_index bytes 0)
+begin_take passes bytes zero full = absurd full
+begin_take passes [] (suc n) full = absurd full
+begin_take passes (b ∷ bs) (suc n) full = refl
+
+-- a word whose end shows became a token
+pub takes_word : (old new : Scan) (bytes : List ℕ) (len : ℕ) (digit : Bool) → IsRunOf is_word_byte bytes len → begins is_word_byte bytes ≡ true → begins (follows (stack_of old.brackets)) (drop len bytes) ≡ true → is_ascii_digit (slice_index bytes 0) ≡ digit → AddsToken old (cond digit kind.Number kind.Name) len new → TakesRun is_word_byte follows word_mode old bytes len new
+takes_word old new bytes len digit is some next digits adds =
+    let full = (run_of is_word_byte bytes len is some).full in
+    let token : token_of (word_mode (take len bytes)) ≡ Some (cond digit kind.Number kind.Name)
+    = word_kind (take len bytes) full ∙ ap (λ (b : Bool). Some (cond b kind.Number kind.Name)) (begin_take is_digit bytes len full ∙ sym (digit_same (slice_index bytes 0)) ∙ digits) in
+    takes_run is_word_byte follows word_mode old bytes len new is some (inr (token_closes old new (word_spelling (take len bytes)) (cond digit kind.Number kind.Name) len token (no_remark digit) adds, next))
+  where
+    no_remark : (b : Bool) → cond b kind.Number kind.Name ≡ kind.Remark → ⊥
+    no_remark true e = cc
+    no_remark false e = cc
+
+-- the characters of a run of bytes
+low_encodes : (passes : ℕ → Bool) (run : List ℕ) → ((c : ℕ) → passes c ≡ true → c < 128) → list_all passes run ≡ true → (encode_utf8_all run ≡ run) × (all_scalars run ≡ true)
+low_encodes passes [] low all = (refl, refl)
+low_encodes passes (c ∷ cs) low all =
+    let parts = and_parts (passes c) (list_all passes cs) all in
+    let others = low_encodes passes cs low parts.1 in
+    (ap (λ t. t ++ encode_utf8_all cs) (encode_ascii c (low c parts.0)) ∙ ap (λ t. c ∷ t) others.0, and_from _ _ (low_scalar c (omega (arith, low c parts.0))) others.1)
+
+-- the scan where closed pieces end
+abbrev pub settled : Scan → Scan
+settled old = record old { start = old.stop; piece_line = old.count.line }
+
+pub free_breaks : (m : Mode) (c : ℕ) → m ≡ modes.Free → move_of m c ≡ moves.Breaks
+unfolding move_of
+free_breaks m c is = ap (λ n. move_of n c) is
+
+pub settles : (old : Scan) → old.mode ≡ modes.Free → Closes old (settled old)
+settles old free = record {
+  tokens = sym (ap (λ m. old.tokens.items ++ tokens_with (token_of m) old.start old.stop old.piece_line) free ∙ append-nil old.tokens.items);
+  kind = sym (ap (λ m. kind_closed old.kind m) free);
+  indent = sym (ap (λ m. indent_closed old.indent m old.margin (old.stop - old.start)) free);
+  margin = sym (ap (λ m. old.margin && holds_nothing m) free ∙ and_true old.margin);
+  mode = free;
+  start = refl;
+  stop = refl;
+  piece_line = refl;
+  line = refl;
+  count = refl;
+  brackets = refl;
+}
+  where
+    and_true : (b : Bool) → b && true ≡ b
+    and_true true = refl
+    and_true false = refl
+
+-- what a piece that comes next meets
+record MeetsPiece (m : Mode) (at : ℕ) (text : List ℕ) (scan : Scan) (c : ℕ) (rest : List ℕ) : Type 0 where
+  unshut : Scan
+  reached : Reached m at text unshut (c ∷ rest)
+  closes : Closes unshut (settled scan)
+  breaks : move_of unshut.mode c ≡ moves.Breaks
+  unreturned : is_return_mode unshut.mode ≡ false
+
+meets : (m : Mode) (at : ℕ) (text : List ℕ) (scan : Scan) (c : ℕ) (rest : List ℕ) → scan.mode ≡ modes.Free → ReachedShut m at text scan (c ∷ rest) → MeetsPiece m at text scan c rest
+meets m at text scan c rest free r =
+    ⊎_elim
+    (λ same. record {
+      unshut = scan;
+      reached = subst (λ (s : Scan). Reached m at text s (c ∷ rest)) (sym same) r.reached;
+      closes = settles scan free;
+      breaks = free_breaks scan.mode c free;
+      unreturned = ap is_return_mode free;
+    })
+    (λ shut. record {
+      unshut = r.unshut;
+      reached = r.reached;
+      closes = record {
+        tokens = shut.closes.tokens;
+        kind = shut.closes.kind;
+        indent = shut.closes.indent;
+        margin = shut.closes.margin;
+        mode = shut.closes.mode;
+        start = shut.closes.stop;
+        stop = shut.closes.stop;
+        piece_line = ap (λ (k : Count). k.line) shut.closes.count;
+        line = shut.closes.line;
+        count = shut.closes.count;
+        brackets = shut.closes.brackets;
+      };
+      breaks = shut.breaks c rest refl;
+      unreturned = shut.unreturned;
+    }) r.how
+
+list_all_more : (p q : ℕ → Bool) → ((d : ℕ) → p d ≡ true → q d ≡ true) → (ds : List ℕ) → list_all p ds ≡ true → list_all q ds ≡ true
+list_all_more p q each [] all = refl
+list_all_more p q each (d ∷ ds) all =
+    let parts = and_parts (p d) (list_all p ds) all in
+    and_from (q d) (list_all q ds) (each d parts.0) (list_all_more p q each ds parts.1)
+
+-- a run opens a piece after closed ones
+opens_reached : (m : Mode) (at : ℕ) (text : List ℕ) (scan : Scan) (c : ℕ) (cs after : List ℕ) (first last : Mode) → MeetsPiece m at text scan c (cs ++ after) → IsSound (line_start m) [] → start_of c ≡ starts.Open first → ((done : List Piece) → run_from (Some (scanned done first (c ∷ []))) cs ≡ Some (scanned done last (c ∷ cs))) → list_all (λ d. not (is_break d)) (c ∷ cs) ≡ true → (encode_utf8_all (c ∷ cs) ≡ c ∷ cs) × (all_scalars (c ∷ cs) ≡ true) → Reached m at text (opened scan last (length (c ∷ cs))) after
+opens_reached m at text scan c cs after first last meet start opens runs all low =
+    let way = meet.reached.way in
+    let s = way.state in
+    let read = meet.reached.read in
+    let sound = sound_run m read s start way.runs in
+    let pieces = closed s.mode s.done s.held in
+    let breaks : move_of s.mode c ≡ moves.Breaks = ap (λ n. move_of n c) (sym way.tallies.mode) ∙ meet.breaks in
+    let shut : Tallies (settled scan) (fresh pieces) = closes_shut meet.unshut (settled scan) s.done s.mode s.held read meet.closes sound way.tallies in
+    let size : byte_len (c ∷ cs) ≡ length (c ∷ cs) = ap length low.0 in
+    let reads : ReadsRun (settled scan) (c ∷ cs) (record (opened scan last (length (c ∷ cs))) { mode = scan.mode }) = record {
+      stop = ap (λ (n : ℕ). scan.stop + n) (sym size);
+      here = refl;
+      after = refl;
+      mode = refl;
+      start = refl;
+      piece_line = refl;
+      line = refl;
+      margin = refl;
+      indent = refl;
+      kind = refl;
+      tokens = refl;
+      brackets = refl;
+    } in
+    let found = tallies_run (settled scan) (record (opened scan last (length (c ∷ cs))) { mode = scan.mode }) (fresh pieces) (c ∷ cs) all tt shut reads in
+    let stepped : run_from (Some (line_start m)) (read ++ c ∷ cs) ≡ Some (scanned pieces last (c ∷ cs))
+    = run_from-append (Some (line_start m)) read (c ∷ cs) ∙ ap (λ o. run_from o (c ∷ cs)) way.runs
+    ∙ ap (λ v. run_from (moved s c v) cs) breaks ∙ ap (λ st. run_from (started pieces c st) cs) opens ∙ runs pieces in
+    record {
+      read = read ++ c ∷ cs;
+      way = record {
+        state = scanned pieces last (c ∷ cs);
+        runs = stepped;
+        tallies = record {
+          mode = refl;
+          start = found.start;
+          stop = found.stop;
+          piece_line = found.piece_line;
+          here = found.here;
+          after = found.after;
+          margin = found.margin;
+          indent = found.indent;
+          kind = found.kind;
+          tokens = found.tokens;
+        };
+        stacked = stack_closed s.mode s.done s.held (stack_of meet.unshut.brackets) way.stacked ∙ ap (λ b. Some (stack_of b)) (sym meet.closes.brackets);
+        one_line = closed_one_line s.mode s.done s.held (stack_of meet.unshut.brackets) way.stacked way.one_line (λ is. absurd (both_ways _ meet.unreturned (ap is_return_mode (way.tallies.mode ∙ is))));
+      };
+      spell = ap (λ t. t ++ after) (encodes-append read (c ∷ cs)) ∙ append_assoc (encode_utf8_all read) (encode_utf8_all (c ∷ cs)) after ∙ ap (λ t. encode_utf8_all read ++ (t ++ after)) low.0 ∙ meet.reached.spell;
+      scalars = all_scalars-append read (c ∷ cs) meet.reached.scalars low.1;
+      line = meet.closes.line ∙ meet.reached.line;
+    }
+
+begins_wider : (p q : ℕ → Bool) → ((c : ℕ) → p c ≡ true → q c ≡ true) → (bytes : List ℕ) → begins p bytes ≡ true → begins q bytes ≡ true
+begins_wider p q each [] h = absurd (both_ways _ refl h)
+begins_wider p q each (c ∷ cs) h = each c h
+
+-- and is closed where what follows shows its end
+run_reached : (passes : ℕ → Bool) (next : List Bracket → ℕ → Bool) (wider : (st : List Bracket) (d : ℕ) → next st d ≡ true → may_begin st d ≡ true) (mode_of : List ℕ → Mode) (low : (d : ℕ) → passes d ≡ true → d < 128) (whole : (d : ℕ) → passes d ≡ true → not (is_break d) ≡ true) (first : ℕ → Mode) (starts_as : (d : ℕ) → passes d ≡ true → start_of d ≡ starts.Open (first d)) (runs : (done : List Piece) (d : ℕ) (ds : List ℕ) → list_all passes ds ≡ true → run_from (Some (scanned done (first d) (d ∷ []))) ds ≡ Some (scanned done (mode_of (d ∷ ds)) (d ∷ ds))) (stops : (run : List ℕ) (d : ℕ) (st : List Bracket) → passes d ≡ false → next st d ≡ true → move_of (mode_of run) d ≡ moves.Breaks) (unreturned : (run : List ℕ) → is_return_mode (mode_of run) ≡ false) (m : Mode) (at : ℕ) (text : List ℕ) (scan new : Scan) (c : ℕ) (cs after : List ℕ) → MeetsPiece m at text scan c (cs ++ after) → IsSound (line_start m) [] → list_all passes (c ∷ cs) ≡ true → begins passes after ≡ false → (new ≡ opened scan (mode_of (c ∷ cs)) (length (c ∷ cs))) ⊎ (Closes (opened scan (mode_of (c ∷ cs)) (length (c ∷ cs))) new × (begins (next (stack_of scan.brackets)) after ≡ true)) → ReachedShut m at text new after
+run_reached passes next wider mode_of low whole first starts_as runs stops unreturned m at text scan new c cs after meet start all ends how =
+    let parts = and_parts (passes c) (list_all passes cs) all in
+    let reached = opens_reached m at text scan c cs after (first c) (mode_of (c ∷ cs)) meet start (starts_as c parts.0) (λ done. runs done c cs parts.1) (list_all_more passes (λ d. not (is_break d)) whole (c ∷ cs) all) (low_encodes passes (c ∷ cs) low all) in
+    ⊎_elim
+    (λ is. record { unshut = new; reached = subst (λ (s : Scan). Reached m at text s after) (sym is) reached; how = inl refl })
+    (λ shut. record {
+      unshut = opened scan (mode_of (c ∷ cs)) (length (c ∷ cs));
+      reached = reached;
+      how = inr (record {
+        closes = shut.0;
+        breaks = λ d more is. stops (c ∷ cs) d (stack_of scan.brackets) (sym (ap (begins passes) is) ∙ ends) (sym (ap (begins (next (stack_of scan.brackets))) is) ∙ shut.1);
+        unreturned = unreturned (c ∷ cs);
+        next = ap (λ b. begins (may_begin (stack_of b)) after) shut.0.brackets ∙ begins_wider (next (stack_of scan.brackets)) (may_begin (stack_of scan.brackets)) (wider (stack_of scan.brackets)) after shut.1;
+      });
+    }) how
+
+-- a word
+pub word_starts : (c : ℕ) → is_word_byte c ≡ true → is_word_start c ≡ true
+word_starts c h = word_byte_starts c (word_byte_low c h) ∙ h
+
+word_whole : (c : ℕ) → is_word_byte c ≡ true → not (is_break c) ≡ true
+word_whole c h = ap not (stays-no_break (modes.Word spellings.Name) c h)
+
+all_words : (cs : List ℕ) → list_all is_word_byte cs ≡ true → list_all is_word_character cs ≡ true
+all_words = list_all_more is_word_byte is_word_character (λ c h. word_byte_continues c (word_byte_low c h) ∙ h)
+
+operator-not-quote : (c : ℕ) → is_operator c ≡ true → is_quote c ≡ false
+unfolding is_operator is_quote
+operator-not-quote c h = none_of is_quote (codes "+-*/%@&|^~<>=!()[]{},:.;") c refl h
+
+space-not-quote : (c : ℕ) → is_space c ≡ true → is_quote c ≡ false
+unfolding is_space is_quote
+space-not-quote c h = none_of is_quote (codes " \t" ++ 0x0C ∷ []) c refl h
+
+apart-low : (c : ℕ) → is_apart c ≡ true → c < 128
+unfolding is_break is_hash is_backslash
+apart-low c h = ⊎_elim (break_low c) (λ other. ⊎_elim (λ hash. one 35 (lit< tt) hash) (λ slash. one 92 (lit< tt) slash) (or_cases (is_hash c) (is_backslash c) other)) (or_cases (is_break c) (is_hash c || is_backslash c) h)
+  where
+    one : (d : ℕ) → d < 128 → is_one_of (d ∷ []) c ≡ true → c < 128
+    one d low is = omega (arith, low, the_one d c is)
+
+apart-not-quote : (c : ℕ) → is_apart c ≡ true → is_quote c ≡ false
+unfolding is_break is_hash is_backslash is_quote
+apart-not-quote c h = ⊎_elim (λ breaks. none_of is_quote (codes "\n\r") c refl breaks) (λ other. ⊎_elim (λ hash. none_of is_quote (35 ∷ []) c refl hash) (λ slash. none_of is_quote (92 ∷ []) c refl slash) (or_cases (is_hash c) (is_backslash c) other)) (or_cases (is_break c) (is_hash c || is_backslash c) h)
+
+pub follows_cases : (P : Type 0) (st : List Bracket) (c : ℕ) → follows st c ≡ true → (is_word_byte c ≡ true → P) → (is_space c ≡ true → P) → (is_apart c ≡ true → P) → (is_operator c ≡ true → may_stand st c ≡ true → P) → P
+follows_cases P st c h word space apart stands =
+    ⊎_elim word
+    (λ other. ⊎_elim space
+    (λ third. ⊎_elim apart (λ both. let parts = and_parts (is_operator c) (may_stand st c) both in stands parts.0 parts.1) (or_cases (is_apart c) (is_operator c && may_stand st c) third))
+    (or_cases (is_space c) (is_apart c || (is_operator c && may_stand st c)) other))
+    (or_cases (is_word_byte c) (is_space c || (is_apart c || (is_operator c && may_stand st c))) h)
+
+follows_low : (st : List Bracket) (c : ℕ) → follows st c ≡ true → c < 128
+follows_low st c h = follows_cases (c < 128) st c h (word_byte_low c) (space_low c) (apart-low c) (λ stands so. operator_ascii c stands)
+
+pub begin_low : (st : List Bracket) (c : ℕ) → may_begin st c ≡ true → c < 128
+begin_low st c h = ⊎_elim (quote_ascii c) (follows_low st c) (or_cases (is_quote c) (follows st c) h)
+
+follows_begin : (st : List Bracket) (c : ℕ) → follows st c ≡ true → may_begin st c ≡ true
+follows_begin st c h = ap (λ b. is_quote c || b) h ∙ or_right (is_quote c)
+  where
+    or_right : (b : Bool) → b || true ≡ true
+    or_right true = refl
+    or_right false = refl
+
+word_stops : (run : List ℕ) (d : ℕ) (st : List Bracket) → is_word_byte d ≡ false → follows st d ≡ true → move_of (word_mode run) d ≡ moves.Breaks
+unfolding move_of
+word_stops run d st other next =
+    let no_word : is_word_character d ≡ false = word_byte_continues d (follows_low st d next) ∙ other in
+    let no_quote : is_quote d ≡ false = follows_cases (is_quote d ≡ false) st d next (λ word. absurd (both_ways _ other word)) (space-not-quote d) (apart-not-quote d) (λ stands so. operator-not-quote d stands) in
+    rw (no_word, and_right (is_prefix_spelling (word_spelling run)) (is_quote d) no_quote) refl
+
+space_whole : (c : ℕ) → is_space c ≡ true → not (is_break c) ≡ true
+space_whole c h = ap not (stays-no_break modes.Space c h)
+
+space_stops : (run : List ℕ) (d : ℕ) (st : List Bracket) → is_space d ≡ false → may_begin st d ≡ true → move_of (space_mode run) d ≡ moves.Breaks
+unfolding move_of
+space_stops run d st other next = rw other refl
+
+-- the run of a piece from its first character
+pub word_reached : (m : Mode) (at : ℕ) (text : List ℕ) (scan new : Scan) (bytes : List ℕ) (len : ℕ) → scan.mode ≡ modes.Free → ReachedShut m at text scan bytes → IsSound (line_start m) [] → TakesRun is_word_byte follows word_mode scan bytes len new → ReachedShut m at text new (drop len bytes)
+word_reached m at text scan new bytes len free r start takes = go takes.run takes.spell takes.size takes.full takes.all takes.how
+  where
+    go : (run : List ℕ) → run ++ takes.after ≡ bytes → length run ≡ len → IsFull run → list_all is_word_byte run ≡ true → (new ≡ opened scan (word_mode run) len) ⊎ (Closes (opened scan (word_mode run) len) new × (begins (follows (stack_of scan.brackets)) takes.after ≡ true)) → ReachedShut m at text new (drop len bytes)
+    go [] spell size full all how = absurd full
+    go (c ∷ cs) spell size full all how =
+        let meet = meets m at text scan c (cs ++ takes.after) free (subst (ReachedShut m at text scan) (sym spell) r) in
+        subst (ReachedShut m at text new) (sym (ap (drop len) (sym spell) ∙ ap (λ (n : ℕ). drop n (c ∷ cs ++ takes.after)) (sym size) ∙ drop-append_seam (c ∷ cs) takes.after))
+        (run_reached is_word_byte follows follows_begin word_mode word_byte_low word_whole (λ d. modes.Word (first_spelling d)) (λ d h. start-word d (word_starts d h)) (λ done d ds h. run_word done (first_spelling d) (d ∷ []) ds (all_words ds h)) word_stops (λ run. refl) m at text scan new c cs takes.after meet start all takes.ends (subst (λ (n : ℕ). (new ≡ opened scan (word_mode (c ∷ cs)) n) ⊎ (Closes (opened scan (word_mode (c ∷ cs)) n) new × (begins (follows (stack_of scan.brackets)) takes.after ≡ true))) (sym size) how))
+
+pub space_reached : (m : Mode) (at : ℕ) (text : List ℕ) (scan new : Scan) (bytes : List ℕ) (len : ℕ) → scan.mode ≡ modes.Free → ReachedShut m at text scan bytes → IsSound (line_start m) [] → TakesRun is_space may_begin space_mode scan bytes len new → ReachedShut m at text new (drop len bytes)
+space_reached m at text scan new bytes len free r start takes = go takes.run takes.spell takes.size takes.full takes.all takes.how
+  where
+    go : (run : List ℕ) → run ++ takes.after ≡ bytes → length run ≡ len → IsFull run → list_all is_space run ≡ true → (new ≡ opened scan (space_mode run) len) ⊎ (Closes (opened scan (space_mode run) len) new × (begins (may_begin (stack_of scan.brackets)) takes.after ≡ true)) → ReachedShut m at text new (drop len bytes)
+    go [] spell size full all how = absurd full
+    go (c ∷ cs) spell size full all how =
+        let meet = meets m at text scan c (cs ++ takes.after) free (subst (ReachedShut m at text scan) (sym spell) r) in
+        subst (ReachedShut m at text new) (sym (ap (drop len) (sym spell) ∙ ap (λ (n : ℕ). drop n (c ∷ cs ++ takes.after)) (sym size) ∙ drop-append_seam (c ∷ cs) takes.after))
+        (run_reached is_space may_begin (λ st d h. h) space_mode space_low space_whole (λ d. modes.Space) (λ d h. start-space d h) (λ done d ds h. run_space done (d ∷ []) ds h) space_stops (λ run. refl) m at text scan new c cs takes.after meet start all takes.ends (subst (λ (n : ℕ). (new ≡ opened scan modes.Space n) ⊎ (Closes (opened scan modes.Space n) new × (begins (may_begin (stack_of scan.brackets)) takes.after ≡ true))) (sym size) how))
+
+-- an operator after closed pieces
+operator-no_break : (c : ℕ) → is_operator c ≡ true → is_break c ≡ false
+unfolding is_operator is_break
+operator-no_break c h = none_of is_break (codes "+-*/%@&|^~<>=!()[]{},:.;") c refl h
+
+pub with_met : (before mid : Scan) (met : Brackets) → Closes before mid → Closes (with_brackets before met) (with_brackets mid met)
+with_met before mid met closes = record {
+  tokens = closes.tokens;
+  kind = closes.kind;
+  indent = closes.indent;
+  margin = closes.margin;
+  mode = closes.mode;
+  start = closes.start;
+  stop = closes.stop;
+  piece_line = closes.piece_line;
+  line = closes.line;
+  count = closes.count;
+  brackets = refl;
+}
+
+pub adds_operator : (before scan new : Scan) (met : Brackets) (c : ℕ) → is_operator c ≡ true → Closes before (settled scan) → AddsToken (with_brackets scan met) (kind.Op c) 1 new → ClosesAndAdds (with_brackets before met) c (Some (kind.Op c)) new
+adds_operator before scan new met c passes closes adds =
+    let size : len_utf8 c ≡ 1 = len_utf8_ascii c (operator_ascii c passes) in
+    let none = operator-no_break c passes in
+    record {
+      mid = with_brackets (settled scan) met;
+      closes = with_met before (settled scan) met closes;
+      stands = record {
+        mode = adds.mode;
+        start = adds.start ∙ ap (λ (n : ℕ). scan.stop + n) (sym size);
+        stop = adds.stop ∙ ap (λ (n : ℕ). scan.stop + n) (sym size);
+        count = record { line = adds.here ∙ omega (arith, counts_none scan.count.after_return c none); after = adds.after ∙ sym (break-return c none) };
+        piece_line = adds.piece_line ∙ sym adds.here;
+        line = adds.line;
+        margin = adds.margin;
+        indent = adds.indent;
+        kind = adds.kind ∙ sym (to_code scan.kind (kind.Op c) (λ e. cc));
+        tokens = adds.tokens ∙ ap (λ (n : ℕ). scan.tokens.items ++ record { kind = kind.Op c; start = scan.stop; stop = scan.stop + n; line = scan.count.line } ∷ []) (sym size);
+        brackets = adds.brackets;
+      };
+    }
+
+operator_reached : (m : Mode) (at : ℕ) (text : List ℕ) (scan new : Scan) (bytes : List ℕ) (len : ℕ) → scan.mode ≡ modes.Free → IsUtf8 text → ReachedShut m at text scan bytes → IsSound (line_start m) [] → TakesOperator scan bytes len new → ReachedShut m at text new (drop len bytes)
+operator_reached m at text scan new bytes len free utf8 r start takes =
+    let c = takes.c in
+    let meet = meets m at text scan c takes.after free (subst (ReachedShut m at text scan) (sym takes.spell) r) in
+    let way = meet.reached.way in
+    let s = way.state in
+    let before = meet.unshut in
+    let breaks : move_of s.mode c ≡ moves.Breaks = ap (λ n. move_of n c) (sym way.tallies.mode) ∙ meet.breaks in
+    let not_yet : (is_return_mode before.mode && none_open (stack_of before.brackets)) && not (is_line_feed c) ≡ false = ap (λ (b : Bool). (b && none_open (stack_of before.brackets)) && not (is_line_feed c)) meet.unreturned in
+    let stands : brackets_behind (stack_of before.brackets) before.stop (piece operator (c ∷ [])) ≡ Some (stack_of takes.met)
+    = ap (λ b. brackets_behind (stack_of b) before.stop (piece operator (c ∷ []))) (sym meet.closes.brackets) ∙ ap (λ (n : ℕ). brackets_behind (stack_of scan.brackets) n (piece operator (c ∷ []))) (sym meet.closes.stop) ∙ takes.stands in
+    let begins_so : Begins before c (start_of c) (Ok progress.Going) new = subst (λ (st : Start). Begins before c st (Ok progress.Going) new) (sym (start-operator c takes.passes))
+    (takes.met, stands, adds_operator before scan new takes.met c takes.passes meet.closes takes.adds) in
+    let took = takes_broken before new s.done s.mode s.held meet.reached.read c breaks (sound_run m meet.reached.read s start way.runs) way.one_line not_yet way.tallies way.stacked (Ok progress.Going) begins_so in
+    let spelled_so : c ∷ takes.after ≡ encode_utf8 c ++ takes.after = sym (ap (λ t. t ++ takes.after) (encode_ascii c (operator_ascii c takes.passes))) in
+    subst (ReachedShut m at text new) (sym (ap (drop len) (sym takes.spell) ∙ ap (λ (n : ℕ). drop n (c ∷ takes.after)) (sym takes.size)))
+    (record { unshut = new; reached = reached_character m at text before new (c ∷ takes.after) takes.after c meet.reached utf8 spelled_so took; how = inl refl })
+
+-- a string after closed pieces
+quote-no_break : (c : ℕ) → is_quote c ≡ true → is_break c ≡ false
+unfolding is_quote is_break
+quote-no_break c h = none_of is_break (codes "'\"") c refl h
+
+text_body : (q c : ℕ) → is_text_byte q c ≡ true → is_body_byte q c ≡ true
+text_body q c h = (and_parts (is_body_byte q c) (nat_lt c 128) h).0
+
+abbrev is_low : ℕ → Bool
+is_low c = nat_lt c 128
+
+text_low : (q c : ℕ) → is_text_byte q c ≡ true → nat_lt c 128 ≡ true
+text_low q c h = (and_parts (is_body_byte q c) (nat_lt c 128) h).1
+
+low_is : (c : ℕ) → nat_lt c 128 ≡ true → c < 128
+low_is c h = grind (arith, nat_tests)
+
+is_low_from : (c : ℕ) → c < 128 → nat_lt c 128 ≡ true
+is_low_from c h = grind (arith, nat_tests)
+
+opened_grows : (q c : ℕ) → is_body_byte q c ≡ true → move_of (modes.Opened q) c ≡ moves.Grows (modes.Inside q)
+unfolding move_of short_move
+opened_grows q c h = let parts = body_parts q c h in rw (parts.0, parts.1, parts.2) refl
+
+inside_closes : (q : ℕ) → move_of (modes.Inside q) q ≡ moves.Closes
+unfolding move_of
+inside_closes q = rw (eq-eqb q q refl) refl
+
+string_runs : (q : ℕ) (run : List ℕ) → IsFull run → list_all (is_text_byte q) run ≡ true → (done : List Piece) → run_from (Some (scanned done (modes.Opened q) (q ∷ []))) run ≡ Some (scanned done (modes.Inside q) (q ∷ run))
+string_runs q [] full all done = absurd full
+string_runs q (d ∷ ds) full all done =
+    let parts = and_parts (is_text_byte q d) (list_all (is_text_byte q) ds) all in
+    grown done (modes.Opened q) (modes.Inside q) (q ∷ []) d ds (opened_grows q d (text_body q d parts.0)) ∙ held_run done (modes.Inside q) (q ∷ d ∷ []) ds (list_all_more (is_text_byte q) (is_body_byte q) (text_body q) ds parts.1)
+
+string_closes : (old new : Scan) (q len : ℕ) → AddsToken old kind.Str len new → Closes (opened old (modes.Inside q) len) new
+string_closes old new q len adds = record {
+  tokens = adds.tokens;
+  kind = adds.kind ∙ sym (to_code old.kind kind.Str (λ e. cc));
+  indent = adds.indent;
+  margin = adds.margin ∙ sym (and_right old.margin false refl);
+  mode = adds.mode;
+  start = adds.start;
+  stop = adds.stop;
+  piece_line = adds.piece_line;
+  line = adds.line;
+  count = λ i. record { line = adds.here i; after_return = adds.after i };
+  brackets = adds.brackets;
+}
+
+quote_reads : (old : Scan) (q n : ℕ) → is_quote q ≡ true → ReadsCharacter (opened old (modes.Inside q) n) q (opened old (modes.Inside q) (n + 1))
+quote_reads old q n quote =
+    let size : len_utf8 q ≡ 1 = len_utf8_ascii q (quote_ascii q quote) in
+    let none = quote-no_break q quote in
+    record {
+      stop = omega (arith, size);
+      count = record { line = omega (arith, counts_none false q none); after = sym (break-return q none) };
+      mode = refl;
+      start = refl;
+      piece_line = refl;
+      line = refl;
+      margin = refl;
+      indent = refl;
+      kind = refl;
+      tokens = refl;
+      brackets = refl;
+    }
+
+inside_other : (m : Mode) (q : ℕ) → modes.Inside q ≡ m → m ≡ modes.Return → ⊥
+inside_other m q is returns = let clash = is ∙ returns in cc
+
+string_reached : (m : Mode) (at : ℕ) (text : List ℕ) (scan new : Scan) (bytes : List ℕ) (len : ℕ) → scan.mode ≡ modes.Free → IsUtf8 text → ReachedShut m at text scan bytes → IsSound (line_start m) [] → TakesString scan bytes len new → ReachedShut m at text new (drop len bytes)
+string_reached m at text scan new bytes len free utf8 r start takes =
+    let q = takes.q in
+    let run = takes.run in
+    let n = length (q ∷ run) in
+    let meet = meets m at text scan q (run ++ q ∷ takes.after) free (subst (ReachedShut m at text scan) (sym takes.spell) r) in
+    let whole : list_all (λ d. not (is_break d)) (q ∷ run) ≡ true = and_from _ _ (ap not (quote-no_break q takes.quote)) (list_all_more (is_text_byte q) (λ d. not (is_break d)) (λ d h. ap not (stays-no_break (modes.Inside q) d (text_body q d h))) run takes.all) in
+    let low = low_encodes is_low (q ∷ run) low_is (and_from _ _ (is_low_from q (quote_ascii q takes.quote)) (list_all_more (is_text_byte q) is_low (text_low q) run takes.all)) in
+    let inside = opens_reached m at text scan q run (q ∷ takes.after) (modes.Opened q) (modes.Inside q) meet start (start-quote q takes.quote) (string_runs q run takes.full takes.all) whole low in
+    let way = inside.way in
+    let s = way.state in
+    let size : n + 1 ≡ len = omega (arith, takes.size) in
+    let closes : Closes (opened scan (modes.Inside q) (n + 1)) new = subst (λ (k : ℕ). Closes (opened scan (modes.Inside q) k) new) (sym size) (string_closes scan new q len takes.adds) in
+    let took = takes_closed (opened scan (modes.Inside q) n) (opened scan (modes.Inside q) (n + 1)) new s inside.read q (ap (λ k. move_of k q) (sym way.tallies.mode) ∙ inside_closes q) (inside_other s.mode q way.tallies.mode) (sound_run m inside.read s start way.runs) way.tallies way.stacked way.one_line (quote_reads scan q n takes.quote) closes in
+    let spelled_so : q ∷ takes.after ≡ encode_utf8 q ++ takes.after = sym (ap (λ t. t ++ takes.after) (encode_ascii q (quote_ascii q takes.quote))) in
+    let all_size : length (q ∷ run ++ q ∷ []) ≡ len = omega (arith, takes.size, length-append run (q ∷ [])) in
+    let dropped : drop len bytes ≡ takes.after = ap (drop len) (sym takes.spell ∙ ap (λ t. q ∷ t) (sym (append_assoc run (q ∷ []) takes.after))) ∙ ap (λ (k : ℕ). drop k ((q ∷ run ++ q ∷ []) ++ takes.after)) (sym all_size) ∙ drop-append_seam (q ∷ run ++ q ∷ []) takes.after in
+    subst (ReachedShut m at text new) (sym dropped)
+    (record { unshut = new; reached = reached_character m at text (opened scan (modes.Inside q) n) new (q ∷ takes.after) takes.after q inside utf8 spelled_so took; how = inl refl })
+
+split_at : (body : List ℕ) (n : ℕ) → n < length body → take n body ++ slice_index body n ∷ drop (suc n) body ≡ body
+split_at [] n within = absurd (omega (arith, within))
+split_at (b ∷ bs) zero within = refl
+split_at (b ∷ bs) (suc n) within = ap (λ t. b ∷ t) (split_at bs n (omega (arith, within)))
+
+pub string_taken : (old new : Scan) (bytes : List ℕ) (q n : ℕ) → begins is_quote bytes ≡ true → q ≡ slice_index bytes 0 → IsRunOf (is_text_byte q) (drop 1 bytes) n → 0 < n → n < length (drop 1 bytes) → slice_index (drop 1 bytes) n ≡ q → AddsToken old kind.Str (n + 2) new → TakesString old bytes (n + 2) new
+string_taken old new [] q n begins_so first run some within closing adds = absurd (both_ways _ refl begins_so)
+string_taken old new (b ∷ body) q n begins_so first run some within closing adds = record {
+  q = q;
+  run = take n body;
+  after = drop (suc n) body;
+  spell = ap (λ (c : ℕ). q ∷ (take n body ++ c ∷ drop (suc n) body)) (sym closing) ∙ ap (λ t. q ∷ t) (split_at body n within) ∙ ap (λ (c : ℕ). c ∷ body) first;
+  size = ap (λ (k : ℕ). k + 2) (length-take-le n body run.within);
+  quote = ap is_quote first ∙ begins_so;
+  full = full_take body n some within;
+  all = all_pass (is_text_byte q) body n run.within run.each;
+  adds = adds;
+}
+
+-- after a piece
+pub piece_reached : (m : Mode) (at : ℕ) (text : List ℕ) (scan new : Scan) (bytes : List ℕ) (len : ℕ) → scan.mode ≡ modes.Free → IsUtf8 text → ReachedShut m at text scan bytes → IsSound (line_start m) [] → TakesPiece scan bytes (Ok (Some len)) new → ReachedShut m at text new (drop len bytes)
+piece_reached m at text scan new bytes len free utf8 r start takes =
+    ⊎_elim
+    (λ word. word_reached m at text scan new bytes len free r start word)
+    (λ other. ⊎_elim (λ space. space_reached m at text scan new bytes len free r start space) (λ third. ⊎_elim (λ stands. operator_reached m at text scan new bytes len free utf8 r start stands) (λ string. string_reached m at text scan new bytes len free utf8 r start string) third) other) takes
+
+-- where nothing was taken
+pub piece_none : (m : Mode) (at : ℕ) (text : List ℕ) (scan new : Scan) (bytes : List ℕ) → ReachedShut m at text scan bytes → TakesPiece scan bytes (Ok None) new → ReachedShut m at text new bytes
+piece_none m at text scan new bytes r takes = subst (λ (s : Scan). ReachedShut m at text s bytes) (sym takes) r
+
+pub free_is : (m : Mode) → is_free m ≡ true → m ≡ modes.Free
+free_is modes.Free h = refl
+free_is m h = absurd (both_ways _ refl h)
+
+pub open_reached : (m : Mode) (at : ℕ) (text : List ℕ) (scan : Scan) (bytes : List ℕ) → is_free scan.mode ≡ false → ReachedShut m at text scan bytes → Reached m at text scan bytes
+open_reached m at text scan bytes other r =
+    ⊎_elim
+    (λ same. subst (λ (s : Scan). Reached m at text s bytes) (sym same) r.reached)
+    (λ shut. absurd (both_ways _ other (ap is_free shut.closes.mode))) r.how
+
+pub shut_from : (m : Mode) (at : ℕ) (text : List ℕ) (scan : Scan) (bytes : List ℕ) → Reached m at text scan bytes → ReachedShut m at text scan bytes
+shut_from m at text scan bytes r = record { unshut = scan; reached = r; how = inl refl }
+
+-- how far a piece goes
+pub record Goes (old : Scan) (bytes : List ℕ) (len : ℕ) (new : Scan) : Type 0 where
+  pub stop : new.stop ≡ old.stop + len
+  pub some : 0 < len
+  pub within : len ≤ length bytes
+  pub cut : IsUtf8 bytes → IsCharBoundary bytes len
+
+low_cut : (run after bytes : List ℕ) → run ++ after ≡ bytes → encode_utf8_all run ≡ run → IsUtf8 bytes → IsCharBoundary bytes (length run)
+low_cut run after bytes spell same utf8 =
+    let split = front_chars run utf8.0 after (utf8.1.1 ∙ sym spell ∙ ap (λ t. t ++ after) (sym same)) in
+    IsCharBoundary-at_seam bytes run after (sym spell) (split.0, ((all_scalars-parts run split.0 (ap all_scalars (sym split.1) ∙ utf8.1.0)).1, split.2))
+
+full_length : (run : List ℕ) → IsFull run → 0 < length run
+full_length [] full = absurd full
+full_length (c ∷ cs) full = omega arith
+
+run_goes : (passes : ℕ → Bool) (next : List Bracket → ℕ → Bool) (mode_of : List ℕ → Mode) (old new : Scan) (bytes : List ℕ) (len : ℕ) → ((d : ℕ) → passes d ≡ true → d < 128) → TakesRun passes next mode_of old bytes len new → Goes old bytes len new
+run_goes passes next mode_of old new bytes len low takes = record {
+  stop = ⊎_elim (λ is. ap (λ (s : Scan). s.stop) is) (λ shut. shut.0.stop) takes.how;
+  some = omega (arith, takes.size, full_length takes.run takes.full);
+  within = omega (arith, takes.size, ap length takes.spell, length-append takes.run takes.after);
+  cut = λ utf8. subst (IsCharBoundary bytes) takes.size (low_cut takes.run takes.after bytes takes.spell (low_encodes passes takes.run low takes.all).0 utf8);
+}
+
+operator_goes : (old new : Scan) (bytes : List ℕ) (len : ℕ) → TakesOperator old bytes len new → Goes old bytes len new
+operator_goes old new bytes len takes = record {
+  stop = takes.adds.stop ∙ ap (λ (n : ℕ). old.stop + n) takes.size;
+  some = omega (arith, takes.size);
+  within = omega (arith, takes.size, ap length takes.spell, length-append (takes.c ∷ []) takes.after);
+  cut = λ utf8. subst (IsCharBoundary bytes) takes.size (low_cut (takes.c ∷ []) takes.after bytes takes.spell (append-nil (encode_utf8 takes.c) ∙ encode_ascii takes.c (operator_ascii takes.c takes.passes)) utf8);
+}
+
+string_goes : (old new : Scan) (bytes : List ℕ) (len : ℕ) → TakesString old bytes len new → Goes old bytes len new
+string_goes old new bytes len takes =
+    let q = takes.q in
+    let run = takes.run in
+    let size : length (q ∷ run ++ q ∷ []) ≡ len = omega (arith, takes.size, length-append run (q ∷ [])) in
+    let spell : (q ∷ run ++ q ∷ []) ++ takes.after ≡ bytes = ap (λ t. q ∷ t) (append_assoc run (q ∷ []) takes.after) ∙ takes.spell in
+    let quote_low = is_low_from q (quote_ascii q takes.quote) in
+    let body_low = list_all_more (is_text_byte q) is_low (text_low q) run takes.all in
+    let low = low_encodes is_low (q ∷ run ++ q ∷ []) low_is (and_from _ _ quote_low (list_all-append is_low run (q ∷ []) ∙ and_from _ _ body_low (and_from _ _ quote_low refl))) in
+    record {
+      stop = takes.adds.stop;
+      some = omega (arith, takes.size);
+      within = omega (arith, size, ap length spell, length-append (q ∷ run ++ q ∷ []) takes.after);
+      cut = λ utf8. subst (IsCharBoundary bytes) size (low_cut (q ∷ run ++ q ∷ []) takes.after bytes spell low.0 utf8);
+    }
+
+pub piece_goes : (old new : Scan) (bytes : List ℕ) (len : ℕ) → TakesPiece old bytes (Ok (Some len)) new → Goes old bytes len new
+piece_goes old new bytes len takes =
+    ⊎_elim
+    (λ word. run_goes is_word_byte follows word_mode old new bytes len word_byte_low word)
+    (λ other. ⊎_elim (λ space. run_goes is_space may_begin space_mode old new bytes len space_low space) (λ third. ⊎_elim (λ stands. operator_goes old new bytes len stands) (λ string. string_goes old new bytes len string) third) other) takes
+
+-- the byte that the bytes begin with
+begins_with : (bytes : List ℕ) (b : ℕ) → Some b ≡ slice_get bytes 0 → b ∷ drop 1 bytes ≡ bytes
+begins_with [] b is = absurd (cc)
+begins_with (x ∷ xs) b is = let same : b ≡ x = cc in ap (λ (n : ℕ). n ∷ xs) same
+
+pub operator_taken : (old new : Scan) (bytes : List ℕ) (b : ℕ) (met : Brackets) (stands : Bool) → Some b ≡ slice_get bytes 0 → is_operator b ≡ true → Meets old.brackets b old.stop (Ok stands) met → stands ≡ true → AddsToken (with_brackets old met) (kind.Op b) 1 new → TakesOperator old bytes 1 new
+operator_taken old new bytes b met true first passes took holds adds = record { c = b; after = drop 1 bytes; spell = begins_with bytes b first; size = refl; passes = passes; met = met; stands = took; adds = adds }
+operator_taken old new bytes b met false first passes took holds adds = absurd (both_ways _ refl holds)
+
+pub operator_left : (old : Scan) (b : ℕ) (met : Brackets) (stands : Bool) → Meets old.brackets b old.stop (Ok stands) met → stands ≡ false → with_brackets old met ≡ old
+operator_left old b met false took fails = ap (with_brackets old) took.1
+operator_left old b met true took fails = absurd (both_ways _ fails refl)

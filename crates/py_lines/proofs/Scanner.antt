@@ -1,8 +1,0 @@
--- The scan of one logical line follows the machine.
-pub mod BracketStack
-pub mod PieceEnd
-pub mod NextCharacter
-pub mod LineRun
-pub mod TextRun
-pub mod LineCount
-pub mod Increments

@@ -1,0 +1,131 @@
+-- Lanes that pass a test, marked by vectors of 16 bytes.
+use Rattle.std.proofs.Common.{◌≡◌, ℕ, ◌%◌, ◌^◌, ◌≤◌, ◌<◌, ◌&&◌, ◌||◌, not, List, [], ◌∷◌, Bool, true, false, cond, ◌+◌, ◌-◌, take, drop, slice_index, ltb, eqb, length, map, replicate, refl, sym, ap, inl, inr, ◌∙◌, subst, arith, w8, bit_and, bit_or}
+use Rattle.std.specs.List.{prefix_len}
+use Rattle.std.specs.Simd.Lanes.{chunk, zip2, sel_l, mask_l, top}
+use Rattle.std.specs.Int.Count.{count_trailing_zeros}
+use Rattle.std.proofs.lemmas.Simd.{length-chunk, get_or-chunk, map-map, tops_compared, zip2_splat, zip2_splat_left, zip2_of_maps, first_set_mask_l, bitmask_splat}
+use Rattle.std.proofs.lemmas.List.{take_all, length-map, length-drop, get_or-drop}
+use Rattle.std.proofs.lemmas.List.Sums.{prefix_len-le-length, prefix_len_passes, prefix_len_stops}
+use Rattle.std.proofs.lemmas.Bool.{ne_eqb, cases_lt}
+use Rattle.py_lines.specs.Private.Run.{Marks, IsRunOf}
+
+sel_of_map : (p : ℕ → Bool) (y z : ℕ) (vs : List ℕ) → sel_l (map p vs) (replicate (length vs) y) (replicate (length vs) z) ≡ map (λ x. cond (p x) y z) vs
+sel_of_map p y z [] = refl
+sel_of_map p y z (v ∷ vs) = ap (λ l. cond (p v) y z ∷ l) (sel_of_map p y z vs)
+
+sel_splats : (p : ℕ → Bool) (y z : ℕ) (vs : List ℕ) (n : ℕ) (ms : List Bool) → length vs ≡ n → ms ≡ map p vs → sel_l ms (replicate n y) (replicate n z) ≡ map (λ x. cond (p x) y z) vs
+sel_splats p y z vs n ms long e = ap (λ l. sel_l l (replicate n y) (replicate n z)) e ∙ subst (λ k. sel_l (map p vs) (replicate k y) (replicate k z) ≡ map (λ x. cond (p x) y z) vs) long (sel_of_map p y z vs)
+
+-- the lanes where a comparison with a byte holds
+pub marked_right : (t : ℕ → ℕ → Bool) (vs : List ℕ) (n y : ℕ) → length vs ≡ n
+    → Marks (λ x. t x y) vs (sel_l (map (top 7) (zip2 (λ a b. cond (t a b) 255 0) vs (replicate n y))) (replicate n 255) (replicate n 0))
+marked_right t vs n y long = sel_splats (λ x. t x y) 255 0 vs n _ long (tops_compared w8 t vs (replicate n y) ∙ zip2_splat t vs n y long)
+
+-- the same, of a byte with the lanes
+pub marked_left : (t : ℕ → ℕ → Bool) (vs : List ℕ) (n y : ℕ) → length vs ≡ n
+    → Marks (λ x. t y x) vs (sel_l (map (top 7) (zip2 (λ a b. cond (t a b) 255 0) (replicate n y) vs)) (replicate n 255) (replicate n 0))
+marked_left t vs n y long = sel_splats (λ x. t y x) 255 0 vs n _ long (tops_compared w8 t (replicate n y) vs ∙ zip2_splat_left t y n vs long)
+
+and_marks : (a b : Bool) → bit_and (cond a 255 0) (cond b 255 0) ≡ cond {A = ℕ} (a && b) 255 0
+and_marks true true = refl
+and_marks true false = refl
+and_marks false true = refl
+and_marks false false = refl
+
+or_marks : (a b : Bool) → bit_or (cond a 255 0) (cond b 255 0) ≡ cond {A = ℕ} (a || b) 255 0
+or_marks true true = refl
+or_marks true false = refl
+or_marks false true = refl
+or_marks false false = refl
+
+-- both of two tests
+pub both_marked : (p q : ℕ → Bool) (vs xs ys : List ℕ) → Marks p vs xs → Marks q vs ys → Marks (λ x. p x && q x) vs (zip2 bit_and xs ys)
+both_marked p q vs xs ys a b = zip2_of_maps bit_and (λ x. cond (p x) 255 0) (λ x. cond (q x) 255 0) vs a b ∙ (λ i. map (λ x. and_marks (p x) (q x) i) vs)
+
+-- one of two tests
+pub either_marked : (p q : ℕ → Bool) (vs xs ys : List ℕ) → Marks p vs xs → Marks q vs ys → Marks (λ x. p x || q x) vs (zip2 bit_or xs ys)
+either_marked p q vs xs ys a b = zip2_of_maps bit_or (λ x. cond (p x) 255 0) (λ x. cond (q x) 255 0) vs a b ∙ (λ i. map (λ x. or_marks (p x) (q x) i) vs)
+
+unmarked : (b : Bool) → eqb (cond b 255 0) 0 ≡ not b
+unmarked true = refl
+unmarked false = refl
+
+or_none : (b : Bool) → b ≡ b || false
+or_none true = refl
+or_none false = refl
+
+-- the lanes of no mark, where the marks are those of bytes that end the body of a string
+pub none_marked : (q : ℕ) (vs ms xs : List ℕ) → Marks (λ x. eqb x q || (eqb x 92 || (eqb x 10 || eqb x 13))) vs ms → Marks (λ x. eqb x 0) ms xs
+    → Marks (λ x. not (eqb x q || (eqb x 92 || (eqb x 10 || (eqb x 13 || false))))) vs xs
+none_marked q vs ms xs e f =
+    f
+    ∙ ap (λ l. map (λ x. cond (eqb x 0) 255 0) l) e
+    ∙ map-map (λ x. cond (eqb x 0) 255 0) (λ x. cond (eqb x q || (eqb x 92 || (eqb x 10 || eqb x 13))) 255 0) vs
+    ∙ (λ i. map (λ x. cond (unmarked (eqb x q || (eqb x 92 || (eqb x 10 || or_none (eqb x 13) i))) i) 255 0) vs)
+
+unset : (b : Bool) → ltb (cond b 255 0) 128 ≡ not b
+unset true = refl
+unset false = refl
+
+not_not : (b : Bool) → not (not b) ≡ b
+not_not true = refl
+not_not false = refl
+
+-- a bit for each lane that isn't marked
+abbrev pub unset_bits : List ℕ → ℕ
+unset_bits ms = mask_l (map (top 7) (zip2 (λ a b. cond (ltb a b) 255 0) ms (replicate 16 128))) % 2 ^ 64
+
+unset_bits_are : (p : ℕ → Bool) (vs ms : List ℕ) → length vs ≡ 16 → Marks p vs ms → unset_bits ms ≡ mask_l (map (λ x. not (p x)) vs)
+unset_bits_are p vs ms long e =
+    bitmask_splat w8 ltb ms 16 128 (ap (λ l. length l) e ∙ length-map vs (λ x. cond (p x) 255 0) ∙ long) (omega arith)
+    ∙ ap (λ l. mask_l (map (λ x. ltb x 128) l)) e
+    ∙ ap mask_l (map-map (λ x. ltb x 128) (λ x. cond (p x) 255 0) vs)
+    ∙ (λ i. mask_l (map (λ x. unset (p x) i) vs))
+
+-- how many lanes are marked before the first that isn't
+pub first_unset : (p : ℕ → Bool) (vs ms : List ℕ) → length vs ≡ 16 → Marks p vs ms → cond (eqb (unset_bits ms) 0) 16 (count_trailing_zeros 64 (unset_bits ms)) ≡ prefix_len p vs
+first_unset p vs ms long e =
+    ap (λ (m : ℕ). cond (eqb m 0) 16 (count_trailing_zeros 64 m)) (unset_bits_are p vs ms long e)
+    ∙ first_set_mask_l (λ x. not (p x)) vs 16 long (omega arith)
+    ∙ (λ i. prefix_len (λ x. not_not (p x) i) vs)
+
+pub all_set : (p : ℕ → Bool) (vs ms : List ℕ) → length vs ≡ 16 → Marks p vs ms → unset_bits ms ≡ 0 → 16 ≡ prefix_len p vs
+all_set p vs ms long e none = sym (ap (λ (m : ℕ). cond (eqb m 0) 16 (count_trailing_zeros 64 (unset_bits ms))) none) ∙ first_unset p vs ms long e
+
+pub some_unset : (p : ℕ → Bool) (vs ms : List ℕ) → length vs ≡ 16 → Marks p vs ms → (unset_bits ms ≡ 0 → ⊥) → count_trailing_zeros 64 (unset_bits ms) ≡ prefix_len p vs
+some_unset p vs ms long e some = sym (ap (λ b. cond b 16 (count_trailing_zeros 64 (unset_bits ms))) (ne_eqb _ _ some)) ∙ first_unset p vs ms long e
+
+-- from a run in sixteen bytes to a run in all
+pub sixteen_le : (p : ℕ → Bool) (xs : List ℕ) (i r : ℕ) → i + 16 ≤ length xs → r ≡ prefix_len p (chunk i 16 xs) → r ≤ 16
+sixteen_le p xs i r room counted = omega (arith, counted, length-chunk i 16 xs room, prefix_len-le-length p (chunk i 16 xs))
+
+pub sixteen_pass : (p : ℕ → Bool) (xs : List ℕ) (i r : ℕ) → i + 16 ≤ length xs → r ≡ prefix_len p (chunk i 16 xs)
+    → ((k : ℕ) → k < i → p (slice_index xs k) ≡ true) → (k : ℕ) → k < i + r → p (slice_index xs k) ≡ true
+sixteen_pass p xs i r room counted before k lt =
+    elim (cases_lt k i) [
+      | inl low ↦ before k low
+      | inr high ↦
+          let le = sixteen_le p xs i r room counted in
+          let at : slice_index (chunk i 16 xs) (k - i) ≡ slice_index xs k = get_or-chunk i 16 xs (k - i) 0 (omega arith) ∙ ap (λ j. slice_index xs j) (omega arith) in
+          subst (λ x. p x ≡ true) at (prefix_len_passes p (chunk i 16 xs) (k - i) 0 (omega (arith, counted)))
+    ]
+
+pub sixteen_stop : (p : ℕ → Bool) (xs : List ℕ) (i r : ℕ) → i + 16 ≤ length xs → r ≡ prefix_len p (chunk i 16 xs)
+    → r < 16 → p (slice_index xs (i + r)) ≡ false
+sixteen_stop p xs i r room counted short =
+    let at : slice_index (chunk i 16 xs) (prefix_len p (chunk i 16 xs)) ≡ slice_index xs (i + r) = ap (λ j. slice_index (chunk i 16 xs) j) (sym counted) ∙ get_or-chunk i 16 xs r 0 short in
+    subst (λ x. p x ≡ false) at (prefix_len_stops p (chunk i 16 xs) 0 (omega (arith, counted, length-chunk i 16 xs room)))
+
+-- a run goes on with the run that the rest begins with
+pub run_goes_on : (p : ℕ → Bool) (xs : List ℕ) (i n : ℕ) → i ≤ length xs → ((k : ℕ) → k < i → p (slice_index xs k) ≡ true) → IsRunOf p (take (length xs - i) (drop i xs)) n → IsRunOf p xs (i + n)
+run_goes_on p xs i n le before taken =
+    let run : IsRunOf p (drop i xs) n = subst (λ l. IsRunOf p l n) (take_all (length xs - i) (drop i xs) (omega (arith, length-drop i xs))) taken in
+    record {
+      within = omega (arith, run.within, length-drop i xs);
+      each = λ k lt.
+          elim (cases_lt k i) [
+            | inl low ↦ before k low
+            | inr high ↦ subst (λ x. p x ≡ true) (get_or-drop i xs (k - i) 0 ∙ ap (λ j. slice_index xs j) (omega arith)) (run.each (k - i) (omega arith))
+          ];
+      ends = λ lt. subst (λ x. p x ≡ false) (get_or-drop i xs n 0) (run.ends (omega (arith, length-drop i xs)));
+    }

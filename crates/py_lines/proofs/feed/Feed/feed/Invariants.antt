@@ -1,0 +1,16 @@
+use Rattle.std.proofs.Common.{◌≡◌, ◌-◌, ◌<◌, ◌≤◌, [], length, take}
+use Rattle.py_lines.specs.Private.Feed.{HoldsMore, IsScanned, IsLastChunk}
+use Rattle.py_lines.proofs.feed.Feed.feed.Given as goal
+
+abbrev pub invariant-loop-taken : goal.invariant-loop-taken
+invariant-loop-taken l = record {
+  within : l.taken ≤ length l.piece;
+  more : HoldsMore l.fn.self (take l.taken l.piece) l.self;
+  fault : l.self.fault ≡ l.fn.self.fault;
+  begun : l.taken ≡ 0 → 0 < length l.piece → l.self ≡ l.fn.self;
+  scanned : (l.taken ≡ 0 → l.piece ≡ []) → IsScanned l.self.ready l.self;
+  last : 0 < l.taken → IsLastChunk l.fn.self l.piece l.taken;
+}
+
+abbrev pub decreases-loop-taken : goal.decreases-loop-taken
+decreases-loop-taken l = length l.piece - l.taken

@@ -1,0 +1,75 @@
+use Rattle.std.proofs.Common.{◌<◌, length, refl, sym, ap, ◌∙◌, subst, ⊎_elim, arith}
+use Rattle.std.proofs.lemmas.Bool.{cases_lt}
+use Rattle.std.specs.Str.{StartsWithNoChar}
+use Rattle.py_lines.specs.Settled.{IsHopeless}
+use Rattle.py_lines.proofs.Feeds.Steps.{open_order, open_stop, open_size, within_held, next_is}
+use Rattle.py_lines.proofs.Feeds.Loops.{keeps_self, part_all, part_left, part_fails, closes_held}
+use Rattle.py_lines.proofs.Readers.LineAnswers.{all_within}
+use Rattle.py_lines.proofs.feed.Feed.scan_part.Goals as goal
+
+pub returns-then-self-len : goal.returns-then-self-len
+returns-then-self-len c =
+    let f = c.args.self.now in
+    let o = c.requires.opens in
+    (keeps_self f, refl, part_all f o.0 o.1 o.2 c.requires.not_ready (omega (arith, c.if-self-len.true, c.len.ensures)))
+
+pub close-requires : goal.close-requires
+close-requires c = let o = c.requires.opens in open_order c.args.self.now o.0 o.1 o.2
+
+pub returns-then-is_returned : goal.returns-then-is_returned
+returns-then-is_returned c =
+    let o = c.requires.opens in
+    let f = c.args.self.now in
+    let size : 0 < length o.1 = ⊎_elim
+    (λ less. omega (arith, open_stop f o.0 o.1 o.2, open_size f o.0 o.1 o.2, c.len.ensures, less))
+    (λ past. absurd (c.if-self-len.false (omega (arith, open_stop f o.0 o.1 o.2, open_size f o.0 o.1 o.2, c.len.ensures, past))))
+    (cases_lt f.scan.stop c.len.result) in
+    closes_held f c.close.new.self c.close.result o.0 o.1 o.2 size o.3 (sym c.is_returned.ensures ∙ c.if-is_returned.true) c.close.ensures
+
+pub slice_bounds-is_hopeless-count : goal.slice_bounds-is_hopeless-count
+slice_bounds-is_hopeless-count c =
+    let o = c.requires.opens in
+    omega (arith, open_stop c.args.self.now o.0 o.1 o.2, open_size c.args.self.now o.0 o.1 o.2, ap length c.deref.ensures.value)
+
+pub slice_bounds-is_hopeless-start : goal.slice_bounds-is_hopeless-start
+slice_bounds-is_hopeless-start c =
+    let o = c.requires.opens in
+    omega (arith, open_stop c.args.self.now o.0 o.1 o.2, open_size c.args.self.now o.0 o.1 o.2, ap length c.deref.ensures.value)
+
+pub is_hopeless-requires : goal.is_hopeless-requires
+is_hopeless-requires c =
+    let o = c.requires.opens in
+    subst StartsWithNoChar (sym (next_is c.args.self.now o.0 o.1 c.deref.result.now o.2 c.deref.ensures.value)) o.3
+
+pub fail-requires-clause-within : goal.fail-requires-clause-within
+fail-requires-clause-within c =
+    let o = c.requires.opens in
+    omega (arith, open_stop c.args.self.now o.0 o.1 o.2, open_size c.args.self.now o.0 o.1 o.2)
+
+pub fail-requires-clause-text : goal.fail-requires-clause-text
+fail-requires-clause-text c =
+    let o = c.requires.opens in
+    let f = c.args.self.now in
+    (within_held f o.0 o.1 o.2 f.scan.stop (all_within o.0 f.scan.stop (open_stop f o.0 o.1 o.2))).2
+
+pub fail-requires-clause-bytes : goal.fail-requires-clause-bytes
+fail-requires-clause-bytes c =
+    let o = c.requires.opens in
+    omega (arith, open_stop c.args.self.now o.0 o.1 o.2, open_size c.args.self.now o.0 o.1 o.2, c.requires.fits)
+
+pub fail-requires-clause-lines : goal.fail-requires-clause-lines
+fail-requires-clause-lines c =
+    let o = c.requires.opens in
+    omega (arith, open_stop c.args.self.now o.0 o.1 o.2, open_size c.args.self.now o.0 o.1 o.2, c.requires.fits, c.requires.few_lines)
+
+pub returns-then-is_hopeless : goal.returns-then-is_hopeless
+returns-then-is_hopeless c =
+    let o = c.requires.opens in
+    let f = c.args.self.now in
+    part_fails f c.fail.new.self o.0 o.1 c.fail.result o.2 c.requires.not_ready (subst IsHopeless (next_is f o.0 o.1 c.deref.result.now o.2 c.deref.ensures.value) c.if-is_hopeless.ensures.tells) (sym c.is_returned.ensures ∙ c.if-is_returned.false) c.fail.ensures
+
+pub returns : goal.returns
+returns c =
+    let o = c.requires.opens in
+    let f = c.args.self.now in
+    (keeps_self f, refl, part_left f o.0 o.1 o.2 c.requires.not_ready o.3 (subst (λ t. ¬ (IsHopeless t)) (next_is f o.0 o.1 c.deref.result.now o.2 c.deref.ensures.value) c.if-is_hopeless.ensures.tells) (sym c.is_returned.ensures ∙ c.if-is_returned.false))

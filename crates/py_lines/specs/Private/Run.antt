@@ -1,0 +1,221 @@
+-- Runs of bytes that a text begins with, which leave the open piece as it is.
+use Rattle.std.specs.Prelude.{◌&&◌, is_some, Option, None, Some, Result, Ok, Err, ◌≡◌, ℕ, ◌+◌, ◌<◌, ◌≤◌, ◌⊎◌, Bool, true, false, ◌==◌, ◌||◌, not, nat_lt, nat_le, if◌then◌else◌, map, List, [], ◌∷◌, ◌++◌, length, slice_index, codes, encode_utf8_all}
+use Rattle.std.specs.Str.{all_scalars, byte}
+use Rattle.std.specs.Char.{is_ascii_alphanumeric}
+use Rattle.std.specs.List.{list_all}
+use Rattle.py_lines.specs.Character.{is_one_of}
+use Rattle.py_lines.specs.LogicalLine.{byte_len}
+use Rattle.std.specs.declared.alloc.AllocError.{AllocError}
+use Rattle.py_lines.specs.Piece.{operator, begins}
+use Rattle.py_lines.specs.Private.Machine.{Bracket, brackets_behind, IsFull, first_spelling, spelling_on, move_of}
+use Rattle.py_lines.specs.Private.Scan.{Closes, IsUnderWay, stack_of, with_brackets, is_return_mode}
+use Rattle.py_lines.specs.declared.brackets.Brackets.{Brackets}
+use Rattle.py_lines.specs.declared.token.TokKind.{TokKind}
+use Rattle.py_lines.specs.declared.token.TokKind.TheVariants as kind
+use Rattle.py_lines.specs.declared.unit.UnitKind.TheVariants as unit_kind
+use Rattle.py_lines.specs.declared.mode.Spelling.{Spelling}
+use Rattle.py_lines.specs.declared.mode.Spelling.TheVariants as spellings
+use Rattle.py_lines.specs.declared.mode.Mode.{Mode}
+use Rattle.py_lines.specs.declared.mode.Mode.TheVariants as modes
+use Rattle.py_lines.specs.declared.mode.Move.TheVariants as moves
+use Rattle.py_lines.specs.declared.run.FirstByte.{FirstByte}
+use Rattle.py_lines.specs.declared.run.FirstByte.TheVariants as first
+use Rattle.py_lines.specs.declared.scan.Scan.{Scan}
+use Rattle.py_lines.specs.Character.{is_space, is_break, is_operator, is_hash, is_backslash, is_quote}
+
+-- as many bytes pass as there are before the first that doesn't
+pub record IsRunOf (passes : ℕ → Bool) (bytes : List ℕ) (len : ℕ) : Type 0 where
+  pub within : len ≤ length bytes
+  pub each : (i : ℕ) → i < len → passes (slice_index bytes i) ≡ true
+  pub ends : len < length bytes → passes (slice_index bytes len) ≡ false
+
+-- the bytes from one to another
+abbrev pub is_between : ℕ → ℕ → ℕ → Bool
+is_between low high c = nat_le low c && nat_le c high
+
+-- the lanes of a mask that are set are those whose bytes pass
+abbrev pub Marks : (ℕ → Bool) → List ℕ → List ℕ → Type 0
+Marks passes lanes mask = mask ≡ map (λ c. if passes c then 255 else 0) lanes
+
+-- the letters and digits of ASCII, and the underscore
+unfoldable pub is_word_byte : ℕ → Bool
+is_word_byte c = is_ascii_alphanumeric c || (c == byte "_")
+
+-- what stands in the body of a string between these quotes, and neither escapes nor ends a line
+unfoldable pub is_body_byte : ℕ → ℕ → Bool
+is_body_byte quote c = not ((c == quote) || is_one_of (codes "\\\n\r") c)
+
+-- the same, of ASCII
+abbrev pub is_text_byte : ℕ → ℕ → Bool
+is_text_byte quote c = is_body_byte quote c && nat_lt c 128
+
+-- what stands in a comment
+abbrev pub is_comment_byte : ℕ → Bool
+is_comment_byte c = not (is_break c)
+
+-- whether a byte, or a character, leaves the open piece as it is, and ends no line
+abbrev pub stays : Mode → ℕ → Bool
+stays modes.Space c = is_space c
+stays (modes.Word spellings.Number) c = is_word_byte c
+stays (modes.Word spellings.Name) c = is_word_byte c
+stays modes.Comment c = is_comment_byte c
+stays (modes.Inside q) c = is_body_byte q c
+stays (modes.Long q) c = is_body_byte q c
+stays other c = false
+
+-- the quote of the open string, if one is open, is one byte
+abbrev pub HasAsciiQuote : Mode → Type 0
+HasAsciiQuote (modes.Inside q) = q < 128
+HasAsciiQuote (modes.Long q) = q < 128
+HasAsciiQuote other = Unit {0}
+
+-- characters, none of which ends a line, were read
+pub record ReadsRun (old : Scan) (run : List ℕ) (new : Scan) : Type 0 where
+  pub stop : new.stop ≡ old.stop + byte_len run
+  pub here : new.count.line ≡ old.count.line
+  pub after : new.count.after_return ≡ false
+  pub mode : new.mode ≡ old.mode
+  pub start : new.start ≡ old.start
+  pub piece_line : new.piece_line ≡ old.piece_line
+  pub line : new.line ≡ old.line
+  pub margin : new.margin ≡ old.margin
+  pub indent : new.indent ≡ old.indent
+  pub kind : new.kind ≡ old.kind
+  pub tokens : new.tokens ≡ old.tokens
+  pub brackets : new.brackets ≡ old.brackets
+
+-- some characters that the text begins with, and that leave the open piece as it is, were read; or none
+pub record Holds (old : Scan) (text rest : List ℕ) (new : Scan) : Type 0 where
+  pub run : List ℕ
+  pub spell : encode_utf8_all run ++ rest ≡ text
+  pub scalars : all_scalars run ≡ true
+  pub stay : list_all (stays old.mode) run ≡ true
+  pub reads : ((run ≡ []) × (new ≡ old)) ⊎ (IsFull run × ReadsRun old run new)
+
+-- the scan of a text has come to `rest`
+pub record Reached (m : Mode) (at : ℕ) (text : List ℕ) (scan : Scan) (rest : List ℕ) : Type 0 where
+  pub read : List ℕ
+  pub way : IsUnderWay m scan read
+  pub spell : encode_utf8_all read ++ rest ≡ text
+  pub scalars : all_scalars read ≡ true
+  pub line : scan.line ≡ at
+
+-- what a byte passes that is of this kind
+abbrev pub BeginsSo : FirstByte → ℕ → Type 0
+BeginsSo first.Word b = is_word_byte b ≡ true
+BeginsSo first.Space b = is_space b ≡ true
+BeginsSo first.Operator b = is_operator b ≡ true
+BeginsSo first.Quote b = is_quote b ≡ true
+BeginsSo first.Other b = Unit {0}
+
+-- whether no piece is open, after the text's start
+abbrev pub is_free : Mode → Bool
+is_free modes.Free = true
+is_free other = false
+
+-- whether an operator may stand next where these brackets are open
+abbrev pub may_stand : List Bracket → ℕ → Bool
+may_stand st c = is_some (brackets_behind st 0 (record { class = operator; text = c ∷ [] }))
+
+-- what a line end, a comment or a join of lines begins with
+abbrev pub is_apart : ℕ → Bool
+is_apart c = is_break c || (is_hash c || is_backslash c)
+
+-- what a piece that may stand next begins with, where it is ASCII and no string
+abbrev pub follows : List Bracket → ℕ → Bool
+follows st c = is_word_byte c || (is_space c || (is_apart c || (is_operator c && may_stand st c)))
+
+-- the same, with strings
+abbrev pub may_begin : List Bracket → ℕ → Bool
+may_begin st c = is_quote c || follows st c
+
+-- the spelling of a word
+abbrev pub word_spelling : List ℕ → Spelling
+word_spelling [] = spellings.Name
+word_spelling (c ∷ cs) = spelling_on (first_spelling c) cs
+
+-- the mode after the characters of a word
+abbrev pub word_mode : List ℕ → Mode
+word_mode run = modes.Word (word_spelling run)
+
+-- the mode after spaces
+abbrev pub space_mode : List ℕ → Mode
+space_mode run = modes.Space
+
+-- the scan with a piece of so many bytes open, after closed ones
+abbrev pub opened : Scan → Mode → ℕ → Scan
+opened old m len = record old { mode = m; start = old.stop; stop = old.stop + len; piece_line = old.count.line; count = record { line = old.count.line; after_return = false } }
+
+-- a token of so many bytes came after closed pieces
+pub record AddsToken (old : Scan) (k : TokKind) (len : ℕ) (new : Scan) : Type 0 where
+  pub tokens : new.tokens.items ≡ old.tokens.items ++ record { kind = k; start = old.stop; stop = old.stop + len; line = old.count.line } ∷ []
+  pub kind : new.kind ≡ unit_kind.Code
+  pub mode : new.mode ≡ modes.Free
+  pub start : new.start ≡ old.stop + len
+  pub stop : new.stop ≡ old.stop + len
+  pub piece_line : new.piece_line ≡ old.count.line
+  pub line : new.line ≡ old.line
+  pub here : new.count.line ≡ old.count.line
+  pub after : new.count.after_return ≡ false
+  pub margin : new.margin ≡ false
+  pub indent : new.indent ≡ old.indent
+  pub brackets : new.brackets ≡ old.brackets
+
+-- a piece that this run spells came after closed ones: it is open, or closed where what follows shows its end
+pub record TakesRun (passes : ℕ → Bool) (next : List Bracket → ℕ → Bool) (mode_of : List ℕ → Mode) (old : Scan) (bytes : List ℕ) (len : ℕ) (new : Scan) : Type 0 where
+  pub run : List ℕ
+  pub after : List ℕ
+  pub spell : run ++ after ≡ bytes
+  pub size : length run ≡ len
+  pub full : IsFull run
+  pub all : list_all passes run ≡ true
+  pub ends : begins passes after ≡ false
+  pub how : (new ≡ opened old (mode_of run) len) ⊎ (Closes (opened old (mode_of run) len) new × (begins (next (stack_of old.brackets)) after ≡ true))
+
+-- an operator came after closed pieces
+pub record TakesOperator (old : Scan) (bytes : List ℕ) (len : ℕ) (new : Scan) : Type 0 where
+  pub c : ℕ
+  pub after : List ℕ
+  pub spell : c ∷ after ≡ bytes
+  pub size : 1 ≡ len
+  pub passes : is_operator c ≡ true
+  pub met : Brackets
+  pub stands : brackets_behind (stack_of old.brackets) old.stop (record { class = operator; text = c ∷ [] }) ≡ Some (stack_of met)
+  pub adds : AddsToken (with_brackets old met) (kind.Op c) 1 new
+
+-- a string between single quotes, of ASCII and with no escape in it, came whole after closed pieces
+pub record TakesString (old : Scan) (bytes : List ℕ) (len : ℕ) (new : Scan) : Type 0 where
+  pub q : ℕ
+  pub run : List ℕ
+  pub after : List ℕ
+  pub spell : q ∷ (run ++ q ∷ after) ≡ bytes
+  pub size : length run + 2 ≡ len
+  pub quote : is_quote q ≡ true
+  pub full : IsFull run
+  pub all : list_all (is_text_byte q) run ≡ true
+  pub adds : AddsToken old kind.Str len new
+
+-- such a string came, or nothing was taken
+abbrev pub TakesText : Scan → List ℕ → Result (Option ℕ) AllocError → Scan → Type 0
+TakesText old bytes (Ok None) new = new ≡ old
+TakesText old bytes (Ok (Some len)) new = TakesString old bytes len new
+TakesText old bytes (Err e) new = Unit {0}
+
+-- a word, a space, an operator or a string came after closed pieces, or nothing was taken
+abbrev pub TakesPiece : Scan → List ℕ → Result (Option ℕ) AllocError → Scan → Type 0
+TakesPiece old bytes (Ok None) new = new ≡ old
+TakesPiece old bytes (Ok (Some len)) new = TakesRun is_word_byte follows word_mode old bytes len new ⊎ (TakesRun is_space may_begin space_mode old bytes len new ⊎ (TakesOperator old bytes len new ⊎ TakesString old bytes len new))
+TakesPiece old bytes (Err e) new = Unit {0}
+
+-- the scan has closed the open piece, since the next byte shows its end
+pub record IsShut (before scan : Scan) (rest : List ℕ) : Type 0 where
+  pub closes : Closes before scan
+  pub breaks : (c : ℕ) (more : List ℕ) → rest ≡ c ∷ more → move_of before.mode c ≡ moves.Breaks
+  pub unreturned : is_return_mode before.mode ≡ false
+  pub next : begins (may_begin (stack_of scan.brackets)) rest ≡ true
+
+-- the scan of a text has come to `rest`, and may have closed the open piece early
+pub record ReachedShut (m : Mode) (at : ℕ) (text : List ℕ) (scan : Scan) (rest : List ℕ) : Type 0 where
+  pub unshut : Scan
+  pub reached : Reached m at text unshut rest
+  pub how : (scan ≡ unshut) ⊎ IsShut unshut scan rest

@@ -1,0 +1,140 @@
+-- The state of a `Scanner`, and what each of its calls does, whatever text the pieces come from.
+pub mod View
+use Rattle.std.specs.Prelude.{◌≡◌, ℕ, ◌+◌, ◌<◌, ◌≤◌, ◌⊎◌, Bool, true, false, Option, None, Some, Result, Ok, Err, List, [], ◌∷◌, ◌++◌, length, take, drop}
+use Rattle.py_lines.specs.LogicalLine.{LogicalLine}
+use Rattle.py_lines.specs.Lexed.{IsLexed}
+use Rattle.py_lines.specs.Settled.{IsSettled, Decides}
+use Rattle.py_lines.specs.Given.{AreFirstLines}
+use Rattle.py_lines.specs.declared.fault.Fault.{Fault}
+use Rattle.py_lines.specs.declared.fault.LexError.{LexError}
+use Rattle.py_lines.specs.declared.fault.LexError.TheVariants as lex
+
+-- `place` is the byte up to which lines were released, `line` is its line, and `held` is the text fed since
+pub record Scanning : Type 0 where
+  pub place : ℕ
+  pub line : ℕ
+  pub held : List ℕ
+  pub ready : Option LogicalLine
+  pub ended : Bool
+  pub fault : Option Fault
+
+-- a scanner that stands at this byte of a text, on this line, and was fed nothing yet
+abbrev pub begun_at : ℕ → ℕ → Scanning
+begun_at place line = record { place = place; line = line; held = []; ready = None; ended = false; fault = None }
+
+-- the byte of the text up to which it was fed
+abbrev pub fed_of : Scanning → ℕ
+fed_of s = s.place + length s.held
+
+-- the line that is ready, if there is one
+abbrev pub ready_lines : Option LogicalLine → List LogicalLine
+ready_lines None = []
+ready_lines (Some u) = u ∷ []
+
+-- the line that is ready is what the scanner holds, with at most one byte more
+abbrev pub HoldsReady : List ℕ → Option LogicalLine → Type 0
+HoldsReady held None = Unit {0}
+HoldsReady held (Some u) = (more : List ℕ) × (held ≡ u.text ++ more) × (length more ≤ 1)
+
+-- the text goes on with these bytes after this one
+abbrev pub GoesOnWith : List ℕ → ℕ → List ℕ → Type 0
+GoesOnWith text place bytes = take (length bytes) (drop place text) ≡ bytes
+
+-- The scanner was fed so much of this text and has released these lines of it. They are the text's first, and with the
+-- line that is ready they are those that the bytes fed settle, no fewer and no more; `held` is the text fed since.
+pub record IsScanning (s : Scanning) (text : List ℕ) (lines : List LogicalLine) : Type 0 where
+  pub first : AreFirstLines text s.place s.line lines
+  pub held : GoesOnWith text s.place s.held
+  pub settled : 0 < length s.held → IsSettled (take (fed_of s) text) (lines ++ ready_lines s.ready)
+  pub whole : HoldsReady s.held s.ready
+  pub open_yet : s.ended ≡ false
+  pub no_fault : s.fault ≡ None
+
+-- The text was fed whole, and has no fault. The lines released are its first, and with the one that is ready they are
+-- all its lines.
+pub record HasEnded (s : Scanning) (text : List ℕ) (lines : List LogicalLine) : Type 0 where
+  pub first : AreFirstLines text s.place s.line lines
+  pub lexed : IsLexed text (lines ++ ready_lines s.ready) None
+  pub held : s.held ≡ drop s.place text
+  pub whole : HoldsReady s.held s.ready
+  pub ended : s.ended ≡ true
+  pub no_fault : s.fault ≡ None
+
+-- The scanner took so many bytes of a piece. It takes none of some only where a line is ready, and where none is ready
+-- in the end, the bytes fed decide no fault.
+pub record TakesBytes (old : Scanning) (piece : List ℕ) (n : ℕ) (new : Scanning) : Type 0 where
+  pub within : n ≤ length piece
+  pub scans : (text : List ℕ) (lines : List LogicalLine) → IsScanning old text lines → GoesOnWith text (fed_of old) (take n piece) → IsScanning new text lines
+  pub undecided : (text : List ℕ) (lines : List LogicalLine) → IsScanning old text lines → GoesOnWith text (fed_of old) (take n piece) → new.ready ≡ None → (fault : Fault) → ¬ (Decides (take (fed_of new) text) fault)
+  pub some : n ≡ 0 → (piece ≡ []) ⊎ ((u : LogicalLine) × (old.ready ≡ Some u))
+  pub waits : (u : LogicalLine) → old.ready ≡ Some u → (n ≡ 0) × (new ≡ old)
+  pub held : new.held ≡ old.held ++ take n piece
+  pub place : new.place ≡ old.place
+  pub line : new.line ≡ old.line
+  pub fault : old.fault ≡ None
+  pub open_yet : new.ended ≡ old.ended
+  pub no_fault : new.fault ≡ None
+
+-- The text fed, with some of the piece, decides this fault, after the lines released; no line was ready. It is kept, and
+-- the scanner may be called again.
+pub record MeetsFault (old : Scanning) (piece : List ℕ) (fault : Fault) (new : Scanning) : Type 0 where
+  pub decided : (text : List ℕ) (lines : List LogicalLine) → IsScanning old text lines → GoesOnWith text (fed_of old) piece → (n : ℕ) × (n ≤ length piece) × Decides (take (fed_of old + n) text) fault × IsLexed text lines (Some fault)
+  pub again : (first : Fault) → old.fault ≡ Some first → fault ≡ first
+  pub none_ready : old.fault ≡ None → old.ready ≡ None
+  pub place : new.place ≡ old.place
+  pub line : new.line ≡ old.line
+  pub fed : fed_of new ≤ fed_of old + length piece
+  pub ready : new.ready ≡ old.ready
+  pub open_yet : new.ended ≡ old.ended
+  pub kept : new.fault ≡ Some fault
+
+-- A growth was refused, and nothing changed. It is answered only where no line is ready and no fault is known.
+pub record RunsShort (old new : Scanning) : Type 0 where
+  pub same : new ≡ old
+  pub none_ready : old.ready ≡ None
+  pub no_fault : old.fault ≡ None
+
+-- what a call that is fed a piece answers
+abbrev pub Feeds : Scanning → List ℕ → Result ℕ LexError → Scanning → Type 0
+Feeds old piece (Ok n) new = TakesBytes old piece n new
+Feeds old piece (Err (lex.Fault f)) new = MeetsFault old piece f new
+Feeds old piece (Err lex.Memory) new = RunsShort old new
+
+-- the line that was ready is released
+pub record Releases (old new : Scanning) : Type 0 where
+  pub unit : LogicalLine
+  pub was : old.ready ≡ Some unit
+  pub scans : (text : List ℕ) (lines : List LogicalLine) → IsScanning old text lines → IsScanning new text (lines ++ unit ∷ []) × IsSettled (take (fed_of new) text) (lines ++ unit ∷ [])
+  pub ends : (text : List ℕ) (lines : List LogicalLine) → HasEnded old text lines → HasEnded new text (lines ++ unit ∷ [])
+  pub place : new.place ≡ old.place + length unit.text
+  pub held : old.held ≡ unit.text ++ new.held
+  pub none_ready : new.ready ≡ None
+  pub ended : new.ended ≡ old.ended
+  pub fault : new.fault ≡ old.fault
+
+-- the text ends here: what is left is its last line, if anything is left
+pub record EndsScan (old new : Scanning) : Type 0 where
+  pub scans : (text : List ℕ) (lines : List LogicalLine) → IsScanning old text lines → length text ≡ fed_of old → HasEnded new text lines
+  pub place : new.place ≡ old.place
+  pub held : new.held ≡ old.held
+  pub fault : old.fault ≡ None
+  pub ended : new.ended ≡ true
+  pub no_fault : new.fault ≡ None
+
+-- The text that ends here has this fault, after the lines released. It is kept, and the scanner may be called again.
+pub record EndsFaulty (old : Scanning) (fault : Fault) (new : Scanning) : Type 0 where
+  pub all : (text : List ℕ) (lines : List LogicalLine) → IsScanning old text lines → length text ≡ fed_of old → IsLexed text lines (Some fault)
+  pub again : (first : Fault) → old.fault ≡ Some first → fault ≡ first
+  pub place : new.place ≡ old.place
+  pub line : new.line ≡ old.line
+  pub held : new.held ≡ old.held
+  pub fed : fed_of new ≡ fed_of old
+  pub ready : new.ready ≡ old.ready
+  pub open_yet : new.ended ≡ old.ended
+  pub kept : new.fault ≡ Some fault
+
+-- what a call that ends the text answers
+abbrev pub Finishes : Scanning → Result (Unit {0}) LexError → Scanning → Type 0
+Finishes old (Ok done) new = EndsScan old new
+Finishes old (Err (lex.Fault f)) new = EndsFaulty old f new
+Finishes old (Err lex.Memory) new = RunsShort old new

@@ -1,0 +1,373 @@
+//! The scanner inside a `Scanner`: the text that it holds, and the scan of the line that this text begins with.
+
+ghost use Rattle.std.specs.Prelude.{◌≡◌, ℕ, ◌+◌, ◌<◌, ◌≤◌, ◌^◌, length};
+ghost use Rattle.std.specs.Str.{StartsWithNoChar};
+ghost use Rattle.py_lines.specs.Private.Feed.{TellsHopeless, IsChunk};
+
+use crate::count::line_behind;
+use crate::fault::{Fault, FaultKind, LexError};
+use crate::mode::Mode;
+use crate::scan::{Scan, Stop};
+use crate::source::utf8_front;
+use crate::unit::Unit;
+use std::alloc::Global;
+
+/// Whether no bytes after these, which begin no character, complete them.
+fn is_hopeless(bytes: &[u8]) -> bool
+    requires { StartsWithNoChar bytes.now }
+    ensures tells { TellsHopeless bytes.now result }
+{
+    match std::str::from_utf8(bytes) {
+        Ok(_) => false,
+        Err(error) => error.error_len().is_some(),
+    }
+}
+
+/// How many bytes of a piece are scanned at once, after those that are held: one after CR, and else those up to the
+/// first LF or CR, with it.
+fn chunk_len(held: &[u8], piece: &[u8]) -> usize
+    requires { 0 < length piece.now }
+    ensures { IsChunk held.now piece.now result }
+{
+    if held.last().copied() == Some(b'\r') {
+        return 1;
+    }
+    match memchr::memchr2(b'\n', b'\r', piece) {
+        Some(len) => len + 1,
+        None => piece.len(),
+    }
+}
+
+/// The text since the line that was released last, and how far it was scanned.
+#[derive(Drop)]
+pub struct Feed {
+    pub held: Vec<u8>,
+    /// The byte and the line at which `held` begins.
+    pub place: u64,
+    pub line: u64,
+    /// Where a line is ready, the bytes of its line end. The line reaches to where the scan stopped.
+    pub ready: Option<usize>,
+    /// Whether the text has ended.
+    pub ended: bool,
+    pub fault: Option<Fault>,
+    pub scan: Scan,
+}
+
+impl Feed {
+    ghost use Rattle.std.specs.Prelude.{◌&&◌, not, true, false, None, Some, Ok, Err, List, [], ◌++◌, length, take, slice_index, encode_utf8, encode_utf8_all, IsUtf8};
+    ghost use Rattle.std.specs.Char.{len_utf8};
+    ghost use Rattle.py_lines.specs.Character.{is_line_feed};
+    ghost use Rattle.py_lines.specs.Scanning.{begun_at, Finishes};
+    ghost use Rattle.py_lines.specs.Scanning.View.{ready_of, scanning_of};
+    ghost use Rattle.py_lines.specs.UnitLine.{line_in};
+    ghost use Rattle.py_lines.specs.Private.Machine.{Bracket};
+    ghost use Rattle.py_lines.specs.Private.Scan.{is_returned, refused_place};
+    ghost use Rattle.py_lines.specs.Private.Source.{first_mode, IsUnfinished};
+    ghost use Rattle.py_lines.specs.Private.Feed.{Restarts, IsOpen, FailsAt, ClosesLine, ScansCharacters, ScansHeld, TakesChunk, IsHeldSo, IsScanned, IsReady, IsSoundFeed, FeedsSo, EndsHeld, EndsText, LetsGo};
+
+    pub fn new(alloc: Global) -> Feed
+        ensures start { scanning_of result ≡ begun_at 0 1 }
+        ensures opens { IsOpen result [] [] }
+    {
+        Feed {
+            held: Vec::new(alloc),
+            place: 0,
+            line: 1,
+            ready: None,
+            ended: false,
+            fault: None,
+            scan: Scan::new(alloc),
+        }
+    }
+
+    /// From this byte of a text on, which is on this line.
+    pub fn at(alloc: Global, place: u64, line: u64) -> Feed
+        ensures start { scanning_of result ≡ begun_at place line }
+        ensures opens { IsOpen result [] [] }
+    {
+        let mut feed = Feed::new(alloc);
+        feed.place = place;
+        feed.line = line;
+        feed.restart();
+        feed
+    }
+
+    /// What is open where a line begins: a mark may stand at the text's start.
+    fn first_mode(&self) -> Mode
+        ensures { result ≡ first_mode self.now.place }
+    {
+        if self.place == 0 {
+            Mode::Start
+        } else {
+            Mode::Free
+        }
+    }
+
+    /// The scan of the line is begun anew.
+    fn restart(&mut self)
+        ensures { Restarts self.old self.new }
+    {
+        let mode = self.first_mode();
+        self.scan.restart(mode, self.line);
+    }
+
+    /// The text has this fault, from now on. It stands so many bytes after the lines that were released.
+    fn fail(&mut self, kind: FaultKind, behind: usize) -> LexError
+        requires within { behind ≤ length self.old.held.items }
+        requires text { IsUtf8 (take behind self.old.held.items) }
+        requires bytes { self.old.place + behind < 2 ^ 64 }
+        requires lines { self.old.line + behind + 1 < 2 ^ 64 }
+        ensures { FailsAt self.old kind behind result self.new }
+    {
+        let front = match std::str::from_utf8(&self.held[..behind]) {
+            Ok(text) => text,
+            Err(_) => unreachable!(),
+        };
+        let fault = Fault {
+            kind,
+            offset: self.place + behind as u64,
+            line: line_behind(self.line, front),
+        };
+        self.fault = Some(fault);
+        LexError::Fault(fault)
+    }
+
+    /// Where the fault of a refused character stands: an open string's and a backslash's where they begin.
+    fn refused_place(&self) -> usize
+        ensures { result ≡ refused_place self.now.scan }
+    {
+        let mode = self.scan.mode;
+        if mode.in_short() || mode.is_behind_slash() {
+            self.scan.start
+        } else {
+            self.scan.stop
+        }
+    }
+
+    /// Where the text may not end: the open string or backslash, or else the innermost bracket.
+    fn unfinished(&self) -> Option<usize>
+        ensures { IsUnfinished self.now.scan result }
+    {
+        if self.scan.mode.is_final() {
+            self.scan.brackets.innermost().map(|bracket| bracket.place)
+        } else {
+            Some(self.scan.start)
+        }
+    }
+
+    /// Closes the open piece, and with it the line, which ends in so many bytes of line end.
+    fn close(&mut self, end_len: usize) -> Result<(), LexError>
+        requires { self.old.scan.start ≤ self.old.scan.stop }
+        ensures { ClosesLine self.old end_len result self.new }
+    {
+        match self.scan.close() {
+            Ok(()) => {
+                self.ready = Some(end_len);
+                Ok(())
+            }
+            Err(error) => {
+                self.restart();
+                Err(error.into())
+            }
+        }
+    }
+
+    /// Scans the characters that are held next, up to a line's end or one that is refused. If there is no memory for
+    /// it, the scan is begun anew.
+    fn scan_characters(&mut self) -> Result<Stop, LexError>
+        requires opens { (read : List ℕ) × (rest : List ℕ) × IsOpen self.old read rest }
+        requires fits { self.old.place + length self.old.held.items ≤ 2 ^ 62 }
+        requires few_lines { self.old.line ≤ self.old.place + 1 }
+        ensures { ScansCharacters self.old result self.new }
+    {
+        let stop = self.scan.stop;
+        let text = utf8_front(&self.held[stop..]);
+        match self.scan.extend(text) {
+            Ok(stop) => Ok(stop),
+            Err(error) => {
+                self.restart();
+                Err(error.into())
+            }
+        }
+    }
+
+    /// Judges what is left after the characters: a part of a character, or nothing. After CR it shows that the line has
+    /// ended.
+    fn scan_part(&mut self) -> Result<(), LexError>
+        requires opens { (read : List ℕ) × (rest : List ℕ) × IsOpen self.old read rest × StartsWithNoChar rest }
+        requires not_ready { self.old.ready ≡ None }
+        requires fits { self.old.place + length self.old.held.items ≤ 2 ^ 62 }
+        requires few_lines { self.old.line ≤ self.old.place + 1 }
+        ensures { ScansHeld self.old result self.new }
+    {
+        if self.scan.stop == self.held.len() {
+            return Ok(());
+        }
+        if self.scan.is_returned() {
+            return self.close(1);
+        }
+        if is_hopeless(&self.held[self.scan.stop..]) {
+            let behind = self.scan.stop;
+            return Err(self.fail(FaultKind::BadUtf8, behind));
+        }
+        Ok(())
+    }
+
+    /// Scans all that is held, up to a line's end or a part of a character.
+    fn scan_held(&mut self) -> Result<(), LexError>
+        requires opens { (read : List ℕ) × (rest : List ℕ) × IsOpen self.old read rest }
+        requires not_ready { self.old.ready ≡ None }
+        requires fits { self.old.place + length self.old.held.items ≤ 2 ^ 62 }
+        requires few_lines { self.old.line ≤ self.old.place + 1 }
+        ensures { ScansHeld self.old result self.new }
+    {
+        match self.scan_characters()? {
+            Stop::LineEnd(len) => {
+                self.ready = Some(len);
+                Ok(())
+            }
+            Stop::TextEnd => self.scan_part(),
+            Stop::Refused(c) => {
+                let behind = self.refused_place();
+                Err(self.fail(self.scan.mode.character_kind(c), behind))
+            }
+        }
+    }
+
+    /// Takes these bytes. If there is no memory for them, none is taken.
+    fn take(&mut self, chunk: &[u8]) -> Result<(), LexError>
+        requires opens { (read : List ℕ) × (rest : List ℕ) × IsOpen self.old read rest }
+        requires not_ready { self.old.ready ≡ None }
+        requires fits { self.old.place + length self.old.held.items + length chunk.now ≤ 2 ^ 62 }
+        requires few_lines { self.old.line ≤ self.old.place + 1 }
+        ensures { TakesChunk self.old chunk.now result self.new }
+    {
+        let before = self.held.len();
+        self.held.extend_from_slice(chunk)?;
+        match self.scan_held() {
+            Ok(()) => Ok(()),
+            Err(LexError::Fault(fault)) => Err(LexError::Fault(fault)),
+            Err(LexError::Memory) => {
+                self.held.truncate(before);
+                Err(LexError::Memory)
+            }
+        }
+    }
+
+    /// Takes bytes of a piece, up to a line's end: how many.
+    pub fn feed(&mut self, piece: &[u8]) -> Result<usize, LexError>
+        requires sound { IsSoundFeed self.old }
+        requires fits { self.old.place + length self.old.held.items + length piece.now ≤ 2 ^ 62 }
+        ensures { FeedsSo self.old piece.now result self.new }
+    {
+        if let Some(fault) = self.fault {
+            return Err(LexError::Fault(fault));
+        }
+        if self.ready.is_some() {
+            return Ok(0);
+        }
+        if piece.is_empty() {
+            self.scan_held()?;
+        }
+        let mut taken = 0;
+        while taken < piece.len() && self.ready.is_none() {
+            let rest = &piece[taken..];
+            let len = chunk_len(&self.held, rest);
+            match self.take(&rest[..len]) {
+                Ok(()) => taken += len,
+                Err(LexError::Fault(fault)) => return Err(LexError::Fault(fault)),
+                Err(LexError::Memory) if taken == 0 => return Err(LexError::Memory),
+                Err(LexError::Memory) => return Ok(taken),
+            }
+        }
+        Ok(taken)
+    }
+
+    /// Releases the line that is ready.
+    pub fn release(&mut self)
+        requires ready { (end_len : ℕ) × IsReady self.old end_len }
+        requires fits { self.old.place + length self.old.held.items ≤ 2 ^ 62 }
+        ensures { LetsGo self.old self.new }
+    {
+        let stop = self.scan.stop;
+        self.place += stop as u64;
+        self.line = self.scan.count.line;
+        self.ready = None;
+        self.held.drain(..stop);
+        self.restart();
+    }
+
+    /// The line that ends where the text does, or the fault that stands there.
+    fn end_line(&mut self) -> Result<(), LexError>
+        requires scanned { IsScanned None self.old }
+        requires not_ready { self.old.ready ≡ None }
+        requires some { 0 < length self.old.held.items }
+        requires fits { self.old.place + length self.old.held.items ≤ 2 ^ 62 }
+        requires few_lines { self.old.line ≤ self.old.place + 1 }
+        ensures { EndsHeld self.old result self.new }
+    {
+        if self.scan.stop < self.held.len() {
+            let behind = self.scan.stop;
+            return Err(self.fail(FaultKind::BadUtf8, behind));
+        }
+        if self.scan.is_returned() {
+            return self.close(1);
+        }
+        if let Some(behind) = self.unfinished() {
+            return Err(self.fail(self.scan.mode.end_kind(), behind));
+        }
+        self.close(0)
+    }
+
+    /// The text's last line, which is ready then, if anything is held; or the fault that stands there.
+    fn end_text(&mut self) -> Result<(), LexError>
+        requires opens { (read : List ℕ) × (rest : List ℕ) × IsOpen self.old read rest }
+        requires not_ready { self.old.ready ≡ None }
+        requires fits { self.old.place + length self.old.held.items ≤ 2 ^ 62 }
+        requires few_lines { self.old.line ≤ self.old.place + 1 }
+        ensures { EndsText self.old result self.new }
+    {
+        self.scan_held()?;
+        if self.ready.is_some() || self.held.is_empty() {
+            return Ok(());
+        }
+        self.end_line()
+    }
+
+    /// The text ends here. What is held is its last line, if anything is.
+    pub fn finish(&mut self) -> Result<(), LexError>
+        requires sound { IsSoundFeed self.old }
+        requires released { self.old.ready ≡ None }
+        ensures finishes { Finishes (scanning_of self.old) result (scanning_of self.new) }
+        ensures sound { IsSoundFeed self.new }
+    {
+        if let Some(fault) = self.fault {
+            return Err(LexError::Fault(fault));
+        }
+        self.end_text()?;
+        self.ended = true;
+        Ok(())
+    }
+
+    /// The line that is ready.
+    pub fn unit(&self) -> Option<Unit<'_>>
+        requires { IsSoundFeed self.now }
+        ensures some { (u : Unit) → result ≡ Some u → ready_of self.now self.now.ready ≡ Some (line_in u) }
+        ensures none { result ≡ None → ready_of self.now self.now.ready ≡ None }
+        ensures some_text { (u : Unit) → result ≡ Some u → 0 < length u.text.now }
+    {
+        let end_len = self.ready?;
+        match std::str::from_utf8(&self.held[..self.scan.stop]) {
+            Ok(text) => Some(Unit {
+                kind: self.scan.kind,
+                text,
+                tokens: self.scan.tokens.as_slice(),
+                offset: self.place,
+                line: self.scan.line,
+                indent: self.scan.indent,
+                end_len,
+            }),
+            Err(_) => unreachable!(),
+        }
+    }
+}

@@ -1,0 +1,262 @@
+//! Runs of bytes that leave the open piece as it is.
+
+ghost use Rattle.std.specs.Prelude.{◌≡◌, ◌<◌, ◌==◌, ℕ, Bool, List, length};
+ghost use Rattle.std.specs.List.{prefix_len};
+ghost use Rattle.py_lines.specs.Character.{is_space};
+ghost use Rattle.py_lines.specs.Private.Run.{BeginsSo, IsRunOf, Marks, is_between, is_word_byte, is_comment_byte, is_body_byte, is_text_byte, stays};
+
+use crate::character::is_break;
+use crate::mode::{Mode, Spelling};
+use std::simd::prelude::*;
+
+/// Whether the byte is an ASCII letter, a digit or the underscore.
+#[tactic(auto, unfolding(crate::specs::Private::Run::is_word_byte))]
+pub fn is_word_byte(b: u8) -> bool
+    ensures { result ≡ is_word_byte b }
+{
+    b.is_ascii_lowercase() || matches!(b, b'A'..=b'Z' | b'0'..=b'9' | b'_')
+}
+
+/// Whether the byte is a space, a tab or a form feed.
+#[tactic(auto, unfolding(crate::specs::Character::is_space))]
+pub fn is_space_byte(b: u8) -> bool
+    ensures { result ≡ is_space b }
+{
+    matches!(b, b' ' | b'\t' | b'\x0c')
+}
+
+/// Whether the byte neither closes a string of this quote nor escapes in it, and ends no line.
+#[tactic(auto, unfolding(crate::specs::Private::Run::is_body_byte))]
+fn is_body_byte(quote: char, b: u8) -> bool
+    ensures { result ≡ is_body_byte quote b }
+{
+    // Most bytes are letters, which come after the backslash.
+    b as char != quote && (b > b'\\' || !matches!(b, b'\\' | b'\n' | b'\r'))
+}
+
+/// What a piece begins with, where it is ASCII and closed pieces stand before.
+#[derive(Clone, Copy)]
+pub enum FirstByte {
+    Word,
+    Space,
+    Operator,
+    Quote,
+    Other,
+}
+
+impl FirstByte {
+    #[inline(always)]
+    #[tactic(auto, unfolding(crate::specs::Private::Run::is_word_byte, crate::specs::Character::is_space, crate::specs::Character::is_operator, crate::specs::Character::is_quote))]
+    pub fn of(b: u8) -> FirstByte
+        ensures { BeginsSo result b }
+    {
+        match b {
+            b'a'..=b'z' | b'A'..=b'Z' | b'0'..=b'9' | b'_' => FirstByte::Word,
+            b' ' | b'\t' | b'\x0c' => FirstByte::Space,
+            b'+' | b'-' | b'*' | b'/' | b'%' | b'@' | b'&' | b'|' => FirstByte::Operator,
+            b'^' | b'~' | b'<' | b'>' | b'=' | b'!' | b'(' | b')' => FirstByte::Operator,
+            b'[' | b']' | b'{' | b'}' | b',' | b':' | b'.' | b';' => FirstByte::Operator,
+            b'\'' | b'"' => FirstByte::Quote,
+            _ => FirstByte::Other,
+        }
+    }
+}
+
+/// Whether the byte is ASCII, and neither closes a string of this quote nor escapes in it, and ends no line.
+fn is_text_byte(quote: char, b: u8) -> bool
+    ensures { result ≡ is_text_byte quote b }
+{
+    is_body_byte(quote, b) && b < 128
+}
+
+/// The lanes whose bytes are from `low` to `high`.
+#[inline(always)]
+fn between(lanes: u8x16, low: u8, high: u8) -> u8x16
+    ensures { Marks (is_between low high) lanes result }
+{
+    let above = lanes.simd_ge(u8x16::splat(low));
+    let below = lanes.simd_le(u8x16::splat(high));
+    above.select(u8x16::splat(255), u8x16::splat(0))
+        & below.select(u8x16::splat(255), u8x16::splat(0))
+}
+
+/// The lanes that hold this byte.
+#[inline(always)]
+fn equal(lanes: u8x16, byte: u8) -> u8x16
+    ensures { Marks (λ c. c == byte) lanes result }
+{
+    lanes
+        .simd_eq(u8x16::splat(byte))
+        .select(u8x16::splat(255), u8x16::splat(0))
+}
+
+/// The lanes that hold bytes of words.
+#[inline(always)]
+fn words(lanes: u8x16) -> u8x16
+    ensures { Marks is_word_byte lanes result }
+{
+    let capital = between(lanes, b'0', b'9') | between(lanes, b'A', b'Z');
+    capital | between(lanes, b'a', b'z') | equal(lanes, b'_')
+}
+
+/// The lanes of the body of a string.
+#[inline(always)]
+fn body(quote: u8, lanes: u8x16) -> u8x16
+    ensures { Marks (is_body_byte quote) lanes result }
+{
+    let breaks = equal(lanes, b'\n') | equal(lanes, b'\r');
+    let ends = equal(lanes, quote) | (equal(lanes, b'\\') | breaks);
+    equal(ends, 0)
+}
+
+/// The lanes of the body of a string, where it is ASCII.
+#[inline(always)]
+fn text(quote: u8, lanes: u8x16) -> u8x16
+    ensures { Marks (is_text_byte quote) lanes result }
+{
+    let ascii = lanes
+        .simd_lt(u8x16::splat(128))
+        .select(u8x16::splat(255), u8x16::splat(0));
+    body(quote, lanes) & ascii
+}
+
+/// How many lanes are set before the first that isn't.
+#[inline(always)]
+fn set_first(mask: u8x16) -> usize
+    ensures { (passes : ℕ → Bool) (lanes : List ℕ) → length lanes ≡ 16 → Marks passes lanes mask → result ≡ prefix_len passes lanes }
+{
+    let others = mask.simd_lt(u8x16::splat(128)).to_bitmask();
+    if others == 0 {
+        16
+    } else {
+        others.trailing_zeros() as usize
+    }
+}
+
+/// How many bytes of words a text begins with.
+#[inline(always)]
+pub fn word_run(bytes: &[u8]) -> usize
+    ensures { IsRunOf is_word_byte bytes.now result }
+{
+    let mut len = 0;
+    while bytes.len() - len >= 16 {
+        let more = set_first(words(u8x16::from_slice(&bytes[len..])));
+        len += more;
+        if more < 16 {
+            return len;
+        }
+    }
+    len + short_word_run(&bytes[len..])
+}
+
+/// The same, a byte at a time.
+fn short_word_run(bytes: &[u8]) -> usize
+    ensures { IsRunOf is_word_byte bytes.now result }
+{
+    let mut len = 0;
+    while len < bytes.len() && is_word_byte(bytes[len]) {
+        len += 1;
+    }
+    len
+}
+
+/// How many bytes of space a text begins with.
+pub fn space_run(bytes: &[u8]) -> usize
+    ensures { IsRunOf is_space bytes.now result }
+{
+    let mut len = 0;
+    while len < bytes.len() && is_space_byte(bytes[len]) {
+        len += 1;
+    }
+    len
+}
+
+/// How many bytes a text begins with that end no line.
+fn comment_run(bytes: &[u8]) -> usize
+    ensures { IsRunOf is_comment_byte bytes.now result }
+{
+    if !bytes.is_empty() && is_break(bytes[0] as char) {
+        return 0;
+    }
+    match memchr::memchr2(b'\n', b'\r', bytes) {
+        Some(len) => len,
+        None => bytes.len(),
+    }
+}
+
+/// How many bytes of the body of a string a text begins with.
+fn body_run(quote: char, bytes: &[u8]) -> usize
+    ensures { IsRunOf (is_body_byte quote) bytes.now result }
+{
+    if quote.is_ascii() {
+        wide_body_run(quote as u8, bytes)
+    } else {
+        short_body_run(quote, bytes)
+    }
+}
+
+/// The same, sixteen bytes at a time.
+fn wide_body_run(quote: u8, bytes: &[u8]) -> usize
+    ensures { IsRunOf (is_body_byte quote) bytes.now result }
+{
+    let mut len = 0;
+    while bytes.len() - len >= 16 {
+        let more = set_first(body(quote, u8x16::from_slice(&bytes[len..])));
+        len += more;
+        if more < 16 {
+            return len;
+        }
+    }
+    len + short_body_run(quote as char, &bytes[len..])
+}
+
+/// The same, a byte at a time.
+fn short_body_run(quote: char, bytes: &[u8]) -> usize
+    ensures { IsRunOf (is_body_byte quote) bytes.now result }
+{
+    let mut len = 0;
+    while len < bytes.len() && is_body_byte(quote, bytes[len]) {
+        len += 1;
+    }
+    len
+}
+
+/// How many bytes of the body of a string a text begins with, where it is ASCII.
+#[inline(always)]
+pub fn text_run(quote: u8, bytes: &[u8]) -> usize
+    ensures { IsRunOf (is_text_byte quote) bytes.now result }
+{
+    let mut len = 0;
+    while bytes.len() - len >= 16 {
+        let more = set_first(text(quote, u8x16::from_slice(&bytes[len..])));
+        len += more;
+        if more < 16 {
+            return len;
+        }
+    }
+    len + short_text_run(quote as char, &bytes[len..])
+}
+
+/// The same, a byte at a time.
+fn short_text_run(quote: char, bytes: &[u8]) -> usize
+    ensures { IsRunOf (is_text_byte quote) bytes.now result }
+{
+    let mut len = 0;
+    while len < bytes.len() && is_text_byte(quote, bytes[len]) {
+        len += 1;
+    }
+    len
+}
+
+/// How many bytes a text begins with that leave the open piece as it is, and end no line.
+pub fn run_in(mode: Mode, bytes: &[u8]) -> usize
+    ensures { IsRunOf (stays mode) bytes.now result }
+{
+    match mode {
+        Mode::Space => space_run(bytes),
+        Mode::Word(Spelling::Number | Spelling::Name) => word_run(bytes),
+        Mode::Comment => comment_run(bytes),
+        Mode::Inside(quote) | Mode::Long(quote) => body_run(quote, bytes),
+        _ => 0,
+    }
+}

@@ -1,0 +1,131 @@
+ghost use Rattle.std.specs.Prelude.{◌≡◌, ℕ, ◌+◌, ◌<◌, ◌≤◌, ◌^◌, false, None, Some, IsSome, List, [], length, IfOk, IfErr};
+ghost use Rattle.py_lines.specs.LogicalLine.{LogicalLine};
+ghost use Rattle.py_lines.specs.Given.{AreFirstLines};
+ghost use Rattle.py_lines.specs.Scanning.{Scanning, IsScanning, begun_at, fed_of, Feeds, Releases, Finishes};
+ghost use Rattle.py_lines.specs.Scanning.View.{scanning_of};
+ghost use Rattle.py_lines.specs.UnitLine.{line_in};
+ghost use Rattle.py_lines.specs.Private.Feed.{IsSoundFeed};
+
+use crate::fault::LexError;
+use crate::feed::Feed;
+use crate::unit::Unit;
+use std::alloc::Global;
+use std::marker::Model;
+
+/// Reads a text that comes in pieces into its logical lines (Python Language Reference, 2.1). It keeps the text of one
+/// line and at most one byte more. Contracts see it as a [`Scanning`]: the byte and line up to which lines were
+/// released, the text fed since, the line that is ready, and the text's fault once it was met.
+#[derive(Drop)]
+pub struct Scanner {
+    feed: Feed,
+}
+
+impl Model for Scanner {
+    ghost Value = { Scanning };
+
+    ghost view = { λ s. scanning_of s.feed };
+
+    ghost invariant = { λ s. IsSoundFeed s.feed };
+}
+
+impl Scanner {
+    /// A scanner at the start of a text. The only error is `Memory`, and then there is no scanner.
+    pub fn new(alloc: Global) -> Result<Scanner, LexError>
+        ensures start { IfOk result (λ s. s ≡ begun_at 0 1) }
+        ensures scans { IfOk result (λ s. (text : List ℕ) → IsScanning s text []) }
+        ensures memory { IfErr result (λ e. e ≡ LexError.Memory) }
+    {
+        Ok(Scanner {
+            feed: Feed::new(alloc),
+        })
+    }
+
+    /// A scanner of a text whose first `offset` bytes are whole logical lines, and which is fed from that byte on. That
+    /// byte is on line `line`, from 1. The only error is `Memory`, and then there is no scanner.
+    ///
+    /// A byte order mark is part of a line at the text's start alone.
+    pub fn at(alloc: Global, offset: u64, line: u64) -> Result<Scanner, LexError>
+        requires offset { offset ≤ 2 ^ 62 }
+        requires first { 1 ≤ line }
+        requires line { line ≤ offset + 1 }
+        ensures start { IfOk result (λ s. s ≡ begun_at offset line) }
+        ensures scans { IfOk result (λ s. (text : List ℕ) (lines : List LogicalLine) → AreFirstLines text offset line lines → IsScanning s text lines) }
+        ensures memory { IfErr result (λ e. e ≡ LexError.Memory) }
+    {
+        Ok(Scanner {
+            feed: Feed::at(alloc, offset, line),
+        })
+    }
+
+    /// Takes bytes of a piece, in order, and answers how many. It stops where a line has got ready, and takes none while
+    /// one is. It takes fewer than all for no other cause, except where a growth was refused.
+    ///
+    /// A line is ready as soon as the bytes show that its line end is whole: CR needs one byte more, which is taken
+    /// too. The error is `Fault` as soon as the bytes decide it, and at each later call again. It is `Memory` where a
+    /// growth was refused before the first byte: none was taken, and the scanner is as it was.
+    pub fn feed(&mut self, piece: &[u8]) -> Result<usize, LexError>
+        requires fits { fed_of self.old + length piece.now ≤ 2 ^ 62 }
+        requires open_yet { self.old.ended ≡ false }
+        ensures feeds { Feeds self.old piece.now result self.new }
+    {
+        self.feed.feed(piece)
+    }
+
+    /// The line that is ready, lent out of the scanner, if one is. It isn't empty.
+    pub fn ready(&self) -> Option<Unit<'_>>
+        ensures some { (u : Unit) → result ≡ Some u → self.now.ready ≡ Some (line_in u) }
+        ensures none { result ≡ None → self.now.ready ≡ None }
+        ensures some_text { (u : Unit) → result ≡ Some u → 0 < length u.text.now }
+    {
+        self.feed.unit()
+    }
+
+    /// Releases the line that is ready. One is.
+    pub fn release(&mut self)
+        requires ready { IsSome self.old.ready }
+        ensures releases { Releases self.old self.new }
+    {
+        self.feed.release();
+    }
+
+    /// Ends the text: what is left of it is its last line, if anything is left. No line is ready, and `finish` hasn't
+    /// answered `Ok` before.
+    ///
+    /// The error is `Fault` where the text may not end so, and at each later call again. It is `Memory` where a growth
+    /// was refused: the scanner is as it was.
+    pub fn finish(&mut self) -> Result<(), LexError>
+        requires released { self.old.ready ≡ None }
+        requires open_yet { self.old.ended ≡ false }
+        ensures finishes { Finishes self.old result self.new }
+    {
+        self.feed.finish()
+    }
+
+    /// The byte of the text up to which lines were released.
+    pub fn offset(&self) -> u64
+        ensures { result ≡ self.now.place }
+    {
+        self.feed.place
+    }
+
+    /// The line of that byte, from 1.
+    pub fn line(&self) -> u64
+        ensures { result ≡ self.now.line }
+    {
+        self.feed.line
+    }
+
+    /// The text fed since the line that was released last.
+    pub fn held(&self) -> &[u8]
+        ensures { result.now ≡ self.now.held }
+    {
+        self.feed.held.as_slice()
+    }
+
+    /// The byte of the text up to which it was fed.
+    pub fn fed(&self) -> u64
+        ensures { result ≡ fed_of self.now }
+    {
+        self.feed.place + self.feed.held.len() as u64
+    }
+}
