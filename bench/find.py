@@ -1,5 +1,6 @@
 #!/usr/bin/env python3
-"""Measures how fast isort lists imports, and compares it with three other passes over the same bytes.
+"""Measures how fast isort lists imports, and compares it with three other passes over the same bytes. Then it measures how
+much memory isort takes for a large text.
 
     bench/find.py PROGRAM FOLDER [ROUNDS]
 
@@ -14,7 +15,8 @@ text of about 40 MB. The passes are
 - Python's `ast.parse` with a walk that collects the imports, in one process.
 
 Each is run ROUNDS times (3), and the best time counts. Times are wall clock and include the start of the processes,
-except for `ast`, which is timed inside its process. A Markdown table is printed."""
+except for `ast`, which is timed inside its process. A Markdown table is printed, and after it the peak memory of one
+process that lists 400 MB: the one text ten times over, from a pipe. It is read from `/proc` (Linux)."""
 
 import ast
 import subprocess
@@ -106,6 +108,19 @@ def walk_over(texts: list[bytes], rounds: int) -> float:
     return best
 
 
+def peak_memory(command: list[str], text: bytes, times: int) -> int:
+    """The most kilobytes that one process holds, which is fed the text so many times through a pipe."""
+    process = subprocess.Popen(command, stdin=subprocess.PIPE, stdout=subprocess.DEVNULL)
+    for _ in range(times):
+        process.stdin.write(text)
+    process.stdin.flush()
+    status = Path(f"/proc/{process.pid}/status").read_text()
+    process.stdin.close()
+    if process.wait() != 0:
+        sys.exit(f"{command[0]} ended with status {process.returncode}")
+    return next(int(line.split()[1]) for line in status.splitlines() if line.startswith("VmHWM:"))
+
+
 def main() -> int:
     program, folder = sys.argv[1:3]
     rounds = int(sys.argv[3]) if len(sys.argv) > 3 else 3
@@ -130,6 +145,9 @@ def main() -> int:
             own = times["isort --identify -"]
             for what, seconds in times.items():
                 print(f"| {name} | {size} | {what} | {seconds:.2f} | {size / seconds / 1e6:.0f} | {own / seconds:.2f} |")
+    text = sets["one text"][0]
+    peak = peak_memory([program, "--identify", "-"], text, 10)
+    print(f"\n{10 * len(text)} bytes are listed with a peak of {peak / 1e3:.1f} MB.")
     return 0
 
 

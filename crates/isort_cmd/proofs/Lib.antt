@@ -1,6 +1,10 @@
 pub mod WrittenLemmas
 pub mod PrintedLemmas
 pub mod ListingLemmas
+pub mod PieceLemmas
+pub mod ReadLemmas
+pub mod EndLemmas
+pub mod IdentifyLemmas
 pub mod MatchLemmas
 pub mod OptionLemmas
 pub mod ParseLemmas

@@ -1,23 +1,30 @@
 -- What was listed of a text so far.
-use Rattle.std.proofs.Common.{◌≡◌, ℕ, refl, Option, Some, Result, Ok, Err, List, [], ◌∷◌, ◌++◌, sym, ap, ◌∙◌, subst, append_assoc}
+use Rattle.std.proofs.Common.{◌≡◌, ℕ, Bool, true, false, Option, None, Some, Result, Ok, Err, List, [], ◌∷◌, ◌++◌, take, refl, sym, ap, ◌∙◌, subst, append_assoc}
 use Rattle.std.specs.Io.KnownBytes.{Appends}
 use Rattle.std.proofs.KnownBytes.{Appends-nil, Appends-trans}
 use Rattle.py_lines.specs.declared.fault.Fault.{Fault}
 use Rattle.py_imports.specs.Bound.{Bound, bound_of}
 use Rattle.py_imports.specs.declared.binding.Binding.{Binding}
+use Rattle.isort_find.specs.Cursor.{Standing, HasStopped}
 use Rattle.isort_find.specs.Found.{IsFound, BeginsFound}
-use Rattle.isort_find.specs.Finder.{Finding, HasFound, FindsNext, FindsFault, GivesNext, text_of, options_of}
+use Rattle.isort_find.specs.Settled.{IsFoundSettled, DecidesFound}
+use Rattle.isort_find.specs.Pieces.{PieceFinding, HasFoundIn, HasReachedIn, GivesBinding, GivesNone, GivesReady, has_ready, ready_in, options_for, fed_by}
 use Rattle.isort_find.specs.declared.options.FindOptions.{FindOptions}
 use Rattle.isort_find.specs.declared.error.FindError.{FindError}
 use Rattle.isort_find.specs.declared.error.FindError.TheVariants as find
+use Rattle.isort_find.specs.declared.finder.Outcome.{Outcome}
+use Rattle.isort_find.specs.declared.finder.Outcome.TheVariants as outcome
 use Rattle.isort_cmd.specs.Printed.{printed, line_text}
 use Rattle.isort_cmd.specs.RunError.{run_error_of}
-use Rattle.isort_cmd.specs.Written.{AppendsFront, Lists, ListsFront, LeavesAtError}
+use Rattle.isort_cmd.specs.Steps.{IsListed, LeavesReady}
+use Rattle.isort_cmd.specs.Written.{AppendsFront, ListsFront}
+use Rattle.isort_cmd.specs.declared.error.RunError.{RunError}
+use Rattle.isort_cmd.specs.declared.error.RunError.TheVariants as run
 use Rattle.isort_cmd.proofs.PrintedLemmas.{printed-append, printed-snoc}
 
--- what a finder has given begins what is found
+-- the law `stopped` of `isort_find::laws::given_begin_the_found`
 abbrev pub GivenBegin : Type 0
-GivenBegin = (f : Finding) (bounds : List Bound) → HasFound f bounds → BeginsFound (text_of f) (options_of f) bounds
+GivenBegin = (text : List ℕ) (cursor : Standing) (bounds : List Bound) → HasStopped text cursor bounds → BeginsFound text cursor.options bounds
 
 -- the law `some` of `isort_find::laws::one_found`
 abbrev pub SomeFound : Type 0
@@ -34,96 +41,103 @@ lists_nothing some path text options contents =
       written = record { front = []; rest = printed path all.0; split = refl; appended = Appends-nil contents };
     }
 
--- all lines of the bindings that a finder has given were written
-pub record ListsSoFar (path : List ℕ) (finder : Finding) (old new : Option (List ℕ)) : Type 0 where
-  pub bounds : List Bound
-  pub given : HasFound finder bounds
-  pub written : Appends old new (printed path bounds)
+-- a finder that met a fault has found all before it
+pub found_fault : (finder : PieceFinding) (text : List ℕ) (bounds : List Bound) (fault : Fault) → HasFoundIn finder text bounds → finder.outcome ≡ outcome.Fault fault → IsFound text (options_for finder) bounds (Some fault)
+found_fault finder text bounds fault found is =
+    let at : HasReachedIn finder text bounds (outcome.Fault fault) = subst (λ (o : Outcome). HasReachedIn finder text bounds o) is found.reached in
+    at.0
 
 -- one more binding was given, and its line was written
-lists_next : (path : List ℕ) (finder next : Finding) (b : Bound) (out : List ℕ) (old mid new : Option (List ℕ)) → ListsSoFar path finder old mid → FindsNext finder b next → out ≡ line_text path b → Appends mid new out → ListsSoFar path next old new
-lists_next path finder next b out old mid new so_far gives put wrote = record {
-  bounds = so_far.bounds ++ b ∷ [];
-  given = gives.found so_far.bounds so_far.given;
-  written = subst (λ x. Appends old new x) (sym (printed-snoc path so_far.bounds b)) (Appends-trans old mid new (printed path so_far.bounds) (line_text path b) so_far.written (subst (λ x. Appends mid new x) put wrote));
+pub listed_next : (path text : List ℕ) (options : FindOptions) (finder next : PieceFinding) (b : Bound) (out : List ℕ) (start mid now : Option (List ℕ)) → GivesBinding finder b next → out ≡ line_text path b → Appends mid now out → IsListed path text options finder start mid → IsListed path text options next start now
+listed_next path text options finder next b out start mid now gives put wrote listed = record {
+  bounds = listed.bounds ++ b ∷ [];
+  found = gives.found text listed.bounds listed.found;
+  settled = λ open_yet. gives.settled text listed.bounds listed.found (sym gives.open_yet ∙ open_yet);
+  same_options = gives.options ∙ listed.same_options;
+  written = subst (λ x. Appends start now x) (sym (printed-snoc path listed.bounds b)) (Appends-trans start mid now (printed path listed.bounds) (line_text path b) listed.written (subst (λ x. Appends mid now x) put wrote));
 }
 
-at_task : (text old_text : List ℕ) (options old_options : FindOptions) (bounds : List Bound) (end : Option Fault) → old_text ≡ text → old_options ≡ options → IsFound old_text old_options bounds end → IsFound text options bounds end
-at_task text old_text options old_options bounds end e d h = subst (λ t. IsFound t options bounds end) e (subst (λ o. IsFound old_text o bounds end) d h)
-
--- what a call of `next_import` says, at each of its answers
-gives_one : (old : Finding) (r : Result (Option Binding) FindError) (b : Binding) (new : Finding) → GivesNext old r new → r ≡ Ok (Some b) → FindsNext old (bound_of b) new
-gives_one old r b new h e = subst (λ x. GivesNext old x new) e h
-
-pub gives_error : (old : Finding) (r : Result (Option Binding) FindError) (e : FindError) (new : Finding) → GivesNext old r new → r ≡ Err e → GivesNext old (Err e) new
-gives_error old r e new h same = subst (λ x. GivesNext old x new) same h
-
--- the listing stands so before an import is asked for
-pub record Stands (path text : List ℕ) (options : FindOptions) (finder : Finding) (old new : Option (List ℕ)) : Type 0 where
-  pub same_text : text_of finder ≡ text
-  pub same_options : options_of finder ≡ options
-  pub listed : ListsSoFar path finder old new
-
--- and so once an import was given and its line was written
-pub stands_on : (path text : List ℕ) (options : FindOptions) (finder next : Finding) (result : Result (Option Binding) FindError) (b : Binding) (out : List ℕ) (old mid new : Option (List ℕ)) → Stands path text options finder old mid → GivesNext finder result next → result ≡ Ok (Some b) → out ≡ line_text path (bound_of b) → Appends mid new out → Stands path text options next old new
-stands_on path text options finder next result b out old mid new before answer is put wrote =
-    let gives = gives_one finder result b next answer is in
-    record {
-      same_text = gives.task.text ∙ before.same_text;
-      same_options = gives.task.options ∙ before.same_options;
-      listed = lists_next path finder next (bound_of b) out old mid new before.listed gives put wrote;
-    }
-
--- the text's fault came
-lists_fault : (path text : List ℕ) (options : FindOptions) (finder next : Finding) (fault : Fault) (old new : Option (List ℕ)) → Stands path text options finder old new → FindsFault finder fault next → Lists path text options (Some fault) old new
-lists_fault path text options finder next fault old new stands fails =
-    let so_far = stands.listed in
-    record {
-      bounds = so_far.bounds;
-      found = at_task text (text_of finder) options (options_of finder) so_far.bounds (Some fault) stands.same_text stands.same_options (fails.all so_far.bounds so_far.given);
-      written = so_far.written;
-    }
+-- nothing was given
+pub listed_none : (path text : List ℕ) (options : FindOptions) (finder next : PieceFinding) (start now : Option (List ℕ)) → GivesNone finder next → IsListed path text options finder start now → IsListed path text options next start now
+listed_none path text options finder next start now none listed = record {
+  bounds = listed.bounds;
+  found = none.found text listed.bounds listed.found;
+  settled = λ open_yet found bad h. listed.settled (sym none.open_yet ∙ open_yet) found bad (subst (λ (o : FindOptions). IsFoundSettled (take (fed_by finder) text) o found bad) none.options (subst (λ (n : ℕ). IsFoundSettled (take n text) (options_for next) found bad) none.fed h));
+  same_options = none.options ∙ listed.same_options;
+  written = listed.written;
+}
 
 -- the run gave up between two bindings
-pub lists_front : GivenBegin → (path text : List ℕ) (options : FindOptions) (finder : Finding) (old new : Option (List ℕ)) → Stands path text options finder old new → ListsFront path text options old new
-lists_front given_begin path text options finder old new stands =
-    let so_far = stands.listed in
-    let begins = given_begin finder so_far.bounds so_far.given in
+pub lists_front : GivenBegin → (path text : List ℕ) (options : FindOptions) (finder : PieceFinding) (start now : Option (List ℕ)) → IsListed path text options finder start now → ListsFront path text options start now
+lists_front begin path text options finder start now listed =
+    let begins = begin text finder.cursor listed.bounds listed.found.stopped in
     record {
-      bounds = so_far.bounds ++ begins.more;
+      bounds = listed.bounds ++ begins.more;
       end = begins.end;
-      found = at_task text (text_of finder) options (options_of finder) (so_far.bounds ++ begins.more) begins.end stands.same_text stands.same_options begins.found;
+      found = subst (λ (o : FindOptions). IsFound text o (listed.bounds ++ begins.more) begins.end) listed.same_options begins.found;
       written = record {
-        front = printed path so_far.bounds;
+        front = printed path listed.bounds;
         rest = printed path begins.more;
-        split = sym (printed-append path so_far.bounds begins.more);
-        appended = so_far.written;
+        split = sym (printed-append path listed.bounds begins.more);
+        appended = listed.written;
       };
     }
 
 -- the run gave up while it wrote the line of one more binding
-pub lists_stopped : GivenBegin → (path text : List ℕ) (options : FindOptions) (finder next : Finding) (result : Result (Option Binding) FindError) (b : Binding) (out : List ℕ) (old mid new : Option (List ℕ)) → Stands path text options finder old mid → GivesNext finder result next → result ≡ Ok (Some b) → out ≡ line_text path (bound_of b) → AppendsFront mid new out → ListsFront path text options old new
-lists_stopped given_begin path text options finder next result b out old mid new stands answer is put wrote =
-    let gives = gives_one finder result b next answer is in
-    let so_far = stands.listed in
-    let before = printed path so_far.bounds in
-    let bounds = so_far.bounds ++ bound_of b ∷ [] in
-    let begins = given_begin next bounds (gives.found so_far.bounds so_far.given) in
+pub lists_stopped : GivenBegin → (path text : List ℕ) (options : FindOptions) (finder next : PieceFinding) (b : Bound) (out : List ℕ) (start mid now : Option (List ℕ)) → GivesBinding finder b next → out ≡ line_text path b → AppendsFront mid now out → IsListed path text options finder start mid → ListsFront path text options start now
+lists_stopped begin path text options finder next b out start mid now gives put wrote listed =
+    let before = printed path listed.bounds in
+    let bounds = listed.bounds ++ b ∷ [] in
+    let begins = begin text next.cursor bounds (gives.found text listed.bounds listed.found).stopped in
     let after = printed path begins.more in
-    let line : (before ++ wrote.front) ++ wrote.rest ≡ printed path bounds = append_assoc before wrote.front wrote.rest ∙ ap (λ x. before ++ x) (wrote.split ∙ put) ∙ sym (printed-snoc path so_far.bounds (bound_of b)) in
+    let line : (before ++ wrote.front) ++ wrote.rest ≡ printed path bounds = append_assoc before wrote.front wrote.rest ∙ ap (λ x. before ++ x) (wrote.split ∙ put) ∙ sym (printed-snoc path listed.bounds b) in
     record {
       bounds = bounds ++ begins.more;
       end = begins.end;
-      found = at_task text (text_of next) options (options_of next) (bounds ++ begins.more) begins.end (gives.task.text ∙ stands.same_text) (gives.task.options ∙ stands.same_options) begins.found;
+      found = subst (λ (o : FindOptions). IsFound text o (bounds ++ begins.more) begins.end) (gives.options ∙ listed.same_options) begins.found;
       written = record {
         front = before ++ wrote.front;
         rest = wrote.rest ++ after;
         split = sym (append_assoc (before ++ wrote.front) wrote.rest after) ∙ ap (λ x. x ++ after) line ∙ sym (printed-append path bounds begins.more);
-        appended = Appends-trans old mid new before wrote.front so_far.written wrote.appended;
+        appended = Appends-trans start mid now before wrote.front listed.written wrote.appended;
       };
     }
 
--- what the errors of `next_import` leave
-pub leaves_at_find_error : GivenBegin → (path text : List ℕ) (options : FindOptions) (finder next : Finding) (e : FindError) (old new : Option (List ℕ)) → Stands path text options finder old new → GivesNext finder (Err e) next → LeavesAtError path text options (run_error_of e) old new
-leaves_at_find_error given_begin path text options finder next (find.Fault f) old new stands h = lists_fault path text options finder next f old new stands h
-leaves_at_find_error given_begin path text options finder next find.Memory old new stands h = lists_front given_begin path text options finder old new stands
+-- what a call that asks for what is ready says, at each of its answers
+pub gives_one : (old : PieceFinding) (r : Result (Option Binding) FindError) (b : Binding) (new : PieceFinding) → GivesReady old r new → r ≡ Ok (Some b) → GivesBinding old (bound_of b) new
+gives_one old r b new h e = subst (λ x. GivesReady old x new) e h
+
+pub gives_none : (old : PieceFinding) (r : Result (Option Binding) FindError) (new : PieceFinding) → GivesReady old r new → r ≡ Ok None → GivesNone old new
+gives_none old r new h e = subst (λ x. GivesReady old x new) e h
+
+pub gives_error : (old : PieceFinding) (r : Result (Option Binding) FindError) (e : FindError) (new : PieceFinding) → GivesReady old r new → r ≡ Err e → GivesReady old (Err e) new
+gives_error old r e new h same = subst (λ x. GivesReady old x new) same h
+
+-- nothing is ready after the top
+pub not_after_top : (finder : PieceFinding) → has_ready finder ≡ true → finder.outcome ≡ outcome.End → ⊥
+not_after_top finder ready top = not_both false refl (subst (λ (o : Outcome). ready_in o finder.unread finder.pending.left ≡ true) top ready)
+  where
+    not_both : (b : Bool) → b ≡ false → b ≡ true → ⊥
+    not_both b h k = cc
+
+-- what the errors of a call that asks for what is ready leave
+pub leaves_at_find_error : GivenBegin → (path text : List ℕ) (options : FindOptions) (finder next : PieceFinding) (e : FindError) (start now : Option (List ℕ)) → GivesReady finder (Err e) next → IsListed path text options finder start now → LeavesReady path text options finder (run_error_of e) start now
+leaves_at_find_error begin path text options finder next (find.Fault f) start now gives listed =
+    let found = found_fault next text listed.bounds f (gives.found text listed.bounds listed.found) gives.kept in (
+      record {
+        bounds = listed.bounds;
+        found = subst (λ (o : FindOptions). IsFound text o listed.bounds (Some f)) (gives.options ∙ listed.same_options) found;
+        written = listed.written;
+      },
+      λ open_yet. subst (λ (o : FindOptions). DecidesFound (take (fed_by finder) text) o f) listed.same_options (gives.decided text listed.bounds listed.found open_yet),
+    )
+leaves_at_find_error begin path text options finder next find.Memory start now gives listed = lists_front begin path text options finder start now listed
+
+-- what is left by an error at a finder is left at each one before it that was fed as much
+pub leaves_from : (path text : List ℕ) (options : FindOptions) (old mid : PieceFinding) (e : RunError) (start now : Option (List ℕ)) → fed_by mid ≡ fed_by old → mid.scanning.ended ≡ old.scanning.ended → LeavesReady path text options mid e start now → LeavesReady path text options old e start now
+leaves_from path text options old mid (run.Fault f) start now fed ended leaves = (leaves.0, λ open_yet. subst (λ (n : ℕ). DecidesFound (take n text) options f) fed (leaves.1 (ended ∙ open_yet)))
+leaves_from path text options old mid run.Write start now fed ended leaves = leaves
+leaves_from path text options old mid run.Memory start now fed ended leaves = leaves
+leaves_from path text options old mid run.Read start now fed ended leaves = leaves
+leaves_from path text options old mid run.TooLong start now fed ended leaves = leaves
+leaves_from path text options old mid run.NeverEnds start now fed ended leaves = leaves

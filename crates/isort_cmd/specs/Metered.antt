@@ -40,6 +40,11 @@ abbrev pub end_of_write : Last → List ℕ → Result ℕ Error → Last
 end_of_write before bytes (Ok n) = if (n == 0) && nat_lt 0 (length bytes) then last.Empty else last.Fine
 end_of_write before bytes (Err e) = end_of_error before e
 
+-- what a flush leaves
+abbrev pub end_of_flush : Last → Result (Unit {0}) Error → Last
+end_of_flush before (Ok done) = last.Fine
+end_of_flush before (Err e) = end_of_error before e
+
 -- a writer that is given up: it failed, took no byte, or was interrupted 1000 times in a row
 abbrev pub IsGivenUp : Last → Type 0
 IsGivenUp l = (l ≡ last.Failed) ⊎ (l ≡ last.Empty) ⊎ (l ≡ last.Interrupted 1000)

@@ -1,5 +1,16 @@
 -- What the steps of a run promise one another. Contracts of private functions alone cite these.
-use Rattle.std.specs.Prelude.{◌≡◌, ⊤}
+use Rattle.std.specs.Prelude.{◌≡◌, ◌≤◌, ⊤, ℕ, false, Option, Some, List, ◌++◌, length, take}
+use Rattle.std.specs.Io.KnownBytes.{Appends, Consumes}
+use Rattle.py_lines.specs.Scanning.{GoesOnWith}
+use Rattle.py_lines.specs.declared.fault.Fault.{Fault}
+use Rattle.py_imports.specs.Bound.{Bound}
+use Rattle.isort_find.specs.Found.{IsFound}
+use Rattle.isort_find.specs.Settled.{DecidesFound}
+use Rattle.isort_find.specs.Pieces.{PieceFinding, HasFoundIn, AreSettled, AreAllSettled, IsUndecided, options_for, fed_by, has_ready}
+use Rattle.isort_find.specs.declared.options.FindOptions.{FindOptions}
+use Rattle.isort_find.specs.declared.finder.Outcome.TheVariants as outcome
+use Rattle.isort_cmd.specs.Printed.{printed}
+use Rattle.isort_cmd.specs.Written.{AreFed, Lists, ListsFront}
 use Rattle.isort_cmd.specs.declared.metered.Last.{Last}
 use Rattle.isort_cmd.specs.declared.metered.Last.TheVariants as last
 use Rattle.isort_cmd.specs.declared.error.RunError.{RunError}
@@ -11,9 +22,79 @@ IsReadError run.Read l = l ≡ last.Failed
 IsReadError run.NeverEnds l = l ≡ last.Interrupted 1000
 IsReadError _ l = ⊥
 
--- the errors of listing a text that was read
+-- the errors of listing what was read
 abbrev pub IsOutputError : RunError → Type 0
 IsOutputError (run.Fault f) = ⊤
 IsOutputError run.Write = ⊤
 IsOutputError run.Memory = ⊤
 IsOutputError _ = ⊥
+
+-- What a finder over pieces gave of this text was listed, and before the text's end the bytes fed settle it.
+pub record IsListed (path text : List ℕ) (options : FindOptions) (finder : PieceFinding) (start now : Option (List ℕ)) : Type 0 where
+  pub bounds : List Bound
+  pub found : HasFoundIn finder text bounds
+  pub settled : finder.scanning.ended ≡ false → AreSettled finder text bounds
+  pub same_options : options_for finder ≡ options
+  pub written : Appends start now (printed path bounds)
+
+-- the same, and it is all that the bytes fed settle, which decide no fault
+pub record IsListedSoFar (path text : List ℕ) (options : FindOptions) (finder : PieceFinding) (start now : Option (List ℕ)) : Type 0 where
+  pub listed : IsListed path text options finder start now
+  pub all : AreAllSettled finder text listed.bounds
+  pub undecided : IsUndecided finder text
+
+-- A finder that was fed just these bytes of a text has met no fault, and for each text that begins with them what it gave
+-- was listed.
+pub record HasListedTo (path known : List ℕ) (options : FindOptions) (finder : PieceFinding) (start now : Option (List ℕ)) : Type 0 where
+  pub fed : fed_by finder ≡ length known
+  pub no_fault : (fault : Fault) → finder.outcome ≡ outcome.Fault fault → ⊥
+  pub listed : (text : List ℕ) → GoesOnWith text 0 known → IsListed path text options finder start now
+
+-- A finder that was fed just these bytes of a text has nothing ready, and for each text that begins with them what they
+-- settle was listed.
+pub record HasListed (path known : List ℕ) (options : FindOptions) (finder : PieceFinding) (start now : Option (List ℕ)) : Type 0 where
+  pub fed : fed_by finder ≡ length known
+  pub none_ready : has_ready finder ≡ false
+  pub open_yet : finder.scanning.ended ≡ false
+  pub no_fault : (fault : Fault) → finder.outcome ≡ outcome.Fault fault → ⊥
+  pub listed : (text : List ℕ) → GoesOnWith text 0 known → IsListedSoFar path text options finder start now
+
+-- what an error leaves of what was ready in one text; a fault before the text's end is decided
+abbrev pub LeavesReady : List ℕ → List ℕ → FindOptions → PieceFinding → RunError → Option (List ℕ) → Option (List ℕ) → Type 0
+LeavesReady path text options old (run.Fault f) start now = Lists path text options (Some f) start now × (old.scanning.ended ≡ false → DecidesFound (take (fed_by old) text) options f)
+LeavesReady path text options old run.Write start now = ListsFront path text options start now
+LeavesReady path text options old run.Memory start now = ListsFront path text options start now
+LeavesReady path text options old _ start now = ⊥
+
+-- all lines before this fault were written, which is that of each text that begins with these bytes
+pub record MeetsFaultAfter (path known : List ℕ) (options : FindOptions) (fault : Fault) (start now : Option (List ℕ)) : Type 0 where
+  pub bounds : List Bound
+  pub found : (more : List ℕ) → IsFound (known ++ more) options bounds (Some fault)
+  pub written : Appends start now (printed path bounds)
+
+-- what an error leaves of each text that begins with these bytes
+abbrev pub LeavesPiece : List ℕ → List ℕ → FindOptions → RunError → Option (List ℕ) → Option (List ℕ) → Type 0
+LeavesPiece path known options (run.Fault f) start now = MeetsFaultAfter path known options f start now
+LeavesPiece path known options run.Write start now = (more : List ℕ) → ListsFront path (known ++ more) options start now
+LeavesPiece path known options run.Memory start now = (more : List ℕ) → ListsFront path (known ++ more) options start now
+LeavesPiece path known options _ start now = ⊥
+
+-- All that was read, at most `max` bytes, was fed, and what it settles was listed.
+pub record ListsRead (path : List ℕ) (options : FindOptions) (max : ℕ) (finder : PieceFinding) (old left start now : Option (List ℕ)) : Type 0 where
+  pub known : List ℕ
+  pub within : length known ≤ max
+  pub consumed : Consumes old left known
+  pub listed : HasListed path known options finder start now
+
+-- what an error leaves of each text that begins with these bytes: where reading failed, what they settle was listed
+abbrev pub LeavesKnown : List ℕ → List ℕ → FindOptions → PieceFinding → RunError → Option (List ℕ) → Option (List ℕ) → Type 0
+LeavesKnown path known options finder run.Read start now = HasListed path known options finder start now
+LeavesKnown path known options finder run.TooLong start now = HasListed path known options finder start now
+LeavesKnown path known options finder run.NeverEnds start now = HasListed path known options finder start now
+LeavesKnown path known options finder e start now = LeavesPiece path known options e start now
+
+-- what an error leaves of what was read and fed
+pub record LeavesRead (path : List ℕ) (options : FindOptions) (max : ℕ) (finder : PieceFinding) (e : RunError) (old left start now : Option (List ℕ)) : Type 0 where
+  pub known : List ℕ
+  pub fed : AreFed max known old left
+  pub leaves : LeavesKnown path known options finder e start now

@@ -1,9 +1,10 @@
 -- What a listing leaves in its writer.
-use Rattle.std.specs.Prelude.{◌≡◌, List, ℕ, Option, Some, ◌++◌}
-use Rattle.std.specs.Io.KnownBytes.{Appends, Keeps}
+use Rattle.std.specs.Prelude.{◌≡◌, ◌⊎◌, List, ℕ, Option, None, Some, ◌++◌, take}
+use Rattle.std.specs.Io.KnownBytes.{Appends, Consumes, IsAtEnd}
 use Rattle.py_lines.specs.declared.fault.Fault.{Fault}
 use Rattle.py_imports.specs.Bound.{Bound}
 use Rattle.isort_find.specs.Found.{IsFound}
+use Rattle.isort_find.specs.Settled.{IsFoundSettled, DecidesFound}
 use Rattle.isort_find.specs.declared.options.FindOptions.{FindOptions}
 use Rattle.isort_cmd.specs.Printed.{printed}
 use Rattle.isort_cmd.specs.declared.error.RunError.{RunError}
@@ -29,12 +30,32 @@ pub record ListsFront (path text : List ℕ) (options : FindOptions) (old new : 
   pub found : IsFound text options bounds end
   pub written : AppendsFront old new (printed path bounds)
 
--- What an error leaves: all lines before a fault, a prefix of the lines where a write failed or memory ran out, and
--- nothing where reading failed.
+-- The bytes that a run has fed to its finder: those that it read, and of more than `max` the first `max`.
+pub record AreFed (max : ℕ) (known : List ℕ) (old new : Option (List ℕ)) : Type 0 where
+  pub read : List ℕ
+  pub consumed : Consumes old new read
+  pub first : known ≡ take max read
+
+-- The lines of the imports in the logical lines that these bytes settle were written, and the bytes decide no fault.
+pub record ListsSettled (path known : List ℕ) (options : FindOptions) (old new : Option (List ℕ)) : Type 0 where
+  pub bounds : List Bound
+  pub found : IsFoundSettled known options bounds None
+  pub undecided : (fault : Fault) → ¬ (DecidesFound known options fault)
+  pub written : Appends old new (printed path bounds)
+
+-- The lines of all imports before this fault were written. It is the fault of these bytes, and where reading stopped
+-- early, of each text that begins with them.
+pub record ListsToFault (path known : List ℕ) (options : FindOptions) (fault : Fault) (left old new : Option (List ℕ)) : Type 0 where
+  pub bounds : List Bound
+  pub found : IsFound known options bounds (Some fault)
+  pub stays : IsAtEnd left ⊎ ((more : List ℕ) → IsFound (known ++ more) options bounds (Some fault))
+  pub written : Appends old new (printed path bounds)
+
+-- What an error leaves of the listing of a text: all lines before a fault, and else a prefix of the lines.
 abbrev pub LeavesAtError : List ℕ → List ℕ → FindOptions → RunError → Option (List ℕ) → Option (List ℕ) → Type 0
 LeavesAtError path text options (run.Fault f) old new = Lists path text options (Some f) old new
 LeavesAtError path text options run.Write old new = ListsFront path text options old new
 LeavesAtError path text options run.Memory old new = ListsFront path text options old new
-LeavesAtError path text options run.Read old new = Keeps old new
-LeavesAtError path text options run.TooLong old new = Keeps old new
-LeavesAtError path text options run.NeverEnds old new = Keeps old new
+LeavesAtError path text options run.Read old new = ListsFront path text options old new
+LeavesAtError path text options run.TooLong old new = ListsFront path text options old new
+LeavesAtError path text options run.NeverEnds old new = ListsFront path text options old new

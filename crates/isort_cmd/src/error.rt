@@ -15,7 +15,7 @@ pub enum RunError {
     Read,
     /// More bytes came than the run takes.
     TooLong,
-    /// A write failed or took no byte, or was interrupted 1000 times in a row.
+    /// A write or a flush failed, a write took no byte, or one of them was interrupted 1000 times in a row.
     Write,
     /// The text has a fault.
     Fault(Fault),

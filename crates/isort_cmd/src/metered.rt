@@ -1,7 +1,7 @@
 ghost use Rattle.std.specs.Prelude.{◌≡◌};
 ghost use Rattle.std.specs.Io.{ReadsAtMost, WritesAtMost};
 ghost use Rattle.std.specs.Io.KnownBytes.{Keeps, ReadConsumes, WriteAppends};
-ghost use Rattle.isort_cmd.specs.Metered.{inner_of, last_of, interruptions, end_of_error, end_of_read, end_of_write};
+ghost use Rattle.isort_cmd.specs.Metered.{inner_of, last_of, interruptions, end_of_error, end_of_read, end_of_write, end_of_flush};
 
 use std::io;
 use std::io::{ErrorKind, Read, Write};
@@ -9,7 +9,7 @@ use std::io::{ErrorKind, Read, Write};
 /// How many interruptions in a row make a run give up.
 pub const MOST_INTERRUPTIONS: u16 = 1000;
 
-/// How the last read or write ended.
+/// How the last read, write or flush ended.
 #[derive(Clone, Copy, Debug, PartialEq, Eq)]
 pub enum Last {
     /// In none of the other ways.
@@ -34,7 +34,7 @@ impl Last {
     }
 }
 
-/// A reader or writer, and how its last `read` or `write` ended.
+/// A reader or writer, and how its last `read`, `write` or `flush` ended.
 ///
 /// Contracts say what is noted of each answer, and which bytes came or went where the reader or writer tells them. That
 /// each call is made once, whole, and its answer given as it is, they can't say: tests show it.
@@ -63,7 +63,7 @@ impl<T> Metered<T> {
         self.inner
     }
 
-    /// How the last `read` or `write` ended.
+    /// How the last `read`, `write` or `flush` ended.
     pub fn last(&self) -> Last
         ensures { result ≡ last_of self.now }
     {
@@ -133,11 +133,20 @@ impl<W: Write> Write for Metered<W> {
         }
     }
 
-    /// Flushes. `last` stays what it was.
+    /// Flushes, and notes how that ended: in `Fine`, in `Failed`, or in one more interruption.
     fn flush(&mut self) -> io::Result<()>
         ensures bytes { Keeps (W.contents (inner_of self.old)) (W.contents (inner_of self.new)) }
-        ensures last { last_of self.new ≡ last_of self.old }
+        ensures last { last_of self.new ≡ end_of_flush (last_of self.old) result }
     {
-        self.inner.flush()
+        match self.inner.flush() {
+            Ok(()) => {
+                self.last = Last::Fine;
+                Ok(())
+            }
+            Err(e) => {
+                self.note_error(&e);
+                Err(e)
+            }
+        }
     }
 }

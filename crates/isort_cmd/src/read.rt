@@ -14,7 +14,10 @@ use std::io::Read;
 const PIECE: usize = 65536;
 
 // One read, tried again where it was interrupted fewer than 1000 times in a row.
-fn read_piece<R: Read>(reader: &mut Metered<R>, piece: &mut [u8]) -> Result<usize, RunError>
+pub(crate) fn read_piece<R: Read>(
+    reader: &mut Metered<R>,
+    piece: &mut [u8],
+) -> Result<usize, RunError>
     requires { last_of reader.old ≡ Last.Fine }
     ensures bound { ReadsAtMost result piece.new }
     ensures bytes { ReadConsumes (R.remaining (inner_of reader.old)) (R.remaining (inner_of reader.new)) result piece.new }

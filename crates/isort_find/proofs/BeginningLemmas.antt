@@ -6,7 +6,7 @@ use Rattle.py_lines.specs.declared.fault.Fault.{Fault}
 use Rattle.py_imports.specs.Bound.{Bound}
 use Rattle.py_imports.specs.Binds.{BindAll, BindsOrIsBad, IsBadAt}
 use Rattle.isort_find.specs.Found.{has_one_like, firsts, ends_top, counted_lines, counted_end, of_all, before_bad, IsFound, BeginsFound}
-use Rattle.isort_find.specs.Cursor.{BeginsNext, IsBehind}
+use Rattle.isort_find.specs.Cursor.{Standing, HasStopped, BeginsNext, IsBehind}
 use Rattle.isort_find.specs.Finder.{Finding, HasFound, text_of, options_of}
 use Rattle.isort_find.specs.declared.options.FindOptions.{FindOptions}
 use Rattle.isort_find.specs.declared.options.ImportKey.{ImportKey}
@@ -23,28 +23,28 @@ append_step unique earlier xs ys x true more = more ∙ (λ i. firsts unique (ea
 append_step unique earlier xs ys x false more = ap (λ t. x ∷ t) (more ∙ (λ i. firsts unique (earlier ++ x ∷ []) xs ++ firsts unique (append_assoc earlier (x ∷ []) xs i) ys))
 
 -- the first bindings of two lists are those of the first, and then those of the second that the first lacks
-firsts-append : (unique : Option ImportKey) (earlier xs ys : List Bound) → firsts unique earlier (xs ++ ys) ≡ firsts unique earlier xs ++ firsts unique (earlier ++ xs) ys
+pub firsts-append : (unique : Option ImportKey) (earlier xs ys : List Bound) → firsts unique earlier (xs ++ ys) ≡ firsts unique earlier xs ++ firsts unique (earlier ++ xs) ys
 firsts-append unique earlier [] ys = ap (λ t. firsts unique t ys) (sym (append-nil earlier))
 firsts-append unique earlier (x ∷ xs) ys = append_step unique earlier xs ys x (has_one_like unique earlier x) (firsts-append unique (earlier ++ x ∷ []) xs ys)
 
 -- what two lists of logical lines bind, one after the other
-BindAll-append : (lines others : List LogicalLine) (bs more : List Bound) → BindAll lines bs → BindAll others more → BindAll (lines ++ others) (bs ++ more)
+pub BindAll-append : (lines others : List LogicalLine) (bs more : List Bound) → BindAll lines bs → BindAll others more → BindAll (lines ++ others) (bs ++ more)
 BindAll-append [] others bs more h k = subst (BindAll others) (sym (ap (λ t. t ++ more) h)) k
 BindAll-append (l ∷ ls) others bs more h k = (h.0, h.1 ++ more, ap (λ t. t ++ more) h.2 ∙ append_assoc h.0 h.1 more, h.3, BindAll-append ls others h.1 more h.4 k)
 
 -- a bad logical line, and none before it that is bad
-record HasFirstBad (lines : List LogicalLine) : Type 0 where
-  before : List LogicalLine
-  line : LogicalLine
-  behind : List LogicalLine
-  bounds : List Bound
-  fault : Fault
-  split : lines ≡ before ++ line ∷ behind
-  good : BindAll before bounds
-  bad : IsBadAt line fault
+pub record HasFirstBad (lines : List LogicalLine) : Type 0 where
+  pub before : List LogicalLine
+  pub line : LogicalLine
+  pub behind : List LogicalLine
+  pub bounds : List Bound
+  pub fault : Fault
+  pub split : lines ≡ before ++ line ∷ behind
+  pub good : BindAll before bounds
+  pub bad : IsBadAt line fault
 
 -- logical lines bind, or one of them is the first bad one
-abbrev BindOrOneIsBad : List LogicalLine → Type 0
+abbrev pub BindOrOneIsBad : List LogicalLine → Type 0
 BindOrOneIsBad lines = ((bounds : List Bound) × BindAll lines bounds) ⊎ HasFirstBad lines
 
 decide_step : (line : LogicalLine) (lines : List LogicalLine) → BindsOrIsBad line → BindOrOneIsBad lines → BindOrOneIsBad (line ∷ lines)
@@ -53,7 +53,7 @@ decide_step line lines (inl binds) (inl all) = inl (binds.0 ++ all.0, (binds.0, 
 decide_step line lines (inl binds) (inr first) = inr (record { before = line ∷ first.before; line = first.line; behind = first.behind; bounds = binds.0 ++ first.bounds; fault = first.fault; split = ap (λ t. line ∷ t) first.split; good = (binds.0, first.bounds, refl, binds.1, first.good); bad = first.bad })
 
 -- that is decided line by line
-decide : EachBindsOrIsBad → (lines : List LogicalLine) → BindOrOneIsBad lines
+pub decide : EachBindsOrIsBad → (lines : List LogicalLine) → BindOrOneIsBad lines
 decide each [] = inl ([], refl)
 decide each (l ∷ ls) = decide_step l ls (each l) (decide each ls)
 
@@ -92,7 +92,7 @@ begins_decided text options lines bounds looked rest binds all found begins (inr
 
 -- Where the first of the bindings of logical lines that count were looked at, and the lines begin the lexing, what was
 -- found begins what is found in the text.
-begins_behind : EachBindsOrIsBad → (text : List ℕ) (options : FindOptions) (lines : List LogicalLine) (bounds looked rest : List Bound) → BeginsLexing text lines → BindAll lines (looked ++ rest) → AllCount options lines → bounds ≡ firsts options.unique [] looked → BeginsFound text options bounds
+pub begins_behind : EachBindsOrIsBad → (text : List ℕ) (options : FindOptions) (lines : List LogicalLine) (bounds looked rest : List Bound) → BeginsLexing text lines → BindAll lines (looked ++ rest) → AllCount options lines → bounds ≡ firsts options.unique [] looked → BeginsFound text options bounds
 begins_behind each text options lines bounds looked rest begins binds all found = begins_decided text options lines bounds looked rest binds all found begins (decide each (counted_lines options begins.more))
 
 begins_part : GivenBegin → EachBindsOrIsBad → (text : List ℕ) (options : FindOptions) (offset line taken : ℕ) (bounds : List Bound) (behind : IsBehind text options offset line taken bounds) → (behind.part ≡ []) ⊎ BeginsNext text options behind.lines behind.part → BeginsFound text options bounds
@@ -103,13 +103,17 @@ begins_part given each text options offset line taken bounds behind (inr next) =
     let lines = behind.lines ++ next.line ∷ [] in
     let binds : BindAll lines ((behind.before ++ behind.part) ++ next.rest) = subst (BindAll lines) (sym (append_assoc behind.before behind.part next.rest)) (BindAll-snoc behind.lines next.line behind.before (behind.part ++ next.rest) behind.binds next.binds) in
     let all = list_all-snoc (λ l. not (ends_top options l)) behind.lines next.line behind.in_top (ap not next.in_top) in
-    begins_behind each text options lines bounds (behind.before ++ behind.part) next.rest (given _ lines next.given) binds all behind.found
+    begins_behind each text options lines bounds (behind.before ++ behind.part) next.rest next.begins binds all behind.found
+
+-- What was given where a finder stops begins what is found in its text.
+pub stopped_begins : GivenBegin → EachBindsOrIsBad → (text : List ℕ) (cursor : Standing) (bounds : List Bound) → HasStopped text cursor bounds → BeginsFound text cursor.options bounds
+stopped_begins given each text cursor bounds stopped =
+    let behind = stopped.behind in
+    begins_part given each text cursor.options cursor.offset cursor.line cursor.taken bounds behind behind.is_part.1
 
 -- What a finder has given, with those that it goes on from, begins what is found in its text.
 pub begins_found : GivenBegin → EachBindsOrIsBad → (f : Finding) (bounds : List Bound) → HasFound f bounds → BeginsFound (text_of f) (options_of f) bounds
-begins_found given each f bounds has =
-    let behind = has.stopped.behind in
-    begins_part given each (text_of f) (options_of f) f.cursor.offset f.cursor.line f.cursor.taken bounds behind behind.is_part.1
+begins_found given each f bounds has = stopped_begins given each (text_of f) f.cursor bounds has.stopped
 
 -- the law `some` of `py_lines::laws::one_lexing`
 abbrev pub EachIsLexed : Type 0

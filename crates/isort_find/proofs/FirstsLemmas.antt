@@ -9,8 +9,7 @@ use Rattle.std.specs.Str.{bytes_eq}
 use Rattle.py_imports.specs.Bound.{Bound}
 use Rattle.isort_find.specs.Key.{Key, key_of, key_eq}
 use Rattle.isort_find.specs.Found.{has_one_like, firsts}
-use Rattle.isort_find.specs.Cursor.{keys_of, next_count}
-use Rattle.isort_find.specs.Steps.Standings.{has_key}
+use Rattle.isort_find.specs.Cursor.{keys_of, next_count, has_key}
 use Rattle.isort_find.specs.declared.options.ImportKey.{ImportKey}
 
 bytes_same : (a b : List ℕ) → Decides (bytes_eq a b) (a ≡ b)

@@ -7,8 +7,8 @@ use Rattle.std.specs.Str.{bytes_eq}
 use Rattle.py_imports.specs.Bound.{Bound}
 use Rattle.isort_find.specs.Key.{Key, key_of, key_eq}
 use Rattle.isort_find.specs.KeyText.{key_in}
-use Rattle.isort_find.specs.Cursor.{Standing, keys_of}
-use Rattle.isort_find.specs.Steps.Standings.{has_key, Admits}
+use Rattle.isort_find.specs.Cursor.{Standing, keys_of, has_key}
+use Rattle.isort_find.specs.Steps.Standings.{Admits}
 use Rattle.isort_find.specs.declared.options.ImportKey.{ImportKey}
 use Rattle.isort_find.specs.declared.key.KeyText.{KeyText}
 
@@ -45,3 +45,7 @@ admits eq same old key keys after k b is_new unique are made new added =
       answer = new ∙ ap not there;
       standing = ap (λ (ks : List Key). record old { keys = ks }) (behind ∙ shown);
     }
+
+-- the set has a key where it has it among its keys
+pub knows : (eq : KeyText → KeyText → Bool) → ((a b : KeyText) → eq a b ≡ key_eq (key_in a) (key_in b)) → (unique : Option ImportKey) (key : ImportKey) (keys : List KeyText) (k : KeyText) (b : Bound) → unique ≡ Some key → key_in k ≡ key_of key b → list_any (eq k) keys ≡ has_key unique (map key_in keys) b
+knows eq same unique key keys k b is made = in_set eq same k keys ∙ (λ i. list_any (key_eq (made i)) (map key_in keys)) ∙ ap (λ u. has_key u (map key_in keys) b) (sym is)

@@ -1,5 +1,5 @@
 -- A text has one next logical line, and a logical line binds one list or is bad.
-use Rattle.std.proofs.Common.{◌≡◌, ℕ, Option, None, List, [], ◌∷◌, ◌++◌, length, refl, sym, ap, ◌∙◌, subst, append_assoc, length-append, append-nil, arith}
+use Rattle.std.proofs.Common.{◌≡◌, ℕ, Option, None, List, [], ◌∷◌, ◌++◌, length, refl, sym, ap, ◌∙◌, append_assoc, length-append, append-nil, arith}
 use Rattle.py_lines.specs.LogicalLine.{LogicalLine}
 use Rattle.py_lines.specs.Lexed.{IsLexed, BeginsLexing}
 use Rattle.py_lines.specs.Reader.{Reader, HasGiven, standing_at}
@@ -26,20 +26,17 @@ cancel : {A : Type 0} (xs ys zs : List A) → xs ++ ys ≡ xs ++ zs → ys ≡ z
 cancel [] ys zs h = h
 cancel (x ∷ xs) ys zs h = cancel xs ys zs (let e : xs ++ ys ≡ xs ++ zs = cc in e)
 
--- the lines that two readers have given are the same, except what comes after them
-pub same_line : Laws → (r q : Reader) (lines : List LogicalLine) (a b : LogicalLine) → q.text ≡ r.text → HasGiven r (lines ++ a ∷ []) → HasGiven q (lines ++ b ∷ []) → a ≡ b
-same_line one r q lines a b same first second =
-    let f = one.begins r (lines ++ a ∷ []) first in
-    let g = one.begins q (lines ++ b ∷ []) second in
-    let lists = one.one_lexing r.text _ _ f.end g.end f.lexed (subst (λ (t : List ℕ). IsLexed t ((lines ++ b ∷ []) ++ g.more) g.end) same g.lexed) in
+-- a text has one logical line after the same ones
+pub same_begun : Laws → (text : List ℕ) (lines : List LogicalLine) (a b : LogicalLine) → BeginsLexing text (lines ++ a ∷ []) → BeginsLexing text (lines ++ b ∷ []) → a ≡ b
+same_begun one text lines a b f g =
+    let lists = one.one_lexing text _ _ f.end g.end f.lexed g.lexed in
     let behind : a ∷ f.more ≡ b ∷ g.more = cancel lines _ _ (sym (append_assoc lines (a ∷ []) f.more) ∙ lists ∙ append_assoc lines (b ∷ []) g.more) in
     cc
 
--- after all lines none was given
-pub no_next : Laws → (text : List ℕ) (lines : List LogicalLine) (end : Option Fault) (r : Reader) (a : LogicalLine) → IsLexed text lines end → r.text ≡ text → HasGiven r (lines ++ a ∷ []) → ⊥
-no_next one text lines end r a lexed same given =
-    let f = one.begins r (lines ++ a ∷ []) given in
-    let lists = one.one_lexing text lines _ end f.end lexed (subst (λ (t : List ℕ). IsLexed t ((lines ++ a ∷ []) ++ f.more) f.end) same f.lexed) in
+-- and none after all of them
+pub none_begun : Laws → (text : List ℕ) (lines : List LogicalLine) (end : Option Fault) (a : LogicalLine) → IsLexed text lines end → BeginsLexing text (lines ++ a ∷ []) → ⊥
+none_begun one text lines end a lexed f =
+    let lists = one.one_lexing text lines _ end f.end lexed f.lexed in
     let len = ap length lists in
     absurd (omega (arith, len, length-append (lines ++ a ∷ []) f.more, length-append lines (a ∷ [])))
 

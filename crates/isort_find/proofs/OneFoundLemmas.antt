@@ -19,7 +19,7 @@ bind_all_one laws (line ∷ lines) bs others h k =
     h.2 ∙ (λ i. first i ++ rest i) ∙ sym k.2
 
 -- lines that all bind have no bad one among them
-none_bad : Laws → (before : List LogicalLine) (line : LogicalLine) (behind : List LogicalLine) (bs : List Bound) (fault : Fault) → BindAll (before ++ line ∷ behind) bs → IsBadAt line fault → ⊥
+pub none_bad : Laws → (before : List LogicalLine) (line : LogicalLine) (behind : List LogicalLine) (bs : List Bound) (fault : Fault) → BindAll (before ++ line ∷ behind) bs → IsBadAt line fault → ⊥
 none_bad laws [] line behind bs fault h bad = laws.not_both line h.0 fault h.3 bad
 none_bad laws (l ∷ before) line behind bs fault h bad = none_bad laws before line behind h.1 fault h.4 bad
 
@@ -30,7 +30,7 @@ pub record EndLaws : Type 0 where
   pub one_fault : (line : LogicalLine) (fault other : Fault) → IsBadAt line fault → IsBadAt line other → fault ≡ other
 
 -- two answers for one text: the lists and the ends
-abbrev AreOne : List Bound → List Bound → Option Fault → Option Fault → Type 0
+abbrev pub AreOne : List Bound → List Bound → Option Fault → Option Fault → Type 0
 AreOne bounds others end second = (bounds ≡ others) × (end ≡ second)
 
 -- in one list of lines the first bad line comes in one place
@@ -62,7 +62,7 @@ one_of_bad ends unique lines last before line behind all bounds others fault end
     let one = one_before ends before other line bad_one behind rest all more fault worst (sym split ∙ again) h k bad worse in
     (e ∙ ap (firsts unique []) one.0 ∙ sym f, is ∙ ap Some one.1 ∙ sym also)
 
-one_of : EndLaws → (unique : Option ImportKey) (lines : List LogicalLine) (last : Option Fault) (bounds others : List Bound) (end second : Option Fault) → AreFound unique lines last bounds end → AreFound unique lines last others second → AreOne bounds others end second
+pub one_of : EndLaws → (unique : Option ImportKey) (lines : List LogicalLine) (last : Option Fault) (bounds others : List Bound) (end second : Option Fault) → AreFound unique lines last bounds end → AreFound unique lines last others second → AreOne bounds others end second
 one_of ends unique lines last bounds others end second (of_all _ _ _ _ _ all h e is) k = one_of_all ends unique lines last all bounds others end second h e is k
 one_of ends unique lines last bounds others end second (before_bad _ _ _ _ _ before line behind all fault split h bad e is) k = one_of_bad ends unique lines last before line behind all bounds others fault end second split h bad e is k
 

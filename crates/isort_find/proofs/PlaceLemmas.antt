@@ -1,8 +1,9 @@
 -- Logical lines that were given end where their reader stands.
-use Rattle.std.proofs.Common.{◌≡◌, ℕ, ◌+◌, Bool, true, false, ◌&&◌, ◌==◌, List, [], ◌∷◌, ◌++◌, length, refl, sym, ap, ◌∙◌, append_assoc, append-nil, if◌then◌else◌, encode_utf8, encode_utf8_all, length-append}
+use Rattle.std.proofs.Common.{◌≡◌, ℕ, ◌+◌, Bool, true, false, ◌&&◌, ◌==◌, None, List, [], ◌∷◌, ◌++◌, length, refl, sym, ap, ◌∙◌, append_assoc, append-nil, if◌then◌else◌, encode_utf8, encode_utf8_all, length-append}
 use Rattle.py_lines.specs.Piece.{Piece, spelled}
 use Rattle.py_lines.specs.Balance.{depth_after}
 use Rattle.py_lines.specs.LogicalLine.{LogicalLine, lines_from, cut, put_first, byte_len, line_ends, is_line_end_class}
+use Rattle.py_lines.specs.Lexed.{IsLexed}
 use Rattle.py_lines.specs.Reader.{Reader, HasGiven}
 use Rattle.isort_find.specs.Lexing.{bytes_of}
 
@@ -38,3 +39,7 @@ bytes_of-lines_from (u ∷ us) offset line = ap (λ n. byte_len (spelled u) + n)
 -- the lines that a reader has given are the text's bytes up to its place
 pub bytes_given : (reader : Reader) (lines : List LogicalLine) → HasGiven reader lines → bytes_of lines ≡ reader.place
 bytes_given reader lines h = ap bytes_of h.first.cut ∙ bytes_of-lines_from (cut 0 h.first.pieces) 0 1 ∙ ap byte_len (spelled_parts-cut h.first.pieces 0) ∙ sym h.first.here
+
+-- all logical lines of a text are its bytes
+pub bytes_lexed : (text : List ℕ) (lines : List LogicalLine) → IsLexed text lines None → bytes_of lines ≡ length text
+bytes_lexed text lines h = ap bytes_of h.cut ∙ bytes_of-lines_from (cut 0 h.pieces) 0 1 ∙ ap byte_len (spelled_parts-cut h.pieces 0) ∙ ap byte_len h.reading.spell ∙ ap length (sym (append-nil (encode_utf8_all h.characters)) ∙ h.decodes.spell)

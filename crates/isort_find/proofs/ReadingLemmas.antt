@@ -1,7 +1,7 @@
 -- What a finder is after the next logical line, the end or a fault.
 use Rattle.std.proofs.Common.{◌≡◌, ℕ, Bool, true, false, not, Option, None, Some, List, [], ◌∷◌, ◌++◌, length, min, drop, inl, inr, ◌⊎◌, refl, sym, ap, ◌∙◌, subst, append_assoc, length-append, append-nil, arith}
 use Rattle.py_lines.specs.LogicalLine.{LogicalLine}
-use Rattle.py_lines.specs.Lexed.{IsLexed}
+use Rattle.py_lines.specs.Lexed.{IsLexed, BeginsLexing}
 use Rattle.py_lines.specs.Reader as reader
 use Rattle.py_lines.specs.Reader.{Reader, HasGiven, standing_at, Continues}
 use Rattle.py_lines.specs.declared.fault.Fault.{Fault}
@@ -19,7 +19,7 @@ use Rattle.isort_find.specs.declared.finder.Outcome.TheVariants as outcome
 use Rattle.isort_find.proofs.TakeLemmas.{list_all-snoc}
 use Rattle.isort_find.proofs.PlaceLemmas.{bytes_given}
 use Rattle.isort_find.proofs.CountedLemmas.{counted-all, end-all, counted-cut, end-cut, counted-more}
-use Rattle.isort_find.proofs.LexingLemmas.{Laws, reader_is, same_line, no_next, BindAll-snoc}
+use Rattle.isort_find.proofs.LexingLemmas.{Laws, reader_is, same_begun, none_begun, BindAll-snoc}
 use Rattle.isort_find.proofs.TakingLemmas.{reached_open, reached}
 
 -- where nothing is left of the line read last, the finder is between two lines
@@ -73,7 +73,7 @@ pub record Splits (f : Finding) (part : List Bound) (bs : List Bound) : Type 0 w
   pub split : bs ≡ part ++ rest
 
 next_same : Laws → (f : Finding) (lines : List LogicalLine) (part : List Bound) (line : LogicalLine) (r : Reader) → r.text ≡ text_of f → HasGiven r (lines ++ line ∷ []) → (n : BeginsNext (text_of f) (options_of f) lines part) → n.line ≡ line
-next_same one f lines part line r same given n = sym (same_line one r (standing_at (text_of f) n.place n.line_number) lines line n.line (sym same) given n.given)
+next_same one f lines part line r same given n = sym (same_begun one (text_of f) lines line n.line (subst (λ (t : List ℕ). BeginsLexing t (lines ++ line ∷ [])) same (one.begins r (lines ++ line ∷ []) given)) n.begins)
 
 splits : Laws → (f : Finding) (lines : List LogicalLine) (part bs : List Bound) (line : LogicalLine) (r : Reader) → r.text ≡ text_of f → HasGiven r (lines ++ line ∷ []) → Binds line bs → ((part ≡ []) ⊎ BeginsNext (text_of f) (options_of f) lines part) → Splits f part bs
 splits one f lines part bs line r same given binds (inl none) = record { rest = bs; split = ap (λ t. t ++ bs) (sym none) }
@@ -82,7 +82,7 @@ splits one f lines part bs line r same given binds (inr n) = record { rest = n.r
 -- nothing was looked at of a line that isn't there, is bad or ends the top
 nothing_of_end : Laws → (f : Finding) (lines : List LogicalLine) (part : List Bound) (end : Option Fault) → IsLexed (text_of f) lines end → ((part ≡ []) ⊎ BeginsNext (text_of f) (options_of f) lines part) → part ≡ []
 nothing_of_end one f lines part end lexed (inl none) = none
-nothing_of_end one f lines part end lexed (inr n) = absurd (no_next one (text_of f) lines end (standing_at (text_of f) n.place n.line_number) n.line lexed refl n.given)
+nothing_of_end one f lines part end lexed (inr n) = absurd (none_begun one (text_of f) lines end n.line lexed n.begins)
 
 nothing_of_bad : Laws → (f : Finding) (lines : List LogicalLine) (part : List Bound) (line : LogicalLine) (r : Reader) (fault : Fault) → r.text ≡ text_of f → HasGiven r (lines ++ line ∷ []) → IsBadAt line fault → ((part ≡ []) ⊎ BeginsNext (text_of f) (options_of f) lines part) → part ≡ []
 nothing_of_bad one f lines part line r fault same given bad (inl none) = none
@@ -95,10 +95,10 @@ nothing_of_top : Laws → (f : Finding) (lines : List LogicalLine) (part : List 
 nothing_of_top one f lines part line r same given ends (inl none) = none
 nothing_of_top one f lines part line r same given ends (inr n) = absurd (counts_or_ends _ ends (subst (λ (l : LogicalLine). ends_top (options_of f) l ≡ false) (next_same one f lines part line r same given n) n.in_top))
 
-min_length : (part rest : List Bound) → min (length part) (length (part ++ rest)) ≡ length part
+pub min_length : (part rest : List Bound) → min (length part) (length (part ++ rest)) ≡ length part
 min_length part rest = omega (arith, length-append part rest)
 
-drop_part : (part rest : List Bound) → drop (length part) (part ++ rest) ≡ rest
+pub drop_part : (part rest : List Bound) → drop (length part) (part ++ rest) ≡ rest
 drop_part [] rest = refl
 drop_part (p ∷ ps) rest = drop_part ps rest
 

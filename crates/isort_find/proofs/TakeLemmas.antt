@@ -3,9 +3,9 @@ use Rattle.std.proofs.Common.{◌≡◌, ℕ, ◌+◌, Bool, true, false, not, �
 use Rattle.std.specs.List.{list_all}
 use Rattle.py_imports.specs.Bound.{Bound, bound_of}
 use Rattle.py_imports.specs.declared.binding.Binding.{Binding}
-use Rattle.isort_find.specs.Cursor.{Standing}
+use Rattle.isort_find.specs.Cursor.{Standing, has_key}
 use Rattle.isort_find.specs.Steps.Lookings.{Looks, Passes, TakesNew, TakesNext}
-use Rattle.isort_find.specs.Steps.Standings.{has_key, Admits, standing_after}
+use Rattle.isort_find.specs.Steps.Standings.{Admits, standing_after}
 use Rattle.isort_find.specs.Pending.{Looking}
 use Rattle.isort_find.specs.declared.pending.Place.{Place}
 
@@ -84,3 +84,7 @@ takes_new s cursor admitted t old mid new b rest is_new r place taken passes sam
       gives = gives ∙ (λ i. standing_after admitted (here i) (so_many i));
     } in
     subst (λ (x : Option Binding). TakesNext s old (Ok x) t new) (sym it.some) (subst (λ (a : Bound). TakesNew s old a t new) (sym it.same) takes)
+
+-- a binding with a known key was passed over
+pub passed_known : (s : Standing) (old mid new : Looking) (b : Bound) (rest : List Bound) (known : Bool) (r : Option Binding) → Passes s old mid → mid.left ≡ b ∷ rest → known ≡ has_key s.options.unique s.keys b → known ≡ true → MatchOption r ((mid.left ≡ []) × (new ≡ mid)) (λ x. Looks mid (bound_of x) new) → Passes s old new
+passed_known s old mid new b rest known r passes front is known_is took = passes_more s old mid new b passes (sym is ∙ known_is) (is_taken mid new b rest r front took).looks

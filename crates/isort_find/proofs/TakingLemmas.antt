@@ -1,16 +1,16 @@
 -- What a finder is after bindings of the line that was read last.
 use Rattle.std.proofs.Common.{◌≡◌, Bool, true, false, not, Option, None, Some, Result, Ok, Err, List, [], ◌∷◌, ◌++◌, length, inl, inr, ◌⊎◌, refl, sym, ap, ◌∙◌, subst, append_assoc, length-append, arith}
 use Rattle.std.specs.List.{list_all}
-use Rattle.py_lines.specs.Reader.{Reader, HasGiven, standing_at}
+use Rattle.py_lines.specs.Reader.{HasGiven, standing_at}
 use Rattle.py_imports.specs.Bound.{Bound, bound_of}
 use Rattle.py_imports.specs.Binds.{Binds}
 use Rattle.py_imports.specs.declared.binding.Binding.{Binding}
 use Rattle.isort_find.specs.Key.{Key}
 use Rattle.isort_find.specs.Found.{firsts, has_one_like}
-use Rattle.isort_find.specs.Cursor.{Standing, next_count, keys_of, IsBehind, HasStopped}
+use Rattle.isort_find.specs.Cursor.{Standing, next_count, keys_of, IsBehind, HasStopped, has_key}
 use Rattle.isort_find.specs.Steps.Findings.{LooksThrough, GivesNew}
 use Rattle.isort_find.specs.Steps.Lookings.{Looks, Passes, TakesNew, TakesNext}
-use Rattle.isort_find.specs.Steps.Standings.{has_key, standing_after}
+use Rattle.isort_find.specs.Steps.Standings.{standing_after}
 use Rattle.isort_find.specs.Pending.{Looking}
 use Rattle.isort_find.specs.Finder as finder
 use Rattle.isort_find.specs.Finder.{Finding, text_of, options_of, left_of, BindsFrom, IsWithin, IsBetween, HasReached, HasFound, SameTask, FindsNext}
@@ -18,7 +18,7 @@ use Rattle.isort_find.specs.declared.error.FindError.{FindError}
 use Rattle.isort_find.specs.declared.finder.Outcome.TheVariants as outcome
 use Rattle.isort_find.proofs.FirstsLemmas.{known_is, firsts-all_known, firsts-new, keys_of-snoc, given-snoc}
 use Rattle.isort_find.proofs.PlaceLemmas.{bytes_given}
-use Rattle.isort_find.proofs.LexingLemmas.{GivenBegin, reader_is}
+use Rattle.isort_find.proofs.LexingLemmas.{GivenBegin}
 use Rattle.isort_find.specs.declared.pending.Place.{Place}
 
 -- where a finder has got that has met neither the end nor a fault
@@ -29,7 +29,7 @@ reached_open f bounds opened h = subst (HasReached f bounds) opened h.reached
 pub reached : (f : Finding) (bounds : List Bound) → f.outcome ≡ outcome.Open → IsBetween f bounds ⊎ IsWithin f bounds → HasReached f bounds f.outcome
 reached f bounds opened h = subst (HasReached f bounds) (sym opened) h
 
-nothing_dropped : (dropped rest : List Bound) → [] ≡ dropped ++ rest → rest ≡ []
+pub nothing_dropped : (dropped rest : List Bound) → [] ≡ dropped ++ rest → rest ≡ []
 nothing_dropped [] rest h = sym h
 nothing_dropped (d ∷ ds) rest h = absurd cc
 
@@ -77,11 +77,11 @@ given_at s p b = record { options = s.options; offset = p.place.offset; line = p
 pub gives_at : (s t : Standing) (old new : Looking) (b : Bound) → TakesNew s old b t new → t ≡ given_at s new b
 gives_at s t old new b takes = takes.gives ∙ ap (λ (x : Standing). standing_after x new.place new.taken) takes.admits.standing
 
-none_is_some : (dropped rest : List Bound) (b : Bound) → [] ≡ dropped ++ b ∷ rest → ⊥
+pub none_is_some : (dropped rest : List Bound) (b : Bound) → [] ≡ dropped ++ b ∷ rest → ⊥
 none_is_some [] rest b h = cc
 none_is_some (d ∷ ds) rest b h = cc
 
-not_not : (a : Bool) → true ≡ not a → a ≡ false
+pub not_not : (a : Bool) → true ≡ not a → a ≡ false
 not_not true h = h
 not_not false h = refl
 
@@ -111,26 +111,26 @@ within_given f bounds mid p b stopped new same looks w =
     }
 
 -- inside a line a finder may stop
-pub within_behind : (f : Finding) (bounds : List Bound) → IsWithin f bounds → IsBehind (text_of f) (options_of f) f.pending.place.offset f.pending.place.line f.pending.taken bounds
-within_behind f bounds w = record {
+pub within_behind : GivenBegin → (f : Finding) (bounds : List Bound) → IsWithin f bounds → IsBehind (text_of f) (options_of f) f.pending.place.offset f.pending.place.line f.pending.taken bounds
+within_behind begin f bounds w = record {
   lines = w.lines;
   before = w.before;
   part = w.part;
   given = w.start;
   binds = w.binds;
   in_top = w.in_top;
-  is_part = (w.taken, inr (record { line = w.line; rest = f.pending.left; place = f.reader.place; line_number = f.reader.line; given = subst (λ (r : Reader). HasGiven r (w.lines ++ w.line ∷ [])) (reader_is f.reader w.given.no_fault) w.given; binds = w.binds_line; in_top = w.line_in_top }));
+  is_part = (w.taken, inr (record { line = w.line; rest = f.pending.left; begins = begin f.reader (w.lines ++ w.line ∷ []) w.given; binds = w.binds_line; in_top = w.line_in_top }));
   found = w.found;
 }
 
-found_given : (f : Finding) (bounds : List Bound) (mid p : Looking) (b : Bound) → HasStopped (text_of f) f.cursor bounds → f.outcome ≡ outcome.Open → has_key (options_of f).unique f.cursor.keys b ≡ false → f.pending ≡ mid → Looks mid b p → IsBetween f bounds ⊎ IsWithin f bounds → HasFound (record f { pending = p; cursor = given_at f.cursor p b }) (bounds ++ b ∷ [])
-found_given f bounds mid p b stopped opened new same looks (inl between) = absurd (none_is_some [] p.left b (sym between.none ∙ ap (λ (x : Looking). x.left) same ∙ looks.left))
-found_given f bounds mid p b stopped opened new same looks (inr within) =
+found_given : GivenBegin → (f : Finding) (bounds : List Bound) (mid p : Looking) (b : Bound) → HasStopped (text_of f) f.cursor bounds → f.outcome ≡ outcome.Open → has_key (options_of f).unique f.cursor.keys b ≡ false → f.pending ≡ mid → Looks mid b p → IsBetween f bounds ⊎ IsWithin f bounds → HasFound (record f { pending = p; cursor = given_at f.cursor p b }) (bounds ++ b ∷ [])
+found_given begin f bounds mid p b stopped opened new same looks (inl between) = absurd (none_is_some [] p.left b (sym between.none ∙ ap (λ (x : Looking). x.left) same ∙ looks.left))
+found_given begin f bounds mid p b stopped opened new same looks (inr within) =
     let w = within_given f bounds mid p b stopped new same looks within in
     let g : Finding = record f { pending = p; cursor = given_at f.cursor p b } in
     record {
       stopped = record {
-        behind = within_behind g (bounds ++ b ∷ []) w;
+        behind = within_behind begin g (bounds ++ b ∷ []) w;
         keys = ap (λ ks. ks ++ keys_of (options_of f).unique (b ∷ [])) stopped.keys ∙ sym (keys_of-snoc (options_of f).unique bounds b);
         given = ap next_count stopped.given ∙ given-snoc bounds b;
       };
@@ -158,7 +158,7 @@ gives begin f t p b opened takes =
     subst (λ (s : Standing). FindsNext f b (record f { pending = p; cursor = s })) (sym at) (record {
       found = λ bounds h.
           let q = found_passed f bounds takes.between opened takes.passes h in
-          found_given (record f { pending = takes.between }) bounds takes.between p b q.stopped opened new refl takes.looks (reached_open (record f { pending = takes.between }) bounds opened q);
+          found_given begin (record f { pending = takes.between }) bounds takes.between p b q.stopped opened new refl takes.looks (reached_open (record f { pending = takes.between }) bounds opened q);
       offset = λ bounds h.
           let q = found_passed f bounds takes.between opened takes.passes h in
           from_within begin (record f { pending = takes.between }) bounds b p takes.looks.left (sym takes.looks.place) (reached_open (record f { pending = takes.between }) bounds opened q);

@@ -1,11 +1,12 @@
 -- What contracts see of a cursor, and what it is to have stopped.
-use Rattle.std.specs.Prelude.{◌≡◌, ℕ, ◌+◌, ◌-◌, ◌^◌, true, false, not, ◌⊎◌, Option, None, Some, List, [], ◌∷◌, ◌++◌, length, map, min}
-use Rattle.std.specs.List.{list_all}
+use Rattle.std.specs.Prelude.{◌≡◌, ℕ, ◌+◌, ◌-◌, ◌^◌, Bool, true, false, not, ◌⊎◌, Option, None, Some, List, [], ◌∷◌, ◌++◌, length, map, min}
+use Rattle.std.specs.List.{list_all, list_any}
 use Rattle.py_lines.specs.LogicalLine.{LogicalLine}
+use Rattle.py_lines.specs.Lexed.{BeginsLexing}
 use Rattle.py_lines.specs.Reader.{HasGiven, standing_at}
 use Rattle.py_imports.specs.Bound.{Bound}
 use Rattle.py_imports.specs.Binds.{Binds, BindAll}
-use Rattle.isort_find.specs.Key.{Key, key_of}
+use Rattle.isort_find.specs.Key.{Key, key_of, key_eq}
 use Rattle.isort_find.specs.Found.{firsts, ends_top}
 use Rattle.isort_find.specs.declared.options.ImportKey.{ImportKey}
 use Rattle.isort_find.specs.declared.options.FindOptions.{FindOptions}
@@ -38,13 +39,21 @@ abbrev pub keys_of : Option ImportKey → List Bound → List Key
 keys_of None bounds = []
 keys_of (Some key) bounds = map (key_of key) bounds
 
+-- whether the key of the binding is among these
+abbrev pub has_key : Option ImportKey → List Key → Bound → Bool
+has_key None keys b = false
+has_key (Some key) keys b = list_any (key_eq (key_of key b)) keys
+
+-- the binding to look at next, if there is one, has a key that wasn't given
+abbrev pub BeginsNew : Standing → List Bound → Type 0
+BeginsNew s [] = Unit {0}
+BeginsNew s (b ∷ bs) = has_key s.options.unique s.keys b ≡ false
+
 -- `part` are the first bindings of the logical line after `lines`
 pub record BeginsNext (text : List ℕ) (options : FindOptions) (lines : List LogicalLine) (part : List Bound) : Type 0 where
   pub line : LogicalLine
   pub rest : List Bound
-  pub place : ℕ
-  pub line_number : ℕ
-  pub given : HasGiven (standing_at text place line_number) (lines ++ line ∷ [])
+  pub begins : BeginsLexing text (lines ++ line ∷ [])
   pub binds : Binds line (part ++ rest)
   pub in_top : ends_top options line ≡ false
 

@@ -1,8 +1,10 @@
 pub mod Key
 pub mod KeyText
 pub mod Found
+pub mod Settled
 pub mod Lexing
 pub mod Cursor
 pub mod Pending
 pub mod Finder
+pub mod Pieces
 pub mod Steps

@@ -3,3 +3,4 @@ pub mod Standings
 pub mod Lookings
 pub mod Readings
 pub mod Findings
+pub mod Feedings

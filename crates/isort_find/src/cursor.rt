@@ -31,7 +31,7 @@ impl Model for Cursor {
 }
 
 impl Cursor {
-    ghost use Rattle.isort_find.specs.Cursor.{first_standing};
+    ghost use Rattle.isort_find.specs.Cursor.{first_standing, has_key};
     ghost use Rattle.isort_find.specs.Steps.Standings.{Admits, standing_after, standing_before};
 
     /// At the start of a text, before its first import.
@@ -59,6 +59,20 @@ impl Cursor {
                 let key = key_of(alloc, binding, key)?;
                 let (_, is_new) = self.keys.insert_full(key)?;
                 Ok(is_new)
+            }
+        }
+    }
+
+    /// Whether a binding with the key of this one was given.
+    pub(crate) fn knows(&self, alloc: Global, binding: &Binding) -> Result<bool, FindError>
+        ensures ok { IfOk result (λ known. known ≡ has_key self.now.options.unique self.now.keys (bound_of binding.now)) }
+        ensures err { IfErr result (λ e. e ≡ FindError.Memory) }
+    {
+        match self.options.unique {
+            None => Ok(false),
+            Some(key) => {
+                let key = key_of(alloc, binding, key)?;
+                Ok(self.keys.contains(&key))
             }
         }
     }

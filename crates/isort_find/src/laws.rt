@@ -1,16 +1,18 @@
 //! Laws of the definitions, which the checker proves as contracts.
 
-ghost use Rattle.std.specs.Prelude.{◌≡◌, ◌↔◌, ℕ, IsTrue, Option, List};
+ghost use Rattle.std.specs.Prelude.{◌≡◌, ◌↔◌, ℕ, IsTrue, Option, Some, List, ◌++◌};
 ghost use Rattle.py_lines.specs.declared.fault.Fault.{Fault};
 ghost use Rattle.py_imports.specs.Bound.{Bound};
 ghost use Rattle.isort_find.specs.KeyText.{key_in};
+ghost use Rattle.isort_find.specs.Cursor.{Standing, HasStopped};
 ghost use Rattle.isort_find.specs.Found.{IsFound, BeginsFound};
+ghost use Rattle.isort_find.specs.Settled.{IsFoundSettled, DecidesFound};
 ghost use Rattle.isort_find.specs.declared.options.FindOptions.{FindOptions};
 ghost use Rattle.isort_find.specs.Finder.{Finding, HasFound, text_of, options_of};
 
 use crate::key::KeyText;
 use py_imports::laws::binds_or_is_bad;
-use py_lines::laws::{given_lines_begin_the_text, one_lexing};
+use py_lines::laws::{given_lines_begin_the_text, one_lexing, settled_is_final};
 
 /// Two keys are `==` exactly where they are equal as definitions see them: the text, the attribute and the alias.
 /// One that is missing differs from each that is there.
@@ -21,9 +23,10 @@ pub fn equal_keys(one: &KeyText, other: &KeyText) -> bool
 }
 
 /// What a finder has given, with those that it goes on from, begins what is found in its text: the rest comes after
-/// it.
+/// it. So does what was given by then where a finder, over pieces or over the whole text, stops.
 pub fn given_begin_the_found()
     ensures begin { (f : Finding) (bounds : List Bound) → HasFound f bounds → BeginsFound (text_of f) (options_of f) bounds }
+    ensures stopped { (text : List ℕ) (cursor : Standing) (bounds : List Bound) → HasStopped text cursor bounds → BeginsFound text cursor.options bounds }
 {
     given_lines_begin_the_text();
     binds_or_is_bad();
@@ -38,5 +41,22 @@ pub fn one_found()
 {
     one_lexing();
     given_lines_begin_the_text();
+    binds_or_is_bad();
+}
+
+/// What is found in the logical lines that the known bytes of a text settle begins what is found in each text that begins
+/// with these bytes. It is there for any bytes, and begins what more bytes settle. The fault of a bad one among these
+/// lines is decided. A fault that the known bytes decide is the one that each such text ends in, after the same imports.
+pub fn settled_found_is_final()
+    ensures some { (text : List ℕ) (options : FindOptions) → (bounds : List Bound) × (bad : Option Fault) × IsFoundSettled text options bounds bad }
+    ensures grow { (text more : List ℕ) (options : FindOptions) (bounds later : List Bound) (bad last : Option Fault) → IsFoundSettled text options bounds bad → IsFoundSettled (text ++ more) options later last → (rest : List Bound) × (later ≡ bounds ++ rest) }
+    ensures bad { (text : List ℕ) (options : FindOptions) (bounds : List Bound) (fault : Fault) → IsFoundSettled text options bounds (Some fault) → DecidesFound text options fault }
+    ensures bindings { (text more : List ℕ) (options : FindOptions) (bounds : List Bound) (bad : Option Fault) → IsFoundSettled text options bounds bad → BeginsFound (text ++ more) options bounds }
+    ensures fault { (text more : List ℕ) (options : FindOptions) (fault : Fault) (bounds : List Bound) (end : Option Fault) → DecidesFound text options fault → IsFound (text ++ more) options bounds end → end ≡ Some fault }
+    ensures all { (text more : List ℕ) (options : FindOptions) (bounds : List Bound) (fault : Fault) → DecidesFound text options fault → IsFound text options bounds (Some fault) → IsFound (text ++ more) options bounds (Some fault) }
+{
+    one_lexing();
+    given_lines_begin_the_text();
+    settled_is_final();
     binds_or_is_bad();
 }

@@ -8,6 +8,7 @@ mod key;
 pub mod laws;
 mod options;
 mod pending;
+mod pieces;
 mod step;
 mod take;
 
@@ -16,3 +17,4 @@ pub use error::{FindError, ResumeError};
 pub use finder::Finder;
 pub use key::{KeyText, key_of};
 pub use options::{FindOptions, ImportKey};
+pub use pieces::PieceFinder;

@@ -75,6 +75,31 @@ impl Pending {
         }
     }
 
+    // The same as `refill`, which seldom calls it: most lines bind nothing.
+    #[cold]
+    fn replace(&mut self, bindings: Vec<Binding>, place: Place, taken: usize)
+        ensures place { self.new.place ≡ place }
+        ensures taken { self.new.taken ≡ min taken (vec_len bindings) }
+        ensures left { self.new.left ≡ drop taken (map bound_of bindings.items) }
+    {
+        *self = Pending::new(bindings, place, taken);
+    }
+
+    /// Puts the bindings of the logical line at `place`, except the first `taken`, in place of those that are left.
+    #[inline(always)]
+    pub fn refill(&mut self, bindings: Vec<Binding>, place: Place, taken: usize)
+        ensures place { self.new.place ≡ place }
+        ensures taken { self.new.taken ≡ min taken (vec_len bindings) }
+        ensures left { self.new.left ≡ drop taken (map bound_of bindings.items) }
+    {
+        if bindings.is_empty() && self.bindings.is_empty() {
+            self.place = place;
+            self.taken = 0;
+        } else {
+            self.replace(bindings, place, taken);
+        }
+    }
+
     /// The next binding to look at.
     pub fn front(&self) -> Option<&Binding>
         ensures { MatchOption result (self.now.left ≡ []) (λ b. self.now.left ≡ bound_of b.now ∷ drop 1 self.now.left) }

@@ -1,7 +1,7 @@
 ghost use Rattle.std.specs.Prelude.{◌≡◌};
 ghost use Rattle.py_lines.specs.Lines.{line_in};
 ghost use Rattle.isort_find.specs.Found.{ends_top};
-ghost use Rattle.isort_find.specs.Steps.Readings.{StepsTo};
+ghost use Rattle.isort_find.specs.Steps.Readings.{Judges, StepsTo};
 
 use crate::options::FindOptions;
 use py_imports::{Binding, ImportError, bindings_of, is_declaration};
@@ -30,6 +30,20 @@ fn ends_top(unit: &Unit<'_>, options: FindOptions) -> bool
     options.top_only && is_declaration(unit)
 }
 
+/// What the logical line is to a finder.
+pub fn judge(alloc: Global, unit: &Unit<'_>, options: FindOptions) -> Step
+    ensures { Judges options (line_in unit.now) result }
+{
+    if ends_top(unit, options) {
+        return Step::End;
+    }
+    match bindings_of(alloc, unit) {
+        Ok(bindings) => Step::Bindings(bindings),
+        Err(ImportError::Fault(fault)) => Step::Fault(fault),
+        Err(ImportError::Memory) => Step::LineLost,
+    }
+}
+
 /// Reads the next logical line.
 pub fn next_step(alloc: Global, lines: &mut Lines<'_>, options: FindOptions) -> Step
     ensures step { StepsTo options lines.old result lines.new }
@@ -37,16 +51,7 @@ pub fn next_step(alloc: Global, lines: &mut Lines<'_>, options: FindOptions) -> 
 {
     match lines.next_unit() {
         Ok(None) => Step::End,
-        Ok(Some(unit)) => {
-            if ends_top(&unit, options) {
-                return Step::End;
-            }
-            match bindings_of(alloc, &unit) {
-                Ok(bindings) => Step::Bindings(bindings),
-                Err(ImportError::Fault(fault)) => Step::Fault(fault),
-                Err(ImportError::Memory) => Step::LineLost,
-            }
-        }
+        Ok(Some(unit)) => judge(alloc, &unit, options),
         Err(LexError::Fault(fault)) => Step::Fault(fault),
         Err(LexError::Memory) => Step::NoMemory,
     }

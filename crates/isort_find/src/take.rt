@@ -1,4 +1,4 @@
-ghost use Rattle.isort_find.specs.Steps.Lookings.{TakesNext};
+ghost use Rattle.isort_find.specs.Steps.Lookings.{TakesNext, PassesKnown};
 
 use crate::cursor::Cursor;
 use crate::error::FindError;
@@ -23,4 +23,17 @@ pub fn take_new(
         }
     }
     Ok(None)
+}
+
+/// Passes over the next bindings whose keys the cursor has, up to the first other one.
+pub fn pass_known(alloc: Global, pending: &mut Pending, cursor: &Cursor) -> Result<(), FindError>
+    ensures { PassesKnown cursor.now pending.old result pending.new }
+{
+    'bindings: while let Some(binding) = pending.front() {
+        if !cursor.knows(alloc, binding)? {
+            return Ok(());
+        }
+        let _ = pending.take();
+    }
+    Ok(())
 }

@@ -13,6 +13,8 @@ mod imports;
 #[cfg(test)]
 mod lines;
 #[cfg(test)]
+mod pieces;
+#[cfg(test)]
 mod report;
 #[cfg(test)]
 mod runs;

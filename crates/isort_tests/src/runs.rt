@@ -398,6 +398,213 @@ fn gives_up_reading(rt: HostRuntime) -> Result<(), Fail> {
     Ok(())
 }
 
+// A reader of `left`, at most `piece` bytes a call, whose calls then end in this error, where there is one.
+#[derive(Drop)]
+struct Cut<'t> {
+    left: &'t [u8],
+    piece: usize,
+    end: Option<ErrorKind>,
+}
+
+impl Read for Cut<'_> {
+    fn read(&mut self, buf: &mut [u8]) -> io::Result<usize> {
+        let count = buf.len().min(self.piece);
+        match self.end {
+            Some(kind) if self.left.is_empty() => Err(io::Error::from(kind)),
+            _ => self.left.read(&mut buf[..count]),
+        }
+    }
+}
+
+// Whether the listing of such a reader, of which `max` bytes are taken, is these lines, with this end.
+fn lists_cut(
+    alloc: Global,
+    cut: Cut<'_>,
+    options: FindOptions,
+    max: u64,
+    lines: &str,
+    want: Result<(), RunError>,
+) -> bool
+    requires { max ≤ 2 ^ 62 }
+{
+    let mut writer = Metered::new(Vec::new(alloc));
+    let got = identify(
+        alloc,
+        &mut Metered::new(cut),
+        &mut writer,
+        "-",
+        options,
+        max,
+    );
+    got == want && writer.into_inner().as_slice() == lines.as_bytes()
+}
+
+const FAILS: Option<ErrorKind> = Some(ErrorKind::Other);
+
+const HANGS: Option<ErrorKind> = Some(ErrorKind::Interrupted);
+
+// Texts, how reading them ends, the options, how many bytes are taken, and how the listing of `import a` ends.
+const CUT: &[(
+    &[u8],
+    Option<ErrorKind>,
+    FindOptions,
+    u64,
+    Result<(), RunError>,
+)] = &[
+    (b"import a\nimport b", FAILS, ALL, 1000, Err(RunError::Read)),
+    (
+        b"import a\nimport b",
+        HANGS,
+        ALL,
+        1000,
+        Err(RunError::NeverEnds),
+    ),
+    (
+        b"import a\nimport b\r",
+        FAILS,
+        ALL,
+        1000,
+        Err(RunError::Read),
+    ),
+    (
+        b"import a\nimport b\n",
+        None,
+        ALL,
+        12,
+        Err(RunError::TooLong),
+    ),
+    (
+        b"import a\nimport b\r\n",
+        None,
+        ALL,
+        18,
+        Err(RunError::TooLong),
+    ),
+    (
+        b"import a\n)",
+        FAILS,
+        ALL,
+        1000,
+        Err(RunError::Fault(Fault {
+            kind: FaultKind::WrongClose,
+            offset: 9,
+            line: 2,
+        })),
+    ),
+    (
+        b"import a\n)import b\n",
+        None,
+        ALL,
+        10,
+        Err(RunError::Fault(Fault {
+            kind: FaultKind::WrongClose,
+            offset: 9,
+            line: 2,
+        })),
+    ),
+    (
+        b"import a\r)",
+        FAILS,
+        ALL,
+        1000,
+        Err(RunError::Fault(Fault {
+            kind: FaultKind::WrongClose,
+            offset: 9,
+            line: 2,
+        })),
+    ),
+    (
+        b"import a\nimport b,\n",
+        FAILS,
+        ALL,
+        1000,
+        Err(RunError::Fault(Fault {
+            kind: FaultKind::BadImport,
+            offset: 9,
+            line: 2,
+        })),
+    ),
+    (
+        b"import a\nimport b,",
+        FAILS,
+        ALL,
+        1000,
+        Err(RunError::Read),
+    ),
+    (b"import a\ndef f(): pass\n(", None, TOP, 1000, Ok(())),
+    (
+        b"import a\ndef f(): pass\n)",
+        FAILS,
+        TOP,
+        1000,
+        Err(RunError::Read),
+    ),
+    (
+        b"import a\ndef f(): pass\n)",
+        None,
+        TOP,
+        23,
+        Err(RunError::TooLong),
+    ),
+    (b"import a\n", None, ALL, 9, Ok(())),
+];
+
+#[test]
+fn lists_what_came(rt: HostRuntime) -> Result<(), Fail> {
+    for (text, end, options, max, want) in CUT {
+        for piece in [1, 7, 8192] {
+            let cut = Cut {
+                left: *text,
+                piece,
+                end: *end,
+            };
+            assert!(rt;
+                *max <= 1000 && lists_cut(rt.alloc(), cut, *options, *max, "-:1 import a\n", *want),
+                "{max} {piece}"
+            );
+        }
+    }
+    Ok(())
+}
+
+// A writer that takes everything and can't be flushed.
+#[derive(Drop)]
+struct Clogged {
+    taken: Vec<u8>,
+}
+
+impl Write for Clogged {
+    fn write(&mut self, buf: &[u8]) -> io::Result<usize> {
+        self.taken.extend_from_slice(buf)?;
+        Ok(buf.len())
+    }
+
+    fn flush(&mut self) -> io::Result<()> {
+        Err(io::Error::from(ErrorKind::Other))
+    }
+}
+
+// Whether the text is listed to such a writer with this end, and these lines.
+fn lists_clogged(alloc: Global, text: &str, want: Result<(), RunError>, lines: &str) -> bool {
+    let mut writer = Metered::new(Clogged {
+        taken: Vec::new(alloc),
+    });
+    let mut reader = Metered::new(text.as_bytes());
+    let got = identify(alloc, &mut reader, &mut writer, "-", ALL, 1000);
+    got == want && writer.into_inner().taken.as_slice() == lines.as_bytes()
+}
+
+#[test]
+fn flushes_after_lines_alone(rt: HostRuntime) -> Result<(), Fail> {
+    for (text, want, lines) in [
+        ("import a\nx = 1\n", Err(RunError::Write), "-:1 import a\n"),
+        ("x = 1\n", Ok(()), ""),
+    ] {
+        assert!(rt; lists_clogged(rt.alloc(), text, want, lines), "{text}");
+    }
+    Ok(())
+}
+
 // A reader of `left` and a writer into `taken` whose first call ends in this error, where there is one. It notes how
 // many calls were made, and how many bytes the last one was offered.
 #[derive(Drop)]
@@ -452,7 +659,7 @@ impl Write for Shaky<'_> {
 }
 
 // Whether `FIRST` is listed with this end, where the first read and the first write fail so: these lines, by so many
-// reads and writes.
+// reads, and so many writes and flushes.
 fn lists_shakily(
     alloc: Global,
     read: Option<ErrorKind>,
@@ -473,7 +680,7 @@ fn lists_shakily(
 #[test]
 fn goes_on_after_an_interruption(rt: HostRuntime) -> Result<(), Fail> {
     let first = Some(ErrorKind::Interrupted);
-    assert!(rt; lists_shakily(rt.alloc(), first, first, Ok(()), FIRST_LINES, (3, 4)));
+    assert!(rt; lists_shakily(rt.alloc(), first, first, Ok(()), FIRST_LINES, (3, 5)));
     Ok(())
 }
 
@@ -482,7 +689,7 @@ fn stops_at_the_first_failure(rt: HostRuntime) -> Result<(), Fail> {
     let first = Some(ErrorKind::Other);
     for (read, write, want, calls) in [
         (first, None, RunError::Read, (1, 0)),
-        (None, first, RunError::Write, (2, 1)),
+        (None, first, RunError::Write, (1, 1)),
     ] {
         assert!(rt;
             lists_shakily(rt.alloc(), read, write, Err(want), "", calls),
@@ -507,6 +714,7 @@ fn offers_all_bytes(rt: HostRuntime) -> Result<(), Fail> {
 fn flushes_what_is_inside(rt: HostRuntime) -> Result<(), Fail> {
     let mut writer = Shaky::new(rt.alloc(), b"", Some(ErrorKind::Other));
     assert!(rt; writer.flush().is_err());
+    assert_eq!(rt; writer.last(), Last::Failed);
     assert!(rt; writer.flush().is_ok());
     assert_eq!(rt; (writer.last(), writer.into_inner().calls), (Last::Fine, 2));
     Ok(())

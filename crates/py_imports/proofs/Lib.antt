@@ -6,6 +6,7 @@ pub mod ListLemmas
 pub mod NamesLemmas
 pub mod BindingLemmas
 pub mod StatementLemmas
+pub mod FirstWordLemmas
 pub mod EndLemmas
 pub mod OneListLemmas
 pub mod DecidingLemmas

@@ -1,4 +1,5 @@
 ghost use Rattle.std.specs.Prelude.{◌≡◌, ◌<◌, ◌+◌, Some, length, map, slice_get, IfOk, OnOk, IfErr, string_bytes};
+ghost use Rattle.std.specs.List.{list_any};
 ghost use Rattle.std.specs.Option.{option_map};
 ghost use Rattle.py_lines.specs.Lines.{line_in};
 ghost use Rattle.py_lines.specs.declared.fault.FaultKind.TheVariants.{BadImport};
@@ -7,7 +8,7 @@ ghost use Rattle.py_imports.specs.Statement.{Place};
 ghost use Rattle.py_imports.specs.Binds.{Binds, Refuses};
 ghost use Rattle.py_imports.specs.Bound.{bound_of, bound_at};
 ghost use Rattle.py_imports.specs.Reading.Items.{imported_of, AreLeft};
-ghost use Rattle.py_imports.specs.Reading.Bindings.{BindsOne, RefusesItems, BindsMore, RefusesAt, IsPlaceAt};
+ghost use Rattle.py_imports.specs.Reading.Bindings.{may_begin_import, is_first_word, BindsOne, RefusesItems, BindsMore, RefusesAt, IsPlaceAt};
 
 use crate::binding::Binding;
 use crate::error::ImportError;
@@ -105,13 +106,40 @@ fn bind_statement(
     bind_items(alloc, items, head, fault_at(unit, place), bindings)
 }
 
-/// What all import statements of a logical line bind, in the order written (Python Language Reference, 7.11).
-///
-/// A statement starts with the line's first token, and after each `;` and `:` outside brackets.
-///
-/// - `Fault`: F9, at the first token of the first import statement that isn't in the grammar.
-/// - `Memory`: out of memory.
-pub fn bindings_of(alloc: Global, unit: &Unit<'_>) -> Result<Vec<Binding>, ImportError>
+// Whether a word begins as `import` or `from` does. Few words do, so this is asked before all else.
+fn may_begin_import(word: &str) -> bool
+    ensures { result ≡ may_begin_import word.now }
+{
+    match word.as_bytes().first() {
+        Some(&byte) => byte == b'i' || byte == b'f',
+        None => false,
+    }
+}
+
+// Whether the token at `place` is spelled as the first word of an import statement.
+fn is_first_word(unit: &Unit<'_>, place: usize) -> bool
+    requires { place < length unit.now.tokens.now }
+    ensures { (t : Token) → slice_get unit.now.tokens.now place ≡ Some t → result ≡ is_first_word unit.now.text.now t }
+{
+    let word = unit.word(place);
+    may_begin_import(word) && form_of(unit.tokens[place].kind, word).is_some()
+}
+
+// Whether a token of the logical line is spelled so. A line with no such token binds nothing.
+fn has_first_word(unit: &Unit<'_>) -> bool
+    ensures { result ≡ list_any (is_first_word unit.now.text.now) unit.now.tokens.now }
+{
+    'tokens: for place in 0..unit.tokens.len() {
+        if is_first_word(unit, place) {
+            return true;
+        }
+    }
+    false
+}
+
+// What all import statements of a logical line bind, statement after statement. Few lines need it.
+#[cold]
+fn bind_statements(alloc: Global, unit: &Unit<'_>) -> Result<Vec<Binding>, ImportError>
     ensures ok { IfOk result (λ bindings. Binds (line_in unit.now) (map bound_of bindings.items)) }
     ensures err { IfErr result (λ e. Refuses (line_in unit.now) e) }
 {
@@ -129,4 +157,21 @@ pub fn bindings_of(alloc: Global, unit: &Unit<'_>) -> Result<Vec<Binding>, Impor
         depth = depth_past(depth, token.kind);
     }
     Ok(bindings)
+}
+
+/// What all import statements of a logical line bind, in the order written (Python Language Reference, 7.11).
+///
+/// A statement starts with the line's first token, and after each `;` and `:` outside brackets.
+///
+/// - `Fault`: F9, at the first token of the first import statement that isn't in the grammar.
+/// - `Memory`: out of memory.
+pub fn bindings_of(alloc: Global, unit: &Unit<'_>) -> Result<Vec<Binding>, ImportError>
+    ensures ok { IfOk result (λ bindings. Binds (line_in unit.now) (map bound_of bindings.items)) }
+    ensures err { IfErr result (λ e. Refuses (line_in unit.now) e) }
+{
+    if has_first_word(unit) {
+        bind_statements(alloc, unit)
+    } else {
+        Ok(Vec::new(alloc))
+    }
 }

@@ -13,7 +13,7 @@ pub mod NextHeld
 pub mod Chunks
 pub mod FailedHeld
 pub mod EndedHeld
-pub mod LineInChunk
+pub mod GivenBack
 pub mod FedHeld
 pub mod FedScanner
 pub mod FinishedHeld

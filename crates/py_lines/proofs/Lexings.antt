@@ -9,3 +9,4 @@ pub mod SettledLines
 pub mod DecidedFaults
 pub mod SettledFront
 pub mod SettledOrder
+pub mod SettledExistence

@@ -9,4 +9,8 @@ pub mod Increments
 pub mod Runs
 pub mod ShortPieces
 pub mod EarlyEnds
+pub mod ByteTable
+pub mod FirstBytes
+pub mod Comments
+pub mod NextPieces
 pub mod LineStops

@@ -64,9 +64,13 @@ is_barred quote = is_one_of (quote ∷ codes "\n\r")
 unfoldable pub is_r : ℕ → Bool
 is_r = is_one_of (codes "rR")
 
--- `b` and `f`, in either case
-unfoldable pub is_b_or_f : ℕ → Bool
-is_b_or_f = is_one_of (codes "bBfF")
+-- `b`, in either case
+unfoldable pub is_b : ℕ → Bool
+is_b = is_one_of (codes "bB")
+
+-- `f`, in either case
+unfoldable pub is_f : ℕ → Bool
+is_f = is_one_of (codes "fF")
 
 -- `u`, in either case
 unfoldable pub is_u : ℕ → Bool

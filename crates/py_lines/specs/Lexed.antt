@@ -7,7 +7,7 @@ use Rattle.py_lines.specs.Piece.{line_end, Piece, IsPrefix, is_item, is_short_it
 use Rattle.py_lines.specs.Balance.{is_opening, is_closing, is_opener, IsBalanced, IsShallow, depth_through}
 use Rattle.py_lines.specs.LogicalLine.{LogicalLine, lines_of, byte_len, line_ends}
 use Rattle.py_lines.specs.declared.fault.FaultKind.{FaultKind}
-use Rattle.py_lines.specs.declared.fault.FaultKind.TheVariants.{BadUtf8, BadChar, OpenString, OpenTriple, WrongClose, OpenBracket, BadJoin, TooDeep, BadImport}
+use Rattle.py_lines.specs.declared.fault.FaultKind.TheVariants.{BadUtf8, BadChar, OpenString, OpenTriple, WrongClose, OpenBracket, BadJoin, TooDeep}
 use Rattle.py_lines.specs.declared.fault.Fault.{Fault}
 
 -- the bytes are the UTF-8 of these characters, and then `tail`, which begins with no character
@@ -122,98 +122,121 @@ pub record DiesAt (characters before : List ℕ) (c : ℕ) : Type 0 where
   pub live : IsLive before
   pub dead : ¬ (IsLive (before ++ c ∷ []))
 
--- F3 at a character: a bare line end in an open short string, which starts at this byte
+-- a bare line end in an open short string, which starts at this byte
 pub record BreaksString (before : List ℕ) (c offset : ℕ) : Type 0 where
   pub start : List ℕ
   pub breaks : is_break c ≡ true
   pub inside : InShortString before start
   pub place : offset ≡ byte_len start
 
--- F7 at a character: a backslash outside strings and comments stands directly before it, at this byte
+-- a character directly after a backslash outside strings and comments, which stands at this byte
 pub record BreaksJoin (before : List ℕ) (offset : ℕ) : Type 0 where
   pub start : List ℕ
   pub behind : BehindBackslash before start
   pub place : offset ≡ byte_len start
 
--- F5 at a character: a closing bracket
+-- a closing bracket
 pub record ClosesWrong (before : List ℕ) (c offset : ℕ) : Type 0 where
   pub closes : is_closing c ≡ true
   pub place : offset ≡ byte_len before
 
--- F8 at a character: an opening bracket at depth 200
+-- an opening bracket at depth 200
 pub record OpensTooDeep (before : List ℕ) (c offset : ℕ) : Type 0 where
   pub opens : is_opening c ≡ true
   pub deep : IsAtDepth before c 200
   pub place : offset ≡ byte_len before
 
--- What fits a character through which the text isn't live, kind by kind; `IsCharacterFault` takes the first.
-abbrev pub FitsCharacter : FaultKind → List ℕ → ℕ → ℕ → Type 0
-FitsCharacter OpenString before c offset = BreaksString before c offset
-FitsCharacter BadJoin before c offset = BreaksJoin before offset
-FitsCharacter WrongClose before c offset = ClosesWrong before c offset
-FitsCharacter TooDeep before c offset = OpensTooDeep before c offset
-FitsCharacter BadChar before c offset = offset ≡ byte_len before
-FitsCharacter BadUtf8 before c offset = ⊥
-FitsCharacter OpenTriple before c offset = ⊥
-FitsCharacter OpenBracket before c offset = ⊥
-FitsCharacter BadImport before c offset = ⊥
+-- why a character is refused
+pub data Cause : Type 0 where
+  breaks_string : Cause
+  breaks_join : Cause
+  closes_wrong : Cause
+  opens_too_deep : Cause
+  begins_nothing : Cause
 
--- the kinds that go before this one where several fit a character: F3, F7, F5, F8, F2
-abbrev pub kinds_before : FaultKind → List FaultKind
-kinds_before BadJoin = OpenString ∷ []
-kinds_before WrongClose = OpenString ∷ BadJoin ∷ []
-kinds_before TooDeep = OpenString ∷ BadJoin ∷ WrongClose ∷ []
-kinds_before BadChar = OpenString ∷ BadJoin ∷ WrongClose ∷ TooDeep ∷ []
-kinds_before OpenString = []
-kinds_before BadUtf8 = []
-kinds_before OpenTriple = []
-kinds_before OpenBracket = []
-kinds_before BadImport = []
+-- the kind of its fault
+abbrev pub kind_of_cause : Cause → FaultKind
+kind_of_cause breaks_string = OpenString
+kind_of_cause breaks_join = BadJoin
+kind_of_cause closes_wrong = WrongClose
+kind_of_cause opens_too_deep = TooDeep
+kind_of_cause begins_nothing = BadChar
 
--- none of these kinds fits the character, at any byte
-abbrev pub NoneFits : List FaultKind → List ℕ → ℕ → Type 0
-NoneFits [] before c = Unit {0}
-NoneFits (kind ∷ kinds) before c = ((offset : ℕ) → ¬ (FitsCharacter kind before c offset)) × NoneFits kinds before c
+-- the cause fits this character after those before it, and its fault stands at this byte
+abbrev pub Explains : Cause → List ℕ → ℕ → ℕ → Type 0
+Explains breaks_string before c offset = BreaksString before c offset
+Explains breaks_join before c offset = BreaksJoin before offset
+Explains closes_wrong before c offset = ClosesWrong before c offset
+Explains opens_too_deep before c offset = OpensTooDeep before c offset
+Explains begins_nothing before c offset = offset ≡ byte_len before
 
--- the fault of a text at the first character through which it isn't live
+-- the causes that go before it where several fit
+abbrev pub causes_before : Cause → List Cause
+causes_before breaks_string = []
+causes_before breaks_join = breaks_string ∷ []
+causes_before closes_wrong = breaks_string ∷ breaks_join ∷ []
+causes_before opens_too_deep = breaks_string ∷ breaks_join ∷ closes_wrong ∷ []
+causes_before begins_nothing = breaks_string ∷ breaks_join ∷ closes_wrong ∷ opens_too_deep ∷ []
+
+-- none of these causes fits the character, at any byte
+abbrev pub NoneExplains : List Cause → List ℕ → ℕ → Type 0
+NoneExplains [] before c = Unit {0}
+NoneExplains (cause ∷ causes) before c = ((offset : ℕ) → ¬ (Explains cause before c offset)) × NoneExplains causes before c
+
+-- the fault of a text at the first character through which it isn't live: the first cause that fits says its kind
 pub record IsCharacterFault (kind : FaultKind) (characters : List ℕ) (offset : ℕ) : Type 0 where
+  pub cause : Cause
   pub before : List ℕ
   pub c : ℕ
+  pub is : kind ≡ kind_of_cause cause
   pub dies : DiesAt characters before c
-  pub fits : FitsCharacter kind before c offset
-  pub first : NoneFits (kinds_before kind) before c
+  pub fits : Explains cause before c offset
+  pub first : NoneExplains (causes_before cause) before c
 
--- what is open at the end of the text, and where it starts: what was opened last decides
-abbrev pub IsOpenAtEnd : FaultKind → List ℕ → List ℕ → Type 0
-IsOpenAtEnd OpenString characters start = InShortString characters start
-IsOpenAtEnd OpenTriple characters start = InLongString characters start
-IsOpenAtEnd BadJoin characters start = BehindBackslash characters start
-IsOpenAtEnd OpenBracket characters start = InBracket characters start
-IsOpenAtEnd BadUtf8 characters start = ⊥
-IsOpenAtEnd BadChar characters start = ⊥
-IsOpenAtEnd WrongClose characters start = ⊥
-IsOpenAtEnd TooDeep characters start = ⊥
-IsOpenAtEnd BadImport characters start = ⊥
+-- what may be open where a text ends
+pub data Unfinished : Type 0 where
+  open_short : Unfinished
+  open_long : Unfinished
+  open_join : Unfinished
+  open_bracket : Unfinished
+
+-- the kind of its fault
+abbrev pub kind_of_unfinished : Unfinished → FaultKind
+kind_of_unfinished open_short = OpenString
+kind_of_unfinished open_long = OpenTriple
+kind_of_unfinished open_join = BadJoin
+kind_of_unfinished open_bracket = OpenBracket
+
+-- it is open where these characters end, and starts after `start`: what was opened last decides
+abbrev pub IsOpenAtEnd : Unfinished → List ℕ → List ℕ → Type 0
+IsOpenAtEnd open_short characters start = InShortString characters start
+IsOpenAtEnd open_long characters start = InLongString characters start
+IsOpenAtEnd open_join characters start = BehindBackslash characters start
+IsOpenAtEnd open_bracket characters start = InBracket characters start
 
 -- the fault of a text that is UTF-8 and live, but has no reading
 pub record IsEndFault (kind : FaultKind) (characters tail : List ℕ) (offset : ℕ) : Type 0 where
+  pub unfinished : Unfinished
   pub start : List ℕ
+  pub is : kind ≡ kind_of_unfinished unfinished
   pub whole : tail ≡ []
   pub live : IsLive characters
-  pub ends_in : IsOpenAtEnd kind characters start
+  pub ends_in : IsOpenAtEnd unfinished characters start
   pub place : offset ≡ byte_len start
 
 -- bytes that begin no character, after a text that is live up to them
-pub record IsUndecodable (characters tail : List ℕ) (offset : ℕ) : Type 0 where
+pub record IsUndecodable (kind : FaultKind) (characters tail : List ℕ) (offset : ℕ) : Type 0 where
+  pub is : kind ≡ BadUtf8
   pub bad : ¬ (tail ≡ [])
   pub live : IsLive characters
   pub place : offset ≡ byte_len characters
 
 -- Where each fault stands. The place is the first character through which the text isn't live, among those
 -- before the first bytes that begin no character; else those bytes; else the text's end.
-abbrev pub IsFaultAt : FaultKind → List ℕ → List ℕ → ℕ → Type 0
-IsFaultAt BadUtf8 characters tail offset = IsUndecodable characters tail offset
-IsFaultAt kind characters tail offset = IsCharacterFault kind characters offset ⊎ IsEndFault kind characters tail offset
+pub data IsFaultAt (kind : FaultKind) (characters tail : List ℕ) (offset : ℕ) : Type 0 where
+  at_character : IsCharacterFault kind characters offset → IsFaultAt kind characters tail offset
+  at_bytes : IsUndecodable kind characters tail offset → IsFaultAt kind characters tail offset
+  at_end : IsEndFault kind characters tail offset → IsFaultAt kind characters tail offset
 
 -- the text is read whole, or has a lexical fault
 abbrev pub IsReadOrFaulty : List ℕ → List ℕ → Type 0

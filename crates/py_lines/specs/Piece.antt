@@ -3,7 +3,7 @@
 use Rattle.std.specs.Prelude.{◌≡◌, ℕ, Bool, true, false, not, ◌==◌, ◌||◌, ◌&&◌, ◌⊎◌, List, [], ◌∷◌, ◌++◌, encode_utf8_all, codes}
 use Rattle.std.specs.Str.{all_scalars}
 use Rattle.std.specs.List.{list_all, list_any}
-use Rattle.py_lines.specs.Character.{is_mark, is_space, is_word_character, is_word_start, is_quote, is_operator, is_line_feed, is_return, is_break, is_hash, is_backslash, is_barred, is_r, is_b_or_f, is_u}
+use Rattle.py_lines.specs.Character.{is_mark, is_space, is_word_character, is_word_start, is_quote, is_operator, is_line_feed, is_return, is_break, is_hash, is_backslash, is_barred, is_r, is_b, is_f, is_u}
 
 -- the classes of pieces
 pub data Class : Type 0 where
@@ -61,8 +61,8 @@ IsJoin text = (slash : ℕ) × (end : List ℕ) × (text ≡ slash ∷ end) × (
 -- whether the word is a string prefix: r, u, b, f, br, rb, fr, rf in either case (2.4.1)
 abbrev pub is_prefix : List ℕ → Bool
 is_prefix [] = false
-is_prefix (a ∷ []) = is_r a || is_b_or_f a || is_u a
-is_prefix (a ∷ b ∷ []) = (is_r a && is_b_or_f b) || (is_b_or_f a && is_r b)
+is_prefix (a ∷ []) = is_r a || is_b a || is_f a || is_u a
+is_prefix (a ∷ b ∷ []) = (is_r a && (is_b b || is_f b)) || ((is_b a || is_f a) && is_r b)
 is_prefix (a ∷ b ∷ c ∷ cs) = false
 
 -- what may stand before the quotes of a string: nothing or a prefix

@@ -1,5 +1,5 @@
 -- What the bytes that are known of a text decide, whatever follows them: its first logical lines, and some faults.
-use Rattle.std.specs.Prelude.{◌≡◌, ℕ, ◌≤◌, false, List, [], ◌++◌, length}
+use Rattle.std.specs.Prelude.{◌≡◌, ℕ, ◌≤◌, ◌⊎◌, false, List, [], ◌++◌, length}
 use Rattle.std.specs.Str.{StartsWithNoChar}
 use Rattle.py_lines.specs.Character.{is_return}
 use Rattle.py_lines.specs.Piece.{Piece, ends, spelled}
@@ -36,8 +36,7 @@ IsHopeless tail = (more : List ℕ) → StartsWithNoChar (tail ++ more)
 
 -- whether a fault stays, whatever follows: it stands at a character, or at bytes that nothing completes
 abbrev pub StaysFaulty : FaultKind → List ℕ → List ℕ → ℕ → Type 0
-StaysFaulty BadUtf8 characters tail offset = IsHopeless tail
-StaysFaulty kind characters tail offset = IsCharacterFault kind characters offset
+StaysFaulty kind characters tail offset = IsCharacterFault kind characters offset ⊎ ((kind ≡ BadUtf8) × IsHopeless tail)
 
 -- these bytes have a lexical fault that every text has which begins with them
 pub record Decides (text : List ℕ) (fault : Fault) : Type 0 where

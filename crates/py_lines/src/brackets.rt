@@ -12,7 +12,7 @@ const DEPTH: usize = 200;
 /// An open bracket, and the byte where it stands.
 #[derive(Clone, Copy)]
 pub struct OpenBracket {
-    pub opener: char,
+    opener: char,
     pub place: usize,
 }
 
@@ -32,7 +32,7 @@ impl OpenBracket {
 /// The open brackets, the innermost last.
 #[derive(Drop)]
 pub struct Brackets {
-    pub open: Vec<OpenBracket>,
+    open: Vec<OpenBracket>,
     pub ghost not_too_deep: { length open.items ≤ 200 },
 }
 

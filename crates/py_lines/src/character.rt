@@ -1,9 +1,8 @@
 //! Which characters the pieces of a text are made of (Python Language Reference, 2.1 to 2.6).
 
 ghost use Rattle.std.specs.Prelude.{◌≡◌};
-ghost use Rattle.py_lines.specs.Character.{is_mark, is_space, is_word_character, is_word_start, is_digit, is_quote, is_operator, is_line_feed, is_return, is_break, is_hash, is_backslash, is_r, is_b_or_f, is_u};
+ghost use Rattle.py_lines.specs.Character.{is_mark, is_space, is_word_character, is_word_start, is_digit, is_quote, is_operator, is_line_feed, is_return, is_break, is_hash, is_backslash, is_r, is_b, is_f, is_u};
 ghost use Rattle.py_lines.specs.Balance.{is_opening, is_closing};
-ghost use Rattle.py_lines.specs.Private.Run.{is_apart};
 
 use crate::run::is_word_byte;
 
@@ -136,13 +135,6 @@ pub fn is_backslash(c: char) -> bool
     c == '\\'
 }
 
-/// What a line end, a comment or a join of lines begins with.
-pub fn is_apart(c: char) -> bool
-    ensures { result ≡ is_apart c }
-{
-    is_break(c) || is_hash(c) || is_backslash(c)
-}
-
 /// `r` in either case, in the prefix of a string.
 #[tactic(auto, unfolding(crate::specs::Character::is_r))]
 pub fn is_r(c: char) -> bool
@@ -151,12 +143,20 @@ pub fn is_r(c: char) -> bool
     matches!(c, 'r' | 'R')
 }
 
-/// `b` and `f` in either case, in the prefix of a string.
-#[tactic(auto, unfolding(crate::specs::Character::is_b_or_f))]
-pub fn is_b_or_f(c: char) -> bool
-    ensures { result ≡ is_b_or_f c }
+/// `b` in either case, in the prefix of a string.
+#[tactic(auto, unfolding(crate::specs::Character::is_b))]
+pub fn is_b(c: char) -> bool
+    ensures { result ≡ is_b c }
 {
-    matches!(c, 'b' | 'B' | 'f' | 'F')
+    matches!(c, 'b' | 'B')
+}
+
+/// `f` in either case, in the prefix of a string.
+#[tactic(auto, unfolding(crate::specs::Character::is_f))]
+pub fn is_f(c: char) -> bool
+    ensures { result ≡ is_f c }
+{
+    matches!(c, 'f' | 'F')
 }
 
 /// `u` in either case, in the prefix of a string.

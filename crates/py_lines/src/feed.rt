@@ -1,8 +1,8 @@
 //! The scanner inside a `Scanner`: the text that it holds, and the scan of the line that this text begins with.
 
-ghost use Rattle.std.specs.Prelude.{◌≡◌, ℕ, ◌+◌, ◌<◌, ◌≤◌, ◌^◌, length};
+ghost use Rattle.std.specs.Prelude.{◌≡◌, ℕ, ◌+◌, ◌-◌, ◌<◌, ◌≤◌, ◌^◌, drop, length};
 ghost use Rattle.std.specs.Str.{StartsWithNoChar};
-ghost use Rattle.py_lines.specs.Private.Feed.{TellsHopeless, IsChunk};
+ghost use Rattle.py_lines.specs.Private.Feed.{TellsHopeless};
 
 use crate::count::line_behind;
 use crate::fault::{Fault, FaultKind, LexError};
@@ -11,6 +11,10 @@ use crate::scan::{Scan, Stop};
 use crate::source::utf8_front;
 use crate::unit::Unit;
 use std::alloc::Global;
+
+/// How many bytes of a piece are scanned at once, if no more are held. With the one that may be held after CR they are
+/// tested for ASCII at once.
+const STEP: usize = 127;
 
 /// Whether no bytes after these, which begin no character, complete them.
 fn is_hopeless(bytes: &[u8]) -> bool
@@ -23,19 +27,27 @@ fn is_hopeless(bytes: &[u8]) -> bool
     }
 }
 
-/// How many bytes of a piece are scanned at once, after those that are held: one after CR, and else those up to the
-/// first LF or CR, with it.
-fn chunk_len(held: &[u8], piece: &[u8]) -> usize
-    requires { 0 < length piece.now }
-    ensures { IsChunk held.now piece.now result }
+/// Drops all bytes except the last.
+fn keep_last(held: &mut Vec<u8>)
+    requires { 0 < length held.old.items }
+    ensures { held.new.items ≡ drop (length held.old.items - 1) held.old.items }
 {
-    if held.last().copied() == Some(b'\r') {
-        return 1;
+    let last = held[held.len() - 1];
+    held.truncate(1);
+    held[0] = last;
+}
+
+/// Drops so many bytes. It is seldom called: most lines are let go with all that is held. After CR one byte is left.
+#[cold]
+fn drop_front(held: &mut Vec<u8>, len: usize)
+    requires { len ≤ length held.old.items }
+    ensures { held.new.items ≡ drop len held.old.items }
+{
+    if held.len() - len == 1 {
+        keep_last(held);
+        return;
     }
-    match memchr::memchr2(b'\n', b'\r', piece) {
-        Some(len) => len + 1,
-        None => piece.len(),
-    }
+    held.drain(..len);
 }
 
 /// The text since the line that was released last, and how far it was scanned.
@@ -61,9 +73,9 @@ impl Feed {
     ghost use Rattle.py_lines.specs.Scanning.View.{ready_of, scanning_of};
     ghost use Rattle.py_lines.specs.UnitLine.{line_in};
     ghost use Rattle.py_lines.specs.Private.Machine.{Bracket};
-    ghost use Rattle.py_lines.specs.Private.Scan.{is_returned, refused_place};
-    ghost use Rattle.py_lines.specs.Private.Source.{first_mode, IsUnfinished};
-    ghost use Rattle.py_lines.specs.Private.Feed.{Restarts, IsOpen, FailsAt, ClosesLine, ScansCharacters, ScansHeld, TakesChunk, IsHeldSo, IsScanned, IsReady, IsSoundFeed, FeedsSo, EndsHeld, EndsText, LetsGo};
+    ghost use Rattle.py_lines.specs.Private.Scan.{is_returned};
+    ghost use Rattle.py_lines.specs.Private.Source.{first_mode};
+    ghost use Rattle.py_lines.specs.Private.Feed.{Restarts, IsOpen, FailsAt, ClosesLine, ScansCharacters, ScansHeld, whole_end, GivesBack, TakesChunk, IsHeldSo, IsScanned, IsReady, IsSoundFeed, FeedsSo, EndsHeld, EndsText, LetsGo};
 
     pub fn new(alloc: Global) -> Feed
         ensures start { scanning_of result ≡ begun_at 0 1 }
@@ -119,10 +131,8 @@ impl Feed {
         requires lines { self.old.line + behind + 1 < 2 ^ 64 }
         ensures { FailsAt self.old kind behind result self.new }
     {
-        let front = match std::str::from_utf8(&self.held[..behind]) {
-            Ok(text) => text,
-            Err(_) => unreachable!(),
-        };
+        // Whole characters end there, as the `requires` says.
+        let front = unsafe { std::str::from_utf8_unchecked(&self.held[..behind]) };
         let fault = Fault {
             kind,
             offset: self.place + behind as u64,
@@ -132,32 +142,9 @@ impl Feed {
         LexError::Fault(fault)
     }
 
-    /// Where the fault of a refused character stands: an open string's and a backslash's where they begin.
-    fn refused_place(&self) -> usize
-        ensures { result ≡ refused_place self.now.scan }
-    {
-        let mode = self.scan.mode;
-        if mode.in_short() || mode.is_behind_slash() {
-            self.scan.start
-        } else {
-            self.scan.stop
-        }
-    }
-
-    /// Where the text may not end: the open string or backslash, or else the innermost bracket.
-    fn unfinished(&self) -> Option<usize>
-        ensures { IsUnfinished self.now.scan result }
-    {
-        if self.scan.mode.is_final() {
-            self.scan.brackets.innermost().map(|bracket| bracket.place)
-        } else {
-            Some(self.scan.start)
-        }
-    }
-
     /// Closes the open piece, and with it the line, which ends in so many bytes of line end.
     fn close(&mut self, end_len: usize) -> Result<(), LexError>
-        requires { self.old.scan.start ≤ self.old.scan.stop }
+        requires { self.old.scan.piece.start ≤ self.old.scan.stop }
         ensures { ClosesLine self.old end_len result self.new }
     {
         match self.scan.close() {
@@ -228,16 +215,42 @@ impl Feed {
             }
             Stop::TextEnd => self.scan_part(),
             Stop::Refused(c) => {
-                let behind = self.refused_place();
-                Err(self.fail(self.scan.mode.character_kind(c), behind))
+                let flaw = self.scan.refusal(c);
+                Err(self.fail(flaw.kind, flaw.place))
             }
         }
     }
 
-    /// Takes these bytes. If there is no memory for them, none is taken.
-    fn take(&mut self, chunk: &[u8]) -> Result<(), LexError>
+    /// Where what is held of a line that is ready ends: after CR one byte shows that the line is whole.
+    fn whole_end(&self) -> usize
+        requires { self.now.scan.stop + 1 < 2 ^ 64 }
+        ensures { result ≡ whole_end self.now.scan }
+    {
+        if self.scan.count.after_return {
+            self.scan.stop + 1
+        } else {
+            self.scan.stop
+        }
+    }
+
+    /// Where a line is ready, lets go what was taken after it. More than `before` bytes stay held.
+    fn give_back(&mut self, before: usize)
+        requires scanned { IsScanned self.old.ready self.old }
+        requires more { before < length self.old.held.items }
+        requires fits { length self.old.held.items ≤ 2 ^ 62 }
+        ensures { GivesBack self.old before self.new }
+    {
+        if self.ready.is_some() {
+            let end = self.whole_end().max(before + 1);
+            self.held.truncate(end);
+        }
+    }
+
+    /// Takes bytes of these, up to a line's end: how many. If there is no memory for them, none is taken.
+    fn take(&mut self, chunk: &[u8]) -> Result<usize, LexError>
         requires opens { (read : List ℕ) × (rest : List ℕ) × IsOpen self.old read rest }
         requires not_ready { self.old.ready ≡ None }
+        requires some { 0 < length chunk.now }
         requires fits { self.old.place + length self.old.held.items + length chunk.now ≤ 2 ^ 62 }
         requires few_lines { self.old.line ≤ self.old.place + 1 }
         ensures { TakesChunk self.old chunk.now result self.new }
@@ -245,7 +258,10 @@ impl Feed {
         let before = self.held.len();
         self.held.extend_from_slice(chunk)?;
         match self.scan_held() {
-            Ok(()) => Ok(()),
+            Ok(()) => {
+                self.give_back(before);
+                Ok(self.held.len() - before)
+            }
             Err(LexError::Fault(fault)) => Err(LexError::Fault(fault)),
             Err(LexError::Memory) => {
                 self.held.truncate(before);
@@ -272,9 +288,9 @@ impl Feed {
         let mut taken = 0;
         while taken < piece.len() && self.ready.is_none() {
             let rest = &piece[taken..];
-            let len = chunk_len(&self.held, rest);
+            let len = rest.len().min(self.held.len().max(STEP));
             match self.take(&rest[..len]) {
-                Ok(()) => taken += len,
+                Ok(more) => taken += more,
                 Err(LexError::Fault(fault)) => return Err(LexError::Fault(fault)),
                 Err(LexError::Memory) if taken == 0 => return Err(LexError::Memory),
                 Err(LexError::Memory) => return Ok(taken),
@@ -293,7 +309,11 @@ impl Feed {
         self.place += stop as u64;
         self.line = self.scan.count.line;
         self.ready = None;
-        self.held.drain(..stop);
+        if stop == self.held.len() {
+            self.held.clear();
+        } else {
+            drop_front(&mut self.held, stop);
+        }
         self.restart();
     }
 
@@ -313,8 +333,8 @@ impl Feed {
         if self.scan.is_returned() {
             return self.close(1);
         }
-        if let Some(behind) = self.unfinished() {
-            return Err(self.fail(self.scan.mode.end_kind(), behind));
+        if let Some(flaw) = self.scan.unfinished() {
+            return Err(self.fail(flaw.kind, flaw.place));
         }
         self.close(0)
     }
@@ -357,17 +377,16 @@ impl Feed {
         ensures some_text { (u : Unit) → result ≡ Some u → 0 < length u.text.now }
     {
         let end_len = self.ready?;
-        match std::str::from_utf8(&self.held[..self.scan.stop]) {
-            Ok(text) => Some(Unit {
-                kind: self.scan.kind,
-                text,
-                tokens: self.scan.tokens.as_slice(),
-                offset: self.place,
-                line: self.scan.line,
-                indent: self.scan.indent,
-                end_len,
-            }),
-            Err(_) => unreachable!(),
-        }
+        // The scan read it as characters.
+        let text = unsafe { std::str::from_utf8_unchecked(&self.held[..self.scan.stop]) };
+        Some(Unit {
+            kind: self.scan.kind,
+            text,
+            tokens: self.scan.tokens.as_slice(),
+            offset: self.place,
+            line: self.scan.line,
+            indent: self.scan.indent,
+            end_len,
+        })
     }
 }

@@ -18,7 +18,6 @@ pub fn one_reading()
 {}
 
 /// A text is read or has a lexical fault, and its fault is one: of one kind, at one byte.
-#[tactic(auto, using(crate::proofs::Faults::Uniqueness::one_fault_of))]
 pub fn one_fault()
     ensures some { (characters tail : List ℕ) → IsReadOrFaulty characters tail }
     ensures one { (characters tail : List ℕ) (kind other : FaultKind) (offset place : ℕ) → IsFaultAt kind characters tail offset → IsFaultAt other characters tail place → (kind ≡ other) × (offset ≡ place) }
@@ -40,12 +39,13 @@ pub fn given_lines_begin_the_text()
     ensures begin { (reader : Reader) (lines : List LogicalLine) → HasGiven reader lines → BeginsLexing reader.text lines }
 {}
 
-/// What the known bytes of a text settle stays, whatever follows them. They settle one list of lines, which begins the
-/// lexing of each text that begins with them. More bytes settle no fewer lines. The first lines of a text, up to some
+/// What the known bytes of a text settle stays, whatever follows them. Any bytes settle one list of lines, which begins
+/// the lexing of each text that begins with them. More bytes settle no fewer lines. The first lines of a text, up to some
 /// byte, begin with those that the bytes before it settle. A fault that the known bytes decide is that of each text that
 /// begins with them, after the same lines.
 #[tactic(auto, using(crate::proofs::Lexings::SettledLines::settled_begin, crate::proofs::Lexings::DecidedFaults::decided_lexing))]
 pub fn settled_is_final()
+    ensures some { (text : List ℕ) → (lines : List LogicalLine) × IsSettled text lines }
     ensures one { (text : List ℕ) (lines others : List LogicalLine) → IsSettled text lines → IsSettled text others → lines ≡ others }
     ensures lines { (text more : List ℕ) (lines : List LogicalLine) → IsSettled text lines → BeginsLexing (text ++ more) lines }
     ensures grow { (text more : List ℕ) (lines others : List LogicalLine) → IsSettled text lines → IsSettled (text ++ more) others → (rest : List LogicalLine) × (others ≡ lines ++ rest) }

@@ -1,16 +1,14 @@
 //! The machine that reads a text one character at a time.
 
 ghost use Rattle.std.specs.Prelude.{◌≡◌, ◌<◌, ◌==◌, ◌||◌, ◌&&◌, length};
-ghost use Rattle.py_lines.specs.Private.Machine.{first_spelling, spelling_with, is_prefix_spelling, token_of, is_final, short_move, long_move, move_of, start_of, in_short, in_long, is_behind_slash, character_kind, end_kind};
+ghost use Rattle.py_lines.specs.Private.Machine.{first_spelling, spelling_with, is_prefix_spelling, token_of, short_move, long_move, move_of, start_of, in_short, in_long, is_behind_slash};
 ghost use Rattle.py_lines.specs.Private.Run.{word_spelling, is_free};
 ghost use Rattle.py_lines.specs.Private.Scan.{is_join_mode, is_return_mode, holds_nothing};
 
 use crate::character::{
-    is_b_or_f, is_backslash, is_break, is_closing, is_digit, is_hash, is_line_feed, is_mark,
-    is_opening, is_operator, is_quote, is_r, is_return, is_space, is_u, is_word_character,
-    is_word_start,
+    is_b, is_backslash, is_break, is_digit, is_f, is_hash, is_line_feed, is_mark, is_operator,
+    is_quote, is_r, is_return, is_space, is_u, is_word_character, is_word_start,
 };
-use crate::fault::FaultKind;
 use crate::token::TokKind;
 
 /// Whether a word may be the prefix of a string, as far as it goes.
@@ -20,8 +18,12 @@ pub enum Spelling {
     Number,
     /// `r`: a prefix, and with `b` or `f` after it one of two letters.
     R,
-    /// `b` or `f`: a prefix, and with `r` after it one of two letters.
-    BOrF,
+    /// `b`: a prefix, and with `r` after it one of two letters.
+    B,
+    /// `f`: a prefix, and with `r` after it one of two letters.
+    F,
+    /// `f` and `r`, in either order: a prefix.
+    Fr,
     /// Any other prefix.
     Prefix,
     /// No prefix.
@@ -92,8 +94,10 @@ impl Spelling {
             Spelling::Number
         } else if is_r(c) {
             Spelling::R
-        } else if is_b_or_f(c) {
-            Spelling::BOrF
+        } else if is_b(c) {
+            Spelling::B
+        } else if is_f(c) {
+            Spelling::F
         } else if is_u(c) {
             Spelling::Prefix
         } else {
@@ -108,8 +112,10 @@ impl Spelling {
     {
         match self {
             Spelling::Number => Spelling::Number,
-            Spelling::R if is_b_or_f(c) => Spelling::Prefix,
-            Spelling::BOrF if is_r(c) => Spelling::Prefix,
+            Spelling::R if is_b(c) => Spelling::Prefix,
+            Spelling::R if is_f(c) => Spelling::Fr,
+            Spelling::B if is_r(c) => Spelling::Prefix,
+            Spelling::F if is_r(c) => Spelling::Fr,
             _ => Spelling::Name,
         }
     }
@@ -171,7 +177,15 @@ impl Mode {
             Mode::Word(Spelling::Number) => Some(TokKind::Number),
             Mode::Word(_) => Some(TokKind::Name),
             Mode::Comment => Some(TokKind::Remark),
-            _ => Some(TokKind::Str),
+            Mode::Opened(_)
+            | Mode::Inside(_)
+            | Mode::Escape(_)
+            | Mode::EscapeReturn(_)
+            | Mode::Empty(_)
+            | Mode::Long(_)
+            | Mode::LongOne(_)
+            | Mode::LongTwo(_)
+            | Mode::LongEscape(_) => Some(TokKind::Str),
         }
     }
 
@@ -228,45 +242,6 @@ impl Mode {
         ensures { result ≡ is_behind_slash self }
     {
         matches!(self, Mode::Backslash)
-    }
-
-    /// Whether the open piece may end where the text does: not an open string, nor a backslash alone.
-    pub fn is_final(self) -> bool
-        ensures { result ≡ is_final self }
-    {
-        !self.in_short() && !self.in_long() && !self.is_behind_slash()
-    }
-
-    /// The fault of a character that is refused here.
-    pub fn character_kind(self, c: char) -> FaultKind
-        ensures { result ≡ character_kind self c }
-    {
-        if self.in_short() {
-            FaultKind::OpenString
-        } else if self.is_behind_slash() {
-            FaultKind::BadJoin
-        } else if is_closing(c) {
-            FaultKind::WrongClose
-        } else if is_opening(c) {
-            FaultKind::TooDeep
-        } else {
-            FaultKind::BadChar
-        }
-    }
-
-    /// The fault of a text that may not end here.
-    pub fn end_kind(self) -> FaultKind
-        ensures { result ≡ end_kind self }
-    {
-        if self.in_short() {
-            FaultKind::OpenString
-        } else if self.in_long() {
-            FaultKind::OpenTriple
-        } else if self.is_behind_slash() {
-            FaultKind::BadJoin
-        } else {
-            FaultKind::OpenBracket
-        }
     }
 
     /// What the next character does to the open piece.

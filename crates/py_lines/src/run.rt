@@ -7,6 +7,10 @@ ghost use Rattle.py_lines.specs.Private.Run.{BeginsSo, IsRunOf, Marks, is_betwee
 
 use crate::character::is_break;
 use crate::mode::{Mode, Spelling};
+use crate::run::FirstByte::{
+    Apart as A, Bracket as B, Hash as H, LineFeed as L, Operator as O, Other as X, Quote as Q,
+    Space as S, Word as W,
+};
 use std::simd::prelude::*;
 
 /// Whether the byte is an ASCII letter, a digit or the underscore.
@@ -19,7 +23,7 @@ pub fn is_word_byte(b: u8) -> bool
 
 /// Whether the byte is a space, a tab or a form feed.
 #[tactic(auto, unfolding(crate::specs::Character::is_space))]
-pub fn is_space_byte(b: u8) -> bool
+fn is_space_byte(b: u8) -> bool
     ensures { result ≡ is_space b }
 {
     matches!(b, b' ' | b'\t' | b'\x0c')
@@ -39,28 +43,37 @@ fn is_body_byte(quote: char, b: u8) -> bool
 pub enum FirstByte {
     Word,
     Space,
+    /// An operator that is no bracket.
     Operator,
+    Bracket,
     Quote,
+    LineFeed,
+    Hash,
+    /// CR or a backslash.
+    Apart,
     Other,
 }
 
 impl FirstByte {
     #[inline(always)]
-    #[tactic(auto, unfolding(crate::specs::Private::Run::is_word_byte, crate::specs::Character::is_space, crate::specs::Character::is_operator, crate::specs::Character::is_quote))]
     pub fn of(b: u8) -> FirstByte
         ensures { BeginsSo result b }
     {
-        match b {
-            b'a'..=b'z' | b'A'..=b'Z' | b'0'..=b'9' | b'_' => FirstByte::Word,
-            b' ' | b'\t' | b'\x0c' => FirstByte::Space,
-            b'+' | b'-' | b'*' | b'/' | b'%' | b'@' | b'&' | b'|' => FirstByte::Operator,
-            b'^' | b'~' | b'<' | b'>' | b'=' | b'!' | b'(' | b')' => FirstByte::Operator,
-            b'[' | b']' | b'{' | b'}' | b',' | b':' | b'.' | b';' => FirstByte::Operator,
-            b'\'' | b'"' => FirstByte::Quote,
-            _ => FirstByte::Other,
-        }
+        FIRST_BYTES[b as usize]
     }
 }
+
+/// What each byte begins.
+static FIRST_BYTES: [FirstByte; 256] = [
+    X, X, X, X, X, X, X, X, X, S, L, X, S, A, X, X, X, X, X, X, X, X, X, X, X, X, X, X, X, X, X, X,
+    S, O, Q, H, X, O, O, Q, B, B, O, O, O, O, O, O, W, W, W, W, W, W, W, W, W, W, O, O, O, O, O, X,
+    O, W, W, W, W, W, W, W, W, W, W, W, W, W, W, W, W, W, W, W, W, W, W, W, W, W, W, B, A, B, O, W,
+    X, W, W, W, W, W, W, W, W, W, W, W, W, W, W, W, W, W, W, W, W, W, W, W, W, W, W, B, O, B, O, X,
+    X, X, X, X, X, X, X, X, X, X, X, X, X, X, X, X, X, X, X, X, X, X, X, X, X, X, X, X, X, X, X, X,
+    X, X, X, X, X, X, X, X, X, X, X, X, X, X, X, X, X, X, X, X, X, X, X, X, X, X, X, X, X, X, X, X,
+    X, X, X, X, X, X, X, X, X, X, X, X, X, X, X, X, X, X, X, X, X, X, X, X, X, X, X, X, X, X, X, X,
+    X, X, X, X, X, X, X, X, X, X, X, X, X, X, X, X, X, X, X, X, X, X, X, X, X, X, X, X, X, X, X, X,
+];
 
 /// Whether the byte is ASCII, and neither closes a string of this quote nor escapes in it, and ends no line.
 fn is_text_byte(quote: char, b: u8) -> bool
@@ -160,6 +173,16 @@ fn short_word_run(bytes: &[u8]) -> usize
     len
 }
 
+/// The same, where it mostly begins with none: after a character of another script.
+fn later_word_run(bytes: &[u8]) -> usize
+    ensures { IsRunOf is_word_byte bytes.now result }
+{
+    if bytes.is_empty() || !is_word_byte(bytes[0]) {
+        return 0;
+    }
+    word_run(bytes)
+}
+
 /// How many bytes of space a text begins with.
 pub fn space_run(bytes: &[u8]) -> usize
     ensures { IsRunOf is_space bytes.now result }
@@ -172,7 +195,7 @@ pub fn space_run(bytes: &[u8]) -> usize
 }
 
 /// How many bytes a text begins with that end no line.
-fn comment_run(bytes: &[u8]) -> usize
+pub fn comment_run(bytes: &[u8]) -> usize
     ensures { IsRunOf is_comment_byte bytes.now result }
 {
     if !bytes.is_empty() && is_break(bytes[0] as char) {
@@ -254,7 +277,7 @@ pub fn run_in(mode: Mode, bytes: &[u8]) -> usize
 {
     match mode {
         Mode::Space => space_run(bytes),
-        Mode::Word(Spelling::Number | Spelling::Name) => word_run(bytes),
+        Mode::Word(Spelling::Number | Spelling::Name) => later_word_run(bytes),
         Mode::Comment => comment_run(bytes),
         Mode::Inside(quote) | Mode::Long(quote) => body_run(quote, bytes),
         _ => 0,

@@ -1,20 +1,22 @@
 //! The scan of one logical line: the machine, and what it has found.
 
-ghost use Rattle.std.specs.Prelude.{◌≡◌, ℕ, ◌+◌, ◌<◌, ◌≤◌, ◌^◌, ◌&&◌, not, true, false, Ok, Some, None, List, [], length, OnOk, IfOk, IsUtf8};
+ghost use Rattle.std.specs.Prelude.{◌≡◌, ℕ, ◌+◌, ◌<◌, ◌≤◌, ◌^◌, ◌&&◌, not, true, false, Ok, Some, None, List, [], length, OnOk, IfOk, IfSome, IsUtf8};
 ghost use Rattle.std.specs.Char.{len_utf8};
-ghost use Rattle.py_lines.specs.Character.{is_line_feed, is_operator, is_quote, is_space};
+ghost use Rattle.py_lines.specs.Character.{is_hash, is_line_feed, is_operator, is_quote, is_space};
 ghost use Rattle.py_lines.specs.Piece.{begins};
-ghost use Rattle.py_lines.specs.Private.Machine.{Scanned, IsSound, start_of};
-ghost use Rattle.py_lines.specs.Private.Scan.{Emits, Closes, ReadsCharacter, Begins, Tallies, IsStacked, Takes, Scans, ScansIn, EndsNoLine, line_start, is_returned, is_return_mode, none_open, stack_of, line_end_progress, ClosesAndAdds};
-ghost use Rattle.py_lines.specs.Private.Run.{is_free, Holds, HasAsciiQuote, opened, AddsToken, TakesRun, TakesText, TakesPiece, word_mode, space_mode, Reached, ReachedShut, is_word_byte, follows, may_begin};
+ghost use Rattle.py_lines.specs.Private.Machine.{Scanned, IsSound, start_of, character_kind};
+ghost use Rattle.py_lines.specs.Private.Scan.{Emits, Closes, ReadsCharacter, Begins, Tallies, IsStacked, Takes, Scans, ScansIn, EndsNoLine, line_start, is_returned, is_return_mode, none_open, stack_of, line_end_progress, ClosesAndAdds, refused_place, IsUnfinished};
+ghost use Rattle.py_lines.specs.Private.Run.{is_free, Holds, HasAsciiQuote, opened, AddsToken, TakesRun, TakesText, TakesBracket, TakesLineFeed, TakesPiece, TakesRemark, word_mode, space_mode, Reached, ReachedShut, is_word_byte, follows, may_begin};
 ghost use Rattle.py_lines.specs.declared.token.TokKind.TheVariants.{Op};
 ghost use Rattle.py_lines.specs.declared.mode.Mode.{Mode};
+ghost use Rattle.py_lines.specs.declared.scan.Stop.TheVariants.{LineEnd};
 
 use crate::brackets::Brackets;
-use crate::character::{is_apart, is_line_feed, is_operator, is_quote};
+use crate::character::{is_closing, is_line_feed, is_opening, is_quote};
 use crate::count::Count;
+use crate::fault::FaultKind;
 use crate::mode::{Mode, Move, Spelling, Start};
-use crate::run::{FirstByte, is_space_byte, is_word_byte, run_in, space_run, text_run, word_run};
+use crate::run::{FirstByte, comment_run, run_in, space_run, text_run, word_run};
 use crate::token::{TokKind, Token};
 use crate::unit::UnitKind;
 use std::alloc::{AllocError, Global};
@@ -36,14 +38,37 @@ pub enum Stop {
     Refused(char),
 }
 
+/// What is wrong in a line, and at which byte from the line's start.
+#[derive(Clone, Copy)]
+pub struct Flaw {
+    pub kind: FaultKind,
+    pub place: usize,
+}
+
+/// The piece that is open, where it begins, and on which line. A place is a byte from the line's start.
+#[derive(Clone, Copy)]
+pub struct OpenPiece {
+    pub mode: Mode,
+    pub start: usize,
+    pub line: u64,
+}
+
+/// What was taken after closed pieces.
+#[derive(Clone, Copy)]
+enum Taken {
+    /// So many bytes, which don't end the line.
+    Bytes(usize),
+    /// The LF that ends the line.
+    LineEnd,
+    Nothing,
+}
+
 /// What is known of the line so far. Places are bytes from the line's start.
 #[derive(Drop)]
 pub struct Scan {
-    /// The piece that is open, where it begins and stops, and on which line it begins.
-    pub mode: Mode,
-    pub start: usize,
+    /// The piece that is open, and where it stops.
+    pub piece: OpenPiece,
     pub stop: usize,
-    pub piece_line: u64,
     /// The line on which the scan began, from 1, and the one that it has reached.
     pub line: u64,
     pub count: Count,
@@ -63,10 +88,12 @@ impl Scan {
         ensures line { result.line ≡ 1 }
     {
         Scan {
-            mode: Mode::Start,
-            start: 0,
+            piece: OpenPiece {
+                mode: Mode::Start,
+                start: 0,
+                line: 1,
+            },
             stop: 0,
-            piece_line: 1,
             line: 1,
             count: Count::from(1),
             margin: true,
@@ -83,10 +110,12 @@ impl Scan {
         ensures stacked { IsStacked self.new (line_start mode) }
         ensures line { self.new.line ≡ line }
     {
-        self.mode = mode;
-        self.start = 0;
+        self.piece = OpenPiece {
+            mode,
+            start: 0,
+            line,
+        };
         self.stop = 0;
-        self.piece_line = line;
         self.line = line;
         self.count = Count::from(line);
         self.margin = true;
@@ -112,9 +141,9 @@ impl Scan {
     {
         self.tokens.push(Token {
             kind,
-            start: self.start,
+            start: self.piece.start,
             stop: self.stop,
-            line: self.piece_line,
+            line: self.piece.line,
         })?;
         if kind != TokKind::Remark {
             self.kind = UnitKind::Code;
@@ -126,20 +155,22 @@ impl Scan {
 
     /// Ends the open piece where it stops.
     pub fn close(&mut self) -> Result<(), AllocError>
-        requires { self.old.start ≤ self.old.stop }
+        requires { self.old.piece.start ≤ self.old.stop }
         ensures { OnOk result (Closes self.old self.new) }
     {
-        if let Some(kind) = self.mode.token() {
+        if let Some(kind) = self.piece.mode.token() {
             self.emit(kind)?;
-        } else if self.mode.is_join() {
+        } else if self.piece.mode.is_join() {
             self.kind = UnitKind::Code;
-        } else if matches!(self.mode, Mode::Space) && self.margin {
-            self.indent = self.stop - self.start;
+        } else if matches!(self.piece.mode, Mode::Space) && self.margin {
+            self.indent = self.stop - self.piece.start;
         }
-        self.margin = self.margin && self.mode.holds_nothing();
-        self.mode = Mode::Free;
-        self.start = self.stop;
-        self.piece_line = self.count.line;
+        self.margin = self.margin && self.piece.mode.holds_nothing();
+        self.piece = OpenPiece {
+            mode: Mode::Free,
+            start: self.stop,
+            line: self.count.line,
+        };
         Ok(())
     }
 
@@ -156,7 +187,7 @@ impl Scan {
 
     /// Takes an operator, which its brackets have met, after the open piece.
     fn stand(&mut self, c: char) -> Result<(), AllocError>
-        requires order { self.old.start ≤ self.old.stop }
+        requires order { self.old.piece.start ≤ self.old.stop }
         requires bytes { self.old.stop + len_utf8 c < 2 ^ 64 }
         requires lines { self.old.count.line + 1 < 2 ^ 64 }
         requires ascii { c < 128 }
@@ -166,14 +197,14 @@ impl Scan {
         self.read(c);
         self.emit(TokKind::Op(c as u8))?;
         self.margin = false;
-        self.start = self.stop;
-        self.piece_line = self.count.line;
+        self.piece.start = self.stop;
+        self.piece.line = self.count.line;
         Ok(())
     }
 
     /// Takes a line feed after the open piece.
     fn feed(&mut self, c: char) -> Result<(), AllocError>
-        requires order { self.old.start ≤ self.old.stop }
+        requires order { self.old.piece.start ≤ self.old.stop }
         requires bytes { self.old.stop + len_utf8 c < 2 ^ 64 }
         requires lines { self.old.count.line + 1 < 2 ^ 64 }
         ensures { OnOk result (ClosesAndAdds self.old c None self.new) }
@@ -181,14 +212,14 @@ impl Scan {
         self.close()?;
         self.read(c);
         self.margin = false;
-        self.start = self.stop;
-        self.piece_line = self.count.line;
+        self.piece.start = self.stop;
+        self.piece.line = self.count.line;
         Ok(())
     }
 
     /// Takes a character that begins a piece after the open one.
     fn begin(&mut self, c: char) -> Result<Progress, AllocError>
-        requires order { self.old.start ≤ self.old.stop }
+        requires order { self.old.piece.start ≤ self.old.stop }
         requires bytes { self.old.stop + len_utf8 c < 2 ^ 64 }
         requires lines { self.old.count.line + 1 < 2 ^ 64 }
         ensures { OnOk result (Begins self.old c (start_of c) result self.new) }
@@ -197,7 +228,7 @@ impl Scan {
             Start::Open(mode) => {
                 self.close()?;
                 self.read(c);
-                self.mode = mode;
+                self.piece.mode = mode;
                 Ok(Progress::Going)
             }
             Start::Operator => {
@@ -217,19 +248,19 @@ impl Scan {
 
     /// Takes the next character of the line.
     pub fn push(&mut self, c: char) -> Result<Progress, AllocError>
-        requires order { self.old.start ≤ self.old.stop }
+        requires order { self.old.piece.start ≤ self.old.stop }
         requires bytes { self.old.stop + len_utf8 c < 2 ^ 64 }
         requires lines { self.old.count.line + 1 < 2 ^ 64 }
         ensures { (s : Scanned) (read : List ℕ) → IsSound s read → EndsNoLine 0 s.done → is_returned self.old && not (is_line_feed c) ≡ false → Tallies self.old s → IsStacked self.old s → Takes self.old s c result self.new }
     {
-        match self.mode.meet(c) {
+        match self.piece.mode.meet(c) {
             Move::Grows(mode) => {
                 self.read(c);
-                self.mode = mode;
+                self.piece.mode = mode;
                 Ok(Progress::Going)
             }
             Move::Closes => {
-                let returned = self.mode.is_return();
+                let returned = self.piece.mode.is_return();
                 self.read(c);
                 self.close()?;
                 if returned {
@@ -245,13 +276,13 @@ impl Scan {
 
     /// Takes the next character of the line, after closed pieces or in the open one.
     fn take(&mut self, c: char) -> Result<Progress, AllocError>
-        requires order { self.old.start ≤ self.old.stop }
+        requires order { self.old.piece.start ≤ self.old.stop }
         requires bytes { self.old.stop + len_utf8 c < 2 ^ 64 }
         requires lines { self.old.count.line + 1 < 2 ^ 64 }
-        ensures begins { is_free self.old.mode ≡ true → OnOk result (Begins self.old c (start_of c) result self.new) }
-        ensures takes { (s : Scanned) (read : List ℕ) → is_free self.old.mode ≡ false → IsSound s read → EndsNoLine 0 s.done → is_returned self.old && not (is_line_feed c) ≡ false → Tallies self.old s → IsStacked self.old s → Takes self.old s c result self.new }
+        ensures begins { is_free self.old.piece.mode ≡ true → OnOk result (Begins self.old c (start_of c) result self.new) }
+        ensures takes { (s : Scanned) (read : List ℕ) → is_free self.old.piece.mode ≡ false → IsSound s read → EndsNoLine 0 s.done → is_returned self.old && not (is_line_feed c) ≡ false → Tallies self.old s → IsStacked self.old s → Takes self.old s c result self.new }
     {
-        if self.mode.is_free() {
+        if self.piece.mode.is_free() {
             self.begin_free(c)
         } else {
             self.push(c)
@@ -261,7 +292,7 @@ impl Scan {
     /// Takes a character that begins a piece after closed ones.
     #[inline(always)]
     fn begin_free(&mut self, c: char) -> Result<Progress, AllocError>
-        requires free { is_free self.old.mode ≡ true }
+        requires free { is_free self.old.piece.mode ≡ true }
         requires bytes { self.old.stop + len_utf8 c < 2 ^ 64 }
         requires lines { self.old.count.line + 1 < 2 ^ 64 }
         ensures { OnOk result (Begins self.old c (start_of c) result self.new) }
@@ -271,10 +302,10 @@ impl Scan {
         }
         match Start::of(c) {
             Start::Open(mode) => {
-                self.start = self.stop;
-                self.piece_line = self.count.line;
+                self.piece.start = self.stop;
+                self.piece.line = self.count.line;
                 self.read(c);
-                self.mode = mode;
+                self.piece.mode = mode;
                 Ok(Progress::Going)
             }
             Start::Operator => {
@@ -292,7 +323,7 @@ impl Scan {
     /// Takes a line feed after closed pieces.
     #[inline(always)]
     fn feed_free(&mut self, c: char) -> Progress
-        requires free { is_free self.old.mode ≡ true }
+        requires free { is_free self.old.piece.mode ≡ true }
         requires bytes { self.old.stop + len_utf8 c < 2 ^ 64 }
         requires lines { self.old.count.line + 1 < 2 ^ 64 }
         ensures ends { result ≡ line_end_progress (none_open (stack_of self.old.brackets)) 1 }
@@ -300,26 +331,28 @@ impl Scan {
     {
         self.read(c);
         self.margin = false;
-        self.start = self.stop;
-        self.piece_line = self.count.line;
+        self.piece.start = self.stop;
+        self.piece.line = self.count.line;
         self.line_end(1)
     }
 
     /// The line ends with the CR just read.
     #[inline(always)]
     fn end_return(&mut self)
-        requires { is_return_mode self.old.mode ≡ true }
+        requires { is_return_mode self.old.piece.mode ≡ true }
         ensures { Closes self.old self.new }
     {
         self.margin = false;
-        self.mode = Mode::Free;
-        self.start = self.stop;
-        self.piece_line = self.count.line;
+        self.piece = OpenPiece {
+            mode: Mode::Free,
+            start: self.stop,
+            line: self.count.line,
+        };
     }
 
     /// Takes an operator, which its brackets have met, after closed pieces.
     fn operate(&mut self, c: char) -> Result<(), AllocError>
-        requires free { is_free self.old.mode ≡ true }
+        requires free { is_free self.old.piece.mode ≡ true }
         requires bytes { self.old.stop + len_utf8 c < 2 ^ 64 }
         requires ascii { is_operator c ≡ true }
         ensures { OnOk result (ClosesAndAdds self.old c (Some (Op c)) self.new) }
@@ -331,7 +364,7 @@ impl Scan {
     pub fn is_returned(&self) -> bool
         ensures { result ≡ is_returned self.now }
     {
-        self.mode.is_return() && self.brackets.is_empty()
+        self.piece.mode.is_return() && self.brackets.is_empty()
     }
 
     /// Whether the line ended before `c`, with the CR just read.
@@ -341,13 +374,54 @@ impl Scan {
         self.is_returned() && !is_line_feed(c)
     }
 
+    /// What is wrong where `c` is refused. An open short string and a backslash are at fault themselves.
+    pub fn refusal(&self, c: char) -> Flaw
+        ensures kind { result.kind ≡ character_kind self.now.piece.mode c }
+        ensures place { result.place ≡ refused_place self.now }
+    {
+        let (kind, place) = if self.piece.mode.in_short() {
+            (FaultKind::OpenString, self.piece.start)
+        } else if self.piece.mode.is_behind_slash() {
+            (FaultKind::BadJoin, self.piece.start)
+        } else if is_closing(c) {
+            (FaultKind::WrongClose, self.stop)
+        } else if is_opening(c) {
+            (FaultKind::TooDeep, self.stop)
+        } else {
+            (FaultKind::BadChar, self.stop)
+        };
+        Flaw { kind, place }
+    }
+
+    /// What is wrong where the text ends here, if it may not: an open string, a backslash, or else an open bracket.
+    pub fn unfinished(&self) -> Option<Flaw>
+        ensures { IsUnfinished self.now result }
+    {
+        let kind = if self.piece.mode.in_short() {
+            FaultKind::OpenString
+        } else if self.piece.mode.in_long() {
+            FaultKind::OpenTriple
+        } else if self.piece.mode.is_behind_slash() {
+            FaultKind::BadJoin
+        } else {
+            return self.brackets.innermost().map(|bracket| Flaw {
+                kind: FaultKind::OpenBracket,
+                place: bracket.place,
+            });
+        };
+        Some(Flaw {
+            kind,
+            place: self.piece.start,
+        })
+    }
+
     /// Takes the characters that leave the open piece as it is, and answers the text after them.
     fn hold<'s>(&mut self, text: &'s str) -> &'s str
         requires bytes { self.old.stop + length text.now < 2 ^ 64 }
-        requires quote { HasAsciiQuote self.old.mode }
+        requires quote { HasAsciiQuote self.old.piece.mode }
         ensures { Holds self.old text.now result.now self.new }
     {
-        let len = run_in(self.mode, text.as_bytes());
+        let len = run_in(self.piece.mode, text.as_bytes());
         if len > 0 {
             self.stop += len;
             self.count.after_return = false;
@@ -360,10 +434,12 @@ impl Scan {
         requires { self.old.stop + len < 2 ^ 64 }
         ensures { self.new ≡ opened self.old mode len }
     {
-        self.mode = mode;
-        self.start = self.stop;
+        self.piece = OpenPiece {
+            mode,
+            start: self.stop,
+            line: self.count.line,
+        };
         self.stop += len;
-        self.piece_line = self.count.line;
         self.count.after_return = false;
     }
 
@@ -381,10 +457,12 @@ impl Scan {
             stop,
             line,
         })?;
-        self.mode = Mode::Free;
-        self.start = stop;
+        self.piece = OpenPiece {
+            mode: Mode::Free,
+            start: stop,
+            line,
+        };
         self.stop = stop;
-        self.piece_line = line;
         self.count.after_return = false;
         self.margin = false;
         self.kind = UnitKind::Code;
@@ -394,19 +472,20 @@ impl Scan {
     /// Whether a piece that may stand next begins so, other than a string.
     #[inline(always)]
     fn follows(&self, byte: u8) -> bool
-        ensures { result ≡ follows (stack_of self.now.brackets) byte }
+        ensures { result ≡ true → follows (stack_of self.now.brackets) byte ≡ true }
     {
-        let c = byte as char;
-        is_word_byte(byte)
-            || is_space_byte(byte)
-            || is_apart(c)
-            || is_operator(c) && self.brackets.allows(c)
+        match FirstByte::of(byte) {
+            FirstByte::Word | FirstByte::Space | FirstByte::Operator => true,
+            FirstByte::LineFeed | FirstByte::Hash | FirstByte::Apart => true,
+            FirstByte::Bracket => self.brackets.allows(byte as char),
+            FirstByte::Quote | FirstByte::Other => false,
+        }
     }
 
     /// Whether the bytes begin with a piece that may stand next, other than a string.
     #[inline(always)]
     fn is_followed(&self, bytes: &[u8]) -> bool
-        ensures { result ≡ begins (follows (stack_of self.now.brackets)) bytes.now }
+        ensures { result ≡ true → begins (follows (stack_of self.now.brackets)) bytes.now ≡ true }
     {
         match bytes.first().copied() {
             Some(byte) => self.follows(byte),
@@ -417,7 +496,7 @@ impl Scan {
     /// The same, or with a string.
     #[inline(always)]
     fn is_begun(&self, bytes: &[u8]) -> bool
-        ensures { result ≡ begins (may_begin (stack_of self.now.brackets)) bytes.now }
+        ensures { result ≡ true → begins (may_begin (stack_of self.now.brackets)) bytes.now ≡ true }
     {
         match bytes.first().copied() {
             Some(byte) => is_quote(byte as char) || self.follows(byte),
@@ -455,15 +534,14 @@ impl Scan {
                 self.indent = len;
             }
             self.margin = false;
-            self.mode = Mode::Free;
-            self.start = self.stop;
+            self.piece.mode = Mode::Free;
+            self.piece.start = self.stop;
         }
         len
     }
 
-    /// Takes the string that the bytes begin with, after closed pieces, and answers its length: where it is short, ASCII
-    /// and has no escape.
-    fn string(&mut self, bytes: &[u8]) -> Result<Option<usize>, AllocError>
+    /// Takes the string that the bytes begin with, after closed pieces: where it is short, ASCII and has no escape.
+    fn string(&mut self, bytes: &[u8]) -> Result<Taken, AllocError>
         requires bytes { self.old.stop + length bytes.now < 2 ^ 64 }
         requires begins { begins is_quote bytes.now ≡ true }
         ensures { TakesText self.old bytes.now result self.new }
@@ -472,51 +550,101 @@ impl Scan {
         let body = &bytes[1..];
         let len = text_run(quote, body);
         if len == 0 || len == body.len() || body[len] != quote {
-            return Ok(None);
+            return Ok(Taken::Nothing);
         }
         self.add(TokKind::Str, len + 2)?;
-        Ok(Some(len + 2))
+        Ok(Taken::Bytes(len + 2))
     }
 
-    /// Takes the word, the space, the operator or the string that the bytes begin with, after closed pieces, and answers
-    /// its length.
-    fn piece(&mut self, bytes: &[u8]) -> Result<Option<usize>, AllocError>
-        requires { self.old.stop + length bytes.now < 2 ^ 64 }
+    /// Takes the bracket that the bytes begin with, after closed pieces, if it may stand there.
+    fn bracket(&mut self, bytes: &[u8]) -> Result<Taken, AllocError>
+        requires bytes { self.old.stop + length bytes.now < 2 ^ 64 }
+        requires begins { begins is_operator bytes.now ≡ true }
+        ensures { TakesBracket self.old bytes.now result self.new }
+    {
+        let bracket = bytes[0];
+        if !self.brackets.meet(bracket as char, self.stop)? {
+            return Ok(Taken::Nothing);
+        }
+        self.add(TokKind::Op(bracket), 1)?;
+        Ok(Taken::Bytes(1))
+    }
+
+    /// Takes the comment that the bytes begin with, after closed pieces, if a line end follows it.
+    fn comment(&mut self, bytes: &[u8]) -> Result<Taken, AllocError>
+        requires bytes { self.old.stop + length bytes.now < 2 ^ 64 }
+        requires begins { begins is_hash bytes.now ≡ true }
+        ensures { TakesRemark self.old bytes.now result self.new }
+    {
+        let len = comment_run(bytes);
+        if len == bytes.len() {
+            return Ok(Taken::Nothing);
+        }
+        self.open(Mode::Comment, len);
+        self.close()?;
+        Ok(Taken::Bytes(len))
+    }
+
+    /// Takes the LF that the bytes begin with, after closed pieces.
+    #[inline(always)]
+    fn line_feed(&mut self) -> Taken
+        requires free { is_free self.old.piece.mode ≡ true }
+        requires bytes { self.old.stop + 1 < 2 ^ 64 }
+        requires lines { self.old.count.line + 1 < 2 ^ 64 }
+        ensures { TakesLineFeed self.old result self.new }
+    {
+        match self.feed_free('\n') {
+            Progress::LineEnded(_) => Taken::LineEnd,
+            Progress::Going | Progress::Refused => Taken::Bytes(1),
+        }
+    }
+
+    /// Takes the piece that the bytes begin with, after closed pieces: a word, space, an operator, a string, a comment or
+    /// LF.
+    #[inline(always)]
+    fn piece(&mut self, bytes: &[u8]) -> Result<Taken, AllocError>
+        requires free { is_free self.old.piece.mode ≡ true }
+        requires bytes { self.old.stop + length bytes.now < 2 ^ 64 }
+        requires lines { self.old.count.line + length bytes.now < 2 ^ 64 }
         ensures { TakesPiece self.old bytes.now result self.new }
     {
         let Some(first) = bytes.first().copied() else {
-            return Ok(None);
+            return Ok(Taken::Nothing);
         };
         match FirstByte::of(first) {
-            FirstByte::Word => Ok(Some(self.word(bytes)?)),
-            FirstByte::Space => Ok(Some(self.space(bytes))),
+            FirstByte::Word => Ok(Taken::Bytes(self.word(bytes)?)),
+            FirstByte::Space => Ok(Taken::Bytes(self.space(bytes))),
             FirstByte::Operator => {
-                if !self.brackets.meet(first as char, self.stop)? {
-                    return Ok(None);
-                }
                 self.add(TokKind::Op(first), 1)?;
-                Ok(Some(1))
+                Ok(Taken::Bytes(1))
             }
+            FirstByte::Bracket => self.bracket(bytes),
             FirstByte::Quote => self.string(bytes),
-            FirstByte::Other => Ok(None),
+            FirstByte::LineFeed => Ok(self.line_feed()),
+            FirstByte::Hash => self.comment(bytes),
+            FirstByte::Apart | FirstByte::Other => Ok(Taken::Nothing),
         }
     }
 
-    /// Takes words, spaces and operators, as long as they follow one another, and answers the text after them.
+    /// Takes pieces, as long as they follow one another, and answers the text after them, or nothing where the line has
+    /// ended.
     #[inline(always)]
-    fn pieces<'s>(&mut self, text: &'s str) -> Result<&'s str, AllocError>
-        requires { self.old.stop + length text.now < 2 ^ 64 }
-        ensures shorter { IfOk result (λ rest. length rest.now ≤ length text.now) }
-        ensures reached { (m : Mode) (line : ℕ) (whole : List ℕ) → IsUtf8 whole → IsSound (line_start m) [] → Reached m line whole self.old text.now → IfOk result (λ rest. ReachedShut m line whole self.new rest.now) }
+    fn pieces<'s>(&mut self, text: &'s str) -> Result<Option<&'s str>, AllocError>
+        requires bytes { self.old.stop + length text.now < 2 ^ 64 }
+        requires lines { self.old.count.line + length text.now < 2 ^ 64 }
+        ensures shorter { IfOk result (λ left. IfSome left (λ rest. length rest.now ≤ length text.now)) }
+        ensures reached { (m : Mode) (line : ℕ) (whole : List ℕ) → IsUtf8 whole → IsSound (line_start m) [] → Reached m line whole self.old text.now → IfOk result (λ left. IfSome left (λ rest. ReachedShut m line whole self.new rest.now)) }
+        ensures ended { (m : Mode) (line : ℕ) (whole : List ℕ) → IsUtf8 whole → IsSound (line_start m) [] → Reached m line whole self.old text.now → IfOk result (λ left. left ≡ None → ScansIn m line whole self.new (LineEnd 1)) }
     {
         let mut rest = text;
-        'pieces: while self.mode.is_free() {
-            let Some(len) = self.piece(rest.as_bytes())? else {
-                return Ok(rest);
-            };
-            rest = &rest[len..];
+        'pieces: while self.piece.mode.is_free() {
+            match self.piece(rest.as_bytes())? {
+                Taken::Bytes(len) => rest = &rest[len..],
+                Taken::LineEnd => return Ok(None),
+                Taken::Nothing => return Ok(Some(rest)),
+            }
         }
-        Ok(rest)
+        Ok(Some(rest))
     }
 
     /// Takes characters that go on in the line, up to its end, the text's end, or one that is refused. A CR at the text's
@@ -529,7 +657,10 @@ impl Scan {
     {
         let mut rest = text;
         'characters: loop {
-            let mut characters = self.pieces(rest)?.chars();
+            let Some(left) = self.pieces(rest)? else {
+                return Ok(Stop::LineEnd(1));
+            };
+            let mut characters = left.chars();
             let Some(c) = characters.next() else {
                 return Ok(Stop::TextEnd);
             };
@@ -547,11 +678,11 @@ impl Scan {
 
     /// Scans a text that begins a line, up to the line's end, the text's end, or a character that is refused.
     pub fn run(&mut self, text: &str) -> Result<Stop, AllocError>
-        requires start { Tallies self.old (line_start self.old.mode) }
-        requires stacked { IsStacked self.old (line_start self.old.mode) }
-        requires sound { IsSound (line_start self.old.mode) [] }
+        requires start { Tallies self.old (line_start self.old.piece.mode) }
+        requires stacked { IsStacked self.old (line_start self.old.piece.mode) }
+        requires sound { IsSound (line_start self.old.piece.mode) [] }
         requires lines { self.old.line + length text.now + 1 < 2 ^ 64 }
-        ensures stops { IfOk result (Scans self.old.mode text.now self.new) }
+        ensures stops { IfOk result (Scans self.old.piece.mode text.now self.new) }
         ensures line { OnOk result (self.new.line ≡ self.old.line) }
     {
         let stop = self.extend(text)?;

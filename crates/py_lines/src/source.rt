@@ -1,6 +1,6 @@
 //! The reader inside a `Lines`: one logical line at a time, with its tokens or the text's fault.
 
-ghost use Rattle.std.specs.Prelude.{◌≡◌, ℕ, ◌+◌, ◌<◌, ◌≤◌, List, length, take, drop, true, None, Some, Ok, Err, IsUtf8};
+ghost use Rattle.std.specs.Prelude.{◌≡◌, ℕ, ◌+◌, ◌<◌, ◌≤◌, List, length, take, drop, true, None, Some, Ok, Err, IsTrue, IsUtf8};
 ghost use Rattle.std.specs.Str.{IsCharBoundary, StartsWithNoChar};
 ghost use Rattle.py_lines.specs.declared.fault.Fault.{Fault};
 
@@ -11,17 +11,36 @@ use crate::scan::{Scan, Stop};
 use crate::unit::Unit;
 use std::alloc::Global;
 
+/// Up to so many bytes are tested for ASCII at once.
+const SHORT: usize = 64;
+
+/// Whether the bytes are few, and ASCII.
+fn is_short_ascii(bytes: &[u8]) -> bool
+    ensures { IsTrue result → IsUtf8 bytes.now }
+{
+    if bytes.len() <= SHORT {
+        return bytes.is_ascii();
+    }
+    if bytes.len() > 2 * SHORT {
+        return false;
+    }
+    let (front, rest) = bytes.split_at(SHORT);
+    front.is_ascii() && rest.is_ascii()
+}
+
 /// The text that the bytes begin with, up to the first that begin no character.
 pub fn utf8_front(bytes: &[u8]) -> &str
     ensures front { result.now ≡ take (length result.now) bytes.now }
     ensures bad { StartsWithNoChar (drop (length result.now) bytes.now) }
 {
+    if is_short_ascii(bytes) {
+        // ASCII is UTF-8.
+        return unsafe { std::str::from_utf8_unchecked(bytes) };
+    }
     match std::str::from_utf8(bytes) {
         Ok(text) => text,
-        Err(error) => match std::str::from_utf8(&bytes[..error.valid_up_to()]) {
-            Ok(text) => text,
-            Err(_) => unreachable!(),
-        },
+        // Before that byte all is UTF-8.
+        Err(error) => unsafe { std::str::from_utf8_unchecked(&bytes[..error.valid_up_to()]) },
     }
 }
 
@@ -51,8 +70,7 @@ pub struct Source<'t> {
 
 impl<'t> Source<'t> {
     ghost use Rattle.py_lines.specs.Reader.View.{reader_of};
-    ghost use Rattle.py_lines.specs.Private.Source.{line_of_source, PassesLine, KeepsFault, HasScanned, Advances, first_mode, IsUnfinished};
-    ghost use Rattle.py_lines.specs.Private.Scan.{refused_place};
+    ghost use Rattle.py_lines.specs.Private.Source.{line_of_source, PassesLine, KeepsFault, HasScanned, Advances, first_mode};
     ghost use Rattle.py_lines.specs.Reader.{HasGiven, at_start, standing_at};
     ghost use Rattle.py_lines.specs.LogicalLine.{LogicalLine};
     ghost use Rattle.py_lines.specs.Token.{EachLiesIn};
@@ -129,36 +147,13 @@ impl<'t> Source<'t> {
         LexError::Fault(fault)
     }
 
-    /// Where the fault of a refused character stands: an open string's and a backslash's where they begin.
-    fn refused_place(&self) -> usize
-        ensures { result ≡ refused_place self.now.scan }
-    {
-        let mode = self.scan.mode;
-        if mode.in_short() || mode.is_behind_slash() {
-            self.scan.start
-        } else {
-            self.scan.stop
-        }
-    }
-
     /// The fault of a text whose next character is refused.
     fn refuse(&mut self, c: char) -> LexError
         requires { HasScanned self.old (Stop.Refused c) }
         ensures { Advances self.old (Err result) self.new }
     {
-        let behind = self.refused_place();
-        self.fail(self.scan.mode.character_kind(c), behind)
-    }
-
-    /// Where the text may not end: the open string or backslash, or else the innermost bracket.
-    fn unfinished(&self) -> Option<usize>
-        ensures { IsUnfinished self.now.scan result }
-    {
-        if self.scan.mode.is_final() {
-            self.scan.brackets.innermost().map(|bracket| bracket.place)
-        } else {
-            Some(self.scan.start)
-        }
+        let flaw = self.scan.refusal(c);
+        self.fail(flaw.kind, flaw.place)
     }
 
     /// The line that its line end closed.
@@ -177,8 +172,8 @@ impl<'t> Source<'t> {
         if self.characters.len() < self.bytes.len() {
             return Err(self.fail(FaultKind::BadUtf8, self.scan.stop));
         }
-        if let Some(behind) = self.unfinished() {
-            return Err(self.fail(self.scan.mode.end_kind(), behind));
+        if let Some(flaw) = self.scan.unfinished() {
+            return Err(self.fail(flaw.kind, flaw.place));
         }
         self.scan.close()?;
         self.give(0);

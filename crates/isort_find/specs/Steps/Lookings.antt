@@ -3,9 +3,9 @@ use Rattle.std.specs.Prelude.{◌≡◌, ◌+◌, true, Option, None, Some, Resu
 use Rattle.std.specs.List.{list_all}
 use Rattle.py_imports.specs.Bound.{Bound, bound_of}
 use Rattle.py_imports.specs.declared.binding.Binding.{Binding}
-use Rattle.isort_find.specs.Cursor.{Standing}
+use Rattle.isort_find.specs.Cursor.{Standing, has_key, BeginsNew}
 use Rattle.isort_find.specs.Pending.{Looking}
-use Rattle.isort_find.specs.Steps.Standings.{has_key, Admits, standing_after}
+use Rattle.isort_find.specs.Steps.Standings.{Admits, standing_after}
 use Rattle.isort_find.specs.declared.error.FindError.{FindError}
 use Rattle.isort_find.specs.declared.error.FindError.TheVariants as error
 
@@ -36,4 +36,9 @@ pub record TakesNew (s : Standing) (old : Looking) (b : Bound) (t : Standing) (n
 abbrev pub TakesNext : Standing → Looking → Result (Option Binding) FindError → Standing → Looking → Type 0
 TakesNext s old (Ok (Some b)) t new = TakesNew s old (bound_of b) t new
 TakesNext s old (Ok None) t new = Passes s old new × (new.left ≡ []) × (t ≡ s)
-TakesNext s old (Err e) t new = Passes s old new × (t ≡ s) × (e ≡ error.Memory)
+TakesNext s old (Err e) t new = Passes s old new × (t ≡ s) × (e ≡ error.Memory) × (new.left ≡ [] → ⊥)
+
+-- what is passed over of the bindings that are left; without memory not all that are known
+abbrev pub PassesKnown : Standing → Looking → Result (Unit {0}) FindError → Looking → Type 0
+PassesKnown s old (Ok done) new = Passes s old new × BeginsNew s new.left
+PassesKnown s old (Err e) new = Passes s old new × (e ≡ error.Memory)

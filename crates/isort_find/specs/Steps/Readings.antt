@@ -13,6 +13,14 @@ use Rattle.isort_find.specs.declared.step.Step.TheVariants as step
 abbrev pub GivesLine : Reader → (LogicalLine → Type 0) → Reader → Type 0
 GivesLine old P new = (line : LogicalLine) × Continues old line new × P line
 
+-- what a step says of a logical line that was read
+abbrev pub Judges : FindOptions → LogicalLine → Step → Type 0
+Judges options line (step.Bindings bindings) = Binds line (map bound_of bindings.items) × (ends_top options line ≡ false)
+Judges options line step.End = ends_top options line ≡ true
+Judges options line (step.Fault fault) = IsBadAt line fault × (ends_top options line ≡ false)
+Judges options line step.LineLost = Unit {0}
+Judges options line step.NoMemory = ⊥
+
 -- what a step says of the next logical line: none follows where the text ends or has a fault
 abbrev pub StepsTo : FindOptions → Reader → Step → Reader → Type 0
 StepsTo options old (step.Bindings bindings) new = GivesLine old (λ line. Binds line (map bound_of bindings.items) × (ends_top options line ≡ false)) new

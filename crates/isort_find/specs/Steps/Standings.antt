@@ -1,16 +1,8 @@
 -- How a cursor moves.
-use Rattle.std.specs.Prelude.{◌≡◌, ℕ, Bool, false, not, Option, None, Some, List, [], ◌∷◌, ◌++◌, if◌then◌else◌}
-use Rattle.std.specs.List.{list_any}
+use Rattle.std.specs.Prelude.{◌≡◌, ℕ, Bool, not, [], ◌∷◌, ◌++◌, if◌then◌else◌}
 use Rattle.py_imports.specs.Bound.{Bound}
-use Rattle.isort_find.specs.Key.{Key, key_of, key_eq}
-use Rattle.isort_find.specs.Cursor.{Standing, next_count, keys_of}
-use Rattle.isort_find.specs.declared.options.ImportKey.{ImportKey}
+use Rattle.isort_find.specs.Cursor.{Standing, next_count, keys_of, has_key}
 use Rattle.isort_find.specs.declared.pending.Place.{Place}
-
--- whether the key of the binding is among these
-abbrev pub has_key : Option ImportKey → List Key → Bound → Bool
-has_key None keys b = false
-has_key (Some key) keys b = list_any (key_eq (key_of key b)) keys
 
 -- the cursor takes in the key of a new binding
 pub record Admits (old : Standing) (b : Bound) (is_new : Bool) (new : Standing) : Type 0 where

@@ -1,8 +1,9 @@
 -- What the program has bound of a statement.
-use Rattle.std.specs.Prelude.{◌≡◌, ℕ, ◌+◌, Some, List, ◌++◌, map, drop, slice_get}
-use Rattle.py_imports.specs.Grammar.{Imported}
+use Rattle.std.specs.Prelude.{◌≡◌, ℕ, ◌+◌, Bool, false, ◌==◌, ◌||◌, Some, List, [], ◌∷◌, ◌++◌, map, drop, slice_get}
+use Rattle.std.specs.Str.{byte}
+use Rattle.py_imports.specs.Grammar.{begins_import, Imported}
 use Rattle.py_imports.specs.Statement.{significant, Place}
-use Rattle.py_imports.specs.Binds.{BindsAt, IsBadStart}
+use Rattle.py_imports.specs.Binds.{terminal_in, BindsAt, IsBadStart}
 use Rattle.py_imports.specs.Bound.{Bound, bound_at, bound_of}
 use Rattle.py_imports.specs.declared.binding.Binding.{Binding}
 use Rattle.py_imports.specs.declared.bindings.Head.{Head}
@@ -12,6 +13,15 @@ use Rattle.py_lines.specs.LogicalLine.{LogicalLine}
 use Rattle.py_lines.specs.declared.fault.Fault.{Fault}
 use Rattle.py_lines.specs.declared.fault.FaultKind.TheVariants.{BadImport}
 use Rattle.py_lines.specs.declared.token.Token.{Token}
+
+-- whether a word begins as `import` or `from` does
+abbrev pub may_begin_import : List ℕ → Bool
+may_begin_import [] = false
+may_begin_import (b ∷ bs) = b == byte "i" || b == byte "f"
+
+-- whether a token of this text is spelled as the first word of an import statement
+abbrev pub is_first_word : List ℕ → Token → Bool
+is_first_word text t = begins_import (terminal_in text t ∷ [])
 
 -- an import of one of these lists was read, and its bindings put after others
 pub record BindsOne (Are : List Imported → Type 0) (head : Head) (old new : List Binding) : Type 0 where

@@ -7,7 +7,7 @@ use Rattle.py_lines.specs.Character.{is_mark, is_space, is_word_character, is_qu
 use Rattle.py_lines.specs.Piece.{operator, Piece, spelled, AreReadBefore}
 use Rattle.py_lines.specs.Balance.{is_opening, is_closing, is_opener, is_closer}
 use Rattle.py_lines.specs.LogicalLine.{byte_len}
-use Rattle.py_lines.specs.Lexed.{IsBalancedReading, IsLive, InBracket, IsAtDepth, DiesAt, BreaksString, BreaksJoin, ClosesWrong, OpensTooDeep, IsCharacterFault, IsEndFault}
+use Rattle.py_lines.specs.Lexed.{IsBalancedReading, IsLive, InBracket, IsAtDepth, DiesAt, BreaksString, BreaksJoin, ClosesWrong, OpensTooDeep, breaks_string, breaks_join, closes_wrong, opens_too_deep, begins_nothing, IsCharacterFault, open_short, open_long, open_join, open_bracket, IsEndFault}
 use Rattle.py_lines.specs.declared.fault.FaultKind.{FaultKind}
 use Rattle.py_lines.specs.declared.fault.FaultKind.TheVariants as faults
 use Rattle.py_lines.specs.declared.mode.Mode.{Mode}
@@ -160,7 +160,7 @@ opens_deep before s st c runs dead short slash opens = go (opening_how s.mode s.
     go (inl breaks) = ends breaks
     go (inr (n, grows)) = absurd (dead (alive_live before s c runs.run (record { to = scanned s.done n (s.held ++ c ∷ []); is = ap (moved s c) grows; st = st; stack = runs.stack })))
 
--- which kinds don't fit a character
+-- which causes don't fit a character
 no_string : (before : List ℕ) (s : Scanned) (c : ℕ) → run_from (Some text_start) before ≡ Some s → in_short s.mode ≡ false → (offset : ℕ) → ¬ (BreaksString before c offset)
 no_string before s c runs short offset breaks = both_ways _ short (such_mode in_short before breaks.start s (stands_in_short before breaks.start breaks.inside) runs)
 
@@ -192,39 +192,49 @@ character_fault characters before after c s st spell runs dead =
     let P : FaultKind → Type 0 = λ kind. IsCharacterFault kind characters (character_place s before) in
     cond_both (in_short s.mode) _ _ P
     (λ short. record {
+      cause = breaks_string;
       before = before;
       c = c;
+      is = refl;
       dies = dies;
       fits = record { start = spelled s.done; breaks = break_in before s st c runs dead short; inside = in_short_string s before sound short; place = sym (early s before (or_left _ _ short)) };
       first = tt;
     })
     (λ short. cond_both (is_behind_slash s.mode) _ _ P
     (λ slash. record {
+      cause = breaks_join;
       before = before;
       c = c;
+      is = refl;
       dies = dies;
       fits = record { start = spelled s.done; behind = behind_backslash s before sound slash; place = sym (early s before (or_right _ _ slash)) };
       first = (no_string before s c runs.run short, tt);
     })
     (λ slash. cond_both (is_closing c) _ _ P
     (λ closing. record {
+      cause = closes_wrong;
       before = before;
       c = c;
+      is = refl;
       dies = dies;
       fits = record { closes = closing; place = late s before short slash };
       first = (no_string before s c runs.run short, (no_join before s runs.run slash, tt));
     })
     (λ closing. cond_both (is_opening c) _ _ P
     (λ opening. record {
+      cause = opens_too_deep;
       before = before;
       c = c;
+      is = refl;
       dies = dies;
       fits = record { opens = opening; deep = opens_deep before s st c runs dead short slash opening; place = late s before short slash };
       first = (no_string before s c runs.run short, (no_join before s runs.run slash, (no_close before c closing, tt)));
     })
     (λ opening. record {
+      cause = begins_nothing;
       before = before;
       c = c;
+      is = refl;
       dies = dies;
       fits = late s before short slash;
       first = (no_string before s c runs.run short, (no_join before s runs.run slash, (no_close before c closing, (no_deep before c opening, tt))));
@@ -294,7 +304,9 @@ bracket_fault characters tail s (b ∷ bs) whole runs unread may =
     let stack = stack_closed s.mode s.done s.held (b ∷ bs) runs.stack in
     let top = top_of b bs (pieces_at s) characters (stands (pieces_at s) (b ∷ bs) stack).at at_end.spell at_end.fit in
     record {
+      unfinished = open_bracket;
       start = top.start;
+      is = refl;
       whole = whole;
       live = runs_live characters s (b ∷ bs) runs;
       ends_in = top.open_at;
@@ -308,11 +320,11 @@ end_fault characters tail s st whole runs unread =
     let live = runs_live characters s st runs in
     let P : FaultKind → Type 0 = λ kind. IsEndFault kind characters tail (end_place s st) in
     cond_both (in_short s.mode) _ _ P
-    (λ short. record { start = spelled s.done; whole = whole; live = live; ends_in = in_short_string s characters sound short; place = end_place_is s st (short_not_end s.mode short) })
+    (λ short. record { unfinished = open_short; start = spelled s.done; is = refl; whole = whole; live = live; ends_in = in_short_string s characters sound short; place = end_place_is s st (short_not_end s.mode short) })
     (λ short. cond_both (in_long s.mode) _ _ P
-    (λ long. record { start = spelled s.done; whole = whole; live = live; ends_in = in_long_string s characters sound long; place = end_place_is s st (long_not_end s.mode long) })
+    (λ long. record { unfinished = open_long; start = spelled s.done; is = refl; whole = whole; live = live; ends_in = in_long_string s characters sound long; place = end_place_is s st (long_not_end s.mode long) })
     (λ long. cond_both (is_behind_slash s.mode) _ _ P
-    (λ slash. record { start = spelled s.done; whole = whole; live = live; ends_in = behind_backslash s characters sound slash; place = end_place_is s st (slash_not_end s.mode slash) })
+    (λ slash. record { unfinished = open_join; start = spelled s.done; is = refl; whole = whole; live = live; ends_in = behind_backslash s characters sound slash; place = end_place_is s st (slash_not_end s.mode slash) })
     (λ slash. bracket_fault characters tail s st whole runs unread (others_end s.mode short long slash))))
 
 -- the text is read exactly where the machine comes to an end at which it may stop, with no bracket open

@@ -1,11 +1,11 @@
 -- A text has at most one lexical fault: its place is the first that can't be passed, and the mode there says the kind.
-use Rattle.std.proofs.Common.{◌≡◌, ℕ, suc, ◌<◌, Bool, true, false, cond, Some, List, [], ◌∷◌, ◌++◌, length, refl, sym, ap, ◌∙◌, subst, inl, inr, append_assoc, append-nil}
+use Rattle.std.proofs.Common.{◌≡◌, ℕ, suc, ◌<◌, Bool, true, false, cond, Some, List, [], ◌∷◌, ◌++◌, length, refl, sym, ap, ◌∙◌, subst, append_assoc, append-nil}
 use Rattle.std.proofs.lemmas.List.{append_cancel_left}
 use Rattle.std.proofs.lemmas.Bool.{both_ways, false_from_ne_true, or_left, or_right}
 use Rattle.py_lines.specs.Piece.{Piece, spelled}
 use Rattle.py_lines.specs.Balance.{is_opening, is_closing, IsShallow, depth_after}
 use Rattle.py_lines.specs.LogicalLine.{first_or_zero, byte_len}
-use Rattle.py_lines.specs.Lexed.{IsLive, InBracket, BreaksString, BreaksJoin, ClosesWrong, OpensTooDeep, FitsCharacter, NoneFits, kinds_before, IsCharacterFault, IsEndFault, IsUndecodable, IsOpenAtEnd, IsFaultAt}
+use Rattle.py_lines.specs.Lexed.{IsLive, InBracket, BreaksString, BreaksJoin, ClosesWrong, OpensTooDeep, Cause, breaks_string, breaks_join, closes_wrong, opens_too_deep, begins_nothing, kind_of_cause, Explains, causes_before, NoneExplains, IsCharacterFault, Unfinished, open_short, open_long, open_join, open_bracket, kind_of_unfinished, IsOpenAtEnd, IsEndFault, IsFaultAt, at_character, at_bytes, at_end}
 use Rattle.py_lines.specs.declared.fault.FaultKind.{FaultKind}
 use Rattle.py_lines.specs.declared.fault.FaultKind.TheVariants as faults
 use Rattle.py_lines.specs.declared.mode.Mode.{Mode}
@@ -76,31 +76,27 @@ module _ (before : List ℕ) (c : ℕ) (s : Scanned) (st : List Bracket) (runs :
   opening_false : in_short s.mode ≡ false → is_behind_slash s.mode ≡ false → ((offset : ℕ) → ¬ (OpensTooDeep before c offset)) → is_opening c ≡ false
   opening_false short slash none = false_from_ne_true _ (λ opening. none (byte_len before) (record { opens = opening; deep = opens_deep before s st c runs dead short slash opening; place = refl }))
 
-  named : (kind : FaultKind) (offset : ℕ) → FitsCharacter kind before c offset → NoneFits (kinds_before kind) before c → IsNamed kind offset s before c
-  named faults.OpenString offset fits none =
+  named : (cause : Cause) (offset : ℕ) → Explains cause before c offset → NoneExplains (causes_before cause) before c → IsNamed (kind_of_cause cause) offset s before c
+  named breaks_string offset fits none =
       let stands = stands_in_short before fits.start fits.inside in
       let short = such_mode in_short before fits.start s stands runs.run in
       (kind_string s.mode c short, fits.place ∙ ap byte_len (sym (such_start in_short before fits.start s stands runs.run)) ∙ early s before (or_left _ _ short))
-  named faults.BadJoin offset fits none =
+  named breaks_join offset fits none =
       let stands = stands_behind_slash before fits.start fits.behind in
       let slash = such_mode is_behind_slash before fits.start s stands runs.run in
       (kind_join s.mode c (slash_not_short s.mode slash) slash, fits.place ∙ ap byte_len (sym (such_start is_behind_slash before fits.start s stands runs.run)) ∙ early s before (or_right _ _ slash))
-  named faults.WrongClose offset fits none =
+  named closes_wrong offset fits none =
       let short = short_false none.0 in
       let slash = slash_false none.1.0 in
       (kind_close s.mode c short slash fits.closes, fits.place ∙ sym (late s before short slash))
-  named faults.TooDeep offset fits none =
+  named opens_too_deep offset fits none =
       let short = short_false none.0 in
       let slash = slash_false none.1.0 in
       (kind_deep s.mode c short slash (closing_false none.1.1.0) fits.opens, fits.place ∙ sym (late s before short slash))
-  named faults.BadChar offset fits none =
+  named begins_nothing offset fits none =
       let short = short_false none.0 in
       let slash = slash_false none.1.0 in
       (kind_char s.mode c short slash (closing_false none.1.1.0) (opening_false short slash none.1.1.1.0), fits ∙ sym (late s before short slash))
-  named faults.BadUtf8 offset fits none = absurd fits
-  named faults.OpenTriple offset fits none = absurd fits
-  named faults.OpenBracket offset fits none = absurd fits
-  named faults.BadImport offset fits none = absurd fits
 
 -- the first character through which the text isn't live is one place
 same_place : (b d : List ℕ) (x y : ℕ) (more es : List ℕ) → b ++ x ∷ more ≡ d ++ y ∷ es → IsLive b → IsLive d → ¬ (IsLive (b ++ x ∷ [])) → ¬ (IsLive (d ++ y ∷ [])) → (b ≡ d) × (x ≡ y)
@@ -128,10 +124,10 @@ one_character characters kind other offset place first second =
     let same = same_place first.before second.before first.c second.c first.dies.after second.dies.after (first.dies.spell ∙ sym second.dies.spell) first.dies.live second.dies.live first.dies.dead second.dies.dead in
     let one = live_runs first.before first.dies.live in
     let two = live_runs second.before second.dies.live in
-    let here = named first.before first.c one.0 one.1 one.2 first.dies.dead kind offset first.fits first.first in
-    let there = named second.before second.c two.0 two.1 two.2 second.dies.dead other place second.fits second.first in
+    let here = named first.before first.c one.0 one.1 one.2 first.dies.dead first.cause offset first.fits first.first in
+    let there = named second.before second.c two.0 two.1 two.2 second.dies.dead second.cause place second.fits second.first in
     let state : one.0 ≡ two.0 = same_state second.before one.0 two.0 (ap (run_from (Some text_start)) (sym same.0) ∙ one.2.run) two.2.run in (
-      here.0 ∙ ap (λ (s : Scanned). character_kind s.mode first.c) state ∙ ap (character_kind two.0.mode) same.1 ∙ sym there.0,
+      first.is ∙ here.0 ∙ ap (λ (s : Scanned). character_kind s.mode first.c) state ∙ ap (character_kind two.0.mode) same.1 ∙ sym there.0 ∙ sym second.is,
       here.1 ∙ ap (λ (s : Scanned). character_place s first.before) state ∙ ap (character_place two.0) same.0 ∙ sym there.1,
     )
 
@@ -174,20 +170,20 @@ may_begin : (ps : List Piece) → MayBegin ps []
 may_begin [] = refl
 may_begin (p ∷ ps) = tt
 
-end_named : (kind : FaultKind) (characters start : List ℕ) (offset : ℕ) (s : Scanned) (st : List Bracket) → RunsTo characters s st → IsOpenAtEnd kind characters start → offset ≡ byte_len start → (kind ≡ end_kind s.mode) × (offset ≡ end_place s st)
-end_named faults.OpenString characters start offset s st runs is place =
+end_named : (what : Unfinished) (characters start : List ℕ) (offset : ℕ) (s : Scanned) (st : List Bracket) → RunsTo characters s st → IsOpenAtEnd what characters start → offset ≡ byte_len start → (kind_of_unfinished what ≡ end_kind s.mode) × (offset ≡ end_place s st)
+end_named open_short characters start offset s st runs is place =
     let stands = stands_in_short characters start is in
     let short = such_mode in_short characters start s stands runs.run in
     (end_string s.mode short, place ∙ ap byte_len (sym (such_start in_short characters start s stands runs.run)) ∙ sym (end_place_is s st (short_not_end s.mode short)))
-end_named faults.OpenTriple characters start offset s st runs is place =
+end_named open_long characters start offset s st runs is place =
     let stands = stands_in_long characters start is in
     let long = such_mode in_long characters start s stands runs.run in
     (end_triple s.mode (long_not_short s.mode long) long, place ∙ ap byte_len (sym (such_start in_long characters start s stands runs.run)) ∙ sym (end_place_is s st (long_not_end s.mode long)))
-end_named faults.BadJoin characters start offset s st runs is place =
+end_named open_join characters start offset s st runs is place =
     let stands = stands_behind_slash characters start is in
     let slash = such_mode is_behind_slash characters start s stands runs.run in
     (end_join s.mode (slash_not_short s.mode slash) (slash_not_long s.mode slash) slash, place ∙ ap byte_len (sym (such_start is_behind_slash characters start s stands runs.run)) ∙ sym (end_place_is s st (slash_not_end s.mode slash)))
-end_named faults.OpenBracket characters start offset s st runs is place =
+end_named open_bracket characters start offset s st runs is place =
     let all = is.outer ++ is.opener ∷ is.inner in
     let found = reach all [] is.fit in
     let state : found.to ≡ s = same_state characters found.to s (ap (run_from (Some text_start)) (sym is.spell) ∙ found.runs) runs.run in
@@ -195,44 +191,25 @@ end_named faults.OpenBracket characters start offset s st runs is place =
     let stack : brackets_of all ≡ Some st = ap brackets_of (sym found.pieces_are ∙ ap pieces_at state) ∙ stack_closed s.mode s.done s.held st runs.stack in
     let not = ends_not s.mode may in
     (end_bracket s.mode not.0 not.1 not.2, place ∙ sym (top_bracket characters start st is stack) ∙ sym (ap (λ (b : Bool). cond b (top_place st) (byte_len (spelled s.done))) may))
-end_named faults.BadUtf8 characters start offset s st runs is place = absurd is
-end_named faults.BadChar characters start offset s st runs is place = absurd is
-end_named faults.WrongClose characters start offset s st runs is place = absurd is
-end_named faults.TooDeep characters start offset s st runs is place = absurd is
-end_named faults.BadImport characters start offset s st runs is place = absurd is
 
 one_end : (characters tail : List ℕ) (kind other : FaultKind) (offset place : ℕ) → IsEndFault kind characters tail offset → IsEndFault other characters tail place → AreSame kind offset other place
 one_end characters tail kind other offset place first second =
     let run = live_runs characters first.live in
-    let one = end_named kind characters first.start offset run.0 run.1 run.2 first.ends_in first.place in
-    let two = end_named other characters second.start place run.0 run.1 run.2 second.ends_in second.place in
-    (one.0 ∙ sym two.0, one.1 ∙ sym two.1)
-
--- why a text has a fault
-data Cause (kind : FaultKind) (characters tail : List ℕ) (offset : ℕ) : Type 0 where
-  by_character : IsCharacterFault kind characters offset → Cause kind characters tail offset
-  by_end : IsEndFault kind characters tail offset → Cause kind characters tail offset
-  by_bytes : kind ≡ faults.BadUtf8 → IsUndecodable characters tail offset → Cause kind characters tail offset
-
-cause : (kind : FaultKind) (characters tail : List ℕ) (offset : ℕ) → IsFaultAt kind characters tail offset → Cause kind characters tail offset
-cause faults.BadUtf8 characters tail offset fault = Cause.by_bytes refl fault
-cause kind characters tail offset (inl fault) = Cause.by_character fault
-cause kind characters tail offset (inr fault) = Cause.by_end fault
+    let one = end_named first.unfinished characters first.start offset run.0 run.1 run.2 first.ends_in first.place in
+    let two = end_named second.unfinished characters second.start place run.0 run.1 run.2 second.ends_in second.place in
+    (first.is ∙ one.0 ∙ sym two.0 ∙ sym second.is, one.1 ∙ sym two.1)
 
 -- a text that dies at a character isn't live
 pub not_live : (characters : List ℕ) (kind : FaultKind) (offset : ℕ) → IsCharacterFault kind characters offset → IsLive characters → ⊥
 not_live characters kind offset fault live = fault.dies.dead (live_prefix (fault.before ++ fault.c ∷ []) fault.dies.after (subst IsLive (sym fault.dies.spell ∙ sym (append_assoc fault.before (fault.c ∷ []) fault.dies.after)) live))
 
-same_causes : (characters tail : List ℕ) (kind other : FaultKind) (offset place : ℕ) → Cause kind characters tail offset → Cause other characters tail place → AreSame kind offset other place
-same_causes characters tail kind other offset place (Cause.by_character first) (Cause.by_character second) = one_character characters kind other offset place first second
-same_causes characters tail kind other offset place (Cause.by_character first) (Cause.by_end second) = absurd (not_live characters kind offset first second.live)
-same_causes characters tail kind other offset place (Cause.by_character first) (Cause.by_bytes is second) = absurd (not_live characters kind offset first second.live)
-same_causes characters tail kind other offset place (Cause.by_end first) (Cause.by_character second) = absurd (not_live characters other place second first.live)
-same_causes characters tail kind other offset place (Cause.by_end first) (Cause.by_end second) = one_end characters tail kind other offset place first second
-same_causes characters tail kind other offset place (Cause.by_end first) (Cause.by_bytes is second) = absurd (second.bad first.whole)
-same_causes characters tail kind other offset place (Cause.by_bytes is first) (Cause.by_character second) = absurd (not_live characters other place second first.live)
-same_causes characters tail kind other offset place (Cause.by_bytes is first) (Cause.by_end second) = absurd (first.bad second.whole)
-same_causes characters tail kind other offset place (Cause.by_bytes is first) (Cause.by_bytes also second) = (is ∙ sym also, first.place ∙ sym second.place)
-
 pub one_fault_of : (characters tail : List ℕ) (kind other : FaultKind) (offset place : ℕ) → IsFaultAt kind characters tail offset → IsFaultAt other characters tail place → (kind ≡ other) × (offset ≡ place)
-one_fault_of characters tail kind other offset place first second = same_causes characters tail kind other offset place (cause kind characters tail offset first) (cause other characters tail place second)
+one_fault_of characters tail kind other offset place (at_character first) (at_character second) = one_character characters kind other offset place first second
+one_fault_of characters tail kind other offset place (at_character first) (at_end second) = absurd (not_live characters kind offset first second.live)
+one_fault_of characters tail kind other offset place (at_character first) (at_bytes second) = absurd (not_live characters kind offset first second.live)
+one_fault_of characters tail kind other offset place (at_end first) (at_character second) = absurd (not_live characters other place second first.live)
+one_fault_of characters tail kind other offset place (at_end first) (at_end second) = one_end characters tail kind other offset place first second
+one_fault_of characters tail kind other offset place (at_end first) (at_bytes second) = absurd (second.bad first.whole)
+one_fault_of characters tail kind other offset place (at_bytes first) (at_character second) = absurd (not_live characters other place second first.live)
+one_fault_of characters tail kind other offset place (at_bytes first) (at_end second) = absurd (first.bad second.whole)
+one_fault_of characters tail kind other offset place (at_bytes first) (at_bytes second) = (first.is ∙ sym second.is, first.place ∙ sym second.place)

@@ -2,7 +2,7 @@
 use Rattle.std.proofs.Common.{◌≡◌, ℕ, cond, Option, None, Some, List, [], ◌∷◌, ◌++◌, refl, sym, ap, ◌∙◌, subst, inl, inr, append_assoc, append-nil, ◌⊎◌}
 use Rattle.std.proofs.lemmas.Bool.{cond_both}
 use Rattle.py_lines.specs.Piece.{Piece}
-use Rattle.py_lines.specs.Lexed.{IsBalancedReading, IsLive, IsCharacterFault, IsEndFault, IsFaultAt, IsReadOrFaulty}
+use Rattle.py_lines.specs.Lexed.{IsBalancedReading, IsLive, IsCharacterFault, IsEndFault, at_character, at_bytes, at_end, IsReadOrFaulty}
 use Rattle.py_lines.specs.declared.fault.FaultKind.{FaultKind}
 use Rattle.py_lines.specs.declared.fault.FaultKind.TheVariants as faults
 use Rattle.py_lines.specs.LogicalLine.{byte_len}
@@ -17,15 +17,15 @@ pub record Found : Type 0 where
   pub kind : FaultKind
   pub place : ℕ
 
-abbrev pub at_character : Scanned → List ℕ → ℕ → Option Found
-at_character s before c = Some (record { kind = character_kind s.mode c; place = character_place s before })
+abbrev pub found_at : Scanned → List ℕ → ℕ → Option Found
+found_at s before c = Some (record { kind = character_kind s.mode c; place = character_place s before })
 
-abbrev pub at_end_with : Scanned → List Bracket → Option Found
-at_end_with s st = Some (record { kind = end_kind s.mode; place = end_place s st })
+abbrev pub found_open : Scanned → List Bracket → Option Found
+found_open s st = Some (record { kind = end_kind s.mode; place = end_place s st })
 
-abbrev pub at_end : Scanned → List Bracket → Option Found
-at_end s [] = cond (is_final s.mode) None (at_end_with s [])
-at_end s (b ∷ bs) = at_end_with s (b ∷ bs)
+abbrev pub found_at_end : Scanned → List Bracket → Option Found
+found_at_end s [] = cond (is_final s.mode) None (found_open s [])
+found_at_end s (b ∷ bs) = found_open s (b ∷ bs)
 
 -- where the machine comes by a character, if it does
 abbrev pub on_stack : Option (List Bracket) → Option Found → (List Bracket → Option Found) → Option Found
@@ -38,8 +38,8 @@ on_step (Some t) dead go = on_stack (brackets_of t.done) dead (go t)
 
 -- the fault of the rest of a text, where the machine has come so far with it
 abbrev pub fault_from : Scanned → List Bracket → List ℕ → List ℕ → Option Found
-fault_from s st before [] = at_end s st
-fault_from s st before (c ∷ cs) = on_step (step s c) (at_character s before c) (λ t bs. fault_from t bs (before ++ c ∷ []) cs)
+fault_from s st before [] = found_at_end s st
+fault_from s st before (c ∷ cs) = on_step (step s c) (found_at s before c) (λ t bs. fault_from t bs (before ++ c ∷ []) cs)
 
 -- the lexical fault of a text
 abbrev pub fault_of : List ℕ → Option Found
@@ -56,7 +56,7 @@ open_unread characters s b bs runs pieces reading =
     let same : Some (b ∷ bs) ≡ Some [] = sym runs.stack ∙ ap (λ (t : Scanned). brackets_of t.done) (same_state characters s found.to runs.run found.runs) ∙ found.stack in
     cc
 
-end_verdict : (characters : List ℕ) (s : Scanned) (st : List Bracket) → RunsTo characters s st → Verdict characters (at_end s st)
+end_verdict : (characters : List ℕ) (s : Scanned) (st : List Bracket) → RunsTo characters s st → Verdict characters (found_at_end s st)
 end_verdict characters s [] runs =
     cond_both (is_final s.mode) _ _ (Verdict characters)
     (λ may. (pieces_at s, reading_at characters s runs.run may runs.stack))
@@ -68,17 +68,17 @@ verdict_from [] before characters s st spell runs = end_verdict characters s st 
 verdict_from (c ∷ cs) before characters s st spell runs =
     go (step s c) refl (λ t bs next. verdict_from cs (before ++ c ∷ []) characters t bs (append_assoc before (c ∷ []) cs ∙ spell) next)
   where
-    dead : ¬ (IsLive (before ++ c ∷ [])) → Verdict characters (at_character s before c)
+    dead : ¬ (IsLive (before ++ c ∷ [])) → Verdict characters (found_at s before c)
     dead h = inl (character_fault characters before cs c s st spell runs h)
 
     one_on : (t : Scanned) → step s c ≡ Some t → run_from (Some text_start) (before ++ c ∷ []) ≡ Some t
     one_on t is = run_from-append (Some text_start) before (c ∷ []) ∙ ap (λ o. run_from o (c ∷ [])) runs.run ∙ ap (λ o. run_from o []) is
 
-    stacked : (t : Scanned) → step s c ≡ Some t → ((bs : List Bracket) → RunsTo (before ++ c ∷ []) t bs → Verdict characters (fault_from t bs (before ++ c ∷ []) cs)) → (o : Option (List Bracket)) → brackets_of t.done ≡ o → Verdict characters (on_stack o (at_character s before c) (λ bs. fault_from t bs (before ++ c ∷ []) cs))
+    stacked : (t : Scanned) → step s c ≡ Some t → ((bs : List Bracket) → RunsTo (before ++ c ∷ []) t bs → Verdict characters (fault_from t bs (before ++ c ∷ []) cs)) → (o : Option (List Bracket)) → brackets_of t.done ≡ o → Verdict characters (on_stack o (found_at s before c) (λ bs. fault_from t bs (before ++ c ∷ []) cs))
     stacked t is later None none = dead (dead_brackets before s t c runs.run is none)
     stacked t is later (Some bs) some = later bs (record { run = one_on t is; stack = some })
 
-    go : (o : Option Scanned) → step s c ≡ o → ((t : Scanned) (bs : List Bracket) → RunsTo (before ++ c ∷ []) t bs → Verdict characters (fault_from t bs (before ++ c ∷ []) cs)) → Verdict characters (on_step o (at_character s before c) (λ t bs. fault_from t bs (before ++ c ∷ []) cs))
+    go : (o : Option Scanned) → step s c ≡ o → ((t : Scanned) (bs : List Bracket) → RunsTo (before ++ c ∷ []) t bs → Verdict characters (fault_from t bs (before ++ c ∷ []) cs)) → Verdict characters (on_step o (found_at s before c) (λ t bs. fault_from t bs (before ++ c ∷ []) cs))
     go None none later = dead (dead_none before s c runs.run none)
     go (Some t) is later = stacked t is (later t) (brackets_of t.done) refl
 
@@ -86,28 +86,20 @@ verdict_from (c ∷ cs) before characters s st spell runs =
 pub verdict : (cs : List ℕ) → Verdict cs (fault_of cs)
 verdict cs = verdict_from cs [] cs text_start [] refl (record { run = refl; stack = refl })
 
-pub character_at : (kind : FaultKind) (characters tail : List ℕ) (offset : ℕ) → IsCharacterFault kind characters offset → IsFaultAt kind characters tail offset
-character_at faults.BadUtf8 characters tail offset fault = absurd fault.fits
-character_at kind characters tail offset fault = inl fault
-
-pub end_at : (kind : FaultKind) (characters tail : List ℕ) (offset : ℕ) → IsEndFault kind characters tail offset → IsFaultAt kind characters tail offset
-end_at faults.BadUtf8 characters tail offset fault = absurd fault.ends_in
-end_at kind characters tail offset fault = inr fault
-
 -- a text is read, or has a lexical fault
 pub read_or_faulty : (characters tail : List ℕ) → IsReadOrFaulty characters tail
 read_or_faulty characters [] = go (fault_of characters) (verdict characters)
   where
     go : (o : Option Found) → Verdict characters o → IsReadOrFaulty characters []
     go None read = inl (refl, read)
-    go (Some f) (inl fault) = inr (f.kind, f.place, character_at f.kind characters [] f.place fault)
-    go (Some f) (inr fault) = inr (f.kind, f.place, end_at f.kind characters [] f.place fault)
+    go (Some f) (inl fault) = inr (f.kind, f.place, at_character fault)
+    go (Some f) (inr fault) = inr (f.kind, f.place, at_end fault)
 read_or_faulty characters (d ∷ ds) = go (fault_of characters) (verdict characters)
   where
     undecodable : IsLive characters → IsReadOrFaulty characters (d ∷ ds)
-    undecodable live = inr (faults.BadUtf8, byte_len characters, record { bad = λ (h : d ∷ ds ≡ []). cc; live = live; place = refl })
+    undecodable live = inr (faults.BadUtf8, byte_len characters, at_bytes (record { is = refl; bad = λ (h : d ∷ ds ≡ []). cc; live = live; place = refl }))
 
     go : (o : Option Found) → Verdict characters o → IsReadOrFaulty characters (d ∷ ds)
     go None read = undecodable (reading_live read.0 characters read.1)
-    go (Some f) (inl fault) = inr (f.kind, f.place, character_at f.kind characters (d ∷ ds) f.place fault)
+    go (Some f) (inl fault) = inr (f.kind, f.place, at_character fault)
     go (Some f) (inr fault) = undecodable fault.live

@@ -1,15 +1,15 @@
 -- A piece that is taken by chunks.
-use Rattle.std.proofs.Common.{◌≡◌, ℕ, ◌+◌, ◌-◌, ◌<◌, ◌≤◌, false, Option, None, Some, Err, List, [], ◌++◌, length, take, drop, refl, sym, ap, ◌∙◌, subst, inr, append_assoc, append-nil, arith, length-drop}
+use Rattle.std.proofs.Common.{◌≡◌, ℕ, ◌+◌, ◌-◌, ◌<◌, ◌≤◌, false, Option, None, Some, Err, List, [], ◌++◌, length, take, drop, refl, sym, ap, ◌∙◌, subst, inr, append_assoc, append-nil, arith, length-drop, length-take}
 use Rattle.std.specs.Prelude.{is_some}
 use Rattle.std.specs.Global.{Vec}
-use Rattle.std.proofs.lemmas.List.{take_all}
+use Rattle.std.proofs.lemmas.List.{take_all, take-take}
 use Rattle.std.proofs.Math.Seq.{take-add}
 use Rattle.py_lines.specs.declared.feed.Feed.{Feed}
 use Rattle.py_lines.specs.declared.fault.LexError.{LexError}
 use Rattle.py_lines.specs.declared.fault.LexError.TheVariants as lex
 use Rattle.py_lines.specs.Private.Scan.{Tallies, IsStacked, line_start}
 use Rattle.py_lines.specs.Private.Source.{first_mode}
-use Rattle.py_lines.specs.Private.Feed.{Restarts, IsOpen, IsChunk, HoldsMore, IsScanned, IsHeldSo, IsUnchanged, ScansHeld, FailsWith, FailsPiece, IsLastChunk, StopsTaking, TakesSome, FeedsSo}
+use Rattle.py_lines.specs.Private.Feed.{Restarts, IsOpen, EndsAfter, HoldsMore, IsScanned, IsHeldSo, IsUnchanged, ScansHeld, FailsWith, FailsPiece, IsLastChunk, StopsTaking, TakesSome, FeedsSo}
 
 pub none_is : (r : Option ℕ) → is_some r ≡ false → r ≡ None
 none_is None h = refl
@@ -50,6 +50,12 @@ none_taken old new piece lex.Memory ready fault r = (fault, ready, restarts_unch
 pub rest_is : (piece : List ℕ) (taken : ℕ) → take (length piece - taken) (drop taken piece) ≡ drop taken piece
 rest_is piece taken = take_all (length piece - taken) (drop taken piece) (omega (arith, length-drop taken piece))
 
+pub next_bytes : (piece : List ℕ) (taken len more : ℕ) → taken ≤ length piece → more ≤ length (take len (take (length piece - taken) (drop taken piece))) → (take more (take len (take (length piece - taken) (drop taken piece))) ≡ take more (drop taken piece)) × (taken + more ≤ length piece)
+next_bytes piece taken len more within less =
+    let rest = take (length piece - taken) (drop taken piece) in
+    let size : more ≤ len = omega (arith, less, length-take len rest) in
+    (take-take more len rest size ∙ ap (take more) (rest_is piece taken), omega (arith, less, length-take len rest, ap length (rest_is piece taken), length-drop taken piece, within))
+
 pub grows : (old mid new : Feed) (piece chunk : List ℕ) (taken len : ℕ) → HoldsMore old (take taken piece) mid → HoldsMore mid chunk new → chunk ≡ take len (drop taken piece) → HoldsMore old (take (taken + len) piece) new
 grows old mid new piece chunk taken len a b is = record {
   held = b.held ∙ ap (λ l. l ++ chunk) a.held ∙ append_assoc old.held.items (take taken piece) chunk ∙ ap (λ l. old.held.items ++ (take taken piece ++ l)) is ∙ ap (λ l. old.held.items ++ l) (sym (take-add taken len piece));
@@ -58,17 +64,25 @@ grows old mid new piece chunk taken len a b is = record {
   ended = b.ended ∙ a.ended;
 }
 
--- the chunk taken last
-pub last_chunk : (old mid : Feed) (piece held rest : List ℕ) (taken len : ℕ) → HoldsMore old (take taken piece) mid → mid.ready ≡ None → ((taken ≡ 0 → piece ≡ []) → IsScanned mid.ready mid) → held ≡ mid.held.items → rest ≡ drop taken piece → IsChunk held rest len → IsLastChunk old piece (taken + len)
-last_chunk old mid piece held rest taken len more ready scanned held_is rest_is chunk = record {
-  before = taken;
-  len = len;
-  sum = refl;
-  mid = mid;
-  more = more;
-  chunk = subst (λ l. IsChunk mid.held.items l len) rest_is (subst (λ l. IsChunk l rest len) held_is chunk);
-  scanned = λ some. subst (λ r. IsScanned r mid) ready (scanned (λ zero. absurd (omega (arith, some, zero))));
-}
+-- what the scan of all that is held came to
+pub after_scanned : (held : List ℕ) (r : Option ℕ) (new : Feed) → EndsAfter held r new → IsScanned r new
+after_scanned held None new s = s
+after_scanned held (Some n) new (e, last) = e
+
+-- the bytes taken last
+pub last_chunk : (old mid new : Feed) (piece : List ℕ) (taken len end_len : ℕ) → HoldsMore old (take taken piece) mid → mid.ready ≡ None → ((taken ≡ 0 → piece ≡ []) → IsScanned mid.ready mid) → EndsAfter mid.held.items new.ready new → new.ready ≡ Some end_len → IsLastChunk old piece (taken + len) end_len new
+last_chunk old mid new piece taken len end_len more ready scanned stops is =
+    let at : EndsAfter mid.held.items (Some end_len) new = subst (λ r. EndsAfter mid.held.items r new) is stops in
+    record {
+      before = taken;
+      len = len;
+      sum = refl;
+      mid = mid;
+      more = more;
+      ended = at.0;
+      ends = at.1;
+      scanned = λ some. subst (λ r. IsScanned r mid) ready (scanned (λ zero. absurd (omega (arith, some, zero))));
+    }
 
 -- a fault in the chunk that was taken
 pub chunk_fails : (old mid new : Feed) (piece chunk : List ℕ) (taken len : ℕ) (error : LexError) → old.ready ≡ None → taken + len ≤ length piece → HoldsMore old (take taken piece) mid → chunk ≡ take len (drop taken piece) → (w : FailsWith mid chunk error new) → FailsPiece old piece error new
@@ -96,6 +110,6 @@ stops_short old mid new piece taken ready within some more fault mid_ready scann
     }
 
 -- what a scan of all that is held leaves, once bytes were taken
-pub stops_taking : (old new : Feed) (piece : List ℕ) (taken : ℕ) (ready : Option ℕ) → IsScanned ready new → (0 < taken → IsLastChunk old piece taken) → StopsTaking old piece taken ready new
+pub stops_taking : (old new : Feed) (piece : List ℕ) (taken : ℕ) (ready : Option ℕ) → IsScanned ready new → ((end_len : ℕ) → 0 < taken → ready ≡ Some end_len → IsLastChunk old piece taken end_len new) → StopsTaking old piece taken ready new
 stops_taking old new piece taken None s last = (new, holds_none new, s, (s.0, s.1, s.2))
-stops_taking old new piece taken (Some n) s last = (s, last)
+stops_taking old new piece taken (Some n) s last = (s, λ some. last n some refl)

@@ -1,12 +1,12 @@
 -- Which faults the known bytes decide: where the machine refuses a character, and where no bytes complete a character.
-use Rattle.std.proofs.Common.{◌≡◌, ℕ, ◌+◌, Bool, true, false, not, ◌&&◌, ◌||◌, Some, None, List, [], ◌∷◌, ◌++◌, refl, sym, ap, ◌∙◌, subst, append_assoc, append-nil, arith}
+use Rattle.std.proofs.Common.{◌≡◌, ℕ, ◌+◌, Bool, true, false, not, ◌&&◌, ◌||◌, Some, None, List, [], ◌∷◌, ◌++◌, refl, sym, ap, ◌∙◌, subst, ⊎_elim, inl, inr, append_assoc, append-nil, arith}
 use Rattle.std.specs.Prelude.{if◌then◌else◌}
 use Rattle.std.specs.Str.{StartsWithNoChar}
 use Rattle.py_lines.specs.Character.{is_line_feed}
 use Rattle.py_lines.specs.Piece.{spelled, AreReadBefore}
 use Rattle.py_lines.specs.LogicalLine.{LogicalLine, byte_len, line_ends}
-use Rattle.py_lines.specs.Lexed.{Decodes, IsLive, IsLexicalFault, IsLexed, IsLexedToFault}
-use Rattle.py_lines.specs.Settled.{IsHopeless, StaysFaulty, Decides}
+use Rattle.py_lines.specs.Lexed.{Decodes, IsLive, IsCharacterFault, IsLexicalFault, IsLexed, IsLexedToFault}
+use Rattle.py_lines.specs.Settled.{IsHopeless, Decides}
 use Rattle.py_lines.specs.declared.fault.Fault.{Fault}
 use Rattle.py_lines.specs.declared.fault.FaultKind.{FaultKind}
 use Rattle.py_lines.specs.declared.fault.FaultKind.TheVariants as faults
@@ -21,7 +21,6 @@ use Rattle.py_lines.proofs.Faults.FaultPlaces.{character_fault}
 use Rattle.py_lines.proofs.Faults.Uniqueness.{not_live}
 use Rattle.py_lines.proofs.Lexings.Answers.{IsLineOf, HasFront, refused_at_character, refused_at_bytes}
 use Rattle.py_lines.proofs.Lexings.GivenLines.{base_lines}
-use Rattle.py_lines.proofs.Lexings.DecidedFaults.{stays_at}
 use Rattle.py_lines.proofs.Lexings.Uniqueness.{decoded}
 use Rattle.py_lines.proofs.LogicalLines.Cuts.{byte_len-append}
 use Rattle.py_lines.proofs.LineScan.NextCharacter.{closed_one_line}
@@ -73,8 +72,7 @@ module _ (text : List ℕ) (place line : ℕ) (lines : List LogicalLine) (read r
           tail = lexed.tail;
           decodes = lexed.decodes;
           refused = lexed.refused;
-          stays = subst (λ (f : FaultKind). StaysFaulty f lexed.characters lexed.tail fault.offset) (sym kind)
-              (let same = decoded (of.bytes text place line lines read rest k) characters lexed.characters (d ∷ ds) lexed.tail decodes lexed.decodes in subst IsHopeless (is ∙ same.1) hopeless);
+          stays = (let same = decoded (of.bytes text place line lines read rest k) characters lexed.characters (d ∷ ds) lexed.tail decodes lexed.decodes in inr (kind, subst IsHopeless (is ∙ same.1) hopeless));
         },
         subst (λ l. IsLexedToFault (of.bytes text place line lines read rest k) l fault) (sym k.cut) lexed,
       )
@@ -84,11 +82,10 @@ module _ (text : List ℕ) (place line : ℕ) (lines : List LogicalLine) (read r
   undecided s st runs stacked bad more fault d =
       let j = of.joins text place line lines read rest k s st runs stacked in
       let same = decoded (of.bytes text place line lines read rest k) (spelled k.base ++ read) d.characters rest d.tail (of.decodes text place line lines read rest k bad) d.decodes in
-      go fault.kind same.0 same.1 (runs_live (spelled k.base ++ read) j.state j.st j.runs) d.stays
-    where
-      go : (kind : FaultKind) → spelled k.base ++ read ≡ d.characters → rest ≡ d.tail → IsLive (spelled k.base ++ read) → StaysFaulty kind d.characters d.tail fault.offset → ⊥
-      go faults.BadUtf8 one two live hopeless = more (subst IsHopeless (sym two) hopeless)
-      go kind one two live dies = not_live d.characters kind fault.offset dies (subst IsLive one live)
+      ⊎_elim
+      (λ dies. not_live d.characters fault.kind fault.offset dies (subst IsLive same.0 (runs_live (spelled k.base ++ read) j.state j.st j.runs)))
+      (λ stays. more (subst IsHopeless (sym same.1) stays.1))
+      d.stays
 
 -- the next character is refused
 module _ (text : List ℕ) (place line : ℕ) (lines : List LogicalLine) (read : List ℕ) (c : ℕ) (k : IsKnown text place line lines (read ++ c ∷ []) []) where
@@ -126,7 +123,7 @@ module _ (text : List ℕ) (place line : ℕ) (lines : List LogicalLine) (read :
           decodes = decodes;
           refused = (let same = decoded all_known characters lexed.characters [] lexed.tail decodes lexed.decodes in
               subst (λ t. IsLexicalFault characters t fault) (sym same.1) (subst (λ t. IsLexicalFault t lexed.tail fault) (sym same.0) lexed.refused));
-          stays = subst (λ (n : ℕ). StaysFaulty fault.kind characters [] n) (sym here) (subst (λ (f : FaultKind). StaysFaulty f characters [] (character_place j.state (spelled k.base ++ read))) (sym kind_is) (stays_at (character_kind j.state.mode c) characters [] (character_place j.state (spelled k.base ++ read)) found));
+          stays = inl (subst (λ (n : ℕ). IsCharacterFault fault.kind characters n) (sym here) (subst (λ (f : FaultKind). IsCharacterFault f characters (character_place j.state (spelled k.base ++ read))) (sym kind_is) found));
         },
         subst (λ l. IsLexedToFault all_known l fault) (sym k.cut) lexed,
       )

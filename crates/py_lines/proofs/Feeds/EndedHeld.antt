@@ -19,8 +19,8 @@ use Rattle.py_lines.specs.declared.feed.Feed.{Feed}
 use Rattle.py_lines.specs.declared.mode.Mode.{Mode}
 use Rattle.py_lines.specs.declared.mode.Mode.TheVariants as modes
 use Rattle.py_lines.specs.Private.Machine.{Bracket, is_final, end_kind, top_place, fresh}
-use Rattle.py_lines.specs.Private.Scan.{Closes, Tallies, is_returned, is_return_mode, none_open, stack_of, line_start}
-use Rattle.py_lines.specs.Private.Source.{first_mode, IsUnfinished}
+use Rattle.py_lines.specs.Private.Scan.{Closes, Tallies, is_returned, is_return_mode, none_open, stack_of, line_start, IsOpenFrom, IsUnfinished}
+use Rattle.py_lines.specs.Private.Source.{first_mode}
 use Rattle.py_lines.specs.Private.Feed.{KeepsText, IsOpen, IsPart, FailsAt, ClosesLine, EndsWith, IsLastLine, IsEndFault, EndsHeld}
 use Rattle.py_lines.proofs.Machine.PieceRuns.{pieces_at}
 use Rattle.py_lines.proofs.LineScan.PieceEnd.{closes_shut}
@@ -67,21 +67,21 @@ module _ (f : Feed) (read rest : List ℕ) (o : IsOpen f read rest) where
           (ap (λ (x : Fault). x.line) same ∙ fails.number read (sym taken))
 
   -- where something is open
-  open_place : (behind : ℕ) → IsUnfinished f.scan (Some behind) → behind ≡ open_behind o.way.state (stack_of f.scan.brackets)
+  open_place : (behind : ℕ) → IsOpenFrom f.scan behind → behind ≡ open_behind o.way.state (stack_of f.scan.brackets)
   open_place behind (inl (unfinal, is)) =
       is ∙ o.way.tallies.start ∙ ap (λ (b : Bool). if b then top_place (stack_of f.scan.brackets) else byte_len (spelled o.way.state.done)) (sym unfinal ∙ ap is_final o.way.tallies.mode)
   open_place behind (inr (final, (b, others, top, is))) =
       is ∙ ap (λ l. top_place l) (sym top) ∙ ap (λ (x : Bool). if x then top_place (stack_of f.scan.brackets) else byte_len (spelled o.way.state.done)) (sym final ∙ ap is_final o.way.tallies.mode)
 
-  open_so : (behind : ℕ) → IsUnfinished f.scan (Some behind) → (is_final o.way.state.mode ≡ false) ⊎ ((b : Bracket) × (others : List Bracket) × (stack_of f.scan.brackets ≡ b ∷ others))
+  open_so : (behind : ℕ) → IsOpenFrom f.scan behind → (is_final o.way.state.mode ≡ false) ⊎ ((b : Bracket) × (others : List Bracket) × (stack_of f.scan.brackets ≡ b ∷ others))
   open_so behind (inl (unfinal, is)) = inl (ap is_final (sym o.way.tallies.mode) ∙ unfinal)
   open_so behind (inr (final, (b, others, top, is))) = inr (b, others, top)
 
-  pub unfinished_within : (behind : ℕ) → IsUnfinished f.scan (Some behind) → Within read behind
+  pub unfinished_within : (behind : ℕ) → IsOpenFrom f.scan behind → Within read behind
   unfinished_within behind is = within_open f.scan read o.way.state (open_sound f read rest o) o.way.tallies o.way.stacked behind is
 
   -- something is open
-  pub ends_open : (new : Feed) (fault : Fault) (behind : ℕ) → rest ≡ [] → 0 < length f.held.items → is_returned f.scan ≡ false → IsUnfinished f.scan (Some behind) → FailsAt f (end_kind f.scan.mode) behind (lex.Fault fault) new → f.ready ≡ None → IsEndFault f fault new
+  pub ends_open : (new : Feed) (fault : Fault) (behind : ℕ) → rest ≡ [] → 0 < length f.held.items → is_returned f.scan ≡ false → IsOpenFrom f.scan behind → FailsAt f (end_kind f.scan.piece.mode) behind (lex.Fault fault) new → f.ready ≡ None → IsEndFault f fault new
   ends_open new fault behind none some not_yet unfinished fails not_ready =
       let same : fault ≡ fails.fault = (let x = fails.error_is in cc) in
       let place_is = open_place behind unfinished in
@@ -101,7 +101,7 @@ module _ (f : Feed) (read rest : List ℕ) (o : IsOpen f read rest) where
       }
 
   -- the last line
-  last_line : (new : Feed) (end_len : ℕ) → rest ≡ [] → 0 < length f.held.items → KeepsText f new → new.fault ≡ f.fault → new.ready ≡ Some end_len → new.scan.line ≡ f.scan.line → is_final f.scan.mode ≡ true → stack_of f.scan.brackets ≡ [] → IsLine (line_start (first_mode f.place)) new.scan read end_len (pieces_at o.way.state) → IsLastLine f new
+  last_line : (new : Feed) (end_len : ℕ) → rest ≡ [] → 0 < length f.held.items → KeepsText f new → new.fault ≡ f.fault → new.ready ≡ Some end_len → new.scan.line ≡ f.scan.line → is_final f.scan.piece.mode ≡ true → stack_of f.scan.brackets ≡ [] → IsLine (line_start (first_mode f.place)) new.scan read end_len (pieces_at o.way.state) → IsLastLine f new
   last_line new end_len none some keeps fault ready number final empty line =
       let held : encode_utf8_all read ++ rest ≡ new.held.items = o.spell ∙ ap (λ (v : Vec ℕ). v.items) (sym keeps.held) in
       let same : new.scan.line ≡ new.line = number ∙ o.number ∙ sym keeps.line in
@@ -135,9 +135,9 @@ module _ (f : Feed) (read rest : List ℕ) (o : IsOpen f read rest) where
   -- the last line, which CR closes
   pub ends_returned_line : (new : Feed) → rest ≡ [] → 0 < length f.held.items → is_returned f.scan ≡ true → KeepsText f new → new.fault ≡ f.fault → new.ready ≡ Some 1 → Closes f.scan new.scan → IsLastLine f new
   ends_returned_line new none some returned keeps fault ready closes =
-      let parts = and_parts (is_return_mode f.scan.mode) (none_open (stack_of f.scan.brackets)) returned in
+      let parts = and_parts (is_return_mode f.scan.piece.mode) (none_open (stack_of f.scan.brackets)) returned in
       let empty = open_nothing (stack_of f.scan.brackets) parts.1 in
-      last_line new 1 none some keeps fault ready closes.line (final_return f.scan.mode parts.0) empty
+      last_line new 1 none some keeps fault ready closes.line (final_return f.scan.piece.mode parts.0) empty
       (line_at_return (first_mode f.place) f.scan new.scan read o.way (open_sound f read rest o) parts.0 (closed_tallies new closes) empty (read_some none some))
     where
       open_nothing : (st : List Bracket) → none_open st ≡ true → st ≡ []
@@ -162,7 +162,7 @@ module _ (f : Feed) (read rest : List ℕ) (o : IsOpen f read rest) where
       subst (λ (e : LexError). EndsHeld f (Err e) new) (sym fails.error_is)
       (ends_in_bytes new fails.fault part.none some (false_from_ne_true _ (λ returned. omega (arith, some, ap length (part.last returned)))) (subst (λ (e : LexError). FailsAt f BadUtf8 f.scan.stop e new) fails.error_is fails) not_ready)
 
-  pub ends_so_open : (new : Feed) (error : LexError) (kind : FaultKind) (behind : ℕ) → kind ≡ end_kind f.scan.mode → rest ≡ [] → 0 < length f.held.items → is_returned f.scan ≡ false → IsUnfinished f.scan (Some behind) → FailsAt f kind behind error new → f.ready ≡ None → EndsHeld f (Err error) new
+  pub ends_so_open : (new : Feed) (error : LexError) (kind : FaultKind) (behind : ℕ) → kind ≡ end_kind f.scan.piece.mode → rest ≡ [] → 0 < length f.held.items → is_returned f.scan ≡ false → IsOpenFrom f.scan behind → FailsAt f kind behind error new → f.ready ≡ None → EndsHeld f (Err error) new
   ends_so_open new error kind behind kind_is none some not_yet unfinished fails not_ready =
       subst (λ (e : LexError). EndsHeld f (Err e) new) (sym fails.error_is)
       (ends_open new fails.fault behind none some not_yet unfinished (subst (λ (k : FaultKind). FailsAt f k behind (lex.Fault fails.fault) new) kind_is (subst (λ (e : LexError). FailsAt f kind behind e new) fails.error_is fails)) not_ready)

@@ -55,7 +55,7 @@ decided_whole text place lines n most fault within both = record {
 -- where the fault of a refused character stands
 place_of_refused : (f : Feed) (read rest : List ℕ) (o : IsOpen f read rest) (way : IsUnderWay (first_mode f.place) f.scan read) → refused_place f.scan ≡ refused_behind way.state read
 place_of_refused f read rest o way =
-    ap (λ (m : Mode). if in_short m || is_behind_slash m then f.scan.start else f.scan.stop) way.tallies.mode
+    ap (λ (m : Mode). if in_short m || is_behind_slash m then f.scan.piece.start else f.scan.stop) way.tallies.mode
     ∙ ap (λ (n : ℕ). if in_short way.state.mode || is_behind_slash way.state.mode then n else f.scan.stop) way.tallies.start
     ∙ ap (λ (n : ℕ). if in_short way.state.mode || is_behind_slash way.state.mode then byte_len (spelled way.state.done) else n) (open_stop f read rest o)
 
@@ -125,5 +125,5 @@ failed_keeps old new fault e = go e.fails
         (record { held = fails.text.held ∙ e.text.held; place = fails.text.place ∙ e.text.place; line = fails.text.line ∙ e.text.line; ended = fails.text.ended ∙ e.text.ended }, fails.ready ∙ e.not_ready, fails.kept ∙ ap Some (sym same))
 
     go : FailsNext e.mid e.read e.rest (lex.Fault fault) new → KeepsText old new × (new.ready ≡ None) × (new.fault ≡ Some fault)
-    go (FailsNext.at_character c after scalar is refuses) = at (character_kind e.mid.scan.mode c) (refused_place e.mid.scan) refuses.fails
+    go (FailsNext.at_character c after scalar is refuses) = at (character_kind e.mid.scan.piece.mode c) (refused_place e.mid.scan) refuses.fails
     go (FailsNext.at_bytes way hopeless open_yet fails) = at BadUtf8 e.mid.scan.stop fails

@@ -9,20 +9,18 @@ use Rattle.py_lines.specs.Piece.{ends, spelled}
 use Rattle.py_lines.specs.LogicalLine.{LogicalLine}
 use Rattle.py_lines.specs.Piece.{AreReadBefore}
 use Rattle.py_lines.specs.Lexed.{Decodes, IsBalancedReading, IsLive, EndsLine}
-use Rattle.py_lines.specs.Settled.{IsHopeless, StaysFaulty, IsSettled, Decides}
+use Rattle.py_lines.specs.Settled.{IsHopeless, IsSettled, Decides}
 use Rattle.py_lines.specs.Given.{AreFirstLines}
 use Rattle.py_lines.specs.Scanning.{GoesOnWith, HoldsReady}
 use Rattle.py_lines.specs.Scanning.View.{line_of_feed}
 use Rattle.py_lines.specs.declared.fault.Fault.{Fault}
-use Rattle.py_lines.specs.declared.fault.FaultKind.{FaultKind}
-use Rattle.py_lines.specs.declared.fault.FaultKind.TheVariants as faults
 use Rattle.py_lines.specs.declared.feed.Feed.{Feed}
 use Rattle.py_lines.specs.declared.mode.Mode.{Mode}
 use Rattle.py_lines.specs.declared.mode.Mode.TheVariants as modes
 use Rattle.py_lines.specs.Private.Machine.{Bracket}
 use Rattle.py_lines.specs.Private.Scan.{line_start, is_return_mode, none_open, stack_of, EndsWhole}
 use Rattle.py_lines.specs.Private.Source.{first_mode}
-use Rattle.py_lines.specs.Private.Feed.{IsEnded, IsChunk, IsScanned, EndsLineHeld}
+use Rattle.py_lines.specs.Private.Feed.{IsEnded, IsScanned, EndsLineHeld, EndsExactly, HadEnded}
 use Rattle.py_lines.proofs.Text.Utf8Prefixes.{nothing_bad}
 use Rattle.py_lines.proofs.Text.Incomplete.{part_none}
 use Rattle.py_lines.proofs.Machine.LiveTexts.{reading_live}
@@ -33,7 +31,6 @@ use Rattle.py_lines.proofs.Feeds.SettledSoFar.{MayGetFeed, Follow, settled_open,
 use Rattle.py_lines.proofs.Feeds.DecidedSoFar.{undecided}
 use Rattle.py_lines.proofs.Feeds.ReadyLines.{line_of_ended}
 use Rattle.py_lines.proofs.Feeds.NextHeld.{next_pieces, next_line, next_is, next_some}
-use Rattle.py_lines.proofs.Feeds.LineInChunk.{line_break, follows_chunk}
 
 -- bytes that the text goes on with, and then more
 pub goes_joined : (text : List ℕ) (place : ℕ) (a b : List ℕ) → GoesOnWith text place a → GoesOnWith text (place + length a) b → GoesOnWith text place (a ++ b)
@@ -83,15 +80,15 @@ never_before text new mid lines n all after r e spell whole first goes settled =
     by_whole (inr (b, more, is, other)) none = absurd (omega (arith, ap length (sym is ∙ none)))
 
 -- the line that has ended with the bytes taken last is settled, and what is held is it, with at most one byte more
-module _ (text : List ℕ) (new mid : Feed) (lines : List LogicalLine) (n : ℕ) (e : EndsLineHeld n new) (rest : List ℕ) (len : ℕ) (chunk : IsChunk mid.held.items rest len) (held : new.held.items ≡ mid.held.items ++ take len rest) (first : AreFirstLines text new.place new.line lines) (goes : GoesOnWith text new.place new.held.items) (before : GoesOnWith text new.place mid.held.items) (settled : 0 < length mid.held.items → IsSettled (take (new.place + length mid.held.items) text) lines) where
+module _ (text : List ℕ) (new mid : Feed) (lines : List LogicalLine) (n : ℕ) (e : EndsLineHeld n new) (last : EndsExactly e.all e.after ⊎ HadEnded mid.held.items e.all) (first : AreFirstLines text new.place new.line lines) (goes : GoesOnWith text new.place new.held.items) (before : GoesOnWith text new.place mid.held.items) (settled : 0 < length mid.held.items → IsSettled (take (new.place + length mid.held.items) text) lines) where
   fed_some : 0 < length (encode_utf8_all e.all)
   fed_some = (line_of_ended new n e.all e.after e.ended [] (λ returned. refl)).0.some
 
   fed_known : IsKnown text new.place new.line lines e.all e.after
   fed_known = is_known text new.place new.line lines e.all e.after first e.ended.scalars (subst (GoesOnWith text new.place) (sym e.ended.spell) goes) (omega (arith, fed_some, length-append (encode_utf8_all e.all) e.after))
 
-  follows : ((e.after ≡ []) × (ends is_return e.all ≡ false)) ⊎ ((b : ℕ) × (e.after ≡ b ∷ []) × (b ≡ 10 → ⊥))
-  follows = follows_chunk mid.held.items rest e.all e.after len chunk (e.ended.spell ∙ held) (line_break new.place e.all fed_known.more _ (next_line text new lines n e.all e.after e.ended e.whole fed_known)) (λ r spell whole. never_before text new mid lines n e.all e.after r e.ended spell whole first before settled) e.whole
+  follows : EndsExactly e.all e.after
+  follows = ⊎_elim (λ exact. exact) (λ had. absurd (never_before text new mid lines n e.all e.after had.rest e.ended had.spell had.whole first before settled)) last
 
   pub settled_fed : IsSettled (take (new.place + length new.held.items) text) (lines ++ line_of_feed new n ∷ [])
   settled_fed =
@@ -127,11 +124,10 @@ module _ (text : List ℕ) (place line : ℕ) (lines : List LogicalLine) (first 
       let all : take (place + 0) text ≡ text = take_all (place + 0) text (omega (arith, size)) in
       let same = decoded (take (place + 0) text) first.characters d.characters first.tail d.tail (subst (λ t. Decodes t first.characters first.tail) (sym all) first.decodes) d.decodes in
       let reading : IsBalancedReading first.pieces (spelled first.pieces) = record { spell = refl; fit = subst (AreReadBefore first.pieces) parts.0 first.fit; balanced = first.balanced; shallow = first.shallow } in
-      go fault.kind (sym same.1 ∙ parts.1) (subst IsLive (sym characters ∙ same.0) (reading_live first.pieces (spelled first.pieces) reading)) d.stays
-    where
-      go : (kind : FaultKind) → d.tail ≡ [] → IsLive d.characters → StaysFaulty kind d.characters d.tail fault.offset → ⊥
-      go faults.BadUtf8 none live hopeless = part_none (subst IsHopeless none hopeless)
-      go kind none live dies = not_live d.characters kind fault.offset dies live
+      ⊎_elim
+      (λ dies. not_live d.characters fault.kind fault.offset dies (subst IsLive (sym characters ∙ same.0) (reading_live first.pieces (spelled first.pieces) reading)))
+      (λ stays. part_none (subst IsHopeless (sym same.1 ∙ parts.1) stays.1))
+      d.stays
 
   pub undecided_first : ¬ (Decides (take (place + 0) text) fault)
   undecided_first d = ⊎_elim (λ good. after_line good.0 d) (λ nothing. after_text nothing d) first.ended

@@ -65,7 +65,7 @@ module _ (old new : Feed) (piece : List ℕ) (n : ℕ) (t : TakesSome old piece 
       (subst (λ (m : ℕ). GoesOnWith text m old.held.items) (sym t.more.place) s.held)
       (λ some. subst (λ (m : ℕ). IsSettled (take (m + length old.held.items) text) lines) (sym t.more.place) (settled_old some))
 
-  module _ (c : IsLastChunk old piece n) where
+  module _ (len : ℕ) (c : IsLastChunk old piece n len new) where
     chunk_held : new.held.items ≡ c.mid.held.items ++ take c.len (drop c.before piece)
     chunk_held =
         t.more.held ∙ ap (λ (m : ℕ). old.held.items ++ take m piece) (sym c.sum) ∙ ap (λ l. old.held.items ++ l) (take-add c.before c.len piece)
@@ -92,14 +92,14 @@ module _ (old new : Feed) (piece : List ℕ) (n : ℕ) (t : TakesSome old piece 
   settled_so : (r : Option ℕ) → StopsTaking old piece n r new → 0 < length new.held.items → IsSettled (take (new.place + length new.held.items) text) (lines ++ ready_lines (ready_of new r))
   settled_so None (mid, same, scanned, opens) some = open_settled mid same scanned some
   settled_so (Some len) (e, last) some = ⊎_elim
-      (λ later. let c = last later in settled_fed text new c.mid lines len e (drop c.before piece) c.len c.chunk (chunk_held c) first_new goes_new (chunk_goes c) (chunk_settled c))
+      (λ later. let c = last later in settled_fed text new c.mid lines len c.ended c.ends first_new goes_new (chunk_goes len c) (chunk_settled len c))
       (λ none. absurd (never_none len e (omega (arith, none))))
       (cases_lt 0 n)
 
   whole_so : (r : Option ℕ) → StopsTaking old piece n r new → HoldsReady new.held.items (ready_of new r)
   whole_so None stops = tt
   whole_so (Some len) (e, last) = ⊎_elim
-      (λ later. let c = last later in whole_fed text new c.mid lines len e (drop c.before piece) c.len c.chunk (chunk_held c) first_new goes_new (chunk_goes c) (chunk_settled c))
+      (λ later. let c = last later in whole_fed text new c.mid lines len c.ended c.ends first_new goes_new (chunk_goes len c) (chunk_settled len c))
       (λ none. absurd (never_none len e (omega (arith, none))))
       (cases_lt 0 n)
 

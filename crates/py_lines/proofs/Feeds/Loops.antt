@@ -65,9 +65,9 @@ part_fails f new read rest error o ready hopeless open_yet fails = subst (λ (e 
 })
 
 -- the next character is refused
-pub held_refused : (old mid new : Feed) (read rest : List ℕ) (c : ℕ) (kind : FaultKind) (behind : ℕ) (error : LexError) → KeepsText old mid → mid.ready ≡ None → StopsHeld mid (stops.Refused c) read rest → kind ≡ character_kind mid.scan.mode c → behind ≡ refused_place mid.scan → FailsAt mid kind behind error new → ScansHeld old (Err error) new
+pub held_refused : (old mid new : Feed) (read rest : List ℕ) (c : ℕ) (kind : FaultKind) (behind : ℕ) (error : LexError) → KeepsText old mid → mid.ready ≡ None → StopsHeld mid (stops.Refused c) read rest → kind ≡ character_kind mid.scan.piece.mode c → behind ≡ refused_place mid.scan → FailsAt mid kind behind error new → ScansHeld old (Err error) new
 held_refused old mid new read rest c kind behind error keeps ready s kind_is behind_is fails =
-    let moved : FailsAt mid (character_kind mid.scan.mode c) (refused_place mid.scan) error new = subst (λ (n : ℕ). FailsAt mid (character_kind mid.scan.mode c) n error new) behind_is (subst (λ (k : FaultKind). FailsAt mid k behind error new) kind_is fails) in
+    let moved : FailsAt mid (character_kind mid.scan.piece.mode c) (refused_place mid.scan) error new = subst (λ (n : ℕ). FailsAt mid (character_kind mid.scan.piece.mode c) n error new) behind_is (subst (λ (k : FaultKind). FailsAt mid k behind error new) kind_is fails) in
     subst (λ (e : LexError). ScansHeld old (Err e) new) (sym moved.error_is) (record {
       mid = mid;
       text = keeps;
@@ -79,7 +79,7 @@ held_refused old mid new read rest c kind behind error keeps ready s kind_is beh
         way = s.0.way;
         refuses = s.4;
         not_yet = s.5;
-        fails = subst (λ (e : LexError). FailsAt mid (character_kind mid.scan.mode c) (refused_place mid.scan) e new) moved.error_is moved;
+        fails = subst (λ (e : LexError). FailsAt mid (character_kind mid.scan.piece.mode c) (refused_place mid.scan) e new) moved.error_is moved;
       });
     })
 

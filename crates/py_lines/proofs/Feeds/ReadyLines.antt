@@ -1,6 +1,6 @@
 -- The line that is ready: the logical line of the pieces that the scan found.
 use Rattle.std.proofs.Common.{◌≡◌, ℕ, ◌+◌, true, false, Option, Some, None, List, [], ◌∷◌, ◌++◌, take, refl, sym, ap, ◌∙◌, subst}
-use Rattle.std.specs.Prelude.{encode_utf8_all}
+use Rattle.std.specs.Prelude.{encode_utf8_all, IsUtf8}
 use Rattle.std.specs.Str.{all_scalars}
 use Rattle.std.proofs.Math.Seq.{take-append_seam}
 use Rattle.py_lines.specs.Character.{is_line_feed, is_return}
@@ -61,6 +61,12 @@ scanned_stands (Some end_len) f e = ended_ready f end_len e.all e.after e.ended
 pub held_stands : (ready : Option ℕ) (f : Feed) → IsHeldSo ready f → StandsSo ready f
 held_stands None f opens = λ no_fault. opens
 held_stands (Some end_len) f e = ended_ready f end_len e.all e.after e.ended
+
+-- the text of the line that is ready is characters
+pub ready_utf8 : (f : Feed) (end_len : ℕ) → IsReady f end_len → IsUtf8 (take f.scan.stop f.held.items)
+ready_utf8 f end_len r =
+    let text : encode_utf8_all r.read ≡ take f.scan.stop f.held.items = sym (take-append_seam (encode_utf8_all r.read) r.rest) ∙ ap (take (byte_len r.read)) r.spell ∙ ap (λ (n : ℕ). take n f.held.items) (sym r.stop) in
+    (r.read, (r.scalars, text))
 
 -- the tokens of the line that is ready lie in it
 pub ready_lies : (f : Feed) (end_len : ℕ) → IsReady f end_len → EachLiesIn (take f.scan.stop f.held.items) f.scan.tokens.items

@@ -28,7 +28,7 @@ module _ (f : Feed) (read rest : List ℕ) (o : IsOpen f read rest) where
   pub open_sound : IsSound o.way.state read
   open_sound = sound_run (first_mode f.place) read o.way.state (begun_sound f.place) o.way.runs
 
-  pub open_order : f.scan.start ≤ f.scan.stop
+  pub open_order : f.scan.piece.start ≤ f.scan.stop
   open_order = way_order f.scan o.way.state o.way.tallies
 
   pub open_stop : f.scan.stop ≡ byte_len read
@@ -54,7 +54,7 @@ module _ (f : Feed) (read rest : List ℕ) (o : IsOpen f read rest) where
 
   pub refused_held : Within read (refused_place f.scan)
   refused_held =
-      cond_both (in_short f.scan.mode || is_behind_slash f.scan.mode) f.scan.start f.scan.stop (Within read)
+      cond_both (in_short f.scan.piece.mode || is_behind_slash f.scan.piece.mode) f.scan.piece.start f.scan.stop (Within read)
       (λ h. record { front = spelled o.way.state.done; later = o.way.state.held; split = open_sound.spell; size = o.way.tallies.start })
       (λ h. all_within read f.scan.stop open_stop)
 

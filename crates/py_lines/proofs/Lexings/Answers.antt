@@ -4,7 +4,7 @@ use Rattle.std.proofs.lemmas.Str.{length-le-encodes}
 use Rattle.std.proofs.lemmas.List.{nil_from_length}
 use Rattle.py_lines.specs.Piece.{Piece}
 use Rattle.py_lines.specs.LogicalLine.{lines_of, byte_len, line_ends}
-use Rattle.py_lines.specs.Lexed.{Decodes, IsBalancedReading, IsLive, EndsLine, IsFaultAt, IsLexedWhole, IsLexedToFault}
+use Rattle.py_lines.specs.Lexed.{Decodes, IsBalancedReading, IsLive, EndsLine, IsFaultAt, at_character, at_bytes, at_end, IsLexedWhole, IsLexedToFault}
 use Rattle.py_lines.specs.declared.fault.FaultKind.{FaultKind}
 use Rattle.py_lines.specs.declared.fault.FaultKind.TheVariants as faults
 use Rattle.py_lines.specs.declared.fault.Fault.{Fault}
@@ -12,7 +12,6 @@ use Rattle.py_lines.specs.Private.Machine.{Scanned, is_final, character_kind, ch
 use Rattle.py_lines.proofs.Machine.PieceRuns.{pieces_at}
 use Rattle.py_lines.proofs.Machine.LiveTexts.{reading_at, reading_live, runs_live}
 use Rattle.py_lines.proofs.Faults.FaultPlaces.{character_fault, end_fault}
-use Rattle.py_lines.proofs.Faults.Verdict.{character_at, end_at}
 use Rattle.py_lines.proofs.Lexings.LinePrefix.{EndsNoLine, front_is, live_prefix, Either, either}
 use Rattle.py_lines.proofs.LogicalLines.Cuts.{byte_len-append}
 
@@ -61,7 +60,7 @@ pub record HasFront (s : Scanned) (front : List Piece) : Type 0 where
 pub refused_at_character : (text characters tail before after : List ℕ) (c : ℕ) (s : Scanned) (st : List Bracket) (front : List Piece) (fault : Fault) → Decodes text characters tail → before ++ c ∷ after ≡ characters → RunsTo before s st → ¬ (IsLive (before ++ c ∷ [])) → HasFront s front → fault.kind ≡ character_kind s.mode c → fault.offset ≡ character_place s before → IsLineOf fault characters → IsLexedToFault text (lines_of front) fault
 refused_at_character text characters tail before after c s st front fault decodes spell runs dead has kind place line =
     let found = character_fault characters before after c s st spell runs dead in
-    let at : IsFaultAt (character_kind s.mode c) characters tail (character_place s before) = character_at _ characters tail _ found in
+    let at : IsFaultAt (character_kind s.mode c) characters tail (character_place s before) = at_character found in
     record {
       characters = characters;
       tail = tail;
@@ -85,7 +84,7 @@ nothing_later characters c after same = absurd (cc)
 -- the text is refused at its end
 pub refused_at_end : (text characters : List ℕ) (s : Scanned) (st : List Bracket) (front : List Piece) (fault : Fault) → Decodes text characters [] → RunsTo characters s st → ((pieces : List Piece) → ¬ (IsBalancedReading pieces characters)) → HasFront s front → fault.kind ≡ end_kind s.mode → fault.offset ≡ end_place s st → IsLineOf fault characters → IsLexedToFault text (lines_of front) fault
 refused_at_end text characters s st front fault decodes runs unread has kind place line =
-    let at : IsFaultAt (end_kind s.mode) characters [] (end_place s st) = end_at _ characters [] _ (end_fault characters [] s st refl runs unread) in
+    let at : IsFaultAt (end_kind s.mode) characters [] (end_place s st) = at_end (end_fault characters [] s st refl runs unread) in
     record {
       characters = characters;
       tail = [];
@@ -110,7 +109,7 @@ refused_at_bytes text characters d ds s st front fault decodes runs has kind pla
   front = front_is characters [] characters s st front has.others runs (append-nil characters) (nothing_later characters) has.spell has.ended has.none;
   refused = record {
     unread = λ (whole : d ∷ ds ≡ []). absurd (cc);
-    place = subst (λ (k : FaultKind). IsFaultAt k characters (d ∷ ds) fault.offset) (sym kind) (record { bad = λ (h : d ∷ ds ≡ []). cc; live = runs_live characters s st runs; place = place });
+    place = at_bytes (record { is = kind; bad = λ (h : d ∷ ds ≡ []). cc; live = runs_live characters s st runs; place = place });
     line = line_at fault characters line;
   };
   cut = refl;

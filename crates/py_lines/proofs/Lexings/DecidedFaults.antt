@@ -1,10 +1,10 @@
 -- A fault that the known bytes of a text decide is that of every text that begins with them.
-use Rattle.std.proofs.Common.{◌≡◌, ℕ, ◌+◌, ◌≤◌, Option, None, Some, List, [], ◌∷◌, ◌++◌, length, refl, sym, ap, ◌∙◌, subst, append_assoc}
+use Rattle.std.proofs.Common.{◌≡◌, ℕ, ◌+◌, ◌≤◌, Option, None, Some, List, [], ◌∷◌, ◌++◌, length, refl, sym, ap, ◌∙◌, subst, ⊎_elim, inl, inr, append_assoc}
 use Rattle.std.specs.Prelude.{encode_utf8_all}
 use Rattle.std.specs.Str.{StartsWithNoChar}
 use Rattle.py_lines.specs.Piece.{Piece, spelled}
 use Rattle.py_lines.specs.LogicalLine.{LogicalLine, byte_len, line_ends}
-use Rattle.py_lines.specs.Lexed.{Decodes, IsBalancedReading, IsLive, EndsLine, IsFront, IsCharacterFault, IsFaultAt, IsLexicalFault, IsLexed}
+use Rattle.py_lines.specs.Lexed.{Decodes, IsBalancedReading, IsLive, EndsLine, IsFront, IsCharacterFault, IsFaultAt, at_character, at_bytes, IsLexicalFault, IsLexed}
 use Rattle.py_lines.specs.Settled.{StaysFaulty, Decides}
 use Rattle.py_lines.specs.declared.fault.FaultKind.{FaultKind}
 use Rattle.py_lines.specs.declared.fault.FaultKind.TheVariants as faults
@@ -12,8 +12,7 @@ use Rattle.py_lines.specs.declared.fault.Fault.{Fault}
 use Rattle.py_lines.proofs.Text.Continued.{goes_on}
 use Rattle.py_lines.proofs.Text.Decoding.{decoding}
 use Rattle.py_lines.proofs.Machine.LiveTexts.{reading_live}
-use Rattle.py_lines.proofs.Faults.FaultPrefixes.{fault_front}
-use Rattle.py_lines.proofs.Faults.Verdict.{character_at}
+use Rattle.py_lines.proofs.Faults.FaultPrefixes.{fault_front, undecodable}
 use Rattle.py_lines.proofs.Lexings.LinePrefix.{live_prefix, Either, either}
 use Rattle.py_lines.proofs.Lexings.Uniqueness.{decoded, same_fault}
 use Rattle.py_lines.proofs.Lexings.Answers.{same_place}
@@ -25,8 +24,10 @@ dies_unread kind characters offset fault pieces reading = fault.dies.dead (live_
 -- its fault stays where it is
 goes_on_faulty : (kind : FaultKind) (characters rest : List ℕ) (offset : ℕ) → IsCharacterFault kind characters offset → IsCharacterFault kind (characters ++ rest) offset
 goes_on_faulty kind characters rest offset fault = record {
+  cause = fault.cause;
   before = fault.before;
   c = fault.c;
+  is = fault.is;
   dies = record { after = fault.dies.after ++ rest; spell = sym (append_assoc fault.before (fault.c ∷ fault.dies.after) rest) ∙ ap (λ t. t ++ rest) fault.dies.spell; live = fault.dies.live; dead = fault.dies.dead };
   fits = fault.fits;
   first = fault.first;
@@ -58,11 +59,6 @@ line_on characters tail rest other fault refused at before after spell place =
     let found = fault_front fault.kind characters tail fault.offset at in
     refused.line found.front found.rest found.spell found.place ∙ ap (λ t. 1 + line_ends t) (same_place found.front (found.rest ++ rest) before after (sym (append_assoc found.front found.rest rest) ∙ ap (λ t. t ++ rest) found.spell ∙ sym spell) (found.place ∙ sym place))
 
--- a fault at a character stays
-pub stays_at : (kind : FaultKind) (characters tail : List ℕ) (offset : ℕ) → IsCharacterFault kind characters offset → StaysFaulty kind characters tail offset
-stays_at faults.BadUtf8 characters tail offset fault = absurd fault.fits
-stays_at kind characters tail offset fault = fault
-
 -- the known bytes, and what they say of a text that goes on
 pub record Continued (text more : List ℕ) (fault : Fault) (characters tail : List ℕ) : Type 0 where
   pub whole : List ℕ
@@ -83,10 +79,10 @@ by_character text more fault d stays =
       decodes = subst (λ t. Decodes (text ++ more) t w.tail) on.split w.decodes;
       refused = record {
         unread = λ all. dies_unread fault.kind (d.characters ++ on.rest) fault.offset later;
-        place = character_at fault.kind (d.characters ++ on.rest) w.tail fault.offset later;
+        place = at_character later;
         line = line_on d.characters d.tail on.rest w.tail fault d.refused d.refused.place;
       };
-      stays = stays_at fault.kind (d.characters ++ on.rest) w.tail fault.offset later;
+      stays = inl later;
       front = λ pieces front. front_on fault.kind d.characters on.rest fault.offset pieces stays front;
     }
 
@@ -96,26 +92,22 @@ nothing_left (c ∷ cs) b h = absurd (cc)
 
 by_bytes : (text more : List ℕ) (fault : Fault) (d : Decides text fault) → fault.kind ≡ faults.BadUtf8 → ((after : List ℕ) → StartsWithNoChar (d.tail ++ after)) → Continued text more fault d.characters d.tail
 by_bytes text more fault d is hopeless =
-    let at : IsFaultAt faults.BadUtf8 d.characters d.tail fault.offset = subst (λ (k : FaultKind). IsFaultAt k d.characters d.tail fault.offset) is d.refused.place in
+    let at = undecodable fault.kind d.characters d.tail fault.offset is d.refused.place in
     record {
       whole = d.characters;
       left = d.tail ++ more;
       decodes = record { are = d.decodes.are; spell = sym (append_assoc (encode_utf8_all d.characters) d.tail more) ∙ ap (λ t. t ++ more) d.decodes.spell; bad = hopeless more };
       refused = record {
         unread = λ nothing. absurd (at.bad (nothing_left d.tail more nothing));
-        place = subst (λ (k : FaultKind). IsFaultAt k d.characters (d.tail ++ more) fault.offset) (sym is) (record { bad = λ nothing. at.bad (nothing_left d.tail more nothing); live = at.live; place = at.place });
+        place = at_bytes (record { is = is; bad = λ nothing. at.bad (nothing_left d.tail more nothing); live = at.live; place = at.place });
         line = d.refused.line;
       };
-      stays = subst (λ (k : FaultKind). StaysFaulty k d.characters (d.tail ++ more) fault.offset) (sym is) (λ after. subst StartsWithNoChar (sym (append_assoc d.tail more after)) (hopeless (more ++ after)));
+      stays = inr (is, λ after. subst StartsWithNoChar (sym (append_assoc d.tail more after)) (hopeless (more ++ after)));
       front = λ pieces front. front;
     }
 
 continued : (text more : List ℕ) (fault : Fault) (d : Decides text fault) → Continued text more fault d.characters d.tail
-continued text more fault d = go fault.kind refl d.stays
-  where
-    go : (kind : FaultKind) → fault.kind ≡ kind → StaysFaulty kind d.characters d.tail fault.offset → Continued text more fault d.characters d.tail
-    go faults.BadUtf8 is stays = by_bytes text more fault d is stays
-    go kind is stays = by_character text more fault d (subst (λ (k : FaultKind). IsCharacterFault k d.characters fault.offset) (sym is) stays)
+continued text more fault d = ⊎_elim (by_character text more fault d) (λ stays. by_bytes text more fault d stays.0 stays.1) d.stays
 
 -- more bytes decide it too
 pub decided_more : (text more : List ℕ) (fault : Fault) → Decides text fault → Decides (text ++ more) fault

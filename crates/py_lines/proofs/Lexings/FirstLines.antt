@@ -73,7 +73,7 @@ grows_from base (c ∷ cs) after s fit ended runs = go (base_of (byte_len (spell
         (sym (from_base base reached.to c cs (cs ++ after) reached.pieces_are (reached.stops (any (c ∷ cs ++ after)))) ∙ ap (λ o. run_from o (c ∷ cs)) (sym reached.runs) ∙ sym (run_from-append (Some text_start) (spelled base) (c ∷ cs)) ∙ runs)
 
 -- the last line end at depth 0 of pieces that begin at this depth
-data LastEnd (d : ℕ) (ps : List Piece) : Type 0 where
+pub data LastEnd (d : ℕ) (ps : List Piece) : Type 0 where
   no_end : EndsNoLine d ps → LastEnd d ps
   end_at : (body : List Piece) (last : Piece) (others : List Piece) → ps ≡ body ++ last ∷ others → last.class ≡ line_end → depth_through d body ≡ 0 → EndsNoLine 0 others → LastEnd d ps
 
@@ -81,7 +81,7 @@ line_class : (k : Class) → is_line_end_class k ≡ true → k ≡ line_end
 line_class line_end h = refl
 line_class k h = absurd (both_ways _ refl h)
 
-last_end : (d : ℕ) (ps : List Piece) → LastEnd d ps
+pub last_end : (d : ℕ) (ps : List Piece) → LastEnd d ps
 last_end d [] = LastEnd.no_end tt
 last_end d (p ∷ ps) = go (last_end (depth_after d p) ps)
   where
@@ -154,7 +154,7 @@ character_front characters before after c s st spell runs =
 end_front : (characters : List ℕ) (s : Scanned) (st : List Bracket) → RunsTo characters s st → ((pieces : List Piece) → ¬ (IsBalancedReading pieces characters)) → FrontTo characters (end_place s st)
 end_front characters s st runs unread =
     let fault = end_fault characters [] s st refl runs unread in
-    let rest = end_rest (end_kind s.mode) characters fault.start fault.ends_in in
+    let rest = end_rest fault.unfinished characters fault.start fault.ends_in in
     record { front = fault.start; rest = rest.0; spell = rest.1; place = sym fault.place }
 
 -- the lexing of the text from where the machine has come

@@ -21,7 +21,7 @@ use Rattle.py_lines.proofs.Lexings.SettledLines.{settled_begin, spelled_first, s
 use Rattle.py_lines.proofs.Lexings.Uniqueness.{one_lexing_of}
 
 -- a piece has a character
-piece_some : (class : Class) (text : List ℕ) → InClass class text → 0 < length text
+pub piece_some : (class : Class) (text : List ℕ) → InClass class text → 0 < length text
 piece_some mark text (one, is, passes) = omega (arith, ap length is)
 piece_some space text (first, others, is, pass) = omega (arith, ap length is)
 piece_some word text (first, others, is, starts, pass) = omega (arith, ap length is)

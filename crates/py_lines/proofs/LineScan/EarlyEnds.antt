@@ -25,11 +25,11 @@ use Rattle.py_lines.proofs.LineScan.NextCharacter.{takes_broken}
 use Rattle.py_lines.proofs.LineScan.ShortPieces.{follows_cases, begin_low, word_starts, with_met, free_breaks, open_reached}
 
 -- closing goes on from a scan with no open piece
-closes_through : (before scan mid : Scan) → Closes before scan → scan.mode ≡ modes.Free → Closes scan mid → Closes before mid
+closes_through : (before scan mid : Scan) → Closes before scan → scan.piece.mode ≡ modes.Free → Closes scan mid → Closes before mid
 closes_through before scan mid first free second = record {
-  tokens = second.tokens ∙ ap (λ m. scan.tokens.items ++ tokens_with (token_of m) scan.start scan.stop scan.piece_line) free ∙ append-nil scan.tokens.items ∙ first.tokens;
+  tokens = second.tokens ∙ ap (λ m. scan.tokens.items ++ tokens_with (token_of m) scan.piece.start scan.stop scan.piece.line) free ∙ append-nil scan.tokens.items ∙ first.tokens;
   kind = second.kind ∙ ap (λ m. kind_closed scan.kind m) free ∙ first.kind;
-  indent = second.indent ∙ ap (λ m. indent_closed scan.indent m scan.margin (scan.stop - scan.start)) free ∙ first.indent;
+  indent = second.indent ∙ ap (λ m. indent_closed scan.indent m scan.margin (scan.stop - scan.piece.start)) free ∙ first.indent;
   margin = second.margin ∙ ap (λ m. scan.margin && holds_nothing m) free ∙ and_true scan.margin ∙ first.margin;
   mode = second.mode;
   start = second.start ∙ first.stop;
@@ -72,11 +72,11 @@ begun_so st c h =
     (λ stands so. record { some = λ e. let clash = sym (start-operator c stands) ∙ e in cc; stands = λ e. so }))
     (or_cases (is_quote c) (follows st c) h)
 
-adds_through : (before scan new : Scan) (c : ℕ) → Closes before scan → scan.mode ≡ modes.Free → ClosesAndAdds scan c None new → ClosesAndAdds before c None new
+adds_through : (before scan new : Scan) (c : ℕ) → Closes before scan → scan.piece.mode ≡ modes.Free → ClosesAndAdds scan c None new → ClosesAndAdds before c None new
 adds_through before scan new c closes free adds = record { mid = adds.mid; closes = closes_through before scan adds.mid closes free adds.closes; stands = adds.stands }
 
 -- the piece begins as it does after the open one, and isn't refused
-begins_shut : (before scan new : Scan) (c : ℕ) (st : Start) (p : Progress) → Closes before scan → scan.mode ≡ modes.Free → IsBegun (stack_of scan.brackets) c → start_of c ≡ st → Begins scan c st (Ok p) new → Begins before c st (Ok p) new
+begins_shut : (before scan new : Scan) (c : ℕ) (st : Start) (p : Progress) → Closes before scan → scan.piece.mode ≡ modes.Free → IsBegun (stack_of scan.brackets) c → start_of c ≡ st → Begins scan c st (Ok p) new → Begins before c st (Ok p) new
 begins_shut before scan new c (starts.Open m) p closes free begun is (going, opens) = (going, record { mid = opens.mid; read = opens.read; closes = closes_through before scan opens.mid closes free opens.closes; reads = opens.reads; is = opens.is })
 begins_shut before scan new c starts.Operator progress.Going closes free begun is (met, stands, behind) = (
   met,
@@ -96,7 +96,7 @@ pub record TakesFrom (m : Mode) (at : ℕ) (text before : List ℕ) (c : ℕ) (p
   pub not_yet : is_returned from && not (is_line_feed c) ≡ false
 
 module _ (m : Mode) (at : ℕ) (text before : List ℕ) (c : ℕ) (p : Progress) (new : Scan) (start : IsSound (line_start m) []) where
-  broken_from : (from : Scan) → Reached m at text from before → move_of from.mode c ≡ moves.Breaks → is_return_mode from.mode ≡ false → Begins from c (start_of c) (Ok p) new → TakesFrom m at text before c p new
+  broken_from : (from : Scan) → Reached m at text from before → move_of from.piece.mode c ≡ moves.Breaks → is_return_mode from.piece.mode ≡ false → Begins from c (start_of c) (Ok p) new → TakesFrom m at text before c p new
   broken_from from o breaks unreturned begun =
       let way = o.way in
       let s = way.state in
@@ -108,30 +108,30 @@ module _ (m : Mode) (at : ℕ) (text before : List ℕ) (c : ℕ) (p : Progress)
         not_yet = not_yet;
       }
 
-  taken_shut : (scan from : Scan) (rest : List ℕ) (bytes : List ℕ) → bytes ≡ before → before ≡ encode_utf8 c ++ rest → scan.mode ≡ modes.Free → Begins scan c (start_of c) (Ok p) new → Reached m at text from before → IsShut from scan bytes → TakesFrom m at text before c p new
+  taken_shut : (scan from : Scan) (rest : List ℕ) (bytes : List ℕ) → bytes ≡ before → before ≡ encode_utf8 c ++ rest → scan.piece.mode ≡ modes.Free → Begins scan c (start_of c) (Ok p) new → Reached m at text from before → IsShut from scan bytes → TakesFrom m at text before c p new
   taken_shut scan from rest [] same is free begun o shut = absurd (both_ways _ refl shut.next)
   taken_shut scan from rest (b ∷ more) same is free begun o shut =
       let low = begin_low (stack_of scan.brackets) b shut.next in
       let c_is : c ≡ b = char_from_byte (b ∷ more) rest c (same ∙ is) low (omega arith) in
-      broken_from from o (ap (λ (n : ℕ). move_of from.mode n) c_is ∙ shut.breaks b more refl) shut.unreturned
+      broken_from from o (ap (λ (n : ℕ). move_of from.piece.mode n) c_is ∙ shut.breaks b more refl) shut.unreturned
       (begins_shut from scan new c (start_of c) p shut.closes free (begun_so (stack_of scan.brackets) c (subst (λ (n : ℕ). may_begin (stack_of scan.brackets) n ≡ true) (sym c_is) shut.next)) refl begun)
 
   -- after closed pieces
-  pub taken_free : (scan : Scan) (rest : List ℕ) → ReachedShut m at text scan before → before ≡ encode_utf8 c ++ rest → scan.mode ≡ modes.Free → Begins scan c (start_of c) (Ok p) new → TakesFrom m at text before c p new
+  pub taken_free : (scan : Scan) (rest : List ℕ) → ReachedShut m at text scan before → before ≡ encode_utf8 c ++ rest → scan.piece.mode ≡ modes.Free → Begins scan c (start_of c) (Ok p) new → TakesFrom m at text before c p new
   taken_free scan rest r is free begun =
       ⊎_elim
-      (λ same. broken_from scan (subst (λ (s : Scan). Reached m at text s before) (sym same) r.reached) (free_breaks scan.mode c free) (ap is_return_mode free) begun)
+      (λ same. broken_from scan (subst (λ (s : Scan). Reached m at text s before) (sym same) r.reached) (free_breaks scan.piece.mode c free) (ap is_return_mode free) begun)
       (λ shut. taken_shut scan r.unshut rest before refl is free begun r.reached shut) r.how
 
   -- and in an open one
-  pub taken_open : (scan : Scan) → ReachedShut m at text scan before → is_free scan.mode ≡ false → is_returned scan && not (is_line_feed c) ≡ false → ((s : Scanned) (read : List ℕ) → IsSound s read → EndsNoLine 0 s.done → is_returned scan && not (is_line_feed c) ≡ false → Tallies scan s → IsStacked scan s → Takes scan s c (Ok p) new) → TakesFrom m at text before c p new
+  pub taken_open : (scan : Scan) → ReachedShut m at text scan before → is_free scan.piece.mode ≡ false → is_returned scan && not (is_line_feed c) ≡ false → ((s : Scanned) (read : List ℕ) → IsSound s read → EndsNoLine 0 s.done → is_returned scan && not (is_line_feed c) ≡ false → Tallies scan s → IsStacked scan s → Takes scan s c (Ok p) new) → TakesFrom m at text before c p new
   taken_open scan r other not_yet takes =
       let o = open_reached m at text scan before other r in
       record { from = scan; reached = o; takes = takes o.way.state o.read (sound_run m o.read o.way.state start o.way.runs) o.way.one_line not_yet o.way.tallies o.way.stacked; not_yet = not_yet }
 
 -- what standing so tells
 pub record Stands (at : ℕ) (text : List ℕ) (scan : Scan) (rest : List ℕ) : Type 0 where
-  pub order : scan.start ≤ scan.stop
+  pub order : scan.piece.start ≤ scan.stop
   pub room : scan.stop + length rest ≡ length text
   pub lines : scan.count.line ≤ scan.line + scan.stop
   pub line : scan.line ≡ at

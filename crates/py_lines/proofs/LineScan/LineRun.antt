@@ -89,9 +89,9 @@ returned_as m old new read rest s runs sound tallies stacked none modes.Return i
     go k same done held sound' tallies' stacked' none' = absurd (cc)
 returned_as m old new read rest s runs sound tallies stacked none n is returns empty closes follows = absurd (both_ways _ refl returns)
 
-pub returned : (m : Mode) (old new : Scan) (read rest : List ℕ) (way : IsUnderWay m old read) → IsSound (line_start m) [] → is_return_mode old.mode ≡ true → none_open (stack_of old.brackets) ≡ true → Closes old new → ((after : List ℕ) → encode_utf8_all after ≡ rest → begins is_line_feed after ≡ false) → IsAtLineEnd m new read rest 1
+pub returned : (m : Mode) (old new : Scan) (read rest : List ℕ) (way : IsUnderWay m old read) → IsSound (line_start m) [] → is_return_mode old.piece.mode ≡ true → none_open (stack_of old.brackets) ≡ true → Closes old new → ((after : List ℕ) → encode_utf8_all after ≡ rest → begins is_line_feed after ≡ false) → IsAtLineEnd m new read rest 1
 returned m old new read rest way start returns empty closes follows =
-    returned_as m old new read rest way.state way.runs (sound_run m read way.state start way.runs) way.tallies way.stacked way.one_line old.mode way.tallies.mode returns empty closes follows
+    returned_as m old new read rest way.state way.runs (sound_run m read way.state start way.runs) way.tallies way.stacked way.one_line old.piece.mode way.tallies.mode returns empty closes follows
 
 -- what follows begins with another character, or is nothing
 pub follows_other : (c : ℕ) (more rest after : List ℕ) → rest ≡ encode_utf8_all (c ∷ more) → is_line_feed c ≡ false → encode_utf8_all after ≡ rest → begins is_line_feed after ≡ false
@@ -101,7 +101,7 @@ pub follows_nothing : (rest after : List ℕ) → rest ≡ [] → encode_utf8_al
 follows_nothing rest after none spells = ap (begins is_line_feed) (encodes_same after [] (spells ∙ none))
 
 -- where the scan of a line under way stands
-pub way_order : (scan : Scan) (s : Scanned) → Tallies scan s → scan.start ≤ scan.stop
+pub way_order : (scan : Scan) (s : Scanned) → Tallies scan s → scan.piece.start ≤ scan.stop
 way_order scan s tallies = omega (arith, tallies.start, tallies.stop, byte_len-append (spelled s.done) s.held)
 
 pub way_stop : (m : Mode) (scan : Scan) (read : List ℕ) (way : IsUnderWay m scan read) → IsSound (line_start m) [] → scan.stop ≡ byte_len read

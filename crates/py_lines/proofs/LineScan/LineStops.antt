@@ -1,6 +1,6 @@
 -- The scan of a line goes on in more text, and stops.
-use Rattle.std.proofs.Common.{◌≡◌, ℕ, ◌+◌, ◌≤◌, Bool, true, false, not, ◌&&◌, Ok, List, [], ◌∷◌, ◌++◌, length, inl, inr, refl, sym, ap, ◌∙◌, subst, arith, length-append, lit<, get_or}
-use Rattle.std.specs.Prelude.{encode_utf8, encode_utf8_all, IsUtf8}
+use Rattle.std.proofs.Common.{◌≡◌, ℕ, ◌+◌, ◌≤◌, Bool, true, false, not, ◌&&◌, Option, Some, Ok, Bor, List, [], ◌∷◌, ◌++◌, length, inl, inr, refl, sym, ap, ◌∙◌, subst, arith, length-append, lit<, get_or}
+use Rattle.std.specs.Prelude.{encode_utf8, encode_utf8_all, IsUtf8, IfSome}
 use Rattle.std.proofs.lemmas.Bool.{and_parts, both_ways, false_from_ne_true}
 use Rattle.std.proofs.lemmas.Str.{encode_ascii, encode_same, encodes_same, length-encode, len_utf8_bounds}
 use Rattle.py_lines.specs.Character.{is_line_feed, is_return}
@@ -42,19 +42,32 @@ StandsBefore old text = (m : Mode) × (line : ℕ) × (whole : List ℕ) × IsUt
 abbrev pub ShutsTo : Scan → List ℕ → Scan → List ℕ → Type 0
 ShutsTo old text new rest = (m : Mode) (line : ℕ) (whole : List ℕ) → IsUtf8 whole → IsSound (line_start m) [] → Reached m line whole old text → ReachedShut m line whole new rest
 
+-- what an option holds
+pub some_of : {X : Type 0} (P : X → Type 0) (o : Option X) (x : X) → o ≡ Some x → IfSome o P → P x
+some_of {X} P o x is h = subst (λ (p : Option X). IfSome p P) is h
+
+-- the text that is left after closed pieces
+pub left_shuts : (first : Scan) (text : List ℕ) (old : Scan) (before : List ℕ) (new : Scan) (left : Option (Bor (List ℕ))) (rest : Bor (List ℕ)) → left ≡ Some rest → GoesTo first text old before → ((m : Mode) (line : ℕ) (whole : List ℕ) → IsUtf8 whole → IsSound (line_start m) [] → Reached m line whole old before → IfSome left (λ r. ReachedShut m line whole new r.now)) → ShutsTo first text new rest.now
+left_shuts first text old before new left rest is goes shuts m line whole utf8 start r = some_of (λ (b : Bor (List ℕ)). ReachedShut m line whole new b.now) left rest is (shuts m line whole utf8 start (goes m line whole utf8 start r))
+
 -- what a character comes to, wherever the machine is
 pub record TakesTo (old : Scan) (c : ℕ) (p : Progress) (new : Scan) : Type 0 where
-  pub begun : is_free old.mode ≡ true → Begins old c (start_of c) (Ok p) new
-  pub taken : (s : Scanned) (read : List ℕ) → is_free old.mode ≡ false → IsSound s read → EndsNoLine 0 s.done → is_returned old && not (is_line_feed c) ≡ false → Tallies old s → IsStacked old s → Takes old s c (Ok p) new
+  pub begun : is_free old.piece.mode ≡ true → Begins old c (start_of c) (Ok p) new
+  pub taken : (s : Scanned) (read : List ℕ) → is_free old.piece.mode ≡ false → IsSound s read → EndsNoLine 0 s.done → is_returned old && not (is_line_feed c) ≡ false → Tallies old s → IsStacked old s → Takes old s c (Ok p) new
 
 -- what standing in a line tells
 pub goes_room : (old : Scan) (text : List ℕ) (new : Scan) (rest : List ℕ) → StandsBefore old text → GoesTo old text new rest → new.stop + length rest ≡ old.stop + length text
 goes_room old text new rest (m, line, whole, utf8, start, r) goes = (stands_reached m line whole new rest start (goes m line whole utf8 start r)).room ∙ sym (stands_reached m line whole old text start r).room
 
-pub goes_quote : (old : Scan) (text : List ℕ) (new : Scan) (rest : List ℕ) → StandsBefore old text → GoesTo old text new rest → HasAsciiQuote new.mode
+pub goes_lines : (old : Scan) (text : List ℕ) (new : Scan) (rest : List ℕ) → StandsBefore old text → GoesTo old text new rest → new.count.line ≤ old.line + new.stop
+goes_lines old text new rest (m, line, whole, utf8, start, r) goes =
+    let stood = stands_reached m line whole new rest start (goes m line whole utf8 start r) in
+    omega (arith, stood.lines, stood.line, r.line)
+
+pub goes_quote : (old : Scan) (text : List ℕ) (new : Scan) (rest : List ℕ) → StandsBefore old text → GoesTo old text new rest → HasAsciiQuote new.piece.mode
 goes_quote old text new rest (m, line, whole, utf8, start, r) goes = let o = goes m line whole utf8 start r in way_quote m new o.read o.way start
 
-pub shuts_order : (old : Scan) (text : List ℕ) (new : Scan) (rest : List ℕ) → StandsBefore old text → ShutsTo old text new rest → new.start ≤ new.stop
+pub shuts_order : (old : Scan) (text : List ℕ) (new : Scan) (rest : List ℕ) → StandsBefore old text → ShutsTo old text new rest → new.piece.start ≤ new.stop
 shuts_order old text new rest (m, line, whole, utf8, start, r) shuts = (stands_shut m line whole new rest start (shuts m line whole utf8 start r)).order
 
 pub shuts_room : (old : Scan) (text : List ℕ) (new : Scan) (rest : List ℕ) → StandsBefore old text → ShutsTo old text new rest → new.stop + length rest ≡ old.stop + length text
@@ -110,10 +123,10 @@ module _ (first : Scan) (text : List ℕ) (old : Scan) (before : List ℕ) (shut
   module _ (c : ℕ) (rest : List ℕ) (is : before ≡ encode_utf8 c ++ rest) (new : Scan) where
     -- where the machine takes it
     taken_at : (p : Progress) (m : Mode) (line : ℕ) (whole : List ℕ) → IsSound (line_start m) [] → is_returned old && not (is_line_feed c) ≡ false → TakesTo old c p new → ReachedShut m line whole old before → TakesFrom m line whole before c p new
-    taken_at p m line whole start not_yet takes o = go (is_free old.mode) refl
+    taken_at p m line whole start not_yet takes o = go (is_free old.piece.mode) refl
       where
-        go : (b : Bool) → is_free old.mode ≡ b → TakesFrom m line whole before c p new
-        go true free = taken_free m line whole before c p new start old rest o is (free_is old.mode free) (takes.begun free)
+        go : (b : Bool) → is_free old.piece.mode ≡ b → TakesFrom m line whole before c p new
+        go true free = taken_free m line whole before c p new start old rest o is (free_is old.piece.mode free) (takes.begun free)
         go false other = taken_open m line whole before c p new start old o other not_yet (λ s read. takes.taken s read other)
 
     -- a character was taken
@@ -143,7 +156,7 @@ module _ (first : Scan) (text : List ℕ) (old : Scan) (before : List ℕ) (shut
     stops_returned ended closes m line whole utf8 start r =
         let both = and_parts _ _ ended in
         let parts = and_parts _ _ both.0 in
-        let o = open_reached m line whole old before (return_open old.mode parts.0) (shuts m line whole utf8 start r) in
+        let o = open_reached m line whole old before (return_open old.piece.mode parts.0) (shuts m line whole utf8 start r) in
         let returns = return_ends o.way.state o.read (sound_run m o.read o.way.state start o.way.runs) (ap is_return_mode (sym o.way.tallies.mode) ∙ parts.0) in
         record {
           read = o.read;
@@ -187,10 +200,10 @@ module _ (first : Scan) (text : List ℕ) (old : Scan) (before : List ℕ) (shut
       }
 
 -- at a line's start the scan stands before all of it
-pub begun_reached : (old : Scan) (text : List ℕ) → Tallies old (line_start old.mode) → IsStacked old (line_start old.mode) → Reached old.mode old.line text old text
+pub begun_reached : (old : Scan) (text : List ℕ) → Tallies old (line_start old.piece.mode) → IsStacked old (line_start old.piece.mode) → Reached old.piece.mode old.line text old text
 begun_reached old text tallies stacked = record {
   read = [];
-  way = record { state = line_start old.mode; runs = refl; tallies = tallies; stacked = stacked; one_line = tt };
+  way = record { state = line_start old.piece.mode; runs = refl; tallies = tallies; stacked = stacked; one_line = tt };
   spell = refl;
   scalars = refl;
   line = refl;
@@ -199,7 +212,7 @@ begun_reached old text tallies stacked = record {
 -- where the text ends after CR, the line ends there
 pub scans_returned : (m : Mode) (line : ℕ) (text : List ℕ) (old new : Scan) → IsSound (line_start m) [] → ScansIn m line text old stops.TextEnd → is_returned old ≡ true → Closes old new → Scans m text new (stops.LineEnd 1)
 scans_returned m line text old new start scans ended closes =
-    let parts = and_parts (is_return_mode old.mode) (none_open (stack_of old.brackets)) ended in
+    let parts = and_parts (is_return_mode old.piece.mode) (none_open (stack_of old.brackets)) ended in
     record {
       read = scans.read;
       rest = scans.rest;

@@ -54,7 +54,7 @@ tallies_read old mid s c m tallies reads =
       tokens = ap (λ v. v.items) reads.tokens ∙ tallies.tokens ∙ ap (λ (n : ℕ). tokens_from 0 n s.done) (sym reads.line);
     }
 
-in_its_mode : (mid : Scan) (s : Scanned) → mid.mode ≡ s.mode → Tallies (in_mode mid s.mode) s → Tallies mid s
+in_its_mode : (mid : Scan) (s : Scanned) → mid.piece.mode ≡ s.mode → Tallies (in_mode mid s.mode) s → Tallies mid s
 in_its_mode mid s same t = record { mode = same; start = t.start; stop = t.stop; piece_line = t.piece_line; here = t.here; after = t.after; margin = t.margin; indent = t.indent; kind = t.kind; tokens = t.tokens }
 
 other_brackets : (old : Scan) (met : Brackets) (s : Scanned) → Tallies old s → Tallies (with_brackets old met) s

@@ -89,7 +89,9 @@ kinds a b modes.Space other = no_kind a b
 kinds a b modes.Return other = no_kind a b
 kinds a b (modes.Word spellings.Number) other = code_kind a (b || false) ∙ sym (to_code (kind_by a b) kind.Number (λ e. cc))
 kinds a b (modes.Word spellings.R) other = code_kind a (b || false) ∙ sym (to_code (kind_by a b) kind.Name (λ e. cc))
-kinds a b (modes.Word spellings.BOrF) other = code_kind a (b || false) ∙ sym (to_code (kind_by a b) kind.Name (λ e. cc))
+kinds a b (modes.Word spellings.B) other = code_kind a (b || false) ∙ sym (to_code (kind_by a b) kind.Name (λ e. cc))
+kinds a b (modes.Word spellings.F) other = code_kind a (b || false) ∙ sym (to_code (kind_by a b) kind.Name (λ e. cc))
+kinds a b (modes.Word spellings.Fr) other = code_kind a (b || false) ∙ sym (to_code (kind_by a b) kind.Name (λ e. cc))
 kinds a b (modes.Word spellings.Prefix) other = code_kind a (b || false) ∙ sym (to_code (kind_by a b) kind.Name (λ e. cc))
 kinds a b (modes.Word spellings.Name) other = code_kind a (b || false) ∙ sym (to_code (kind_by a b) kind.Name (λ e. cc))
 kinds a b modes.Comment other = comment_kind a b
@@ -151,7 +153,7 @@ pub shut_as : (old new : Scan) (done : List Piece) (m : Mode) (held rest : List 
 shut_as old new done m held rest closes fit tallies token starts other =
     let spells = spelled-push done (class_of m) held in
     let whole : spelled done ++ held ≡ spelled (done ++ piece (class_of m) held ∷ []) ++ [] = sym (append-nil _ ∙ spells) in
-    let size : old.stop - old.start ≡ byte_len held = omega (arith, tallies.start, tallies.stop, byte_len-append (spelled done) held) in
+    let size : old.stop - old.piece.start ≡ byte_len held = omega (arith, tallies.start, tallies.stop, byte_len-append (spelled done) held) in
     let in_line : tokens_from 0 new.line (done ++ piece (class_of m) held ∷ []) ≡ tokens_from 0 old.line done ++ tokens_of_piece (byte_len (spelled done)) (byte_len (spelled done ++ held)) (old.line + line_ends (spelled done)) (class_of m) held
     = rw closes.line (tokens_push old.line done (piece (class_of m) held) rest fit ∙ rw (sym (byte_len-append (spelled done) held)) refl) in
     record {

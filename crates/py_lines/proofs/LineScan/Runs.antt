@@ -222,7 +222,7 @@ none_from [] none = refl
 none_from (c ∷ cs) none = absurd (omega (arith, none, length-append (encode_utf8 c) (encode_utf8_all cs), length-encode c, len_utf8_bounds c))
 
 -- a run was read, or none
-pub holds_run : (old new : Scan) (text : List ℕ) (n : ℕ) → HeldIn old.mode text n → ((0 < n) × ((run : List ℕ) → byte_len run ≡ n → ReadsRun old run new)) ⊎ ((n ≤ 0) × (new ≡ old)) → Holds old text (drop n text) new
+pub holds_run : (old new : Scan) (text : List ℕ) (n : ℕ) → HeldIn old.piece.mode text n → ((0 < n) × ((run : List ℕ) → byte_len run ≡ n → ReadsRun old run new)) ⊎ ((n ≤ 0) × (new ≡ old)) → Holds old text (drop n text) new
 holds_run old new text n held how = record {
   run = held.run;
   spell = held.spell;
@@ -314,7 +314,7 @@ reached_run m at text old new mid rest r holds = record {
 }
 
 -- the mode's quote is one byte on the way
-pub way_quote : (m : Mode) (scan : Scan) (read : List ℕ) (way : IsUnderWay m scan read) → IsSound (line_start m) [] → HasAsciiQuote scan.mode
+pub way_quote : (m : Mode) (scan : Scan) (read : List ℕ) (way : IsUnderWay m scan read) → IsSound (line_start m) [] → HasAsciiQuote scan.piece.mode
 way_quote m scan read way start = subst HasAsciiQuote (sym way.tallies.mode) (sound_quote way.state.mode way.state.done way.state.held (sound_run m read way.state start way.runs).holds)
 
 -- and over a character

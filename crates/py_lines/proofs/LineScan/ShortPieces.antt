@@ -1,5 +1,5 @@
 -- Words, spaces and operators that runs of bytes spell are taken whole.
-use Rattle.std.proofs.Common.{◌≡◌, ℕ, zero, suc, ◌+◌, ◌-◌, ◌<◌, ◌≤◌, ◌⊎◌, inl, inr, Bool, true, false, cond, not, ◌||◌, ◌&&◌, None, Some, Ok, List, [], ◌∷◌, ◌++◌, length, take, drop, slice_index, slice_get, refl, sym, ap, ◌∙◌, subst, append_assoc, append-nil, arith, ⊎_elim, take-append-drop, length-append, lit<, take_all, length-drop}
+use Rattle.std.proofs.Common.{◌≡◌, ℕ, zero, suc, ◌+◌, ◌-◌, ◌<◌, ◌≤◌, ◌⊎◌, inl, inr, Bool, true, false, cond, not, ◌||◌, ◌&&◌, Some, Ok, List, [], ◌∷◌, ◌++◌, length, take, drop, slice_index, slice_get, refl, sym, ap, ◌∙◌, subst, append_assoc, append-nil, arith, ⊎_elim, take-append-drop, length-append, lit<, take_all, length-drop}
 use Rattle.std.specs.Prelude.{encode_utf8_all, encode_utf8, codes, nat_lt}
 use Rattle.std.specs.Str.{all_scalars, IsUtf8, IsCharBoundary}
 use Rattle.std.specs.List.{list_all}
@@ -30,8 +30,8 @@ use Rattle.py_lines.specs.declared.mode.Start.TheVariants as starts
 use Rattle.py_lines.specs.declared.scan.Progress.TheVariants as progress
 use Rattle.py_lines.specs.declared.scan.Scan.{Scan}
 use Rattle.py_lines.specs.Private.Machine.{fresh, closed, moved, started, run_from, token_of, move_of, start_of, short_move, first_spelling, spelling_with, spelling_on, is_prefix_spelling, IsFull, IsSound, Bracket, brackets_behind}
-use Rattle.py_lines.specs.Private.Scan.{Closes, ReadsCharacter, Meets, Begins, ClosesAndAdds, Tallies, line_start, stack_of, none_open, is_return_mode, indent_closed, with_brackets, tokens_with, kind_through, kind_closed, holds_nothing}
-use Rattle.py_lines.specs.Private.Run.{IsRunOf, is_word_byte, may_stand, follows, is_free, word_spelling, word_mode, space_mode, opened, ReadsRun, AddsToken, TakesRun, TakesOperator, TakesPiece, Reached, ReachedShut, is_apart, may_begin, is_text_byte, is_body_byte, TakesString}
+use Rattle.py_lines.specs.Private.Scan.{Closes, ReadsCharacter, Meets, Begins, ClosesAndAdds, Tallies, line_start, stack_of, none_open, is_return_mode, indent_closed, with_brackets, tokens_with, kind_through, kind_closed, holds_nothing, in_mode}
+use Rattle.py_lines.specs.Private.Run.{IsRunOf, is_word_byte, may_stand, follows, is_free, word_spelling, word_mode, space_mode, opened, ReadsRun, AddsToken, TakesRun, TakesOperator, Reached, ReachedShut, is_apart, may_begin, is_text_byte, is_body_byte, TakesString}
 use Rattle.py_lines.proofs.Text.CharacterTests.{operator_ascii, none_of, the_one}
 use Rattle.py_lines.proofs.Machine.PieceRuns.{scanned, run_from-append, run_word, run_space, grown}
 use Rattle.py_lines.proofs.Machine.Starts.{start-word, start-space, start-operator, start-quote}
@@ -55,7 +55,7 @@ all_pass passes bytes zero within each = refl
 all_pass passes [] (suc n) within each = refl
 all_pass passes (b ∷ bs) (suc n) within each = and_from (passes b) (list_all passes (take n bs)) (each 0 (omega arith)) (all_pass passes bs n (omega (arith, within)) (λ i less. each (suc i) (omega (arith, less))))
 
-none_begins : (passes : ℕ → Bool) (bytes : List ℕ) (n : ℕ) → n ≤ length bytes → (n < length bytes → passes (slice_index bytes n) ≡ false) → begins passes (drop n bytes) ≡ false
+pub none_begins : (passes : ℕ → Bool) (bytes : List ℕ) (n : ℕ) → n ≤ length bytes → (n < length bytes → passes (slice_index bytes n) ≡ false) → begins passes (drop n bytes) ≡ false
 none_begins passes [] zero within none = refl
 none_begins passes (b ∷ bs) zero within none = none (omega arith)
 none_begins passes [] (suc n) within none = refl
@@ -103,7 +103,7 @@ token_closes old new s k len token other adds = record {
 }
 
 -- an open space is closed
-pub space_closes : (old : Scan) (len : ℕ) (indent : ℕ) → indent ≡ indent_closed old.indent modes.Space old.margin len → Closes (opened old modes.Space len) (record (opened old modes.Space len) { mode = modes.Free; start = old.stop + len; margin = false; indent = indent })
+pub space_closes : (old : Scan) (len : ℕ) (indent : ℕ) → indent ≡ indent_closed old.indent modes.Space old.margin len → Closes (opened old modes.Space len) (record (opened old modes.Space len) { piece = record { mode = modes.Free; start = old.stop + len; line = old.count.line }; margin = false; indent = indent })
 space_closes old len indent is =
     let size : (old.stop + len) - old.stop ≡ len = omega arith in
     record {
@@ -172,17 +172,17 @@ low_encodes passes (c ∷ cs) low all =
 
 -- the scan where closed pieces end
 abbrev pub settled : Scan → Scan
-settled old = record old { start = old.stop; piece_line = old.count.line }
+settled old = record old { piece = record old.piece { start = old.stop; line = old.count.line } }
 
 pub free_breaks : (m : Mode) (c : ℕ) → m ≡ modes.Free → move_of m c ≡ moves.Breaks
 unfolding move_of
 free_breaks m c is = ap (λ n. move_of n c) is
 
-pub settles : (old : Scan) → old.mode ≡ modes.Free → Closes old (settled old)
+pub settles : (old : Scan) → old.piece.mode ≡ modes.Free → Closes old (settled old)
 settles old free = record {
-  tokens = sym (ap (λ m. old.tokens.items ++ tokens_with (token_of m) old.start old.stop old.piece_line) free ∙ append-nil old.tokens.items);
+  tokens = sym (ap (λ m. old.tokens.items ++ tokens_with (token_of m) old.piece.start old.stop old.piece.line) free ∙ append-nil old.tokens.items);
   kind = sym (ap (λ m. kind_closed old.kind m) free);
-  indent = sym (ap (λ m. indent_closed old.indent m old.margin (old.stop - old.start)) free);
+  indent = sym (ap (λ m. indent_closed old.indent m old.margin (old.stop - old.piece.start)) free);
   margin = sym (ap (λ m. old.margin && holds_nothing m) free ∙ and_true old.margin);
   mode = free;
   start = refl;
@@ -198,21 +198,21 @@ settles old free = record {
     and_true false = refl
 
 -- what a piece that comes next meets
-record MeetsPiece (m : Mode) (at : ℕ) (text : List ℕ) (scan : Scan) (c : ℕ) (rest : List ℕ) : Type 0 where
-  unshut : Scan
-  reached : Reached m at text unshut (c ∷ rest)
-  closes : Closes unshut (settled scan)
-  breaks : move_of unshut.mode c ≡ moves.Breaks
-  unreturned : is_return_mode unshut.mode ≡ false
+pub record MeetsPiece (m : Mode) (at : ℕ) (text : List ℕ) (scan : Scan) (c : ℕ) (rest : List ℕ) : Type 0 where
+  pub unshut : Scan
+  pub reached : Reached m at text unshut (c ∷ rest)
+  pub closes : Closes unshut (settled scan)
+  pub breaks : move_of unshut.piece.mode c ≡ moves.Breaks
+  pub unreturned : is_return_mode unshut.piece.mode ≡ false
 
-meets : (m : Mode) (at : ℕ) (text : List ℕ) (scan : Scan) (c : ℕ) (rest : List ℕ) → scan.mode ≡ modes.Free → ReachedShut m at text scan (c ∷ rest) → MeetsPiece m at text scan c rest
+pub meets : (m : Mode) (at : ℕ) (text : List ℕ) (scan : Scan) (c : ℕ) (rest : List ℕ) → scan.piece.mode ≡ modes.Free → ReachedShut m at text scan (c ∷ rest) → MeetsPiece m at text scan c rest
 meets m at text scan c rest free r =
     ⊎_elim
     (λ same. record {
       unshut = scan;
       reached = subst (λ (s : Scan). Reached m at text s (c ∷ rest)) (sym same) r.reached;
       closes = settles scan free;
-      breaks = free_breaks scan.mode c free;
+      breaks = free_breaks scan.piece.mode c free;
       unreturned = ap is_return_mode free;
     })
     (λ shut. record {
@@ -242,7 +242,7 @@ list_all_more p q each (d ∷ ds) all =
     and_from (q d) (list_all q ds) (each d parts.0) (list_all_more p q each ds parts.1)
 
 -- a run opens a piece after closed ones
-opens_reached : (m : Mode) (at : ℕ) (text : List ℕ) (scan : Scan) (c : ℕ) (cs after : List ℕ) (first last : Mode) → MeetsPiece m at text scan c (cs ++ after) → IsSound (line_start m) [] → start_of c ≡ starts.Open first → ((done : List Piece) → run_from (Some (scanned done first (c ∷ []))) cs ≡ Some (scanned done last (c ∷ cs))) → list_all (λ d. not (is_break d)) (c ∷ cs) ≡ true → (encode_utf8_all (c ∷ cs) ≡ c ∷ cs) × (all_scalars (c ∷ cs) ≡ true) → Reached m at text (opened scan last (length (c ∷ cs))) after
+pub opens_reached : (m : Mode) (at : ℕ) (text : List ℕ) (scan : Scan) (c : ℕ) (cs after : List ℕ) (first last : Mode) → MeetsPiece m at text scan c (cs ++ after) → IsSound (line_start m) [] → start_of c ≡ starts.Open first → ((done : List Piece) → run_from (Some (scanned done first (c ∷ []))) cs ≡ Some (scanned done last (c ∷ cs))) → list_all (λ d. not (is_break d)) (c ∷ cs) ≡ true → (encode_utf8_all (c ∷ cs) ≡ c ∷ cs) × (all_scalars (c ∷ cs) ≡ true) → Reached m at text (opened scan last (length (c ∷ cs))) after
 opens_reached m at text scan c cs after first last meet start opens runs all low =
     let way = meet.reached.way in
     let s = way.state in
@@ -252,7 +252,7 @@ opens_reached m at text scan c cs after first last meet start opens runs all low
     let breaks : move_of s.mode c ≡ moves.Breaks = ap (λ n. move_of n c) (sym way.tallies.mode) ∙ meet.breaks in
     let shut : Tallies (settled scan) (fresh pieces) = closes_shut meet.unshut (settled scan) s.done s.mode s.held read meet.closes sound way.tallies in
     let size : byte_len (c ∷ cs) ≡ length (c ∷ cs) = ap length low.0 in
-    let reads : ReadsRun (settled scan) (c ∷ cs) (record (opened scan last (length (c ∷ cs))) { mode = scan.mode }) = record {
+    let reads : ReadsRun (settled scan) (c ∷ cs) (in_mode (opened scan last (length (c ∷ cs))) scan.piece.mode) = record {
       stop = ap (λ (n : ℕ). scan.stop + n) (sym size);
       here = refl;
       after = refl;
@@ -266,7 +266,7 @@ opens_reached m at text scan c cs after first last meet start opens runs all low
       tokens = refl;
       brackets = refl;
     } in
-    let found = tallies_run (settled scan) (record (opened scan last (length (c ∷ cs))) { mode = scan.mode }) (fresh pieces) (c ∷ cs) all tt shut reads in
+    let found = tallies_run (settled scan) (in_mode (opened scan last (length (c ∷ cs))) scan.piece.mode) (fresh pieces) (c ∷ cs) all tt shut reads in
     let stepped : run_from (Some (line_start m)) (read ++ c ∷ cs) ≡ Some (scanned pieces last (c ∷ cs))
     = run_from-append (Some (line_start m)) read (c ∷ cs) ∙ ap (λ o. run_from o (c ∷ cs)) way.runs
     ∙ ap (λ v. run_from (moved s c v) cs) breaks ∙ ap (λ st. run_from (started pieces c st) cs) opens ∙ runs pieces in
@@ -360,7 +360,7 @@ follows_low st c h = follows_cases (c < 128) st c h (word_byte_low c) (space_low
 pub begin_low : (st : List Bracket) (c : ℕ) → may_begin st c ≡ true → c < 128
 begin_low st c h = ⊎_elim (quote_ascii c) (follows_low st c) (or_cases (is_quote c) (follows st c) h)
 
-follows_begin : (st : List Bracket) (c : ℕ) → follows st c ≡ true → may_begin st c ≡ true
+pub follows_begin : (st : List Bracket) (c : ℕ) → follows st c ≡ true → may_begin st c ≡ true
 follows_begin st c h = ap (λ b. is_quote c || b) h ∙ or_right (is_quote c)
   where
     or_right : (b : Bool) → b || true ≡ true
@@ -382,7 +382,7 @@ unfolding move_of
 space_stops run d st other next = rw other refl
 
 -- the run of a piece from its first character
-pub word_reached : (m : Mode) (at : ℕ) (text : List ℕ) (scan new : Scan) (bytes : List ℕ) (len : ℕ) → scan.mode ≡ modes.Free → ReachedShut m at text scan bytes → IsSound (line_start m) [] → TakesRun is_word_byte follows word_mode scan bytes len new → ReachedShut m at text new (drop len bytes)
+pub word_reached : (m : Mode) (at : ℕ) (text : List ℕ) (scan new : Scan) (bytes : List ℕ) (len : ℕ) → scan.piece.mode ≡ modes.Free → ReachedShut m at text scan bytes → IsSound (line_start m) [] → TakesRun is_word_byte follows word_mode scan bytes len new → ReachedShut m at text new (drop len bytes)
 word_reached m at text scan new bytes len free r start takes = go takes.run takes.spell takes.size takes.full takes.all takes.how
   where
     go : (run : List ℕ) → run ++ takes.after ≡ bytes → length run ≡ len → IsFull run → list_all is_word_byte run ≡ true → (new ≡ opened scan (word_mode run) len) ⊎ (Closes (opened scan (word_mode run) len) new × (begins (follows (stack_of scan.brackets)) takes.after ≡ true)) → ReachedShut m at text new (drop len bytes)
@@ -392,7 +392,7 @@ word_reached m at text scan new bytes len free r start takes = go takes.run take
         subst (ReachedShut m at text new) (sym (ap (drop len) (sym spell) ∙ ap (λ (n : ℕ). drop n (c ∷ cs ++ takes.after)) (sym size) ∙ drop-append_seam (c ∷ cs) takes.after))
         (run_reached is_word_byte follows follows_begin word_mode word_byte_low word_whole (λ d. modes.Word (first_spelling d)) (λ d h. start-word d (word_starts d h)) (λ done d ds h. run_word done (first_spelling d) (d ∷ []) ds (all_words ds h)) word_stops (λ run. refl) m at text scan new c cs takes.after meet start all takes.ends (subst (λ (n : ℕ). (new ≡ opened scan (word_mode (c ∷ cs)) n) ⊎ (Closes (opened scan (word_mode (c ∷ cs)) n) new × (begins (follows (stack_of scan.brackets)) takes.after ≡ true))) (sym size) how))
 
-pub space_reached : (m : Mode) (at : ℕ) (text : List ℕ) (scan new : Scan) (bytes : List ℕ) (len : ℕ) → scan.mode ≡ modes.Free → ReachedShut m at text scan bytes → IsSound (line_start m) [] → TakesRun is_space may_begin space_mode scan bytes len new → ReachedShut m at text new (drop len bytes)
+pub space_reached : (m : Mode) (at : ℕ) (text : List ℕ) (scan new : Scan) (bytes : List ℕ) (len : ℕ) → scan.piece.mode ≡ modes.Free → ReachedShut m at text scan bytes → IsSound (line_start m) [] → TakesRun is_space may_begin space_mode scan bytes len new → ReachedShut m at text new (drop len bytes)
 space_reached m at text scan new bytes len free r start takes = go takes.run takes.spell takes.size takes.full takes.all takes.how
   where
     go : (run : List ℕ) → run ++ takes.after ≡ bytes → length run ≡ len → IsFull run → list_all is_space run ≡ true → (new ≡ opened scan (space_mode run) len) ⊎ (Closes (opened scan (space_mode run) len) new × (begins (may_begin (stack_of scan.brackets)) takes.after ≡ true)) → ReachedShut m at text new (drop len bytes)
@@ -444,7 +444,7 @@ adds_operator before scan new met c passes closes adds =
       };
     }
 
-operator_reached : (m : Mode) (at : ℕ) (text : List ℕ) (scan new : Scan) (bytes : List ℕ) (len : ℕ) → scan.mode ≡ modes.Free → IsUtf8 text → ReachedShut m at text scan bytes → IsSound (line_start m) [] → TakesOperator scan bytes len new → ReachedShut m at text new (drop len bytes)
+pub operator_reached : (m : Mode) (at : ℕ) (text : List ℕ) (scan new : Scan) (bytes : List ℕ) (len : ℕ) → scan.piece.mode ≡ modes.Free → IsUtf8 text → ReachedShut m at text scan bytes → IsSound (line_start m) [] → TakesOperator scan bytes len new → ReachedShut m at text new (drop len bytes)
 operator_reached m at text scan new bytes len free utf8 r start takes =
     let c = takes.c in
     let meet = meets m at text scan c takes.after free (subst (ReachedShut m at text scan) (sym takes.spell) r) in
@@ -452,7 +452,7 @@ operator_reached m at text scan new bytes len free utf8 r start takes =
     let s = way.state in
     let before = meet.unshut in
     let breaks : move_of s.mode c ≡ moves.Breaks = ap (λ n. move_of n c) (sym way.tallies.mode) ∙ meet.breaks in
-    let not_yet : (is_return_mode before.mode && none_open (stack_of before.brackets)) && not (is_line_feed c) ≡ false = ap (λ (b : Bool). (b && none_open (stack_of before.brackets)) && not (is_line_feed c)) meet.unreturned in
+    let not_yet : (is_return_mode before.piece.mode && none_open (stack_of before.brackets)) && not (is_line_feed c) ≡ false = ap (λ (b : Bool). (b && none_open (stack_of before.brackets)) && not (is_line_feed c)) meet.unreturned in
     let stands : brackets_behind (stack_of before.brackets) before.stop (piece operator (c ∷ [])) ≡ Some (stack_of takes.met)
     = ap (λ b. brackets_behind (stack_of b) before.stop (piece operator (c ∷ []))) (sym meet.closes.brackets) ∙ ap (λ (n : ℕ). brackets_behind (stack_of scan.brackets) n (piece operator (c ∷ []))) (sym meet.closes.stop) ∙ takes.stands in
     let begins_so : Begins before c (start_of c) (Ok progress.Going) new = subst (λ (st : Start). Begins before c st (Ok progress.Going) new) (sym (start-operator c takes.passes))
@@ -532,7 +532,7 @@ quote_reads old q n quote =
 inside_other : (m : Mode) (q : ℕ) → modes.Inside q ≡ m → m ≡ modes.Return → ⊥
 inside_other m q is returns = let clash = is ∙ returns in cc
 
-string_reached : (m : Mode) (at : ℕ) (text : List ℕ) (scan new : Scan) (bytes : List ℕ) (len : ℕ) → scan.mode ≡ modes.Free → IsUtf8 text → ReachedShut m at text scan bytes → IsSound (line_start m) [] → TakesString scan bytes len new → ReachedShut m at text new (drop len bytes)
+pub string_reached : (m : Mode) (at : ℕ) (text : List ℕ) (scan new : Scan) (bytes : List ℕ) (len : ℕ) → scan.piece.mode ≡ modes.Free → IsUtf8 text → ReachedShut m at text scan bytes → IsSound (line_start m) [] → TakesString scan bytes len new → ReachedShut m at text new (drop len bytes)
 string_reached m at text scan new bytes len free utf8 r start takes =
     let q = takes.q in
     let run = takes.run in
@@ -571,22 +571,11 @@ string_taken old new (b ∷ body) q n begins_so first run some within closing ad
   adds = adds;
 }
 
--- after a piece
-pub piece_reached : (m : Mode) (at : ℕ) (text : List ℕ) (scan new : Scan) (bytes : List ℕ) (len : ℕ) → scan.mode ≡ modes.Free → IsUtf8 text → ReachedShut m at text scan bytes → IsSound (line_start m) [] → TakesPiece scan bytes (Ok (Some len)) new → ReachedShut m at text new (drop len bytes)
-piece_reached m at text scan new bytes len free utf8 r start takes =
-    ⊎_elim
-    (λ word. word_reached m at text scan new bytes len free r start word)
-    (λ other. ⊎_elim (λ space. space_reached m at text scan new bytes len free r start space) (λ third. ⊎_elim (λ stands. operator_reached m at text scan new bytes len free utf8 r start stands) (λ string. string_reached m at text scan new bytes len free utf8 r start string) third) other) takes
-
--- where nothing was taken
-pub piece_none : (m : Mode) (at : ℕ) (text : List ℕ) (scan new : Scan) (bytes : List ℕ) → ReachedShut m at text scan bytes → TakesPiece scan bytes (Ok None) new → ReachedShut m at text new bytes
-piece_none m at text scan new bytes r takes = subst (λ (s : Scan). ReachedShut m at text s bytes) (sym takes) r
-
 pub free_is : (m : Mode) → is_free m ≡ true → m ≡ modes.Free
 free_is modes.Free h = refl
 free_is m h = absurd (both_ways _ refl h)
 
-pub open_reached : (m : Mode) (at : ℕ) (text : List ℕ) (scan : Scan) (bytes : List ℕ) → is_free scan.mode ≡ false → ReachedShut m at text scan bytes → Reached m at text scan bytes
+pub open_reached : (m : Mode) (at : ℕ) (text : List ℕ) (scan : Scan) (bytes : List ℕ) → is_free scan.piece.mode ≡ false → ReachedShut m at text scan bytes → Reached m at text scan bytes
 open_reached m at text scan bytes other r =
     ⊎_elim
     (λ same. subst (λ (s : Scan). Reached m at text s bytes) (sym same) r.reached)
@@ -600,9 +589,10 @@ pub record Goes (old : Scan) (bytes : List ℕ) (len : ℕ) (new : Scan) : Type 
   pub stop : new.stop ≡ old.stop + len
   pub some : 0 < len
   pub within : len ≤ length bytes
+  pub lines : new.count.line ≤ old.count.line + len
   pub cut : IsUtf8 bytes → IsCharBoundary bytes len
 
-low_cut : (run after bytes : List ℕ) → run ++ after ≡ bytes → encode_utf8_all run ≡ run → IsUtf8 bytes → IsCharBoundary bytes (length run)
+pub low_cut : (run after bytes : List ℕ) → run ++ after ≡ bytes → encode_utf8_all run ≡ run → IsUtf8 bytes → IsCharBoundary bytes (length run)
 low_cut run after bytes spell same utf8 =
     let split = front_chars run utf8.0 after (utf8.1.1 ∙ sym spell ∙ ap (λ t. t ++ after) (sym same)) in
     IsCharBoundary-at_seam bytes run after (sym spell) (split.0, ((all_scalars-parts run split.0 (ap all_scalars (sym split.1) ∙ utf8.1.0)).1, split.2))
@@ -611,23 +601,25 @@ full_length : (run : List ℕ) → IsFull run → 0 < length run
 full_length [] full = absurd full
 full_length (c ∷ cs) full = omega arith
 
-run_goes : (passes : ℕ → Bool) (next : List Bracket → ℕ → Bool) (mode_of : List ℕ → Mode) (old new : Scan) (bytes : List ℕ) (len : ℕ) → ((d : ℕ) → passes d ≡ true → d < 128) → TakesRun passes next mode_of old bytes len new → Goes old bytes len new
+pub run_goes : (passes : ℕ → Bool) (next : List Bracket → ℕ → Bool) (mode_of : List ℕ → Mode) (old new : Scan) (bytes : List ℕ) (len : ℕ) → ((d : ℕ) → passes d ≡ true → d < 128) → TakesRun passes next mode_of old bytes len new → Goes old bytes len new
 run_goes passes next mode_of old new bytes len low takes = record {
   stop = ⊎_elim (λ is. ap (λ (s : Scan). s.stop) is) (λ shut. shut.0.stop) takes.how;
   some = omega (arith, takes.size, full_length takes.run takes.full);
   within = omega (arith, takes.size, ap length takes.spell, length-append takes.run takes.after);
+  lines = ⊎_elim (λ (is : new ≡ opened old (mode_of takes.run) len). omega (arith, ap (λ (s : Scan). s.count.line) is)) (λ shut. omega (arith, ap (λ (k : Count). k.line) shut.0.count)) takes.how;
   cut = λ utf8. subst (IsCharBoundary bytes) takes.size (low_cut takes.run takes.after bytes takes.spell (low_encodes passes takes.run low takes.all).0 utf8);
 }
 
-operator_goes : (old new : Scan) (bytes : List ℕ) (len : ℕ) → TakesOperator old bytes len new → Goes old bytes len new
+pub operator_goes : (old new : Scan) (bytes : List ℕ) (len : ℕ) → TakesOperator old bytes len new → Goes old bytes len new
 operator_goes old new bytes len takes = record {
   stop = takes.adds.stop ∙ ap (λ (n : ℕ). old.stop + n) takes.size;
   some = omega (arith, takes.size);
   within = omega (arith, takes.size, ap length takes.spell, length-append (takes.c ∷ []) takes.after);
+  lines = omega (arith, takes.adds.here);
   cut = λ utf8. subst (IsCharBoundary bytes) takes.size (low_cut (takes.c ∷ []) takes.after bytes takes.spell (append-nil (encode_utf8 takes.c) ∙ encode_ascii takes.c (operator_ascii takes.c takes.passes)) utf8);
 }
 
-string_goes : (old new : Scan) (bytes : List ℕ) (len : ℕ) → TakesString old bytes len new → Goes old bytes len new
+pub string_goes : (old new : Scan) (bytes : List ℕ) (len : ℕ) → TakesString old bytes len new → Goes old bytes len new
 string_goes old new bytes len takes =
     let q = takes.q in
     let run = takes.run in
@@ -640,23 +632,19 @@ string_goes old new bytes len takes =
       stop = takes.adds.stop;
       some = omega (arith, takes.size);
       within = omega (arith, size, ap length spell, length-append (q ∷ run ++ q ∷ []) takes.after);
+      lines = omega (arith, takes.adds.here);
       cut = λ utf8. subst (IsCharBoundary bytes) size (low_cut (q ∷ run ++ q ∷ []) takes.after bytes spell low.0 utf8);
     }
 
-pub piece_goes : (old new : Scan) (bytes : List ℕ) (len : ℕ) → TakesPiece old bytes (Ok (Some len)) new → Goes old bytes len new
-piece_goes old new bytes len takes =
-    ⊎_elim
-    (λ word. run_goes is_word_byte follows word_mode old new bytes len word_byte_low word)
-    (λ other. ⊎_elim (λ space. run_goes is_space may_begin space_mode old new bytes len space_low space) (λ third. ⊎_elim (λ stands. operator_goes old new bytes len stands) (λ string. string_goes old new bytes len string) third) other) takes
-
 -- the byte that the bytes begin with
-begins_with : (bytes : List ℕ) (b : ℕ) → Some b ≡ slice_get bytes 0 → b ∷ drop 1 bytes ≡ bytes
+pub begins_with : (bytes : List ℕ) (b : ℕ) → Some b ≡ slice_get bytes 0 → b ∷ drop 1 bytes ≡ bytes
 begins_with [] b is = absurd (cc)
 begins_with (x ∷ xs) b is = let same : b ≡ x = cc in ap (λ (n : ℕ). n ∷ xs) same
 
-pub operator_taken : (old new : Scan) (bytes : List ℕ) (b : ℕ) (met : Brackets) (stands : Bool) → Some b ≡ slice_get bytes 0 → is_operator b ≡ true → Meets old.brackets b old.stop (Ok stands) met → stands ≡ true → AddsToken (with_brackets old met) (kind.Op b) 1 new → TakesOperator old bytes 1 new
-operator_taken old new bytes b met true first passes took holds adds = record { c = b; after = drop 1 bytes; spell = begins_with bytes b first; size = refl; passes = passes; met = met; stands = took; adds = adds }
-operator_taken old new bytes b met false first passes took holds adds = absurd (both_ways _ refl holds)
+pub operator_taken : (old new : Scan) (bytes : List ℕ) (met : Brackets) (stands : Bool) → begins is_operator bytes ≡ true → Meets old.brackets (slice_index bytes 0) old.stop (Ok stands) met → stands ≡ true → AddsToken (with_brackets old met) (kind.Op (slice_index bytes 0)) 1 new → TakesOperator old bytes 1 new
+operator_taken old new [] met stands some took holds adds = absurd (both_ways _ refl some)
+operator_taken old new (b ∷ bs) met true some took holds adds = record { c = b; after = bs; spell = refl; size = refl; passes = some; met = met; stands = took; adds = adds }
+operator_taken old new (b ∷ bs) met false some took holds adds = absurd (both_ways _ refl holds)
 
 pub operator_left : (old : Scan) (b : ℕ) (met : Brackets) (stands : Bool) → Meets old.brackets b old.stop (Ok stands) met → stands ≡ false → with_brackets old met ≡ old
 operator_left old b met false took fails = ap (with_brackets old) took.1

@@ -1,12 +1,12 @@
 -- A word's spelling, as the machine keeps it, says whether the word is the prefix of a string.
 use Rattle.std.proofs.Common.{◌≡◌, ℕ, false, ◌&&◌, ◌||◌, List, [], ◌∷◌, ◌++◌, refl, sym, ap, ◌∙◌, ⊎_elim, inl, inr, ◌⊎◌}
 use Rattle.std.proofs.lemmas.Bool.{cond_both}
-use Rattle.py_lines.specs.Character.{is_digit, is_r, is_b_or_f, is_u}
+use Rattle.py_lines.specs.Character.{is_digit, is_r, is_b, is_f, is_u}
 use Rattle.py_lines.specs.Piece.{is_prefix}
 use Rattle.py_lines.specs.declared.mode.Spelling.{Spelling}
 use Rattle.py_lines.specs.declared.mode.Spelling.TheVariants as spellings
 use Rattle.py_lines.specs.Private.Machine.{first_spelling, spelling_with, is_prefix_spelling, spelling_on}
-use Rattle.py_lines.proofs.Text.CharacterTests.{r-not-digit, b_or_f-not-digit, b_or_f-not-r, u-not-digit, excluded}
+use Rattle.py_lines.proofs.Text.CharacterTests.{r-not-digit, b-not-digit, f-not-digit, b-not-r, f-not-r, u-not-digit, excluded}
 
 name_stays : (cs : List ℕ) → spelling_on spellings.Name cs ≡ spellings.Name
 unfolding spelling_with
@@ -22,32 +22,41 @@ number_stays (c ∷ cs) = number_stays cs
 third : (s : Spelling) (b c : ℕ) → (spelling_with (spelling_with s b) c ≡ spellings.Number) ⊎ (spelling_with (spelling_with s b) c ≡ spellings.Name)
 unfolding spelling_with
 third spellings.Number b c = inl refl
-third spellings.R b c = cond_both (is_b_or_f b) spellings.Prefix spellings.Name (λ s. (spelling_with s c ≡ spellings.Number) ⊎ (spelling_with s c ≡ spellings.Name)) (λ h. inr refl) (λ h. inr refl)
-third spellings.BOrF b c = cond_both (is_r b) spellings.Prefix spellings.Name (λ s. (spelling_with s c ≡ spellings.Number) ⊎ (spelling_with s c ≡ spellings.Name)) (λ h. inr refl) (λ h. inr refl)
+third spellings.R b c =
+    let P : Spelling → Type 0 = λ s. (spelling_with s c ≡ spellings.Number) ⊎ (spelling_with s c ≡ spellings.Name) in
+    cond_both (is_b b) _ _ P (λ h. inr refl) (λ h. cond_both (is_f b) spellings.Fr spellings.Name P (λ k. inr refl) (λ k. inr refl))
+third spellings.B b c = cond_both (is_r b) spellings.Prefix spellings.Name (λ s. (spelling_with s c ≡ spellings.Number) ⊎ (spelling_with s c ≡ spellings.Name)) (λ h. inr refl) (λ h. inr refl)
+third spellings.F b c = cond_both (is_r b) spellings.Fr spellings.Name (λ s. (spelling_with s c ≡ spellings.Number) ⊎ (spelling_with s c ≡ spellings.Name)) (λ h. inr refl) (λ h. inr refl)
+third spellings.Fr b c = inr refl
 third spellings.Prefix b c = inr refl
 third spellings.Name b c = inr refl
 
 one_letter : (a : ℕ) → is_prefix (a ∷ []) ≡ is_prefix_spelling (first_spelling a)
 unfolding first_spelling
 one_letter a =
-    let P : Spelling → Type 0 = λ s. is_r a || is_b_or_f a || is_u a ≡ is_prefix_spelling s in
+    let P : Spelling → Type 0 = λ s. is_r a || is_b a || is_f a || is_u a ≡ is_prefix_spelling s in
     cond_both (is_digit a) _ _ P
-    (λ digit. rw (excluded is_digit is_r a (r-not-digit a) digit, excluded is_digit is_b_or_f a (b_or_f-not-digit a) digit, excluded is_digit is_u a (u-not-digit a) digit))
+    (λ digit. rw (excluded is_digit is_r a (r-not-digit a) digit, excluded is_digit is_b a (b-not-digit a) digit, excluded is_digit is_f a (f-not-digit a) digit, excluded is_digit is_u a (u-not-digit a) digit))
     (λ n. cond_both (is_r a) _ _ P (λ r. rw r)
-    (λ not_r. cond_both (is_b_or_f a) _ _ P (λ b. rw (not_r, b))
-    (λ not_b. cond_both (is_u a) _ _ P (λ u. rw (not_r, not_b, u)) (λ not_u. rw (not_r, not_b, not_u)))))
+    (λ not_r. cond_both (is_b a) _ _ P (λ b. rw (not_r, b))
+    (λ not_b. cond_both (is_f a) _ _ P (λ f. rw (not_r, not_b, f))
+    (λ not_f. cond_both (is_u a) _ _ P (λ u. rw (not_r, not_b, not_f, u)) (λ not_u. rw (not_r, not_b, not_f, not_u))))))
 
 two_letters : (a b : ℕ) → is_prefix (a ∷ b ∷ []) ≡ is_prefix_spelling (spelling_with (first_spelling a) b)
 unfolding first_spelling spelling_with
 two_letters a b =
-    let P : Spelling → Type 0 = λ s. (is_r a && is_b_or_f b) || (is_b_or_f a && is_r b) ≡ is_prefix_spelling (spelling_with s b) in
+    let P : Spelling → Type 0 = λ s. (is_r a && (is_b b || is_f b)) || ((is_b a || is_f a) && is_r b) ≡ is_prefix_spelling (spelling_with s b) in
+    let Q : Spelling → Type 0 = λ s. is_b b || is_f b || false ≡ is_prefix_spelling s in
+    let R : Spelling → Type 0 = λ s. is_r b ≡ is_prefix_spelling s in
     cond_both (is_digit a) _ _ P
-    (λ digit. rw (excluded is_digit is_r a (r-not-digit a) digit, excluded is_digit is_b_or_f a (b_or_f-not-digit a) digit))
+    (λ digit. rw (excluded is_digit is_r a (r-not-digit a) digit, excluded is_digit is_b a (b-not-digit a) digit, excluded is_digit is_f a (f-not-digit a) digit))
     (λ n. cond_both (is_r a) _ _ P
-    (λ r. rw (r, excluded is_r is_b_or_f a (b_or_f-not-r a) r) (cond_both (is_b_or_f b) spellings.Prefix spellings.Name (λ s. is_b_or_f b || false ≡ is_prefix_spelling s) (λ h. rw h) (λ h. rw h)))
-    (λ not_r. cond_both (is_b_or_f a) _ _ P
-    (λ f. rw (not_r, f) (cond_both (is_r b) spellings.Prefix spellings.Name (λ s. is_r b ≡ is_prefix_spelling s) (λ h. rw h) (λ h. rw h)))
-    (λ not_b. cond_both (is_u a) _ _ P (λ u. rw (not_r, not_b)) (λ not_u. rw (not_r, not_b)))))
+    (λ r. rw (r, excluded is_r is_b a (b-not-r a) r, excluded is_r is_f a (f-not-r a) r) (cond_both (is_b b) _ _ Q (λ h. rw h) (λ h. cond_both (is_f b) spellings.Fr spellings.Name Q (λ k. rw (h, k)) (λ k. rw (h, k)))))
+    (λ not_r. cond_both (is_b a) _ _ P
+    (λ both. rw (not_r, both) (cond_both (is_r b) spellings.Prefix spellings.Name R (λ h. rw h) (λ h. rw h)))
+    (λ not_b. cond_both (is_f a) _ _ P
+    (λ both. rw (not_r, not_b, both) (cond_both (is_r b) spellings.Fr spellings.Name R (λ h. rw h) (λ h. rw h)))
+    (λ not_f. cond_both (is_u a) _ _ P (λ u. rw (not_r, not_b, not_f)) (λ not_u. rw (not_r, not_b, not_f))))))
 
 -- a word is a prefix exactly where its spelling says so
 pub prefix_spelling : (first : ℕ) (others : List ℕ) → is_prefix (first ∷ others) ≡ is_prefix_spelling (spelling_on (first_spelling first) others)

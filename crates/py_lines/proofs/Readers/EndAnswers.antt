@@ -20,9 +20,9 @@ use Rattle.py_lines.specs.declared.scan.Stop.{Stop}
 use Rattle.py_lines.specs.declared.scan.Stop.TheVariants as stops
 use Rattle.py_lines.specs.declared.source.Source.{Source}
 use Rattle.py_lines.specs.Private.Machine.{Scanned, closed, fresh, is_final, end_kind, end_place, top_place, Bracket, brackets_of, RunsTo, IsSound}
-use Rattle.py_lines.specs.Private.Scan.{IsStacked, IsUnderWay, line_start, EndsNoLine, Tallies, Closes, none_open, is_return_mode, stack_of}
+use Rattle.py_lines.specs.Private.Scan.{IsStacked, IsUnderWay, line_start, EndsNoLine, Tallies, Closes, none_open, is_return_mode, stack_of, IsOpenFrom}
 use Rattle.py_lines.specs.Reader.View.{reader_of}
-use Rattle.py_lines.specs.Private.Source.{line_of_source, first_mode, HasScanned, PassesLine, KeepsFault, IsUnfinished}
+use Rattle.py_lines.specs.Private.Source.{line_of_source, first_mode, HasScanned, PassesLine, KeepsFault}
 use Rattle.py_lines.proofs.Pieces.PieceLists.{piece, AreReadBefore-second, spelled-append}
 use Rattle.py_lines.proofs.Machine.PieceRuns.{scanned, pieces_at}
 use Rattle.py_lines.proofs.Machine.OpenStrings.{same_state}
@@ -76,7 +76,7 @@ module _ (scan : Scan) (read : List ℕ) (s : Scanned) (sound : IsSound s read) 
             size = place ∙ ap (λ (x : Bracket). x.place) top_is ∙ at;
           }
 
-  pub within_open : (behind : ℕ) → IsUnfinished scan (Some behind) → Within read behind
+  pub within_open : (behind : ℕ) → IsOpenFrom scan behind → Within read behind
   within_open behind (inl (unfinal, is)) = record { front = spelled s.done; later = s.held; split = sound.spell; size = is ∙ tallies.start }
   within_open behind (inr (final, (b, others, top, place))) = bracket_within b others behind top place
 
@@ -119,7 +119,7 @@ return_pieces : (mode : Mode) (done : List Piece) (held read : List ℕ) → IsS
 return_pieces modes.Return done held read sound is none deep = (one_line 0 done (piece line_end held) none refl deep, one_return sound.holds.0 sound.holds.2 ∙ ap byte_len (sym sound.holds.1) ∙ sym (end_len-push done (piece line_end held) refl))
 return_pieces mode done held read sound is none deep = absurd (both_ways _ refl is)
 
-pub line_at_return : (m : Mode) (old mid : Scan) (read : List ℕ) (way : IsUnderWay m old read) → IsSound way.state read → is_return_mode old.mode ≡ true → Tallies mid (fresh (pieces_at way.state)) → stack_of old.brackets ≡ [] → 0 < byte_len read → IsLine (line_start m) mid read 1 (pieces_at way.state)
+pub line_at_return : (m : Mode) (old mid : Scan) (read : List ℕ) (way : IsUnderWay m old read) → IsSound way.state read → is_return_mode old.piece.mode ≡ true → Tallies mid (fresh (pieces_at way.state)) → stack_of old.brackets ≡ [] → 0 < byte_len read → IsLine (line_start m) mid read 1 (pieces_at way.state)
 line_at_return m old mid read way sound returned t empty some =
     let s = way.state in
     let both = return_pieces s.mode s.done s.held read sound (ap is_return_mode (sym way.tallies.mode) ∙ returned) way.one_line (stands s.done [] (way.stacked ∙ ap (λ l. Some l) empty)).depth in
@@ -168,7 +168,7 @@ module _ (old : Source) (has : HasScanned old stops.TextEnd) where
           (omega (arith, at.at.place, s.given.first.here, stop_size, ap byte_len (all_read lines given), byte_len-append (spelled s.given.first.pieces) has.scans.read))
           (line_of_fault old stops.TextEnd has lines given BadUtf8 old.scan.stop at.fault at.at (all_within has.scans.read old.scan.stop stop_size)))
 
-  pub unfinished_within : (behind : ℕ) → IsUnfinished old.scan (Some behind) → Within has.scans.read behind
+  pub unfinished_within : (behind : ℕ) → IsOpenFrom old.scan behind → Within has.scans.read behind
   unfinished_within behind is =
       let way = has.scans.stops.0 in
       within_open old.scan has.scans.read way.state (sound_run (first_mode old.place) has.scans.read way.state (start_sound old stops.TextEnd has) way.runs) way.tallies way.stacked behind is
@@ -177,7 +177,7 @@ module _ (old : Source) (has : HasScanned old stops.TextEnd) where
   no_tail lines given full = (here old stops.TextEnd has lines given).tail_is ∙ drop_all (length old.characters.now) old.bytes.now full
 
   -- the machine's state is that of the line, after the lines given
-  unread : (lines : List LogicalLine) (given : HasGiven (reader_of old) lines) (behind : ℕ) → 0 < byte_len has.scans.read → IsUnfinished old.scan (Some behind) → (pieces : List Piece) → ¬ (IsBalancedReading pieces (here old stops.TextEnd has lines given).given.first.characters)
+  unread : (lines : List LogicalLine) (given : HasGiven (reader_of old) lines) (behind : ℕ) → 0 < byte_len has.scans.read → IsOpenFrom old.scan behind → (pieces : List Piece) → ¬ (IsBalancedReading pieces (here old stops.TextEnd has lines given).given.first.characters)
   unread lines given at full (inl (unfinal, is)) =
       let j = joins old stops.TextEnd has lines given has.scans.stops.0 in
       unread_at (here old stops.TextEnd has lines given).given.first.characters j.state (runs_all lines given).run (ap (λ (s : Scanned). is_final s.mode) (j.same full).0 ∙ ap is_final (sym has.scans.stops.0.tallies.mode) ∙ unfinal)
@@ -189,7 +189,7 @@ module _ (old : Source) (has : HasScanned old stops.TextEnd) where
       let none : Some (shift (byte_len (spelled s.given.first.pieces)) (b ∷ others)) ≡ Some [] = ap (λ l. Some (shift (byte_len (spelled s.given.first.pieces)) l)) (sym top) ∙ ap (λ l. Some l) (sym (j.same full).1) ∙ sym (runs_all lines given).stack ∙ ap (λ (t : Scanned). brackets_of t.done) same ∙ ran.stack in
       cc
 
-  end_offset : (lines : List LogicalLine) (given : HasGiven (reader_of old) lines) (behind' : ℕ) → 0 < byte_len has.scans.read → IsUnfinished old.scan (Some behind') → old.place + behind' ≡ end_place (joins old stops.TextEnd has lines given has.scans.stops.0).state (joins old stops.TextEnd has lines given has.scans.stops.0).st
+  end_offset : (lines : List LogicalLine) (given : HasGiven (reader_of old) lines) (behind' : ℕ) → 0 < byte_len has.scans.read → IsOpenFrom old.scan behind' → old.place + behind' ≡ end_place (joins old stops.TextEnd has lines given has.scans.stops.0).state (joins old stops.TextEnd has lines given has.scans.stops.0).st
   end_offset lines given behind' full unfinished =
       let j = joins old stops.TextEnd has lines given has.scans.stops.0 in
       let s = here old stops.TextEnd has lines given in
@@ -198,7 +198,7 @@ module _ (old : Source) (has : HasScanned old stops.TextEnd) where
       let k = byte_len (spelled base) in
       go unfinished ∙ ap (λ (t : Scanned). end_place t (shift k (stack_of old.scan.brackets))) (sym (j.same full).0) ∙ ap (end_place j.state) (sym (j.same full).1)
     where
-      go : IsUnfinished old.scan (Some behind') → old.place + behind' ≡ end_place (behind (here old stops.TextEnd has lines given).given.first.pieces has.scans.stops.0.state) (shift (byte_len (spelled (here old stops.TextEnd has lines given).given.first.pieces)) (stack_of old.scan.brackets))
+      go : IsOpenFrom old.scan behind' → old.place + behind' ≡ end_place (behind (here old stops.TextEnd has lines given).given.first.pieces has.scans.stops.0.state) (shift (byte_len (spelled (here old stops.TextEnd has lines given).given.first.pieces)) (stack_of old.scan.brackets))
       go (inl (unfinal, is)) =
           let base = (here old stops.TextEnd has lines given).given.first.pieces in
           let way = has.scans.stops.0 in
@@ -213,7 +213,7 @@ module _ (old : Source) (has : HasScanned old stops.TextEnd) where
           sum ∙ ap (λ l. top_place (shift k l)) (sym top) ∙ sym (ap (λ (x : Bool). if x then top_place (shift k (stack_of old.scan.brackets)) else byte_len (spelled (base ++ way.state.done))) (ap is_final (sym way.tallies.mode) ∙ final))
 
   -- the text's end where it may not end
-  pub fails_at_end : (new : Source) (kind : FaultKind) (behind' : ℕ) (error : LexError) (at : KeepsFault old kind behind' error new) → kind ≡ end_kind old.scan.mode → IsUnfinished old.scan (Some behind') → length old.bytes.now ≤ length old.characters.now → Fails (reader_of old) at.fault (reader_of new)
+  pub fails_at_end : (new : Source) (kind : FaultKind) (behind' : ℕ) (error : LexError) (at : KeepsFault old kind behind' error new) → kind ≡ end_kind old.scan.piece.mode → IsOpenFrom old.scan behind' → length old.bytes.now ≤ length old.characters.now → Fails (reader_of old) at.fault (reader_of new)
   fails_at_end new kind behind' error at kind_is unfinished full =
       fails old new kind behind' error at has.no_fault has.more (λ lines given.
       let s = here old stops.TextEnd has lines given in

@@ -117,7 +117,7 @@ module _ (old : Source) (stop : Stop) (has : HasScanned old stop) where
   pub refused_within : (way : IsUnderWay (first_mode old.place) old.scan has.scans.read) → Within has.scans.read (refused_place old.scan)
   refused_within way =
       let sound = sound_run (first_mode old.place) has.scans.read way.state start_sound way.runs in
-      cond_both (in_short old.scan.mode || is_behind_slash old.scan.mode) old.scan.start old.scan.stop (Within has.scans.read)
+      cond_both (in_short old.scan.piece.mode || is_behind_slash old.scan.piece.mode) old.scan.piece.start old.scan.stop (Within has.scans.read)
       (λ h. record { front = spelled way.state.done; later = way.state.held; split = sound.spell; size = way.tallies.start })
       (λ h. all_within has.scans.read old.scan.stop (way_stop (first_mode old.place) old.scan has.scans.read way start_sound))
 
@@ -126,16 +126,16 @@ module _ (old : Source) (stop : Stop) (has : HasScanned old stop) where
       let j = joins lines given way in
       let s = here lines given in
       let base = s.given.first.pieces in
-      let flags : in_short old.scan.mode || is_behind_slash old.scan.mode ≡ in_short way.state.mode || is_behind_slash way.state.mode = ap (λ (m : Mode). in_short m || is_behind_slash m) way.tallies.mode in
+      let flags : in_short old.scan.piece.mode || is_behind_slash old.scan.piece.mode ≡ in_short way.state.mode || is_behind_slash way.state.mode = ap (λ (m : Mode). in_short m || is_behind_slash m) way.tallies.mode in
       let state_flags : in_short way.state.mode || is_behind_slash way.state.mode ≡ in_short j.state.mode || is_behind_slash j.state.mode = ap (λ (b : Bool). b || is_behind_slash way.state.mode) (sym j.short) ∙ ap (λ (b : Bool). in_short j.state.mode || b) (sym j.slash) in
-      ap (λ (b : Bool). old.place + (if b then old.scan.start else old.scan.stop)) flags
-      ∙ place_by (in_short way.state.mode || is_behind_slash way.state.mode) old.place (byte_len (spelled base)) old.scan.start old.scan.stop (byte_len (spelled j.state.done)) (byte_len (spelled base ++ has.scans.read)) s.given.first.here
+      ap (λ (b : Bool). old.place + (if b then old.scan.piece.start else old.scan.stop)) flags
+      ∙ place_by (in_short way.state.mode || is_behind_slash way.state.mode) old.place (byte_len (spelled base)) old.scan.piece.start old.scan.stop (byte_len (spelled j.state.done)) (byte_len (spelled base ++ has.scans.read)) s.given.first.here
       (λ h. j.start h ∙ ap (λ (n : ℕ). byte_len (spelled base) + n) (sym way.tallies.start))
       (byte_len-append (spelled base) has.scans.read ∙ ap (λ (n : ℕ). byte_len (spelled base) + n) (sym (way_stop (first_mode old.place) old.scan has.scans.read way start_sound)))
       ∙ ap (λ (b : Bool). if b then byte_len (spelled j.state.done) else byte_len (spelled base ++ has.scans.read)) state_flags
 
 -- the next character was refused
-pub fails_at_character : (old new : Source) (c : ℕ) (kind : FaultKind) (error : LexError) (has : HasScanned old (stops.Refused c)) (at : KeepsFault old kind (refused_place old.scan) error new) → kind ≡ character_kind old.scan.mode c → Fails (reader_of old) at.fault (reader_of new)
+pub fails_at_character : (old new : Source) (c : ℕ) (kind : FaultKind) (error : LexError) (has : HasScanned old (stops.Refused c)) (at : KeepsFault old kind (refused_place old.scan) error new) → kind ≡ character_kind old.scan.piece.mode c → Fails (reader_of old) at.fault (reader_of new)
 fails_at_character old new c kind error has at kind_is =
     let stop : Stop = stops.Refused c in
     let way = has.scans.stops.0 in

@@ -1,10 +1,10 @@
 -- What a test of a character says where the character is one of a list.
-use Rattle.std.proofs.Common.{◌≡◌, ℕ, ◌<◌, leb, Bool, true, false, ◌||◌, ◌&&◌, eqb, List, [], ◌∷◌, refl, sym, ap, ◌∙◌, subst, ⊎_elim}
+use Rattle.std.proofs.Common.{◌≡◌, ℕ, ◌<◌, leb, Bool, true, false, ◌||◌, ◌&&◌, eqb, List, [], ◌∷◌, refl, sym, ap, ◌∙◌, subst, ⊎_elim, inl, inr, ◌⊎◌}
 use Rattle.std.specs.Prelude.{codes}
 use Rattle.std.specs.List.{list_any, list_all}
 use Rattle.std.proofs.lemmas.Bool.{leb-false, or_cases, or_parts, and_parts, and_from, eqb-true, false_from_ne_true, both_ways}
 use Rattle.unicode_ident.proofs.Computing.{unicode_ident}
-use Rattle.py_lines.specs.Character.{is_one_of, is_mark, is_word_character, is_word_start, is_digit, is_quote, is_operator, is_line_feed, is_return, is_break, is_backslash, is_barred, is_r, is_b_or_f, is_u}
+use Rattle.py_lines.specs.Character.{is_one_of, is_mark, is_word_character, is_word_start, is_digit, is_quote, is_operator, is_line_feed, is_return, is_break, is_backslash, is_barred, is_r, is_b, is_f, is_u}
 use Rattle.py_lines.specs.Piece.{is_prefix}
 
 -- what each one of a list is
@@ -60,13 +60,21 @@ pub r-not-digit : (c : ℕ) → is_r c ≡ true → is_digit c ≡ false
 unfolding is_r is_digit
 r-not-digit c h = none_of is_digit (codes "rR") c refl h
 
-pub b_or_f-not-digit : (c : ℕ) → is_b_or_f c ≡ true → is_digit c ≡ false
-unfolding is_b_or_f is_digit
-b_or_f-not-digit c h = none_of is_digit (codes "bBfF") c refl h
+pub b-not-digit : (c : ℕ) → is_b c ≡ true → is_digit c ≡ false
+unfolding is_b is_digit
+b-not-digit c h = none_of is_digit (codes "bB") c refl h
 
-pub b_or_f-not-r : (c : ℕ) → is_b_or_f c ≡ true → is_r c ≡ false
-unfolding is_b_or_f is_r
-b_or_f-not-r c h = none_of is_r (codes "bBfF") c refl h
+pub f-not-digit : (c : ℕ) → is_f c ≡ true → is_digit c ≡ false
+unfolding is_f is_digit
+f-not-digit c h = none_of is_digit (codes "fF") c refl h
+
+pub b-not-r : (c : ℕ) → is_b c ≡ true → is_r c ≡ false
+unfolding is_b is_r
+b-not-r c h = none_of is_r (codes "bB") c refl h
+
+pub f-not-r : (c : ℕ) → is_f c ≡ true → is_r c ≡ false
+unfolding is_f is_r
+f-not-r c h = none_of is_r (codes "fF") c refl h
 
 pub u-not-digit : (c : ℕ) → is_u c ≡ true → is_digit c ≡ false
 unfolding is_u is_digit
@@ -77,9 +85,16 @@ r-word : (c : ℕ) → is_r c ≡ true → (is_word_start c ≡ true) × (is_wor
 unfolding unicode_ident is_r is_word_start is_word_character is_digit
 r-word c h = each_of (λ x. (is_word_start x ≡ true) × (is_word_character x ≡ true)) (codes "rR") c ((refl, refl), ((refl, refl), tt)) h
 
-b_or_f-word : (c : ℕ) → is_b_or_f c ≡ true → (is_word_start c ≡ true) × (is_word_character c ≡ true)
-unfolding unicode_ident is_b_or_f is_word_start is_word_character is_digit
-b_or_f-word c h = each_of (λ x. (is_word_start x ≡ true) × (is_word_character x ≡ true)) (codes "bBfF") c ((refl, refl), ((refl, refl), ((refl, refl), ((refl, refl), tt)))) h
+b-word : (c : ℕ) → is_b c ≡ true → (is_word_start c ≡ true) × (is_word_character c ≡ true)
+unfolding unicode_ident is_b is_word_start is_word_character is_digit
+b-word c h = each_of (λ x. (is_word_start x ≡ true) × (is_word_character x ≡ true)) (codes "bB") c ((refl, refl), ((refl, refl), tt)) h
+
+f-word : (c : ℕ) → is_f c ≡ true → (is_word_start c ≡ true) × (is_word_character c ≡ true)
+unfolding unicode_ident is_f is_word_start is_word_character is_digit
+f-word c h = each_of (λ x. (is_word_start x ≡ true) × (is_word_character x ≡ true)) (codes "fF") c ((refl, refl), ((refl, refl), tt)) h
+
+b_or_f-word : (c : ℕ) → is_b c || is_f c ≡ true → (is_word_start c ≡ true) × (is_word_character c ≡ true)
+b_or_f-word c h = ⊎_elim (b-word c) (f-word c) (or_cases (is_b c) (is_f c) h)
 
 u-word : (c : ℕ) → is_u c ≡ true → (is_word_start c ≡ true) × (is_word_character c ≡ true)
 unfolding unicode_ident is_u is_word_start is_word_character is_digit
@@ -87,11 +102,23 @@ u-word c h = each_of (λ x. (is_word_start x ≡ true) × (is_word_character x �
 
 -- a prefix is a word
 pub prefix_word : (a : ℕ) (bs : List ℕ) → is_prefix (a ∷ bs) ≡ true → (is_word_start a ≡ true) × (list_all is_word_character bs ≡ true)
-prefix_word a [] h = (⊎_elim (λ other. ⊎_elim (λ r. (r-word a r).0) (λ b. (b_or_f-word a b).0) (or_cases (is_r a) (is_b_or_f a) other)) (λ u. (u-word a u).0) (or_cases (is_r a || is_b_or_f a) (is_u a) h), refl)
+prefix_word a [] h = (go (or_cases (is_r a || is_b a || is_f a) (is_u a) h), refl)
+  where
+    r_or_b : (is_r a ≡ true) ⊎ (is_b a ≡ true) → is_word_start a ≡ true
+    r_or_b (inl r) = (r-word a r).0
+    r_or_b (inr b) = (b-word a b).0
+
+    not_u : (is_r a || is_b a ≡ true) ⊎ (is_f a ≡ true) → is_word_start a ≡ true
+    not_u (inl other) = r_or_b (or_cases (is_r a) (is_b a) other)
+    not_u (inr f) = (f-word a f).0
+
+    go : (is_r a || is_b a || is_f a ≡ true) ⊎ (is_u a ≡ true) → is_word_start a ≡ true
+    go (inl other) = not_u (or_cases (is_r a || is_b a) (is_f a) other)
+    go (inr u) = (u-word a u).0
 prefix_word a (b ∷ []) h =
     ⊎_elim
-    (λ both. ((r-word a (and_parts (is_r a) (is_b_or_f b) both).0).0, and_from (is_word_character b) true (b_or_f-word b (and_parts (is_r a) (is_b_or_f b) both).1).1 refl))
-    (λ both. ((b_or_f-word a (and_parts (is_b_or_f a) (is_r b) both).0).0, and_from (is_word_character b) true (r-word b (and_parts (is_b_or_f a) (is_r b) both).1).1 refl)) (or_cases (is_r a && is_b_or_f b) (is_b_or_f a && is_r b) h)
+    (λ both. ((r-word a (and_parts (is_r a) (is_b b || is_f b) both).0).0, and_from (is_word_character b) true (b_or_f-word b (and_parts (is_r a) (is_b b || is_f b) both).1).1 refl))
+    (λ both. ((b_or_f-word a (and_parts (is_b a || is_f a) (is_r b) both).0).0, and_from (is_word_character b) true (r-word b (and_parts (is_b a || is_f a) (is_r b) both).1).1 refl)) (or_cases (is_r a && (is_b b || is_f b)) ((is_b a || is_f a) && is_r b) h)
 prefix_word a (b ∷ c ∷ cs) h = absurd (both_ways _ refl h)
 
 pub quote-not-word : (q : ℕ) → is_quote q ≡ true → is_word_character q ≡ false

@@ -1,8 +1,8 @@
 -- What the scanner inside a `Scanner` holds: the text since the line that was released last, and how far it was scanned.
-use Rattle.std.specs.Prelude.{◌≡◌, ℕ, ◌+◌, ◌<◌, ◌≤◌, ◌⊎◌, ◌^◌, ◌&&◌, not, Bool, true, false, Option, None, Some, Result, Ok, Err, List, [], ◌∷◌, ◌++◌, length, take, drop, slice_index, encode_utf8, encode_utf8_all}
+use Rattle.std.specs.Prelude.{◌≡◌, ℕ, ◌+◌, ◌<◌, ◌≤◌, ◌⊎◌, ◌^◌, ◌&&◌, not, Bool, true, false, Option, None, Some, Result, Ok, Err, List, [], ◌∷◌, ◌++◌, length, take, drop, encode_utf8, encode_utf8_all, if◌then◌else◌}
 use Rattle.std.specs.Str.{StartsWithNoChar, all_scalars}
 use Rattle.std.specs.Char.{IsScalar}
-use Rattle.py_lines.specs.Character.{is_line_feed, is_return, is_break}
+use Rattle.py_lines.specs.Character.{is_line_feed, is_return}
 use Rattle.py_lines.specs.Piece.{Piece, ends, begins, spelled}
 use Rattle.py_lines.specs.LogicalLine.{LogicalLine, byte_len, line_ends, line_of}
 use Rattle.py_lines.specs.Lexed.{IsLexed}
@@ -18,6 +18,7 @@ use Rattle.py_lines.specs.declared.fault.FaultKind.{FaultKind}
 use Rattle.py_lines.specs.declared.fault.FaultKind.TheVariants.{BadUtf8}
 use Rattle.py_lines.specs.declared.fault.LexError.{LexError}
 use Rattle.py_lines.specs.declared.fault.LexError.TheVariants as lex
+use Rattle.py_lines.specs.declared.scan.Scan.{Scan}
 use Rattle.py_lines.specs.declared.scan.Stop.{Stop}
 use Rattle.py_lines.specs.declared.scan.Stop.TheVariants as stops
 use Rattle.py_lines.specs.declared.feed.Feed.{Feed}
@@ -80,7 +81,7 @@ pub record Refuses (old : Feed) (read : List ℕ) (c : ℕ) (error : LexError) (
   pub way : IsUnderWay (first_mode old.place) old.scan read
   pub refuses : stack_if (step way.state c) ≡ None
   pub not_yet : is_returned old.scan && not (is_line_feed c) ≡ false
-  pub fails : FailsAt old (character_kind old.scan.mode c) (refused_place old.scan) error new
+  pub fails : FailsAt old (character_kind old.scan.piece.mode c) (refused_place old.scan) error new
 
 -- a line has ended in what is held
 pub record EndsLineHeld (end_len : ℕ) (new : Feed) : Type 0 where
@@ -152,12 +153,45 @@ pub record IsUnchanged (old new : Feed) : Type 0 where
   pub fault : new.fault ≡ old.fault
   pub state : IsHeldSo new.ready new
 
--- bytes of a piece that come after those held: LF or CR is the last of them, and after CR they are one
-pub record IsChunk (held piece : List ℕ) (len : ℕ) : Type 0 where
-  pub some : 0 < len
-  pub within : len ≤ length piece
-  pub inner : (i : ℕ) → i + 1 < len → is_break (slice_index piece i) ≡ false
-  pub single : ends is_return held ≡ true → len ≡ 1
+-- after a line's end nothing is held, or after CR one byte, which is no LF
+abbrev pub EndsExactly : List ℕ → List ℕ → Type 0
+EndsExactly read rest = ((rest ≡ []) × (ends is_return read ≡ false)) ⊎ ((b : ℕ) × (rest ≡ b ∷ []) × (b ≡ 10 → ⊥))
+
+-- a line of these characters had ended in these bytes before
+pub record HadEnded (held all : List ℕ) : Type 0 where
+  pub rest : List ℕ
+  pub spell : encode_utf8_all all ++ rest ≡ held
+  pub whole : EndsWhole all rest
+
+-- Where the scan of what is held stops, of which these bytes were held before: where a line is ready, it ends last in
+-- what is held, or it had ended before.
+abbrev pub EndsAfter : List ℕ → Option ℕ → Feed → Type 0
+EndsAfter held None new = IsScanned None new
+EndsAfter held (Some end_len) new = (e : EndsLineHeld end_len new) × (EndsExactly e.all e.after ⊎ HadEnded held e.all)
+
+-- where what is held of a line that is ready ends, with the byte after CR
+abbrev pub whole_end : Scan → ℕ
+whole_end scan = if scan.count.after_return then scan.stop + 1 else scan.stop
+
+-- more bytes than these stay held: up to the line's end, where a line is ready, and else all
+pub record GivesBack (old : Feed) (before : ℕ) (new : Feed) : Type 0 where
+  pub kept : ℕ
+  pub more : before < kept
+  pub within : kept ≤ length old.held.items
+  pub held : new.held.items ≡ take kept old.held.items
+  pub place : new.place ≡ old.place
+  pub line : new.line ≡ old.line
+  pub ended : new.ended ≡ old.ended
+  pub fault : new.fault ≡ old.fault
+  pub stops : EndsAfter (take before old.held.items) new.ready new
+
+-- some of these bytes were taken
+pub record TakesOf (old : Feed) (chunk : List ℕ) (n : ℕ) (new : Feed) : Type 0 where
+  pub some : 0 < n
+  pub within : n ≤ length chunk
+  pub more : HoldsMore old (take n chunk) new
+  pub fault : new.fault ≡ old.fault
+  pub stops : EndsAfter old.held.items new.ready new
 
 -- with these bytes the scan of what is held meets a fault
 pub record FailsWith (old : Feed) (chunk : List ℕ) (error : LexError) (new : Feed) : Type 0 where
@@ -166,8 +200,8 @@ pub record FailsWith (old : Feed) (chunk : List ℕ) (error : LexError) (new : F
   pub fails : FailsHeld mid error new
 
 -- what a call that takes these bytes answers and leaves
-abbrev pub TakesChunk : Feed → List ℕ → Result (Unit {0}) LexError → Feed → Type 0
-TakesChunk old chunk (Ok done) new = HoldsMore old chunk new × (new.fault ≡ old.fault) × IsScanned new.ready new
+abbrev pub TakesChunk : Feed → List ℕ → Result ℕ LexError → Feed → Type 0
+TakesChunk old chunk (Ok n) new = TakesOf old chunk n new
 TakesChunk old chunk (Err (lex.Fault f)) new = FailsWith old chunk (lex.Fault f) new
 TakesChunk old chunk (Err lex.Memory) new = IsUnchanged old new
 
@@ -196,21 +230,22 @@ pub record IsSoundFeed (f : Feed) : Type 0 where
   pub few_lines : f.line ≤ f.place + 1
   pub state : StandsSo f.ready f
 
--- The bytes of a piece that were taken last, up to the first n. Before them, either none was taken, or all that was held
--- then was scanned and no line had ended in it.
-pub record IsLastChunk (old : Feed) (piece : List ℕ) (n : ℕ) : Type 0 where
+-- The bytes of a piece that were taken last, up to the first n, with which a line has got ready. Before them, either
+-- none was taken, or all that was held then was scanned and no line had ended in it.
+pub record IsLastChunk (old : Feed) (piece : List ℕ) (n end_len : ℕ) (new : Feed) : Type 0 where
   pub before : ℕ
   pub len : ℕ
   pub sum : before + len ≡ n
   pub mid : Feed
   pub more : HoldsMore old (take before piece) mid
-  pub chunk : IsChunk mid.held.items (drop before piece) len
+  pub ended : EndsLineHeld end_len new
+  pub ends : EndsExactly ended.all ended.after ⊎ HadEnded mid.held.items ended.all
   pub scanned : 0 < before → IsScanned None mid
 
 -- where a line is ready, it has ended with the bytes taken last; else the same bytes were scanned before
 abbrev pub StopsTaking : Feed → List ℕ → ℕ → Option ℕ → Feed → Type 0
 StopsTaking old piece n None new = (mid : Feed) × HoldsMore mid [] new × IsScanned None mid × IsHeldSo None new
-StopsTaking old piece n (Some end_len) new = EndsLineHeld end_len new × (0 < n → IsLastChunk old piece n)
+StopsTaking old piece n (Some end_len) new = EndsLineHeld end_len new × (0 < n → IsLastChunk old piece n end_len new)
 
 -- so many bytes of a piece were taken
 pub record TakesSome (old : Feed) (piece : List ℕ) (n : ℕ) (new : Feed) : Type 0 where

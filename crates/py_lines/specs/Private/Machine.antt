@@ -1,7 +1,7 @@
 -- The machine that reads for `Lines`, one character at a time. It serves the contracts of private functions; what a
 -- text reads to is said by Piece, Balance, LogicalLine and Lexed, and proofs tie the two.
 use Rattle.std.specs.Prelude.{◌≡◌, ℕ, Bool, true, false, ◌==◌, ◌||◌, ◌&&◌, Option, None, Some, List, [], ◌∷◌, ◌++◌, length, nat_lt, if◌then◌else◌}
-use Rattle.py_lines.specs.Character.{is_mark, is_space, is_word_character, is_word_start, is_digit, is_quote, is_operator, is_line_feed, is_return, is_break, is_hash, is_backslash, is_r, is_b_or_f, is_u}
+use Rattle.py_lines.specs.Character.{is_mark, is_space, is_word_character, is_word_start, is_digit, is_quote, is_operator, is_line_feed, is_return, is_break, is_hash, is_backslash, is_r, is_b, is_f, is_u}
 use Rattle.std.specs.List.{list_all}
 use Rattle.py_lines.specs.Piece.{Class, mark, space, word, string, operator, comment, join, line_end, Piece, IsRun, IsComment, IsPrefix, is_item, is_short_item, joined, has_triple, spelled, AreReadBefore}
 use Rattle.py_lines.specs.Balance.{is_opening, is_closing, is_opener, is_closer, closing_of}
@@ -24,22 +24,30 @@ unfoldable pub first_spelling : ℕ → Spelling
 first_spelling c =
     if is_digit c then spellings.Number
     else (if is_r c then spellings.R
-    else (if is_b_or_f c then spellings.BOrF
+    else (if is_b c then spellings.B
+    else (if is_f c then spellings.F
     else (if is_u c then spellings.Prefix
-    else spellings.Name)))
+    else spellings.Name))))
 
 -- the spelling of a word with one more character
 unfoldable pub spelling_with : Spelling → ℕ → Spelling
 spelling_with spellings.Number c = spellings.Number
-spelling_with spellings.R c = if is_b_or_f c then spellings.Prefix else spellings.Name
-spelling_with spellings.BOrF c = if is_r c then spellings.Prefix else spellings.Name
-spelling_with other c = spellings.Name
+spelling_with spellings.R c = if is_b c then spellings.Prefix else (if is_f c then spellings.Fr else spellings.Name)
+spelling_with spellings.B c = if is_r c then spellings.Prefix else spellings.Name
+spelling_with spellings.F c = if is_r c then spellings.Fr else spellings.Name
+spelling_with spellings.Fr c = spellings.Name
+spelling_with spellings.Prefix c = spellings.Name
+spelling_with spellings.Name c = spellings.Name
 
 -- whether the word may be the prefix of a string
 abbrev pub is_prefix_spelling : Spelling → Bool
 is_prefix_spelling spellings.Number = false
+is_prefix_spelling spellings.R = true
+is_prefix_spelling spellings.B = true
+is_prefix_spelling spellings.F = true
+is_prefix_spelling spellings.Fr = true
+is_prefix_spelling spellings.Prefix = true
 is_prefix_spelling spellings.Name = false
-is_prefix_spelling other = true
 
 -- the spelling of a word that goes on
 abbrev pub spelling_on : Spelling → List ℕ → Spelling
@@ -108,10 +116,18 @@ class_of modes.Free = operator
 class_of modes.Space = space
 class_of (modes.Word s) = word
 class_of modes.Comment = comment
+class_of (modes.Opened q) = string
+class_of (modes.Inside q) = string
+class_of (modes.Escape q) = string
+class_of (modes.EscapeReturn q) = string
+class_of (modes.Empty q) = string
+class_of (modes.Long q) = string
+class_of (modes.LongOne q) = string
+class_of (modes.LongTwo q) = string
+class_of (modes.LongEscape q) = string
 class_of modes.Backslash = join
 class_of modes.JoinReturn = join
 class_of modes.Return = line_end
-class_of other = string
 
 -- the token that the open piece is, if it is one
 abbrev pub token_of : Mode → Option TokKind
@@ -121,10 +137,18 @@ token_of modes.Space = None
 token_of (modes.Word spellings.Number) = Some kinds.Number
 token_of (modes.Word other) = Some kinds.Name
 token_of modes.Comment = Some kinds.Remark
+token_of (modes.Opened q) = Some kinds.Str
+token_of (modes.Inside q) = Some kinds.Str
+token_of (modes.Escape q) = Some kinds.Str
+token_of (modes.EscapeReturn q) = Some kinds.Str
+token_of (modes.Empty q) = Some kinds.Str
+token_of (modes.Long q) = Some kinds.Str
+token_of (modes.LongOne q) = Some kinds.Str
+token_of (modes.LongTwo q) = Some kinds.Str
+token_of (modes.LongEscape q) = Some kinds.Str
 token_of modes.Backslash = None
 token_of modes.JoinReturn = None
 token_of modes.Return = None
-token_of other = Some kinds.Str
 
 -- the pieces, the open one with them
 abbrev pub closed : Mode → List Piece → List ℕ → List Piece

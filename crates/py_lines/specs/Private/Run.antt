@@ -1,14 +1,15 @@
 -- Runs of bytes that a text begins with, which leave the open piece as it is.
-use Rattle.std.specs.Prelude.{◌&&◌, is_some, Option, None, Some, Result, Ok, Err, ◌≡◌, ℕ, ◌+◌, ◌<◌, ◌≤◌, ◌⊎◌, Bool, true, false, ◌==◌, ◌||◌, not, nat_lt, nat_le, if◌then◌else◌, map, List, [], ◌∷◌, ◌++◌, length, slice_index, codes, encode_utf8_all}
+use Rattle.std.specs.Prelude.{◌&&◌, is_some, Some, Result, Ok, Err, ◌≡◌, ℕ, ◌+◌, ◌<◌, ◌≤◌, ◌⊎◌, Bool, true, false, ◌==◌, ◌||◌, not, nat_lt, nat_le, if◌then◌else◌, map, List, [], ◌∷◌, ◌++◌, length, slice_index, codes, encode_utf8_all}
 use Rattle.std.specs.Str.{all_scalars, byte}
 use Rattle.std.specs.Char.{is_ascii_alphanumeric}
 use Rattle.std.specs.List.{list_all}
 use Rattle.py_lines.specs.Character.{is_one_of}
+use Rattle.py_lines.specs.Balance.{is_opening, is_closing}
 use Rattle.py_lines.specs.LogicalLine.{byte_len}
 use Rattle.std.specs.declared.alloc.AllocError.{AllocError}
 use Rattle.py_lines.specs.Piece.{operator, begins}
 use Rattle.py_lines.specs.Private.Machine.{Bracket, brackets_behind, IsFull, first_spelling, spelling_on, move_of}
-use Rattle.py_lines.specs.Private.Scan.{Closes, IsUnderWay, stack_of, with_brackets, is_return_mode}
+use Rattle.py_lines.specs.Private.Scan.{Begins, Closes, IsUnderWay, stack_of, with_brackets, is_return_mode}
 use Rattle.py_lines.specs.declared.brackets.Brackets.{Brackets}
 use Rattle.py_lines.specs.declared.token.TokKind.{TokKind}
 use Rattle.py_lines.specs.declared.token.TokKind.TheVariants as kind
@@ -18,10 +19,14 @@ use Rattle.py_lines.specs.declared.mode.Spelling.TheVariants as spellings
 use Rattle.py_lines.specs.declared.mode.Mode.{Mode}
 use Rattle.py_lines.specs.declared.mode.Mode.TheVariants as modes
 use Rattle.py_lines.specs.declared.mode.Move.TheVariants as moves
+use Rattle.py_lines.specs.declared.mode.Start.TheVariants as starts
 use Rattle.py_lines.specs.declared.run.FirstByte.{FirstByte}
 use Rattle.py_lines.specs.declared.run.FirstByte.TheVariants as first
+use Rattle.py_lines.specs.declared.scan.Progress.TheVariants as progress
 use Rattle.py_lines.specs.declared.scan.Scan.{Scan}
-use Rattle.py_lines.specs.Character.{is_space, is_break, is_operator, is_hash, is_backslash, is_quote}
+use Rattle.py_lines.specs.declared.scan.Taken.{Taken}
+use Rattle.py_lines.specs.declared.scan.Taken.TheVariants as taken
+use Rattle.py_lines.specs.Character.{is_space, is_break, is_operator, is_hash, is_backslash, is_quote, is_line_feed}
 
 -- as many bytes pass as there are before the first that doesn't
 pub record IsRunOf (passes : ℕ → Bool) (bytes : List ℕ) (len : ℕ) : Type 0 where
@@ -74,9 +79,9 @@ pub record ReadsRun (old : Scan) (run : List ℕ) (new : Scan) : Type 0 where
   pub stop : new.stop ≡ old.stop + byte_len run
   pub here : new.count.line ≡ old.count.line
   pub after : new.count.after_return ≡ false
-  pub mode : new.mode ≡ old.mode
-  pub start : new.start ≡ old.start
-  pub piece_line : new.piece_line ≡ old.piece_line
+  pub mode : new.piece.mode ≡ old.piece.mode
+  pub start : new.piece.start ≡ old.piece.start
+  pub piece_line : new.piece.line ≡ old.piece.line
   pub line : new.line ≡ old.line
   pub margin : new.margin ≡ old.margin
   pub indent : new.indent ≡ old.indent
@@ -89,7 +94,7 @@ pub record Holds (old : Scan) (text rest : List ℕ) (new : Scan) : Type 0 where
   pub run : List ℕ
   pub spell : encode_utf8_all run ++ rest ≡ text
   pub scalars : all_scalars run ≡ true
-  pub stay : list_all (stays old.mode) run ≡ true
+  pub stay : list_all (stays old.piece.mode) run ≡ true
   pub reads : ((run ≡ []) × (new ≡ old)) ⊎ (IsFull run × ReadsRun old run new)
 
 -- the scan of a text has come to `rest`
@@ -100,12 +105,20 @@ pub record Reached (m : Mode) (at : ℕ) (text : List ℕ) (scan : Scan) (rest :
   pub scalars : all_scalars read ≡ true
   pub line : scan.line ≡ at
 
+-- what a line end, a comment or a join of lines begins with
+abbrev pub is_apart : ℕ → Bool
+is_apart c = is_break c || (is_hash c || is_backslash c)
+
 -- what a byte passes that is of this kind
 abbrev pub BeginsSo : FirstByte → ℕ → Type 0
 BeginsSo first.Word b = is_word_byte b ≡ true
 BeginsSo first.Space b = is_space b ≡ true
-BeginsSo first.Operator b = is_operator b ≡ true
+BeginsSo first.Operator b = (is_operator b ≡ true) × (is_opening b ≡ false) × (is_closing b ≡ false)
+BeginsSo first.Bracket b = is_operator b ≡ true
 BeginsSo first.Quote b = is_quote b ≡ true
+BeginsSo first.LineFeed b = is_line_feed b ≡ true
+BeginsSo first.Hash b = is_hash b ≡ true
+BeginsSo first.Apart b = is_apart b ≡ true
 BeginsSo first.Other b = Unit {0}
 
 -- whether no piece is open, after the text's start
@@ -116,10 +129,6 @@ is_free other = false
 -- whether an operator may stand next where these brackets are open
 abbrev pub may_stand : List Bracket → ℕ → Bool
 may_stand st c = is_some (brackets_behind st 0 (record { class = operator; text = c ∷ [] }))
-
--- what a line end, a comment or a join of lines begins with
-abbrev pub is_apart : ℕ → Bool
-is_apart c = is_break c || (is_hash c || is_backslash c)
 
 -- what a piece that may stand next begins with, where it is ASCII and no string
 abbrev pub follows : List Bracket → ℕ → Bool
@@ -144,16 +153,16 @@ space_mode run = modes.Space
 
 -- the scan with a piece of so many bytes open, after closed ones
 abbrev pub opened : Scan → Mode → ℕ → Scan
-opened old m len = record old { mode = m; start = old.stop; stop = old.stop + len; piece_line = old.count.line; count = record { line = old.count.line; after_return = false } }
+opened old m len = record old { piece = record { mode = m; start = old.stop; line = old.count.line }; stop = old.stop + len; count = record { line = old.count.line; after_return = false } }
 
 -- a token of so many bytes came after closed pieces
 pub record AddsToken (old : Scan) (k : TokKind) (len : ℕ) (new : Scan) : Type 0 where
   pub tokens : new.tokens.items ≡ old.tokens.items ++ record { kind = k; start = old.stop; stop = old.stop + len; line = old.count.line } ∷ []
   pub kind : new.kind ≡ unit_kind.Code
-  pub mode : new.mode ≡ modes.Free
-  pub start : new.start ≡ old.stop + len
+  pub mode : new.piece.mode ≡ modes.Free
+  pub start : new.piece.start ≡ old.stop + len
   pub stop : new.stop ≡ old.stop + len
-  pub piece_line : new.piece_line ≡ old.count.line
+  pub piece_line : new.piece.line ≡ old.count.line
   pub line : new.line ≡ old.line
   pub here : new.count.line ≡ old.count.line
   pub after : new.count.after_return ≡ false
@@ -196,22 +205,55 @@ pub record TakesString (old : Scan) (bytes : List ℕ) (len : ℕ) (new : Scan) 
   pub adds : AddsToken old kind.Str len new
 
 -- such a string came, or nothing was taken
-abbrev pub TakesText : Scan → List ℕ → Result (Option ℕ) AllocError → Scan → Type 0
-TakesText old bytes (Ok None) new = new ≡ old
-TakesText old bytes (Ok (Some len)) new = TakesString old bytes len new
+abbrev pub TakesText : Scan → List ℕ → Result Taken AllocError → Scan → Type 0
+TakesText old bytes (Ok taken.Nothing) new = new ≡ old
+TakesText old bytes (Ok (taken.Bytes len)) new = TakesString old bytes len new
+TakesText old bytes (Ok taken.LineEnd) new = ⊥
 TakesText old bytes (Err e) new = Unit {0}
 
--- a word, a space, an operator or a string came after closed pieces, or nothing was taken
-abbrev pub TakesPiece : Scan → List ℕ → Result (Option ℕ) AllocError → Scan → Type 0
-TakesPiece old bytes (Ok None) new = new ≡ old
-TakesPiece old bytes (Ok (Some len)) new = TakesRun is_word_byte follows word_mode old bytes len new ⊎ (TakesRun is_space may_begin space_mode old bytes len new ⊎ (TakesOperator old bytes len new ⊎ TakesString old bytes len new))
+-- an operator came, or nothing was taken
+abbrev pub TakesBracket : Scan → List ℕ → Result Taken AllocError → Scan → Type 0
+TakesBracket old bytes (Ok taken.Nothing) new = new ≡ old
+TakesBracket old bytes (Ok (taken.Bytes len)) new = TakesOperator old bytes len new
+TakesBracket old bytes (Ok taken.LineEnd) new = ⊥
+TakesBracket old bytes (Err e) new = Unit {0}
+
+-- a comment that a line end follows came after closed pieces
+pub record TakesComment (old : Scan) (bytes : List ℕ) (len : ℕ) (new : Scan) : Type 0 where
+  pub hash : begins is_hash bytes ≡ true
+  pub run : IsRunOf is_comment_byte bytes len
+  pub within : len < length bytes
+  pub closes : Closes (opened old modes.Comment len) new
+
+-- such a comment came, or nothing was taken
+abbrev pub TakesRemark : Scan → List ℕ → Result Taken AllocError → Scan → Type 0
+TakesRemark old bytes (Ok taken.Nothing) new = new ≡ old
+TakesRemark old bytes (Ok (taken.Bytes len)) new = TakesComment old bytes len new
+TakesRemark old bytes (Ok taken.LineEnd) new = ⊥
+TakesRemark old bytes (Err e) new = Unit {0}
+
+-- LF came after closed pieces: in brackets the line goes on
+abbrev pub TakesLineFeed : Scan → Taken → Scan → Type 0
+TakesLineFeed old taken.Nothing new = ⊥
+TakesLineFeed old (taken.Bytes len) new = (len ≡ 1) × Begins old 10 starts.LineEnd (Ok progress.Going) new
+TakesLineFeed old taken.LineEnd new = Begins old 10 starts.LineEnd (Ok (progress.LineEnded 1)) new
+
+-- the bytes begin with LF
+abbrev pub BeginsWithFeed : List ℕ → Type 0
+BeginsWithFeed bytes = begins is_line_feed bytes ≡ true
+
+-- a piece came after closed ones, or nothing was taken
+abbrev pub TakesPiece : Scan → List ℕ → Result Taken AllocError → Scan → Type 0
+TakesPiece old bytes (Ok taken.Nothing) new = new ≡ old
+TakesPiece old bytes (Ok (taken.Bytes len)) new = TakesRun is_word_byte follows word_mode old bytes len new ⊎ (TakesRun is_space may_begin space_mode old bytes len new ⊎ (TakesOperator old bytes len new ⊎ (TakesString old bytes len new ⊎ (TakesComment old bytes len new ⊎ (BeginsWithFeed bytes × TakesLineFeed old (taken.Bytes len) new)))))
+TakesPiece old bytes (Ok taken.LineEnd) new = BeginsWithFeed bytes × TakesLineFeed old taken.LineEnd new
 TakesPiece old bytes (Err e) new = Unit {0}
 
 -- the scan has closed the open piece, since the next byte shows its end
 pub record IsShut (before scan : Scan) (rest : List ℕ) : Type 0 where
   pub closes : Closes before scan
-  pub breaks : (c : ℕ) (more : List ℕ) → rest ≡ c ∷ more → move_of before.mode c ≡ moves.Breaks
-  pub unreturned : is_return_mode before.mode ≡ false
+  pub breaks : (c : ℕ) (more : List ℕ) → rest ≡ c ∷ more → move_of before.piece.mode c ≡ moves.Breaks
+  pub unreturned : is_return_mode before.piece.mode ≡ false
   pub next : begins (may_begin (stack_of scan.brackets)) rest ≡ true
 
 -- the scan of a text has come to `rest`, and may have closed the open piece early

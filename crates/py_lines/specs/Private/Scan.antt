@@ -7,7 +7,7 @@ use Rattle.py_lines.specs.Character.{is_return, is_line_feed}
 use Rattle.py_lines.specs.Piece.{operator, line_end, Piece, ends, is_mark_class, spelled, AreReadBefore, begins}
 use Rattle.py_lines.specs.Balance.{depth_after, depth_through}
 use Rattle.py_lines.specs.LogicalLine.{byte_len, line_ends, tokens_from, indent_of, kind_of, is_line_end_class}
-use Rattle.py_lines.specs.Private.Machine.{Scanned, fresh, step, run_from, token_of, Bracket, brackets_behind, brackets_of, in_short, is_behind_slash}
+use Rattle.py_lines.specs.Private.Machine.{Scanned, fresh, step, run_from, token_of, Bracket, brackets_behind, brackets_of, in_short, is_behind_slash, is_final, end_kind}
 use Rattle.py_lines.specs.declared.token.Token.{Token}
 use Rattle.py_lines.specs.declared.mode.Mode.{Mode}
 use Rattle.py_lines.specs.declared.mode.Mode.TheVariants as modes
@@ -24,6 +24,7 @@ use Rattle.py_lines.specs.declared.scan.Progress.{Progress}
 use Rattle.py_lines.specs.declared.scan.Progress.TheVariants as progress
 use Rattle.py_lines.specs.declared.scan.Stop.{Stop}
 use Rattle.py_lines.specs.declared.scan.Stop.TheVariants as stops
+use Rattle.py_lines.specs.declared.scan.Flaw.{Flaw}
 use Rattle.py_lines.specs.declared.scan.Scan.{Scan}
 
 -- what one more character counts after others: CR counts at once, and LF unless CR stands before it
@@ -63,12 +64,12 @@ kind_with k other = unit_kind.Code
 
 -- the open piece became a token of this kind
 pub record Emits (old : Scan) (k : TokKind) (new : Scan) : Type 0 where
-  pub tokens : new.tokens.items ≡ old.tokens.items ++ record { kind = k; start = old.start; stop = old.stop; line = old.piece_line } ∷ []
+  pub tokens : new.tokens.items ≡ old.tokens.items ++ record { kind = k; start = old.piece.start; stop = old.stop; line = old.piece.line } ∷ []
   pub kind : new.kind ≡ kind_with old.kind k
-  pub mode : new.mode ≡ old.mode
-  pub start : new.start ≡ old.start
+  pub mode : new.piece.mode ≡ old.piece.mode
+  pub start : new.piece.start ≡ old.piece.start
   pub stop : new.stop ≡ old.stop
-  pub piece_line : new.piece_line ≡ old.piece_line
+  pub piece_line : new.piece.line ≡ old.piece.line
   pub line : new.line ≡ old.line
   pub count : new.count ≡ old.count
   pub margin : new.margin ≡ old.margin
@@ -108,14 +109,14 @@ indent_closed old other margin size = old
 
 -- the open piece is closed
 pub record Closes (old new : Scan) : Type 0 where
-  pub tokens : new.tokens.items ≡ old.tokens.items ++ tokens_with (token_of old.mode) old.start old.stop old.piece_line
-  pub kind : new.kind ≡ kind_closed old.kind old.mode
-  pub indent : new.indent ≡ indent_closed old.indent old.mode old.margin (old.stop - old.start)
-  pub margin : new.margin ≡ old.margin && holds_nothing old.mode
-  pub mode : new.mode ≡ modes.Free
-  pub start : new.start ≡ old.stop
+  pub tokens : new.tokens.items ≡ old.tokens.items ++ tokens_with (token_of old.piece.mode) old.piece.start old.stop old.piece.line
+  pub kind : new.kind ≡ kind_closed old.kind old.piece.mode
+  pub indent : new.indent ≡ indent_closed old.indent old.piece.mode old.margin (old.stop - old.piece.start)
+  pub margin : new.margin ≡ old.margin && holds_nothing old.piece.mode
+  pub mode : new.piece.mode ≡ modes.Free
+  pub start : new.piece.start ≡ old.stop
   pub stop : new.stop ≡ old.stop
-  pub piece_line : new.piece_line ≡ old.count.line
+  pub piece_line : new.piece.line ≡ old.count.line
   pub line : new.line ≡ old.line
   pub count : new.count ≡ old.count
   pub brackets : new.brackets ≡ old.brackets
@@ -129,9 +130,9 @@ pub record Counts (old : Count) (c : ℕ) (new : Count) : Type 0 where
 pub record ReadsCharacter (old : Scan) (c : ℕ) (new : Scan) : Type 0 where
   pub stop : new.stop ≡ old.stop + len_utf8 c
   pub count : Counts old.count c new.count
-  pub mode : new.mode ≡ old.mode
-  pub start : new.start ≡ old.start
-  pub piece_line : new.piece_line ≡ old.piece_line
+  pub mode : new.piece.mode ≡ old.piece.mode
+  pub start : new.piece.start ≡ old.piece.start
+  pub piece_line : new.piece.line ≡ old.piece.line
   pub line : new.line ≡ old.line
   pub margin : new.margin ≡ old.margin
   pub indent : new.indent ≡ old.indent
@@ -141,16 +142,16 @@ pub record ReadsCharacter (old : Scan) (c : ℕ) (new : Scan) : Type 0 where
 
 -- a character that is a piece alone was taken, after closed ones: an operator, or a line end
 pub record AddsPiece (closed new : Scan) (c : ℕ) (k : Option TokKind) : Type 0 where
-  pub mode : new.mode ≡ modes.Free
-  pub start : new.start ≡ closed.stop + len_utf8 c
+  pub mode : new.piece.mode ≡ modes.Free
+  pub start : new.piece.start ≡ closed.stop + len_utf8 c
   pub stop : new.stop ≡ closed.stop + len_utf8 c
   pub count : Counts closed.count c new.count
-  pub piece_line : new.piece_line ≡ new.count.line
+  pub piece_line : new.piece.line ≡ new.count.line
   pub line : new.line ≡ closed.line
   pub margin : new.margin ≡ false
   pub indent : new.indent ≡ closed.indent
   pub kind : new.kind ≡ kind_through closed.kind k
-  pub tokens : new.tokens.items ≡ closed.tokens.items ++ tokens_with k closed.start (closed.stop + len_utf8 c) closed.piece_line
+  pub tokens : new.tokens.items ≡ closed.tokens.items ++ tokens_with k closed.piece.start (closed.stop + len_utf8 c) closed.piece.line
   pub brackets : new.brackets ≡ closed.brackets
 
 -- the open piece was closed, and then such a character was taken
@@ -161,7 +162,7 @@ pub record ClosesAndAdds (old : Scan) (c : ℕ) (k : Option TokKind) (new : Scan
 
 -- the scan in another mode
 abbrev pub in_mode : Scan → Mode → Scan
-in_mode old m = record old { mode = m }
+in_mode old m = record old { piece = record old.piece { mode = m } }
 
 -- a piece opened with a character, after the open one
 pub record ClosesAndOpens (old : Scan) (c : ℕ) (m : Mode) (new : Scan) : Type 0 where
@@ -207,10 +208,10 @@ is_margin (p ∷ q ∷ ps) = false
 
 -- the scan keeps count of what the machine has found in its line
 pub record Tallies (scan : Scan) (s : Scanned) : Type 0 where
-  pub mode : scan.mode ≡ s.mode
-  pub start : scan.start ≡ byte_len (spelled s.done)
+  pub mode : scan.piece.mode ≡ s.mode
+  pub start : scan.piece.start ≡ byte_len (spelled s.done)
   pub stop : scan.stop ≡ byte_len (spelled s.done ++ s.held)
-  pub piece_line : scan.piece_line ≡ scan.line + line_ends (spelled s.done)
+  pub piece_line : scan.piece.line ≡ scan.line + line_ends (spelled s.done)
   pub here : scan.count.line ≡ scan.line + line_ends (spelled s.done ++ s.held)
   pub after : scan.count.after_return ≡ ends is_return (spelled s.done ++ s.held)
   pub margin : scan.margin ≡ is_margin s.done
@@ -288,7 +289,7 @@ pub record IsAtLineEnd (m : Mode) (scan : Scan) (read rest : List ℕ) (len : �
 
 -- whether the CR of a line end was read last, outside brackets
 abbrev pub is_returned : Scan → Bool
-is_returned scan = is_return_mode scan.mode && none_open (stack_of scan.brackets)
+is_returned scan = is_return_mode scan.piece.mode && none_open (stack_of scan.brackets)
 
 -- the scan of a line's characters stops after these, with `rest` after them
 abbrev pub StopsSo : Mode → Scan → Stop → List ℕ → List ℕ → Type 0
@@ -329,4 +330,13 @@ pub record ScansIn (m : Mode) (line : ℕ) (whole : List ℕ) (scan : Scan) (sto
 
 -- where the fault of a refused character stands
 abbrev pub refused_place : Scan → ℕ
-refused_place scan = if in_short scan.mode || is_behind_slash scan.mode then scan.start else scan.stop
+refused_place scan = if in_short scan.piece.mode || is_behind_slash scan.piece.mode then scan.piece.start else scan.stop
+
+-- what is open starts at this byte: a string or a backslash, or else the innermost bracket
+abbrev pub IsOpenFrom : Scan → ℕ → Type 0
+IsOpenFrom scan place = ((is_final scan.piece.mode ≡ false) × (place ≡ scan.piece.start)) ⊎ ((is_final scan.piece.mode ≡ true) × ((b : Bracket) × (others : List Bracket) × (stack_of scan.brackets ≡ b ∷ others) × (place ≡ b.place)))
+
+-- what is wrong where the text ends: nothing, if it may end there
+abbrev pub IsUnfinished : Scan → Option Flaw → Type 0
+IsUnfinished scan None = (is_final scan.piece.mode ≡ true) × (stack_of scan.brackets ≡ [])
+IsUnfinished scan (Some flaw) = (flaw.kind ≡ end_kind scan.piece.mode) × IsOpenFrom scan flaw.place

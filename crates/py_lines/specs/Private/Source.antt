@@ -1,5 +1,5 @@
 -- What the reader inside a `Lines` holds: the logical line that it last read.
-use Rattle.std.specs.Prelude.{◌≡◌, ℕ, zero, suc, ◌+◌, ◌-◌, ◌<◌, ◌⊎◌, Option, None, Some, Result, Ok, Err, Bool, true, false, List, [], ◌∷◌, length, take, drop, encode_utf8_all}
+use Rattle.std.specs.Prelude.{◌≡◌, ℕ, zero, suc, ◌+◌, ◌-◌, ◌<◌, None, Some, Result, Ok, Err, Bool, true, false, List, length, take, drop, encode_utf8_all}
 use Rattle.py_lines.specs.LogicalLine.{LogicalLine, line_ends}
 use Rattle.py_lines.specs.Token.{EachLiesIn}
 use Rattle.py_lines.specs.Reader.{Continues, Ends, Fails, RunsOut}
@@ -7,12 +7,10 @@ use Rattle.py_lines.specs.Reader.View.{reader_of}
 use Rattle.py_lines.specs.declared.fault.Fault.{Fault}
 use Rattle.py_lines.specs.declared.fault.LexError.{LexError}
 use Rattle.py_lines.specs.declared.fault.LexError.TheVariants as lex
-use Rattle.py_lines.specs.Private.Machine.{is_final, Bracket}
-use Rattle.py_lines.specs.Private.Scan.{Scans, stack_of}
+use Rattle.py_lines.specs.Private.Scan.{Scans}
 use Rattle.py_lines.specs.declared.fault.FaultKind.{FaultKind}
 use Rattle.py_lines.specs.declared.mode.Mode.{Mode}
 use Rattle.py_lines.specs.declared.mode.Mode.TheVariants as modes
-use Rattle.py_lines.specs.declared.scan.Scan.{Scan}
 use Rattle.py_lines.specs.declared.scan.Stop.{Stop}
 use Rattle.py_lines.specs.declared.source.Source.{Source}
 
@@ -54,11 +52,6 @@ pub record KeepsFault (old : Source) (kind : FaultKind) (behind : ℕ) (error : 
   pub here : new.place ≡ old.place
   pub same_line : new.line ≡ old.line
   pub kept : new.fault ≡ Some fault
-
--- where the text may not end
-abbrev pub IsUnfinished : Scan → Option ℕ → Type 0
-IsUnfinished scan None = (is_final scan.mode ≡ true) × (stack_of scan.brackets ≡ [])
-IsUnfinished scan (Some behind) = ((is_final scan.mode ≡ false) × (behind ≡ scan.start)) ⊎ ((is_final scan.mode ≡ true) × ((b : Bracket) × (others : List Bracket) × (stack_of scan.brackets ≡ b ∷ others) × (behind ≡ b.place)))
 
 -- what is open where a line begins
 abbrev pub first_mode : ℕ → Mode

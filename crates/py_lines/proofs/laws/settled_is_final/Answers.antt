@@ -1,7 +1,11 @@
 use Rattle.py_lines.proofs.Lexings.DecidedFaults.{decided_fault}
+use Rattle.py_lines.proofs.Lexings.SettledExistence.{some_settled}
 use Rattle.py_lines.proofs.Lexings.SettledOrder.{settled_begin_first, settled_grow}
 use Rattle.py_lines.proofs.Lexings.Uniqueness.{one_settled}
 use Rattle.py_lines.proofs.laws.settled_is_final.Goals as goal
+
+pub returns-clause-some : goal.returns-clause-some
+returns-clause-some c = some_settled
 
 pub returns-clause-one : goal.returns-clause-one
 returns-clause-one c = one_settled

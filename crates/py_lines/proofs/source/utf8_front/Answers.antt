@@ -3,10 +3,14 @@ use Rattle.std.specs.Str.{IsValidUpTo}
 use Rattle.py_lines.proofs.Text.Utf8Prefixes.{whole_text, front_text}
 use Rattle.py_lines.proofs.source.utf8_front.Goals as goal
 
+pub returns-then-is_short_ascii-clause-bad : goal.returns-then-is_short_ascii-clause-bad
+returns-then-is_short_ascii-clause-bad c = whole_text c.from_utf8_unchecked.result.now c.args.bytes.now c.from_utf8_unchecked.ensures
+
 pub returns-in-Ok-clause-bad : goal.returns-in-Ok-clause-bad
 returns-in-Ok-clause-bad c = whole_text c.in-Ok.text.now c.args.bytes.now c.in-Ok.ensures.cases.0
 
-pub returns-in-Ok-from_utf8-clause-bad : goal.returns-in-Ok-from_utf8-clause-bad
-returns-in-Ok-from_utf8-clause-bad c =
+pub returns-in-Err-clause-bad : goal.returns-in-Err-clause-bad
+returns-in-Err-clause-bad c =
     let longest = subst (IsValidUpTo c.args.bytes.now) (sym c.valid_up_to.ensures) c.in-Err.ensures.cases.1 in
-    front_text c.in-Ok-from_utf8.text.now c.args.bytes.now c.valid_up_to.result longest (ap length c.in-Ok-from_utf8.ensures.cases.0 ∙ length-take-le c.valid_up_to.result c.args.bytes.now (omega (arith, longest.short)))
+    let text = c.from_utf8_unchecked-in-Err.result.now in
+    front_text text c.args.bytes.now c.valid_up_to.result longest (ap length c.from_utf8_unchecked-in-Err.ensures ∙ length-take-le c.valid_up_to.result c.args.bytes.now (omega (arith, longest.short)))

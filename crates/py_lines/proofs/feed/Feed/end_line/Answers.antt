@@ -31,27 +31,27 @@ pub fail-requires-in-Some-clause-within : goal.fail-requires-in-Some-clause-with
 fail-requires-in-Some-clause-within c =
     let o = c.requires.scanned in
     let f = c.args.self.now in
-    let w = within_held f o.0 o.1 o.2 c.in-Some.behind (unfinished_within f o.0 o.1 o.2 c.in-Some.behind c.in-Some.ensures) in
+    let w = within_held f o.0 o.1 o.2 c.in-Some.flaw.place (unfinished_within f o.0 o.1 o.2 c.in-Some.flaw.place c.in-Some.ensures.1) in
     omega (arith, w.0, open_size f o.0 o.1 o.2)
 
 pub fail-requires-in-Some-clause-text : goal.fail-requires-in-Some-clause-text
 fail-requires-in-Some-clause-text c =
     let o = c.requires.scanned in
     let f = c.args.self.now in
-    (within_held f o.0 o.1 o.2 c.in-Some.behind (unfinished_within f o.0 o.1 o.2 c.in-Some.behind c.in-Some.ensures)).2
+    (within_held f o.0 o.1 o.2 c.in-Some.flaw.place (unfinished_within f o.0 o.1 o.2 c.in-Some.flaw.place c.in-Some.ensures.1)).2
 
 pub fail-requires-in-Some-clause-bytes : goal.fail-requires-in-Some-clause-bytes
 fail-requires-in-Some-clause-bytes c =
     let o = c.requires.scanned in
     let f = c.args.self.now in
-    let w = within_held f o.0 o.1 o.2 c.in-Some.behind (unfinished_within f o.0 o.1 o.2 c.in-Some.behind c.in-Some.ensures) in
+    let w = within_held f o.0 o.1 o.2 c.in-Some.flaw.place (unfinished_within f o.0 o.1 o.2 c.in-Some.flaw.place c.in-Some.ensures.1) in
     omega (arith, w.0, open_size f o.0 o.1 o.2, c.requires.fits)
 
 pub fail-requires-in-Some-clause-lines : goal.fail-requires-in-Some-clause-lines
 fail-requires-in-Some-clause-lines c =
     let o = c.requires.scanned in
     let f = c.args.self.now in
-    let w = within_held f o.0 o.1 o.2 c.in-Some.behind (unfinished_within f o.0 o.1 o.2 c.in-Some.behind c.in-Some.ensures) in
+    let w = within_held f o.0 o.1 o.2 c.in-Some.flaw.place (unfinished_within f o.0 o.1 o.2 c.in-Some.flaw.place c.in-Some.ensures.1) in
     omega (arith, w.0, open_size f o.0 o.1 o.2, c.requires.fits, c.requires.few_lines)
 
 pub returns-in-Some : goal.returns-in-Some
@@ -59,7 +59,7 @@ returns-in-Some c =
     let o = c.requires.scanned in
     let f = c.args.self.now in
     let none = all_scanned f o.0 o.1 o.2 (omega (arith, c.len.ensures, c.if-self-len.false)) in
-    ends_so_open f o.0 o.1 o.2 c.fail-in-Some.new.self c.fail-in-Some.result c.end_kind.result c.in-Some.behind c.end_kind.ensures none c.requires.some (sym c.is_returned.ensures ∙ c.if-is_returned.false) c.in-Some.ensures c.fail-in-Some.ensures c.requires.not_ready
+    ends_so_open f o.0 o.1 o.2 c.fail-in-Some.new.self c.fail-in-Some.result c.in-Some.flaw.kind c.in-Some.flaw.place c.in-Some.ensures.0 none c.requires.some (sym c.is_returned.ensures ∙ c.if-is_returned.false) c.in-Some.ensures.1 c.fail-in-Some.ensures c.requires.not_ready
 
 pub returns : goal.returns
 returns c =

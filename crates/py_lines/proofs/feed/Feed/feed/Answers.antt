@@ -3,7 +3,7 @@ use Rattle.std.proofs.lemmas.List.{nil_from_length}
 use Rattle.std.proofs.lemmas.Result.{err_from_is_err_and}
 use Rattle.py_lines.specs.declared.fault.LexError.{LexError}
 use Rattle.py_lines.specs.Private.Feed.{TakesChunk}
-use Rattle.py_lines.proofs.Feeds.Chunks.{none_is, none_taken, rest_is, grows, last_chunk, chunk_fails, stops_short, stops_taking}
+use Rattle.py_lines.proofs.Feeds.Chunks.{none_is, none_taken, rest_is, grows, after_scanned, next_bytes, last_chunk, chunk_fails, stops_short, stops_taking}
 use Rattle.py_lines.proofs.feed.Feed.feed.Goals as goal
 
 pub returns-in_err-scan_held : goal.returns-in_err-scan_held
@@ -18,17 +18,16 @@ loop-taken-preserved c =
     let mid = c.loop-taken.self in
     let taken = c.loop-taken.taken in
     let inv = c.loop-taken.invariant in
-    let len = c.chunk_len-len.result in
-    let rest = take (length piece - taken) (drop taken piece) in
-    let is = rest_is piece taken in
+    let more = c.in-Ok.more in
     let took = c.in-Ok.ensures in
+    let chunk = next_bytes piece taken c.min-len.result more inv.within took.within in
     record {
-      within = omega (arith, c.chunk_len-len.ensures.within, ap length is, length-drop taken piece, inv.within);
-      more = grows old mid c.take.new.self piece (take len rest) taken len inv.more took.0 (ap (take len) is);
-      fault = took.1 ∙ inv.fault;
-      begun = λ zero. absurd (omega (arith, zero, c.chunk_len-len.ensures.some));
-      scanned = λ h. took.2;
-      last = λ some. last_chunk old mid piece c.deref.result.now rest taken len inv.more (none_is mid.ready (c.is_none.ensures ∙ ap not c.if-is_none.true)) inv.scanned c.deref.ensures.value is c.chunk_len-len.ensures;
+      within = chunk.1;
+      more = grows old mid c.take.new.self piece _ taken more inv.more took.more chunk.0;
+      fault = took.fault ∙ inv.fault;
+      begun = λ zero. absurd (omega (arith, zero, took.some));
+      scanned = λ h. after_scanned mid.held.items c.take.new.self.ready c.take.new.self took.stops;
+      last = λ end_len some ready. last_chunk old mid c.take.new.self piece taken more end_len inv.more (none_is mid.ready (c.is_none.ensures ∙ ap not c.if-is_none.true)) inv.scanned took.stops ready;
     }
 
 pub returns-in-Err-Fault : goal.returns-in-Err-Fault
@@ -38,11 +37,11 @@ returns-in-Err-Fault c =
     let mid = c.loop-taken.self in
     let taken = c.loop-taken.taken in
     let inv = c.loop-taken.invariant in
-    let len = c.chunk_len-len.result in
+    let len = c.min-len.result in
     let rest = take (length piece - taken) (drop taken piece) in
     let is = rest_is piece taken in
     let fails = subst (λ (e : LexError). TakesChunk mid (take len rest) (Err e) c.take.new.self) c.in-Err-Fault.field-0-is c.in-Err-Fault.ensures in
-    inr (c.in_default.is, chunk_fails old mid c.take.new.self piece (take len rest) taken len _ (none_is old.ready (sym c.is_some.ensures ∙ c.if-is_some.false)) (omega (arith, c.chunk_len-len.ensures.within, ap length is, length-drop taken piece, inv.within)) inv.more (ap (take len) is) fails)
+    inr (c.in_default.is, chunk_fails old mid c.take.new.self piece (take len rest) taken len _ (none_is old.ready (sym c.is_some.ensures ∙ c.if-is_some.false)) (omega (arith, c.min-len.ensures, ap length is, length-drop taken piece, inv.within)) inv.more (ap (take len) is) fails)
 
 pub returns-in-Err-Memory-2 : goal.returns-in-Err-Memory-2
 returns-in-Err-Memory-2 c =
@@ -51,7 +50,7 @@ returns-in-Err-Memory-2 c =
     let mid = c.loop-taken.self in
     let inv = c.loop-taken.invariant in
     let rest = take (length piece - c.loop-taken.taken) (drop c.loop-taken.taken piece) in
-    let same = subst (λ (e : LexError). TakesChunk mid (take c.chunk_len-len.result rest) (Err e) c.take.new.self) c.in-Err-Memory.field-0-is c.in-Err-Memory.ensures in
+    let same = subst (λ (e : LexError). TakesChunk mid (take c.min-len.result rest) (Err e) c.take.new.self) c.in-Err-Memory.field-0-is c.in-Err-Memory.ensures in
     (c.in_default.is, inr (stops_short old mid c.take.new.self piece c.loop-taken.taken (none_is old.ready (sym c.is_some.ensures ∙ c.if-is_some.false)) inv.within (λ zero. c.if-taken-eq0.false zero) inv.more inv.fault (none_is mid.ready (c.is_none.ensures ∙ ap not c.if-is_none.true)) inv.scanned same))
 
 pub returns-after-loop-taken : goal.returns-after-loop-taken

@@ -1,4 +1,4 @@
-use Rattle.std.proofs.Common.{◌≡◌, ◌-◌, ◌<◌, ◌≤◌, [], length, take}
+use Rattle.std.proofs.Common.{◌≡◌, ℕ, ◌-◌, ◌<◌, ◌≤◌, Some, [], length, take}
 use Rattle.py_lines.specs.Private.Feed.{HoldsMore, IsScanned, IsLastChunk}
 use Rattle.py_lines.proofs.feed.Feed.feed.Given as goal
 
@@ -9,7 +9,7 @@ invariant-loop-taken l = record {
   fault : l.self.fault ≡ l.fn.self.fault;
   begun : l.taken ≡ 0 → 0 < length l.piece → l.self ≡ l.fn.self;
   scanned : (l.taken ≡ 0 → l.piece ≡ []) → IsScanned l.self.ready l.self;
-  last : 0 < l.taken → IsLastChunk l.fn.self l.piece l.taken;
+  last : (end_len : ℕ) → 0 < l.taken → l.self.ready ≡ Some end_len → IsLastChunk l.fn.self l.piece l.taken end_len l.self;
 }
 
 abbrev pub decreases-loop-taken : goal.decreases-loop-taken

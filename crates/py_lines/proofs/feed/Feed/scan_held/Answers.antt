@@ -18,7 +18,7 @@ fail-requires-clause-within c =
     let scans = subst (λ (t : Stop). ScansCharacters c.args.self.now (Ok t) mid) c.in-Refused.is c.in_ok-len.ensures in
     let o = scans.3.2.0 in
     let w = within_held mid scans.3.0 scans.3.1 o (refused_place mid.scan) (refused_held mid scans.3.0 scans.3.1 o) in
-    omega (arith, w.0, open_size mid scans.3.0 scans.3.1 o, c.refused_place-behind.ensures)
+    omega (arith, w.0, open_size mid scans.3.0 scans.3.1 o, c.refusal-flaw.ensures.place)
 
 pub fail-requires-clause-text : goal.fail-requires-clause-text
 fail-requires-clause-text c =
@@ -26,7 +26,7 @@ fail-requires-clause-text c =
     let scans = subst (λ (t : Stop). ScansCharacters c.args.self.now (Ok t) mid) c.in-Refused.is c.in_ok-len.ensures in
     let o = scans.3.2.0 in
     let w = within_held mid scans.3.0 scans.3.1 o (refused_place mid.scan) (refused_held mid scans.3.0 scans.3.1 o) in
-    subst (λ (n : ℕ). IsUtf8 (take n mid.held.items)) (sym c.refused_place-behind.ensures) w.2
+    subst (λ (n : ℕ). IsUtf8 (take n mid.held.items)) (sym c.refusal-flaw.ensures.place) w.2
 
 pub fail-requires-clause-bytes : goal.fail-requires-clause-bytes
 fail-requires-clause-bytes c =
@@ -34,7 +34,7 @@ fail-requires-clause-bytes c =
     let scans = subst (λ (t : Stop). ScansCharacters c.args.self.now (Ok t) mid) c.in-Refused.is c.in_ok-len.ensures in
     let o = scans.3.2.0 in
     let w = within_held mid scans.3.0 scans.3.1 o (refused_place mid.scan) (refused_held mid scans.3.0 scans.3.1 o) in
-    omega (arith, w.0, open_size mid scans.3.0 scans.3.1 o, c.refused_place-behind.ensures, c.requires.fits, held_size scans.0, scans.0.place)
+    omega (arith, w.0, open_size mid scans.3.0 scans.3.1 o, c.refusal-flaw.ensures.place, c.requires.fits, held_size scans.0, scans.0.place)
 
 pub fail-requires-clause-lines : goal.fail-requires-clause-lines
 fail-requires-clause-lines c =
@@ -42,7 +42,7 @@ fail-requires-clause-lines c =
     let scans = subst (λ (t : Stop). ScansCharacters c.args.self.now (Ok t) mid) c.in-Refused.is c.in_ok-len.ensures in
     let o = scans.3.2.0 in
     let w = within_held mid scans.3.0 scans.3.1 o (refused_place mid.scan) (refused_held mid scans.3.0 scans.3.1 o) in
-    omega (arith, w.0, open_size mid scans.3.0 scans.3.1 o, c.refused_place-behind.ensures, c.requires.fits, c.requires.few_lines, held_size scans.0, scans.0.line)
+    omega (arith, w.0, open_size mid scans.3.0 scans.3.1 o, c.refusal-flaw.ensures.place, c.requires.fits, c.requires.few_lines, held_size scans.0, scans.0.line)
 
 pub returns-in-TextEnd : goal.returns-in-TextEnd
 returns-in-TextEnd c =
@@ -54,4 +54,4 @@ pub returns-in-Refused : goal.returns-in-Refused
 returns-in-Refused c =
     let mid = c.scan_characters.new.self in
     let scans = subst (λ (t : Stop). ScansCharacters c.args.self.now (Ok t) mid) c.in-Refused.is c.in_ok-len.ensures in
-    held_refused c.args.self.now mid c.fail.new.self scans.3.0 scans.3.1 c.in-Refused.c c.character_kind.result c.refused_place-behind.result c.fail.result scans.0 (scans.1 ∙ c.requires.not_ready) scans.3.2 c.character_kind.ensures c.refused_place-behind.ensures c.fail.ensures
+    held_refused c.args.self.now mid c.fail.new.self scans.3.0 scans.3.1 c.in-Refused.c c.refusal-flaw.result.kind c.refusal-flaw.result.place c.fail.result scans.0 (scans.1 ∙ c.requires.not_ready) scans.3.2 c.refusal-flaw.ensures.kind c.refusal-flaw.ensures.place c.fail.ensures

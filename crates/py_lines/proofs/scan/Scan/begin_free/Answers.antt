@@ -11,7 +11,7 @@ pub returns-in-Open : goal.returns-in-Open
 returns-in-Open c =
     rw (← c.in-Open.ensures) (
       refl,
-      record { mid = settled c.args.self.now; read = c.read.new.self; closes = settles c.args.self.now (free_is c.args.self.now.mode c.requires.free); reads = c.read.ensures; is = refl },
+      record { mid = settled c.args.self.now; read = c.read.new.self; closes = settles c.args.self.now (free_is c.args.self.now.piece.mode c.requires.free); reads = c.read.ensures; is = refl },
     )
 
 pub returns-in_ok-operate-in-Operator : goal.returns-in_ok-operate-in-Operator

@@ -13,11 +13,11 @@ return_mode_is m h = absurd (both_ways _ refl h)
 pub returns : goal.returns
 returns c =
     let old = c.args.self.now in
-    let is = return_mode_is old.mode c.requires in
+    let is = return_mode_is old.piece.mode c.requires in
     record {
-      tokens = sym (ap (λ m. old.tokens.items ++ tokens_with (token_of m) old.start old.stop old.piece_line) is ∙ append-nil old.tokens.items);
+      tokens = sym (ap (λ m. old.tokens.items ++ tokens_with (token_of m) old.piece.start old.stop old.piece.line) is ∙ append-nil old.tokens.items);
       kind = sym (ap (λ m. kind_closed old.kind m) is);
-      indent = sym (ap (λ m. indent_closed old.indent m old.margin (old.stop - old.start)) is);
+      indent = sym (ap (λ m. indent_closed old.indent m old.margin (old.stop - old.piece.start)) is);
       margin = sym (ap (λ m. old.margin && holds_nothing m) is ∙ and_right old.margin false refl);
       mode = refl;
       start = refl;

@@ -10,7 +10,7 @@ pub returns-clause-adds : goal.returns-clause-adds
 returns-clause-adds c =
     let old = c.args.self.now in
     let reads = c.read.ensures in
-    let free = free_is old.mode c.requires.free in
+    let free = free_is old.piece.mode c.requires.free in
     record {
       mid = settled old;
       closes = settles old free;

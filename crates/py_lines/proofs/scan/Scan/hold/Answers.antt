@@ -7,7 +7,7 @@ use Rattle.py_lines.proofs.scan.Scan.hold.Goals as goal
 use Rattle.py_lines.proofs.scan.Scan.hold.Goals.{then-len-gt0, else-len-gt0}
 
 pub range_from-requires : goal.range_from-requires
-range_from-requires c = λ _. run_boundary c.args.self.now.mode c.args.text.now c.run_in-len.result c.utf8.text c.requires.quote (subst (λ (t : List ℕ). IsRunOf (stays c.args.self.now.mode) t c.run_in-len.result) c.as_bytes.ensures.value c.run_in-len.ensures)
+range_from-requires c = λ _. run_boundary c.args.self.now.piece.mode c.args.text.now c.run_in-len.result c.utf8.text c.requires.quote (subst (λ (t : List ℕ). IsRunOf (stays c.args.self.now.piece.mode) t c.run_in-len.result) c.as_bytes.ensures.value c.run_in-len.ensures)
 
 pub returns : goal.returns
 returns c =
@@ -15,7 +15,7 @@ returns c =
     let new = c.if-len-gt0.self in
     let n = c.run_in-len.result in
     let text = c.args.text.now in
-    let run = subst (λ (t : List ℕ). IsRunOf (stays old.mode) t n) c.as_bytes.ensures.value c.run_in-len.ensures in
+    let run = subst (λ (t : List ℕ). IsRunOf (stays old.piece.mode) t n) c.as_bytes.ensures.value c.run_in-len.ensures in
     let how : ((0 < n) × ((cs : List ℕ) → byte_len cs ≡ n → ReadsRun old cs new)) ⊎ ((n ≤ 0) × (new ≡ old))
     = elim c.if-len-gt0.branch [
       | then-len-gt0 w ↦ inl (
@@ -37,4 +37,4 @@ returns c =
       )
       | else-len-gt0 w ↦ inr (w.if-len-gt0.false, w.self-is)
     ] in
-    subst (λ (r : List ℕ). Holds old text r new) (sym c.range_from.ensures.value) (holds_run old new text n (held_in old.mode text n c.utf8.text c.requires.quote run) how)
+    subst (λ (r : List ℕ). Holds old text r new) (sym c.range_from.ensures.value) (holds_run old new text n (held_in old.piece.mode text n c.utf8.text c.requires.quote run) how)

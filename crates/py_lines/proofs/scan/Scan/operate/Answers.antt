@@ -14,5 +14,5 @@ pub returns : goal.returns
 returns c = go c.add.result c.add.ensures
   where
     go : (r : Result (Unit {0}) AllocError) → OnOk r (AddsToken c.args.self.now (Op c.args.c) 1 c.add.new.self) → OnOk r (ClosesAndAdds c.args.self.now c.args.c (Some (Op c.args.c)) c.add.new.self)
-    go (Ok v) adds = adds_operator c.args.self.now c.args.self.now c.add.new.self c.args.self.now.brackets c.args.c c.requires.ascii (settles c.args.self.now (free_is c.args.self.now.mode c.requires.free)) adds
+    go (Ok v) adds = adds_operator c.args.self.now c.args.self.now c.add.new.self c.args.self.now.brackets c.args.c c.requires.ascii (settles c.args.self.now (free_is c.args.self.now.piece.mode c.requires.free)) adds
     go (Err e) adds = tt

@@ -9,6 +9,7 @@ use Rattle.py_lines.proofs.scan.Scan.pieces.Given as goal
 abbrev pub invariant-pieces : goal.invariant-pieces
 invariant-pieces l = record {
   room : l.self.stop + length l.rest < 2 ^ 64;
+  lines : l.self.count.line + length l.rest < 2 ^ 64;
   shorter : length l.rest ≤ length l.text;
   utf8 : IsUtf8 l.rest;
   reached : (m : Mode) (at : ℕ) (whole : List ℕ) → IsUtf8 whole → IsSound (line_start m) [] → Reached m at whole l.initial.self l.text → ReachedShut m at whole l.self l.rest;

@@ -14,10 +14,10 @@ pub returns-after-self : goal.returns-after-self
 returns-after-self c =
     let old = c.args.self.now in
     let len = c.space_run-len.result in
-    let P : Scan → Type 0 = λ s. Closes (opened old modes.Space len) (record s { mode = modes.Free; start = s.stop; margin = false }) in
+    let P : Scan → Type 0 = λ s. Closes (opened old modes.Space len) (record s { piece = record s.piece { mode = modes.Free; start = s.stop }; margin = false }) in
     let margin : c.open.new.self.margin ≡ old.margin = ap (λ (s : Scan). s.margin) c.open.ensures in
     let by : (b : Bool) → c.open.new.self.margin ≡ b → indent_closed old.indent modes.Space b len ≡ indent_closed old.indent modes.Space old.margin len = λ b is. ap (λ (m : Bool). indent_closed old.indent modes.Space m len) (sym is ∙ margin) in
-    let follow : true ≡ begins (may_begin (stack_of old.brackets)) (take (length c.args.bytes.now - len) (drop len c.args.bytes.now)) = subst (λ (n : Scan). true ≡ begins (may_begin (stack_of n.brackets)) (take (length c.args.bytes.now - len) (drop len c.args.bytes.now))) c.open.ensures (sym c.if-is_begun.true ∙ c.is_begun.ensures) in
+    let follow : true ≡ begins (may_begin (stack_of old.brackets)) (take (length c.args.bytes.now - len) (drop len c.args.bytes.now)) = subst (λ (n : Scan). true ≡ begins (may_begin (stack_of n.brackets)) (take (length c.args.bytes.now - len) (drop len c.args.bytes.now))) c.open.ensures (sym (c.is_begun.ensures c.if-is_begun.true)) in
     let next = followed_by may_begin (stack_of old.brackets) c.args.bytes.now len true follow in
     takes_run is_space may_begin space_mode old c.args.bytes.now len _ c.space_run-len.ensures c.requires.begins
     (inr (

@@ -23,7 +23,7 @@ returns c =
         margin = refl;
         indent = emits.indent ∙ reads.indent;
         kind = emits.kind ∙ ap (λ k. kind_with k (Op c.args.c)) reads.kind;
-        tokens = emits.tokens ∙ ap (λ v. v.items ++ record { kind = Op c.args.c; start = c.read.new.self.start; stop = c.read.new.self.stop; line = c.read.new.self.piece_line } ∷ []) reads.tokens
+        tokens = emits.tokens ∙ ap (λ v. v.items ++ record { kind = Op c.args.c; start = c.read.new.self.piece.start; stop = c.read.new.self.stop; line = c.read.new.self.piece.line } ∷ []) reads.tokens
             ∙ ap (λ t. mid.tokens.items ++ t ∷ []) (same_token (Op c.args.c) _ _ _ _ _ _ reads.start reads.stop reads.piece_line);
         brackets = emits.brackets ∙ reads.brackets;
       };

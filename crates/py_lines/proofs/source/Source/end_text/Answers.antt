@@ -29,18 +29,18 @@ returns-then-self c =
 pub fail-requires-in-Some-clause-within : goal.fail-requires-in-Some-clause-within
 fail-requires-in-Some-clause-within c =
     let s = c.args.self.now in
-    place_room s TextEnd c.requires c.in-Some.behind (unfinished_within s c.requires c.in-Some.behind c.in-Some.ensures)
+    place_room s TextEnd c.requires c.in-Some.flaw.place (unfinished_within s c.requires c.in-Some.flaw.place c.in-Some.ensures.1)
 
 pub fail-requires-in-Some-clause-boundary : goal.fail-requires-in-Some-clause-boundary
 fail-requires-in-Some-clause-boundary c =
     let s = c.args.self.now in
-    place_boundary s TextEnd c.requires c.in-Some.behind (unfinished_within s c.requires c.in-Some.behind c.in-Some.ensures)
+    place_boundary s TextEnd c.requires c.in-Some.flaw.place (unfinished_within s c.requires c.in-Some.flaw.place c.in-Some.ensures.1)
 
 pub returns-in-Some : goal.returns-in-Some
 returns-in-Some c =
     let s = c.args.self.now in
     let at = c.fail-in-Some.ensures in
-    subst (λ (e : LexError). Advances s (Err e) c.fail-in-Some.new.self) (sym at.error_is) (fails_at_end s c.requires c.fail-in-Some.new.self c.end_kind.result c.in-Some.behind c.fail-in-Some.result at c.end_kind.ensures c.in-Some.ensures c.if-self.false)
+    subst (λ (e : LexError). Advances s (Err e) c.fail-in-Some.new.self) (sym at.error_is) (fails_at_end s c.requires c.fail-in-Some.new.self c.in-Some.flaw.kind c.in-Some.flaw.place c.fail-in-Some.result at c.in-Some.ensures.0 c.in-Some.ensures.1 c.if-self.false)
 
 pub close-requires : goal.close-requires
 close-requires c = way_order c.args.self.now.scan c.requires.scans.stops.0.state c.requires.scans.stops.0.tallies

@@ -1,0 +1,271 @@
+-- What was listed of each text that begins with the bytes of some pieces.
+use Rattle.std.proofs.Common.{◌≡◌, ℕ, ◌+◌, ◌-◌, ◌≤◌, false, Option, Some, Result, Ok, Err, List, [], ◌++◌, length, take, drop, refl, sym, ap, ◌∙◌, subst, append_assoc, length-append, arith}
+use Rattle.std.proofs.Math.Seq.{take-add, take-append-add, take-append_seam, drop-append_seam}
+use Rattle.std.proofs.lemmas.Grind.{common_steps}
+use Rattle.std.proofs.lemmas.List.{append-nil, length-take-le, take-append-drop}
+use Rattle.std.specs.Io.KnownBytes.{Keeps}
+use Rattle.std.proofs.KnownBytes.{Appends-kept}
+use Rattle.py_lines.specs.Scanning.{GoesOnWith}
+use Rattle.py_lines.specs.declared.fault.Fault.{Fault}
+use Rattle.py_imports.specs.Bound.{Bound}
+use Rattle.isort_find.specs.Cursor.{Standing}
+use Rattle.isort_find.specs.Found.{IsFound}
+use Rattle.isort_find.specs.Settled.{IsFoundSettled, DecidesFound}
+use Rattle.isort_find.specs.Pieces.{PieceFinding, AreSettled, TakesPiece, MeetsFaultIn, FeedsPiece, options_for, fed_by, has_ready}
+use Rattle.isort_find.specs.declared.options.FindOptions.{FindOptions}
+use Rattle.isort_find.specs.declared.error.FindError.{FindError}
+use Rattle.isort_find.specs.declared.error.FindError.TheVariants as find
+use Rattle.isort_find.specs.declared.finder.Outcome.{Outcome}
+use Rattle.isort_find.specs.declared.finder.Outcome.TheVariants as outcome
+use Rattle.isort_cmd.specs.Printed.{printed}
+use Rattle.isort_cmd.specs.RunError.{run_error_of}
+use Rattle.isort_cmd.specs.Steps.{IsListed, HasListed, HasListedTo, LeavesReady, LeavesPiece, MeetsFaultAfter}
+use Rattle.isort_cmd.specs.Written.{Lists, ListsFront}
+use Rattle.isort_cmd.specs.declared.error.RunError.{RunError}
+use Rattle.isort_cmd.specs.declared.error.RunError.TheVariants as run
+use Rattle.isort_cmd.proofs.ListingLemmas.{GivenBegin, found_fault, lists_front}
+
+-- laws of `isort_find`
+pub record FoundLaws : Type 0 where
+  pub begin : GivenBegin
+  pub one_list : (text : List ℕ) (options : FindOptions) (bounds others : List Bound) (end other : Option Fault) → IsFound text options bounds end → IsFound text options others other → bounds ≡ others
+  pub some : (text : List ℕ) (options : FindOptions) → (bounds : List Bound) × (bad : Option Fault) × IsFoundSettled text options bounds bad
+  pub grow : (text more : List ℕ) (options : FindOptions) (bounds later : List Bound) (bad last : Option Fault) → IsFoundSettled text options bounds bad → IsFoundSettled (text ++ more) options later last → (rest : List Bound) × (later ≡ bounds ++ rest)
+  pub all : (text more : List ℕ) (options : FindOptions) (bounds : List Bound) (fault : Fault) → DecidesFound text options fault → IsFound text options bounds (Some fault) → IsFound (text ++ more) options bounds (Some fault)
+
+-- ---- texts that begin with some bytes
+
+-- known bytes begin a text where more come after them
+pub goes_begin : (known more : List ℕ) → GoesOnWith (known ++ more) 0 known
+goes_begin known more = take-append_seam known more
+
+-- a text that begins with two parts begins with the first, and goes on with the second
+pub goes_both : (text a b : List ℕ) → GoesOnWith text 0 (a ++ b) → GoesOnWith text 0 a × GoesOnWith text (length a) b
+goes_both text a b goes =
+    let left = drop (length (a ++ b)) text in
+    let whole : a ++ (b ++ left) ≡ text = sym (append_assoc a b left) ∙ ap (λ x. x ++ left) (sym goes) ∙ take-append-drop (length (a ++ b)) text in (
+      ap (take (length a)) (sym whole) ∙ take-append_seam a (b ++ left),
+      ap (λ x. take (length b) (drop (length a) x)) (sym whole) ∙ ap (take (length b)) (drop-append_seam a (b ++ left)) ∙ take-append_seam b left,
+    )
+
+-- ---- a piece is taken
+
+-- what was settled stays so as more is fed
+settled_more : FoundLaws → (old new : PieceFinding) (text : List ℕ) (bounds : List Bound) (n : ℕ) → fed_by new ≡ fed_by old + n → new.cursor ≡ old.cursor → AreSettled old text bounds → AreSettled new text bounds
+settled_more laws old new text bounds n fed cursor settled found bad h =
+    let known = take (fed_by old) text in
+    let more = take n (drop (fed_by old) text) in
+    let options = options_for old in
+    let at : IsFoundSettled (known ++ more) options found bad = subst (λ (k : List ℕ). IsFoundSettled k options found bad) (ap (λ (m : ℕ). take m text) fed ∙ take-add (fed_by old) n text) (subst (λ (c : Standing). IsFoundSettled (take (fed_by new) text) c.options found bad) cursor h) in
+    let before = laws.some known options in
+    let grown = laws.grow known more options before.0 found before.1 bad before.2 at in
+    let begun = settled before.0 before.1 before.2 in
+    (begun.0 ++ grown.0, grown.1 ∙ ap (λ x. x ++ grown.0) begun.1 ∙ append_assoc bounds begun.0 grown.0)
+
+-- some bytes of a piece were taken: what was listed of each text that begins with them stays so
+pub taken_listed : FoundLaws → (path known piece : List ℕ) (options : FindOptions) (old : PieceFinding) (n : ℕ) (new : PieceFinding) (start now : Option (List ℕ)) → old.scanning.ended ≡ false → TakesPiece old piece n new → HasListedTo path known options old start now → HasListedTo path (known ++ take n piece) options new start now
+taken_listed laws path known piece options old n new start now open_yet takes to = record {
+  fed = takes.fed ∙ ap (λ (m : ℕ). m + n) to.fed ∙ ap (λ (m : ℕ). length known + m) (sym (length-take-le n piece takes.within)) ∙ sym (length-append known (take n piece));
+  no_fault = takes.no_fault;
+  listed = λ text goes.
+      let both = goes_both text known (take n piece) goes in
+      let listed = to.listed text both.0 in
+      let after = subst (λ (m : ℕ). GoesOnWith text m (take n piece)) (sym to.fed) both.1 in
+      record {
+        bounds = listed.bounds;
+        found = takes.found text listed.bounds listed.found after;
+        settled = λ _. settled_more laws old new text listed.bounds n takes.fed takes.cursor (listed.settled open_yet);
+        same_options = ap (λ (c : Standing). c.options) takes.cursor ∙ listed.same_options;
+        written = listed.written;
+      };
+}
+
+-- ---- errors
+
+-- a fault that the known bytes decide is that of each text that begins with them
+fault_after : FoundLaws → (path known rest : List ℕ) (options : FindOptions) (fault : Fault) (start now : Option (List ℕ)) → Lists path (known ++ rest) options (Some fault) start now → DecidesFound known options fault → MeetsFaultAfter path (known ++ rest) options fault start now
+fault_after laws path known rest options fault start now lists decides =
+    let each : (more : List ℕ) → IsFound (known ++ more) options decides.bounds (Some fault) = λ more. laws.all known more options decides.bounds fault decides decides.found in
+    let same : decides.bounds ≡ lists.bounds = laws.one_list (known ++ rest) options decides.bounds lists.bounds (Some fault) (Some fault) (each rest) lists.found in
+    record {
+      bounds = lists.bounds;
+      found = λ more. subst (λ (t : List ℕ). IsFound t options lists.bounds (Some fault)) (sym (append_assoc known rest more)) (subst (λ (bs : List Bound). IsFound (known ++ (rest ++ more)) options bs (Some fault)) same (each (rest ++ more)));
+      written = lists.written;
+    }
+
+-- an error at a finder that was fed the known bytes, of which more of a piece are left
+pub leaves_each : FoundLaws → (path known rest : List ℕ) (options : FindOptions) (mid : PieceFinding) (e : RunError) (start now : Option (List ℕ)) → fed_by mid ≡ length known → mid.scanning.ended ≡ false → ((text : List ℕ) → GoesOnWith text 0 known → LeavesReady path text options mid e start now) → LeavesPiece path (known ++ rest) options e start now
+leaves_each laws path known rest options mid (run.Fault f) start now fed open_yet leaves =
+    let left = leaves (known ++ rest) (goes_begin known rest) in
+    let decides : DecidesFound known options f = subst (λ (k : List ℕ). DecidesFound k options f) (ap (λ (n : ℕ). take n (known ++ rest)) fed ∙ take-append_seam known rest) (left.1 open_yet) in
+    fault_after laws path known rest options f start now left.0 decides
+leaves_each laws path known rest options mid run.Write start now fed open_yet leaves = λ more. subst (λ (t : List ℕ). ListsFront path t options start now) (sym (append_assoc known rest more)) (leaves (known ++ (rest ++ more)) (goes_begin known (rest ++ more)))
+leaves_each laws path known rest options mid run.Memory start now fed open_yet leaves = λ more. subst (λ (t : List ℕ). ListsFront path t options start now) (sym (append_assoc known rest more)) (leaves (known ++ (rest ++ more)) (goes_begin known (rest ++ more)))
+leaves_each laws path known rest options mid run.Read start now fed open_yet leaves = leaves (known ++ rest) (goes_begin known rest)
+leaves_each laws path known rest options mid run.TooLong start now fed open_yet leaves = leaves (known ++ rest) (goes_begin known rest)
+leaves_each laws path known rest options mid run.NeverEnds start now fed open_yet leaves = leaves (known ++ rest) (goes_begin known rest)
+
+is_open : (o : Outcome) → (o ≡ outcome.End → ⊥) → ((fault : Fault) → o ≡ outcome.Fault fault → ⊥) → o ≡ outcome.Open
+is_open outcome.Open top fault = refl
+is_open outcome.End top fault = absurd (top refl)
+is_open (outcome.Fault f) top fault = absurd (fault f refl)
+
+-- a prefix of the lines was written, whatever follows the known bytes
+pub front_each : GivenBegin → (path known : List ℕ) (options : FindOptions) (finder : PieceFinding) (start now : Option (List ℕ)) → ((text : List ℕ) → GoesOnWith text 0 known → IsListed path text options finder start now) → (more : List ℕ) → ListsFront path (known ++ more) options start now
+front_each begin path known options finder start now listed more = lists_front begin path (known ++ more) options finder start now (listed (known ++ more) (goes_begin known more))
+
+-- the piece decides a fault
+fed_fault : FoundLaws → (path known piece : List ℕ) (options : FindOptions) (old : PieceFinding) (fault : Fault) (new : PieceFinding) (start now : Option (List ℕ)) → MeetsFaultIn old piece fault new → HasListedTo path known options old start now → MeetsFaultAfter path (known ++ piece) options fault start now
+fed_fault laws path known piece options old fault new start now meets to =
+    let text = known ++ piece in
+    let listed = to.listed text (goes_begin known piece) in
+    let at : GoesOnWith text (fed_by old) piece = subst (λ (m : ℕ). GoesOnWith text m piece) (sym to.fed) (ap (take (length piece)) (drop-append_seam known piece) ∙ ap (λ x. take (length piece) x) (sym (append-nil piece)) ∙ take-append_seam piece []) in
+    let found = found_fault new text listed.bounds fault (meets.found text listed.bounds listed.found at) meets.kept in
+    let lists : Lists path text options (Some fault) start now = record { bounds = listed.bounds; found = subst (λ (o : FindOptions). IsFound text o listed.bounds (Some fault)) (meets.options ∙ listed.same_options) found; written = listed.written } in
+    let decided = meets.decided text listed.bounds listed.found at (is_open old.outcome meets.was_in_top to.no_fault) in
+    let n = decided.0 in
+    let first = known ++ take n piece in
+    let rest = drop n piece in
+    let whole : first ++ rest ≡ text = append_assoc known (take n piece) rest ∙ ap (λ x. known ++ x) (take-append-drop n piece) in
+    let is : take (fed_by old + n) text ≡ first = ap (λ (m : ℕ). take (m + n) text) to.fed ∙ take-append-add known piece n in
+    let decides : DecidesFound first options fault = subst (λ (o : FindOptions). DecidesFound first o fault) listed.same_options (subst (λ (k : List ℕ). DecidesFound k (options_for old) fault) is decided.2) in
+    subst (λ (t : List ℕ). MeetsFaultAfter path t options fault start now) whole (fault_after laws path first rest options fault start now (subst (λ (t : List ℕ). Lists path t options (Some fault) start now) (sym whole) lists) decides)
+
+-- what the errors of a call that is fed a piece leave
+pub leaves_fed : FoundLaws → (path known piece : List ℕ) (options : FindOptions) (old : PieceFinding) (e : FindError) (new : PieceFinding) (start now : Option (List ℕ)) → FeedsPiece old piece (Err e) new → HasListedTo path known options old start now → LeavesPiece path (known ++ piece) options (run_error_of e) start now
+leaves_fed laws path known piece options old (find.Fault f) new start now meets to = fed_fault laws path known piece options old f new start now meets to
+leaves_fed laws path known piece options old find.Memory new start now keeps to = front_each laws.begin path (known ++ piece) options old start now (λ text goes. to.listed text (goes_both text known piece goes).0)
+
+pub feeds_error : (old : PieceFinding) (piece : List ℕ) (r : Result ℕ FindError) (e : FindError) (new : PieceFinding) → FeedsPiece old piece r new → r ≡ Err e → FeedsPiece old piece (Err e) new
+feeds_error old piece r e new h same = subst (λ (x : Result ℕ FindError). FeedsPiece old piece x new) same h
+
+pub feeds_some : (old : PieceFinding) (piece : List ℕ) (r : Result ℕ FindError) (n : ℕ) (new : PieceFinding) → FeedsPiece old piece r new → r ≡ Ok n → TakesPiece old piece n new
+feeds_some old piece r n new h same = subst (λ (x : Result ℕ FindError). FeedsPiece old piece x new) same h
+
+-- ---- nothing is ready
+
+-- Once no byte was fed and nothing is ready, what was listed is all that the bytes settle.
+pub looked_listed : FoundLaws → (path known : List ℕ) (options : FindOptions) (old : PieceFinding) (n : ℕ) (new : PieceFinding) (start now : Option (List ℕ)) → old.scanning.ended ≡ false → TakesPiece old [] n new → has_ready new ≡ false → HasListedTo path known options old start now → HasListed path known options new start now
+looked_listed laws path known options old n new start now open_yet takes none to =
+    let no_byte : take n [] ≡ [] = ap (λ (m : ℕ). take m []) (takes.whole none) in
+    let same : known ++ take n [] ≡ known = ap (λ x. known ++ x) no_byte ∙ append-nil known in
+    let done = subst (λ (k : List ℕ). HasListedTo path k options new start now) same (taken_listed laws path known [] options old n new start now open_yet takes to) in
+    record {
+      fed = done.fed;
+      none_ready = none;
+      open_yet = takes.open_yet ∙ open_yet;
+      no_fault = done.no_fault;
+      listed = λ text goes.
+          let before = to.listed text goes in
+          let nothing : GoesOnWith text (fed_by old) (take n []) = subst (λ (x : List ℕ). GoesOnWith text (fed_by old) x) (sym no_byte) refl in
+          record {
+            listed = record {
+              bounds = before.bounds;
+              found = takes.found text before.bounds before.found nothing;
+              settled = λ _. settled_more laws old new text before.bounds n takes.fed takes.cursor (before.settled open_yet);
+              same_options = ap (λ (c : Standing). c.options) takes.cursor ∙ before.same_options;
+              written = before.written;
+            };
+            all = takes.all text before.bounds before.found nothing none;
+            undecided = takes.undecided text before.bounds before.found nothing none;
+          };
+    }
+
+-- the writer kept what it has
+pub has_listed_kept : (path known : List ℕ) (options : FindOptions) (finder : PieceFinding) (start mid now : Option (List ℕ)) → Keeps mid now → HasListed path known options finder start mid → HasListed path known options finder start now
+has_listed_kept path known options finder start mid now kept listed = record {
+  fed = listed.fed;
+  none_ready = listed.none_ready;
+  open_yet = listed.open_yet;
+  no_fault = listed.no_fault;
+  listed = λ text goes.
+      let before = listed.listed text goes in
+      let was = before.listed in
+      record {
+        listed = record {
+          bounds = was.bounds;
+          found = was.found;
+          settled = was.settled;
+          same_options = was.same_options;
+          written = Appends-kept start mid now (printed path was.bounds) was.written kept;
+        };
+        all = before.all;
+        undecided = before.undecided;
+      };
+}
+
+-- ---- inside a piece
+
+-- These bytes of a piece are left. Of the others all that is ready was listed.
+pub record IsAmid (path piece rest : List ℕ) (old finder : PieceFinding) (start now : Option (List ℕ)) : Type 0 where
+  pub front : List ℕ
+  pub split : front ++ rest ≡ piece
+  pub fed : fed_by finder ≡ fed_by old + length front
+  pub open_yet : finder.scanning.ended ≡ false
+  pub none_ready : has_ready finder ≡ false
+  pub listed : (known : List ℕ) (options : FindOptions) (first : Option (List ℕ)) → HasListed path known options old first start → HasListedTo path (known ++ front) options finder first now
+
+pub amid_first : (path piece : List ℕ) (finder : PieceFinding) (now : Option (List ℕ)) → finder.scanning.ended ≡ false → has_ready finder ≡ false → IsAmid path piece piece finder finder now now
+amid_first path piece finder now open_yet none = record {
+  front = [];
+  split = refl;
+  fed = omega arith;
+  open_yet = open_yet;
+  none_ready = none;
+  listed = λ known options first listed. subst (λ (k : List ℕ). HasListedTo path k options finder first now) (sym (append-nil known)) (record {
+    fed = listed.fed;
+    no_fault = listed.no_fault;
+    listed = λ text goes. (listed.listed text goes).listed;
+  });
+}
+
+-- what is listed of each text stays so where each text's is, and as much was fed
+to_next : (path known : List ℕ) (options : FindOptions) (mid new : PieceFinding) (first before now : Option (List ℕ)) → fed_by new ≡ fed_by mid → (((f : Fault) → mid.outcome ≡ outcome.Fault f → ⊥) → (f : Fault) → new.outcome ≡ outcome.Fault f → ⊥) → ((text : List ℕ) → IsListed path text options mid first before → IsListed path text options new first now) → HasListedTo path known options mid first before → HasListedTo path known options new first now
+to_next path known options mid new first before now fed no_fault listed to = record {
+  fed = fed ∙ to.fed;
+  no_fault = no_fault to.no_fault;
+  listed = λ text goes. listed text (to.listed text goes);
+}
+
+-- more bytes of the piece were taken, and what got ready was listed
+pub amid_next : FoundLaws → (path piece rest left : List ℕ) (old finder : PieceFinding) (n : ℕ) (mid new : PieceFinding) (start before now : Option (List ℕ)) → take n rest ++ left ≡ rest → IsAmid path piece rest old finder start before → TakesPiece finder rest n mid → fed_by new ≡ fed_by mid → new.scanning.ended ≡ mid.scanning.ended → has_ready new ≡ false → (((f : Fault) → mid.outcome ≡ outcome.Fault f → ⊥) → (f : Fault) → new.outcome ≡ outcome.Fault f → ⊥) → ((text : List ℕ) (options : FindOptions) (first : Option (List ℕ)) → IsListed path text options mid first before → IsListed path text options new first now) → IsAmid path piece left old new start now
+amid_next laws path piece rest left old finder n mid new start before now parts amid takes fed ended none no_fault listed =
+    let size = length-take-le n rest takes.within in
+    let joined = length-append amid.front (take n rest) in
+    let was = amid.fed in
+    let is = takes.fed in
+    record {
+      front = amid.front ++ take n rest;
+      split = append_assoc amid.front (take n rest) left ∙ ap (λ x. amid.front ++ x) parts ∙ amid.split;
+      fed = omega arith;
+      open_yet = ended ∙ takes.open_yet ∙ amid.open_yet;
+      none_ready = none;
+      listed = λ known options first so_far.
+          let to = taken_listed laws path (known ++ amid.front) rest options finder n mid first before amid.open_yet takes (amid.listed known options first so_far) in
+          subst (λ (k : List ℕ). HasListedTo path k options new first now) (append_assoc known amid.front (take n rest)) (to_next path ((known ++ amid.front) ++ take n rest) options mid new first before now fed no_fault (λ text. listed text options first) to);
+    }
+
+-- feeding more of the piece failed
+pub amid_fed : FoundLaws → (path piece rest : List ℕ) (old finder : PieceFinding) (e : FindError) (new : PieceFinding) (start now : Option (List ℕ)) → IsAmid path piece rest old finder start now → FeedsPiece finder rest (Err e) new → (known : List ℕ) (options : FindOptions) (first : Option (List ℕ)) → HasListed path known options old first start → LeavesPiece path (known ++ piece) options (run_error_of e) first now
+amid_fed laws path piece rest old finder e new start now amid feeds known options first so_far =
+    let whole : (known ++ amid.front) ++ rest ≡ known ++ piece = append_assoc known amid.front rest ∙ ap (λ x. known ++ x) amid.split in
+    subst (λ (k : List ℕ). LeavesPiece path k options (run_error_of e) first now) whole (leaves_fed laws path (known ++ amid.front) rest options finder e new first now feeds (amid.listed known options first so_far))
+
+-- more of the piece was taken, and listing what got ready failed
+pub amid_ready : FoundLaws → (path piece rest : List ℕ) (old finder : PieceFinding) (n : ℕ) (mid : PieceFinding) (e : RunError) (start before now : Option (List ℕ)) → IsAmid path piece rest old finder start before → TakesPiece finder rest n mid → ((text : List ℕ) (options : FindOptions) (first : Option (List ℕ)) → IsListed path text options mid first before → LeavesReady path text options mid e first now) → (known : List ℕ) (options : FindOptions) (first : Option (List ℕ)) → HasListed path known options old first start → LeavesPiece path (known ++ piece) options e first now
+amid_ready laws path piece rest old finder n mid e start before now amid takes leaves known options first so_far =
+    let to = taken_listed laws path (known ++ amid.front) rest options finder n mid first before amid.open_yet takes (amid.listed known options first so_far) in
+    let whole : ((known ++ amid.front) ++ take n rest) ++ drop n rest ≡ known ++ piece = append_assoc (known ++ amid.front) (take n rest) (drop n rest) ∙ ap (λ x. (known ++ amid.front) ++ x) (take-append-drop n rest) ∙ append_assoc known amid.front rest ∙ ap (λ x. known ++ x) amid.split in
+    subst (λ (k : List ℕ). LeavesPiece path k options e first now) whole (leaves_each laws path ((known ++ amid.front) ++ take n rest) (drop n rest) options mid e first now to.fed (takes.open_yet ∙ amid.open_yet) (λ text goes. leaves text options first (to.listed text goes)))
+
+-- the piece was taken whole
+pub amid_whole : (path piece rest : List ℕ) (old finder : PieceFinding) (start now : Option (List ℕ)) → IsAmid path piece rest old finder start now → rest ≡ [] → (fed_by finder ≡ fed_by old + length piece) × ((known : List ℕ) (options : FindOptions) (first : Option (List ℕ)) → HasListed path known options old first start → HasListedTo path (known ++ piece) options finder first now)
+amid_whole path piece rest old finder start now amid none =
+    let whole : amid.front ≡ piece = sym (append-nil amid.front) ∙ ap (λ x. amid.front ++ x) (sym none) ∙ amid.split in (
+      amid.fed ∙ ap (λ (x : List ℕ). fed_by old + length x) whole,
+      λ known options first so_far. subst (λ (k : List ℕ). HasListedTo path (known ++ k) options finder first now) whole (amid.listed known options first so_far),
+    )
+
+-- the first bytes, and the others as a slice of them
+pub parts_of : (n : ℕ) (bytes : List ℕ) → n ≤ length bytes → take n bytes ++ take (length bytes - n) (drop n bytes) ≡ bytes
+parts_of n bytes within = grind (arith, common_steps)

@@ -1,0 +1,105 @@
+-- What the scan comes to after one more piece.
+use Rattle.std.proofs.Common.{◌≡◌, ℕ, ◌+◌, ◌≤◌, Bool, true, false, not, ◌&&◌, Ok, List, [], ◌∷◌, ◌++◌, length, drop, refl, sym, ap, ◌∙◌, subst, append-nil, arith, ⊎_elim, lit<}
+use Rattle.std.specs.Prelude.{encode_utf8}
+use Rattle.std.specs.Str.{IsUtf8, IsCharBoundary}
+use Rattle.std.proofs.lemmas.Bool.{and_right, both_ways}
+use Rattle.std.proofs.lemmas.Str.{encode_ascii}
+use Rattle.py_lines.specs.Character.{is_space, is_line_feed, is_return}
+use Rattle.py_lines.specs.declared.count.Count.{Count}
+use Rattle.py_lines.specs.declared.mode.Mode.TheVariants as modes
+use Rattle.py_lines.specs.declared.mode.Start.{Start}
+use Rattle.py_lines.specs.declared.mode.Start.TheVariants as starts
+use Rattle.py_lines.specs.declared.scan.Progress.{Progress}
+use Rattle.py_lines.specs.declared.scan.Progress.TheVariants as progress
+use Rattle.py_lines.specs.declared.scan.Scan.{Scan}
+use Rattle.py_lines.specs.declared.scan.Stop.TheVariants as stops
+use Rattle.py_lines.specs.declared.scan.Taken.TheVariants as taken
+use Rattle.py_lines.specs.Private.Scan.{Begins, Counts, counts_behind, is_returned}
+use Rattle.py_lines.specs.Private.Run.{BeginsWithFeed, Reached, TakesLineFeed, TakesPiece, is_free, is_word_byte, follows, may_begin, space_mode, word_mode}
+use Rattle.py_lines.proofs.Machine.Starts.{start-feed}
+use Rattle.py_lines.proofs.Text.CharacterTests.{feed_is, feed_from}
+use Rattle.py_lines.proofs.LineScan.Comments.{comment_goes, comment_reached}
+use Rattle.py_lines.proofs.LineScan.LineStops.{ShutsTo, StopsNow, TakesTo, goes_character, stops_line}
+use Rattle.py_lines.proofs.LineScan.Runs.{space_low, word_byte_low}
+use Rattle.py_lines.proofs.LineScan.ShortPieces.{Goes, free_is, low_cut, operator_goes, operator_reached, run_goes, shut_from, space_reached, string_goes, string_reached, word_reached}
+
+-- LF, as the bytes spell it
+feed_spell : (bytes : List ℕ) → BeginsWithFeed bytes → 10 ∷ drop 1 bytes ≡ bytes
+feed_spell [] feeds = absurd (both_ways _ refl feeds)
+feed_spell (b ∷ bs) feeds = ap (λ (n : ℕ). n ∷ bs) (sym (feed_is b feeds))
+
+feed_encodes : (bytes : List ℕ) → BeginsWithFeed bytes → bytes ≡ encode_utf8 10 ++ drop 1 bytes
+feed_encodes bytes feeds = sym (feed_spell bytes feeds) ∙ ap (λ t. t ++ drop 1 bytes) (sym (encode_ascii 10 (lit< tt)))
+
+no_wait : (scan : Scan) → is_returned scan && not (is_line_feed 10) ≡ false
+no_wait scan = and_right (is_returned scan) _ (ap not (feed_from 10 refl))
+
+feed_takes : (old new : Scan) (p : Progress) → is_free old.piece.mode ≡ true → Begins old 10 starts.LineEnd (Ok p) new → TakesTo old 10 p new
+feed_takes old new p free begun = record {
+  begun = λ is. subst (λ (s : Start). Begins old 10 s (Ok p) new) (sym (start-feed 10 (feed_from 10 refl))) begun;
+  taken = λ s read other. absurd (both_ways _ other free);
+}
+
+module _ (first : Scan) (text : List ℕ) (old new : Scan) (bytes : List ℕ) (free : is_free old.piece.mode ≡ true) (utf8 : IsUtf8 bytes) (shuts : ShutsTo first text old bytes) where
+  feed_goes : (len : ℕ) → BeginsWithFeed bytes → TakesLineFeed old (taken.Bytes len) new → ShutsTo first text new (drop len bytes)
+  feed_goes len feeds (one, begun) m at whole all start r =
+      shut_from m at whole new (drop len bytes) (subst (λ (n : ℕ). Reached m at whole new (drop n bytes)) (sym one)
+      (goes_character first text old bytes shuts 10 (drop 1 bytes) (feed_encodes bytes feeds) new (no_wait old) (feed_takes old new progress.Going free begun) m at whole all start r))
+
+  -- after a piece
+  pub piece_goes : (len : ℕ) → TakesPiece old bytes (Ok (taken.Bytes len)) new → ShutsTo first text new (drop len bytes)
+  piece_goes len takes m at whole all start r =
+      let before = shuts m at whole all start r in
+      let is : old.piece.mode ≡ modes.Free = free_is old.piece.mode free in
+      ⊎_elim
+      (λ word. word_reached m at whole old new bytes len is before start word)
+      (λ second. ⊎_elim
+      (λ space. space_reached m at whole old new bytes len is before start space)
+      (λ third. ⊎_elim
+      (λ stands. operator_reached m at whole old new bytes len is all before start stands)
+      (λ fourth. ⊎_elim
+      (λ string. string_reached m at whole old new bytes len is all before start string)
+      (λ fifth. ⊎_elim
+      (λ remark. comment_reached m at whole old new bytes len is utf8 before start remark)
+      (λ (feeds, feed). feed_goes len feeds feed m at whole all start r) fifth) fourth) third) second) takes
+
+  -- where nothing was taken
+  pub none_goes : TakesPiece old bytes (Ok taken.Nothing) new → ShutsTo first text new bytes
+  none_goes takes = subst (λ (s : Scan). ShutsTo first text s bytes) (sym takes) shuts
+
+  -- the line has ended
+  pub ends_line : TakesPiece old bytes (Ok taken.LineEnd) new → StopsNow first text new (stops.LineEnd 1)
+  ends_line (feeds, begun) = stops_line first text old bytes shuts 10 (drop 1 bytes) (feed_encodes bytes feeds) new 1 (no_wait old) (feed_takes old new (progress.LineEnded 1) free begun)
+
+-- how far LF goes
+one_line : (after_return : Bool) → counts_behind after_return 10 ≤ 1
+unfolding counts_behind is_return is_line_feed
+one_line true = omega arith
+one_line false = omega arith
+
+feed_counts : (old new : Count) → Counts old 10 new → new.line ≤ old.line + 1
+feed_counts old new counts = omega (arith, counts.line, one_line old.after_return)
+
+feed_far : (old new : Scan) (bytes : List ℕ) (len : ℕ) → BeginsWithFeed bytes → TakesLineFeed old (taken.Bytes len) new → Goes old bytes len new
+feed_far old new bytes len feeds (one, begun) =
+    let adds = begun.1 in
+    let spell : (10 ∷ []) ++ drop 1 bytes ≡ bytes = feed_spell bytes feeds in
+    record {
+      stop = omega (arith, one, adds.stands.stop, adds.closes.stop);
+      some = omega (arith, one);
+      within = omega (arith, one, ap length spell);
+      lines = omega (arith, one, feed_counts adds.mid.count new.count adds.stands.count, ap (λ (k : Count). k.line) adds.closes.count);
+      cut = λ utf8. subst (IsCharBoundary bytes) (sym one) (low_cut (10 ∷ []) (drop 1 bytes) bytes spell (append-nil (encode_utf8 10) ∙ encode_ascii 10 (lit< tt)) utf8);
+    }
+
+pub piece_far : (old new : Scan) (bytes : List ℕ) (len : ℕ) → TakesPiece old bytes (Ok (taken.Bytes len)) new → Goes old bytes len new
+piece_far old new bytes len takes =
+    ⊎_elim
+    (λ word. run_goes is_word_byte follows word_mode old new bytes len word_byte_low word)
+    (λ second. ⊎_elim
+    (λ space. run_goes is_space may_begin space_mode old new bytes len space_low space)
+    (λ third. ⊎_elim
+    (λ stands. operator_goes old new bytes len stands)
+    (λ fourth. ⊎_elim
+    (λ string. string_goes old new bytes len string)
+    (λ fifth. ⊎_elim (λ remark. comment_goes old new bytes len remark) (λ (feeds, feed). feed_far old new bytes len feeds feed) fifth) fourth) third) second) takes
