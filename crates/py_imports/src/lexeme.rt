@@ -3,17 +3,37 @@ ghost use Rattle.py_imports.specs.Grammar.{Terminal, terminal_of, terminal_of_wo
 
 use py_lines::TokKind;
 
-const KEYWORDS: [&str; 35] = [
-    "False", "None", "True", "and", "as", "assert", "async", "await", "break", "class", "continue",
-    "def", "del", "elif", "else", "except", "finally", "for", "from", "global", "if", "import",
-    "in", "is", "lambda", "nonlocal", "not", "or", "pass", "raise", "return", "try", "while",
-    "with", "yield",
+// The keywords (Python Language Reference, 2.3.1), by their length in bytes.
+const KEYWORDS_OF_TWO: [&str; 5] = ["as", "if", "in", "is", "or"];
+
+const KEYWORDS_OF_THREE: [&str; 6] = ["and", "def", "del", "for", "not", "try"];
+
+const KEYWORDS_OF_FOUR: [&str; 7] = ["None", "True", "elif", "else", "from", "pass", "with"];
+
+const KEYWORDS_OF_FIVE: [&str; 8] = [
+    "False", "async", "await", "break", "class", "raise", "while", "yield",
 ];
 
+const KEYWORDS_OF_SIX: [&str; 6] = ["assert", "except", "global", "import", "lambda", "return"];
+
+const KEYWORDS_OF_SEVEN: [&str; 1] = ["finally"];
+
+const KEYWORDS_OF_EIGHT: [&str; 2] = ["continue", "nonlocal"];
+
+// A word is compared with the keywords of its own length alone, since most words are names.
 fn is_keyword(word: &str) -> bool
     ensures { result ≡ is_keyword word.now }
 {
-    KEYWORDS.contains(&word)
+    match word.len() {
+        2 => KEYWORDS_OF_TWO.contains(&word),
+        3 => KEYWORDS_OF_THREE.contains(&word),
+        4 => KEYWORDS_OF_FOUR.contains(&word),
+        5 => KEYWORDS_OF_FIVE.contains(&word),
+        6 => KEYWORDS_OF_SIX.contains(&word),
+        7 => KEYWORDS_OF_SEVEN.contains(&word),
+        8 => KEYWORDS_OF_EIGHT.contains(&word),
+        _ => false,
+    }
 }
 
 // A token of an import statement, as the import grammar sees it.
