@@ -1,5 +1,0 @@
-use Rattle.std.proofs.Common.{◌≡◌, false}
-use Rattle.isort_tests.proofs.pieces.tell_piece.Given as goal
-
-abbrev pub invariant-loop : goal.invariant-loop
-invariant-loop l = l.finder.scanning.ended ≡ false
