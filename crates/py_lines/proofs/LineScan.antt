@@ -12,5 +12,6 @@ pub mod EarlyEnds
 pub mod ByteTable
 pub mod FirstBytes
 pub mod Comments
+pub mod CarriageReturns
 pub mod NextPieces
 pub mod LineStops

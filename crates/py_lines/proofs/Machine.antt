@@ -7,6 +7,7 @@ pub mod StringRuns
 pub mod ReadingRuns
 pub mod OpenPieces
 pub mod Soundness
+pub mod Advance
 pub mod LiveTexts
 pub mod OpenStrings
 pub mod EarlierPieces

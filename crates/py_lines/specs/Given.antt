@@ -1,6 +1,7 @@
 -- The first logical lines of a text, up to a place: without a reader, and without its fault.
 use Rattle.std.specs.Prelude.{◌≡◌, ℕ, ◌+◌, ◌⊎◌, List, [], ◌++◌}
-use Rattle.py_lines.specs.Piece.{Piece, spelled, AreReadBefore}
+use Rattle.py_lines.specs.Piece.{Piece, spelled}
+use Rattle.py_lines.specs.PieceGrammar.{AreReadBefore}
 use Rattle.py_lines.specs.Balance.{IsBalanced, IsShallow}
 use Rattle.py_lines.specs.LogicalLine.{LogicalLine, lines_of, byte_len, line_ends}
 use Rattle.py_lines.specs.Lexed.{Decodes}

@@ -3,7 +3,8 @@ use Rattle.std.specs.Prelude.{◌≡◌, ℕ, ◌+◌, ◌≤◌, ◌⊎◌, tru
 use Rattle.std.specs.Str.{all_scalars, StartsWithNoChar}
 use Rattle.std.specs.List.{list_all}
 use Rattle.py_lines.specs.Character.{is_break, is_quote, is_backslash}
-use Rattle.py_lines.specs.Piece.{line_end, Piece, IsPrefix, is_item, is_short_item, joined, has_triple, spelled, AreReadBefore}
+use Rattle.py_lines.specs.Piece.{line_end, Piece, spelled}
+use Rattle.py_lines.specs.PieceGrammar.{IsPrefix, is_item, is_short_item, joined, has_triple, AreReadBefore}
 use Rattle.py_lines.specs.Balance.{is_opening, is_closing, is_opener, IsBalanced, IsShallow, depth_through}
 use Rattle.py_lines.specs.LogicalLine.{LogicalLine, lines_of, byte_len, line_ends}
 use Rattle.py_lines.specs.declared.fault.FaultKind.{FaultKind}

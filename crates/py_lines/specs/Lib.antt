@@ -1,6 +1,7 @@
 pub mod Character
 pub mod Piece
 pub mod Balance
+pub mod PieceGrammar
 pub mod LogicalLine
 pub mod Lexed
 pub mod Settled

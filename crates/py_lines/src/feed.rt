@@ -75,7 +75,7 @@ impl Feed {
     ghost use Rattle.py_lines.specs.Private.Machine.{Bracket};
     ghost use Rattle.py_lines.specs.Private.Scan.{is_returned};
     ghost use Rattle.py_lines.specs.Private.Source.{first_mode};
-    ghost use Rattle.py_lines.specs.Private.Feed.{Restarts, IsOpen, FailsAt, ClosesLine, ScansCharacters, ScansHeld, whole_end, GivesBack, TakesChunk, IsHeldSo, IsScanned, IsReady, IsSoundFeed, FeedsSo, EndsHeld, EndsText, LetsGo};
+    ghost use Rattle.py_lines.specs.Private.Feed.{Restarts, IsOpen, FailsAt, ClosesLine, ScansCharacters, ScansHeld, StopsHeld, whole_end, GivesBack, TakesChunk, IsHeldSo, IsScanned, IsReady, IsSoundFeed, FeedsSo, EndsHeld, EndsText, LetsGo};
 
     pub fn new(alloc: Global) -> Feed
         ensures start { scanning_of result ≡ begun_at 0 1 }
@@ -161,6 +161,7 @@ impl Feed {
 
     /// Scans the characters that are held next, up to a line's end or one that is refused. If there is no memory for
     /// it, the scan is begun anew.
+    #[inline(always)]
     fn scan_characters(&mut self) -> Result<Stop, LexError>
         requires opens { (read : List ℕ) × (rest : List ℕ) × IsOpen self.old read rest }
         requires fits { self.old.place + length self.old.held.items ≤ 2 ^ 62 }
@@ -200,15 +201,16 @@ impl Feed {
         Ok(())
     }
 
-    /// Scans all that is held, up to a line's end or a part of a character.
-    fn scan_held(&mut self) -> Result<(), LexError>
-        requires opens { (read : List ℕ) × (rest : List ℕ) × IsOpen self.old read rest }
+    /// Does what follows from where the scan of the characters stopped.
+    #[inline(always)]
+    fn meet(&mut self, stop: Stop) -> Result<(), LexError>
+        requires stops { (read : List ℕ) × (rest : List ℕ) × StopsHeld self.old stop read rest }
         requires not_ready { self.old.ready ≡ None }
         requires fits { self.old.place + length self.old.held.items ≤ 2 ^ 62 }
         requires few_lines { self.old.line ≤ self.old.place + 1 }
         ensures { ScansHeld self.old result self.new }
     {
-        match self.scan_characters()? {
+        match stop {
             Stop::LineEnd(len) => {
                 self.ready = Some(len);
                 Ok(())
@@ -221,7 +223,20 @@ impl Feed {
         }
     }
 
+    /// Scans all that is held, up to a line's end or a part of a character.
+    fn scan_held(&mut self) -> Result<(), LexError>
+        requires opens { (read : List ℕ) × (rest : List ℕ) × IsOpen self.old read rest }
+        requires not_ready { self.old.ready ≡ None }
+        requires fits { self.old.place + length self.old.held.items ≤ 2 ^ 62 }
+        requires few_lines { self.old.line ≤ self.old.place + 1 }
+        ensures { ScansHeld self.old result self.new }
+    {
+        let stop = self.scan_characters()?;
+        self.meet(stop)
+    }
+
     /// Where what is held of a line that is ready ends: after CR one byte shows that the line is whole.
+    #[inline(always)]
     fn whole_end(&self) -> usize
         requires { self.now.scan.stop + 1 < 2 ^ 64 }
         ensures { result ≡ whole_end self.now.scan }
@@ -234,6 +249,7 @@ impl Feed {
     }
 
     /// Where a line is ready, lets go what was taken after it. More than `before` bytes stay held.
+    #[inline(always)]
     fn give_back(&mut self, before: usize)
         requires scanned { IsScanned self.old.ready self.old }
         requires more { before < length self.old.held.items }
@@ -243,6 +259,57 @@ impl Feed {
         if self.ready.is_some() {
             let end = self.whole_end().max(before + 1);
             self.held.truncate(end);
+        }
+    }
+
+    /// How many of these bytes are taken next. An empty line is taken alone; after CR one byte more shows that it is whole.
+    #[inline(always)]
+    fn step_len(&self, bytes: &[u8]) -> usize
+        requires some { 0 < length bytes.now }
+        ensures some { 0 < result }
+        ensures within { result ≤ length bytes.now }
+    {
+        let len = bytes.len().min(self.held.len().max(STEP));
+        match (self.held.as_slice(), bytes) {
+            ([], [b'\n', ..]) | ([b'\r'], _) => 1,
+            ([], [b'\r', ..]) => len.min(2),
+            _ => len,
+        }
+    }
+
+    /// Takes bytes of these where none is held, up to a line's end: how many. They are scanned where they stand. If there
+    /// is no memory for them, none is taken.
+    #[inline(always)]
+    fn take_first(&mut self, chunk: &[u8]) -> Result<usize, LexError>
+        requires opens { (read : List ℕ) × (rest : List ℕ) × IsOpen self.old read rest }
+        requires none_held { self.old.held.items ≡ [] }
+        requires not_ready { self.old.ready ≡ None }
+        requires some { 0 < length chunk.now }
+        requires fits { self.old.place + length chunk.now ≤ 2 ^ 62 }
+        requires few_lines { self.old.line ≤ self.old.place + 1 }
+        ensures { TakesChunk self.old chunk.now result self.new }
+    {
+        let stop = match self.scan.extend(utf8_front(chunk)) {
+            Ok(stop) => stop,
+            Err(error) => {
+                self.restart();
+                return Err(error.into());
+            }
+        };
+        if let Err(error) = self.held.extend_from_slice(chunk) {
+            self.restart();
+            return Err(error.into());
+        }
+        match self.meet(stop) {
+            Ok(()) => {
+                self.give_back(0);
+                Ok(self.held.len())
+            }
+            Err(LexError::Fault(fault)) => Err(LexError::Fault(fault)),
+            Err(LexError::Memory) => {
+                self.held.clear();
+                Err(LexError::Memory)
+            }
         }
     }
 
@@ -256,6 +323,9 @@ impl Feed {
         ensures { TakesChunk self.old chunk.now result self.new }
     {
         let before = self.held.len();
+        if before == 0 {
+            return self.take_first(chunk);
+        }
         self.held.extend_from_slice(chunk)?;
         match self.scan_held() {
             Ok(()) => {
@@ -288,7 +358,7 @@ impl Feed {
         let mut taken = 0;
         while taken < piece.len() && self.ready.is_none() {
             let rest = &piece[taken..];
-            let len = rest.len().min(self.held.len().max(STEP));
+            let len = self.step_len(rest);
             match self.take(&rest[..len]) {
                 Ok(more) => taken += more,
                 Err(LexError::Fault(fault)) => return Err(LexError::Fault(fault)),

@@ -1,7 +1,8 @@
 //! Laws of the definitions, which the checker proves as contracts of functions that do nothing.
 
 ghost use Rattle.std.specs.Prelude.{◌≡◌, ℕ, Option, Some, List, ◌++◌, take};
-ghost use Rattle.py_lines.specs.Piece.{Piece, Reads, ReadsText};
+ghost use Rattle.py_lines.specs.Piece.{Piece};
+ghost use Rattle.py_lines.specs.PieceGrammar.{Reads, ReadsText};
 ghost use Rattle.py_lines.specs.LogicalLine.{LogicalLine};
 ghost use Rattle.py_lines.specs.Lexed.{IsFaultAt, IsReadOrFaulty, IsLexed, BeginsLexing};
 ghost use Rattle.py_lines.specs.Reader.{Reader, HasGiven};

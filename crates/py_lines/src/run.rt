@@ -8,8 +8,8 @@ ghost use Rattle.py_lines.specs.Private.Run.{BeginsSo, IsRunOf, Marks, is_betwee
 use crate::character::is_break;
 use crate::mode::{Mode, Spelling};
 use crate::run::FirstByte::{
-    Apart as A, Bracket as B, Hash as H, LineFeed as L, Operator as O, Other as X, Quote as Q,
-    Space as S, Word as W,
+    Backslash as K, Bracket as B, Hash as H, LineFeed as L, Operator as O, Other as X, Quote as Q,
+    Return as R, Space as S, Word as W,
 };
 use std::simd::prelude::*;
 
@@ -48,9 +48,9 @@ pub enum FirstByte {
     Bracket,
     Quote,
     LineFeed,
+    Return,
     Hash,
-    /// CR or a backslash.
-    Apart,
+    Backslash,
     Other,
 }
 
@@ -65,9 +65,9 @@ impl FirstByte {
 
 /// What each byte begins.
 static FIRST_BYTES: [FirstByte; 256] = [
-    X, X, X, X, X, X, X, X, X, S, L, X, S, A, X, X, X, X, X, X, X, X, X, X, X, X, X, X, X, X, X, X,
+    X, X, X, X, X, X, X, X, X, S, L, X, S, R, X, X, X, X, X, X, X, X, X, X, X, X, X, X, X, X, X, X,
     S, O, Q, H, X, O, O, Q, B, B, O, O, O, O, O, O, W, W, W, W, W, W, W, W, W, W, O, O, O, O, O, X,
-    O, W, W, W, W, W, W, W, W, W, W, W, W, W, W, W, W, W, W, W, W, W, W, W, W, W, W, B, A, B, O, W,
+    O, W, W, W, W, W, W, W, W, W, W, W, W, W, W, W, W, W, W, W, W, W, W, W, W, W, W, B, K, B, O, W,
     X, W, W, W, W, W, W, W, W, W, W, W, W, W, W, W, W, W, W, W, W, W, W, W, W, W, W, B, O, B, O, X,
     X, X, X, X, X, X, X, X, X, X, X, X, X, X, X, X, X, X, X, X, X, X, X, X, X, X, X, X, X, X, X, X,
     X, X, X, X, X, X, X, X, X, X, X, X, X, X, X, X, X, X, X, X, X, X, X, X, X, X, X, X, X, X, X, X,

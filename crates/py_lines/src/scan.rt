@@ -1,15 +1,15 @@
 //! The scan of one logical line: the machine, and what it has found.
 
-ghost use Rattle.std.specs.Prelude.{◌≡◌, ℕ, ◌+◌, ◌<◌, ◌≤◌, ◌^◌, ◌&&◌, not, true, false, Ok, Some, None, List, [], length, OnOk, IfOk, IfSome, IsUtf8};
+ghost use Rattle.std.specs.Prelude.{◌≡◌, ℕ, ◌+◌, ◌<◌, ◌≤◌, ◌^◌, ◌&&◌, not, true, false, Ok, Some, None, List, [], length, OnOk, IfOk, IsUtf8};
 ghost use Rattle.std.specs.Char.{len_utf8};
-ghost use Rattle.py_lines.specs.Character.{is_hash, is_line_feed, is_operator, is_quote, is_space};
+ghost use Rattle.py_lines.specs.Character.{is_hash, is_line_feed, is_operator, is_quote, is_return, is_space};
 ghost use Rattle.py_lines.specs.Piece.{begins};
 ghost use Rattle.py_lines.specs.Private.Machine.{Scanned, IsSound, start_of, character_kind};
-ghost use Rattle.py_lines.specs.Private.Scan.{Emits, Closes, ReadsCharacter, Begins, Tallies, IsStacked, Takes, Scans, ScansIn, EndsNoLine, line_start, is_returned, is_return_mode, none_open, stack_of, line_end_progress, ClosesAndAdds, refused_place, IsUnfinished};
-ghost use Rattle.py_lines.specs.Private.Run.{is_free, Holds, HasAsciiQuote, opened, AddsToken, TakesRun, TakesText, TakesBracket, TakesLineFeed, TakesPiece, TakesRemark, word_mode, space_mode, Reached, ReachedShut, is_word_byte, follows, may_begin};
+ghost use Rattle.py_lines.specs.Private.Scan.{AddsTo, Emits, Closes, ReadsCharacter, Begins, Tallies, IsStacked, Takes, Scans, ScansIn, EndsNoLine, line_start, is_returned, is_return_mode, none_open, stack_of, line_end_progress, ClosesAndAdds, refused_place, IsUnfinished};
+ghost use Rattle.py_lines.specs.Private.Run.{is_free, Holds, HasAsciiQuote, opened, AddsToken, TakesRun, TakesText, TakesBracket, TakesLineFeed, TakesReturn, TakesPiece, TakesRemark, line_ended, word_mode, space_mode, Reached, IsNoLonger, LeavesOff, is_word_byte, follows, may_begin};
+ghost use Rattle.py_lines.specs.Token.{is_comment};
 ghost use Rattle.py_lines.specs.declared.token.TokKind.TheVariants.{Op};
 ghost use Rattle.py_lines.specs.declared.mode.Mode.{Mode};
-ghost use Rattle.py_lines.specs.declared.scan.Stop.TheVariants.{LineEnd};
 
 use crate::brackets::Brackets;
 use crate::character::{is_closing, is_line_feed, is_opening, is_quote};
@@ -58,9 +58,18 @@ pub struct OpenPiece {
 enum Taken {
     /// So many bytes, which don't end the line.
     Bytes(usize),
-    /// The LF that ends the line.
-    LineEnd,
+    /// The line end, of so many bytes, that ends the line.
+    LineEnd(usize),
     Nothing,
+}
+
+/// What whole pieces leave.
+#[derive(Clone, Copy)]
+enum Left<'s> {
+    /// The text after them, which may go on in the line.
+    Text(&'s str),
+    /// The line has ended: so many bytes are its line end.
+    LineEnd(usize),
 }
 
 /// What is known of the line so far. Places are bytes from the line's start.
@@ -135,22 +144,30 @@ impl Scan {
         self.count.push(c);
     }
 
-    /// The open piece becomes a token.
-    fn emit(&mut self, kind: TokKind) -> Result<(), AllocError>
-        ensures { OnOk result (Emits self.old kind self.new) }
+    /// One more token of the line, which is code then, or a comment if it has no other token.
+    #[inline(always)]
+    fn push_token(&mut self, token: Token) -> Result<(), AllocError>
+        ensures { OnOk result (AddsTo self.old token self.new) }
     {
-        self.tokens.push(Token {
-            kind,
-            start: self.piece.start,
-            stop: self.stop,
-            line: self.piece.line,
-        })?;
-        if kind != TokKind::Remark {
+        self.tokens.push(token)?;
+        if token.kind != TokKind::Remark {
             self.kind = UnitKind::Code;
         } else if self.kind == UnitKind::Blank {
             self.kind = UnitKind::Comment;
         }
         Ok(())
+    }
+
+    /// The open piece becomes a token.
+    fn emit(&mut self, kind: TokKind) -> Result<(), AllocError>
+        ensures { OnOk result (Emits self.old kind self.new) }
+    {
+        self.push_token(Token {
+            kind,
+            start: self.piece.start,
+            stop: self.stop,
+            line: self.piece.line,
+        })
     }
 
     /// Ends the open piece where it stops.
@@ -445,13 +462,14 @@ impl Scan {
 
     /// A token of so many bytes, none of which ends a line, after closed pieces. It is no comment.
     fn add(&mut self, kind: TokKind, len: usize) -> Result<(), AllocError>
-        requires { self.old.stop + len < 2 ^ 64 }
+        requires bytes { self.old.stop + len < 2 ^ 64 }
+        requires no_comment { is_comment kind ≡ false }
         ensures { OnOk result (AddsToken self.old kind len self.new) }
     {
         let start = self.stop;
         let stop = start + len;
         let line = self.count.line;
-        self.tokens.push(Token {
+        self.push_token(Token {
             kind,
             start,
             stop,
@@ -465,7 +483,6 @@ impl Scan {
         self.stop = stop;
         self.count.after_return = false;
         self.margin = false;
-        self.kind = UnitKind::Code;
         Ok(())
     }
 
@@ -476,7 +493,8 @@ impl Scan {
     {
         match FirstByte::of(byte) {
             FirstByte::Word | FirstByte::Space | FirstByte::Operator => true,
-            FirstByte::LineFeed | FirstByte::Hash | FirstByte::Apart => true,
+            FirstByte::LineFeed | FirstByte::Return => true,
+            FirstByte::Hash | FirstByte::Backslash => true,
             FirstByte::Bracket => self.brackets.allows(byte as char),
             FirstByte::Quote | FirstByte::Other => false,
         }
@@ -594,13 +612,59 @@ impl Scan {
         ensures { TakesLineFeed self.old result self.new }
     {
         match self.feed_free('\n') {
-            Progress::LineEnded(_) => Taken::LineEnd,
+            Progress::LineEnded(len) => Taken::LineEnd(len),
             Progress::Going | Progress::Refused => Taken::Bytes(1),
         }
     }
 
+    /// Passes a line end of so many bytes, which CR begins, after closed pieces.
+    #[inline(always)]
+    fn pass_return(&mut self, len: usize)
+        requires bytes { self.old.stop + len < 2 ^ 64 }
+        requires lines { self.old.count.line + 1 < 2 ^ 64 }
+        ensures { self.new ≡ line_ended self.old len }
+    {
+        self.stop += len;
+        self.count.line += 1;
+        self.count.after_return = len == 1;
+        self.margin = false;
+        self.piece = OpenPiece {
+            mode: Mode::Free,
+            start: self.stop,
+            line: self.count.line,
+        };
+    }
+
+    /// Takes the line end that the bytes begin with, after closed pieces: CR LF, or CR alone where it ends the line before
+    /// another byte.
+    #[inline(always)]
+    fn carriage_return(&mut self, bytes: &[u8]) -> Taken
+        requires bytes { self.old.stop + length bytes.now < 2 ^ 64 }
+        requires lines { self.old.count.line + length bytes.now < 2 ^ 64 }
+        requires begins { begins is_return bytes.now ≡ true }
+        ensures { TakesReturn self.old bytes.now result self.new }
+    {
+        let Some(next) = bytes.get(1).copied() else {
+            return Taken::Nothing;
+        };
+        let ends = self.brackets.is_empty();
+        if is_line_feed(next as char) {
+            self.pass_return(2);
+            return if ends {
+                Taken::LineEnd(2)
+            } else {
+                Taken::Bytes(2)
+            };
+        }
+        if !ends {
+            return Taken::Nothing;
+        }
+        self.pass_return(1);
+        Taken::LineEnd(1)
+    }
+
     /// Takes the piece that the bytes begin with, after closed pieces: a word, space, an operator, a string, a comment or
-    /// LF.
+    /// a line end.
     #[inline(always)]
     fn piece(&mut self, bytes: &[u8]) -> Result<Taken, AllocError>
         requires free { is_free self.old.piece.mode ≡ true }
@@ -621,30 +685,29 @@ impl Scan {
             FirstByte::Bracket => self.bracket(bytes),
             FirstByte::Quote => self.string(bytes),
             FirstByte::LineFeed => Ok(self.line_feed()),
+            FirstByte::Return => Ok(self.carriage_return(bytes)),
             FirstByte::Hash => self.comment(bytes),
-            FirstByte::Apart | FirstByte::Other => Ok(Taken::Nothing),
+            FirstByte::Backslash | FirstByte::Other => Ok(Taken::Nothing),
         }
     }
 
-    /// Takes pieces, as long as they follow one another, and answers the text after them, or nothing where the line has
-    /// ended.
+    /// Takes pieces, as long as they follow one another, up to the line's end.
     #[inline(always)]
-    fn pieces<'s>(&mut self, text: &'s str) -> Result<Option<&'s str>, AllocError>
+    fn pieces<'s>(&mut self, text: &'s str) -> Result<Left<'s>, AllocError>
         requires bytes { self.old.stop + length text.now < 2 ^ 64 }
         requires lines { self.old.count.line + length text.now < 2 ^ 64 }
-        ensures shorter { IfOk result (λ left. IfSome left (λ rest. length rest.now ≤ length text.now)) }
-        ensures reached { (m : Mode) (line : ℕ) (whole : List ℕ) → IsUtf8 whole → IsSound (line_start m) [] → Reached m line whole self.old text.now → IfOk result (λ left. IfSome left (λ rest. ReachedShut m line whole self.new rest.now)) }
-        ensures ended { (m : Mode) (line : ℕ) (whole : List ℕ) → IsUtf8 whole → IsSound (line_start m) [] → Reached m line whole self.old text.now → IfOk result (λ left. left ≡ None → ScansIn m line whole self.new (LineEnd 1)) }
+        ensures shorter { IfOk result (IsNoLonger text.now) }
+        ensures reached { (m : Mode) (line : ℕ) (whole : List ℕ) → IsUtf8 whole → IsSound (line_start m) [] → Reached m line whole self.old text.now → IfOk result (LeavesOff m line whole self.new) }
     {
         let mut rest = text;
         'pieces: while self.piece.mode.is_free() {
             match self.piece(rest.as_bytes())? {
                 Taken::Bytes(len) => rest = &rest[len..],
-                Taken::LineEnd => return Ok(None),
-                Taken::Nothing => return Ok(Some(rest)),
+                Taken::LineEnd(len) => return Ok(Left::LineEnd(len)),
+                Taken::Nothing => return Ok(Left::Text(rest)),
             }
         }
-        Ok(Some(rest))
+        Ok(Left::Text(rest))
     }
 
     /// Takes characters that go on in the line, up to its end, the text's end, or one that is refused. A CR at the text's
@@ -657,8 +720,9 @@ impl Scan {
     {
         let mut rest = text;
         'characters: loop {
-            let Some(left) = self.pieces(rest)? else {
-                return Ok(Stop::LineEnd(1));
+            let left = match self.pieces(rest)? {
+                Left::Text(left) => left,
+                Left::LineEnd(len) => return Ok(Stop::LineEnd(len)),
             };
             let mut characters = left.chars();
             let Some(c) = characters.next() else {

@@ -15,6 +15,7 @@ use std::alloc::Global;
 const SHORT: usize = 64;
 
 /// Whether the bytes are few, and ASCII.
+#[inline(always)]
 fn is_short_ascii(bytes: &[u8]) -> bool
     ensures { IsTrue result → IsUtf8 bytes.now }
 {
@@ -29,6 +30,7 @@ fn is_short_ascii(bytes: &[u8]) -> bool
 }
 
 /// The text that the bytes begin with, up to the first that begin no character.
+#[inline(always)]
 pub fn utf8_front(bytes: &[u8]) -> &str
     ensures front { result.now ≡ take (length result.now) bytes.now }
     ensures bad { StartsWithNoChar (drop (length result.now) bytes.now) }

@@ -4,7 +4,8 @@ use Rattle.std.proofs.lemmas.List.{append_cancel_right}
 use Rattle.std.proofs.lemmas.Bool.{cond_both, and_right, both_ways, cases_lt, cases_Bool, or_left, or_right, or_from}
 use Rattle.unicode_ident.proofs.Computing.{unicode_ident}
 use Rattle.py_lines.specs.Character.{is_mark, is_space, is_word_character, is_quote, is_operator, is_line_feed, is_return, is_break, is_backslash}
-use Rattle.py_lines.specs.Piece.{operator, Piece, spelled, AreReadBefore}
+use Rattle.py_lines.specs.Piece.{operator, Piece, spelled}
+use Rattle.py_lines.specs.PieceGrammar.{AreReadBefore}
 use Rattle.py_lines.specs.Balance.{is_opening, is_closing, is_opener, is_closer}
 use Rattle.py_lines.specs.LogicalLine.{byte_len}
 use Rattle.py_lines.specs.Lexed.{IsBalancedReading, IsLive, InBracket, IsAtDepth, DiesAt, BreaksString, BreaksJoin, ClosesWrong, OpensTooDeep, breaks_string, breaks_join, closes_wrong, opens_too_deep, begins_nothing, IsCharacterFault, open_short, open_long, open_join, open_bracket, IsEndFault}
@@ -14,7 +15,7 @@ use Rattle.py_lines.specs.declared.mode.Mode.{Mode}
 use Rattle.py_lines.specs.declared.mode.Mode.TheVariants as modes
 use Rattle.py_lines.specs.declared.mode.Move.{Move}
 use Rattle.py_lines.specs.declared.mode.Move.TheVariants as moves
-use Rattle.py_lines.specs.Private.Machine.{Scanned, fresh, text_start, class_of, started, moved, step, run_from, move_of, short_move, long_move, is_final, is_prefix_spelling, in_short, in_long, is_behind_slash, character_kind, character_place, end_kind, end_place, top_place, Bracket, brackets_of, brackets_through, RunsTo}
+use Rattle.py_lines.specs.Private.Machine.{Scanned, fresh, text_start, class_of, started, moved, step, run_from, move_of, short_move, long_move, is_final, is_prefix_spelling, in_short, in_long, is_behind_slash, character_kind, character_place, end_kind, end_place, top_place, Bracket, brackets_of, brackets_through}
 use Rattle.py_lines.proofs.Text.CharacterTests.{each_of, not_quote}
 use Rattle.py_lines.proofs.Pieces.PieceLists.{piece, spelled-push, AreReadBefore-first}
 use Rattle.py_lines.proofs.Machine.Starts.{start-operator}
@@ -22,44 +23,34 @@ use Rattle.py_lines.proofs.Machine.PieceRuns.{scanned, pieces_at, run_from-appen
 use Rattle.py_lines.proofs.Pieces.OpenBrackets.{through-append, opener_pushes, StandsAt, level, inside, stands, room_in}
 use Rattle.py_lines.specs.Private.Machine.{Holds}
 use Rattle.py_lines.proofs.Machine.Soundness.{sound_at, ends_sound}
+use Rattle.py_lines.proofs.Machine.Advance.{kept, kept_if, advance, RunsTo, advances, goes_advance, stops_there}
 use Rattle.py_lines.proofs.Machine.LiveTexts.{keeps, stack_closed, reading_at, run_of_reading, live_runs, runs_live}
 use Rattle.py_lines.proofs.Machine.OpenStrings.{in_short_string, in_long_string, behind_backslash, stands_in_short, stands_behind_slash, such_mode, same_state}
 
 -- the machine goes on
-pub record IsAlive (o : Option Scanned) : Type 0 where
-  pub to : Scanned
-  pub is : o ≡ Some to
-  pub st : List Bracket
-  pub stack : brackets_of to.done ≡ Some st
-
-one_more : (before : List ℕ) (s : Scanned) (c : ℕ) → run_from (Some text_start) before ≡ Some s → run_from (Some text_start) (before ++ c ∷ []) ≡ run_from (step s c) []
-one_more before s c runs = run_from-append (Some text_start) before (c ∷ []) ∙ ap (λ o. run_from o (c ∷ [])) runs
+abbrev IsAlive : Option Scanned → Type 0
+IsAlive o = (to : Scanned) × (kept_if o ≡ Some to)
 
 -- so the text through the character is live
-pub alive_live : (before : List ℕ) (s : Scanned) (c : ℕ) → run_from (Some text_start) before ≡ Some s → IsAlive (step s c) → IsLive (before ++ c ∷ [])
-alive_live before s c runs alive = runs_live (before ++ c ∷ []) alive.to alive.st (record { run = one_more before s c runs ∙ ap (λ o. run_from o []) alive.is; stack = alive.stack })
+alive_live : (before : List ℕ) (s : Scanned) (st : List Bracket) (c : ℕ) → RunsTo before s st → IsAlive (step s c) → IsLive (before ++ c ∷ [])
+alive_live before s st c runs alive =
+    let on = goes_advance alive.0 c runs alive.1 in
+    runs_live (before ++ c ∷ []) alive.0 on.0 on.1
 
--- where no move is left, the text through the character isn't live
-pub dead_none : (before : List ℕ) (s : Scanned) (c : ℕ) → run_from (Some text_start) before ≡ Some s → step s c ≡ None → ¬ (IsLive (before ++ c ∷ []))
-dead_none before s c runs none live =
+-- where it doesn't, the text through the character isn't live
+pub dead_stop : (before : List ℕ) (s : Scanned) (st : List Bracket) (c : ℕ) → RunsTo before s st → advance s c ≡ None → ¬ (IsLive (before ++ c ∷ []))
+dead_stop before s st c runs none live =
     let found = live_runs (before ++ c ∷ []) live in
-    let stuck : None ≡ Some found.0 = sym (one_more before s c runs ∙ ap (λ o. run_from o []) none) ∙ found.2.run in
-    cc
-
--- nor where the bracket fits no stack
-pub dead_brackets : (before : List ℕ) (s t : Scanned) (c : ℕ) → run_from (Some text_start) before ≡ Some s → step s c ≡ Some t → brackets_of t.done ≡ None → ¬ (IsLive (before ++ c ∷ []))
-dead_brackets before s t c runs steps none live =
-    let found = live_runs (before ++ c ∷ []) live in
-    let same = same_state (before ++ c ∷ []) t found.0 (one_more before s c runs ∙ ap (λ o. run_from o []) steps) found.2.run in
-    let stuck : None ≡ Some found.1 = sym none ∙ ap (λ (x : Scanned). brackets_of x.done) same ∙ found.2.stack in
-    cc
+    stops_there c runs none found.2
 
 -- a short string goes on at whatever breaks no line
 grows_alive : (done : List Piece) (m n : Mode) (held : List ℕ) (c : ℕ) (st : List Bracket) → brackets_of done ≡ Some st → IsAlive (moved (scanned done m held) c (moves.Grows n))
-grows_alive done m n held c st stack = record { to = scanned done n (held ++ c ∷ []); is = refl; st = st; stack = stack }
+grows_alive done m n held c st stack = (scanned done n (held ++ c ∷ []), ap (kept (scanned done n (held ++ c ∷ []))) stack)
 
 closes_alive : (done : List Piece) (m : Mode) (held : List ℕ) (c : ℕ) (st : List Bracket) → is_opener (piece (class_of m) (held ++ c ∷ [])) ≡ false → is_closer (piece (class_of m) (held ++ c ∷ [])) ≡ false → brackets_of done ≡ Some st → IsAlive (moved (scanned done m held) c moves.Closes)
-closes_alive done m held c st opener closer stack = record { to = fresh (done ++ piece (class_of m) (held ++ c ∷ []) ∷ []); is = refl; st = st; stack = keeps done (piece (class_of m) (held ++ c ∷ [])) st opener closer stack }
+closes_alive done m held c st opener closer stack =
+    let to = fresh (done ++ piece (class_of m) (held ++ c ∷ []) ∷ []) in
+    (to, ap (kept to) (keeps done (piece (class_of m) (held ++ c ∷ [])) st opener closer stack))
 
 short_alive : (done : List Piece) (m : Mode) (held : List ℕ) (q c : ℕ) (st : List Bracket) → is_break c ≡ false → brackets_of done ≡ Some st → IsAlive (moved (scanned done m held) c (short_move q c))
 unfolding short_move
@@ -68,7 +59,7 @@ short_alive done m held q c st no_break stack =
     cond_both (is_backslash c) _ _ P (λ slash. grows_alive done m (modes.Escape q) held c st stack)
     (λ no_slash. cond_both (is_break c) _ _ P (λ break. absurd (both_ways _ no_break break)) (λ other. grows_alive done m (modes.Inside q) held c st stack))
 
-pub short_goes : (m : Mode) (done : List Piece) (held : List ℕ) (c : ℕ) (st : List Bracket) → in_short m ≡ true → is_break c ≡ false → brackets_of done ≡ Some st → IsAlive (step (scanned done m held) c)
+short_goes : (m : Mode) (done : List Piece) (held : List ℕ) (c : ℕ) (st : List Bracket) → in_short m ≡ true → is_break c ≡ false → brackets_of done ≡ Some st → IsAlive (step (scanned done m held) c)
 unfolding move_of
 short_goes (modes.Opened q) done held c st is no_break stack =
     cond_both (eqb c q) _ _ (λ (v : Move). IsAlive (moved (scanned done (modes.Opened q) held) c v)) (λ same. grows_alive done (modes.Opened q) (modes.Empty q) held c st stack) (λ other. short_alive done (modes.Opened q) held q c st no_break stack)
@@ -137,15 +128,14 @@ opens_deep before s st c runs dead short slash opens = go (opening_how s.mode s.
         let to = fresh (ps ++ p ∷ []) in
         let steps : step s c ≡ Some to = ap (moved s c) breaks ∙ ap (started ps c) (start-operator c (opening-operator c opens)) in
         let stack = stack_closed s.mode s.done s.held st runs.stack in
-        let next = sound_at (before ++ c ∷ []) to (one_more before s c runs.run ∙ ap (λ o. run_from o []) steps) in
+        let next = sound_at (before ++ c ∷ []) to (run_from-append (Some text_start) before (c ∷ []) ∙ ap (λ o. run_from o (c ∷ [])) runs.run ∙ ap (λ o. run_from o []) steps) in
         let full : 200 ≤ length st =
         ⊎_elim
-        (λ (room : length st < 200). absurd (dead (alive_live before s c runs.run (record {
-          to = to;
-          is = steps;
-          st = record { opener = c; place = byte_len (spelled ps) } ∷ st;
-          stack = through-append (Some []) [] ps (p ∷ []) ∙ ap (λ o. brackets_through o ps (p ∷ [])) stack ∙ ap (λ o. brackets_through o (ps ++ p ∷ []) []) (opener_pushes st (byte_len (spelled ps)) p opens room);
-        }))))
+        (λ (room : length st < 200). absurd (dead (alive_live before s st c runs (
+          to,
+          advances s to c (record { opener = c; place = byte_len (spelled ps) } ∷ st) steps
+              (through-append (Some []) [] ps (p ∷ []) ∙ ap (λ o. brackets_through o ps (p ∷ [])) stack ∙ ap (λ o. brackets_through o (ps ++ p ∷ []) []) (opener_pushes st (byte_len (spelled ps)) p opens room)),
+        ))))
         (λ (h : 200 ≤ length st). h) (cases_lt (length st) 200) in
         let room : length st ≤ 200 = room_in ps st stack in
         let count : length st ≡ 200 = omega arith in
@@ -158,7 +148,7 @@ opens_deep before s st c runs dead short slash opens = go (opening_how s.mode s.
 
     go : EndsOrGrows (move_of s.mode c) → IsAtDepth before c 200
     go (inl breaks) = ends breaks
-    go (inr (n, grows)) = absurd (dead (alive_live before s c runs.run (record { to = scanned s.done n (s.held ++ c ∷ []); is = ap (moved s c) grows; st = st; stack = runs.stack })))
+    go (inr (n, grows)) = absurd (dead (alive_live before s st c runs (let to = scanned s.done n (s.held ++ c ∷ []) in (to, advances s to c st (ap (moved s c) grows) runs.stack))))
 
 -- which causes don't fit a character
 no_string : (before : List ℕ) (s : Scanned) (c : ℕ) → run_from (Some text_start) before ≡ Some s → in_short s.mode ≡ false → (offset : ℕ) → ¬ (BreaksString before c offset)
@@ -176,7 +166,7 @@ no_deep before c opening offset deep = both_ways _ opening deep.opens
 pub break_in : (before : List ℕ) (s : Scanned) (st : List Bracket) (c : ℕ) → RunsTo before s st → ¬ (IsLive (before ++ c ∷ [])) → in_short s.mode ≡ true → is_break c ≡ true
 break_in before s st c runs dead short =
     ⊎_elim (λ (h : is_break c ≡ true). h)
-    (λ (h : is_break c ≡ false). absurd (dead (alive_live before s c runs.run (short_goes s.mode s.done s.held c st short h runs.stack)))) (cases_Bool (is_break c))
+    (λ (h : is_break c ≡ false). absurd (dead (alive_live before s st c runs (short_goes s.mode s.done s.held c st short h runs.stack)))) (cases_Bool (is_break c))
 
 pub early : (s : Scanned) (before : List ℕ) → in_short s.mode || is_behind_slash s.mode ≡ true → byte_len (spelled s.done) ≡ character_place s before
 early s before h = sym (ap (λ (b : Bool). cond b (byte_len (spelled s.done)) (byte_len before)) h)
@@ -298,7 +288,7 @@ pub end_place_is : (s : Scanned) (st : List Bracket) → is_final s.mode ≡ fal
 end_place_is s st h = ap (λ (b : Bool). cond b (top_place st) (byte_len (spelled s.done))) h
 
 bracket_fault : (characters tail : List ℕ) (s : Scanned) (st : List Bracket) → tail ≡ [] → RunsTo characters s st → ((pieces : List Piece) → ¬ (IsBalancedReading pieces characters)) → is_final s.mode ≡ true → IsEndFault faults.OpenBracket characters tail (end_place s st)
-bracket_fault characters tail s [] whole runs unread may = absurd (unread (pieces_at s) (reading_at characters s runs.run may runs.stack))
+bracket_fault characters tail s [] whole runs unread may = absurd (unread (pieces_at s) (reading_at characters s runs may))
 bracket_fault characters tail s (b ∷ bs) whole runs unread may =
     let at_end = ends_sound characters s runs.run may in
     let stack = stack_closed s.mode s.done s.held (b ∷ bs) runs.stack in
@@ -331,4 +321,4 @@ end_fault characters tail s st whole runs unread =
 pub unread_at : (characters : List ℕ) (s : Scanned) → run_from (Some text_start) characters ≡ Some s → is_final s.mode ≡ false → (pieces : List Piece) → ¬ (IsBalancedReading pieces characters)
 unread_at characters s runs may pieces reading =
     let found = run_of_reading pieces characters reading in
-    both_ways _ (ap (λ (t : Scanned). is_final t.mode) (same_state characters found.to s found.runs runs) ∙ may) found.ends
+    both_ways _ (ap (λ (t : Scanned). is_final t.mode) (same_state characters found.to s found.runs.run runs) ∙ may) found.ends

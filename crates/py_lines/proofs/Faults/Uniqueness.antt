@@ -10,11 +10,12 @@ use Rattle.py_lines.specs.declared.fault.FaultKind.{FaultKind}
 use Rattle.py_lines.specs.declared.fault.FaultKind.TheVariants as faults
 use Rattle.py_lines.specs.declared.mode.Mode.{Mode}
 use Rattle.py_lines.specs.declared.mode.Mode.TheVariants as modes
-use Rattle.py_lines.specs.Private.Machine.{Scanned, text_start, run_from, is_final, in_short, in_long, is_behind_slash, character_kind, character_place, end_kind, end_place, top_place, Bracket, brackets_of, brackets_through, RunsTo}
+use Rattle.py_lines.specs.Private.Machine.{Scanned, text_start, run_from, is_final, in_short, in_long, is_behind_slash, character_kind, character_place, end_kind, end_place, top_place, Bracket, brackets_of, brackets_through}
 use Rattle.py_lines.proofs.Machine.PieceRuns.{pieces_at}
 use Rattle.py_lines.proofs.Machine.ReadingRuns.{reach, MayBegin}
 use Rattle.py_lines.proofs.Pieces.OpenBrackets.{through-append, opener_pushes, balanced_through, stack_before, stands, depth-opener, IsShallow-parts}
 use Rattle.py_lines.proofs.Machine.Soundness.{sound_at}
+use Rattle.py_lines.proofs.Machine.Advance.{RunsTo}
 use Rattle.py_lines.proofs.Machine.LiveTexts.{stack_closed, live_runs}
 use Rattle.py_lines.proofs.Machine.OpenStrings.{in_short_string, behind_backslash, stands_in_short, stands_in_long, stands_behind_slash, such_mode, such_start, same_state}
 use Rattle.py_lines.proofs.Faults.FaultPlaces.{early, late, break_in, opens_deep, short_not_end, long_not_end, slash_not_end, end_place_is}

@@ -6,11 +6,11 @@ use Rattle.py_lines.specs.Lexed.{IsBalancedReading, IsLive, IsCharacterFault, Is
 use Rattle.py_lines.specs.declared.fault.FaultKind.{FaultKind}
 use Rattle.py_lines.specs.declared.fault.FaultKind.TheVariants as faults
 use Rattle.py_lines.specs.LogicalLine.{byte_len}
-use Rattle.py_lines.specs.Private.Machine.{Scanned, text_start, step, run_from, is_final, character_kind, character_place, end_kind, end_place, Bracket, brackets_of, RunsTo}
-use Rattle.py_lines.proofs.Machine.PieceRuns.{pieces_at, run_from-append}
+use Rattle.py_lines.specs.Private.Machine.{Scanned, text_start, step, is_final, character_kind, character_place, end_kind, end_place, Bracket, brackets_of}
+use Rattle.py_lines.proofs.Machine.PieceRuns.{pieces_at}
+use Rattle.py_lines.proofs.Machine.Advance.{kept, kept_if, RunsTo, goes_step, goes_once}
 use Rattle.py_lines.proofs.Machine.LiveTexts.{reading_at, run_of_reading, reading_live}
-use Rattle.py_lines.proofs.Machine.OpenStrings.{same_state}
-use Rattle.py_lines.proofs.Faults.FaultPlaces.{dead_none, dead_brackets, character_fault, end_fault, unread_at}
+use Rattle.py_lines.proofs.Faults.FaultPlaces.{dead_stop, character_fault, end_fault, unread_at}
 
 -- a fault, and its byte
 pub record Found : Type 0 where
@@ -53,13 +53,13 @@ Verdict characters (Some f) = IsCharacterFault f.kind characters f.place ⊎ IsE
 pub open_unread : (characters : List ℕ) (s : Scanned) (b : Bracket) (bs : List Bracket) → RunsTo characters s (b ∷ bs) → (pieces : List Piece) → ¬ (IsBalancedReading pieces characters)
 open_unread characters s b bs runs pieces reading =
     let found = run_of_reading pieces characters reading in
-    let same : Some (b ∷ bs) ≡ Some [] = sym runs.stack ∙ ap (λ (t : Scanned). brackets_of t.done) (same_state characters s found.to runs.run found.runs) ∙ found.stack in
+    let same : b ∷ bs ≡ [] = (goes_once runs found.runs).1 in
     cc
 
 end_verdict : (characters : List ℕ) (s : Scanned) (st : List Bracket) → RunsTo characters s st → Verdict characters (found_at_end s st)
 end_verdict characters s [] runs =
     cond_both (is_final s.mode) _ _ (Verdict characters)
-    (λ may. (pieces_at s, reading_at characters s runs.run may runs.stack))
+    (λ may. (pieces_at s, reading_at characters s runs may))
     (λ may. inr (end_fault characters [] s [] refl runs (unread_at characters s runs.run may)))
 end_verdict characters s (b ∷ bs) runs = inr (end_fault characters [] s (b ∷ bs) refl runs (open_unread characters s b bs runs))
 
@@ -71,15 +71,12 @@ verdict_from (c ∷ cs) before characters s st spell runs =
     dead : ¬ (IsLive (before ++ c ∷ [])) → Verdict characters (found_at s before c)
     dead h = inl (character_fault characters before cs c s st spell runs h)
 
-    one_on : (t : Scanned) → step s c ≡ Some t → run_from (Some text_start) (before ++ c ∷ []) ≡ Some t
-    one_on t is = run_from-append (Some text_start) before (c ∷ []) ∙ ap (λ o. run_from o (c ∷ [])) runs.run ∙ ap (λ o. run_from o []) is
-
     stacked : (t : Scanned) → step s c ≡ Some t → ((bs : List Bracket) → RunsTo (before ++ c ∷ []) t bs → Verdict characters (fault_from t bs (before ++ c ∷ []) cs)) → (o : Option (List Bracket)) → brackets_of t.done ≡ o → Verdict characters (on_stack o (found_at s before c) (λ bs. fault_from t bs (before ++ c ∷ []) cs))
-    stacked t is later None none = dead (dead_brackets before s t c runs.run is none)
-    stacked t is later (Some bs) some = later bs (record { run = one_on t is; stack = some })
+    stacked t is later None none = dead (dead_stop before s st c runs (ap kept_if is ∙ ap (kept t) none))
+    stacked t is later (Some bs) some = later bs (goes_step t c bs runs is some)
 
     go : (o : Option Scanned) → step s c ≡ o → ((t : Scanned) (bs : List Bracket) → RunsTo (before ++ c ∷ []) t bs → Verdict characters (fault_from t bs (before ++ c ∷ []) cs)) → Verdict characters (on_step o (found_at s before c) (λ t bs. fault_from t bs (before ++ c ∷ []) cs))
-    go None none later = dead (dead_none before s c runs.run none)
+    go None none later = dead (dead_stop before s st c runs (ap kept_if none))
     go (Some t) is later = stacked t is (later t) (brackets_of t.done) refl
 
 -- a text is read, or has the fault that is computed

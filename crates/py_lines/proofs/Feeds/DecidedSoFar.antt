@@ -3,7 +3,8 @@ use Rattle.std.proofs.Common.{◌≡◌, ℕ, ◌+◌, Bool, true, false, not, �
 use Rattle.std.specs.Prelude.{if◌then◌else◌}
 use Rattle.std.specs.Str.{StartsWithNoChar}
 use Rattle.py_lines.specs.Character.{is_line_feed}
-use Rattle.py_lines.specs.Piece.{spelled, AreReadBefore}
+use Rattle.py_lines.specs.Piece.{spelled}
+use Rattle.py_lines.specs.PieceGrammar.{AreReadBefore}
 use Rattle.py_lines.specs.LogicalLine.{LogicalLine, byte_len, line_ends}
 use Rattle.py_lines.specs.Lexed.{Decodes, IsLive, IsCharacterFault, IsLexicalFault, IsLexed, IsLexedToFault}
 use Rattle.py_lines.specs.Settled.{IsHopeless, Decides}
@@ -11,11 +12,12 @@ use Rattle.py_lines.specs.declared.fault.Fault.{Fault}
 use Rattle.py_lines.specs.declared.fault.FaultKind.{FaultKind}
 use Rattle.py_lines.specs.declared.fault.FaultKind.TheVariants as faults
 use Rattle.py_lines.specs.declared.mode.Mode.TheVariants as modes
-use Rattle.py_lines.specs.Private.Machine.{Scanned, run_from, step, in_short, is_behind_slash, character_kind, character_place, Bracket, brackets_of}
+use Rattle.py_lines.specs.Private.Machine.{Scanned, step, in_short, is_behind_slash, character_kind, character_place, Bracket}
 use Rattle.py_lines.specs.Private.Scan.{EndsNoLine, line_start, none_open, is_return_mode, stack_if}
 use Rattle.py_lines.specs.Private.Source.{first_mode}
 use Rattle.py_lines.proofs.Text.Utf8Prefixes.{nothing_bad}
 use Rattle.py_lines.proofs.Machine.PieceRuns.{pieces_at}
+use Rattle.py_lines.proofs.Machine.Advance.{GoesTo}
 use Rattle.py_lines.proofs.Machine.LiveTexts.{runs_live}
 use Rattle.py_lines.proofs.Faults.FaultPlaces.{character_fault}
 use Rattle.py_lines.proofs.Faults.Uniqueness.{not_live}
@@ -49,22 +51,22 @@ module _ (text : List ℕ) (place line : ℕ) (lines : List LogicalLine) (read r
     line = omega (arith, number, k.number, base_lines k.base front (later ++ k.more) (subst (AreReadBefore k.base) (ap (λ t. t ++ k.more) (sym split) ∙ append_assoc front later k.more) k.fit));
   }
 
-  pub front_of : (s : Scanned) (st : List Bracket) (runs : run_from (Some (line_start (first_mode place))) read ≡ Some s) (stacked : brackets_of s.done ≡ Some st) → EndsNoLine 0 s.done → (s.mode ≡ modes.Return → none_open st ≡ false) → HasFront (of.joins text place line lines read rest k s st runs stacked).state k.base
-  front_of s st runs stacked one_line open_yet = record {
+  pub front_of : (s : Scanned) (st : List Bracket) (goes : GoesTo (line_start (first_mode place)) read s st) → EndsNoLine 0 s.done → (s.mode ≡ modes.Return → none_open st ≡ false) → HasFront (of.joins text place line lines read rest k s st goes).state k.base
+  front_of s st goes one_line open_yet = record {
     others = pieces_at s;
-    spell = (of.joins text place line lines read rest k s st runs stacked).pieces;
+    spell = (of.joins text place line lines read rest k s st goes).pieces;
     ended = k.ended;
-    none = closed_one_line s.mode s.done s.held st stacked one_line open_yet;
+    none = closed_one_line s.mode s.done s.held st goes.stack one_line open_yet;
   }
 
   -- no bytes complete those that are left
-  pub decided_bytes : (s : Scanned) (st : List Bracket) → run_from (Some (line_start (first_mode place))) read ≡ Some s → brackets_of s.done ≡ Some st → EndsNoLine 0 s.done → (s.mode ≡ modes.Return → none_open st ≡ false) → (d : ℕ) (ds : List ℕ) → rest ≡ d ∷ ds → IsHopeless rest → (fault : Fault) → fault.kind ≡ faults.BadUtf8 → fault.offset ≡ place + byte_len read → fault.line ≡ line + line_ends read → Decides (of.bytes text place line lines read rest k) fault × IsLexed (of.bytes text place line lines read rest k) lines (Some fault)
-  decided_bytes s st runs stacked one_line open_yet d ds is hopeless fault kind at number =
-      let j = of.joins text place line lines read rest k s st runs stacked in
+  pub decided_bytes : (s : Scanned) (st : List Bracket) → GoesTo (line_start (first_mode place)) read s st → EndsNoLine 0 s.done → (s.mode ≡ modes.Return → none_open st ≡ false) → (d : ℕ) (ds : List ℕ) → rest ≡ d ∷ ds → IsHopeless rest → (fault : Fault) → fault.kind ≡ faults.BadUtf8 → fault.offset ≡ place + byte_len read → fault.line ≡ line + line_ends read → Decides (of.bytes text place line lines read rest k) fault × IsLexed (of.bytes text place line lines read rest k) lines (Some fault)
+  decided_bytes s st goes one_line open_yet d ds is hopeless fault kind at number =
+      let j = of.joins text place line lines read rest k s st goes in
       let characters = spelled k.base ++ read in
       let bad : StartsWithNoChar rest = subst StartsWithNoChar (append-nil rest) (hopeless []) in
       let decodes : Decodes (of.bytes text place line lines read rest k) characters (d ∷ ds) = subst (λ t. Decodes (of.bytes text place line lines read rest k) characters t) is (of.decodes text place line lines read rest k bad) in
-      let lexed = refused_at_bytes (of.bytes text place line lines read rest k) characters d ds j.state j.st k.base fault decodes j.runs (front_of s st runs stacked one_line open_yet) kind
+      let lexed = refused_at_bytes (of.bytes text place line lines read rest k) characters d ds j.state j.st k.base fault decodes j.runs (front_of s st goes one_line open_yet) kind
       (omega (arith, at, k.here, byte_len-append (spelled k.base) read))
       (line_behind faults.BadUtf8 (byte_len read) read [] fault (append-nil read) refl at number characters [] (append-nil _)) in (
         record {
@@ -78,9 +80,9 @@ module _ (text : List ℕ) (place line : ℕ) (lines : List LogicalLine) (read r
       )
 
   -- the known bytes decide nothing where the machine has gone through them and more may complete those that are left
-  pub undecided : (s : Scanned) (st : List Bracket) → run_from (Some (line_start (first_mode place))) read ≡ Some s → brackets_of s.done ≡ Some st → StartsWithNoChar rest → ¬ (IsHopeless rest) → (fault : Fault) → ¬ (Decides (of.bytes text place line lines read rest k) fault)
-  undecided s st runs stacked bad more fault d =
-      let j = of.joins text place line lines read rest k s st runs stacked in
+  pub undecided : (s : Scanned) (st : List Bracket) → GoesTo (line_start (first_mode place)) read s st → StartsWithNoChar rest → ¬ (IsHopeless rest) → (fault : Fault) → ¬ (Decides (of.bytes text place line lines read rest k) fault)
+  undecided s st goes bad more fault d =
+      let j = of.joins text place line lines read rest k s st goes in
       let same = decoded (of.bytes text place line lines read rest k) (spelled k.base ++ read) d.characters rest d.tail (of.decodes text place line lines read rest k bad) d.decodes in
       ⊎_elim
       (λ dies. not_live d.characters fault.kind fault.offset dies (subst IsLive same.0 (runs_live (spelled k.base ++ read) j.state j.st j.runs)))
@@ -95,19 +97,19 @@ module _ (text : List ℕ) (place line : ℕ) (lines : List LogicalLine) (read :
   before_fit : AreReadBefore k.base (read ++ c ∷ k.more)
   before_fit = subst (AreReadBefore k.base) (append_assoc read (c ∷ []) k.more) k.fit
 
-  joins_before : (s : Scanned) (st : List Bracket) → run_from (Some (line_start (first_mode place))) read ≡ Some s → brackets_of s.done ≡ Some st → Joined k.base read s st (c ∷ k.more)
-  joins_before s st runs stacked = joined place k.base (c ∷ k.more) (of.level text place line lines (read ++ c ∷ []) [] k) read s st before_fit (base_of place k.base (read ++ c ∷ k.more) before_fit k.ended k.here) runs stacked
+  joins_before : (s : Scanned) (st : List Bracket) → GoesTo (line_start (first_mode place)) read s st → Joined k.base read s st (c ∷ k.more)
+  joins_before s st goes = joined place k.base (c ∷ k.more) (of.level text place line lines (read ++ c ∷ []) [] k) read s st before_fit (base_of place k.base (read ++ c ∷ k.more) before_fit k.ended k.here) goes
 
-  pub decided_character : (s : Scanned) (st : List Bracket) → run_from (Some (line_start (first_mode place))) read ≡ Some s → brackets_of s.done ≡ Some st → EndsNoLine 0 s.done → stack_if (step s c) ≡ None → (is_return_mode s.mode && none_open st) && not (is_line_feed c) ≡ false → (fault : Fault) → fault.kind ≡ character_kind s.mode c → fault.offset ≡ place + refused_behind s read → (w : Within read (refused_behind s read)) → fault.line ≡ line + line_ends w.front → Decides all_known fault × IsLexed all_known lines (Some fault)
-  decided_character s st runs stacked one_line refuses not_yet fault kind at w number =
-      let j = joins_before s st runs stacked in
+  pub decided_character : (s : Scanned) (st : List Bracket) → GoesTo (line_start (first_mode place)) read s st → EndsNoLine 0 s.done → stack_if (step s c) ≡ None → (is_return_mode s.mode && none_open st) && not (is_line_feed c) ≡ false → (fault : Fault) → fault.kind ≡ character_kind s.mode c → fault.offset ≡ place + refused_behind s read → (w : Within read (refused_behind s read)) → fault.line ≡ line + line_ends w.front → Decides all_known fault × IsLexed all_known lines (Some fault)
+  decided_character s st goes one_line refuses not_yet fault kind at w number =
+      let j = joins_before s st goes in
       let level = of.level text place line lines (read ++ c ∷ []) [] k in
       let characters = spelled k.base ++ (read ++ c ∷ []) in
       let spell : (spelled k.base ++ read) ++ c ∷ [] ≡ characters = append_assoc (spelled k.base) read (c ∷ []) in
       let decodes : Decodes all_known characters [] = of.decodes text place line lines (read ++ c ∷ []) [] k nothing_bad in
       let dead = dead_at k.base read (c ∷ k.more) k.more s st c j level refl refuses in
-      let open_yet = open_return s.mode s.done s.held c st stacked refuses not_yet in
-      let front : HasFront j.state k.base = record { others = pieces_at s; spell = j.pieces; ended = k.ended; none = closed_one_line s.mode s.done s.held st stacked one_line open_yet } in
+      let open_yet = open_return s.mode s.done s.held c st goes.stack refuses not_yet in
+      let front : HasFront j.state k.base = record { others = pieces_at s; spell = j.pieces; ended = k.ended; none = closed_one_line s.mode s.done s.held st goes.stack one_line open_yet } in
       let kind_is : fault.kind ≡ character_kind j.state.mode c = kind ∙ same_kind s.mode j.state.mode c (sym j.short) (sym j.slash) in
       let flags : in_short s.mode || is_behind_slash s.mode ≡ in_short j.state.mode || is_behind_slash j.state.mode = ap (λ (b : Bool). b || is_behind_slash s.mode) (sym j.short) ∙ ap (λ (b : Bool). in_short j.state.mode || b) (sym j.slash) in
       let here : fault.offset ≡ character_place j.state (spelled k.base ++ read) =

@@ -4,22 +4,23 @@ use Rattle.std.specs.Prelude.{encode_utf8_all, if◌then◌else◌}
 use Rattle.std.specs.Str.{StartsWithNoChar}
 use Rattle.std.proofs.lemmas.List.{nil_from_length, take_all}
 use Rattle.std.proofs.lemmas.Str.{length-le-encodes}
-use Rattle.py_lines.specs.Piece.{Piece, spelled, AreReadBefore}
+use Rattle.py_lines.specs.Piece.{Piece, spelled}
+use Rattle.py_lines.specs.PieceGrammar.{AreReadBefore}
 use Rattle.py_lines.specs.LogicalLine.{LogicalLine, cut, byte_len, line_ends, line_of, lines_of}
 use Rattle.py_lines.specs.Lexed.{Decodes, IsBalancedReading, IsLexed, IsLexedToFault}
 use Rattle.py_lines.specs.Given.{AreFirstLines}
 use Rattle.py_lines.specs.declared.fault.Fault.{Fault}
 use Rattle.py_lines.specs.declared.fault.FaultKind.TheVariants as faults
 use Rattle.py_lines.specs.declared.mode.Mode.TheVariants as modes
-use Rattle.py_lines.specs.Private.Machine.{Scanned, run_from, is_final, end_kind, end_place, top_place, Bracket, brackets_of}
+use Rattle.py_lines.specs.Private.Machine.{Scanned, is_final, end_kind, end_place, top_place, Bracket}
 use Rattle.py_lines.specs.Private.Scan.{EndsNoLine, line_start, none_open}
 use Rattle.py_lines.specs.Private.Source.{first_mode}
 use Rattle.py_lines.proofs.Text.Utf8Prefixes.{nothing_bad}
 use Rattle.py_lines.proofs.Pieces.PieceLists.{spelled-append}
 use Rattle.py_lines.proofs.Machine.PieceRuns.{pieces_at}
 use Rattle.py_lines.proofs.Machine.EarlierPieces.{shift}
+use Rattle.py_lines.proofs.Machine.Advance.{GoesTo, RunsTo, goes_once}
 use Rattle.py_lines.proofs.Machine.LiveTexts.{reading_at, run_of_reading}
-use Rattle.py_lines.proofs.Machine.OpenStrings.{same_state}
 use Rattle.py_lines.proofs.Faults.FaultPlaces.{unread_at}
 use Rattle.py_lines.proofs.LogicalLines.Cuts.{byte_len-append}
 use Rattle.py_lines.proofs.LogicalLines.NextLine.{lines_of-push}
@@ -58,13 +59,13 @@ module _ (text : List ℕ) (place line : ℕ) (lines : List LogicalLine) (read r
   all = take_all (place + length (encode_utf8_all read ++ rest)) text (omega (arith, whole))
 
   -- the text ends in a part of a character, or in bytes that begin none
-  pub ended_bytes : (s : Scanned) (st : List Bracket) → run_from (Some (line_start (first_mode place))) read ≡ Some s → brackets_of s.done ≡ Some st → EndsNoLine 0 s.done → (s.mode ≡ modes.Return → none_open st ≡ false) → (d : ℕ) (ds : List ℕ) → rest ≡ d ∷ ds → StartsWithNoChar rest → (fault : Fault) → fault.kind ≡ faults.BadUtf8 → fault.offset ≡ place + byte_len read → fault.line ≡ line + line_ends read → IsLexed text lines (Some fault)
-  ended_bytes s st runs stacked one_line open_yet d ds is bad fault kind at number =
-      let j = of.joins text place line lines read rest k s st runs stacked in
+  pub ended_bytes : (s : Scanned) (st : List Bracket) → GoesTo (line_start (first_mode place)) read s st → EndsNoLine 0 s.done → (s.mode ≡ modes.Return → none_open st ≡ false) → (d : ℕ) (ds : List ℕ) → rest ≡ d ∷ ds → StartsWithNoChar rest → (fault : Fault) → fault.kind ≡ faults.BadUtf8 → fault.offset ≡ place + byte_len read → fault.line ≡ line + line_ends read → IsLexed text lines (Some fault)
+  ended_bytes s st goes one_line open_yet d ds is bad fault kind at number =
+      let j = of.joins text place line lines read rest k s st goes in
       let characters = spelled k.base ++ read in
       let decodes : Decodes text characters (d ∷ ds) = subst (λ t. Decodes t characters (d ∷ ds)) all (subst (λ t. Decodes (of.bytes text place line lines read rest k) characters t) is (of.decodes text place line lines read rest k bad)) in
       subst (λ l. IsLexedToFault text l fault) (sym k.cut)
-      (refused_at_bytes text characters d ds j.state j.st k.base fault decodes j.runs (decided.front_of text place line lines read rest k s st runs stacked one_line open_yet) kind
+      (refused_at_bytes text characters d ds j.state j.st k.base fault decodes j.runs (decided.front_of text place line lines read rest k s st goes one_line open_yet) kind
       (omega (arith, at, k.here, byte_len-append (spelled k.base) read))
       (decided.line_behind text place line lines read rest k faults.BadUtf8 (byte_len read) read [] fault (append-nil read) refl at number characters [] (append-nil _)))
 
@@ -72,15 +73,14 @@ module _ (text : List ℕ) (place line : ℕ) (lines : List LogicalLine) (read r
   all_decoded none = subst (λ t. Decodes t (spelled k.base ++ read) []) all (subst (λ t. Decodes (of.bytes text place line lines read rest k) (spelled k.base ++ read) t) none (of.decodes text place line lines read rest k (subst StartsWithNoChar (sym none) nothing_bad)))
 
   -- the text may not end there
-  unread : (s : Scanned) (st : List Bracket) (runs : run_from (Some (line_start (first_mode place))) read ≡ Some s) (stacked : brackets_of s.done ≡ Some st) → 0 < byte_len read → (is_final s.mode ≡ false) ⊎ ((b : Bracket) × (others : List Bracket) × (st ≡ b ∷ others)) → (pieces : List Piece) → ¬ (IsBalancedReading pieces (spelled k.base ++ read))
-  unread s st runs stacked some (inl unfinal) =
-      let j = of.joins text place line lines read rest k s st runs stacked in
+  unread : (s : Scanned) (st : List Bracket) (goes : GoesTo (line_start (first_mode place)) read s st) → 0 < byte_len read → (is_final s.mode ≡ false) ⊎ ((b : Bracket) × (others : List Bracket) × (st ≡ b ∷ others)) → (pieces : List Piece) → ¬ (IsBalancedReading pieces (spelled k.base ++ read))
+  unread s st goes some (inl unfinal) =
+      let j = of.joins text place line lines read rest k s st goes in
       unread_at (spelled k.base ++ read) j.state j.runs.run (ap (λ (t : Scanned). is_final t.mode) (j.same some).0 ∙ unfinal)
-  unread s st runs stacked some (inr (b, others, top)) = λ pieces reading.
-      let j = of.joins text place line lines read rest k s st runs stacked in
+  unread s st goes some (inr (b, others, top)) = λ pieces reading.
+      let j = of.joins text place line lines read rest k s st goes in
       let ran = run_of_reading pieces (spelled k.base ++ read) reading in
-      let same = same_state (spelled k.base ++ read) j.state ran.to j.runs.run ran.runs in
-      let none : Some (shift (byte_len (spelled k.base)) (b ∷ others)) ≡ Some [] = ap (λ l. Some (shift (byte_len (spelled k.base)) l)) (sym top) ∙ ap (λ l. Some l) (sym (j.same some).1) ∙ sym j.runs.stack ∙ ap (λ (t : Scanned). brackets_of t.done) same ∙ ran.stack in
+      let none : shift (byte_len (spelled k.base)) (b ∷ others) ≡ [] = ap (shift (byte_len (spelled k.base))) (sym top) ∙ sym (j.same some).1 ∙ (goes_once j.runs ran.runs).1 in
       cc
 
   place_at : (s : Scanned) (st : List Bracket) (b : Bool) → is_final s.mode ≡ b → (is_final s.mode ≡ false) ⊎ ((c : Bracket) × (others : List Bracket) × (st ≡ c ∷ others)) → place + (if b then top_place st else byte_len (spelled s.done)) ≡ (if b then top_place (shift (byte_len (spelled k.base)) st) else byte_len (spelled (k.base ++ s.done)))
@@ -88,25 +88,24 @@ module _ (text : List ℕ) (place line : ℕ) (lines : List LogicalLine) (read r
   place_at s st true final (inl unfinal) = absurd (let clash = sym final ∙ unfinal in cc)
   place_at s st true final (inr (c, others, top)) = ap (λ l. place + top_place l) top ∙ ap (λ (n : ℕ). n + c.place) k.here ∙ ap (λ l. top_place (shift (byte_len (spelled k.base)) l)) (sym top)
 
-  pub ended_unfinished : rest ≡ [] → (s : Scanned) (st : List Bracket) (runs : run_from (Some (line_start (first_mode place))) read ≡ Some s) (stacked : brackets_of s.done ≡ Some st) → EndsNoLine 0 s.done → (s.mode ≡ modes.Return → none_open st ≡ false) → 0 < byte_len read → (is_final s.mode ≡ false) ⊎ ((b : Bracket) × (others : List Bracket) × (st ≡ b ∷ others)) → (fault : Fault) → fault.kind ≡ end_kind s.mode → fault.offset ≡ place + open_behind s st → (w : Within read (open_behind s st)) → fault.line ≡ line + line_ends w.front → IsLexed text lines (Some fault)
-  ended_unfinished none s st runs stacked one_line open_yet some unfinished fault kind at w number =
-      let j = of.joins text place line lines read rest k s st runs stacked in
+  pub ended_unfinished : rest ≡ [] → (s : Scanned) (st : List Bracket) (goes : GoesTo (line_start (first_mode place)) read s st) → EndsNoLine 0 s.done → (s.mode ≡ modes.Return → none_open st ≡ false) → 0 < byte_len read → (is_final s.mode ≡ false) ⊎ ((b : Bracket) × (others : List Bracket) × (st ≡ b ∷ others)) → (fault : Fault) → fault.kind ≡ end_kind s.mode → fault.offset ≡ place + open_behind s st → (w : Within read (open_behind s st)) → fault.line ≡ line + line_ends w.front → IsLexed text lines (Some fault)
+  ended_unfinished none s st goes one_line open_yet some unfinished fault kind at w number =
+      let j = of.joins text place line lines read rest k s st goes in
       let characters = spelled k.base ++ read in
       let here : fault.offset ≡ end_place j.state j.st = at ∙ place_at s st (is_final s.mode) refl unfinished ∙ ap (λ (t : Scanned). end_place t (shift (byte_len (spelled k.base)) st)) (sym (j.same some).0) ∙ ap (end_place j.state) (sym (j.same some).1) in
       subst (λ l. IsLexedToFault text l fault) (sym k.cut)
-      (refused_at_end text characters j.state j.st k.base fault (all_decoded none) j.runs (unread s st runs stacked some unfinished)
-      (decided.front_of text place line lines read rest k s st runs stacked one_line open_yet)
+      (refused_at_end text characters j.state j.st k.base fault (all_decoded none) j.runs (unread s st goes some unfinished)
+      (decided.front_of text place line lines read rest k s st goes one_line open_yet)
       (kind ∙ ap (λ (t : Scanned). end_kind t.mode) (sym (j.same some).0))
       here
       (decided.line_behind text place line lines read rest k fault.kind (open_behind s st) w.front w.later fault w.split w.size at number characters [] (append-nil _)))
 
   -- the text's last line
-  pub ended_line : rest ≡ [] → (s : Scanned) → run_from (Some (line_start (first_mode place))) read ≡ Some s → brackets_of s.done ≡ Some [] → is_final s.mode ≡ true → 0 < byte_len read → cut 0 (pieces_at s) ≡ pieces_at s ∷ [] → IsLexed text (lines ++ line_of place line (pieces_at s) ∷ []) None
-  ended_line none s runs stacked final some one =
-      let j = of.joins text place line lines read rest k s [] runs stacked in
+  pub ended_line : rest ≡ [] → (s : Scanned) → GoesTo (line_start (first_mode place)) read s [] → is_final s.mode ≡ true → 0 < byte_len read → cut 0 (pieces_at s) ≡ pieces_at s ∷ [] → IsLexed text (lines ++ line_of place line (pieces_at s) ∷ []) None
+  ended_line none s goes final some one =
+      let j = of.joins text place line lines read rest k s [] goes in
       let characters = spelled k.base ++ read in
-      let stack : brackets_of j.state.done ≡ Some [] = j.runs.stack ∙ ap (λ l. Some l) (j.same some).1 in
-      let reading = reading_at characters j.state j.runs.run (ap (λ (t : Scanned). is_final t.mode) (j.same some).0 ∙ final) stack in
+      let reading = reading_at characters j.state (subst (RunsTo characters j.state) (j.same some).1 j.runs) (ap (λ (t : Scanned). is_final t.mode) (j.same some).0 ∙ final) in
       let pieces = subst (λ l. IsBalancedReading l characters) j.pieces reading in
       record {
         characters = characters;

@@ -23,7 +23,9 @@ use Rattle.py_lines.specs.Private.Scan.{Closes, Tallies, is_returned, is_return_
 use Rattle.py_lines.specs.Private.Source.{first_mode}
 use Rattle.py_lines.specs.Private.Feed.{KeepsText, IsOpen, IsPart, FailsAt, ClosesLine, EndsWith, IsLastLine, IsEndFault, EndsHeld}
 use Rattle.py_lines.proofs.Machine.PieceRuns.{pieces_at}
+use Rattle.py_lines.proofs.Machine.Advance.{GoesTo}
 use Rattle.py_lines.proofs.LineScan.PieceEnd.{closes_shut}
+use Rattle.py_lines.proofs.LineScan.TextRun.{way_goes}
 use Rattle.py_lines.proofs.Readers.LineAnswers.{IsLine, Within}
 use Rattle.py_lines.proofs.Readers.EndAnswers.{end_return, within_open, line_at_text_end, line_at_return}
 use Rattle.py_lines.proofs.Feeds.Known.{IsKnown, is_known}
@@ -61,7 +63,7 @@ module _ (f : Feed) (read rest : List ℕ) (o : IsOpen f read rest) where
           let stop = open_stop f read rest o in
           let w : Within read f.scan.stop = record { front = read; later = []; split = append-nil read; size = stop } in
           let taken : take f.scan.stop f.held.items ≡ encode_utf8_all read = (within_held f read rest o f.scan.stop w).1 in
-          ended_bytes text f.place f.line lines read rest k (whole_at text lines ends) o.way.state (stack_of f.scan.brackets) o.way.runs o.way.stacked o.way.one_line (open_yet not_yet) d ds is bad fault
+          ended_bytes text f.place f.line lines read rest k (whole_at text lines ends) o.way.state (stack_of f.scan.brackets) (way_goes o.way) o.way.one_line (open_yet not_yet) d ds is bad fault
           (ap (λ (x : Fault). x.kind) same ∙ fails.is)
           (ap (λ (x : Fault). x.offset) same ∙ fails.at ∙ ap (λ (n : ℕ). f.place + n) stop)
           (ap (λ (x : Fault). x.line) same ∙ fails.number read (sym taken))
@@ -93,7 +95,7 @@ module _ (f : Feed) (read rest : List ℕ) (o : IsOpen f read rest) where
             let k = known_at text lines ends some in
             let w : Within read (open_behind o.way.state (stack_of f.scan.brackets)) = subst (Within read) place_is (unfinished_within behind unfinished) in
             let taken : take behind f.held.items ≡ encode_utf8_all w.front = ap (λ (n : ℕ). take n f.held.items) place_is ∙ (within_held f read rest o (open_behind o.way.state (stack_of f.scan.brackets)) w).1 in
-            ended_unfinished text f.place f.line lines read rest k (whole_at text lines ends) none o.way.state (stack_of f.scan.brackets) o.way.runs o.way.stacked o.way.one_line (open_yet not_yet) (omega (arith, some, open_size f read rest o, ap length none)) (open_so behind unfinished) fault
+            ended_unfinished text f.place f.line lines read rest k (whole_at text lines ends) none o.way.state (stack_of f.scan.brackets) (way_goes o.way) o.way.one_line (open_yet not_yet) (omega (arith, some, open_size f read rest o, ap length none)) (open_so behind unfinished) fault
             (ap (λ (x : Fault). x.kind) same ∙ fails.is ∙ ap end_kind o.way.tallies.mode)
             (ap (λ (x : Fault). x.offset) same ∙ fails.at ∙ ap (λ (n : ℕ). f.place + n) place_is)
             w
@@ -117,7 +119,7 @@ module _ (f : Feed) (read rest : List ℕ) (o : IsOpen f read rest) where
         lexed = λ text lines ends.
             let k = known_at text lines ends some in
             subst (λ (l : LogicalLine). IsLexed text (lines ++ l ∷ []) None) (sym is)
-            (ended_line text f.place f.line lines read rest k (whole_at text lines ends) none o.way.state o.way.runs (o.way.stacked ∙ ap (λ l. Some l) empty) (ap is_final (sym o.way.tallies.mode) ∙ final) line.some line.whole);
+            (ended_line text f.place f.line lines read rest k (whole_at text lines ends) none o.way.state (subst (GoesTo (line_start (first_mode f.place)) read o.way.state) empty (way_goes o.way)) (ap is_final (sym o.way.tallies.mode) ∙ final) line.some line.whole);
       }
 
   read_some : rest ≡ [] → 0 < length f.held.items → 0 < byte_len read

@@ -27,6 +27,7 @@ use Rattle.py_lines.proofs.Text.Incomplete.{part_none}
 use Rattle.py_lines.proofs.Lexings.DecidedFaults.{decided_lexing}
 use Rattle.py_lines.proofs.Readers.LineAnswers.{Within}
 use Rattle.py_lines.proofs.Readers.EndAnswers.{end_return}
+use Rattle.py_lines.proofs.LineScan.TextRun.{way_goes}
 use Rattle.py_lines.proofs.Feeds.Known.{is_known}
 use Rattle.py_lines.proofs.Feeds.DecidedSoFar.{refused_behind, decided_character, decided_bytes}
 use Rattle.py_lines.proofs.Feeds.Steps.{open_stop, within_held, refused_held, scalars_more, spell_more}
@@ -77,7 +78,7 @@ by_character f new read rest o fault c after scalar is r text lines first goes =
     let w : Within read (refused_behind way.state read) = subst (Within read) place_is (refused_held f read rest o) in
     let taken : take (refused_place f.scan) f.held.items ≡ encode_utf8_all w.front = ap (λ (n : ℕ). take n f.held.items) place_is ∙ (within_held f read rest o (refused_behind way.state read) w).1 in
     let not_yet : (is_return_mode way.state.mode && none_open (stack_of f.scan.brackets)) && not (is_line_feed c) ≡ false = ap (λ (m : Mode). (is_return_mode m && none_open (stack_of f.scan.brackets)) && not (is_line_feed c)) (sym way.tallies.mode) ∙ r.not_yet in
-    let both = decided_character text f.place f.line lines read c k way.state (stack_of f.scan.brackets) way.runs way.stacked way.one_line r.refuses not_yet fault
+    let both = decided_character text f.place f.line lines read c k way.state (stack_of f.scan.brackets) (way_goes way) way.one_line r.refuses not_yet fault
     (ap (λ (x : Fault). x.kind) same ∙ fails.is ∙ ap (λ (m : Mode). character_kind m c) way.tallies.mode)
     (ap (λ (x : Fault). x.offset) same ∙ fails.at ∙ ap (λ (n : ℕ). f.place + n) place_is)
     w
@@ -95,7 +96,7 @@ by_bytes f new read rest o fault way hopeless open_yet fails text lines first go
     let w : Within read f.scan.stop = record { front = read; later = []; split = append-nil read; size = stop } in
     let taken : take f.scan.stop f.held.items ≡ encode_utf8_all read = (within_held f read rest o f.scan.stop w).1 in
     let returned : is_return_mode way.state.mode && none_open (stack_of f.scan.brackets) ≡ false = ap (λ (m : Mode). is_return_mode m && none_open (stack_of f.scan.brackets)) (sym way.tallies.mode) ∙ open_yet in
-    let both = decided_bytes text f.place f.line lines read rest k way.state (stack_of f.scan.brackets) way.runs way.stacked way.one_line (end_return way.state.mode (stack_of f.scan.brackets) returned) d ds is hopeless fault
+    let both = decided_bytes text f.place f.line lines read rest k way.state (stack_of f.scan.brackets) (way_goes way) way.one_line (end_return way.state.mode (stack_of f.scan.brackets) returned) d ds is hopeless fault
     (ap (λ (x : Fault). x.kind) same ∙ fails.is)
     (ap (λ (x : Fault). x.offset) same ∙ fails.at ∙ ap (λ (n : ℕ). f.place + n) stop)
     (ap (λ (x : Fault). x.line) same ∙ fails.number read (sym taken)) in

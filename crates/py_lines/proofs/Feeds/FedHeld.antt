@@ -7,7 +7,7 @@ use Rattle.std.proofs.Math.Seq.{take-add, take-append_seam}
 use Rattle.py_lines.specs.Character.{is_return}
 use Rattle.py_lines.specs.Piece.{ends, spelled}
 use Rattle.py_lines.specs.LogicalLine.{LogicalLine}
-use Rattle.py_lines.specs.Piece.{AreReadBefore}
+use Rattle.py_lines.specs.PieceGrammar.{AreReadBefore}
 use Rattle.py_lines.specs.Lexed.{Decodes, IsBalancedReading, IsLive, EndsLine}
 use Rattle.py_lines.specs.Settled.{IsHopeless, IsSettled, Decides}
 use Rattle.py_lines.specs.Given.{AreFirstLines}
@@ -26,6 +26,7 @@ use Rattle.py_lines.proofs.Text.Incomplete.{part_none}
 use Rattle.py_lines.proofs.Machine.LiveTexts.{reading_live}
 use Rattle.py_lines.proofs.Faults.Uniqueness.{not_live}
 use Rattle.py_lines.proofs.Lexings.Uniqueness.{decoded}
+use Rattle.py_lines.proofs.LineScan.TextRun.{way_goes}
 use Rattle.py_lines.proofs.Feeds.Known.{IsKnown, known_after, is_known}
 use Rattle.py_lines.proofs.Feeds.SettledSoFar.{MayGetFeed, Follow, settled_open, settled_ready, ended_before}
 use Rattle.py_lines.proofs.Feeds.DecidedSoFar.{undecided}
@@ -54,14 +55,14 @@ module _ (text : List ℕ) (f : Feed) (lines : List LogicalLine) (first : AreFir
       let part = s.3 in
       let k = is_known text f.place f.line lines s.0 s.1 first o.scalars (subst (GoesOnWith text f.place) (sym o.spell) goes) (omega (arith, some, ap length o.spell)) in
       let last : MayGetFeed o.way.state.mode (stack_of f.scan.brackets) s.1 = may_get o.way.state.mode (stack_of f.scan.brackets) s.1 (λ h. part.last (ap (λ (m : Mode). is_return_mode m && none_open (stack_of f.scan.brackets)) o.way.tallies.mode ∙ h)) in
-      subst (λ l. IsSettled (take (f.place + length l) text) lines) o.spell (settled_open text f.place f.line lines s.0 s.1 k o.way.state (stack_of f.scan.brackets) o.way.runs o.way.stacked o.way.one_line part.none (omega (arith, some, ap length o.spell)) last)
+      subst (λ l. IsSettled (take (f.place + length l) text) lines) o.spell (settled_open text f.place f.line lines s.0 s.1 k o.way.state (stack_of f.scan.brackets) (way_goes o.way) o.way.one_line part.none (omega (arith, some, ap length o.spell)) last)
 
   pub undecided_scanned : 0 < length f.held.items → (fault : Fault) → ¬ (Decides (take (f.place + length f.held.items) text) fault)
   undecided_scanned some fault =
       let o = s.2 in
       let part = s.3 in
       let k = is_known text f.place f.line lines s.0 s.1 first o.scalars (subst (GoesOnWith text f.place) (sym o.spell) goes) (omega (arith, some, ap length o.spell)) in
-      subst (λ l. ¬ (Decides (take (f.place + length l) text) fault)) o.spell (undecided text f.place f.line lines s.0 s.1 k o.way.state (stack_of f.scan.brackets) o.way.runs o.way.stacked part.none part.more fault)
+      subst (λ l. ¬ (Decides (take (f.place + length l) text) fault)) o.spell (undecided text f.place f.line lines s.0 s.1 k o.way.state (stack_of f.scan.brackets) (way_goes o.way) part.none part.more fault)
 
 -- where a line has ended for good in what was held, the lines given aren't all that is settled
 pub never_before : (text : List ℕ) (new mid : Feed) (lines : List LogicalLine) (n : ℕ) (all after r : List ℕ) → IsEnded new n all after → encode_utf8_all all ++ r ≡ mid.held.items → EndsWhole all r → AreFirstLines text new.place new.line lines → GoesOnWith text new.place mid.held.items → (0 < length mid.held.items → IsSettled (take (new.place + length mid.held.items) text) lines) → ⊥
@@ -110,7 +111,7 @@ module _ (text : List ℕ) (place line : ℕ) (lines : List LogicalLine) (first 
   after_line : EndsLine first.pieces → ¬ (Decides (take (place + 0) text) fault)
   after_line ends =
       let k = known_after text place line lines [] [] first refl refl ends in
-      undecided text place line lines [] [] k (line_start (first_mode place)) [] refl refl nothing_bad part_none fault
+      undecided text place line lines [] [] k (line_start (first_mode place)) [] (record { run = refl; stack = refl }) nothing_bad part_none fault
 
   both_none : (a b : List ℕ) → a ++ b ≡ [] → (a ≡ []) × (b ≡ [])
   both_none [] b none = (refl, none)

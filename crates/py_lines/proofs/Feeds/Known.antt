@@ -6,18 +6,20 @@ use Rattle.std.specs.Str.{all_scalars, StartsWithNoChar}
 use Rattle.std.proofs.lemmas.List.{take-append-drop}
 use Rattle.std.proofs.lemmas.Str.{encodes-append}
 use Rattle.std.proofs.Math.Seq.{take-add, take-append_seam, drop-append_seam}
-use Rattle.py_lines.specs.Piece.{Piece, spelled, AreReadBefore}
+use Rattle.py_lines.specs.Piece.{Piece, spelled}
+use Rattle.py_lines.specs.PieceGrammar.{AreReadBefore}
 use Rattle.py_lines.specs.Balance.{IsBalanced, IsShallow}
 use Rattle.py_lines.specs.LogicalLine.{LogicalLine, lines_of, byte_len, line_ends}
 use Rattle.py_lines.specs.Lexed.{Decodes, EndsLine}
 use Rattle.py_lines.specs.Given.{AreFirstLines}
 use Rattle.py_lines.specs.Scanning.{GoesOnWith}
-use Rattle.py_lines.specs.Private.Machine.{Scanned, run_from, Bracket, brackets_of}
+use Rattle.py_lines.specs.Private.Machine.{Scanned, Bracket, brackets_of}
 use Rattle.py_lines.specs.Private.Scan.{line_start}
 use Rattle.py_lines.specs.Private.Source.{first_mode}
 use Rattle.py_lines.proofs.Text.Continued.{goes_on}
 use Rattle.py_lines.proofs.Text.Utf8Prefixes.{all_scalars-parts, all_scalars-append}
 use Rattle.py_lines.proofs.Pieces.OpenBrackets.{stack-from_balanced}
+use Rattle.py_lines.proofs.Machine.Advance.{GoesTo}
 use Rattle.py_lines.proofs.LineScan.TextRun.{Base, base_of, Joined, joined}
 
 -- the lines given, the characters read after them and the bytes left, which are all that is known of the text
@@ -98,5 +100,5 @@ module _ (text : List ℕ) (place line : ℕ) (lines : List LogicalLine) (read r
   stands = base_of place k.base (read ++ k.more) k.fit k.ended k.here
 
   -- the machine over the whole text so far
-  pub joins : (s : Scanned) (st : List Bracket) → run_from (Some (line_start (first_mode place))) read ≡ Some s → brackets_of s.done ≡ Some st → Joined k.base read s st k.more
-  joins s st runs stacked = joined place k.base k.more level read s st k.fit stands runs stacked
+  pub joins : (s : Scanned) (st : List Bracket) → GoesTo (line_start (first_mode place)) read s st → Joined k.base read s st k.more
+  joins s st goes = joined place k.base k.more level read s st k.fit stands goes

@@ -5,7 +5,8 @@ use Rattle.std.specs.Str.{StartsWithNoChar}
 use Rattle.std.proofs.lemmas.Bool.{cases_lt, and_from, false_from_ne_true}
 use Rattle.std.proofs.lemmas.Str.{encodes-append, encodes_same, encode_ascii}
 use Rattle.py_lines.specs.Character.{is_line_feed, is_return}
-use Rattle.py_lines.specs.Piece.{line_end, Piece, ends, spelled, AreReadBefore}
+use Rattle.py_lines.specs.Piece.{line_end, Piece, ends, spelled}
+use Rattle.py_lines.specs.PieceGrammar.{AreReadBefore}
 use Rattle.py_lines.specs.Balance.{depth_through}
 use Rattle.py_lines.specs.LogicalLine.{LogicalLine, cut, byte_len, line_of, lines_of}
 use Rattle.py_lines.specs.Lexed.{Decodes, IsBalancedReading, EndsLine}
@@ -28,6 +29,7 @@ use Rattle.py_lines.proofs.LogicalLines.NextLine.{lines_of-push, texts, texts-li
 use Rattle.py_lines.proofs.Lexings.LinePrefix.{read-alone}
 use Rattle.py_lines.proofs.Lexings.SettledLines.{ends-line}
 use Rattle.py_lines.proofs.Machine.PieceRuns.{scanned, pieces_at}
+use Rattle.py_lines.proofs.Machine.Advance.{GoesTo}
 use Rattle.py_lines.proofs.Lexings.SettledFront.{EndsNoneYet, settled_at, settled_line}
 use Rattle.py_lines.proofs.LineScan.NextCharacter.{closed_one_line}
 use Rattle.py_lines.proofs.LineScan.LineRun.{sound_run}
@@ -52,17 +54,17 @@ nothing_known (c ∷ cs) rest h = absurd (cc)
 
 module _ (text : List ℕ) (place line : ℕ) (lines : List LogicalLine) (read rest : List ℕ) (k : IsKnown text place line lines read rest) where
   -- no line has ended since
-  pub settled_open : (s : Scanned) (st : List Bracket) → run_from (Some (line_start (first_mode place))) read ≡ Some s → brackets_of s.done ≡ Some st → EndsNoLine 0 s.done → StartsWithNoChar rest → 0 < length (encode_utf8_all read ++ rest) → MayGetFeed s.mode st rest → IsSettled (of.bytes text place line lines read rest k) lines
-  settled_open s st runs stacked one_line bad some last =
-      let j = of.joins text place line lines read rest k s st runs stacked in
-      let sound = sound_run (first_mode place) read s (begun_sound place) runs in
+  pub settled_open : (s : Scanned) (st : List Bracket) → GoesTo (line_start (first_mode place)) read s st → EndsNoLine 0 s.done → StartsWithNoChar rest → 0 < length (encode_utf8_all read ++ rest) → MayGetFeed s.mode st rest → IsSettled (of.bytes text place line lines read rest k) lines
+  settled_open s st goes one_line bad some last =
+      let j = of.joins text place line lines read rest k s st goes in
+      let sound = sound_run (first_mode place) read s (begun_sound place) goes.run in
       let good : EndsForGood k.base (read ++ rest) = (k.ended, λ none. absurd (omega (arith, some, nothing_known read rest none))) in
       record {
         characters = spelled k.base ++ read;
         tail = rest;
         pieces = k.base;
         decodes = of.decodes text place line lines read rest k bad;
-        front = settled_at (spelled k.base ++ read) rest j.state j.st k.base (pieces_at s) read j.runs j.pieces good (ends_none s.mode s.done s.held read rest st sound stacked one_line last) refl;
+        front = settled_at (spelled k.base ++ read) rest j.state j.st k.base (pieces_at s) read j.runs j.pieces good (ends_none s.mode s.done s.held read rest st sound goes.stack one_line last) refl;
         cut = k.cut;
       }
 

@@ -8,8 +8,9 @@ use Rattle.py_lines.specs.Lexed.{Decodes, IsBalancedReading, IsLive, EndsLine, I
 use Rattle.py_lines.specs.declared.fault.FaultKind.{FaultKind}
 use Rattle.py_lines.specs.declared.fault.FaultKind.TheVariants as faults
 use Rattle.py_lines.specs.declared.fault.Fault.{Fault}
-use Rattle.py_lines.specs.Private.Machine.{Scanned, is_final, character_kind, character_place, end_kind, end_place, Bracket, RunsTo}
+use Rattle.py_lines.specs.Private.Machine.{Scanned, is_final, character_kind, character_place, end_kind, end_place, Bracket}
 use Rattle.py_lines.proofs.Machine.PieceRuns.{pieces_at}
+use Rattle.py_lines.proofs.Machine.Advance.{RunsTo}
 use Rattle.py_lines.proofs.Machine.LiveTexts.{reading_at, reading_live, runs_live}
 use Rattle.py_lines.proofs.Faults.FaultPlaces.{character_fault, end_fault}
 use Rattle.py_lines.proofs.Lexings.LinePrefix.{EndsNoLine, front_is, live_prefix, Either, either}
@@ -47,7 +48,7 @@ line_at fault characters is before after spell place =
 
 -- the text is read, where the machine may stop with no bracket open
 pub read_at : (text characters : List ℕ) (s : Scanned) → Decodes text characters [] → RunsTo characters s [] → is_final s.mode ≡ true → IsLexedWhole text (lines_of (pieces_at s))
-read_at text characters s decodes runs may = record { characters = characters; pieces = pieces_at s; decodes = decodes; reading = reading_at characters s runs.run may runs.stack; cut = refl }
+read_at text characters s decodes runs may = record { characters = characters; pieces = pieces_at s; decodes = decodes; reading = reading_at characters s runs may; cut = refl }
 
 -- the prefix that a reader has given: up to the last line end at depth 0
 pub record HasFront (s : Scanned) (front : List Piece) : Type 0 where

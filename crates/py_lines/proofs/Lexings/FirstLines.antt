@@ -3,7 +3,8 @@ use Rattle.std.proofs.Common.{◌≡◌, ℕ, ◌+◌, true, false, ◌&&◌, �
 use Rattle.std.proofs.lemmas.Bool.{cond_both, both_ways, cases_Bool, and_parts, eqb-true}
 use Rattle.std.proofs.lemmas.List.{append_cancel_left}
 use Rattle.std.specs.Prelude.{encode_utf8_all}
-use Rattle.py_lines.specs.Piece.{Class, line_end, Piece, spelled, AreReadBefore}
+use Rattle.py_lines.specs.Piece.{Class, line_end, Piece, spelled}
+use Rattle.py_lines.specs.PieceGrammar.{AreReadBefore}
 use Rattle.py_lines.specs.Balance.{IsBalanced, IsShallow, depth_after, depth_through}
 use Rattle.py_lines.specs.LogicalLine.{LogicalLine, is_line_end_class, byte_len, line_ends, lines_of}
 use Rattle.py_lines.specs.Lexed.{Decodes, IsBalancedReading, IsLive, EndsLine, IsLexed, BeginsLexing}
@@ -12,13 +13,14 @@ use Rattle.py_lines.specs.declared.fault.FaultKind.{FaultKind}
 use Rattle.py_lines.specs.declared.fault.FaultKind.TheVariants as faults
 use Rattle.py_lines.specs.declared.fault.Fault.{Fault}
 use Rattle.py_lines.specs.declared.mode.Mode.TheVariants as modes
-use Rattle.py_lines.specs.Private.Machine.{Scanned, text_start, run_from, is_final, in_short, is_behind_slash, character_kind, character_place, end_kind, end_place, Bracket, RunsTo}
+use Rattle.py_lines.specs.Private.Machine.{Scanned, text_start, run_from, is_final, in_short, is_behind_slash, character_kind, character_place, end_kind, end_place, Bracket}
 use Rattle.py_lines.specs.Private.Scan.{line_start, EndsNoLine}
 use Rattle.py_lines.proofs.Faults.FaultPrefixes.{FrontTo, end_rest}
 use Rattle.py_lines.proofs.Machine.PieceRuns.{pieces_at, run_from-append}
 use Rattle.py_lines.proofs.Machine.ReadingRuns.{reach}
 use Rattle.py_lines.proofs.Pieces.OpenBrackets.{depth_through-append}
 use Rattle.py_lines.proofs.Machine.Soundness.{sound_at}
+use Rattle.py_lines.proofs.Machine.Advance.{RunsTo}
 use Rattle.py_lines.proofs.Machine.LiveTexts.{reading_live, live_runs}
 use Rattle.py_lines.proofs.Machine.OpenStrings.{same_state}
 use Rattle.py_lines.proofs.Faults.FaultPlaces.{end_fault, unread_at}

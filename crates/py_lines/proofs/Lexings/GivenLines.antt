@@ -5,7 +5,8 @@ use Rattle.std.specs.Str.{StartsWithNoChar}
 use Rattle.std.proofs.lemmas.List.{take-append-drop, nil_from_length}
 use Rattle.std.proofs.lemmas.Str.{encodes-append, length-le-encodes}
 use Rattle.std.proofs.Math.Seq.{drop-append_seam}
-use Rattle.py_lines.specs.Piece.{line_end, Piece, spelled, AreReadBefore}
+use Rattle.py_lines.specs.Piece.{line_end, Piece, spelled}
+use Rattle.py_lines.specs.PieceGrammar.{AreReadBefore}
 use Rattle.py_lines.specs.Balance as brackets
 use Rattle.py_lines.specs.Balance.{IsBalanced, IsShallow, depth_through}
 use Rattle.py_lines.specs.LogicalLine.{LogicalLine, cut, byte_len, line_ends, line_of, lines_of}

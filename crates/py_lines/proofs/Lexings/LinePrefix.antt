@@ -3,7 +3,8 @@ use Rattle.std.proofs.Common.{◌≡◌, ℕ, ◌+◌, ◌≤◌, Option, None, 
 use Rattle.std.proofs.lemmas.List.{same_from_push}
 use Rattle.std.proofs.lemmas.Bool.{cond_both, both_ways, and_right, and_from, eq-eqb}
 use Rattle.py_lines.specs.Character.{is_line_feed}
-use Rattle.py_lines.specs.Piece.{Class, mark, space, word, string, operator, comment, join, line_end, Piece, InClass, IsLineEnd, feed, return_feed, return, MayPrecede, is_mark_class, spelled, AreReadBefore}
+use Rattle.py_lines.specs.Piece.{Class, mark, space, word, string, operator, comment, join, line_end, Piece, is_mark_class, spelled}
+use Rattle.py_lines.specs.PieceGrammar.{InClass, IsLineEnd, feed, return_feed, return, MayPrecede, AreReadBefore}
 use Rattle.py_lines.specs.Balance.{depth_after, depth_through}
 use Rattle.py_lines.specs.LogicalLine.{is_line_end_class}
 use Rattle.py_lines.specs.Lexed.{IsBalancedReading, IsLive, EndsLine, IsFront}
@@ -12,14 +13,15 @@ use Rattle.py_lines.specs.declared.mode.Mode.{Mode}
 use Rattle.py_lines.specs.declared.mode.Mode.TheVariants as modes
 use Rattle.py_lines.specs.declared.mode.Move.{Move}
 use Rattle.py_lines.specs.declared.mode.Start.{Start}
-use Rattle.py_lines.specs.Private.Machine.{Scanned, fresh, text_start, class_of, closed, started, moved, run_from, move_of, start_of, Bracket, brackets_of, RunsTo}
+use Rattle.py_lines.specs.Private.Machine.{Scanned, fresh, text_start, class_of, closed, started, moved, run_from, move_of, start_of, Bracket, brackets_of}
 use Rattle.py_lines.proofs.Pieces.PieceLists.{piece, spelled-append, spelled-push, AreReadBefore-append, AreReadBefore-first, AreReadBefore-second, follows_any}
 use Rattle.py_lines.proofs.Machine.PieceRuns.{pieces_at}
 use Rattle.py_lines.proofs.Machine.ReadingRuns.{reach}
 use Rattle.py_lines.proofs.Pieces.OpenBrackets.{stands, stack_before, balanced-from_stack, depth_through-append}
 use Rattle.py_lines.specs.Private.Machine.{Holds}
 use Rattle.py_lines.proofs.Machine.Soundness.{sound_at, ends_sound}
-use Rattle.py_lines.proofs.Machine.LiveTexts.{GrowsIf, closed_grows, started_grows, run_grows, run_before, stack_closed, reading_live, live_runs, runs_live}
+use Rattle.py_lines.proofs.Machine.Advance.{RunsTo, GrowsIf, closed_grows, started_grows, run_grows, run_before, goes_before}
+use Rattle.py_lines.proofs.Machine.LiveTexts.{stack_closed, reading_live, live_runs, runs_live}
 use Rattle.py_lines.proofs.Machine.OpenStrings.{same_state}
 
 -- what a piece may stand before depends on the first character alone
@@ -197,10 +199,8 @@ closed_spells m done held holds = spelled-push done (class_of m) held
 pub live_prefix : (xs ys : List ℕ) → IsLive (xs ++ ys) → IsLive xs
 live_prefix xs ys live =
     let whole = live_runs (xs ++ ys) live in
-    let first = run_before (Some text_start) xs ys whole.0 whole.2.run in
-    let grown : GrowsIf first.0.done (Some whole.0) = subst (GrowsIf first.0.done) first.2 (run_grows ys (Some first.0) first.0.done ([], sym (append-nil first.0.done))) in
-    let stack = stack_before first.0.done grown.0 whole.1 (ap brackets_of (sym grown.1) ∙ whole.2.stack) in
-    runs_live xs first.0 stack.0 (record { run = first.1; stack = stack.1 })
+    let first = goes_before xs ys whole.2 in
+    runs_live xs first.0 first.1 first.2
 
 nil_left : (k others : List Piece) → [] ≡ k ++ others → k ≡ []
 nil_left [] others h = refl

@@ -2,7 +2,8 @@
 use Rattle.std.proofs.Common.{◌≡◌, ℕ, true, false, Option, None, Some, List, [], ◌∷◌, ◌++◌, length, refl, sym, ap, ◌∙◌, subst, ⊎_elim, inl, inr, append_assoc, append-nil, length-append, arith}
 use Rattle.std.proofs.lemmas.Bool.{cases_Bool, both_ways}
 use Rattle.py_lines.specs.Character.{is_return}
-use Rattle.py_lines.specs.Piece.{line_end, Piece, ends, InClass, IsLineEnd, feed, return_feed, return, spelled, AreReadBefore}
+use Rattle.py_lines.specs.Piece.{line_end, Piece, ends, spelled}
+use Rattle.py_lines.specs.PieceGrammar.{InClass, IsLineEnd, feed, return_feed, return, AreReadBefore}
 use Rattle.py_lines.specs.Balance.{depth_through}
 use Rattle.py_lines.specs.LogicalLine.{LogicalLine, lines_of}
 use Rattle.py_lines.specs.Lexed.{IsBalancedReading, EndsLine, IsLexedWhole, IsLexedToFault, IsLexed}
@@ -59,7 +60,7 @@ module _ (text : List ℕ) (lines : List LogicalLine) (w : IsLexedWhole text lin
       let run = run_of_reading w.pieces w.characters w.reading in
       let spell : spelled base ++ spelled others ≡ w.characters = sym (spelled-append base others) ∙ ap spelled (sym is) ∙ w.reading.spell in
       let stays : EndsForGood base (spelled others ++ []) = (ended, λ none. good (none_both (spelled others) [] none).0) in
-      let front = settled_at w.characters [] run.to [] base others (spelled others) (record { run = run.runs; stack = run.stack }) (run.pieces_are ∙ is) stays yet spell in
+      let front = settled_at w.characters [] run.to [] base others (spelled others) run.runs (run.pieces_are ∙ is) stays yet spell in
       (lines_of base, record { characters = w.characters; tail = []; pieces = base; decodes = w.decodes; front = front; cut = refl })
 
   -- the last line end is CR at the text's end: LF may follow, so the lines end at the line end before it

@@ -3,17 +3,19 @@ use Rattle.std.proofs.Common.{◌≡◌, ℕ, ◌+◌, ◌≤◌, ◌⊎◌, tru
 use Rattle.std.proofs.lemmas.Bool.{both_ways}
 use Rattle.std.proofs.lemmas.List.{nil_from_length}
 use Rattle.py_lines.specs.Character.{is_line_feed, is_return}
-use Rattle.py_lines.specs.Piece.{line_end, Piece, ends, InClass, IsLineEnd, feed, return_feed, return, spelled}
+use Rattle.py_lines.specs.Piece.{line_end, Piece, ends, spelled}
+use Rattle.py_lines.specs.PieceGrammar.{InClass, IsLineEnd, feed, return_feed, return}
 use Rattle.py_lines.specs.Balance.{depth_through}
 use Rattle.py_lines.specs.Lexed.{IsBalancedReading}
 use Rattle.py_lines.specs.Settled.{EndsForGood, IsSettledFront}
-use Rattle.py_lines.specs.Private.Machine.{Scanned, text_start, run_from, Bracket, brackets_of, RunsTo}
+use Rattle.py_lines.specs.Private.Machine.{Scanned, text_start, run_from, Bracket, brackets_of}
 use Rattle.py_lines.proofs.Pieces.PieceLists.{piece, spelled-append, AreReadBefore-second}
 use Rattle.py_lines.proofs.Pieces.OpenBrackets.{balanced-from_stack, depth_through-append}
 use Rattle.py_lines.proofs.Machine.PieceRuns.{pieces_at}
 use Rattle.py_lines.proofs.Machine.ReadingRuns.{reach}
 use Rattle.py_lines.proofs.Machine.Soundness.{sound_at}
-use Rattle.py_lines.proofs.Machine.LiveTexts.{run_before, stack_closed}
+use Rattle.py_lines.proofs.Machine.Advance.{RunsTo, run_before}
+use Rattle.py_lines.proofs.Machine.LiveTexts.{stack_closed}
 use Rattle.py_lines.proofs.Machine.OpenStrings.{same_state}
 use Rattle.py_lines.proofs.Lexings.LinePrefix.{EndsNoLine, Stays, Split, split, closed_spells, depth_front, front_fits, front_stack, length_line, line_first, line_stays, no_end_in, within}
 use Rattle.py_lines.proofs.Lexings.SettledLines.{ends-append, ends-line}
@@ -58,7 +60,7 @@ settled_at characters tail s st base others rest runs pieces good yet spell =
     -- a rival that ends with the CR ends with the known bytes, so not for good
     at_return : (rivals : List Piece) (after : List ℕ) (body : List Piece) (last line : Piece) (text : List ℕ) → spelled rivals ++ after ≡ characters → rivals ≡ body ++ last ∷ [] → IsBalancedReading rivals (spelled rivals) → last.class ≡ line_end → (after ++ tail ≡ [] → ends is_return (spelled rivals) ≡ false) → pieces_at s ≡ body ++ line ∷ [] → line ≡ piece line_end text → text ≡ 13 ∷ [] → tail ≡ [] → ⊥
     at_return rivals after body last line text spells is reading class settles at is_line cr bare =
-        let fit = subst (λ l. Rattle.py_lines.specs.Piece.AreReadBefore l []) is reading.fit in
+        let fit = subst (λ l. Rattle.py_lines.specs.PieceGrammar.AreReadBefore l []) is reading.fit in
         let some = line_first last class (AreReadBefore-second body (last ∷ []) [] fit).0 in
         let one : length line.text ≡ 1 = ap (λ (p : Piece). length p.text) is_line ∙ ap length cr in
         let mine : length characters ≡ length (spelled body) + (length line.text + 0) = ap length (sym whole) ∙ ap (λ l. length (spelled l)) at ∙ length_line body line [] in
@@ -124,7 +126,7 @@ settled_line characters tail front rest spell reading good near = record { rest 
         let short : length (spelled others) ≡ 0 = ap (λ l. length (spelled l)) empty in
         omega arith
     not_last c others is other bare spells read (inr (body, last, split_at, class, deep), settles) =
-        let fit = subst (λ l. Rattle.py_lines.specs.Piece.AreReadBefore l []) split_at read.fit in
+        let fit = subst (λ l. Rattle.py_lines.specs.PieceGrammar.AreReadBefore l []) split_at read.fit in
         let holds = (AreReadBefore-second body (last ∷ []) [] fit).0 in
         let all : spelled others ≡ spelled front ++ c ∷ [] = sym (append-nil (spelled others)) ∙ spells ∙ sym spell ∙ ap (λ t. spelled front ++ t) is in
         let no_cr : ends is_return last.text ≡ false = sym (ends-line is_return body last class holds) ∙ ap (λ (l : List Piece). ends is_return (spelled l)) (sym split_at) ∙ settles bare in

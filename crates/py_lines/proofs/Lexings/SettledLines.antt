@@ -4,7 +4,8 @@ use Rattle.std.specs.Prelude.{encode_utf8_all}
 use Rattle.std.specs.Str.{StartsWithNoChar, all_scalars}
 use Rattle.std.proofs.lemmas.Bool.{cases_Bool, both_ways, and_right}
 use Rattle.py_lines.specs.Character.{is_return, is_line_feed}
-use Rattle.py_lines.specs.Piece.{line_end, Piece, ends, begins, InClass, IsLineEnd, feed, return_feed, return, MayPrecede, spelled, AreReadBefore}
+use Rattle.py_lines.specs.Piece.{line_end, Piece, ends, begins, spelled}
+use Rattle.py_lines.specs.PieceGrammar.{InClass, IsLineEnd, feed, return_feed, return, MayPrecede, AreReadBefore}
 use Rattle.py_lines.specs.Balance.{depth_through}
 use Rattle.py_lines.specs.LogicalLine.{LogicalLine, byte_len, line_ends}
 use Rattle.py_lines.specs.Lexed.{IsBalancedReading, EndsLine, BeginsLexing}

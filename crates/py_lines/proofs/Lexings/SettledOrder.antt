@@ -5,7 +5,8 @@ use Rattle.std.specs.Str.{all_scalars}
 use Rattle.std.proofs.lemmas.Bool.{cond_both}
 use Rattle.std.proofs.lemmas.List.{take-append-drop, length-take}
 use Rattle.std.proofs.lemmas.Str.{length-le-encodes}
-use Rattle.py_lines.specs.Piece.{Class, mark, space, word, string, operator, comment, join, line_end, Piece, InClass, feed, return_feed, return, joined, spelled, AreReadBefore}
+use Rattle.py_lines.specs.Piece.{Class, mark, space, word, string, operator, comment, join, line_end, Piece, spelled}
+use Rattle.py_lines.specs.PieceGrammar.{InClass, feed, return_feed, return, joined, AreReadBefore}
 use Rattle.py_lines.specs.Balance.{depth_after}
 use Rattle.py_lines.specs.LogicalLine.{is_line_end_class, put_first, cut, LogicalLine, byte_len, line_ends, lines_from}
 use Rattle.py_lines.specs.Lexed.{BeginsLexing}

@@ -3,10 +3,10 @@ use Rattle.std.proofs.Common.{◌≡◌, ℕ, zero, suc, ◌+◌, ◌<◌, Bool,
 use Rattle.std.specs.Prelude.{if◌then◌else◌}
 use Rattle.std.proofs.lemmas.Bool.{and_parts}
 use Rattle.py_lines.specs.Balance.{is_opening, is_closing}
-use Rattle.py_lines.specs.Character.{is_space, is_operator, is_quote, is_line_feed, is_hash}
+use Rattle.py_lines.specs.Character.{is_space, is_operator, is_quote, is_line_feed, is_return, is_hash, is_backslash}
 use Rattle.py_lines.specs.declared.run.FirstByte.{FirstByte}
 use Rattle.py_lines.specs.declared.run.FirstByte.TheVariants as first
-use Rattle.py_lines.specs.Private.Run.{BeginsSo, is_word_byte, is_apart}
+use Rattle.py_lines.specs.Private.Run.{BeginsSo, is_word_byte}
 
 -- whether a byte begins so
 abbrev pub fits : FirstByte → ℕ → Bool
@@ -16,8 +16,9 @@ fits first.Operator b = is_operator b && (not (is_opening b) && not (is_closing 
 fits first.Bracket b = is_operator b
 fits first.Quote b = is_quote b
 fits first.LineFeed b = is_line_feed b
+fits first.Return b = is_return b
 fits first.Hash b = is_hash b
-fits first.Apart b = is_apart b
+fits first.Backslash b = is_backslash b
 fits first.Other b = true
 
 not_so : (b : Bool) → not b ≡ true → b ≡ false
@@ -34,8 +35,9 @@ fits_begins first.Operator b h =
 fits_begins first.Bracket b h = h
 fits_begins first.Quote b h = h
 fits_begins first.LineFeed b h = h
+fits_begins first.Return b h = h
 fits_begins first.Hash b h = h
-fits_begins first.Apart b h = h
+fits_begins first.Backslash b h = h
 fits_begins first.Other b h = tt
 
 -- whether each byte of a table does, from one byte on
@@ -60,9 +62,10 @@ begun b =
     else (if is_operator b then first.Operator
     else (if is_quote b then first.Quote
     else (if is_line_feed b then first.LineFeed
+    else (if is_return b then first.Return
     else (if is_hash b then first.Hash
-    else (if is_apart b then first.Apart
-    else first.Other)))))))
+    else (if is_backslash b then first.Backslash
+    else first.Other))))))))
 
 -- the table of so many bytes, from one on
 abbrev pub table : ℕ → ℕ → List FirstByte

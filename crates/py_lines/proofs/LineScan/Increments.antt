@@ -3,7 +3,8 @@ use Rattle.std.proofs.Common.{◌≡◌, ℕ, ◌+◌, Bool, true, false, not, �
 use Rattle.std.specs.Prelude.{if◌then◌else◌}
 use Rattle.std.proofs.lemmas.Bool.{and_right, both_ways}
 use Rattle.py_lines.specs.Character.{is_line_feed, is_return}
-use Rattle.py_lines.specs.Piece.{line_end, Piece, ends, return, spelled, AreReadBefore}
+use Rattle.py_lines.specs.Piece.{line_end, Piece, ends, spelled}
+use Rattle.py_lines.specs.PieceGrammar.{return, AreReadBefore}
 use Rattle.py_lines.specs.Balance.{depth_after, depth_through}
 use Rattle.py_lines.specs.LogicalLine.{is_line_end_class, byte_len, ends_line, line_ends}
 use Rattle.py_lines.specs.Lexed.{EndsLine}

@@ -4,7 +4,8 @@ use Rattle.std.specs.Prelude.{encode_utf8_all}
 use Rattle.std.proofs.lemmas.Bool.{both_ways, and_right}
 use Rattle.std.proofs.lemmas.Str.{encodes_same}
 use Rattle.py_lines.specs.Character.{is_line_feed, is_return}
-use Rattle.py_lines.specs.Piece.{line_end, Piece, ends, begins, return, spelled}
+use Rattle.py_lines.specs.Piece.{line_end, Piece, ends, begins, spelled}
+use Rattle.py_lines.specs.PieceGrammar.{return}
 use Rattle.py_lines.specs.LogicalLine.{byte_len, line_ends}
 use Rattle.py_lines.specs.declared.mode.Mode.{Mode}
 use Rattle.py_lines.specs.declared.mode.Mode.TheVariants as modes

@@ -1,6 +1,6 @@
 -- The scan of a line goes on in more text, and stops.
-use Rattle.std.proofs.Common.{◌≡◌, ℕ, ◌+◌, ◌≤◌, Bool, true, false, not, ◌&&◌, Option, Some, Ok, Bor, List, [], ◌∷◌, ◌++◌, length, inl, inr, refl, sym, ap, ◌∙◌, subst, arith, length-append, lit<, get_or}
-use Rattle.std.specs.Prelude.{encode_utf8, encode_utf8_all, IsUtf8, IfSome}
+use Rattle.std.proofs.Common.{◌≡◌, ℕ, ◌+◌, ◌≤◌, Bool, true, false, not, ◌&&◌, Ok, Bor, List, [], ◌∷◌, ◌++◌, length, inl, inr, refl, sym, ap, ◌∙◌, subst, arith, length-append, lit<, get_or}
+use Rattle.std.specs.Prelude.{encode_utf8, encode_utf8_all, IsUtf8}
 use Rattle.std.proofs.lemmas.Bool.{and_parts, both_ways, false_from_ne_true}
 use Rattle.std.proofs.lemmas.Str.{encode_ascii, encode_same, encodes_same, length-encode, len_utf8_bounds}
 use Rattle.py_lines.specs.Character.{is_line_feed, is_return}
@@ -10,11 +10,13 @@ use Rattle.py_lines.specs.declared.mode.Mode.TheVariants as modes
 use Rattle.py_lines.specs.declared.scan.Progress.{Progress}
 use Rattle.py_lines.specs.declared.scan.Progress.TheVariants as progress
 use Rattle.py_lines.specs.declared.scan.Scan.{Scan}
+use Rattle.py_lines.specs.declared.scan.Left.{Left}
+use Rattle.py_lines.specs.declared.scan.Left.TheVariants as lefts
 use Rattle.py_lines.specs.declared.scan.Stop.{Stop}
 use Rattle.py_lines.specs.declared.scan.Stop.TheVariants as stops
 use Rattle.py_lines.specs.Private.Machine.{Scanned, IsSound, start_of}
 use Rattle.py_lines.specs.Private.Scan.{Tallies, IsStacked, Takes, Begins, Closes, line_start, stack_of, none_open, is_returned, is_return_mode, EndsNoLine, IsAtLineEnd, EndsWhole, ScansIn, Scans}
-use Rattle.py_lines.specs.Private.Run.{Holds, HasAsciiQuote, Reached, ReachedShut, is_free}
+use Rattle.py_lines.specs.Private.Run.{Holds, HasAsciiQuote, Reached, ReachedShut, IsNoLonger, LeavesOff, is_free}
 use Rattle.py_lines.proofs.LineScan.EarlyEnds.{TakesFrom, taken_free, taken_open, stands_reached, stands_shut, shut_none}
 use Rattle.py_lines.proofs.LineScan.ShortPieces.{free_is, open_reached}
 use Rattle.py_lines.proofs.Text.CharacterTests.{feed_from, feed_is}
@@ -42,13 +44,20 @@ StandsBefore old text = (m : Mode) × (line : ℕ) × (whole : List ℕ) × IsUt
 abbrev pub ShutsTo : Scan → List ℕ → Scan → List ℕ → Type 0
 ShutsTo old text new rest = (m : Mode) (line : ℕ) (whole : List ℕ) → IsUtf8 whole → IsSound (line_start m) [] → Reached m line whole old text → ReachedShut m line whole new rest
 
--- what an option holds
-pub some_of : {X : Type 0} (P : X → Type 0) (o : Option X) (x : X) → o ≡ Some x → IfSome o P → P x
-some_of {X} P o x is h = subst (λ (p : Option X). IfSome p P) is h
+-- what pieces leave
+abbrev pub Leaves : Scan → List ℕ → Scan → Left → Type 0
+Leaves old before new left = (m : Mode) (line : ℕ) (whole : List ℕ) → IsUtf8 whole → IsSound (line_start m) [] → Reached m line whole old before → LeavesOff m line whole new left
 
--- the text that is left after closed pieces
-pub left_shuts : (first : Scan) (text : List ℕ) (old : Scan) (before : List ℕ) (new : Scan) (left : Option (Bor (List ℕ))) (rest : Bor (List ℕ)) → left ≡ Some rest → GoesTo first text old before → ((m : Mode) (line : ℕ) (whole : List ℕ) → IsUtf8 whole → IsSound (line_start m) [] → Reached m line whole old before → IfSome left (λ r. ReachedShut m line whole new r.now)) → ShutsTo first text new rest.now
-left_shuts first text old before new left rest is goes shuts m line whole utf8 start r = some_of (λ (b : Bor (List ℕ)). ReachedShut m line whole new b.now) left rest is (shuts m line whole utf8 start (goes m line whole utf8 start r))
+-- the text that is left after them
+pub left_shuts : (first : Scan) (text : List ℕ) (old : Scan) (before : List ℕ) (new : Scan) (left : Left) (rest : Bor (List ℕ)) → left ≡ lefts.Text rest → GoesTo first text old before → Leaves old before new left → ShutsTo first text new rest.now
+left_shuts first text old before new left rest is goes leaves m line whole utf8 start r = subst (LeavesOff m line whole new) is (leaves m line whole utf8 start (goes m line whole utf8 start r))
+
+pub left_length : (text : List ℕ) (left : Left) (rest : Bor (List ℕ)) → left ≡ lefts.Text rest → IsNoLonger text left → length rest.now ≤ length text
+left_length text left rest is shorter = subst (IsNoLonger text) is shorter
+
+-- and the line's end
+pub left_ends : (first : Scan) (text : List ℕ) (old : Scan) (before : List ℕ) (new : Scan) (left : Left) (len : ℕ) → left ≡ lefts.LineEnd len → GoesTo first text old before → Leaves old before new left → StopsNow first text new (stops.LineEnd len)
+left_ends first text old before new left len is goes leaves m line whole utf8 start r = subst (LeavesOff m line whole new) is (leaves m line whole utf8 start (goes m line whole utf8 start r))
 
 -- what a character comes to, wherever the machine is
 pub record TakesTo (old : Scan) (c : ℕ) (p : Progress) (new : Scan) : Type 0 where
@@ -120,6 +129,25 @@ pub goes_run : (first : Scan) (text : List ℕ) (old new : Scan) (before rest : 
 goes_run first text old new before rest goes holds m line whole utf8 start r = reached_run m line whole old new before rest (goes m line whole utf8 start r) holds
 
 module _ (first : Scan) (text : List ℕ) (old : Scan) (before : List ℕ) (shuts : ShutsTo first text old before) where
+  -- the line had ended with CR, before what follows
+  pub stops_before : (new : Scan) → is_returned old ≡ true → ((read : List ℕ) → EndsWhole read before) → Closes old new → StopsNow first text new (stops.LineEnd 1)
+  stops_before new ended apart_from_it closes m line whole utf8 start r =
+      let parts = and_parts _ _ ended in
+      let o = open_reached m line whole old before (return_open old.piece.mode parts.0) (shuts m line whole utf8 start r) in
+      let returns = return_ends o.way.state o.read (sound_run m o.read o.way.state start o.way.runs) (ap is_return_mode (sym o.way.tallies.mode) ∙ parts.0) in
+      record {
+        read = o.read;
+        rest = before;
+        scalars = o.scalars;
+        spell = o.spell;
+        stops = ((λ after apart. returned m old new o.read (encode_utf8_all after) o.way start parts.0 parts.1 closes (λ a spells. ap (begins is_line_feed) (encodes_same a after spells) ∙ apart returns)), apart_from_it o.read);
+        number = closes.line ∙ o.line;
+      }
+    where
+      return_open : (n : Mode) → is_return_mode n ≡ true → is_free n ≡ false
+      return_open modes.Return h = refl
+      return_open n h = absurd (both_ways _ refl h)
+
   module _ (c : ℕ) (rest : List ℕ) (is : before ≡ encode_utf8 c ++ rest) (new : Scan) where
     -- where the machine takes it
     taken_at : (p : Progress) (m : Mode) (line : ℕ) (whole : List ℕ) → IsSound (line_start m) [] → is_returned old && not (is_line_feed c) ≡ false → TakesTo old c p new → ReachedShut m line whole old before → TakesFrom m line whole before c p new
@@ -153,23 +181,9 @@ module _ (first : Scan) (text : List ℕ) (old : Scan) (before : List ℕ) (shut
 
     -- the line had ended before it
     pub stops_returned : is_returned old && not (is_line_feed c) ≡ true → Closes old new → StopsNow first text new (stops.LineEnd 1)
-    stops_returned ended closes m line whole utf8 start r =
+    stops_returned ended closes =
         let both = and_parts _ _ ended in
-        let parts = and_parts _ _ both.0 in
-        let o = open_reached m line whole old before (return_open old.piece.mode parts.0) (shuts m line whole utf8 start r) in
-        let returns = return_ends o.way.state o.read (sound_run m o.read o.way.state start o.way.runs) (ap is_return_mode (sym o.way.tallies.mode) ∙ parts.0) in
-        record {
-          read = o.read;
-          rest = before;
-          scalars = o.scalars;
-          spell = o.spell;
-          stops = ((λ after apart. returned m old new o.read (encode_utf8_all after) o.way start parts.0 parts.1 closes (λ a spells. ap (begins is_line_feed) (encodes_same a after spells) ∙ apart returns)), other_whole o.read before c rest is (not_true (is_line_feed c) both.1));
-          number = closes.line ∙ o.line;
-        }
-      where
-        return_open : (n : Mode) → is_return_mode n ≡ true → is_free n ≡ false
-        return_open modes.Return h = refl
-        return_open n h = absurd (both_ways _ refl h)
+        stops_before new both.0 (λ read. other_whole read before c rest is (not_true (is_line_feed c) both.1)) closes
 
     -- it was refused
     pub stops_refused : is_returned old && not (is_line_feed c) ≡ false → TakesTo old c progress.Refused new → StopsNow first text new (stops.Refused c)

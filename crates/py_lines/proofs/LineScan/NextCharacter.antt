@@ -5,7 +5,8 @@ use Rattle.std.specs.declared.alloc.AllocError.{AllocError}
 use Rattle.std.proofs.lemmas.Bool.{cond_both, both_ways}
 use Rattle.std.proofs.lemmas.Str.{encode_ascii}
 use Rattle.py_lines.specs.Character.{is_word_character, is_quote, is_line_feed, is_return}
-use Rattle.py_lines.specs.Piece.{Class, operator, line_end, Piece, ends, is_mark_class, spelled, AreReadBefore}
+use Rattle.py_lines.specs.Piece.{Class, operator, line_end, Piece, ends, is_mark_class, spelled}
+use Rattle.py_lines.specs.PieceGrammar.{AreReadBefore}
 use Rattle.py_lines.specs.Balance.{depth_through}
 use Rattle.py_lines.specs.LogicalLine.{is_line_end_class, byte_len, line_ends, tokens_of_piece, tokens_from, kind_of, space_len}
 use Rattle.py_lines.specs.declared.token.TokKind.{TokKind}

@@ -18,6 +18,7 @@ use Rattle.py_lines.specs.Private.Scan.{Begins, Counts, counts_behind, is_return
 use Rattle.py_lines.specs.Private.Run.{BeginsWithFeed, Reached, TakesLineFeed, TakesPiece, is_free, is_word_byte, follows, may_begin, space_mode, word_mode}
 use Rattle.py_lines.proofs.Machine.Starts.{start-feed}
 use Rattle.py_lines.proofs.Text.CharacterTests.{feed_is, feed_from}
+use Rattle.py_lines.proofs.LineScan.CarriageReturns.{return_ends_line, return_far, return_goes}
 use Rattle.py_lines.proofs.LineScan.Comments.{comment_goes, comment_reached}
 use Rattle.py_lines.proofs.LineScan.LineStops.{ShutsTo, StopsNow, TakesTo, goes_character, stops_line}
 use Rattle.py_lines.proofs.LineScan.Runs.{space_low, word_byte_low}
@@ -61,15 +62,20 @@ module _ (first : Scan) (text : List ℕ) (old new : Scan) (bytes : List ℕ) (f
       (λ string. string_reached m at whole old new bytes len is all before start string)
       (λ fifth. ⊎_elim
       (λ remark. comment_reached m at whole old new bytes len is utf8 before start remark)
-      (λ (feeds, feed). feed_goes len feeds feed m at whole all start r) fifth) fourth) third) second) takes
+      (λ sixth. ⊎_elim
+      (λ (feeds, feed). feed_goes len feeds feed m at whole all start r)
+      (λ returns. return_goes first text old bytes free shuts new len returns m at whole all start r) sixth) fifth) fourth) third) second) takes
 
   -- where nothing was taken
   pub none_goes : TakesPiece old bytes (Ok taken.Nothing) new → ShutsTo first text new bytes
   none_goes takes = subst (λ (s : Scan). ShutsTo first text s bytes) (sym takes) shuts
 
   -- the line has ended
-  pub ends_line : TakesPiece old bytes (Ok taken.LineEnd) new → StopsNow first text new (stops.LineEnd 1)
-  ends_line (feeds, begun) = stops_line first text old bytes shuts 10 (drop 1 bytes) (feed_encodes bytes feeds) new 1 (no_wait old) (feed_takes old new (progress.LineEnded 1) free begun)
+  pub ends_line : (len : ℕ) → TakesPiece old bytes (Ok (taken.LineEnd len)) new → StopsNow first text new (stops.LineEnd len)
+  ends_line len takes =
+      ⊎_elim
+      (λ (feeds, begun). stops_line first text old bytes shuts 10 (drop 1 bytes) (feed_encodes bytes feeds) new len (no_wait old) (feed_takes old new (progress.LineEnded len) free begun))
+      (λ returns. return_ends_line first text old bytes free shuts new len returns) takes
 
 -- how far LF goes
 one_line : (after_return : Bool) → counts_behind after_return 10 ≤ 1
@@ -102,4 +108,6 @@ piece_far old new bytes len takes =
     (λ stands. operator_goes old new bytes len stands)
     (λ fourth. ⊎_elim
     (λ string. string_goes old new bytes len string)
-    (λ fifth. ⊎_elim (λ remark. comment_goes old new bytes len remark) (λ (feeds, feed). feed_far old new bytes len feeds feed) fifth) fourth) third) second) takes
+    (λ fifth. ⊎_elim
+    (λ remark. comment_goes old new bytes len remark)
+    (λ sixth. ⊎_elim (λ (feeds, feed). feed_far old new bytes len feeds feed) (λ returns. return_far old new bytes len returns) sixth) fifth) fourth) third) second) takes

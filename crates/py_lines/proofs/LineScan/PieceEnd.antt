@@ -5,7 +5,8 @@ use Rattle.std.specs.List.{list_any}
 use Rattle.std.proofs.lemmas.List.Folds.{list_any-append}
 use Rattle.std.proofs.lemmas.Bool.{and_right}
 use Rattle.py_lines.specs.Character.{is_digit, is_return}
-use Rattle.py_lines.specs.Piece.{Class, mark, space, operator, line_end, Piece, begins, ends, is_mark_class, spelled, AreReadBefore}
+use Rattle.py_lines.specs.Piece.{Class, mark, space, operator, line_end, Piece, begins, ends, is_mark_class, spelled}
+use Rattle.py_lines.specs.PieceGrammar.{AreReadBefore}
 use Rattle.py_lines.specs.Balance.{is_opener, is_closer}
 use Rattle.py_lines.specs.LogicalLine.{is_code_class, is_comment_class, byte_len, line_ends, tokens_of_piece, tokens_from, kind_of, indent_of, space_len}
 use Rattle.py_lines.specs.declared.token.TokKind.{TokKind}

@@ -3,13 +3,15 @@ use Rattle.std.proofs.Common.{◌≡◌, ℕ, zero, suc, ◌+◌, ◌<◌, true,
 use Rattle.std.proofs.lemmas.Bool.{both_ways}
 use Rattle.std.proofs.lemmas.List.{same_from_push}
 use Rattle.std.proofs.lemmas.Str.{length-le-encodes}
-use Rattle.py_lines.specs.Piece.{Class, mark, line_end, Piece, is_mark_class, begins_marked, InClass, spelled, AreReadBefore}
+use Rattle.py_lines.specs.Piece.{Class, mark, line_end, Piece, is_mark_class, begins_marked, spelled}
+use Rattle.py_lines.specs.PieceGrammar.{InClass, AreReadBefore}
 use Rattle.py_lines.specs.LogicalLine.{byte_len}
 use Rattle.py_lines.specs.Lexed.{EndsLine, IsLive}
 use Rattle.py_lines.specs.declared.mode.Mode.{Mode}
 use Rattle.py_lines.specs.declared.mode.Mode.TheVariants as modes
-use Rattle.py_lines.specs.Private.Machine.{Scanned, fresh, text_start, class_of, closed, started, step, run_from, start_of, IsSound, Bracket, brackets_of, RunsTo, in_short, is_behind_slash}
-use Rattle.py_lines.specs.Private.Scan.{line_start, stack_if}
+use Rattle.py_lines.specs.Private.Machine.{Scanned, fresh, text_start, class_of, closed, started, step, run_from, start_of, IsSound, Bracket, brackets_of, in_short, is_behind_slash}
+use Rattle.py_lines.specs.declared.scan.Scan.{Scan}
+use Rattle.py_lines.specs.Private.Scan.{line_start, stack_of, stack_if, IsUnderWay}
 use Rattle.py_lines.specs.Private.Source.{first_mode}
 use Rattle.py_lines.proofs.Pieces.PieceLists.{piece, MayFollow, AreReadBefore-second, spelled-append}
 use Rattle.py_lines.proofs.Machine.Starts.{start-mark}
@@ -17,8 +19,9 @@ use Rattle.py_lines.proofs.Machine.PieceRuns.{scanned, pieces_at, StopsBefore, r
 use Rattle.py_lines.proofs.Machine.PieceRuns as runs_of
 use Rattle.py_lines.proofs.Machine.ReadingRuns.{reach, MayBegin}
 use Rattle.py_lines.proofs.Pieces.OpenBrackets.{stack_before}
-use Rattle.py_lines.proofs.Machine.LiveTexts.{stack_closed, closed_grows}
-use Rattle.py_lines.proofs.Faults.FaultPlaces.{dead_none, dead_brackets}
+use Rattle.py_lines.proofs.Machine.Advance.{kept, kept_if, GoesTo, RunsTo, closed_grows}
+use Rattle.py_lines.proofs.Machine.LiveTexts.{stack_closed}
+use Rattle.py_lines.proofs.Faults.FaultPlaces.{dead_stop}
 use Rattle.py_lines.proofs.Lexings.LinePrefix.{line_first}
 use Rattle.py_lines.proofs.LogicalLines.Cuts.{byte_len-append}
 use Rattle.py_lines.proofs.Machine.EarlierPieces.{behind, behind_if, run-behind, step-behind, closed-behind, shift, shift_if, stack-behind}
@@ -59,6 +62,10 @@ ended_mode m done held body last is class =
     let parts = same_from_push done body (piece (class_of m) held) last is in
     let same : class_of m ≡ line_end = ap (λ (p : Piece). p.class) parts.1 ∙ class in
     absurd (cc)
+
+-- the machine, where the scan of a line has come
+pub way_goes : {m : Mode} {scan : Scan} {read : List ℕ} → (way : IsUnderWay m scan read) → GoesTo (line_start m) read way.state (stack_of scan.brackets)
+way_goes way = record { run = way.runs; stack = way.stacked }
 
 -- the machine at a place of a line
 pub record Joined (base : List Piece) (read : List ℕ) (s : Scanned) (first : List Bracket) (after : List ℕ) : Type 0 where
@@ -101,25 +108,21 @@ behind_nothing (Some t) = refl
 
 module _ (n : ℕ) (base : List Piece) (after : List ℕ) (level : brackets_of base ≡ Some []) where
   -- something was read
-  full : (c : ℕ) (cs : List ℕ) (s : Scanned) (st : List Bracket) → AreReadBefore base ((c ∷ cs) ++ after) → Base n base → run_from (Some (line_start (first_mode n))) (c ∷ cs) ≡ Some s → brackets_of s.done ≡ Some st → RunsTo (spelled base ++ c ∷ cs) (behind base s) (shift (byte_len (spelled base)) st)
-  full c cs s st fit (Base.bare none mode) runs stacked =
-      record {
-        run = ap (λ l. run_from (Some text_start) (spelled l ++ c ∷ cs)) none ∙ ap (λ m. run_from (Some (line_start m)) (c ∷ cs)) (sym mode) ∙ runs ∙ ap (λ l. Some (behind l s)) (sym none);
-        stack = stack-behind base s.done level ∙ ap (shift_if (byte_len (spelled base))) stacked;
-      }
-  full c cs s st fit (Base.lined body last is class any mode) runs stacked =
-      let reached = reach base (c ∷ cs ++ after) fit in
-      record {
-        run = run_from-append (Some text_start) (spelled base) (c ∷ cs) ∙ ap (λ o. run_from o (c ∷ cs)) reached.runs ∙ from_base base reached.to c cs (cs ++ after) reached.pieces_are (reached.stops (any (c ∷ cs ++ after)))
-            ∙ ap (λ m. behind_if base (run_from (Some (line_start m)) (c ∷ cs))) (sym mode) ∙ ap (behind_if base) runs;
-        stack = stack-behind base s.done level ∙ ap (shift_if (byte_len (spelled base))) stacked;
-      }
+  full : (c : ℕ) (cs : List ℕ) (s : Scanned) (st : List Bracket) → AreReadBefore base ((c ∷ cs) ++ after) → Base n base → GoesTo (line_start (first_mode n)) (c ∷ cs) s st → RunsTo (spelled base ++ c ∷ cs) (behind base s) (shift (byte_len (spelled base)) st)
+  full c cs s st fit is goes = record { run = run is; stack = stack-behind base s.done level ∙ ap (shift_if (byte_len (spelled base))) goes.stack }
+    where
+      run : Base n base → run_from (Some text_start) (spelled base ++ c ∷ cs) ≡ Some (behind base s)
+      run (Base.bare none mode) = ap (λ l. run_from (Some text_start) (spelled l ++ c ∷ cs)) none ∙ ap (λ m. run_from (Some (line_start m)) (c ∷ cs)) (sym mode) ∙ goes.run ∙ ap (λ l. Some (behind l s)) (sym none)
+      run (Base.lined body last ends class any mode) =
+          let reached = reach base (c ∷ cs ++ after) fit in
+          run_from-append (Some text_start) (spelled base) (c ∷ cs) ∙ ap (λ o. run_from o (c ∷ cs)) reached.runs ∙ from_base base reached.to c cs (cs ++ after) reached.pieces_are (reached.stops (any (c ∷ cs ++ after)))
+          ∙ ap (λ m. behind_if base (run_from (Some (line_start m)) (c ∷ cs))) (sym mode) ∙ ap (behind_if base) goes.run
 
-  joined_full : (c : ℕ) (cs : List ℕ) (s : Scanned) (st : List Bracket) → AreReadBefore base ((c ∷ cs) ++ after) → Base n base → run_from (Some (line_start (first_mode n))) (c ∷ cs) ≡ Some s → brackets_of s.done ≡ Some st → Joined base (c ∷ cs) s st after
-  joined_full c cs s st fit is runs stacked = record {
+  joined_full : (c : ℕ) (cs : List ℕ) (s : Scanned) (st : List Bracket) → AreReadBefore base ((c ∷ cs) ++ after) → Base n base → GoesTo (line_start (first_mode n)) (c ∷ cs) s st → Joined base (c ∷ cs) s st after
+  joined_full c cs s st fit is goes = record {
     state = behind base s;
     st = shift (byte_len (spelled base)) st;
-    runs = full c cs s st fit is runs stacked;
+    runs = full c cs s st fit is goes;
     pieces = closed-behind base s.done s.mode s.held;
     next = λ d more follows. step-behind base s d;
     short = refl;
@@ -162,16 +165,12 @@ module _ (n : ℕ) (base : List Piece) (after : List ℕ) (level : brackets_of b
       }
 
   -- the machine where the line has come
-  pub joined : (read : List ℕ) (s : Scanned) (st : List Bracket) → AreReadBefore base (read ++ after) → Base n base → run_from (Some (line_start (first_mode n))) read ≡ Some s → brackets_of s.done ≡ Some st → Joined base read s st after
-  joined [] s st fit is runs stacked = joined_none s st fit is (the_state (line_start (first_mode n)) s runs)
+  pub joined : (read : List ℕ) (s : Scanned) (st : List Bracket) → AreReadBefore base (read ++ after) → Base n base → GoesTo (line_start (first_mode n)) read s st → Joined base read s st after
+  joined [] s st fit is goes = joined_none s st fit is (the_state (line_start (first_mode n)) s goes.run)
     where
       the_state : (a b : Scanned) → Some a ≡ Some b → a ≡ b
       the_state a b same = cc
-  joined (c ∷ cs) s st fit is runs stacked = joined_full c cs s st fit is runs stacked
-
-  -- and at a place after some characters
-  pub joined_some : (c : ℕ) (cs : List ℕ) (s : Scanned) (st : List Bracket) → AreReadBefore base ((c ∷ cs) ++ after) → Base n base → run_from (Some (line_start (first_mode n))) (c ∷ cs) ≡ Some s → brackets_of s.done ≡ Some st → RunsTo (spelled base ++ c ∷ cs) (behind base s) (shift (byte_len (spelled base)) st)
-  joined_some c cs s st fit is runs stacked = full c cs s st fit is runs stacked
+  joined (c ∷ cs) s st fit is goes = joined_full c cs s st fit is goes
 
 -- a line after others begins with no mark
 pub follows_base : (n : ℕ) (base u : List Piece) (read after : List ℕ) (to : Scanned) → Base n base → spelled u ≡ read → AreReadBefore u after → run_from (Some (line_start (first_mode n))) read ≡ Some to → MayFollow base u
@@ -195,8 +194,8 @@ follows_base n base u read after to (Base.lined body last is class any mode) spe
 
 -- a character that the line refuses ends the text's life
 pub dead_at : (base : List Piece) (read after more : List ℕ) (s : Scanned) (first : List Bracket) (c : ℕ) (j : Joined base read s first after) → brackets_of base ≡ Some [] → after ≡ c ∷ more → stack_if (step s c) ≡ None → ¬ (IsLive ((spelled base ++ read) ++ c ∷ []))
-dead_at base read after more s first c j level follows refuses = go (step s c) refl refuses
+dead_at base read after more s first c j level follows refuses = dead_stop (spelled base ++ read) j.state j.st c j.runs (ap kept_if (j.next c more follows) ∙ stops (step s c) refuses)
   where
-    go : (o : Option Scanned) → step s c ≡ o → stack_if o ≡ None → ¬ (IsLive ((spelled base ++ read) ++ c ∷ []))
-    go None is none = dead_none (spelled base ++ read) j.state c j.runs.run (j.next c more follows ∙ ap (behind_if base) is)
-    go (Some t) is none = dead_brackets (spelled base ++ read) j.state (behind base t) c j.runs.run (j.next c more follows ∙ ap (behind_if base) is) (stack-behind base t.done level ∙ ap (shift_if (byte_len (spelled base))) none)
+    stops : (o : Option Scanned) → stack_if o ≡ None → kept_if (behind_if base o) ≡ None
+    stops None none = refl
+    stops (Some t) none = ap (kept (behind base t)) (stack-behind base t.done level ∙ ap (shift_if (byte_len (spelled base))) none)

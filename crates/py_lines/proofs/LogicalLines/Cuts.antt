@@ -6,7 +6,8 @@ use Rattle.std.specs.Prelude.{if◌then◌else◌}
 use Rattle.std.proofs.lemmas.Bool.{cond_both, both_ways, and_parts, and_left, and_from, or_parts, eq-eqb, false_from_ne_true, cases_Bool}
 use Rattle.unicode_ident.proofs.Computing.{unicode_ident}
 use Rattle.py_lines.specs.Character.{is_mark, is_space, is_word_character, is_word_start, is_digit, is_quote, is_operator, is_line_feed, is_return, is_break, is_hash}
-use Rattle.py_lines.specs.Piece.{Class, mark, space, word, string, operator, comment, join, line_end, Piece, begins, ends, joined, InClass, MayPrecede, spelled, AreReadBefore}
+use Rattle.py_lines.specs.Piece.{Class, mark, space, word, string, operator, comment, join, line_end, Piece, begins, ends, spelled}
+use Rattle.py_lines.specs.PieceGrammar.{joined, InClass, MayPrecede, AreReadBefore}
 use Rattle.py_lines.specs.Balance.{depth_after, depth_through}
 use Rattle.py_lines.specs.LogicalLine.{is_line_end_class, put_first, cut, byte_len, ends_line, line_ends}
 use Rattle.py_lines.specs.Lexed.{EndsLine}

@@ -1,5 +1,5 @@
 -- A text is live exactly where the machine runs on it: what is open can be closed.
-use Rattle.std.proofs.Common.{◌≡◌, ℕ, true, false, ◌==◌, eqb, Option, None, Some, List, [], ◌∷◌, ◌++◌, refl, sym, ap, ◌∙◌, subst, append_assoc, append-nil}
+use Rattle.std.proofs.Common.{◌≡◌, ℕ, true, false, ◌==◌, eqb, Option, Some, List, [], ◌∷◌, ◌++◌, refl, sym, ap, ◌∙◌, subst, append-nil}
 use Rattle.std.specs.Str.{all_scalars}
 use Rattle.std.specs.Char.{IsScalar}
 use Rattle.std.proofs.lemmas.Bool.{cond_both, and_parts, and_from, and_right, eq-eqb}
@@ -13,61 +13,18 @@ use Rattle.py_lines.specs.declared.mode.Mode.{Mode}
 use Rattle.py_lines.specs.declared.mode.Mode.TheVariants as modes
 use Rattle.py_lines.specs.declared.mode.Move.{Move}
 use Rattle.py_lines.specs.declared.mode.Move.TheVariants as moves
-use Rattle.py_lines.specs.declared.mode.Start.{Start}
 use Rattle.py_lines.specs.declared.mode.Start.TheVariants as starts
 use Rattle.py_lines.specs.declared.mode.Spelling.{Spelling}
-use Rattle.py_lines.specs.Private.Machine.{Scanned, fresh, text_start, class_of, closed, started, moved, step, run_from, move_of, start_of, is_final, is_prefix_spelling, Bracket, brackets_through, brackets_of, RunsTo}
+use Rattle.py_lines.specs.Private.Machine.{Scanned, fresh, text_start, class_of, closed, started, moved, run_from, move_of, start_of, is_final, is_prefix_spelling, Bracket, brackets_through, brackets_of}
 use Rattle.py_lines.proofs.Text.CharacterTests.{each_of, none_of, not_quote, quote-not-feed}
 use Rattle.py_lines.proofs.Pieces.PieceLists.{piece}
 use Rattle.py_lines.proofs.Machine.Starts.{start-operator, start-feed}
-use Rattle.py_lines.proofs.Machine.PieceRuns.{scanned, pieces_at, run_from-append, grown, closes}
+use Rattle.py_lines.proofs.Machine.PieceRuns.{scanned, pieces_at, grown, closes}
 use Rattle.py_lines.proofs.Machine.ReadingRuns.{reach, MayBegin}
 use Rattle.py_lines.proofs.Pieces.OpenBrackets.{through-append, other_keeps, closer_pops, stack_before, balanced-from_stack, stack-from_balanced}
 use Rattle.py_lines.specs.Private.Machine.{Holds}
 use Rattle.py_lines.proofs.Machine.Soundness.{sound_at, ends_sound}
-
--- finished pieces stay
-abbrev pub GrowsIf : List Piece → Option Scanned → Type 0
-GrowsIf done None = Unit {0}
-GrowsIf done (Some s) = (ps : List Piece) × (s.done ≡ done ++ ps)
-
-pub closed_grows : (m : Mode) (done : List Piece) (held : List ℕ) → (ps : List Piece) × (closed m done held ≡ done ++ ps)
-closed_grows modes.Start done held = ([], sym (append-nil done))
-closed_grows modes.Free done held = ([], sym (append-nil done))
-closed_grows m done held = (piece (class_of m) held ∷ [], refl)
-
-pub started_grows : (all done ps : List Piece) (c : ℕ) (s : Start) → all ≡ done ++ ps → GrowsIf done (started all c s)
-started_grows all done ps c (starts.Open m) is = (ps, is)
-started_grows all done ps c starts.Operator is = (ps ++ piece operator (c ∷ []) ∷ [], ap (λ l. l ++ piece operator (c ∷ []) ∷ []) is ∙ append_assoc done ps (piece operator (c ∷ []) ∷ []))
-started_grows all done ps c starts.LineEnd is = (ps ++ piece line_end (c ∷ []) ∷ [], ap (λ l. l ++ piece line_end (c ∷ []) ∷ []) is ∙ append_assoc done ps (piece line_end (c ∷ []) ∷ []))
-started_grows all done ps c starts.Nothing is = tt
-
-moved_grows : (s : Scanned) (c : ℕ) (v : Move) → GrowsIf s.done (moved s c v)
-moved_grows s c (moves.Grows m) = ([], sym (append-nil s.done))
-moved_grows s c moves.Closes = (piece (class_of s.mode) (s.held ++ c ∷ []) ∷ [], refl)
-moved_grows s c moves.Breaks =
-    let first = closed_grows s.mode s.done s.held in
-    started_grows (closed s.mode s.done s.held) s.done first.0 c (start_of c) first.1
-moved_grows s c moves.Refused = tt
-
-grows_on : (done : List Piece) (s : Scanned) (o : Option Scanned) → GrowsIf done (Some s) → GrowsIf s.done o → GrowsIf done o
-grows_on done s None first second = tt
-grows_on done s (Some t) first second = (first.0 ++ second.0, second.1 ∙ ap (λ l. l ++ second.0) first.1 ∙ append_assoc done first.0 second.0)
-
-pub run_grows : (cs : List ℕ) (o : Option Scanned) (done : List Piece) → GrowsIf done o → GrowsIf done (run_from o cs)
-run_grows cs None done grows = tt
-run_grows [] (Some s) done grows = grows
-run_grows (c ∷ cs) (Some s) done grows = run_grows cs (step s c) done (grows_on done s (step s c) grows (moved_grows s c (move_of s.mode c)))
-
--- where a run comes through
-pub run_before : (from : Option Scanned) (xs ys : List ℕ) (s : Scanned) → run_from from (xs ++ ys) ≡ Some s → (t : Scanned) × (run_from from xs ≡ Some t) × (run_from (Some t) ys ≡ Some s)
-run_before from xs ys s runs = go (run_from from xs) refl
-  where
-    go : (o : Option Scanned) → run_from from xs ≡ o → (t : Scanned) × (run_from from xs ≡ Some t) × (run_from (Some t) ys ≡ Some s)
-    go None is =
-        let stuck : None ≡ Some s = sym (ap (λ x. run_from x ys) is) ∙ sym (run_from-append from xs ys) ∙ runs in
-        absurd (cc)
-    go (Some t) is = (t, is, sym (ap (λ x. run_from x ys) is) ∙ sym (run_from-append from xs ys) ∙ runs)
+use Rattle.py_lines.proofs.Machine.Advance.{GoesTo, RunsTo, closed_grows, goes_both, goes_before}
 
 -- a piece that is no bracket leaves the stack as it was
 pub keeps : (done : List Piece) (p : Piece) (st : List Bracket) → is_opener p ≡ false → is_closer p ≡ false → brackets_of done ≡ Some st → brackets_of (done ++ p ∷ []) ≡ Some st
@@ -82,19 +39,18 @@ stack_closed modes.Free done held st stack = stack
 stack_closed m done held st stack = keeps done (piece (class_of m) held) st refl refl stack
 
 -- a run to an end at which no bracket is open is a reading
-pub reading_at : (cs : List ℕ) (s : Scanned) → run_from (Some text_start) cs ≡ Some s → is_final s.mode ≡ true → brackets_of s.done ≡ Some [] → IsBalancedReading (pieces_at s) cs
-reading_at cs s runs may stack =
-    let at_end = ends_sound cs s runs may in
-    let balanced = balanced-from_stack (pieces_at s) (stack_closed s.mode s.done s.held [] stack) in
+pub reading_at : (cs : List ℕ) (s : Scanned) → RunsTo cs s [] → is_final s.mode ≡ true → IsBalancedReading (pieces_at s) cs
+reading_at cs s runs may =
+    let at_end = ends_sound cs s runs.run may in
+    let balanced = balanced-from_stack (pieces_at s) (stack_closed s.mode s.done s.held [] runs.stack) in
     record { spell = at_end.spell; fit = at_end.fit; balanced = balanced.0; shallow = balanced.1 }
 
 -- and a reading is such a run
 pub record ReadRun (pieces : List Piece) (cs : List ℕ) : Type 0 where
   pub to : Scanned
-  pub runs : run_from (Some text_start) cs ≡ Some to
+  pub runs : RunsTo cs to []
   pub ends : is_final to.mode ≡ true
   pub pieces_are : pieces_at to ≡ pieces
-  pub stack : brackets_of to.done ≡ Some []
 
 some_same : (o : Option (List Bracket)) (a b : List Bracket) → o ≡ Some a → o ≡ Some b → a ≡ b
 some_same o a b first second = cc
@@ -107,10 +63,12 @@ run_of_reading pieces cs reading =
     let first = stack_before found.to.done grown.0 [] (ap brackets_of (sym grown.1) ∙ whole) in
     record {
       to = found.to;
-      runs = ap (run_from (Some text_start)) (sym reading.spell) ∙ found.runs;
+      runs = record {
+        run = ap (run_from (Some text_start)) (sym reading.spell) ∙ found.runs;
+        stack = first.1 ∙ ap (λ l. Some l) (some_same _ first.0 [] (stack_closed found.to.mode found.to.done found.to.held first.0 first.1) whole);
+      };
       ends = found.stops (may_begin pieces);
       pieces_are = found.pieces_are;
-      stack = first.1 ∙ ap (λ l. Some l) (some_same _ first.0 [] (stack_closed found.to.mode found.to.done found.to.held first.0 first.1) whole);
     }
   where
     may_begin : (ps : List Piece) → MayBegin ps []
@@ -125,10 +83,7 @@ reading_live pieces cs reading = record { more = []; pieces = pieces; scalars = 
 pub live_runs : (cs : List ℕ) → IsLive cs → (s : Scanned) × (st : List Bracket) × RunsTo cs s st
 live_runs cs live =
     let whole = run_of_reading live.pieces (cs ++ live.more) live.reading in
-    let first = run_before (Some text_start) cs live.more whole.to whole.runs in
-    let grown : GrowsIf first.0.done (Some whole.to) = subst (GrowsIf first.0.done) first.2 (run_grows live.more (Some first.0) first.0.done ([], sym (append-nil first.0.done))) in
-    let stack = stack_before first.0.done grown.0 [] (ap brackets_of (sym grown.1) ∙ whole.stack) in
-    (first.0, stack.0, record { run = first.1; stack = stack.1 })
+    goes_before cs live.more whole.runs
 
 -- a mode in which the text may end, or a closing bracket follow
 pub record IsReady (m : Mode) : Type 0 where
@@ -184,12 +139,11 @@ pub record Completes (s : Scanned) (st : List Bracket) : Type 0 where
   pub more : List ℕ
   pub to : Scanned
   pub scalars : all_scalars more ≡ true
-  pub runs : run_from (Some s) more ≡ Some to
+  pub goes : GoesTo s more to st
   pub ready : IsReady to.mode
-  pub stack : brackets_of to.done ≡ Some st
 
 at_once : (done : List Piece) (m : Mode) (held : List ℕ) (st : List Bracket) → IsReady m → brackets_of done ≡ Some st → Completes (scanned done m held) st
-at_once done m held st ready stack = record { more = []; to = scanned done m held; scalars = refl; runs = refl; ready = ready; stack = stack }
+at_once done m held st ready stack = record { more = []; to = scanned done m held; scalars = refl; goes = record { run = refl; stack = stack }; ready = ready }
 
 quote-scalar : (q : ℕ) → is_quote q ≡ true → IsScalar q
 unfolding is_quote
@@ -201,9 +155,8 @@ after_one done m n held st c scalar grows later = record {
   more = c ∷ later.more;
   to = later.to;
   scalars = and_from _ _ scalar later.scalars;
-  runs = grown done m n held c later.more grows ∙ later.runs;
+  goes = record { run = grown done m n held c later.more grows ∙ later.goes.run; stack = later.goes.stack };
   ready = later.ready;
-  stack = later.stack;
 }
 
 -- one character more, which closes a piece that is no operator
@@ -212,9 +165,8 @@ closing_one done m held st c scalar closing opener closer stack = record {
   more = c ∷ [];
   to = fresh (done ++ piece (class_of m) (held ++ c ∷ []) ∷ []);
   scalars = and_from _ _ scalar refl;
-  runs = closes done m held c closing;
+  goes = record { run = closes done m held c closing; stack = keeps done (piece (class_of m) (held ++ c ∷ [])) st opener closer stack };
   ready = ready-free;
-  stack = keeps done (piece (class_of m) (held ++ c ∷ [])) st opener closer stack;
 }
 
 same-quote : (q : ℕ) → eqb q q ≡ true
@@ -291,9 +243,11 @@ completes done modes.Comment held st holds stack =
       more = 10 ∷ [];
       to = fresh (before ++ piece line_end (10 ∷ []) ∷ []);
       scalars = refl;
-      runs = ap (λ (v : Move). run_from (moved (scanned done modes.Comment held) 10 v) []) comment-breaks ∙ ap (λ s. run_from (started before 10 s) []) feed-starts;
+      goes = record {
+        run = ap (λ (v : Move). run_from (moved (scanned done modes.Comment held) 10 v) []) comment-breaks ∙ ap (λ s. run_from (started before 10 s) []) feed-starts;
+        stack = keeps before (piece line_end (10 ∷ [])) st refl refl (keeps done (piece comment held) st refl refl stack);
+      };
       ready = ready-free;
-      stack = keeps before (piece line_end (10 ∷ [])) st refl refl (keeps done (piece comment held) st refl refl stack);
     }
 completes done (modes.Opened q) held st holds stack = after_one done (modes.Opened q) (modes.Empty q) held st q (quote-scalar q holds.opens) (opened-grows q) (at_once done (modes.Empty q) (held ++ q ∷ []) st (ready-empty q holds.opens) stack)
 completes done (modes.Inside q) held st holds stack = complete_inside done q held st holds.all.opens stack
@@ -334,12 +288,11 @@ scalars-append (x ∷ xs) ys first second =
 -- all brackets can be closed
 pub record ClosesAll (s : Scanned) (st : List Bracket) : Type 0 where
   pub to : Scanned
-  pub runs : run_from (Some s) (closers st) ≡ Some to
+  pub goes : GoesTo s (closers st) to []
   pub ends : is_final to.mode ≡ true
-  pub stack : brackets_of to.done ≡ Some []
 
 pub closes_all : (st : List Bracket) (s : Scanned) → IsReady s.mode → brackets_of s.done ≡ Some st → ClosesAll s st
-closes_all [] s ready stack = record { to = s; runs = refl; ends = ready.ends; stack = stack }
+closes_all [] s ready stack = record { to = s; goes = record { run = refl; stack = stack }; ends = ready.ends }
 closes_all (b ∷ bs) s ready stack =
     let c = closing_of b.opener in
     let is = closing_of-closing b.opener in
@@ -352,26 +305,23 @@ closes_all (b ∷ bs) s ready stack =
     let others = closes_all bs (fresh (before ++ p ∷ [])) ready-free popped in
     record {
       to = others.to;
-      runs = ap (λ (v : Move). run_from (moved s c v) (closers bs)) (ready.breaks c is) ∙ ap (λ v. run_from (started before c v) (closers bs)) (start-operator c (closing-operator c is)) ∙ others.runs;
+      goes = record {
+        run = ap (λ (v : Move). run_from (moved s c v) (closers bs)) (ready.breaks c is) ∙ ap (λ v. run_from (started before c v) (closers bs)) (start-operator c (closing-operator c is)) ∙ others.goes.run;
+        stack = others.goes.stack;
+      };
       ends = others.ends;
-      stack = others.stack;
     }
 
 -- the text is live where the machine runs
 pub runs_live : (cs : List ℕ) (s : Scanned) (st : List Bracket) → RunsTo cs s st → IsLive cs
 runs_live cs s st runs =
     let first = completes s.done s.mode s.held st (sound_at cs s runs.run).holds runs.stack in
-    let second = closes_all st first.to first.ready first.stack in
+    let second = closes_all st first.to first.ready first.goes.stack in
     let more = first.more ++ closers st in
-    let whole : run_from (Some text_start) (cs ++ more) ≡ Some second.to =
-    run_from-append (Some text_start) cs more
-    ∙ ap (λ o. run_from o more) runs.run
-    ∙ run_from-append (Some s) first.more (closers st)
-    ∙ ap (λ o. run_from o (closers st)) first.runs
-    ∙ second.runs in
+    let whole = goes_both runs (goes_both first.goes second.goes) in
     record {
       more = more;
       pieces = pieces_at second.to;
       scalars = scalars-append first.more (closers st) first.scalars (closers-scalars st);
-      reading = reading_at (cs ++ more) second.to whole second.ends second.stack;
+      reading = reading_at (cs ++ more) second.to whole second.ends;
     }

@@ -4,7 +4,8 @@ use Rattle.std.specs.List.{list_all}
 use Rattle.std.proofs.lemmas.Bool.{both_ways, false_from_ne_true}
 use Rattle.unicode_ident.proofs.Computing.{unicode_ident}
 use Rattle.py_lines.specs.Character.{is_mark, is_quote, is_word_start, is_digit, is_backslash}
-use Rattle.py_lines.specs.Piece.{Piece, IsPrefix, begins, is_item, is_short_item, joined, has_triple, spelled, AreReadBefore}
+use Rattle.py_lines.specs.Piece.{Piece, begins, spelled}
+use Rattle.py_lines.specs.PieceGrammar.{IsPrefix, is_item, is_short_item, joined, has_triple, AreReadBefore}
 use Rattle.py_lines.specs.Lexed.{IsUnescaped, IsShortFront, IsLongFront, IsSlash, InShortString, InLongString, BehindBackslash}
 use Rattle.py_lines.specs.declared.mode.Mode.{Mode}
 use Rattle.py_lines.specs.declared.mode.Mode.TheVariants as modes

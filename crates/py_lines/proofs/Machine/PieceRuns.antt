@@ -3,7 +3,8 @@ use Rattle.std.proofs.Common.{◌≡◌, ℕ, Bool, true, false, ◌&&◌, Optio
 use Rattle.std.specs.List.{list_all, list_any}
 use Rattle.std.proofs.lemmas.Bool.{and_parts, or_parts}
 use Rattle.py_lines.specs.Character.{is_space, is_word_character, is_word_start, is_quote, is_operator, is_line_feed, is_return, is_break, is_hash, is_backslash}
-use Rattle.py_lines.specs.Piece.{space, word, operator, comment, join, line_end, Piece, begins, ends, is_prefix, IsLineEnd, feed, return_feed, return}
+use Rattle.py_lines.specs.Piece.{space, word, operator, comment, join, line_end, Piece, begins, ends}
+use Rattle.py_lines.specs.PieceGrammar.{is_prefix, IsLineEnd, feed, return_feed, return}
 use Rattle.py_lines.specs.declared.mode.Spelling.{Spelling}
 use Rattle.py_lines.specs.declared.mode.Mode.{Mode}
 use Rattle.py_lines.specs.declared.mode.Mode.TheVariants as modes

@@ -5,7 +5,8 @@ use Rattle.std.specs.Str.{chars}
 use Rattle.std.proofs.lemmas.Str.{chars-encodes}
 use Rattle.std.proofs.lemmas.Bool.{both_ways, cases_Bool}
 use Rattle.py_lines.specs.Character.{is_mark, is_space, is_quote, is_return, is_line_feed}
-use Rattle.py_lines.specs.Piece.{Class, mark, space, word, string, operator, comment, join, line_end, Piece, InClass, MayPrecede, begins, ends, is_prefix, is_mark_class, begins_marked, spelled, AreReadBefore, Reads, ReadsText}
+use Rattle.py_lines.specs.Piece.{Class, mark, space, word, string, operator, comment, join, line_end, Piece, begins, ends, is_mark_class, begins_marked, spelled}
+use Rattle.py_lines.specs.PieceGrammar.{InClass, MayPrecede, is_prefix, AreReadBefore, Reads, ReadsText}
 use Rattle.py_lines.specs.declared.mode.Mode.TheVariants as modes
 use Rattle.py_lines.specs.declared.mode.Move.{Move}
 use Rattle.py_lines.specs.declared.mode.Move.TheVariants as moves

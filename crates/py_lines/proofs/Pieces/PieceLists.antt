@@ -1,6 +1,7 @@
 -- Lists of pieces one after another.
 use Rattle.std.proofs.Common.{◌≡◌, ℕ, false, List, [], ◌∷◌, ◌++◌, refl, sym, ap, ◌∙◌, subst, append_assoc, append-nil}
-use Rattle.py_lines.specs.Piece.{Class, Piece, InClass, MayPrecede, is_mark_class, begins_marked, spelled, AreReadBefore, joined}
+use Rattle.py_lines.specs.Piece.{Class, Piece, is_mark_class, begins_marked, spelled}
+use Rattle.py_lines.specs.PieceGrammar.{InClass, MayPrecede, AreReadBefore, joined}
 
 abbrev pub piece : Class → List ℕ → Piece
 piece class text = record { class = class; text = text }

@@ -1,7 +1,7 @@
 -- Three quotes in a row, in items one after another.
 use Rattle.std.proofs.Common.{◌≡◌, ℕ, Bool, false, ◌==◌, List, [], ◌∷◌, ◌++◌, refl}
 use Rattle.std.proofs.lemmas.Bool.{or_parts, or_from, and_left, and_right}
-use Rattle.py_lines.specs.Piece.{is_bare, begins_triple, has_triple}
+use Rattle.py_lines.specs.PieceGrammar.{is_bare, begins_triple, has_triple}
 
 abbrev bare : ℕ → List ℕ → Bool
 bare q item = is_bare (λ d. d == q) item

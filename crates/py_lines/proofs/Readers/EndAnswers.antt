@@ -4,7 +4,8 @@ use Rattle.std.specs.Prelude.{encode_utf8_all, if◌then◌else◌}
 use Rattle.std.proofs.lemmas.Bool.{both_ways, and_from, eq-eqb}
 use Rattle.std.proofs.lemmas.List.{drop_all, nil_from_length}
 use Rattle.std.proofs.lemmas.Str.{length-le-encodes}
-use Rattle.py_lines.specs.Piece.{Piece, line_end, spelled, AreReadBefore}
+use Rattle.py_lines.specs.Piece.{Piece, line_end, spelled}
+use Rattle.py_lines.specs.PieceGrammar.{AreReadBefore}
 use Rattle.py_lines.specs.Balance.{depth_after, depth_through}
 use Rattle.py_lines.specs.LogicalLine.{LogicalLine, byte_len, line_ends, cut, end_len_of, is_line_end_class}
 use Rattle.py_lines.specs.Lexed.{IsLexedToFault, IsBalancedReading, Decodes}
@@ -19,14 +20,14 @@ use Rattle.py_lines.specs.declared.scan.Scan.{Scan}
 use Rattle.py_lines.specs.declared.scan.Stop.{Stop}
 use Rattle.py_lines.specs.declared.scan.Stop.TheVariants as stops
 use Rattle.py_lines.specs.declared.source.Source.{Source}
-use Rattle.py_lines.specs.Private.Machine.{Scanned, closed, fresh, is_final, end_kind, end_place, top_place, Bracket, brackets_of, RunsTo, IsSound}
+use Rattle.py_lines.specs.Private.Machine.{Scanned, closed, fresh, is_final, end_kind, end_place, top_place, Bracket, brackets_of, IsSound}
 use Rattle.py_lines.specs.Private.Scan.{IsStacked, IsUnderWay, line_start, EndsNoLine, Tallies, Closes, none_open, is_return_mode, stack_of, IsOpenFrom}
 use Rattle.py_lines.specs.Reader.View.{reader_of}
 use Rattle.py_lines.specs.Private.Source.{line_of_source, first_mode, HasScanned, PassesLine, KeepsFault}
 use Rattle.py_lines.proofs.Pieces.PieceLists.{piece, AreReadBefore-second, spelled-append}
 use Rattle.py_lines.proofs.Machine.PieceRuns.{scanned, pieces_at}
-use Rattle.py_lines.proofs.Machine.OpenStrings.{same_state}
 use Rattle.py_lines.proofs.Pieces.OpenBrackets.{stands, StandsAt, level, inside}
+use Rattle.py_lines.proofs.Machine.Advance.{RunsTo, goes_once}
 use Rattle.py_lines.proofs.Machine.LiveTexts.{stack_closed, run_of_reading}
 use Rattle.py_lines.proofs.Machine.Soundness.{ends_sound}
 use Rattle.py_lines.proofs.Faults.FaultPlaces.{unread_at}
@@ -185,8 +186,7 @@ module _ (old : Source) (has : HasScanned old stops.TextEnd) where
       let j = joins old stops.TextEnd has lines given has.scans.stops.0 in
       let s = here old stops.TextEnd has lines given in
       let ran = run_of_reading pieces s.given.first.characters reading in
-      let same = same_state s.given.first.characters j.state ran.to (runs_all lines given).run ran.runs in
-      let none : Some (shift (byte_len (spelled s.given.first.pieces)) (b ∷ others)) ≡ Some [] = ap (λ l. Some (shift (byte_len (spelled s.given.first.pieces)) l)) (sym top) ∙ ap (λ l. Some l) (sym (j.same full).1) ∙ sym (runs_all lines given).stack ∙ ap (λ (t : Scanned). brackets_of t.done) same ∙ ran.stack in
+      let none : shift (byte_len (spelled s.given.first.pieces)) (b ∷ others) ≡ [] = ap (shift (byte_len (spelled s.given.first.pieces))) (sym top) ∙ sym (j.same full).1 ∙ (goes_once (runs_all lines given) ran.runs).1 in
       cc
 
   end_offset : (lines : List LogicalLine) (given : HasGiven (reader_of old) lines) (behind' : ℕ) → 0 < byte_len has.scans.read → IsOpenFrom old.scan behind' → old.place + behind' ≡ end_place (joins old stops.TextEnd has lines given has.scans.stops.0).state (joins old stops.TextEnd has lines given has.scans.stops.0).st

@@ -6,7 +6,8 @@ use Rattle.std.proofs.lemmas.Bool.{both_ways, cond_both}
 use Rattle.std.proofs.lemmas.Str.{encodes_same}
 use Rattle.std.proofs.Math.Seq.{take-append_seam}
 use Rattle.py_lines.specs.Character.{is_line_feed}
-use Rattle.py_lines.specs.Piece.{line_end, Piece, spelled, AreReadBefore}
+use Rattle.py_lines.specs.Piece.{line_end, Piece, spelled}
+use Rattle.py_lines.specs.PieceGrammar.{AreReadBefore}
 use Rattle.py_lines.specs.LogicalLine.{LogicalLine, byte_len}
 use Rattle.py_lines.specs.Lexed.{IsLexed, IsLexedToFault}
 use Rattle.py_lines.specs.Reader.{HasGiven, Fails}
@@ -31,7 +32,7 @@ use Rattle.py_lines.proofs.Lexings.Answers.{IsLineOf, HasFront, refused_at_chara
 use Rattle.py_lines.proofs.LogicalLines.Cuts.{byte_len-append}
 use Rattle.py_lines.proofs.LineScan.NextCharacter.{closed_one_line}
 use Rattle.py_lines.proofs.LineScan.LineRun.{sound_run, way_stop}
-use Rattle.py_lines.proofs.LineScan.TextRun.{begun_sound, base_of, Joined, joined, dead_at}
+use Rattle.py_lines.proofs.LineScan.TextRun.{begun_sound, base_of, way_goes, Joined, joined, dead_at}
 use Rattle.py_lines.proofs.Lexings.GivenLines.{Situation, base_lines}
 use Rattle.py_lines.proofs.Readers.LineAnswers.{situation, Within, front_spells, all_within}
 
@@ -82,7 +83,7 @@ module _ (old : Source) (stop : Stop) (has : HasScanned old stop) where
   joins lines given way =
       let s = here lines given in
       joined old.place s.given.first.pieces s.after (level lines given) has.scans.read way.state (stack_of old.scan.brackets) (base_fit lines given)
-      (base_of old.place s.given.first.pieces (has.scans.read ++ s.after) (base_fit lines given) s.ends s.given.first.here) way.runs way.stacked
+      (base_of old.place s.given.first.pieces (has.scans.read ++ s.after) (base_fit lines given) s.ends s.given.first.here) (way_goes way)
 
   pub whole : (lines : List LogicalLine) (given : HasGiven (reader_of old) lines) → (spelled (here lines given).given.first.pieces ++ has.scans.read) ++ (here lines given).after ≡ (here lines given).given.first.characters
   whole lines given =

@@ -6,7 +6,8 @@ use Rattle.std.specs.Borrow.{Bor}
 use Rattle.std.proofs.lemmas.List.{take-append-drop}
 use Rattle.std.proofs.lemmas.Str.{length-le-encodes, encodes-append, IsUtf8-drop, IsUtf8-had, IsCharBoundary-from_rest, IsCharBoundary-at_seam}
 use Rattle.std.proofs.Math.Seq.{take-append_seam}
-use Rattle.py_lines.specs.Piece.{Class, line_end, Piece, InClass, spelled, AreReadBefore}
+use Rattle.py_lines.specs.Piece.{Class, line_end, Piece, spelled}
+use Rattle.py_lines.specs.PieceGrammar.{InClass, AreReadBefore}
 use Rattle.py_lines.specs.LogicalLine.{LogicalLine, cut, byte_len, line_ends, line_of, tokens_from, kind_of, indent_of, end_len_of}
 use Rattle.py_lines.specs.Balance.{depth_after}
 use Rattle.py_lines.specs.Balance as brackets

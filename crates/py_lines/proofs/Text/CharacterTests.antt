@@ -5,7 +5,7 @@ use Rattle.std.specs.List.{list_any, list_all}
 use Rattle.std.proofs.lemmas.Bool.{leb-false, or_cases, or_parts, and_parts, and_from, eqb-true, false_from_ne_true, both_ways}
 use Rattle.unicode_ident.proofs.Computing.{unicode_ident}
 use Rattle.py_lines.specs.Character.{is_one_of, is_mark, is_word_character, is_word_start, is_digit, is_quote, is_operator, is_line_feed, is_return, is_break, is_backslash, is_barred, is_r, is_b, is_f, is_u}
-use Rattle.py_lines.specs.Piece.{is_prefix}
+use Rattle.py_lines.specs.PieceGrammar.{is_prefix}
 
 -- what each one of a list is
 abbrev pub Each : (ℕ → Type 0) → List ℕ → Type 0

@@ -3,7 +3,8 @@
 use Rattle.std.specs.Prelude.{◌≡◌, ℕ, Bool, true, false, ◌==◌, ◌||◌, ◌&&◌, Option, None, Some, List, [], ◌∷◌, ◌++◌, length, nat_lt, if◌then◌else◌}
 use Rattle.py_lines.specs.Character.{is_mark, is_space, is_word_character, is_word_start, is_digit, is_quote, is_operator, is_line_feed, is_return, is_break, is_hash, is_backslash, is_r, is_b, is_f, is_u}
 use Rattle.std.specs.List.{list_all}
-use Rattle.py_lines.specs.Piece.{Class, mark, space, word, string, operator, comment, join, line_end, Piece, IsRun, IsComment, IsPrefix, is_item, is_short_item, joined, has_triple, spelled, AreReadBefore}
+use Rattle.py_lines.specs.Piece.{Class, mark, space, word, string, operator, comment, join, line_end, Piece, spelled}
+use Rattle.py_lines.specs.PieceGrammar.{IsRun, IsComment, IsPrefix, is_item, is_short_item, joined, has_triple, AreReadBefore}
 use Rattle.py_lines.specs.Balance.{is_opening, is_closing, is_opener, is_closer, closing_of}
 use Rattle.py_lines.specs.LogicalLine.{first_or_zero, byte_len}
 use Rattle.py_lines.specs.declared.fault.FaultKind.{FaultKind}
@@ -273,12 +274,6 @@ top_place (b ∷ bs) = b.place
 -- the place of the fault at the text's end
 abbrev pub end_place : Scanned → List Bracket → ℕ
 end_place s brackets = if is_final s.mode then top_place brackets else byte_len (spelled s.done)
-
--- The machine runs on the characters: to this state, with these brackets open. The characters begin
--- some text that is read.
-pub record RunsTo (characters : List ℕ) (scanned : Scanned) (brackets : List Bracket) : Type 0 where
-  pub run : run_from (Some text_start) characters ≡ Some scanned
-  pub stack : brackets_of scanned.done ≡ Some brackets
 
 -- a text that isn't empty
 abbrev pub IsFull : List ℕ → Type 0

@@ -9,7 +9,7 @@ use Rattle.py_lines.specs.LogicalLine.{byte_len}
 use Rattle.std.specs.declared.alloc.AllocError.{AllocError}
 use Rattle.py_lines.specs.Piece.{operator, begins}
 use Rattle.py_lines.specs.Private.Machine.{Bracket, brackets_behind, IsFull, first_spelling, spelling_on, move_of}
-use Rattle.py_lines.specs.Private.Scan.{Begins, Closes, IsUnderWay, stack_of, with_brackets, is_return_mode}
+use Rattle.py_lines.specs.Private.Scan.{Begins, Closes, IsUnderWay, ScansIn, stack_of, none_open, with_brackets, is_return_mode}
 use Rattle.py_lines.specs.declared.brackets.Brackets.{Brackets}
 use Rattle.py_lines.specs.declared.token.TokKind.{TokKind}
 use Rattle.py_lines.specs.declared.token.TokKind.TheVariants as kind
@@ -24,9 +24,12 @@ use Rattle.py_lines.specs.declared.run.FirstByte.{FirstByte}
 use Rattle.py_lines.specs.declared.run.FirstByte.TheVariants as first
 use Rattle.py_lines.specs.declared.scan.Progress.TheVariants as progress
 use Rattle.py_lines.specs.declared.scan.Scan.{Scan}
+use Rattle.py_lines.specs.declared.scan.Stop.TheVariants as stops
+use Rattle.py_lines.specs.declared.scan.Left.{Left}
+use Rattle.py_lines.specs.declared.scan.Left.TheVariants as left
 use Rattle.py_lines.specs.declared.scan.Taken.{Taken}
 use Rattle.py_lines.specs.declared.scan.Taken.TheVariants as taken
-use Rattle.py_lines.specs.Character.{is_space, is_break, is_operator, is_hash, is_backslash, is_quote, is_line_feed}
+use Rattle.py_lines.specs.Character.{is_space, is_break, is_operator, is_hash, is_backslash, is_quote, is_line_feed, is_return}
 
 -- as many bytes pass as there are before the first that doesn't
 pub record IsRunOf (passes : ℕ → Bool) (bytes : List ℕ) (len : ℕ) : Type 0 where
@@ -117,8 +120,9 @@ BeginsSo first.Operator b = (is_operator b ≡ true) × (is_opening b ≡ false)
 BeginsSo first.Bracket b = is_operator b ≡ true
 BeginsSo first.Quote b = is_quote b ≡ true
 BeginsSo first.LineFeed b = is_line_feed b ≡ true
+BeginsSo first.Return b = is_return b ≡ true
 BeginsSo first.Hash b = is_hash b ≡ true
-BeginsSo first.Apart b = is_apart b ≡ true
+BeginsSo first.Backslash b = is_backslash b ≡ true
 BeginsSo first.Other b = Unit {0}
 
 -- whether no piece is open, after the text's start
@@ -208,14 +212,14 @@ pub record TakesString (old : Scan) (bytes : List ℕ) (len : ℕ) (new : Scan) 
 abbrev pub TakesText : Scan → List ℕ → Result Taken AllocError → Scan → Type 0
 TakesText old bytes (Ok taken.Nothing) new = new ≡ old
 TakesText old bytes (Ok (taken.Bytes len)) new = TakesString old bytes len new
-TakesText old bytes (Ok taken.LineEnd) new = ⊥
+TakesText old bytes (Ok (taken.LineEnd len)) new = ⊥
 TakesText old bytes (Err e) new = Unit {0}
 
 -- an operator came, or nothing was taken
 abbrev pub TakesBracket : Scan → List ℕ → Result Taken AllocError → Scan → Type 0
 TakesBracket old bytes (Ok taken.Nothing) new = new ≡ old
 TakesBracket old bytes (Ok (taken.Bytes len)) new = TakesOperator old bytes len new
-TakesBracket old bytes (Ok taken.LineEnd) new = ⊥
+TakesBracket old bytes (Ok (taken.LineEnd len)) new = ⊥
 TakesBracket old bytes (Err e) new = Unit {0}
 
 -- a comment that a line end follows came after closed pieces
@@ -229,24 +233,49 @@ pub record TakesComment (old : Scan) (bytes : List ℕ) (len : ℕ) (new : Scan)
 abbrev pub TakesRemark : Scan → List ℕ → Result Taken AllocError → Scan → Type 0
 TakesRemark old bytes (Ok taken.Nothing) new = new ≡ old
 TakesRemark old bytes (Ok (taken.Bytes len)) new = TakesComment old bytes len new
-TakesRemark old bytes (Ok taken.LineEnd) new = ⊥
+TakesRemark old bytes (Ok (taken.LineEnd len)) new = ⊥
 TakesRemark old bytes (Err e) new = Unit {0}
 
 -- LF came after closed pieces: in brackets the line goes on
 abbrev pub TakesLineFeed : Scan → Taken → Scan → Type 0
 TakesLineFeed old taken.Nothing new = ⊥
 TakesLineFeed old (taken.Bytes len) new = (len ≡ 1) × Begins old 10 starts.LineEnd (Ok progress.Going) new
-TakesLineFeed old taken.LineEnd new = Begins old 10 starts.LineEnd (Ok (progress.LineEnded 1)) new
+TakesLineFeed old (taken.LineEnd len) new = Begins old 10 starts.LineEnd (Ok (progress.LineEnded len)) new
 
 -- the bytes begin with LF
 abbrev pub BeginsWithFeed : List ℕ → Type 0
 BeginsWithFeed bytes = begins is_line_feed bytes ≡ true
 
+-- the scan after a line end of so many bytes, which CR begins, after closed pieces
+abbrev pub line_ended : Scan → ℕ → Scan
+line_ended old len = record old { piece = record { mode = modes.Free; start = old.stop + len; line = old.count.line + 1 }; stop = old.stop + len; count = record { line = old.count.line + 1; after_return = len == 1 }; margin = false }
+
+-- CR LF came after closed pieces
+pub record TakesReturnFeed (old : Scan) (bytes : List ℕ) (new : Scan) : Type 0 where
+  pub after : List ℕ
+  pub spell : 13 ∷ 10 ∷ after ≡ bytes
+  pub is : new ≡ line_ended old 2
+
+-- CR came after closed pieces, outside brackets, and another byte than LF stands next
+pub record TakesReturnAlone (old : Scan) (bytes : List ℕ) (new : Scan) : Type 0 where
+  pub next : ℕ
+  pub after : List ℕ
+  pub spell : 13 ∷ next ∷ after ≡ bytes
+  pub apart : is_line_feed next ≡ false
+  pub ends : none_open (stack_of old.brackets) ≡ true
+  pub is : new ≡ line_ended old 1
+
+-- a line end that CR begins came, or nothing was taken: in brackets the line goes on
+abbrev pub TakesReturn : Scan → List ℕ → Taken → Scan → Type 0
+TakesReturn old bytes taken.Nothing new = new ≡ old
+TakesReturn old bytes (taken.Bytes len) new = (len ≡ 2) × (none_open (stack_of old.brackets) ≡ false) × TakesReturnFeed old bytes new
+TakesReturn old bytes (taken.LineEnd len) new = ((len ≡ 2) × (none_open (stack_of old.brackets) ≡ true) × TakesReturnFeed old bytes new) ⊎ ((len ≡ 1) × TakesReturnAlone old bytes new)
+
 -- a piece came after closed ones, or nothing was taken
 abbrev pub TakesPiece : Scan → List ℕ → Result Taken AllocError → Scan → Type 0
 TakesPiece old bytes (Ok taken.Nothing) new = new ≡ old
-TakesPiece old bytes (Ok (taken.Bytes len)) new = TakesRun is_word_byte follows word_mode old bytes len new ⊎ (TakesRun is_space may_begin space_mode old bytes len new ⊎ (TakesOperator old bytes len new ⊎ (TakesString old bytes len new ⊎ (TakesComment old bytes len new ⊎ (BeginsWithFeed bytes × TakesLineFeed old (taken.Bytes len) new)))))
-TakesPiece old bytes (Ok taken.LineEnd) new = BeginsWithFeed bytes × TakesLineFeed old taken.LineEnd new
+TakesPiece old bytes (Ok (taken.Bytes len)) new = TakesRun is_word_byte follows word_mode old bytes len new ⊎ (TakesRun is_space may_begin space_mode old bytes len new ⊎ (TakesOperator old bytes len new ⊎ (TakesString old bytes len new ⊎ (TakesComment old bytes len new ⊎ ((BeginsWithFeed bytes × TakesLineFeed old (taken.Bytes len) new) ⊎ TakesReturn old bytes (taken.Bytes len) new)))))
+TakesPiece old bytes (Ok (taken.LineEnd len)) new = (BeginsWithFeed bytes × TakesLineFeed old (taken.LineEnd len) new) ⊎ TakesReturn old bytes (taken.LineEnd len) new
 TakesPiece old bytes (Err e) new = Unit {0}
 
 -- the scan has closed the open piece, since the next byte shows its end
@@ -261,3 +290,13 @@ pub record ReachedShut (m : Mode) (at : ℕ) (text : List ℕ) (scan : Scan) (re
   pub unshut : Scan
   pub reached : Reached m at text unshut rest
   pub how : (scan ≡ unshut) ⊎ IsShut unshut scan rest
+
+-- what pieces leave of a text is no longer than the text
+abbrev pub IsNoLonger : List ℕ → Left → Type 0
+IsNoLonger text (left.Text rest) = length rest.now ≤ length text
+IsNoLonger text (left.LineEnd len) = Unit {0}
+
+-- the scan of a text has come to what pieces leave of it, or the line has ended
+abbrev pub LeavesOff : Mode → ℕ → List ℕ → Scan → Left → Type 0
+LeavesOff m line whole scan (left.Text rest) = ReachedShut m line whole scan rest.now
+LeavesOff m line whole scan (left.LineEnd len) = ScansIn m line whole scan (stops.LineEnd len)

@@ -4,7 +4,8 @@ use Rattle.std.specs.Str.{all_scalars}
 use Rattle.std.specs.Char.{len_utf8}
 use Rattle.std.specs.declared.alloc.AllocError.{AllocError}
 use Rattle.py_lines.specs.Character.{is_return, is_line_feed}
-use Rattle.py_lines.specs.Piece.{operator, line_end, Piece, ends, is_mark_class, spelled, AreReadBefore, begins}
+use Rattle.py_lines.specs.Piece.{operator, line_end, Piece, ends, is_mark_class, spelled, begins}
+use Rattle.py_lines.specs.PieceGrammar.{AreReadBefore}
 use Rattle.py_lines.specs.Balance.{depth_after, depth_through}
 use Rattle.py_lines.specs.LogicalLine.{byte_len, line_ends, tokens_from, indent_of, kind_of, is_line_end_class}
 use Rattle.py_lines.specs.Private.Machine.{Scanned, fresh, step, run_from, token_of, Bracket, brackets_behind, brackets_of, in_short, is_behind_slash, is_final, end_kind}
@@ -62,10 +63,10 @@ kind_with unit_kind.Blank kind.Remark = unit_kind.Comment
 kind_with k kind.Remark = k
 kind_with k other = unit_kind.Code
 
--- the open piece became a token of this kind
-pub record Emits (old : Scan) (k : TokKind) (new : Scan) : Type 0 where
-  pub tokens : new.tokens.items ≡ old.tokens.items ++ record { kind = k; start = old.piece.start; stop = old.stop; line = old.piece.line } ∷ []
-  pub kind : new.kind ≡ kind_with old.kind k
+-- the line has one more token
+pub record AddsTo (old : Scan) (token : Token) (new : Scan) : Type 0 where
+  pub tokens : new.tokens.items ≡ old.tokens.items ++ token ∷ []
+  pub kind : new.kind ≡ kind_with old.kind token.kind
   pub mode : new.piece.mode ≡ old.piece.mode
   pub start : new.piece.start ≡ old.piece.start
   pub stop : new.stop ≡ old.stop
@@ -75,6 +76,10 @@ pub record Emits (old : Scan) (k : TokKind) (new : Scan) : Type 0 where
   pub margin : new.margin ≡ old.margin
   pub indent : new.indent ≡ old.indent
   pub brackets : new.brackets ≡ old.brackets
+
+-- the open piece became a token of this kind
+abbrev pub Emits : Scan → TokKind → Scan → Type 0
+Emits old k new = AddsTo old (record { kind = k; start = old.piece.start; stop = old.stop; line = old.piece.line }) new
 
 -- a token from the open piece, if it is one
 abbrev pub tokens_with : Option TokKind → ℕ → ℕ → ℕ → List Token

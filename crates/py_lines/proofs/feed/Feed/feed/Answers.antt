@@ -20,7 +20,7 @@ loop-taken-preserved c =
     let inv = c.loop-taken.invariant in
     let more = c.in-Ok.more in
     let took = c.in-Ok.ensures in
-    let chunk = next_bytes piece taken c.min-len.result more inv.within took.within in
+    let chunk = next_bytes piece taken c.step_len-len.result more inv.within took.within in
     record {
       within = chunk.1;
       more = grows old mid c.take.new.self piece _ taken more inv.more took.more chunk.0;
@@ -37,11 +37,11 @@ returns-in-Err-Fault c =
     let mid = c.loop-taken.self in
     let taken = c.loop-taken.taken in
     let inv = c.loop-taken.invariant in
-    let len = c.min-len.result in
+    let len = c.step_len-len.result in
     let rest = take (length piece - taken) (drop taken piece) in
     let is = rest_is piece taken in
     let fails = subst (λ (e : LexError). TakesChunk mid (take len rest) (Err e) c.take.new.self) c.in-Err-Fault.field-0-is c.in-Err-Fault.ensures in
-    inr (c.in_default.is, chunk_fails old mid c.take.new.self piece (take len rest) taken len _ (none_is old.ready (sym c.is_some.ensures ∙ c.if-is_some.false)) (omega (arith, c.min-len.ensures, ap length is, length-drop taken piece, inv.within)) inv.more (ap (take len) is) fails)
+    inr (c.in_default.is, chunk_fails old mid c.take.new.self piece (take len rest) taken len _ (none_is old.ready (sym c.is_some.ensures ∙ c.if-is_some.false)) (omega (arith, c.step_len-len.ensures.within, ap length is, length-drop taken piece, inv.within)) inv.more (ap (take len) is) fails)
 
 pub returns-in-Err-Memory-2 : goal.returns-in-Err-Memory-2
 returns-in-Err-Memory-2 c =
@@ -50,7 +50,7 @@ returns-in-Err-Memory-2 c =
     let mid = c.loop-taken.self in
     let inv = c.loop-taken.invariant in
     let rest = take (length piece - c.loop-taken.taken) (drop c.loop-taken.taken piece) in
-    let same = subst (λ (e : LexError). TakesChunk mid (take c.min-len.result rest) (Err e) c.take.new.self) c.in-Err-Memory.field-0-is c.in-Err-Memory.ensures in
+    let same = subst (λ (e : LexError). TakesChunk mid (take c.step_len-len.result rest) (Err e) c.take.new.self) c.in-Err-Memory.field-0-is c.in-Err-Memory.ensures in
     (c.in_default.is, inr (stops_short old mid c.take.new.self piece c.loop-taken.taken (none_is old.ready (sym c.is_some.ensures ∙ c.if-is_some.false)) inv.within (λ zero. c.if-taken-eq0.false zero) inv.more inv.fault (none_is mid.ready (c.is_none.ensures ∙ ap not c.if-is_none.true)) inv.scanned same))
 
 pub returns-after-loop-taken : goal.returns-after-loop-taken

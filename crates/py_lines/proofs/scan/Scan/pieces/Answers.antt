@@ -52,13 +52,14 @@ returns-in-Nothing-clause-reached c =
     let takes : TakesPiece old bytes (Ok taken.Nothing) new = subst (λ (t : List ℕ). TakesPiece old t (Ok taken.Nothing) new) c.as_bytes.ensures.value (subst (λ (r : Taken). TakesPiece old c.as_bytes.result.now (Ok r) new) c.in-Nothing.is c.in_ok-len.ensures) in
     none_goes c.args.self.now c.args.text.now old new bytes (sym c.is_free.ensures ∙ c.pieces-test.true) c.pieces.invariant.utf8 c.pieces.invariant.reached takes
 
-pub returns-in-LineEnd-clause-ended : goal.returns-in-LineEnd-clause-ended
-returns-in-LineEnd-clause-ended c m line whole utf8 start r =
+pub returns-in-LineEnd-clause-reached : goal.returns-in-LineEnd-clause-reached
+returns-in-LineEnd-clause-reached c =
     let old = c.pieces.self in
     let new = c.piece.new.self in
     let bytes = c.pieces.rest.now in
-    let takes : TakesPiece old bytes (Ok taken.LineEnd) new = subst (λ (t : List ℕ). TakesPiece old t (Ok taken.LineEnd) new) c.as_bytes.ensures.value (subst (λ (r : Taken). TakesPiece old c.as_bytes.result.now (Ok r) new) c.in-LineEnd.is c.in_ok-len.ensures) in
-    λ none. ends_line c.args.self.now c.args.text.now old new bytes (sym c.is_free.ensures ∙ c.pieces-test.true) c.pieces.invariant.utf8 c.pieces.invariant.reached takes m line whole utf8 start r
+    let len = c.in-LineEnd.len in
+    let takes : TakesPiece old bytes (Ok (taken.LineEnd len)) new = subst (λ (t : List ℕ). TakesPiece old t (Ok (taken.LineEnd len)) new) c.as_bytes.ensures.value (subst (λ (r : Taken). TakesPiece old c.as_bytes.result.now (Ok r) new) c.in-LineEnd.is c.in_ok-len.ensures) in
+    ends_line c.args.self.now c.args.text.now old new bytes (sym c.is_free.ensures ∙ c.pieces-test.true) c.pieces.invariant.utf8 c.pieces.invariant.reached len takes
 
 pub pieces-smaller : goal.pieces-smaller
 pieces-smaller c =

@@ -1,0 +1,209 @@
+-- A line end that CR begins is taken whole: CR opens a piece, and LF, or what follows, closes it.
+use Rattle.std.proofs.Common.{◌≡◌, ℕ, ◌+◌, ◌<◌, Bool, true, false, not, ◌&&◌, inr, Ok, List, [], ◌∷◌, ◌++◌, length, drop, get_or, refl, sym, ap, ◌∙◌, subst, append-nil, arith, ⊎_elim, lit<}
+use Rattle.std.specs.Prelude.{encode_utf8, encode_utf8_all}
+use Rattle.std.specs.Str.{IsCharBoundary}
+use Rattle.std.proofs.lemmas.Bool.{and_right, both_ways}
+use Rattle.std.proofs.lemmas.Str.{encode_ascii, len_utf8_ascii}
+use Rattle.py_lines.specs.Character.{is_line_feed, is_return}
+use Rattle.py_lines.specs.Piece.{begins}
+use Rattle.py_lines.specs.declared.mode.Mode.TheVariants as modes
+use Rattle.py_lines.specs.declared.mode.Start.{Start}
+use Rattle.py_lines.specs.declared.mode.Start.TheVariants as starts
+use Rattle.py_lines.specs.declared.mode.Move.TheVariants as moves
+use Rattle.py_lines.specs.declared.scan.Progress.{Progress}
+use Rattle.py_lines.specs.declared.scan.Progress.TheVariants as progress
+use Rattle.py_lines.specs.declared.scan.Scan.{Scan}
+use Rattle.py_lines.specs.declared.scan.Stop.TheVariants as stops
+use Rattle.py_lines.specs.declared.scan.Taken.TheVariants as taken
+use Rattle.py_lines.specs.Private.Machine.{move_of}
+use Rattle.py_lines.specs.Private.Scan.{Begins, Closes, ReadsCharacter, counts_behind, is_return_mode, is_returned, line_end_progress, none_open, stack_of}
+use Rattle.py_lines.specs.Private.Run.{Reached, TakesReturn, TakesReturnAlone, TakesReturnFeed, is_free, line_ended}
+use Rattle.py_lines.proofs.Machine.Starts.{start-return}
+use Rattle.py_lines.proofs.Text.CharacterTests.{feed_from, feed_is, return_is}
+use Rattle.py_lines.proofs.LineScan.LineStops.{GoesTo, ShutsTo, StopsNow, TakesTo, goes_character, stops_before, stops_line}
+use Rattle.py_lines.proofs.LineScan.NextCharacter.{takes_returned}
+use Rattle.py_lines.proofs.LineScan.ShortPieces.{Goes, free_is, low_cut, settled, settles, shut_from}
+
+-- the scan with CR open after closed pieces
+abbrev with_return : Scan → Scan
+with_return old = record old { piece = record { mode = modes.Return; start = old.stop; line = old.count.line }; stop = old.stop + 1; count = record { line = old.count.line + 1; after_return = true } }
+
+-- and with LF after it
+abbrev with_feed : Scan → Scan
+with_feed old = record old { piece = record { mode = modes.Return; start = old.stop; line = old.count.line }; stop = old.stop + 2; count = record { line = old.count.line + 1; after_return = false } }
+
+-- what CR and LF count
+return_counts : (after_return : Bool) → (counts_behind after_return 13 ≡ 1) × (is_return 13 ≡ true)
+unfolding counts_behind is_return
+return_counts after_return = (refl, refl)
+
+feed_counts : (counts_behind true 10 ≡ 0) × (is_return 10 ≡ false)
+unfolding counts_behind is_return is_line_feed
+feed_counts = (refl, refl)
+
+-- CR opens
+return_begins : (old : Scan) → is_free old.piece.mode ≡ true → Begins old 13 (starts.Open modes.Return) (Ok progress.Going) (with_return old)
+return_begins old free =
+    let size = len_utf8_ascii 13 (lit< tt) in
+    let counts = return_counts old.count.after_return in (
+      refl,
+      record {
+        mid = settled old;
+        read = record (with_return old) { piece = record { mode = old.piece.mode; start = old.stop; line = old.count.line } };
+        closes = settles old (free_is old.piece.mode free);
+        reads = record {
+          stop = ap (λ (n : ℕ). old.stop + n) (sym size);
+          count = record { line = ap (λ (n : ℕ). old.count.line + n) (sym counts.0); after = sym counts.1 };
+          mode = refl;
+          start = refl;
+          piece_line = refl;
+          line = refl;
+          margin = refl;
+          indent = refl;
+          kind = refl;
+          tokens = refl;
+          brackets = refl;
+        };
+        is = refl;
+      },
+    )
+
+return_takes : (old : Scan) → is_free old.piece.mode ≡ true → TakesTo old 13 progress.Going (with_return old)
+return_takes old free = record {
+  begun = λ is. subst (λ (s : Start). Begins old 13 s (Ok progress.Going) (with_return old)) (sym (start-return 13 (return_counts false).1)) (return_begins old free);
+  taken = λ s read other. absurd (both_ways _ other free);
+}
+
+-- LF closes it
+feed_reads : (old : Scan) → ReadsCharacter (with_return old) 10 (with_feed old)
+feed_reads old =
+    let size = len_utf8_ascii 10 (lit< tt) in
+    record {
+      stop = omega (arith, size);
+      count = record { line = omega (arith, feed_counts.0); after = sym feed_counts.1 };
+      mode = refl;
+      start = refl;
+      piece_line = refl;
+      line = refl;
+      margin = refl;
+      indent = refl;
+      kind = refl;
+      tokens = refl;
+      brackets = refl;
+    }
+
+feed_closes : (old : Scan) → Closes (with_feed old) (line_ended old 2)
+feed_closes old = record {
+  tokens = sym (append-nil old.tokens.items);
+  kind = refl;
+  indent = refl;
+  margin = sym (and_right old.margin false refl);
+  mode = refl;
+  start = refl;
+  stop = refl;
+  piece_line = refl;
+  line = refl;
+  count = refl;
+  brackets = refl;
+}
+
+return_closes : (old : Scan) → Closes (with_return old) (line_ended old 1)
+return_closes old = record {
+  tokens = sym (append-nil old.tokens.items);
+  kind = refl;
+  indent = refl;
+  margin = sym (and_right old.margin false refl);
+  mode = refl;
+  start = refl;
+  stop = refl;
+  piece_line = refl;
+  line = refl;
+  count = refl;
+  brackets = refl;
+}
+
+feed_move : move_of modes.Return 10 ≡ moves.Closes
+unfolding move_of
+feed_move = rw (feed_from 10 refl) refl
+
+feed_takes : (old : Scan) (p : Progress) → p ≡ line_end_progress (none_open (stack_of old.brackets)) 2 → TakesTo (with_return old) 10 p (line_ended old 2)
+feed_takes old p is = record {
+  begun = λ is. absurd (both_ways _ refl is);
+  taken = λ s read other sound none not_yet tallies stacked.
+      takes_returned (with_return old) (with_feed old) (line_ended old 2) s.done s.mode s.held read 10 p (ap is_return_mode (sym tallies.mode)) (ap (λ m. move_of m 10) (sym tallies.mode) ∙ feed_move) sound tallies stacked none (feed_reads old) (feed_closes old) is;
+}
+
+-- a character that ended no line before it
+free_yet : (old : Scan) (c : ℕ) → is_free old.piece.mode ≡ true → is_returned old && not (is_line_feed c) ≡ false
+free_yet old c free = ap (λ (b : Bool). (b && none_open (stack_of old.brackets)) && not (is_line_feed c)) (ap is_return_mode (free_is old.piece.mode free))
+
+feed_yet : (scan : Scan) → is_returned scan && not (is_line_feed 10) ≡ false
+feed_yet scan = and_right (is_returned scan) _ (ap not (feed_from 10 refl))
+
+-- the bytes as characters
+encodes_one : (c : ℕ) (after bytes : List ℕ) → c < 128 → c ∷ after ≡ bytes → bytes ≡ encode_utf8 c ++ after
+encodes_one c after bytes low spell = sym spell ∙ ap (λ t. t ++ after) (sym (encode_ascii c low))
+
+module _ (first : Scan) (text : List ℕ) (old : Scan) (bytes : List ℕ) (free : is_free old.piece.mode ≡ true) (shuts : ShutsTo first text old bytes) where
+  -- after CR
+  return_shuts : (after : List ℕ) → 13 ∷ after ≡ bytes → ShutsTo first text (with_return old) after
+  return_shuts after spell m at whole utf8 start r =
+      shut_from m at whole (with_return old) after (goes_character first text old bytes shuts 13 after (encodes_one 13 after bytes (lit< tt) spell) (with_return old) (free_yet old 13 free) (return_takes old free) m at whole utf8 start r)
+
+  -- after CR LF the line goes on
+  feed_goes : (new : Scan) → none_open (stack_of old.brackets) ≡ false → (feed : TakesReturnFeed old bytes new) → GoesTo first text new feed.after
+  feed_goes new inside feed =
+      subst (λ (s : Scan). GoesTo first text s feed.after) (sym feed.is)
+      (goes_character first text (with_return old) (10 ∷ feed.after) (return_shuts (10 ∷ feed.after) feed.spell) 10 feed.after (encodes_one 10 feed.after (10 ∷ feed.after) (lit< tt) refl) (line_ended old 2) (feed_yet (with_return old)) (feed_takes old progress.Going (ap (λ b. line_end_progress b 2) (sym inside))))
+
+  -- or it has ended
+  feed_ends : (new : Scan) → none_open (stack_of old.brackets) ≡ true → TakesReturnFeed old bytes new → StopsNow first text new (stops.LineEnd 2)
+  feed_ends new outside feed =
+      subst (λ (s : Scan). StopsNow first text s (stops.LineEnd 2)) (sym feed.is)
+      (stops_line first text (with_return old) (10 ∷ feed.after) (return_shuts (10 ∷ feed.after) feed.spell) 10 feed.after (encodes_one 10 feed.after (10 ∷ feed.after) (lit< tt) refl) (line_ended old 2) 2 (feed_yet (with_return old)) (feed_takes old (progress.LineEnded 2) (ap (λ b. line_end_progress b 2) (sym outside))))
+
+  -- it has ended before another byte
+  alone_ends : (new : Scan) → TakesReturnAlone old bytes new → StopsNow first text new (stops.LineEnd 1)
+  alone_ends new alone =
+      subst (λ (s : Scan). StopsNow first text s (stops.LineEnd 1)) (sym alone.is)
+      (stops_before first text (with_return old) (alone.next ∷ alone.after) (return_shuts (alone.next ∷ alone.after) alone.spell) (line_ended old 1) alone.ends (λ read. inr (alone.next, alone.after, refl, (λ ten. both_ways _ alone.apart (feed_from alone.next ten)))) (return_closes old))
+
+  pub return_goes : (new : Scan) (len : ℕ) → TakesReturn old bytes (taken.Bytes len) new → ShutsTo first text new (drop len bytes)
+  return_goes new len (two, inside, feed) m at whole utf8 start r =
+      let left : drop len bytes ≡ feed.after = ap (λ (n : ℕ). drop n bytes) two ∙ ap (drop 2) (sym feed.spell) in
+      shut_from m at whole new (drop len bytes) (subst (Reached m at whole new) (sym left) (feed_goes new inside feed m at whole utf8 start r))
+
+  pub return_ends_line : (new : Scan) (len : ℕ) → TakesReturn old bytes (taken.LineEnd len) new → StopsNow first text new (stops.LineEnd len)
+  return_ends_line new len takes =
+      ⊎_elim
+      (λ (two, outside, feed). subst (λ (n : ℕ). StopsNow first text new (stops.LineEnd n)) (sym two) (feed_ends new outside feed))
+      (λ (one, alone). subst (λ (n : ℕ). StopsNow first text new (stops.LineEnd n)) (sym one) (alone_ends new alone)) takes
+
+-- how far CR LF goes
+pub return_far : (old new : Scan) (bytes : List ℕ) (len : ℕ) → TakesReturn old bytes (taken.Bytes len) new → Goes old bytes len new
+return_far old new bytes len (two, inside, feed) =
+    let run : List ℕ = 13 ∷ 10 ∷ [] in
+    let same : encode_utf8_all run ≡ run = ap (λ t. t ++ encode_utf8_all (10 ∷ [])) (encode_ascii 13 (lit< tt)) ∙ ap (λ t. 13 ∷ (t ++ [])) (encode_ascii 10 (lit< tt)) in
+    record {
+      stop = omega (arith, two, ap (λ (s : Scan). s.stop) feed.is);
+      some = omega (arith, two);
+      within = omega (arith, two, ap length feed.spell);
+      lines = omega (arith, two, ap (λ (s : Scan). s.count.line) feed.is);
+      cut = λ utf8. subst (IsCharBoundary bytes) (sym two) (low_cut run feed.after bytes feed.spell same utf8);
+    }
+
+-- the bytes begin with CR and this byte
+second_is : (bytes : List ℕ) (next : ℕ) → begins is_return bytes ≡ true → ((d : ℕ) → next ≡ get_or bytes 1 d) → 13 ∷ next ∷ drop 2 bytes ≡ bytes
+second_is [] next returns second = absurd (both_ways _ refl returns)
+second_is (r ∷ []) next returns second = absurd (omega (arith, second 0, second 1))
+second_is (r ∷ b ∷ bs) next returns second = ap (λ (n : ℕ). n ∷ next ∷ bs) (sym (return_is r returns)) ∙ ap (λ (n : ℕ). r ∷ n ∷ bs) (second 0)
+
+pub feed_taken : (old new : Scan) (bytes : List ℕ) (next : ℕ) → begins is_return bytes ≡ true → ((d : ℕ) → next ≡ get_or bytes 1 d) → is_line_feed next ≡ true → new ≡ line_ended old 2 → TakesReturnFeed old bytes new
+feed_taken old new bytes next returns second feeds is = record {
+  after = drop 2 bytes;
+  spell = ap (λ (n : ℕ). 13 ∷ n ∷ drop 2 bytes) (sym (feed_is next feeds)) ∙ second_is bytes next returns second;
+  is = is;
+}
+
+pub alone_taken : (old new : Scan) (bytes : List ℕ) (next : ℕ) → begins is_return bytes ≡ true → ((d : ℕ) → next ≡ get_or bytes 1 d) → is_line_feed next ≡ false → none_open (stack_of old.brackets) ≡ true → new ≡ line_ended old 1 → TakesReturnAlone old bytes new
+alone_taken old new bytes next returns second apart ends is = record { next = next; after = drop 2 bytes; spell = second_is bytes next returns second; apart = apart; ends = ends; is = is }
