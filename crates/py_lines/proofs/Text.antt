@@ -5,5 +5,6 @@ pub mod Decoding
 pub mod CharsIterator
 pub mod Continued
 pub mod Utf8Shapes
+pub mod FirstCharacters
 pub mod Incomplete
 pub mod Lanes

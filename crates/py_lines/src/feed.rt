@@ -1,6 +1,6 @@
 //! The scanner inside a `Scanner`: the text that it holds, and the scan of the line that this text begins with.
 
-ghost use Rattle.std.specs.Prelude.{◌≡◌, ℕ, ◌+◌, ◌-◌, ◌<◌, ◌≤◌, ◌^◌, drop, length};
+ghost use Rattle.std.specs.Prelude.{◌≡◌, ℕ, ◌+◌, ◌-◌, ◌<◌, ◌≤◌, ◌^◌, ◌++◌, drop, take, length, OnOk, OnErr};
 ghost use Rattle.std.specs.Str.{StartsWithNoChar};
 ghost use Rattle.py_lines.specs.Private.Feed.{TellsHopeless};
 
@@ -8,13 +8,28 @@ use crate::count::line_behind;
 use crate::fault::{Fault, FaultKind, LexError};
 use crate::mode::Mode;
 use crate::scan::{Scan, Stop};
-use crate::source::utf8_front;
 use crate::unit::Unit;
-use std::alloc::Global;
+use std::alloc::{AllocError, Global};
 
-/// How many bytes of a piece are scanned at once, if no more are held. With the one that may be held after CR they are
-/// tested for ASCII at once.
-const STEP: usize = 127;
+/// How many bytes are taken at once to follow those that are held, if no more are held. Most lines have fewer.
+const STEP: usize = 128;
+
+/// Puts the first `len` of these bytes after those that are held. If there is no memory for them, none is.
+#[inline(always)]
+fn hold_first(held: &mut Vec<u8>, bytes: &[u8], len: usize) -> Result<(), AllocError>
+    requires { len ≤ length bytes.now }
+    ensures ok { OnOk result (held.new.items ≡ held.old.items ++ take len bytes.now) }
+    ensures err { OnErr result (held.new.items ≡ held.old.items) }
+{
+    if len > STEP || bytes.len() < STEP {
+        return held.extend_from_slice(&bytes[..len]);
+    }
+    // A copy whose size is known takes fewer steps.
+    let end = held.len() + len;
+    held.extend_from_slice(&bytes[..STEP])?;
+    held.truncate(end);
+    Ok(())
+}
 
 /// Whether no bytes after these, which begin no character, complete them.
 fn is_hopeless(bytes: &[u8]) -> bool
@@ -66,7 +81,7 @@ pub struct Feed {
 }
 
 impl Feed {
-    ghost use Rattle.std.specs.Prelude.{◌&&◌, not, true, false, None, Some, Ok, Err, List, [], ◌++◌, length, take, slice_index, encode_utf8, encode_utf8_all, IsUtf8};
+    ghost use Rattle.std.specs.Prelude.{◌&&◌, not, true, false, None, Some, Ok, Err, List, [], slice_index, encode_utf8, encode_utf8_all, IsUtf8};
     ghost use Rattle.std.specs.Char.{len_utf8};
     ghost use Rattle.py_lines.specs.Character.{is_line_feed};
     ghost use Rattle.py_lines.specs.Scanning.{begun_at, Finishes};
@@ -75,7 +90,7 @@ impl Feed {
     ghost use Rattle.py_lines.specs.Private.Machine.{Bracket};
     ghost use Rattle.py_lines.specs.Private.Scan.{is_returned};
     ghost use Rattle.py_lines.specs.Private.Source.{first_mode};
-    ghost use Rattle.py_lines.specs.Private.Feed.{Restarts, IsOpen, FailsAt, ClosesLine, ScansCharacters, ScansHeld, StopsHeld, whole_end, GivesBack, TakesChunk, IsHeldSo, IsScanned, IsReady, IsSoundFeed, FeedsSo, EndsHeld, EndsText, LetsGo};
+    ghost use Rattle.py_lines.specs.Private.Feed.{Restarts, IsOpen, FailsAt, ClosesLine, ScansCharacters, ScansHeld, StopsHeld, whole_end, GivesBack, TakesChunk, HasScannedNext, IsHeldSo, IsScanned, IsReady, IsSoundFeed, FeedsSo, EndsHeld, EndsText, LetsGo};
 
     pub fn new(alloc: Global) -> Feed
         ensures start { scanning_of result ≡ begun_at 0 1 }
@@ -169,8 +184,7 @@ impl Feed {
         ensures { ScansCharacters self.old result self.new }
     {
         let stop = self.scan.stop;
-        let text = utf8_front(&self.held[stop..]);
-        match self.scan.extend(text) {
+        match self.scan.extend(&self.held[stop..]) {
             Ok(stop) => Ok(stop),
             Err(error) => {
                 self.restart();
@@ -262,18 +276,65 @@ impl Feed {
         }
     }
 
-    /// How many of these bytes are taken next. An empty line is taken alone; after CR one byte more shows that it is whole.
+    /// How many of these bytes are taken next. Where none is held they are scanned where they stand; after CR one byte
+    /// more shows that the line is whole.
     #[inline(always)]
     fn step_len(&self, bytes: &[u8]) -> usize
         requires some { 0 < length bytes.now }
         ensures some { 0 < result }
         ensures within { result ≤ length bytes.now }
     {
-        let len = bytes.len().min(self.held.len().max(STEP));
-        match (self.held.as_slice(), bytes) {
-            ([], [b'\n', ..]) | ([b'\r'], _) => 1,
-            ([], [b'\r', ..]) => len.min(2),
-            _ => len,
+        match self.held.as_slice() {
+            [] => bytes.len(),
+            [b'\r'] => 1,
+            held => bytes.len().min(held.len().max(STEP)),
+        }
+    }
+
+    /// Takes the line that has ended in these bytes, which were scanned where they stand: how many.
+    #[inline(always)]
+    fn take_line(&mut self, chunk: &[u8], end_len: usize) -> Result<usize, LexError>
+        requires scanned { HasScannedNext self.old chunk.now (Stop.LineEnd end_len) }
+        requires not_ready { self.old.ready ≡ None }
+        requires fits { length chunk.now ≤ 2 ^ 62 }
+        ensures { TakesChunk self.old chunk.now result self.new }
+    {
+        let len = self.whole_end();
+        if let Err(error) = hold_first(&mut self.held, chunk, len) {
+            self.restart();
+            return Err(error.into());
+        }
+        self.ready = Some(end_len);
+        Ok(len)
+    }
+
+    /// Takes bytes of these, which were scanned where they stand, up to a line's end: how many.
+    #[inline(always)]
+    fn take_scanned(&mut self, chunk: &[u8], stop: Stop) -> Result<usize, LexError>
+        requires scanned { HasScannedNext self.old chunk.now stop }
+        requires not_ready { self.old.ready ≡ None }
+        requires some { 0 < length chunk.now }
+        requires fits { self.old.place + length chunk.now ≤ 2 ^ 62 }
+        requires few_lines { self.old.line ≤ self.old.place + 1 }
+        ensures { TakesChunk self.old chunk.now result self.new }
+    {
+        if let Stop::LineEnd(end_len) = stop {
+            return self.take_line(chunk, end_len);
+        }
+        if let Err(error) = self.held.extend_from_slice(chunk) {
+            self.restart();
+            return Err(error.into());
+        }
+        match self.meet(stop) {
+            Ok(()) => {
+                self.give_back(0);
+                Ok(self.held.len())
+            }
+            Err(LexError::Fault(fault)) => Err(LexError::Fault(fault)),
+            Err(LexError::Memory) => {
+                self.held.clear();
+                Err(LexError::Memory)
+            }
         }
     }
 
@@ -289,26 +350,11 @@ impl Feed {
         requires few_lines { self.old.line ≤ self.old.place + 1 }
         ensures { TakesChunk self.old chunk.now result self.new }
     {
-        let stop = match self.scan.extend(utf8_front(chunk)) {
-            Ok(stop) => stop,
+        match self.scan.extend(chunk) {
+            Ok(stop) => self.take_scanned(chunk, stop),
             Err(error) => {
                 self.restart();
-                return Err(error.into());
-            }
-        };
-        if let Err(error) = self.held.extend_from_slice(chunk) {
-            self.restart();
-            return Err(error.into());
-        }
-        match self.meet(stop) {
-            Ok(()) => {
-                self.give_back(0);
-                Ok(self.held.len())
-            }
-            Err(LexError::Fault(fault)) => Err(LexError::Fault(fault)),
-            Err(LexError::Memory) => {
-                self.held.clear();
-                Err(LexError::Memory)
+                Err(error.into())
             }
         }
     }

@@ -15,6 +15,7 @@ mod scanner;
 mod source;
 mod token;
 mod unit;
+mod utf8;
 
 pub use fault::{Fault, FaultKind, LexError};
 pub use lines::Lines;

@@ -183,8 +183,32 @@ fn later_word_run(bytes: &[u8]) -> usize
     word_run(bytes)
 }
 
+/// The lanes that hold bytes of space.
+#[inline(always)]
+fn spaces(lanes: u8x16) -> u8x16
+    ensures { Marks is_space lanes result }
+{
+    equal(lanes, b' ') | (equal(lanes, b'\t') | equal(lanes, b'\x0c'))
+}
+
 /// How many bytes of space a text begins with.
+#[inline(always)]
 pub fn space_run(bytes: &[u8]) -> usize
+    ensures { IsRunOf is_space bytes.now result }
+{
+    let mut len = 0;
+    while bytes.len() - len >= 16 {
+        let more = set_first(spaces(u8x16::from_slice(&bytes[len..])));
+        len += more;
+        if more < 16 {
+            return len;
+        }
+    }
+    len + short_space_run(&bytes[len..])
+}
+
+/// The same, a byte at a time.
+fn short_space_run(bytes: &[u8]) -> usize
     ensures { IsRunOf is_space bytes.now result }
 {
     let mut len = 0;

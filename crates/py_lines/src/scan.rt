@@ -19,6 +19,7 @@ use crate::mode::{Mode, Move, Spelling, Start};
 use crate::run::{FirstByte, comment_run, run_in, space_run, text_run, word_run};
 use crate::token::{TokKind, Token};
 use crate::unit::UnitKind;
+use crate::utf8::{first_character, is_utf8, utf8_front};
 use std::alloc::{AllocError, Global};
 
 /// What a character came to.
@@ -30,7 +31,7 @@ pub enum Progress {
     Refused,
 }
 
-/// Where the scan of a line stopped.
+/// Where the scan of a line stopped. `TextEnd` is where the next bytes begin no character.
 #[derive(Clone, Copy)]
 pub enum Stop {
     LineEnd(usize),
@@ -66,8 +67,8 @@ enum Taken {
 /// What whole pieces leave.
 #[derive(Clone, Copy)]
 enum Left<'s> {
-    /// The text after them, which may go on in the line.
-    Text(&'s str),
+    /// The bytes after them, which may go on in the line.
+    Bytes(&'s [u8]),
     /// The line has ended: so many bytes are its line end.
     LineEnd(usize),
 }
@@ -432,18 +433,19 @@ impl Scan {
         })
     }
 
-    /// Takes the characters that leave the open piece as it is, and answers the text after them.
-    fn hold<'s>(&mut self, text: &'s str) -> &'s str
-        requires bytes { self.old.stop + length text.now < 2 ^ 64 }
+    /// Takes the characters that leave the open piece as it is, and answers the bytes after them.
+    fn hold<'s>(&mut self, bytes: &'s [u8]) -> &'s [u8]
+        requires bytes { self.old.stop + length bytes.now < 2 ^ 64 }
         requires quote { HasAsciiQuote self.old.piece.mode }
-        ensures { Holds self.old text.now result.now self.new }
+        ensures { Holds self.old bytes.now result.now self.new }
     {
-        let len = run_in(self.piece.mode, text.as_bytes());
+        let run = run_in(self.piece.mode, bytes);
+        let len = utf8_front(&bytes[..run]).len();
         if len > 0 {
             self.stop += len;
             self.count.after_return = false;
         }
-        &text[len..]
+        &bytes[len..]
     }
 
     /// Opens a piece of so many bytes, none of which ends a line, after closed ones.
@@ -588,14 +590,14 @@ impl Scan {
         Ok(Taken::Bytes(1))
     }
 
-    /// Takes the comment that the bytes begin with, after closed pieces, if a line end follows it.
+    /// Takes the comment that the bytes begin with, after closed pieces, if it is whole characters and a line end follows it.
     fn comment(&mut self, bytes: &[u8]) -> Result<Taken, AllocError>
         requires bytes { self.old.stop + length bytes.now < 2 ^ 64 }
         requires begins { begins is_hash bytes.now ≡ true }
         ensures { TakesRemark self.old bytes.now result self.new }
     {
         let len = comment_run(bytes);
-        if len == bytes.len() {
+        if len == bytes.len() || !is_utf8(&bytes[..len]) {
             return Ok(Taken::Nothing);
         }
         self.open(Mode::Comment, len);
@@ -693,39 +695,38 @@ impl Scan {
 
     /// Takes pieces, as long as they follow one another, up to the line's end.
     #[inline(always)]
-    fn pieces<'s>(&mut self, text: &'s str) -> Result<Left<'s>, AllocError>
-        requires bytes { self.old.stop + length text.now < 2 ^ 64 }
-        requires lines { self.old.count.line + length text.now < 2 ^ 64 }
-        ensures shorter { IfOk result (IsNoLonger text.now) }
-        ensures reached { (m : Mode) (line : ℕ) (whole : List ℕ) → IsUtf8 whole → IsSound (line_start m) [] → Reached m line whole self.old text.now → IfOk result (LeavesOff m line whole self.new) }
+    fn pieces<'s>(&mut self, bytes: &'s [u8]) -> Result<Left<'s>, AllocError>
+        requires bytes { self.old.stop + length bytes.now < 2 ^ 64 }
+        requires lines { self.old.count.line + length bytes.now < 2 ^ 64 }
+        ensures shorter { IfOk result (IsNoLonger bytes.now) }
+        ensures reached { (m : Mode) (line : ℕ) (whole : List ℕ) → IsSound (line_start m) [] → Reached m line whole self.old bytes.now → IfOk result (LeavesOff m line whole self.new) }
     {
-        let mut rest = text;
+        let mut rest = bytes;
         'pieces: while self.piece.mode.is_free() {
-            match self.piece(rest.as_bytes())? {
+            match self.piece(rest)? {
                 Taken::Bytes(len) => rest = &rest[len..],
                 Taken::LineEnd(len) => return Ok(Left::LineEnd(len)),
-                Taken::Nothing => return Ok(Left::Text(rest)),
+                Taken::Nothing => return Ok(Left::Bytes(rest)),
             }
         }
-        Ok(Left::Text(rest))
+        Ok(Left::Bytes(rest))
     }
 
-    /// Takes characters that go on in the line, up to its end, the text's end, or one that is refused. A CR at the text's
-    /// end stays open.
-    pub fn extend(&mut self, text: &str) -> Result<Stop, AllocError>
-        requires way { (m : Mode) × (line : ℕ) × (whole : List ℕ) × IsUtf8 whole × IsSound (line_start m) [] × Reached m line whole self.old text.now }
-        requires bytes { self.old.stop + length text.now < 2 ^ 64 }
-        requires lines { self.old.line + self.old.stop + length text.now + 1 < 2 ^ 64 }
-        ensures stops { (m : Mode) (line : ℕ) (whole : List ℕ) → IsUtf8 whole → IsSound (line_start m) [] → Reached m line whole self.old text.now → IfOk result (ScansIn m line whole self.new) }
+    /// Takes characters that go on in the line, up to its end, bytes that begin no character, or a character that is
+    /// refused. A CR at the end of the bytes stays open.
+    pub fn extend(&mut self, bytes: &[u8]) -> Result<Stop, AllocError>
+        requires way { (m : Mode) × (line : ℕ) × (whole : List ℕ) × IsSound (line_start m) [] × Reached m line whole self.old bytes.now }
+        requires bytes { self.old.stop + length bytes.now < 2 ^ 64 }
+        requires lines { self.old.line + self.old.stop + length bytes.now + 1 < 2 ^ 64 }
+        ensures stops { (m : Mode) (line : ℕ) (whole : List ℕ) → IsSound (line_start m) [] → Reached m line whole self.old bytes.now → IfOk result (ScansIn m line whole self.new) }
     {
-        let mut rest = text;
+        let mut rest = bytes;
         'characters: loop {
             let left = match self.pieces(rest)? {
-                Left::Text(left) => left,
+                Left::Bytes(left) => left,
                 Left::LineEnd(len) => return Ok(Stop::LineEnd(len)),
             };
-            let mut characters = left.chars();
-            let Some(c) = characters.next() else {
+            let Some(c) = first_character(left) else {
                 return Ok(Stop::TextEnd);
             };
             if self.ends_before(c) {
@@ -733,7 +734,7 @@ impl Scan {
                 return Ok(Stop::LineEnd(1));
             }
             match self.take(c)? {
-                Progress::Going => rest = self.hold(characters.as_str()),
+                Progress::Going => rest = self.hold(&left[c.len_utf8()..]),
                 Progress::LineEnded(len) => return Ok(Stop::LineEnd(len)),
                 Progress::Refused => return Ok(Stop::Refused(c)),
             }
@@ -749,7 +750,7 @@ impl Scan {
         ensures stops { IfOk result (Scans self.old.piece.mode text.now self.new) }
         ensures line { OnOk result (self.new.line ≡ self.old.line) }
     {
-        let stop = self.extend(text)?;
+        let stop = self.extend(text.as_bytes())?;
         if matches!(stop, Stop::TextEnd) && self.is_returned() {
             self.close()?;
             return Ok(Stop::LineEnd(1));

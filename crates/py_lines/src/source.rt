@@ -9,42 +9,8 @@ use crate::fault::{Fault, FaultKind, LexError};
 use crate::mode::Mode;
 use crate::scan::{Scan, Stop};
 use crate::unit::Unit;
+use crate::utf8::utf8_front;
 use std::alloc::Global;
-
-/// Up to so many bytes are tested for ASCII at once.
-const SHORT: usize = 64;
-
-/// Whether the bytes are few, and ASCII.
-#[inline(always)]
-fn is_short_ascii(bytes: &[u8]) -> bool
-    ensures { IsTrue result → IsUtf8 bytes.now }
-{
-    if bytes.len() <= SHORT {
-        return bytes.is_ascii();
-    }
-    if bytes.len() > 2 * SHORT {
-        return false;
-    }
-    let (front, rest) = bytes.split_at(SHORT);
-    front.is_ascii() && rest.is_ascii()
-}
-
-/// The text that the bytes begin with, up to the first that begin no character.
-#[inline(always)]
-pub fn utf8_front(bytes: &[u8]) -> &str
-    ensures front { result.now ≡ take (length result.now) bytes.now }
-    ensures bad { StartsWithNoChar (drop (length result.now) bytes.now) }
-{
-    if is_short_ascii(bytes) {
-        // ASCII is UTF-8.
-        return unsafe { std::str::from_utf8_unchecked(bytes) };
-    }
-    match std::str::from_utf8(bytes) {
-        Ok(text) => text,
-        // Before that byte all is UTF-8.
-        Err(error) => unsafe { std::str::from_utf8_unchecked(&bytes[..error.valid_up_to()]) },
-    }
-}
 
 /// A text and how far it has been read. The tokens of the line read last are kept until the next one.
 #[derive(Drop)]

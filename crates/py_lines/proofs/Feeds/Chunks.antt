@@ -1,5 +1,5 @@
 -- A piece that is taken by chunks.
-use Rattle.std.proofs.Common.{◌≡◌, ℕ, ◌+◌, ◌-◌, ◌<◌, ◌≤◌, false, Option, None, Some, Err, List, [], ◌++◌, length, take, drop, refl, sym, ap, ◌∙◌, subst, inr, append_assoc, append-nil, arith, length-drop, length-take}
+use Rattle.std.proofs.Common.{◌≡◌, ℕ, ◌+◌, ◌-◌, ◌<◌, ◌≤◌, false, Option, None, Some, Result, Ok, Err, List, [], ◌++◌, length, take, drop, refl, sym, ap, ◌∙◌, subst, inr, append_assoc, append-nil, arith, length-drop, length-take}
 use Rattle.std.specs.Prelude.{is_some}
 use Rattle.std.specs.Global.{Vec}
 use Rattle.std.proofs.lemmas.List.{take_all, take-take}
@@ -7,9 +7,10 @@ use Rattle.std.proofs.Math.Seq.{take-add}
 use Rattle.py_lines.specs.declared.feed.Feed.{Feed}
 use Rattle.py_lines.specs.declared.fault.LexError.{LexError}
 use Rattle.py_lines.specs.declared.fault.LexError.TheVariants as lex
+use Rattle.py_lines.specs.declared.scan.Scan.{Scan}
 use Rattle.py_lines.specs.Private.Scan.{Tallies, IsStacked, line_start}
 use Rattle.py_lines.specs.Private.Source.{first_mode}
-use Rattle.py_lines.specs.Private.Feed.{Restarts, IsOpen, EndsAfter, HoldsMore, IsScanned, IsHeldSo, IsUnchanged, ScansHeld, FailsWith, FailsPiece, IsLastChunk, StopsTaking, TakesSome, FeedsSo}
+use Rattle.py_lines.specs.Private.Feed.{Restarts, IsOpen, EndsAfter, HoldsMore, IsScanned, IsHeldSo, IsUnchanged, TakesChunk, ScansHeld, FailsWith, FailsPiece, IsLastChunk, StopsTaking, TakesSome, FeedsSo}
 
 pub none_is : (r : Option ℕ) → is_some r ≡ false → r ≡ None
 none_is None h = refl
@@ -113,3 +114,9 @@ stops_short old mid new piece taken ready within some more fault mid_ready scann
 pub stops_taking : (old new : Feed) (piece : List ℕ) (taken : ℕ) (ready : Option ℕ) → IsScanned ready new → ((end_len : ℕ) → 0 < taken → ready ≡ Some end_len → IsLastChunk old piece taken end_len new) → StopsTaking old piece taken ready new
 stops_taking old new piece taken None s last = (new, holds_none new, s, (s.0, s.1, s.2))
 stops_taking old new piece taken (Some n) s last = (s, λ some. last n some refl)
+
+-- what a call took, where the bytes had been scanned before it
+pub rescanned_taken : (old new : Feed) (scan : Scan) (chunk : List ℕ) (r : Result ℕ LexError) → TakesChunk (record old { scan = scan }) chunk r new → TakesChunk old chunk r new
+rescanned_taken old new scan chunk (Ok n) t = record { some = t.some; within = t.within; more = record { held = t.more.held; place = t.more.place; line = t.more.line; ended = t.more.ended }; fault = t.fault; stops = t.stops }
+rescanned_taken old new scan chunk (Err (lex.Fault f)) t = record { mid = t.mid; more = record { held = t.more.held; place = t.more.place; line = t.more.line; ended = t.more.ended }; fails = t.fails }
+rescanned_taken old new scan chunk (Err lex.Memory) t = record { same = record { held = t.same.held; place = t.same.place; line = t.same.line; ended = t.same.ended }; ready = t.ready; fault = t.fault; state = t.state }

@@ -30,7 +30,8 @@ use Rattle.py_lines.proofs.Readers.EndAnswers.{end_return}
 use Rattle.py_lines.proofs.LineScan.TextRun.{way_goes}
 use Rattle.py_lines.proofs.Feeds.Known.{is_known}
 use Rattle.py_lines.proofs.Feeds.DecidedSoFar.{refused_behind, decided_character, decided_bytes}
-use Rattle.py_lines.proofs.Feeds.Steps.{open_stop, within_held, refused_held, scalars_more, spell_more}
+use Rattle.py_lines.proofs.Text.Utf8Prefixes.{scalars_more, spell_more}
+use Rattle.py_lines.proofs.Feeds.Steps.{open_stop, within_held, refused_held}
 
 -- some of the bytes that the text goes on with
 pub goes_with_first : (text : List ℕ) (place : ℕ) (first later : List ℕ) → GoesOnWith text place (first ++ later) → GoesOnWith text place first

@@ -1,23 +1,23 @@
 -- What stays held where a line is ready.
-use Rattle.std.proofs.Common.{◌≡◌, ℕ, zero, suc, ◌+◌, ◌-◌, ◌<◌, ◌≤◌, ◌⊎◌, true, false, Option, None, Some, List, [], ◌∷◌, ◌++◌, length, take, drop, refl, sym, ap, ◌∙◌, subst, ⊎_elim, inl, inr, append-nil, arith, length-append}
+use Rattle.std.proofs.Common.{◌≡◌, ℕ, zero, suc, ◌+◌, ◌-◌, ◌<◌, ◌≤◌, ◌⊎◌, true, false, Option, None, Some, List, [], ◌∷◌, ◌++◌, length, take, refl, sym, ap, ◌∙◌, subst, ⊎_elim, inl, inr, append-nil, arith, length-append}
 use Rattle.std.specs.Prelude.{encode_utf8_all, is_some, max}
 use Rattle.std.specs.Global.{Vec}
 use Rattle.std.proofs.lemmas.Bool.{both_ways, false_from_ne_true, cond_both, cases_lt}
 use Rattle.std.proofs.lemmas.List.{take_all, length-take-le}
 use Rattle.std.proofs.Math.Nat.{le-max_left, le-max_right}
-use Rattle.std.proofs.Math.Seq.{take-add, take-append_seam, drop-append_seam}
+use Rattle.std.proofs.Math.Seq.{take-append-add, take-append_seam}
 use Rattle.py_lines.specs.Character.{is_return}
 use Rattle.py_lines.specs.Piece.{ends, spelled}
 use Rattle.py_lines.specs.LogicalLine.{byte_len}
 use Rattle.py_lines.specs.declared.feed.Feed.{Feed}
-use Rattle.py_lines.specs.Private.Scan.{EndsWhole}
-use Rattle.py_lines.specs.Private.Feed.{IsScanned, EndsLineHeld, EndsExactly, HadEnded, EndsAfter, whole_end, GivesBack, TakesOf}
+use Rattle.py_lines.specs.declared.mode.Mode.{Mode}
+use Rattle.py_lines.specs.declared.scan.Scan.{Scan}
+use Rattle.py_lines.specs.Private.Source.{first_mode}
+use Rattle.py_lines.specs.Private.Scan.{EndsWhole, IsLineBefore, line_start}
+use Rattle.py_lines.specs.declared.scan.Stop.TheVariants as stops
+use Rattle.py_lines.specs.Private.Feed.{HasScannedNext, IsScanned, EndsLineHeld, EndsExactly, HadEnded, EndsAfter, whole_end, GivesBack, TakesOf}
 use Rattle.py_lines.proofs.Feeds.Chunks.{none_is}
-use Rattle.py_lines.proofs.Feeds.ReadyLines.{line_of_ended}
-
--- so many bytes more than the first list has
-seam : (a b : List ℕ) (k : ℕ) → take (length a + k) (a ++ b) ≡ a ++ take k b
-seam a b k = take-add (length a) k (a ++ b) ∙ ap (λ l. l ++ take k (drop (length a) (a ++ b))) (take-append_seam a b) ∙ ap (λ l. a ++ take k l) (drop-append_seam a b)
+use Rattle.py_lines.proofs.Readers.LineAnswers.{IsLine, line_at_end}
 
 -- a line's end stays whole where one byte after CR stays
 whole_taken : (all after : List ℕ) (k : ℕ) → EndsWhole all after → (ends is_return all ≡ true → 0 < k) → EndsWhole all (take k after)
@@ -32,59 +32,69 @@ exact_return : (all after : List ℕ) → ends is_return all ≡ true → EndsWh
 exact_return all after returned (inl feed) = absurd (both_ways _ feed returned)
 exact_return all after returned (inr (b, m, is, other)) = inr (b, ap (take 1) is, other)
 
-module _ (f : Feed) (end_len : ℕ) (e : EndsLineHeld end_len f) where
-  line_size : f.scan.stop ≡ byte_len e.all
-  line_size = (line_of_ended f end_len e.all e.after e.ended [] (λ returned. refl)).0.stop
+-- a line that has ended in these bytes
+module _ (m : Mode) (scan : Scan) (bytes all after : List ℕ) (end_len : ℕ) (spell : encode_utf8_all all ++ after ≡ bytes) (at : IsLineBefore m scan all end_len) (whole : EndsWhole all after) where
+  pub line_ended : IsLine (line_start m) scan all end_len ((at [] (λ returned. refl)).body ++ (at [] (λ returned. refl)).last ∷ [])
+  line_ended = line_at_end m scan all [] end_len (at [] (λ returned. refl)) [] refl
 
-  line_returned : f.scan.count.after_return ≡ ends is_return e.all
-  line_returned = let at = e.ended.at [] (λ returned. refl) in at.tallies.after ∙ ap (ends is_return) (append-nil (spelled (at.body ++ at.last ∷ [])) ∙ at.spell)
+  line_returned : scan.count.after_return ≡ ends is_return all
+  line_returned = let line = at [] (λ returned. refl) in line.tallies.after ∙ ap (ends is_return) (append-nil (spelled (line.body ++ line.last ∷ [])) ∙ line.spell)
 
   -- where it ends, with the byte after CR
-  end_is : ((whole_end f.scan ≡ byte_len e.all) × (ends is_return e.all ≡ false)) ⊎ ((whole_end f.scan ≡ byte_len e.all + 1) × (ends is_return e.all ≡ true))
-  end_is = cond_both f.scan.count.after_return (f.scan.stop + 1) f.scan.stop (λ (n : ℕ). ((n ≡ byte_len e.all) × (ends is_return e.all ≡ false)) ⊎ ((n ≡ byte_len e.all + 1) × (ends is_return e.all ≡ true)))
-      (λ h. inr (omega (arith, line_size), sym line_returned ∙ h))
-      (λ h. inl (line_size, sym line_returned ∙ h))
+  end_is : ((whole_end scan ≡ byte_len all) × (ends is_return all ≡ false)) ⊎ ((whole_end scan ≡ byte_len all + 1) × (ends is_return all ≡ true))
+  end_is = cond_both scan.count.after_return (scan.stop + 1) scan.stop (λ (n : ℕ). ((n ≡ byte_len all) × (ends is_return all ≡ false)) ⊎ ((n ≡ byte_len all + 1) × (ends is_return all ≡ true)))
+      (λ h. inr (omega (arith, line_ended.stop), sym line_returned ∙ h))
+      (λ h. inl (line_ended.stop, sym line_returned ∙ h))
 
-  -- so many bytes of what is held, which the line is part of
-  held_taken : (n : ℕ) → byte_len e.all ≤ n → take n f.held.items ≡ encode_utf8_all e.all ++ take (n - byte_len e.all) e.after
-  held_taken n within = ap (take n) (sym e.ended.spell) ∙ ap (λ (m : ℕ). take m (encode_utf8_all e.all ++ e.after)) (omega (arith, within)) ∙ seam (encode_utf8_all e.all) e.after (n - byte_len e.all)
+  -- so many of the bytes, which the line is part of
+  pub taken_spell : (n : ℕ) → whole_end scan ≤ n → encode_utf8_all all ++ take (n - byte_len all) after ≡ take n bytes
+  taken_spell n within =
+      let short : byte_len all ≤ n = ⊎_elim (λ a. omega (arith, a.0, within)) (λ b. omega (arith, b.0, within)) end_is in
+      let parts : n ≡ byte_len all + (n - byte_len all) = omega (arith, short) in
+      sym (ap (take n) (sym spell) ∙ ap (λ (k : ℕ). take k (encode_utf8_all all ++ after)) parts ∙ take-append-add (encode_utf8_all all) after (n - byte_len all))
 
-  module _ (v : Vec ℕ) (before kept : ℕ) (held : v.items ≡ take kept f.held.items) (within : whole_end f.scan ≤ kept) (which : (kept ≡ whole_end f.scan) ⊎ (whole_end f.scan ≤ before)) where
-    kept_line : EndsLineHeld end_len (record f { held = v })
-    kept_line = record {
-      all = e.all;
-      after = take (kept - byte_len e.all) e.after;
-      ended = record { scalars = e.ended.scalars; spell = sym (held_taken kept (⊎_elim (λ a. omega (arith, a.0, within)) (λ b. omega (arith, b.0, within)) end_is)) ∙ sym held; at = e.ended.at; number = e.ended.number };
-      whole = whole_taken e.all e.after (kept - byte_len e.all) e.whole (λ h. ⊎_elim (λ a. absurd (both_ways _ a.1 h)) (λ b. omega (arith, b.0, within)) end_is);
-    }
+  pub taken_whole : (n : ℕ) → whole_end scan ≤ n → EndsWhole all (take (n - byte_len all) after)
+  taken_whole n within = whole_taken all after (n - byte_len all) whole (λ h. ⊎_elim (λ a. absurd (both_ways _ a.1 h)) (λ b. omega (arith, b.0, within)) end_is)
 
-    kept_exactly : kept ≡ whole_end f.scan → EndsExactly e.all (take (kept - byte_len e.all) e.after)
-    kept_exactly is = ⊎_elim
-        (λ a. let none : 0 ≡ kept - byte_len e.all = omega (arith, is, a.0) in subst (λ (k : ℕ). EndsExactly e.all (take k e.after)) none (exact_feed e.all e.after a.1))
-        (λ b. let one : 1 ≡ kept - byte_len e.all = omega (arith, is, b.0) in subst (λ (k : ℕ). EndsExactly e.all (take k e.after)) one (exact_return e.all e.after b.1 e.whole))
-        end_is
+  pub taken_exactly : (n : ℕ) → n ≡ whole_end scan → EndsExactly all (take (n - byte_len all) after)
+  taken_exactly n is = ⊎_elim
+      (λ a. let none : 0 ≡ n - byte_len all = omega (arith, is, a.0) in subst (λ (k : ℕ). EndsExactly all (take k after)) none (exact_feed all after a.1))
+      (λ b. let one : 1 ≡ n - byte_len all = omega (arith, is, b.0) in subst (λ (k : ℕ). EndsExactly all (take k after)) one (exact_return all after b.1 whole))
+      end_is
 
-    had_ended : whole_end f.scan ≤ before → HadEnded (take before f.held.items) e.all
-    had_ended past = record {
-      rest = take (before - byte_len e.all) e.after;
-      spell = sym (held_taken before (⊎_elim (λ a. omega (arith, a.0, past)) (λ b. omega (arith, b.0, past)) end_is));
-      whole = whole_taken e.all e.after (before - byte_len e.all) e.whole (λ h. ⊎_elim (λ a. absurd (both_ways _ a.1 h)) (λ b. omega (arith, b.0, past)) end_is);
-    }
-
-    pub kept_stops : EndsAfter (take before f.held.items) (Some end_len) (record f { held = v })
-    unfolding kept_line
-    kept_stops = (kept_line, ⊎_elim (λ is. inl (kept_exactly is)) (λ past. inr (had_ended past)) which)
-
-  -- the line with the byte after CR lies in what is held
-  pub end_within : whole_end f.scan ≤ length f.held.items
-  end_within = ⊎_elim (λ a. omega (arith, a.0, held_size)) (λ b. returned b.0 b.1 e.whole) end_is
+  -- the line with the byte after CR lies in the bytes
+  pub end_within : whole_end scan ≤ length bytes
+  end_within = ⊎_elim (λ a. omega (arith, a.0, bytes_size)) (λ b. returned b.0 b.1 whole) end_is
     where
-      held_size : length f.held.items ≡ byte_len e.all + length e.after
-      held_size = ap length (sym e.ended.spell) ∙ length-append (encode_utf8_all e.all) e.after
+      bytes_size : length bytes ≡ byte_len all + length after
+      bytes_size = ap length (sym spell) ∙ length-append (encode_utf8_all all) after
 
-      returned : whole_end f.scan ≡ byte_len e.all + 1 → ends is_return e.all ≡ true → EndsWhole e.all e.after → whole_end f.scan ≤ length f.held.items
+      returned : whole_end scan ≡ byte_len all + 1 → ends is_return all ≡ true → EndsWhole all after → whole_end scan ≤ length bytes
       returned size h (inl feed) = absurd (both_ways _ feed h)
-      returned size h (inr (b, m, is, other)) = omega (arith, size, held_size, ap length is)
+      returned size h (inr (b, m', is, other)) = omega (arith, size, bytes_size, ap length is)
+
+  pub end_some : 0 < whole_end scan
+  end_some = ⊎_elim (λ a. omega (arith, a.0, line_ended.some)) (λ b. omega (arith, b.0)) end_is
+
+module _ (f : Feed) (end_len : ℕ) (e : EndsLineHeld end_len f) (v : Vec ℕ) (before kept : ℕ) (held : v.items ≡ take kept f.held.items) (within : whole_end f.scan ≤ kept) (which : (kept ≡ whole_end f.scan) ⊎ (whole_end f.scan ≤ before)) where
+  kept_line : EndsLineHeld end_len (record f { held = v })
+  kept_line = record {
+    all = e.all;
+    after = take (kept - byte_len e.all) e.after;
+    ended = record { scalars = e.ended.scalars; spell = taken_spell (first_mode f.place) f.scan f.held.items e.all e.after end_len e.ended.spell e.ended.at e.whole kept within ∙ sym held; at = e.ended.at; number = e.ended.number };
+    whole = taken_whole (first_mode f.place) f.scan f.held.items e.all e.after end_len e.ended.spell e.ended.at e.whole kept within;
+  }
+
+  had_ended : whole_end f.scan ≤ before → HadEnded (take before f.held.items) e.all
+  had_ended past = record {
+    rest = take (before - byte_len e.all) e.after;
+    spell = taken_spell (first_mode f.place) f.scan f.held.items e.all e.after end_len e.ended.spell e.ended.at e.whole before past;
+    whole = taken_whole (first_mode f.place) f.scan f.held.items e.all e.after end_len e.ended.spell e.ended.at e.whole before past;
+  }
+
+  pub kept_stops : EndsAfter (take before f.held.items) (Some end_len) (record f { held = v })
+  unfolding kept_line
+  kept_stops = (kept_line, ⊎_elim (λ is. inl (taken_exactly (first_mode f.place) f.scan f.held.items e.all e.after end_len e.ended.spell e.ended.at e.whole kept is)) (λ past. inr (had_ended past)) which)
 
 pub some_is : (r : Option ℕ) → is_some r ≡ true → (n : ℕ) × (r ≡ Some n)
 some_is None h = absurd (cc)
@@ -95,7 +105,7 @@ pub stop_small : (f : Feed) → IsScanned f.ready f → is_some f.ready ≡ true
 stop_small f scanned some =
     let r = some_is f.ready some in
     let e : EndsLineHeld r.0 f = subst (λ o. IsScanned o f) r.1 scanned in
-    omega (arith, line_size f r.0 e, ap length e.ended.spell, length-append (encode_utf8_all e.all) e.after)
+    omega (arith, (line_ended (first_mode f.place) f.scan f.held.items e.all e.after r.0 e.ended.spell e.ended.at e.whole).stop, ap length e.ended.spell, length-append (encode_utf8_all e.all) e.after)
 
 max_le : (a b c : ℕ) → a ≤ c → b ≤ c → max a b ≤ c
 max_le a b c one two = omega (arith, one, two)
@@ -107,7 +117,7 @@ gives_line f v before kept scanned some held is more =
     let e : EndsLineHeld r.0 f = subst (λ o. IsScanned o f) r.1 scanned in
     let left : whole_end f.scan ≤ kept = omega (arith, is, le-max_left (whole_end f.scan) (before + 1)) in
     let right : before + 1 ≤ kept = omega (arith, is, le-max_right (whole_end f.scan) (before + 1)) in
-    let within : kept ≤ length f.held.items = omega (arith, is, max_le (whole_end f.scan) (before + 1) (length f.held.items) (end_within f r.0 e) (omega (arith, more))) in
+    let within : kept ≤ length f.held.items = omega (arith, is, max_le (whole_end f.scan) (before + 1) (length f.held.items) (end_within (first_mode f.place) f.scan f.held.items e.all e.after r.0 e.ended.spell e.ended.at e.whole) (omega (arith, more))) in
     let which : (kept ≡ whole_end f.scan) ⊎ (whole_end f.scan ≤ before) = ⊎_elim (λ less. inl (omega (arith, is, less))) (λ past. inr past) (cases_lt before (whole_end f.scan)) in
     record {
       kept = kept;
@@ -141,7 +151,7 @@ takes_of old mid new chunk held n is mid_held place line ended fault size g =
     let all : mid.held.items ≡ old.held.items ++ chunk = mid_held ∙ is in
     let whole : length mid.held.items ≡ length old.held.items + length chunk = ap length all ∙ length-append old.held.items chunk in
     let kept : length new.held.items ≡ g.kept = ap length g.held ∙ length-take-le g.kept mid.held.items g.within in
-    let taken : new.held.items ≡ old.held.items ++ take n chunk = g.held ∙ ap (take g.kept) all ∙ ap (λ (m : ℕ). take m (old.held.items ++ chunk)) (omega (arith, size, kept, g.more)) ∙ seam old.held.items chunk n in
+    let taken : new.held.items ≡ old.held.items ++ take n chunk = g.held ∙ ap (take g.kept) all ∙ ap (λ (m : ℕ). take m (old.held.items ++ chunk)) (omega (arith, size, kept, g.more)) ∙ take-append-add old.held.items chunk n in
     let before : take (length old.held.items) mid.held.items ≡ old.held.items = ap (take (length old.held.items)) all ∙ take-append_seam old.held.items chunk in
     record {
       some = omega (arith, size, kept, g.more);
@@ -149,4 +159,29 @@ takes_of old mid new chunk held n is mid_held place line ended fault size g =
       more = record { held = taken; place = g.place ∙ place; line = g.line ∙ line; ended = g.ended ∙ ended };
       fault = g.fault ∙ fault;
       stops = subst (λ l. EndsAfter l new.ready new) before g.stops;
+    }
+
+-- the line that has ended in these bytes was taken, where nothing was held
+pub line_taken : (old new : Feed) (chunk : List ℕ) (end_len n : ℕ) → HasScannedNext old chunk (stops.LineEnd end_len) → n ≡ whole_end old.scan → new.held.items ≡ old.held.items ++ take n chunk → new.place ≡ old.place → new.line ≡ old.line → new.ended ≡ old.ended → new.fault ≡ old.fault → new.ready ≡ Some end_len → new.scan ≡ old.scan → TakesOf old chunk n new
+line_taken old new chunk end_len n s is held place line ended fault ready scan =
+    let t = s.stops in
+    let mode = first_mode old.place in
+    let spell = taken_spell mode old.scan chunk t.read t.rest end_len t.spell t.stops.0 t.stops.1 n (omega (arith, is)) in
+    let ends : EndsLineHeld end_len new = record {
+      all = t.read;
+      after = take (n - byte_len t.read) t.rest;
+      ended = record {
+        scalars = t.scalars;
+        spell = spell ∙ ap (λ l. l ++ take n chunk) (sym s.none_held) ∙ sym held;
+        at = subst (λ (k : ℕ). IsLineBefore (first_mode k) new.scan t.read end_len) (sym place) (subst (λ (c : Scan). IsLineBefore mode c t.read end_len) (sym scan) t.stops.0);
+        number = ap (λ (c : Scan). c.line) scan ∙ t.number ∙ sym line;
+      };
+      whole = taken_whole mode old.scan chunk t.read t.rest end_len t.spell t.stops.0 t.stops.1 n (omega (arith, is));
+    } in
+    record {
+      some = omega (arith, is, end_some mode old.scan chunk t.read t.rest end_len t.spell t.stops.0 t.stops.1);
+      within = omega (arith, is, end_within mode old.scan chunk t.read t.rest end_len t.spell t.stops.0 t.stops.1);
+      more = record { held = held; place = place; line = line; ended = ended };
+      fault = fault;
+      stops = subst (λ o. EndsAfter old.held.items o new) (sym ready) (ends, inl (taken_exactly mode old.scan chunk t.read t.rest end_len t.spell t.stops.0 t.stops.1 n is));
     }

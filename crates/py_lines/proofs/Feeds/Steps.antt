@@ -1,9 +1,8 @@
 -- One character more of what a scanner holds.
-use Rattle.std.proofs.Common.{◌≡◌, ℕ, ◌+◌, ◌<◌, ◌≤◌, true, ◌||◌, List, [], ◌∷◌, ◌++◌, length, take, drop, inr, refl, sym, ap, ◌∙◌, subst, append_assoc, append-nil, arith, length-append, length-drop, ◌-◌}
-use Rattle.std.specs.Prelude.{encode_utf8, encode_utf8_all, IsUtf8}
+use Rattle.std.proofs.Common.{◌≡◌, ℕ, ◌+◌, ◌<◌, ◌≤◌, true, ◌||◌, List, [], ◌∷◌, ◌++◌, length, take, drop, inr, refl, sym, ap, ◌∙◌, subst, append_assoc, arith, length-append, length-drop, ◌-◌}
+use Rattle.std.specs.Prelude.{encode_utf8_all, IsUtf8}
 use Rattle.std.specs.Str.{all_scalars, StartsWithNoChar}
-use Rattle.std.specs.Char.{IsScalar}
-use Rattle.std.proofs.lemmas.Bool.{and_from, and_parts, cond_both}
+use Rattle.std.proofs.lemmas.Bool.{and_parts, cond_both}
 use Rattle.std.proofs.lemmas.Str.{encodes-append, encode_ascii, encodes_same}
 use Rattle.std.proofs.lemmas.List.{take_all}
 use Rattle.std.proofs.Math.Seq.{take-append_seam, drop-append_seam}
@@ -16,7 +15,7 @@ use Rattle.std.specs.Global.{Vec}
 use Rattle.py_lines.specs.Private.Scan.{Closes, is_return_mode, IsAtLineEnd, is_returned, refused_place}
 use Rattle.py_lines.specs.Private.Source.{first_mode}
 use Rattle.py_lines.specs.Private.Feed.{KeepsText, IsOpen, EndsLineHeld}
-use Rattle.py_lines.proofs.Text.Utf8Prefixes.{all_scalars-append, all_scalars-parts}
+use Rattle.py_lines.proofs.Text.Utf8Prefixes.{all_scalars-parts}
 use Rattle.py_lines.proofs.LogicalLines.Cuts.{byte_len-append}
 use Rattle.py_lines.proofs.LineScan.LineCount.{line_ends-bytes}
 use Rattle.py_lines.proofs.LineScan.LineRun.{sound_run, returned, way_order, way_stop, way_here}
@@ -57,13 +56,6 @@ module _ (f : Feed) (read rest : List ℕ) (o : IsOpen f read rest) where
       cond_both (in_short f.scan.piece.mode || is_behind_slash f.scan.piece.mode) f.scan.piece.start f.scan.stop (Within read)
       (λ h. record { front = spelled o.way.state.done; later = o.way.state.held; split = open_sound.spell; size = o.way.tallies.start })
       (λ h. all_within read f.scan.stop open_stop)
-
--- the characters with one more, in front of what is left
-pub spell_more : (read rest held : List ℕ) (c : ℕ) → encode_utf8_all read ++ (encode_utf8 c ++ rest) ≡ held → encode_utf8_all (read ++ c ∷ []) ++ rest ≡ held
-spell_more read rest held c spell = ap (λ t. t ++ rest) (encodes-append read (c ∷ []) ∙ ap (λ t. encode_utf8_all read ++ t) (append-nil (encode_utf8 c))) ∙ append_assoc (encode_utf8_all read) (encode_utf8 c) rest ∙ spell
-
-pub scalars_more : (read : List ℕ) (c : ℕ) → all_scalars read ≡ true → IsScalar c → all_scalars (read ++ c ∷ []) ≡ true
-scalars_more read c fine scalar = all_scalars-append read (c ∷ []) fine (and_from _ _ scalar refl)
 
 -- what is held next
 pub held_next : (f : Feed) (read rest : List ℕ) → IsOpen f read rest → drop f.scan.stop f.held.items ≡ rest

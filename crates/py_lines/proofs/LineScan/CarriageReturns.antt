@@ -1,7 +1,6 @@
 -- A line end that CR begins is taken whole: CR opens a piece, and LF, or what follows, closes it.
 use Rattle.std.proofs.Common.{◌≡◌, ℕ, ◌+◌, ◌<◌, Bool, true, false, not, ◌&&◌, inr, Ok, List, [], ◌∷◌, ◌++◌, length, drop, get_or, refl, sym, ap, ◌∙◌, subst, append-nil, arith, ⊎_elim, lit<}
-use Rattle.std.specs.Prelude.{encode_utf8, encode_utf8_all}
-use Rattle.std.specs.Str.{IsCharBoundary}
+use Rattle.std.specs.Prelude.{encode_utf8}
 use Rattle.std.proofs.lemmas.Bool.{and_right, both_ways}
 use Rattle.std.proofs.lemmas.Str.{encode_ascii, len_utf8_ascii}
 use Rattle.py_lines.specs.Character.{is_line_feed, is_return}
@@ -22,7 +21,7 @@ use Rattle.py_lines.proofs.Machine.Starts.{start-return}
 use Rattle.py_lines.proofs.Text.CharacterTests.{feed_from, feed_is, return_is}
 use Rattle.py_lines.proofs.LineScan.LineStops.{GoesTo, ShutsTo, StopsNow, TakesTo, goes_character, stops_before, stops_line}
 use Rattle.py_lines.proofs.LineScan.NextCharacter.{takes_returned}
-use Rattle.py_lines.proofs.LineScan.ShortPieces.{Goes, free_is, low_cut, settled, settles, shut_from}
+use Rattle.py_lines.proofs.LineScan.ShortPieces.{Goes, ascii_scalar, free_is, settled, settles, shut_from}
 
 -- the scan with CR open after closed pieces
 abbrev with_return : Scan → Scan
@@ -147,20 +146,20 @@ encodes_one c after bytes low spell = sym spell ∙ ap (λ t. t ++ after) (sym (
 module _ (first : Scan) (text : List ℕ) (old : Scan) (bytes : List ℕ) (free : is_free old.piece.mode ≡ true) (shuts : ShutsTo first text old bytes) where
   -- after CR
   return_shuts : (after : List ℕ) → 13 ∷ after ≡ bytes → ShutsTo first text (with_return old) after
-  return_shuts after spell m at whole utf8 start r =
-      shut_from m at whole (with_return old) after (goes_character first text old bytes shuts 13 after (encodes_one 13 after bytes (lit< tt) spell) (with_return old) (free_yet old 13 free) (return_takes old free) m at whole utf8 start r)
+  return_shuts after spell m at whole start r =
+      shut_from m at whole (with_return old) after (goes_character first text old bytes shuts 13 (ascii_scalar 13 (lit< tt)) after (encodes_one 13 after bytes (lit< tt) spell) (with_return old) (free_yet old 13 free) (return_takes old free) m at whole start r)
 
   -- after CR LF the line goes on
   feed_goes : (new : Scan) → none_open (stack_of old.brackets) ≡ false → (feed : TakesReturnFeed old bytes new) → GoesTo first text new feed.after
   feed_goes new inside feed =
       subst (λ (s : Scan). GoesTo first text s feed.after) (sym feed.is)
-      (goes_character first text (with_return old) (10 ∷ feed.after) (return_shuts (10 ∷ feed.after) feed.spell) 10 feed.after (encodes_one 10 feed.after (10 ∷ feed.after) (lit< tt) refl) (line_ended old 2) (feed_yet (with_return old)) (feed_takes old progress.Going (ap (λ b. line_end_progress b 2) (sym inside))))
+      (goes_character first text (with_return old) (10 ∷ feed.after) (return_shuts (10 ∷ feed.after) feed.spell) 10 (ascii_scalar 10 (lit< tt)) feed.after (encodes_one 10 feed.after (10 ∷ feed.after) (lit< tt) refl) (line_ended old 2) (feed_yet (with_return old)) (feed_takes old progress.Going (ap (λ b. line_end_progress b 2) (sym inside))))
 
   -- or it has ended
   feed_ends : (new : Scan) → none_open (stack_of old.brackets) ≡ true → TakesReturnFeed old bytes new → StopsNow first text new (stops.LineEnd 2)
   feed_ends new outside feed =
       subst (λ (s : Scan). StopsNow first text s (stops.LineEnd 2)) (sym feed.is)
-      (stops_line first text (with_return old) (10 ∷ feed.after) (return_shuts (10 ∷ feed.after) feed.spell) 10 feed.after (encodes_one 10 feed.after (10 ∷ feed.after) (lit< tt) refl) (line_ended old 2) 2 (feed_yet (with_return old)) (feed_takes old (progress.LineEnded 2) (ap (λ b. line_end_progress b 2) (sym outside))))
+      (stops_line first text (with_return old) (10 ∷ feed.after) (return_shuts (10 ∷ feed.after) feed.spell) 10 (ascii_scalar 10 (lit< tt)) feed.after (encodes_one 10 feed.after (10 ∷ feed.after) (lit< tt) refl) (line_ended old 2) 2 (feed_yet (with_return old)) (feed_takes old (progress.LineEnded 2) (ap (λ b. line_end_progress b 2) (sym outside))))
 
   -- it has ended before another byte
   alone_ends : (new : Scan) → TakesReturnAlone old bytes new → StopsNow first text new (stops.LineEnd 1)
@@ -169,9 +168,9 @@ module _ (first : Scan) (text : List ℕ) (old : Scan) (bytes : List ℕ) (free 
       (stops_before first text (with_return old) (alone.next ∷ alone.after) (return_shuts (alone.next ∷ alone.after) alone.spell) (line_ended old 1) alone.ends (λ read. inr (alone.next, alone.after, refl, (λ ten. both_ways _ alone.apart (feed_from alone.next ten)))) (return_closes old))
 
   pub return_goes : (new : Scan) (len : ℕ) → TakesReturn old bytes (taken.Bytes len) new → ShutsTo first text new (drop len bytes)
-  return_goes new len (two, inside, feed) m at whole utf8 start r =
+  return_goes new len (two, inside, feed) m at whole start r =
       let left : drop len bytes ≡ feed.after = ap (λ (n : ℕ). drop n bytes) two ∙ ap (drop 2) (sym feed.spell) in
-      shut_from m at whole new (drop len bytes) (subst (Reached m at whole new) (sym left) (feed_goes new inside feed m at whole utf8 start r))
+      shut_from m at whole new (drop len bytes) (subst (Reached m at whole new) (sym left) (feed_goes new inside feed m at whole start r))
 
   pub return_ends_line : (new : Scan) (len : ℕ) → TakesReturn old bytes (taken.LineEnd len) new → StopsNow first text new (stops.LineEnd len)
   return_ends_line new len takes =
@@ -182,14 +181,11 @@ module _ (first : Scan) (text : List ℕ) (old : Scan) (bytes : List ℕ) (free 
 -- how far CR LF goes
 pub return_far : (old new : Scan) (bytes : List ℕ) (len : ℕ) → TakesReturn old bytes (taken.Bytes len) new → Goes old bytes len new
 return_far old new bytes len (two, inside, feed) =
-    let run : List ℕ = 13 ∷ 10 ∷ [] in
-    let same : encode_utf8_all run ≡ run = ap (λ t. t ++ encode_utf8_all (10 ∷ [])) (encode_ascii 13 (lit< tt)) ∙ ap (λ t. 13 ∷ (t ++ [])) (encode_ascii 10 (lit< tt)) in
     record {
       stop = omega (arith, two, ap (λ (s : Scan). s.stop) feed.is);
       some = omega (arith, two);
       within = omega (arith, two, ap length feed.spell);
       lines = omega (arith, two, ap (λ (s : Scan). s.count.line) feed.is);
-      cut = λ utf8. subst (IsCharBoundary bytes) (sym two) (low_cut run feed.after bytes feed.spell same utf8);
     }
 
 -- the bytes begin with CR and this byte

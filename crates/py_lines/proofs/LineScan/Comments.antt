@@ -1,6 +1,5 @@
 -- A comment that a line end follows is taken whole.
-use Rattle.std.proofs.Common.{◌≡◌, ℕ, zero, suc, ◌<◌, ◌≤◌, ◌⊎◌, inl, inr, Bool, true, false, not, List, [], ◌∷◌, length, drop, refl, sym, ap, ◌∙◌, append-nil, arith, length-drop}
-use Rattle.std.specs.Str.{IsUtf8}
+use Rattle.std.proofs.Common.{◌≡◌, ℕ, zero, suc, ◌<◌, ◌≤◌, ◌⊎◌, inl, inr, Bool, true, false, not, List, [], ◌∷◌, length, take, drop, refl, sym, ap, ◌∙◌, append-nil, arith, length-drop}
 use Rattle.std.proofs.lemmas.Bool.{and_from, both_ways}
 use Rattle.std.proofs.lemmas.Str.{IsCharBoundary-after_ascii, IsUtf8-drop, encode_ascii}
 use Rattle.std.proofs.Math.Utf8.{low_scalar}
@@ -18,7 +17,7 @@ use Rattle.py_lines.specs.Private.Run.{IsRunOf, ReadsRun, ReachedShut, TakesComm
 use Rattle.py_lines.proofs.Machine.Starts.{start-hash}
 use Rattle.py_lines.proofs.Text.CharacterTests.{the_one}
 use Rattle.py_lines.proofs.LineScan.FirstBytes.{or_more}
-use Rattle.py_lines.proofs.LineScan.Runs.{held_in, holds_run, reached_run, run_boundary}
+use Rattle.py_lines.proofs.LineScan.Runs.{held_in, holds_run, reached_run}
 use Rattle.py_lines.proofs.LineScan.ShortPieces.{Goes, follows_begin, meets, none_begins, opens_reached}
 
 hash_is : (c : ℕ) → is_hash c ≡ true → c ≡ 35
@@ -79,14 +78,15 @@ comment_breaks : (c : ℕ) → is_comment_byte c ≡ false → move_of modes.Com
 unfolding move_of
 comment_breaks c ends = rw (break_of c ends) refl
 
-pub comment_reached : (m : Mode) (at : ℕ) (text : List ℕ) (scan new : Scan) (bytes : List ℕ) (len : ℕ) → scan.piece.mode ≡ modes.Free → IsUtf8 bytes → ReachedShut m at text scan bytes → IsSound (line_start m) [] → TakesComment scan bytes len new → ReachedShut m at text new (drop len bytes)
-comment_reached m at text scan new [] len free utf8 r start takes = absurd (both_ways _ refl takes.hash)
-comment_reached m at text scan new (b ∷ bs) zero free utf8 r start takes = absurd (both_ways _ (takes.run.ends (omega arith)) (hash_stays b takes.hash))
-comment_reached m at text scan new (b ∷ bs) (suc n) free utf8 r start takes =
+pub comment_reached : (m : Mode) (at : ℕ) (text : List ℕ) (scan new : Scan) (bytes : List ℕ) (len : ℕ) → scan.piece.mode ≡ modes.Free → ReachedShut m at text scan bytes → IsSound (line_start m) [] → TakesComment scan bytes len new → ReachedShut m at text new (drop len bytes)
+comment_reached m at text scan new [] len free r start takes = absurd (both_ways _ refl takes.hash)
+comment_reached m at text scan new (b ∷ bs) zero free r start takes = absurd (both_ways _ (takes.run.ends (omega arith)) (hash_stays b takes.hash))
+comment_reached m at text scan new (b ∷ bs) (suc n) free r start takes =
     let low : b < 128 = omega (arith, hash_is b takes.hash) in
     let spell = append-nil _ ∙ encode_ascii b low in
     let first = opens_reached m at text scan b [] bs modes.Comment modes.Comment (meets m at text scan b bs free r) start (start-hash b takes.hash) (λ done. refl) (and_from _ _ (hash_stays b takes.hash) refl) (spell, and_from _ _ (low_scalar b (omega (arith, low))) refl) in
-    let held = held_in modes.Comment bs n (IsUtf8-drop (b ∷ bs) 1 utf8 (IsCharBoundary-after_ascii (b ∷ bs) 0 utf8 (omega arith) low)) tt (run_tail is_comment_byte b bs n takes.run) in
+    let tail = run_tail is_comment_byte b bs n takes.run in
+    let held = held_in modes.Comment bs n (IsUtf8-drop (b ∷ take n bs) 1 takes.utf8 (IsCharBoundary-after_ascii (b ∷ take n bs) 0 takes.utf8 (omega arith) low)) tt tail.within tail.each in
     let reached = reached_run m at text (opened scan modes.Comment 1) (opened scan modes.Comment (suc n)) bs (drop n bs) first (holds_run (opened scan modes.Comment 1) (opened scan modes.Comment (suc n)) bs n held (reads_more scan n)) in
     let ends = none_begins is_comment_byte (b ∷ bs) (suc n) takes.run.within takes.run.ends in
     record {
@@ -108,5 +108,4 @@ comment_goes old new (b ∷ bs) (suc n) takes = record {
   some = omega arith;
   within = takes.run.within;
   lines = omega (arith, ap (λ (k : Count). k.line) takes.closes.count);
-  cut = λ utf8. run_boundary modes.Comment (b ∷ bs) (suc n) utf8 tt takes.run;
 }

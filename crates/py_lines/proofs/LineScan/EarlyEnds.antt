@@ -1,6 +1,7 @@
 -- Where the open piece was closed early, what follows begins as it does after the open piece.
 use Rattle.std.proofs.Common.{◌≡◌, ℕ, ◌+◌, ◌-◌, ◌==◌, ◌≤◌, Bool, true, false, not, ◌||◌, ◌&&◌, None, Ok, List, [], ◌∷◌, ◌++◌, length, refl, sym, ap, ◌∙◌, subst, append-nil, arith, ⊎_elim, length-append}
 use Rattle.std.specs.Prelude.{encode_utf8, encode_utf8_all}
+use Rattle.std.specs.Str.{StartsWithNoChar}
 use Rattle.std.proofs.lemmas.Bool.{or_cases, both_ways}
 use Rattle.std.proofs.lemmas.Str.{char_from_byte}
 use Rattle.py_lines.specs.Character.{is_line_feed, is_break, is_hash, is_backslash, is_quote, is_return, is_one_of}
@@ -17,6 +18,7 @@ use Rattle.py_lines.specs.declared.scan.Scan.{Scan}
 use Rattle.py_lines.specs.Private.Machine.{Scanned, move_of, start_of, IsSound, Bracket, brackets_behind, token_of}
 use Rattle.py_lines.specs.Private.Scan.{Closes, Begins, ClosesAndAdds, Tallies, IsStacked, Takes, EndsNoLine, line_start, stack_of, none_open, is_returned, is_return_mode, line_end_progress, tokens_with, with_brackets, kind_closed, indent_closed, holds_nothing}
 use Rattle.py_lines.specs.Private.Run.{is_free, may_stand, may_begin, follows, Reached, ReachedShut, IsShut}
+use Rattle.py_lines.proofs.Text.Incomplete.{one_char}
 use Rattle.py_lines.proofs.Machine.Starts.{start-word, start-space, start-operator, start-feed, start-return, start-quote, start-hash, start-slash}
 use Rattle.py_lines.proofs.LineScan.BracketStack.{refused_anywhere}
 use Rattle.py_lines.proofs.LineScan.LineCount.{line_ends-bytes}
@@ -156,9 +158,13 @@ stands_shut m at text scan rest start r =
       line = shut.closes.line ∙ stood.line;
     }) r.how
 
--- at the text's end nothing was closed early
-pub shut_none : (m : Mode) (at : ℕ) (text : List ℕ) (scan : Scan) (rest : List ℕ) → rest ≡ [] → ReachedShut m at text scan rest → Reached m at text scan rest
+-- before bytes that begin no character nothing was closed early
+none_begun : (st : List Bracket) (rest : List ℕ) → StartsWithNoChar rest → begins (may_begin st) rest ≡ true → ⊥
+none_begun st [] none next = both_ways _ refl next
+none_begun st (b ∷ more) none next = one_char b more (begin_low st b next) none
+
+pub shut_none : (m : Mode) (at : ℕ) (text : List ℕ) (scan : Scan) (rest : List ℕ) → StartsWithNoChar rest → ReachedShut m at text scan rest → Reached m at text scan rest
 shut_none m at text scan rest none r =
     ⊎_elim
     (λ same. subst (λ (s : Scan). Reached m at text s rest) (sym same) r.reached)
-    (λ shut. absurd (both_ways _ (ap (begins (may_begin (stack_of scan.brackets))) none) shut.next)) r.how
+    (λ shut. absurd (none_begun (stack_of scan.brackets) rest none shut.next)) r.how

@@ -1,6 +1,7 @@
 -- The scan of a line's characters, one after another.
 use Rattle.std.proofs.Common.{◌≡◌, ℕ, ◌+◌, ◌≤◌, true, false, not, ◌&&◌, Option, None, Some, Ok, List, [], ◌∷◌, ◌++◌, refl, sym, ap, ◌∙◌, subst, append-nil, arith}
-use Rattle.std.specs.Prelude.{encode_utf8_all}
+use Rattle.std.specs.Prelude.{encode_utf8, encode_utf8_all}
+use Rattle.std.specs.Char.{IsScalar}
 use Rattle.std.proofs.lemmas.Bool.{both_ways, and_right}
 use Rattle.std.proofs.lemmas.Str.{encodes_same}
 use Rattle.py_lines.specs.Character.{is_line_feed, is_return}
@@ -13,7 +14,7 @@ use Rattle.py_lines.specs.declared.scan.Progress.TheVariants as progress
 use Rattle.py_lines.specs.declared.scan.Scan.{Scan}
 use Rattle.py_lines.specs.declared.scan.Stop.TheVariants as stops
 use Rattle.py_lines.specs.Private.Machine.{Scanned, fresh, step, run_from, IsSound}
-use Rattle.py_lines.specs.Private.Scan.{Tallies, IsStacked, Takes, Closes, line_start, stack_of, none_open, is_returned, is_return_mode, EndsNoLine, IsUnderWay, IsAtLineEnd, StopsSo}
+use Rattle.py_lines.specs.Private.Scan.{Tallies, IsStacked, Takes, Closes, line_start, stack_of, none_open, is_returned, is_return_mode, EndsNoLine, IsUnderWay, IsAtLineEnd, StopsIn}
 use Rattle.py_lines.proofs.Pieces.PieceLists.{piece, spelled-push, AreReadBefore-push, follows_any}
 use Rattle.py_lines.proofs.Text.CharacterTests.{return_is}
 use Rattle.py_lines.proofs.Machine.PieceRuns.{scanned, run_from-append}
@@ -61,10 +62,10 @@ at_line_end m old new read rest c len way start takes =
     }
 
 -- a character that was refused
-pub refused : (m : Mode) (old new : Scan) (read : List ℕ) (c : ℕ) (after rest : List ℕ) (way : IsUnderWay m old read) → is_returned old && not (is_line_feed c) ≡ false → Takes old way.state c (Ok progress.Refused) new → rest ≡ encode_utf8_all (c ∷ after) → StopsSo m new (stops.Refused c) read rest
-refused m old new read c after rest way not_yet takes is =
+pub refused : (m : Mode) (old new : Scan) (read : List ℕ) (c : ℕ) (after rest : List ℕ) (way : IsUnderWay m old read) → is_returned old && not (is_line_feed c) ≡ false → Takes old way.state c (Ok progress.Refused) new → IsScalar c → rest ≡ encode_utf8 c ++ after → StopsIn m new (stops.Refused c) read rest
+refused m old new read c after rest way not_yet takes scalar is =
     let kept : IsUnderWay m new read = record { state = way.state; runs = way.runs; tallies = subst (λ (s : Scan). Tallies s way.state) (sym takes.1) way.tallies; stacked = subst (λ (s : Scan). IsStacked s way.state) (sym takes.1) way.stacked; one_line = way.one_line } in
-    (kept, after, is, takes.0, subst (λ (s : Scan). is_returned s && not (is_line_feed c) ≡ false) (sym takes.1) not_yet)
+    (kept, after, scalar, is, takes.0, subst (λ (s : Scan). is_returned s && not (is_line_feed c) ≡ false) (sym takes.1) not_yet)
 
 -- CR that no LF follows
 no_feed : (text rest : List ℕ) → begins is_line_feed rest ≡ false → ends is_return text && begins is_line_feed rest ≡ false

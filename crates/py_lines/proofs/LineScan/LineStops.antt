@@ -1,6 +1,8 @@
 -- The scan of a line goes on in more text, and stops.
 use Rattle.std.proofs.Common.{◌≡◌, ℕ, ◌+◌, ◌≤◌, Bool, true, false, not, ◌&&◌, Ok, Bor, List, [], ◌∷◌, ◌++◌, length, inl, inr, refl, sym, ap, ◌∙◌, subst, arith, length-append, lit<, get_or}
 use Rattle.std.specs.Prelude.{encode_utf8, encode_utf8_all, IsUtf8}
+use Rattle.std.specs.Str.{all_scalars, StartsWithNoChar}
+use Rattle.std.specs.Char.{IsScalar}
 use Rattle.std.proofs.lemmas.Bool.{and_parts, both_ways, false_from_ne_true}
 use Rattle.std.proofs.lemmas.Str.{encode_ascii, encode_same, encodes_same, length-encode, len_utf8_bounds}
 use Rattle.py_lines.specs.Character.{is_line_feed, is_return}
@@ -20,8 +22,8 @@ use Rattle.py_lines.specs.Private.Run.{Holds, HasAsciiQuote, Reached, ReachedShu
 use Rattle.py_lines.proofs.LineScan.EarlyEnds.{TakesFrom, taken_free, taken_open, stands_reached, stands_shut, shut_none}
 use Rattle.py_lines.proofs.LineScan.ShortPieces.{free_is, open_reached}
 use Rattle.py_lines.proofs.Text.CharacterTests.{feed_from, feed_is}
-use Rattle.py_lines.proofs.Text.CharsIterator.{advances}
-use Rattle.py_lines.proofs.Text.Utf8Prefixes.{front_chars}
+use Rattle.py_lines.proofs.Text.Incomplete.{text_none}
+use Rattle.py_lines.proofs.Text.Utf8Prefixes.{front_chars, all_scalars-parts, scalars_more, spell_more}
 use Rattle.py_lines.proofs.Pieces.PieceLists.{AreReadBefore-second}
 use Rattle.py_lines.proofs.LogicalLines.Cuts.{uncut}
 use Rattle.py_lines.proofs.Lexings.SettledLines.{ends-line, ends-append}
@@ -30,34 +32,34 @@ use Rattle.py_lines.proofs.LineScan.Runs.{reached_character, reached_run, way_qu
 
 -- wherever in a line the scan stood before a text, it stands now before another
 abbrev pub GoesTo : Scan → List ℕ → Scan → List ℕ → Type 0
-GoesTo old text new rest = (m : Mode) (line : ℕ) (whole : List ℕ) → IsUtf8 whole → IsSound (line_start m) [] → Reached m line whole old text → Reached m line whole new rest
+GoesTo old text new rest = (m : Mode) (line : ℕ) (whole : List ℕ) → IsSound (line_start m) [] → Reached m line whole old text → Reached m line whole new rest
 
 -- and it stops so
 abbrev pub StopsNow : Scan → List ℕ → Scan → Stop → Type 0
-StopsNow old text new stop = (m : Mode) (line : ℕ) (whole : List ℕ) → IsUtf8 whole → IsSound (line_start m) [] → Reached m line whole old text → ScansIn m line whole new stop
+StopsNow old text new stop = (m : Mode) (line : ℕ) (whole : List ℕ) → IsSound (line_start m) [] → Reached m line whole old text → ScansIn m line whole new stop
 
 -- it stands somewhere in a line
 abbrev pub StandsBefore : Scan → List ℕ → Type 0
-StandsBefore old text = (m : Mode) × (line : ℕ) × (whole : List ℕ) × IsUtf8 whole × IsSound (line_start m) [] × Reached m line whole old text
+StandsBefore old text = (m : Mode) × (line : ℕ) × (whole : List ℕ) × IsSound (line_start m) [] × Reached m line whole old text
 
 -- the same, where it may have closed the open piece early
 abbrev pub ShutsTo : Scan → List ℕ → Scan → List ℕ → Type 0
-ShutsTo old text new rest = (m : Mode) (line : ℕ) (whole : List ℕ) → IsUtf8 whole → IsSound (line_start m) [] → Reached m line whole old text → ReachedShut m line whole new rest
+ShutsTo old text new rest = (m : Mode) (line : ℕ) (whole : List ℕ) → IsSound (line_start m) [] → Reached m line whole old text → ReachedShut m line whole new rest
 
 -- what pieces leave
 abbrev pub Leaves : Scan → List ℕ → Scan → Left → Type 0
-Leaves old before new left = (m : Mode) (line : ℕ) (whole : List ℕ) → IsUtf8 whole → IsSound (line_start m) [] → Reached m line whole old before → LeavesOff m line whole new left
+Leaves old before new left = (m : Mode) (line : ℕ) (whole : List ℕ) → IsSound (line_start m) [] → Reached m line whole old before → LeavesOff m line whole new left
 
 -- the text that is left after them
-pub left_shuts : (first : Scan) (text : List ℕ) (old : Scan) (before : List ℕ) (new : Scan) (left : Left) (rest : Bor (List ℕ)) → left ≡ lefts.Text rest → GoesTo first text old before → Leaves old before new left → ShutsTo first text new rest.now
-left_shuts first text old before new left rest is goes leaves m line whole utf8 start r = subst (LeavesOff m line whole new) is (leaves m line whole utf8 start (goes m line whole utf8 start r))
+pub left_shuts : (first : Scan) (text : List ℕ) (old : Scan) (before : List ℕ) (new : Scan) (left : Left) (rest : Bor (List ℕ)) → left ≡ lefts.Bytes rest → GoesTo first text old before → Leaves old before new left → ShutsTo first text new rest.now
+left_shuts first text old before new left rest is goes leaves m line whole start r = subst (LeavesOff m line whole new) is (leaves m line whole start (goes m line whole start r))
 
-pub left_length : (text : List ℕ) (left : Left) (rest : Bor (List ℕ)) → left ≡ lefts.Text rest → IsNoLonger text left → length rest.now ≤ length text
+pub left_length : (text : List ℕ) (left : Left) (rest : Bor (List ℕ)) → left ≡ lefts.Bytes rest → IsNoLonger text left → length rest.now ≤ length text
 left_length text left rest is shorter = subst (IsNoLonger text) is shorter
 
 -- and the line's end
 pub left_ends : (first : Scan) (text : List ℕ) (old : Scan) (before : List ℕ) (new : Scan) (left : Left) (len : ℕ) → left ≡ lefts.LineEnd len → GoesTo first text old before → Leaves old before new left → StopsNow first text new (stops.LineEnd len)
-left_ends first text old before new left len is goes leaves m line whole utf8 start r = subst (LeavesOff m line whole new) is (leaves m line whole utf8 start (goes m line whole utf8 start r))
+left_ends first text old before new left len is goes leaves m line whole start r = subst (LeavesOff m line whole new) is (leaves m line whole start (goes m line whole start r))
 
 -- what a character comes to, wherever the machine is
 pub record TakesTo (old : Scan) (c : ℕ) (p : Progress) (new : Scan) : Type 0 where
@@ -66,25 +68,25 @@ pub record TakesTo (old : Scan) (c : ℕ) (p : Progress) (new : Scan) : Type 0 w
 
 -- what standing in a line tells
 pub goes_room : (old : Scan) (text : List ℕ) (new : Scan) (rest : List ℕ) → StandsBefore old text → GoesTo old text new rest → new.stop + length rest ≡ old.stop + length text
-goes_room old text new rest (m, line, whole, utf8, start, r) goes = (stands_reached m line whole new rest start (goes m line whole utf8 start r)).room ∙ sym (stands_reached m line whole old text start r).room
+goes_room old text new rest (m, line, whole, start, r) goes = (stands_reached m line whole new rest start (goes m line whole start r)).room ∙ sym (stands_reached m line whole old text start r).room
 
 pub goes_lines : (old : Scan) (text : List ℕ) (new : Scan) (rest : List ℕ) → StandsBefore old text → GoesTo old text new rest → new.count.line ≤ old.line + new.stop
-goes_lines old text new rest (m, line, whole, utf8, start, r) goes =
-    let stood = stands_reached m line whole new rest start (goes m line whole utf8 start r) in
+goes_lines old text new rest (m, line, whole, start, r) goes =
+    let stood = stands_reached m line whole new rest start (goes m line whole start r) in
     omega (arith, stood.lines, stood.line, r.line)
 
 pub goes_quote : (old : Scan) (text : List ℕ) (new : Scan) (rest : List ℕ) → StandsBefore old text → GoesTo old text new rest → HasAsciiQuote new.piece.mode
-goes_quote old text new rest (m, line, whole, utf8, start, r) goes = let o = goes m line whole utf8 start r in way_quote m new o.read o.way start
+goes_quote old text new rest (m, line, whole, start, r) goes = let o = goes m line whole start r in way_quote m new o.read o.way start
 
 pub shuts_order : (old : Scan) (text : List ℕ) (new : Scan) (rest : List ℕ) → StandsBefore old text → ShutsTo old text new rest → new.piece.start ≤ new.stop
-shuts_order old text new rest (m, line, whole, utf8, start, r) shuts = (stands_shut m line whole new rest start (shuts m line whole utf8 start r)).order
+shuts_order old text new rest (m, line, whole, start, r) shuts = (stands_shut m line whole new rest start (shuts m line whole start r)).order
 
 pub shuts_room : (old : Scan) (text : List ℕ) (new : Scan) (rest : List ℕ) → StandsBefore old text → ShutsTo old text new rest → new.stop + length rest ≡ old.stop + length text
-shuts_room old text new rest (m, line, whole, utf8, start, r) shuts = (stands_shut m line whole new rest start (shuts m line whole utf8 start r)).room ∙ sym (stands_reached m line whole old text start r).room
+shuts_room old text new rest (m, line, whole, start, r) shuts = (stands_shut m line whole new rest start (shuts m line whole start r)).room ∙ sym (stands_reached m line whole old text start r).room
 
 pub shuts_lines : (old : Scan) (text : List ℕ) (new : Scan) (rest : List ℕ) → StandsBefore old text → ShutsTo old text new rest → new.count.line ≤ old.line + new.stop
-shuts_lines old text new rest (m, line, whole, utf8, start, r) shuts =
-    let stood = stands_shut m line whole new rest start (shuts m line whole utf8 start r) in
+shuts_lines old text new rest (m, line, whole, start, r) shuts =
+    let stood = stands_shut m line whole new rest start (shuts m line whole start r) in
     omega (arith, stood.lines, stood.line, r.line)
 
 -- a line that its line end has closed ends in LF, where LF may follow it
@@ -126,14 +128,14 @@ not_true false h = refl
 
 -- a run of characters was held
 pub goes_run : (first : Scan) (text : List ℕ) (old new : Scan) (before rest : List ℕ) → GoesTo first text old before → Holds old before rest new → GoesTo first text new rest
-goes_run first text old new before rest goes holds m line whole utf8 start r = reached_run m line whole old new before rest (goes m line whole utf8 start r) holds
+goes_run first text old new before rest goes holds m line whole start r = reached_run m line whole old new before rest (goes m line whole start r) holds
 
 module _ (first : Scan) (text : List ℕ) (old : Scan) (before : List ℕ) (shuts : ShutsTo first text old before) where
   -- the line had ended with CR, before what follows
   pub stops_before : (new : Scan) → is_returned old ≡ true → ((read : List ℕ) → EndsWhole read before) → Closes old new → StopsNow first text new (stops.LineEnd 1)
-  stops_before new ended apart_from_it closes m line whole utf8 start r =
+  stops_before new ended apart_from_it closes m line whole start r =
       let parts = and_parts _ _ ended in
-      let o = open_reached m line whole old before (return_open old.piece.mode parts.0) (shuts m line whole utf8 start r) in
+      let o = open_reached m line whole old before (return_open old.piece.mode parts.0) (shuts m line whole start r) in
       let returns = return_ends o.way.state o.read (sound_run m o.read o.way.state start o.way.runs) (ap is_return_mode (sym o.way.tallies.mode) ∙ parts.0) in
       record {
         read = o.read;
@@ -148,7 +150,7 @@ module _ (first : Scan) (text : List ℕ) (old : Scan) (before : List ℕ) (shut
       return_open modes.Return h = refl
       return_open n h = absurd (both_ways _ refl h)
 
-  module _ (c : ℕ) (rest : List ℕ) (is : before ≡ encode_utf8 c ++ rest) (new : Scan) where
+  module _ (c : ℕ) (scalar : IsScalar c) (rest : List ℕ) (is : before ≡ encode_utf8 c ++ rest) (new : Scan) where
     -- where the machine takes it
     taken_at : (p : Progress) (m : Mode) (line : ℕ) (whole : List ℕ) → IsSound (line_start m) [] → is_returned old && not (is_line_feed c) ≡ false → TakesTo old c p new → ReachedShut m line whole old before → TakesFrom m line whole before c p new
     taken_at p m line whole start not_yet takes o = go (is_free old.piece.mode) refl
@@ -159,22 +161,21 @@ module _ (first : Scan) (text : List ℕ) (old : Scan) (before : List ℕ) (shut
 
     -- a character was taken
     pub goes_character : is_returned old && not (is_line_feed c) ≡ false → TakesTo old c progress.Going new → GoesTo first text new rest
-    goes_character not_yet takes m line whole utf8 start r =
-        let from = taken_at progress.Going m line whole start not_yet takes (shuts m line whole utf8 start r) in
-        reached_character m line whole from.from new before rest c from.reached utf8 is from.takes
+    goes_character not_yet takes m line whole start r =
+        let from = taken_at progress.Going m line whole start not_yet takes (shuts m line whole start r) in
+        reached_character m line whole from.from new before rest c from.reached scalar is from.takes
 
     -- it ended the line
     pub stops_line : (len : ℕ) → is_returned old && not (is_line_feed c) ≡ false → TakesTo old c (progress.LineEnded len) new → StopsNow first text new (stops.LineEnd len)
-    stops_line len not_yet takes m line whole utf8 start r =
-        let from = taken_at (progress.LineEnded len) m line whole start not_yet takes (shuts m line whole utf8 start r) in
+    stops_line len not_yet takes m line whole start r =
+        let from = taken_at (progress.LineEnded len) m line whole start not_yet takes (shuts m line whole start r) in
         let o = from.reached in
-        let on = advances whole o.read c before rest utf8 o.spell is in
         let at : (after : List ℕ) → IsAtLineEnd m new (o.read ++ c ∷ []) (encode_utf8_all after) len = λ after. at_line_end m from.from new o.read (encode_utf8_all after) c len o.way start from.takes in
         record {
           read = o.read ++ c ∷ [];
           rest = rest;
-          scalars = on.scalars;
-          spell = on.spell;
+          scalars = scalars_more o.read c o.scalars scalar;
+          spell = spell_more o.read rest whole c (ap (λ t. encode_utf8_all o.read ++ t) (sym is) ∙ o.spell);
           stops = ((λ after apart. at after), inl (feed_last m new (o.read ++ c ∷ []) len (at (10 ∷ []))));
           number = from.takes.1 ∙ o.line;
         }
@@ -187,23 +188,22 @@ module _ (first : Scan) (text : List ℕ) (old : Scan) (before : List ℕ) (shut
 
     -- it was refused
     pub stops_refused : is_returned old && not (is_line_feed c) ≡ false → TakesTo old c progress.Refused new → StopsNow first text new (stops.Refused c)
-    stops_refused not_yet takes m line whole utf8 start r =
-        let from = taken_at progress.Refused m line whole start not_yet takes (shuts m line whole utf8 start r) in
+    stops_refused not_yet takes m line whole start r =
+        let from = taken_at progress.Refused m line whole start not_yet takes (shuts m line whole start r) in
         let o = from.reached in
-        let on = advances whole o.read c before rest utf8 o.spell is in
         record {
           read = o.read;
           rest = before;
           scalars = o.scalars;
           spell = o.spell;
-          stops = refused m from.from new o.read c on.after before o.way from.not_yet from.takes (is ∙ ap (λ t. encode_utf8 c ++ t) on.follow);
+          stops = refused m from.from new o.read c rest before o.way from.not_yet from.takes scalar is;
           number = ap (λ (s : Scan). s.line) from.takes.1 ∙ o.line;
         }
 
-  -- the text ends
-  pub stops_text : before ≡ [] → StopsNow first text old stops.TextEnd
-  stops_text none m line whole utf8 start r =
-      let o = shut_none m line whole old before none (shuts m line whole utf8 start r) in
+  -- no character follows
+  pub stops_text : StartsWithNoChar before → StopsNow first text old stops.TextEnd
+  stops_text none m line whole start r =
+      let o = shut_none m line whole old before none (shuts m line whole start r) in
       record {
         read = o.read;
         rest = before;
@@ -214,25 +214,31 @@ module _ (first : Scan) (text : List ℕ) (old : Scan) (before : List ℕ) (shut
       }
 
 -- at a line's start the scan stands before all of it
-pub begun_reached : (old : Scan) (text : List ℕ) → Tallies old (line_start old.piece.mode) → IsStacked old (line_start old.piece.mode) → Reached old.piece.mode old.line text old text
-begun_reached old text tallies stacked = record {
+pub begun_reached : (old : Scan) (text bytes : List ℕ) → bytes ≡ text → Tallies old (line_start old.piece.mode) → IsStacked old (line_start old.piece.mode) → Reached old.piece.mode old.line text old bytes
+begun_reached old text bytes is tallies stacked = record {
   read = [];
   way = record { state = line_start old.piece.mode; runs = refl; tallies = tallies; stacked = stacked; one_line = tt };
-  spell = refl;
+  spell = is;
   scalars = refl;
   line = refl;
 }
 
+-- bytes of a text that begin no character are none
+nothing_left : (text read rest : List ℕ) → IsUtf8 text → encode_utf8_all read ++ rest ≡ text → StartsWithNoChar rest → rest ≡ []
+nothing_left text read rest utf8 spell none =
+    let split = front_chars read utf8.0 rest (utf8.1.1 ∙ sym spell) in
+    text_none rest (split.0, ((all_scalars-parts read split.0 (ap all_scalars (sym split.1) ∙ utf8.1.0)).1, split.2)) none
+
 -- where the text ends after CR, the line ends there
-pub scans_returned : (m : Mode) (line : ℕ) (text : List ℕ) (old new : Scan) → IsSound (line_start m) [] → ScansIn m line text old stops.TextEnd → is_returned old ≡ true → Closes old new → Scans m text new (stops.LineEnd 1)
-scans_returned m line text old new start scans ended closes =
+pub scans_returned : (m : Mode) (line : ℕ) (text : List ℕ) (old new : Scan) → IsUtf8 text → IsSound (line_start m) [] → ScansIn m line text old stops.TextEnd → is_returned old ≡ true → Closes old new → Scans m text new (stops.LineEnd 1)
+scans_returned m line text old new utf8 start scans ended closes =
     let parts = and_parts (is_return_mode old.piece.mode) (none_open (stack_of old.brackets)) ended in
     record {
       read = scans.read;
       rest = scans.rest;
       scalars = scans.scalars;
       spell = scans.spell;
-      stops = returned m old new scans.read _ scans.stops.0 start parts.0 parts.1 closes (λ after spells. follows_nothing _ after scans.stops.1 spells);
+      stops = returned m old new scans.read _ scans.stops.0 start parts.0 parts.1 closes (λ after spells. follows_nothing _ after (nothing_left text scans.read scans.rest utf8 scans.spell scans.stops.1) spells);
     }
 
 -- what follows a line's end begins with no LF where CR ended it
@@ -245,7 +251,7 @@ apart_from read rest (c ∷ cs) (inr (b, more, is, other)) spells returns = fals
 
 -- and elsewhere it stops as it does in the line
 pub scans_alone : (m : Mode) (line : ℕ) (text : List ℕ) (scan : Scan) (stop : Stop) → IsUtf8 text → (stop ≡ stops.TextEnd → is_returned scan ≡ false) → ScansIn m line text scan stop → Scans m text scan stop
-scans_alone m line text scan stops.TextEnd utf8 open_yet scans = record { read = scans.read; rest = scans.rest; scalars = scans.scalars; spell = scans.spell; stops = (scans.stops.0, scans.stops.1, open_yet refl) }
+scans_alone m line text scan stops.TextEnd utf8 open_yet scans = record { read = scans.read; rest = scans.rest; scalars = scans.scalars; spell = scans.spell; stops = (scans.stops.0, nothing_left text scans.read scans.rest utf8 scans.spell scans.stops.1, open_yet refl) }
 scans_alone m line text scan (stops.LineEnd len) utf8 open_yet scans =
     let split = front_chars scans.read utf8.0 scans.rest (utf8.1.1 ∙ sym scans.spell) in
     record {
@@ -255,4 +261,7 @@ scans_alone m line text scan (stops.LineEnd len) utf8 open_yet scans =
       spell = scans.spell;
       stops = subst (λ (t : List ℕ). IsAtLineEnd m scan scans.read t len) split.2 (scans.stops.0 split.0 (λ returns. apart_from scans.read scans.rest split.0 scans.stops.1 split.2 returns));
     }
-scans_alone m line text scan (stops.Refused c) utf8 open_yet scans = record { read = scans.read; rest = scans.rest; scalars = scans.scalars; spell = scans.spell; stops = scans.stops }
+scans_alone m line text scan (stops.Refused c) utf8 open_yet scans =
+    let stops = scans.stops in
+    let split = front_chars (scans.read ++ c ∷ []) utf8.0 stops.1 (utf8.1.1 ∙ sym (spell_more scans.read stops.1 text c (ap (λ t. encode_utf8_all scans.read ++ t) (sym stops.3) ∙ scans.spell))) in
+    record { read = scans.read; rest = scans.rest; scalars = scans.scalars; spell = scans.spell; stops = (stops.0, split.0, stops.3 ∙ ap (λ t. encode_utf8 c ++ t) (sym split.2), stops.4, stops.5) }

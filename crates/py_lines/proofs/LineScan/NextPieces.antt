@@ -1,7 +1,6 @@
 -- What the scan comes to after one more piece.
-use Rattle.std.proofs.Common.{◌≡◌, ℕ, ◌+◌, ◌≤◌, Bool, true, false, not, ◌&&◌, Ok, List, [], ◌∷◌, ◌++◌, length, drop, refl, sym, ap, ◌∙◌, subst, append-nil, arith, ⊎_elim, lit<}
+use Rattle.std.proofs.Common.{◌≡◌, ℕ, ◌+◌, ◌≤◌, Bool, true, false, not, ◌&&◌, Ok, List, [], ◌∷◌, ◌++◌, length, drop, refl, sym, ap, ◌∙◌, subst, arith, ⊎_elim, lit<}
 use Rattle.std.specs.Prelude.{encode_utf8}
-use Rattle.std.specs.Str.{IsUtf8, IsCharBoundary}
 use Rattle.std.proofs.lemmas.Bool.{and_right, both_ways}
 use Rattle.std.proofs.lemmas.Str.{encode_ascii}
 use Rattle.py_lines.specs.Character.{is_space, is_line_feed, is_return}
@@ -22,7 +21,7 @@ use Rattle.py_lines.proofs.LineScan.CarriageReturns.{return_ends_line, return_fa
 use Rattle.py_lines.proofs.LineScan.Comments.{comment_goes, comment_reached}
 use Rattle.py_lines.proofs.LineScan.LineStops.{ShutsTo, StopsNow, TakesTo, goes_character, stops_line}
 use Rattle.py_lines.proofs.LineScan.Runs.{space_low, word_byte_low}
-use Rattle.py_lines.proofs.LineScan.ShortPieces.{Goes, free_is, low_cut, operator_goes, operator_reached, run_goes, shut_from, space_reached, string_goes, string_reached, word_reached}
+use Rattle.py_lines.proofs.LineScan.ShortPieces.{Goes, ascii_scalar, free_is, operator_goes, operator_reached, run_goes, shut_from, space_reached, string_goes, string_reached, word_reached}
 
 -- LF, as the bytes spell it
 feed_spell : (bytes : List ℕ) → BeginsWithFeed bytes → 10 ∷ drop 1 bytes ≡ bytes
@@ -41,30 +40,30 @@ feed_takes old new p free begun = record {
   taken = λ s read other. absurd (both_ways _ other free);
 }
 
-module _ (first : Scan) (text : List ℕ) (old new : Scan) (bytes : List ℕ) (free : is_free old.piece.mode ≡ true) (utf8 : IsUtf8 bytes) (shuts : ShutsTo first text old bytes) where
+module _ (first : Scan) (text : List ℕ) (old new : Scan) (bytes : List ℕ) (free : is_free old.piece.mode ≡ true) (shuts : ShutsTo first text old bytes) where
   feed_goes : (len : ℕ) → BeginsWithFeed bytes → TakesLineFeed old (taken.Bytes len) new → ShutsTo first text new (drop len bytes)
-  feed_goes len feeds (one, begun) m at whole all start r =
+  feed_goes len feeds (one, begun) m at whole start r =
       shut_from m at whole new (drop len bytes) (subst (λ (n : ℕ). Reached m at whole new (drop n bytes)) (sym one)
-      (goes_character first text old bytes shuts 10 (drop 1 bytes) (feed_encodes bytes feeds) new (no_wait old) (feed_takes old new progress.Going free begun) m at whole all start r))
+      (goes_character first text old bytes shuts 10 (ascii_scalar 10 (lit< tt)) (drop 1 bytes) (feed_encodes bytes feeds) new (no_wait old) (feed_takes old new progress.Going free begun) m at whole start r))
 
   -- after a piece
   pub piece_goes : (len : ℕ) → TakesPiece old bytes (Ok (taken.Bytes len)) new → ShutsTo first text new (drop len bytes)
-  piece_goes len takes m at whole all start r =
-      let before = shuts m at whole all start r in
+  piece_goes len takes m at whole start r =
+      let before = shuts m at whole start r in
       let is : old.piece.mode ≡ modes.Free = free_is old.piece.mode free in
       ⊎_elim
       (λ word. word_reached m at whole old new bytes len is before start word)
       (λ second. ⊎_elim
       (λ space. space_reached m at whole old new bytes len is before start space)
       (λ third. ⊎_elim
-      (λ stands. operator_reached m at whole old new bytes len is all before start stands)
+      (λ stands. operator_reached m at whole old new bytes len is before start stands)
       (λ fourth. ⊎_elim
-      (λ string. string_reached m at whole old new bytes len is all before start string)
+      (λ string. string_reached m at whole old new bytes len is before start string)
       (λ fifth. ⊎_elim
-      (λ remark. comment_reached m at whole old new bytes len is utf8 before start remark)
+      (λ remark. comment_reached m at whole old new bytes len is before start remark)
       (λ sixth. ⊎_elim
-      (λ (feeds, feed). feed_goes len feeds feed m at whole all start r)
-      (λ returns. return_goes first text old bytes free shuts new len returns m at whole all start r) sixth) fifth) fourth) third) second) takes
+      (λ (feeds, feed). feed_goes len feeds feed m at whole start r)
+      (λ returns. return_goes first text old bytes free shuts new len returns m at whole start r) sixth) fifth) fourth) third) second) takes
 
   -- where nothing was taken
   pub none_goes : TakesPiece old bytes (Ok taken.Nothing) new → ShutsTo first text new bytes
@@ -74,7 +73,7 @@ module _ (first : Scan) (text : List ℕ) (old new : Scan) (bytes : List ℕ) (f
   pub ends_line : (len : ℕ) → TakesPiece old bytes (Ok (taken.LineEnd len)) new → StopsNow first text new (stops.LineEnd len)
   ends_line len takes =
       ⊎_elim
-      (λ (feeds, begun). stops_line first text old bytes shuts 10 (drop 1 bytes) (feed_encodes bytes feeds) new len (no_wait old) (feed_takes old new (progress.LineEnded len) free begun))
+      (λ (feeds, begun). stops_line first text old bytes shuts 10 (ascii_scalar 10 (lit< tt)) (drop 1 bytes) (feed_encodes bytes feeds) new len (no_wait old) (feed_takes old new (progress.LineEnded len) free begun))
       (λ returns. return_ends_line first text old bytes free shuts new len returns) takes
 
 -- how far LF goes
@@ -95,7 +94,6 @@ feed_far old new bytes len feeds (one, begun) =
       some = omega (arith, one);
       within = omega (arith, one, ap length spell);
       lines = omega (arith, one, feed_counts adds.mid.count new.count adds.stands.count, ap (λ (k : Count). k.line) adds.closes.count);
-      cut = λ utf8. subst (IsCharBoundary bytes) (sym one) (low_cut (10 ∷ []) (drop 1 bytes) bytes spell (append-nil (encode_utf8 10) ∙ encode_ascii 10 (lit< tt)) utf8);
     }
 
 pub piece_far : (old new : Scan) (bytes : List ℕ) (len : ℕ) → TakesPiece old bytes (Ok (taken.Bytes len)) new → Goes old bytes len new

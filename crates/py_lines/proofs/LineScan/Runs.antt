@@ -1,12 +1,13 @@
 -- Characters that leave the open piece as it is are held in one step.
-use Rattle.std.proofs.Common.{◌≡◌, ℕ, ◌+◌, ◌<◌, ◌≤◌, ◌⊎◌, inl, inr, Bool, true, false, leb, not, ◌||◌, ◌&&◌, ◌==◌, Some, List, [], ◌∷◌, ◌++◌, length, take, drop, slice_index, refl, sym, ap, ◌∙◌, subst, append_assoc, append-nil, arith, ⊎_elim, take-append-drop, length-append, lit<, zero, suc, add-one}
+use Rattle.std.proofs.Common.{◌≡◌, ℕ, ◌+◌, ◌<◌, ◌≤◌, ◌⊎◌, inl, inr, Bool, true, false, leb, not, ◌||◌, ◌&&◌, ◌==◌, Some, List, [], ◌∷◌, ◌++◌, length, take, drop, slice_index, refl, sym, ap, ◌∙◌, subst, append_assoc, append-nil, arith, ⊎_elim, take-append-drop, length-append, length-take, lit<}
 use Rattle.std.specs.Prelude.{encode_utf8_all, encode_utf8}
-use Rattle.std.specs.Str.{all_scalars, IsUtf8, IsCharBoundary}
+use Rattle.std.specs.Str.{all_scalars, IsUtf8}
+use Rattle.std.specs.Char.{IsScalar}
 use Rattle.std.specs.List.{list_all}
 use Rattle.std.proofs.lemmas.Bool.{and_parts, and_from, cases_lt, both_ways, eqb-true, false_from_ne_true, or_parts, leb-false}
-use Rattle.std.proofs.lemmas.List.{get_or-append-add, length-take-le, get_or-take}
+use Rattle.std.proofs.lemmas.List.{get_or-append-add, length-take-le, get_or-take, take-take}
 use Rattle.std.proofs.lemmas.Bool.Decides.{nat_tests}
-use Rattle.std.proofs.lemmas.Str.{IsUtf8-take, IsCharBoundary-start, IsCharBoundary-before_ascii, IsCharBoundary-after_ascii, IsCharBoundary-end, encodes-append, length-encode, len_utf8_bounds, char_from_byte, byte_from_char}
+use Rattle.std.proofs.lemmas.Str.{encodes-append, length-encode, len_utf8_bounds, char_from_byte, byte_from_char}
 use Rattle.py_lines.specs.Character.{is_space, is_word_character, is_break, is_backslash, is_return, is_line_feed}
 use Rattle.py_lines.specs.Piece.{ends, spelled}
 use Rattle.py_lines.specs.LogicalLine.{byte_len, line_ends}
@@ -29,11 +30,10 @@ use Rattle.std.specs.Prelude.{if◌then◌else◌}
 use Rattle.py_lines.proofs.LineScan.Increments.{line_ends-step}
 use Rattle.py_lines.proofs.LineScan.LineCount.{ends-last}
 use Rattle.py_lines.proofs.LineScan.LineRun.{sound_run, under_way}
-use Rattle.py_lines.proofs.Text.CharsIterator.{advances}
 use Rattle.py_lines.specs.declared.scan.Progress.TheVariants as progress
 use Rattle.py_lines.specs.Private.Scan.{Takes}
 use Rattle.std.proofs.Common.{Ok}
-use Rattle.py_lines.proofs.Text.Utf8Prefixes.{all_scalars-append}
+use Rattle.py_lines.proofs.Text.Utf8Prefixes.{all_scalars-append, scalars_more, spell_more}
 use Rattle.py_lines.specs.Private.Machine.{IsSound}
 use Rattle.py_lines.proofs.LogicalLines.Cuts.{byte_len-append}
 use Rattle.py_lines.specs.LogicalLine.{tokens_from}
@@ -168,30 +168,7 @@ sound_quote (modes.Inside q) done held holds = quote_ascii q holds.all.opens
 sound_quote (modes.Long q) done held holds = quote_ascii q holds.opens
 sound_quote m done held holds = tt
 
--- a run may be cut off
-after_low : (bytes : List ℕ) (n : ℕ) → IsUtf8 bytes → n ≤ length bytes → ((i : ℕ) → i < n → slice_index bytes i < 128) → IsCharBoundary bytes n
-after_low bytes zero utf8 within low = IsCharBoundary-start bytes utf8
-after_low bytes (suc n) utf8 within low = subst (IsCharBoundary bytes) (add-one n) (IsCharBoundary-after_ascii bytes n utf8 (omega (arith, within)) (low n (omega arith)))
-
-before_low : (bytes : List ℕ) (n : ℕ) → n ≤ length bytes → (n < length bytes → slice_index bytes n < 128) → IsCharBoundary bytes n
-before_low bytes n within low =
-    ⊎_elim
-    (λ (less : n < length bytes). IsCharBoundary-before_ascii bytes n less (low less))
-    (λ (all : length bytes ≤ n). let same : length bytes ≡ n = omega (arith, all, within) in subst (IsCharBoundary bytes) same (IsCharBoundary-end bytes)) (cases_lt n (length bytes))
-
-not_high : (m : Mode) (b : ℕ) → (128 ≤ b → stays m b ≡ true) → stays m b ≡ false → b < 128
-not_high m b high is = ⊎_elim (λ (low : b < 128). low) (λ (more : 128 ≤ b). absurd (both_ways _ is (high more))) (cases_lt b 128)
-
-pub run_boundary : (m : Mode) (bytes : List ℕ) (n : ℕ) → IsUtf8 bytes → HasAsciiQuote m → IsRunOf (stays m) bytes n → IsCharBoundary bytes n
-run_boundary modes.Space bytes n utf8 quote run = after_low bytes n utf8 run.within (λ i less. space_low _ (run.each i less))
-run_boundary (modes.Word spellings.Number) bytes n utf8 quote run = after_low bytes n utf8 run.within (λ i less. word_byte_low _ (run.each i less))
-run_boundary (modes.Word spellings.Name) bytes n utf8 quote run = after_low bytes n utf8 run.within (λ i less. word_byte_low _ (run.each i less))
-run_boundary modes.Comment bytes n utf8 quote run = before_low bytes n run.within (λ less. not_high modes.Comment _ (λ high. ap not (false_from_ne_true _ (λ breaks. absurd (omega (arith, high, break_low _ breaks))))) (run.ends less))
-run_boundary (modes.Inside q) bytes n utf8 quote run = before_low bytes n run.within (λ less. not_high (modes.Inside q) _ (λ high. body_high q _ quote high) (run.ends less))
-run_boundary (modes.Long q) bytes n utf8 quote run = before_low bytes n run.within (λ less. not_high (modes.Long q) _ (λ high. body_high q _ quote high) (run.ends less))
-run_boundary m bytes n utf8 quote run = after_low bytes n utf8 run.within (λ i less. absurd (both_ways _ refl (run.each i less)))
-
--- what a text's run holds
+-- what the first n bytes hold
 pub record HeldIn (m : Mode) (text : List ℕ) (n : ℕ) : Type 0 where
   pub run : List ℕ
   pub spell : encode_utf8_all run ++ drop n text ≡ text
@@ -199,10 +176,9 @@ pub record HeldIn (m : Mode) (text : List ℕ) (n : ℕ) : Type 0 where
   pub size : byte_len run ≡ n
   pub stay : list_all (stays m) run ≡ true
 
-pub held_in : (m : Mode) (text : List ℕ) (n : ℕ) → IsUtf8 text → HasAsciiQuote m → IsRunOf (stays m) text n → HeldIn m text n
-held_in m text n utf8 quote run =
-    let front = IsUtf8-take text n utf8 (run_boundary m text n utf8 quote run) in
-    let size : length (take n text) ≡ n = length-take-le n text run.within in
+pub held_in : (m : Mode) (text : List ℕ) (n : ℕ) → (front : IsUtf8 (take n text)) → HasAsciiQuote m → n ≤ length text → ((i : ℕ) → i < n → stays m (slice_index text i) ≡ true) → HeldIn m text n
+held_in m text n front quote within each =
+    let size : length (take n text) ≡ n = length-take-le n text within in
     record {
       run = front.0;
       spell = ap (λ t. t ++ drop n text) front.1.1 ∙ take-append-drop n text;
@@ -210,8 +186,14 @@ held_in m text n utf8 quote run =
       size = ap length front.1.1 ∙ size;
       stay = characters_stay m front.0 quote (λ i less.
           let short : i < n = omega (arith, less, ap length front.1.1, size) in
-          subst (λ (t : List ℕ). stays m (slice_index t i) ≡ true) (sym front.1.1) (subst (λ (b : ℕ). stays m b ≡ true) (sym (get_or-take n text i 0 short)) (run.each i short)));
+          subst (λ (t : List ℕ). stays m (slice_index t i) ≡ true) (sym front.1.1) (subst (λ (b : ℕ). stays m b ≡ true) (sym (get_or-take n text i 0 short)) (each i short)));
     }
+
+-- the text that a run begins with
+pub held_front : (m : Mode) (bytes text : List ℕ) (n : ℕ) → IsUtf8 text → HasAsciiQuote m → text ≡ take (length text) (take n bytes) → IsRunOf (stays m) bytes n → HeldIn m bytes (length text)
+held_front m bytes text n utf8 quote front run =
+    let size : length text ≤ n = omega (arith, ap length front, length-take (length text) (take n bytes), length-take n bytes) in
+    held_in m bytes (length text) (subst IsUtf8 (front ∙ take-take (length text) n bytes size) utf8) quote (omega (arith, size, run.within)) (λ i less. run.each i (omega (arith, less, size)))
 
 full_from : (run : List ℕ) → 0 < byte_len run → IsFull run
 full_from [] some = absurd (omega (arith, some))
@@ -318,13 +300,11 @@ pub way_quote : (m : Mode) (scan : Scan) (read : List ℕ) (way : IsUnderWay m s
 way_quote m scan read way start = subst HasAsciiQuote (sym way.tallies.mode) (sound_quote way.state.mode way.state.done way.state.held (sound_run m read way.state start way.runs).holds)
 
 -- and over a character
-pub reached_character : (m : Mode) (at : ℕ) (text : List ℕ) (old new : Scan) (before rest : List ℕ) (c : ℕ) (r : Reached m at text old before) → IsUtf8 text → before ≡ encode_utf8 c ++ rest → Takes old r.way.state c (Ok progress.Going) new → Reached m at text new rest
-reached_character m at text old new before rest c r utf8 is takes =
-    let on = advances text r.read c before rest utf8 r.spell is in
-    record {
-      read = r.read ++ c ∷ [];
-      way = under_way m old new r.read c r.way takes;
-      spell = on.spell;
-      scalars = on.scalars;
-      line = takes.1 ∙ r.line;
-    }
+pub reached_character : (m : Mode) (at : ℕ) (text : List ℕ) (old new : Scan) (before rest : List ℕ) (c : ℕ) (r : Reached m at text old before) → IsScalar c → before ≡ encode_utf8 c ++ rest → Takes old r.way.state c (Ok progress.Going) new → Reached m at text new rest
+reached_character m at text old new before rest c r scalar is takes = record {
+  read = r.read ++ c ∷ [];
+  way = under_way m old new r.read c r.way takes;
+  spell = spell_more r.read rest text c (ap (λ t. encode_utf8_all r.read ++ t) (sym is) ∙ r.spell);
+  scalars = scalars_more r.read c r.scalars scalar;
+  line = takes.1 ∙ r.line;
+}

@@ -1,17 +1,17 @@
 -- Words, spaces and operators that runs of bytes spell are taken whole.
 use Rattle.std.proofs.Common.{◌≡◌, ℕ, zero, suc, ◌+◌, ◌-◌, ◌<◌, ◌≤◌, ◌⊎◌, inl, inr, Bool, true, false, cond, not, ◌||◌, ◌&&◌, Some, Ok, List, [], ◌∷◌, ◌++◌, length, take, drop, slice_index, slice_get, refl, sym, ap, ◌∙◌, subst, append_assoc, append-nil, arith, ⊎_elim, take-append-drop, length-append, lit<, take_all, length-drop}
 use Rattle.std.specs.Prelude.{encode_utf8_all, encode_utf8, codes, nat_lt}
-use Rattle.std.specs.Str.{all_scalars, IsUtf8, IsCharBoundary}
+use Rattle.std.specs.Str.{all_scalars}
 use Rattle.std.specs.List.{list_all}
-use Rattle.std.specs.Char.{is_ascii_digit, len_utf8}
+use Rattle.std.specs.Char.{is_ascii_digit, len_utf8, IsScalar}
 use Rattle.std.proofs.lemmas.Bool.{and_parts, and_from, and_right, or_cases, both_ways, eq-eqb}
 use Rattle.std.proofs.lemmas.Bool.Decides.{nat_tests}
 use Rattle.std.proofs.lemmas.List.Folds.{list_all-append}
 use Rattle.std.proofs.lemmas.List.{length-take-le}
-use Rattle.std.proofs.lemmas.Str.{encode_ascii, len_utf8_ascii, encodes-append, IsCharBoundary-at_seam}
+use Rattle.std.proofs.lemmas.Str.{encode_ascii, len_utf8_ascii, encodes-append}
 use Rattle.std.proofs.Math.Utf8.{low_scalar}
 use Rattle.std.proofs.Math.Seq.{drop-append_seam}
-use Rattle.py_lines.proofs.Text.Utf8Prefixes.{all_scalars-append, all_scalars-parts, front_chars}
+use Rattle.py_lines.proofs.Text.Utf8Prefixes.{all_scalars-append}
 use Rattle.py_lines.specs.Character.{is_one_of, is_space, is_word_start, is_word_character, is_digit, is_quote, is_operator, is_break, is_line_feed, is_hash, is_backslash}
 use Rattle.py_lines.proofs.Pieces.PieceLists.{piece}
 use Rattle.py_lines.specs.declared.brackets.Brackets.{Brackets}
@@ -162,13 +162,16 @@ takes_word old new bytes len digit is some next digits adds =
     no_remark true e = cc
     no_remark false e = cc
 
+pub ascii_scalar : (c : ℕ) → c < 128 → IsScalar c
+ascii_scalar c low = low_scalar c (omega (arith, low))
+
 -- the characters of a run of bytes
 low_encodes : (passes : ℕ → Bool) (run : List ℕ) → ((c : ℕ) → passes c ≡ true → c < 128) → list_all passes run ≡ true → (encode_utf8_all run ≡ run) × (all_scalars run ≡ true)
 low_encodes passes [] low all = (refl, refl)
 low_encodes passes (c ∷ cs) low all =
     let parts = and_parts (passes c) (list_all passes cs) all in
     let others = low_encodes passes cs low parts.1 in
-    (ap (λ t. t ++ encode_utf8_all cs) (encode_ascii c (low c parts.0)) ∙ ap (λ t. c ∷ t) others.0, and_from _ _ (low_scalar c (omega (arith, low c parts.0))) others.1)
+    (ap (λ t. t ++ encode_utf8_all cs) (encode_ascii c (low c parts.0)) ∙ ap (λ t. c ∷ t) others.0, and_from _ _ (ascii_scalar c (low c parts.0)) others.1)
 
 -- the scan where closed pieces end
 abbrev pub settled : Scan → Scan
@@ -444,8 +447,8 @@ adds_operator before scan new met c passes closes adds =
       };
     }
 
-pub operator_reached : (m : Mode) (at : ℕ) (text : List ℕ) (scan new : Scan) (bytes : List ℕ) (len : ℕ) → scan.piece.mode ≡ modes.Free → IsUtf8 text → ReachedShut m at text scan bytes → IsSound (line_start m) [] → TakesOperator scan bytes len new → ReachedShut m at text new (drop len bytes)
-operator_reached m at text scan new bytes len free utf8 r start takes =
+pub operator_reached : (m : Mode) (at : ℕ) (text : List ℕ) (scan new : Scan) (bytes : List ℕ) (len : ℕ) → scan.piece.mode ≡ modes.Free → ReachedShut m at text scan bytes → IsSound (line_start m) [] → TakesOperator scan bytes len new → ReachedShut m at text new (drop len bytes)
+operator_reached m at text scan new bytes len free r start takes =
     let c = takes.c in
     let meet = meets m at text scan c takes.after free (subst (ReachedShut m at text scan) (sym takes.spell) r) in
     let way = meet.reached.way in
@@ -460,7 +463,7 @@ operator_reached m at text scan new bytes len free utf8 r start takes =
     let took = takes_broken before new s.done s.mode s.held meet.reached.read c breaks (sound_run m meet.reached.read s start way.runs) way.one_line not_yet way.tallies way.stacked (Ok progress.Going) begins_so in
     let spelled_so : c ∷ takes.after ≡ encode_utf8 c ++ takes.after = sym (ap (λ t. t ++ takes.after) (encode_ascii c (operator_ascii c takes.passes))) in
     subst (ReachedShut m at text new) (sym (ap (drop len) (sym takes.spell) ∙ ap (λ (n : ℕ). drop n (c ∷ takes.after)) (sym takes.size)))
-    (record { unshut = new; reached = reached_character m at text before new (c ∷ takes.after) takes.after c meet.reached utf8 spelled_so took; how = inl refl })
+    (record { unshut = new; reached = reached_character m at text before new (c ∷ takes.after) takes.after c meet.reached (ascii_scalar c (operator_ascii c takes.passes)) spelled_so took; how = inl refl })
 
 -- a string after closed pieces
 quote-no_break : (c : ℕ) → is_quote c ≡ true → is_break c ≡ false
@@ -532,8 +535,8 @@ quote_reads old q n quote =
 inside_other : (m : Mode) (q : ℕ) → modes.Inside q ≡ m → m ≡ modes.Return → ⊥
 inside_other m q is returns = let clash = is ∙ returns in cc
 
-pub string_reached : (m : Mode) (at : ℕ) (text : List ℕ) (scan new : Scan) (bytes : List ℕ) (len : ℕ) → scan.piece.mode ≡ modes.Free → IsUtf8 text → ReachedShut m at text scan bytes → IsSound (line_start m) [] → TakesString scan bytes len new → ReachedShut m at text new (drop len bytes)
-string_reached m at text scan new bytes len free utf8 r start takes =
+pub string_reached : (m : Mode) (at : ℕ) (text : List ℕ) (scan new : Scan) (bytes : List ℕ) (len : ℕ) → scan.piece.mode ≡ modes.Free → ReachedShut m at text scan bytes → IsSound (line_start m) [] → TakesString scan bytes len new → ReachedShut m at text new (drop len bytes)
+string_reached m at text scan new bytes len free r start takes =
     let q = takes.q in
     let run = takes.run in
     let n = length (q ∷ run) in
@@ -550,7 +553,7 @@ string_reached m at text scan new bytes len free utf8 r start takes =
     let all_size : length (q ∷ run ++ q ∷ []) ≡ len = omega (arith, takes.size, length-append run (q ∷ [])) in
     let dropped : drop len bytes ≡ takes.after = ap (drop len) (sym takes.spell ∙ ap (λ t. q ∷ t) (sym (append_assoc run (q ∷ []) takes.after))) ∙ ap (λ (k : ℕ). drop k ((q ∷ run ++ q ∷ []) ++ takes.after)) (sym all_size) ∙ drop-append_seam (q ∷ run ++ q ∷ []) takes.after in
     subst (ReachedShut m at text new) (sym dropped)
-    (record { unshut = new; reached = reached_character m at text (opened scan (modes.Inside q) n) new (q ∷ takes.after) takes.after q inside utf8 spelled_so took; how = inl refl })
+    (record { unshut = new; reached = reached_character m at text (opened scan (modes.Inside q) n) new (q ∷ takes.after) takes.after q inside (ascii_scalar q (quote_ascii q takes.quote)) spelled_so took; how = inl refl })
 
 split_at : (body : List ℕ) (n : ℕ) → n < length body → take n body ++ slice_index body n ∷ drop (suc n) body ≡ body
 split_at [] n within = absurd (omega (arith, within))
@@ -590,12 +593,6 @@ pub record Goes (old : Scan) (bytes : List ℕ) (len : ℕ) (new : Scan) : Type 
   pub some : 0 < len
   pub within : len ≤ length bytes
   pub lines : new.count.line ≤ old.count.line + len
-  pub cut : IsUtf8 bytes → IsCharBoundary bytes len
-
-pub low_cut : (run after bytes : List ℕ) → run ++ after ≡ bytes → encode_utf8_all run ≡ run → IsUtf8 bytes → IsCharBoundary bytes (length run)
-low_cut run after bytes spell same utf8 =
-    let split = front_chars run utf8.0 after (utf8.1.1 ∙ sym spell ∙ ap (λ t. t ++ after) (sym same)) in
-    IsCharBoundary-at_seam bytes run after (sym spell) (split.0, ((all_scalars-parts run split.0 (ap all_scalars (sym split.1) ∙ utf8.1.0)).1, split.2))
 
 full_length : (run : List ℕ) → IsFull run → 0 < length run
 full_length [] full = absurd full
@@ -607,7 +604,6 @@ run_goes passes next mode_of old new bytes len low takes = record {
   some = omega (arith, takes.size, full_length takes.run takes.full);
   within = omega (arith, takes.size, ap length takes.spell, length-append takes.run takes.after);
   lines = ⊎_elim (λ (is : new ≡ opened old (mode_of takes.run) len). omega (arith, ap (λ (s : Scan). s.count.line) is)) (λ shut. omega (arith, ap (λ (k : Count). k.line) shut.0.count)) takes.how;
-  cut = λ utf8. subst (IsCharBoundary bytes) takes.size (low_cut takes.run takes.after bytes takes.spell (low_encodes passes takes.run low takes.all).0 utf8);
 }
 
 pub operator_goes : (old new : Scan) (bytes : List ℕ) (len : ℕ) → TakesOperator old bytes len new → Goes old bytes len new
@@ -616,7 +612,6 @@ operator_goes old new bytes len takes = record {
   some = omega (arith, takes.size);
   within = omega (arith, takes.size, ap length takes.spell, length-append (takes.c ∷ []) takes.after);
   lines = omega (arith, takes.adds.here);
-  cut = λ utf8. subst (IsCharBoundary bytes) takes.size (low_cut (takes.c ∷ []) takes.after bytes takes.spell (append-nil (encode_utf8 takes.c) ∙ encode_ascii takes.c (operator_ascii takes.c takes.passes)) utf8);
 }
 
 pub string_goes : (old new : Scan) (bytes : List ℕ) (len : ℕ) → TakesString old bytes len new → Goes old bytes len new
@@ -633,7 +628,6 @@ string_goes old new bytes len takes =
       some = omega (arith, takes.size);
       within = omega (arith, size, ap length spell, length-append (q ∷ run ++ q ∷ []) takes.after);
       lines = omega (arith, takes.adds.here);
-      cut = λ utf8. subst (IsCharBoundary bytes) size (low_cut (q ∷ run ++ q ∷ []) takes.after bytes spell low.0 utf8);
     }
 
 -- the byte that the bytes begin with

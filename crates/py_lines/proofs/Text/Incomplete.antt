@@ -78,7 +78,7 @@ least_in x = go (second_byte_min x) (second_byte_max x) (least x) (most x)
     go m n (Least.other a b l) (Most.other_most c d e) = (omega arith, omega arith)
 
 -- bytes that are a character
-one_char : (x : ℕ) (r : List ℕ) → x < 128 → StartsWithNoChar (x ∷ r) → ⊥
+pub one_char : (x : ℕ) (r : List ℕ) → x < 128 → StartsWithNoChar (x ∷ r) → ⊥
 one_char x r low none = none x r (low_scalar x (omega arith)) (ap (λ l. l ++ r) (sym (one x low)))
 
 two_char : (x y : ℕ) (r : List ℕ) → 194 ≤ x → x < 224 → Follows y → StartsWithNoChar (x ∷ y ∷ r) → ⊥

@@ -50,7 +50,7 @@ unmarked : (b : Bool) → eqb (cond b 255 0) 0 ≡ not b
 unmarked true = refl
 unmarked false = refl
 
-or_none : (b : Bool) → b ≡ b || false
+pub or_none : (b : Bool) → b ≡ b || false
 or_none true = refl
 or_none false = refl
 

@@ -1,9 +1,10 @@
 -- Characters that a text begins with.
-use Rattle.std.proofs.Common.{◌≡◌, ℕ, ◌+◌, ◌≤◌, length, take, drop, arith, length-append, true, List, [], ◌∷◌, ◌++◌, refl, sym, ap, ◌∙◌, subst, append_assoc}
+use Rattle.std.proofs.Common.{◌≡◌, ℕ, ◌+◌, ◌≤◌, length, take, drop, arith, length-append, true, List, [], ◌∷◌, ◌++◌, refl, sym, ap, ◌∙◌, subst, append_assoc, append-nil}
 use Rattle.std.specs.Prelude.{encode_utf8_all, encode_utf8}
 use Rattle.std.specs.Str.{all_scalars}
 use Rattle.std.specs.Str.{StartsWithNoChar, IsValidUpTo, IsUtf8}
-use Rattle.std.proofs.lemmas.Str.{cons_from_encodes, encode_same, length-encode, len_utf8_bounds, IsUtf8-append, IsUtf8-encode}
+use Rattle.std.specs.Char.{IsScalar}
+use Rattle.std.proofs.lemmas.Str.{cons_from_encodes, encode_same, length-encode, len_utf8_bounds, IsUtf8-append, IsUtf8-encode, encodes-append}
 use Rattle.std.proofs.lemmas.List.{drop_all}
 use Rattle.std.proofs.Math.Seq.{take-add, take-append_seam}
 use Rattle.std.proofs.lemmas.Bool.{and_parts, and_from}
@@ -26,6 +27,13 @@ all_scalars-parts (c ∷ cs) b h =
     let parts = and_parts _ _ h in
     let others = all_scalars-parts cs b parts.1 in
     (and_from _ _ parts.0 others.0, others.1)
+
+-- the characters with one more, before what is left
+pub spell_more : (read rest held : List ℕ) (c : ℕ) → encode_utf8_all read ++ (encode_utf8 c ++ rest) ≡ held → encode_utf8_all (read ++ c ∷ []) ++ rest ≡ held
+spell_more read rest held c spell = ap (λ t. t ++ rest) (encodes-append read (c ∷ []) ∙ ap (λ t. encode_utf8_all read ++ t) (append-nil (encode_utf8 c))) ∙ append_assoc (encode_utf8_all read) (encode_utf8 c) rest ∙ spell
+
+pub scalars_more : (read : List ℕ) (c : ℕ) → all_scalars read ≡ true → IsScalar c → all_scalars (read ++ c ∷ []) ≡ true
+scalars_more read c fine scalar = all_scalars-append read (c ∷ []) fine (and_from _ _ scalar refl)
 
 -- nothing begins with no character
 pub nothing_bad : StartsWithNoChar []

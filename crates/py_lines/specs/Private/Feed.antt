@@ -11,7 +11,7 @@ use Rattle.py_lines.specs.Given.{AreFirstLines}
 use Rattle.py_lines.specs.Scanning.{GoesOnWith, IsScanning, HoldsReady, fed_of, ready_lines}
 use Rattle.py_lines.specs.Scanning.View.{line_of_feed, ready_of, scanning_of}
 use Rattle.py_lines.specs.Private.Machine.{step, character_kind}
-use Rattle.py_lines.specs.Private.Scan.{Tallies, IsStacked, Closes, IsUnderWay, IsAtLineEnd, line_start, stack_if, is_returned, refused_place, EndsWhole}
+use Rattle.py_lines.specs.Private.Scan.{ScansIn, Tallies, IsStacked, Closes, IsUnderWay, IsAtLineEnd, line_start, stack_if, is_returned, refused_place, EndsWhole}
 use Rattle.py_lines.specs.Private.Source.{first_mode}
 use Rattle.py_lines.specs.declared.fault.Fault.{Fault}
 use Rattle.py_lines.specs.declared.fault.FaultKind.{FaultKind}
@@ -106,6 +106,11 @@ abbrev pub StopsHeld : Feed → Stop → List ℕ → List ℕ → Type 0
 StopsHeld f stops.TextEnd read rest = IsOpen f read rest × StartsWithNoChar rest
 StopsHeld f (stops.LineEnd len) read rest = IsEnded f len read rest × EndsWhole read rest
 StopsHeld f (stops.Refused c) read rest = (opens : IsOpen f read rest) × (after : List ℕ) × IsScalar c × (rest ≡ encode_utf8 c ++ after) × (stack_if (step opens.way.state c) ≡ None) × (is_returned f.scan && not (is_line_feed c) ≡ false)
+
+-- nothing is held, and the scan of these bytes, which come next, has stopped so
+pub record HasScannedNext (f : Feed) (chunk : List ℕ) (stop : Stop) : Type 0 where
+  pub none_held : f.held.items ≡ []
+  pub stops : ScansIn (first_mode f.place) f.line chunk f.scan stop
 
 -- what a scan of the characters that are held answers and leaves
 abbrev pub ScansCharacters : Feed → Result Stop LexError → Feed → Type 0

@@ -1,7 +1,7 @@
 -- Runs of bytes that a text begins with, which leave the open piece as it is.
-use Rattle.std.specs.Prelude.{◌&&◌, is_some, Some, Result, Ok, Err, ◌≡◌, ℕ, ◌+◌, ◌<◌, ◌≤◌, ◌⊎◌, Bool, true, false, ◌==◌, ◌||◌, not, nat_lt, nat_le, if◌then◌else◌, map, List, [], ◌∷◌, ◌++◌, length, slice_index, codes, encode_utf8_all}
-use Rattle.std.specs.Str.{all_scalars, byte}
-use Rattle.std.specs.Char.{is_ascii_alphanumeric}
+use Rattle.std.specs.Prelude.{◌&&◌, is_some, Some, Result, Ok, Err, ◌≡◌, ℕ, ◌+◌, ◌<◌, ◌≤◌, ◌⊎◌, Bool, true, false, ◌==◌, ◌||◌, not, nat_lt, nat_le, if◌then◌else◌, map, List, [], ◌∷◌, ◌++◌, length, take, drop, slice_index, codes, encode_utf8, encode_utf8_all}
+use Rattle.std.specs.Str.{all_scalars, byte, IsUtf8}
+use Rattle.std.specs.Char.{is_ascii_alphanumeric, len_utf8, IsScalar}
 use Rattle.std.specs.List.{list_all}
 use Rattle.py_lines.specs.Character.{is_one_of}
 use Rattle.py_lines.specs.Balance.{is_opening, is_closing}
@@ -99,6 +99,11 @@ pub record Holds (old : Scan) (text rest : List ℕ) (new : Scan) : Type 0 where
   pub scalars : all_scalars run ≡ true
   pub stay : list_all (stays old.piece.mode) run ≡ true
   pub reads : ((run ≡ []) × (new ≡ old)) ⊎ (IsFull run × ReadsRun old run new)
+
+-- a character that these bytes begin with
+pub record BeginsWith (bytes : List ℕ) (c : ℕ) : Type 0 where
+  pub scalar : IsScalar c
+  pub spell : encode_utf8 c ++ drop (len_utf8 c) bytes ≡ bytes
 
 -- the scan of a text has come to `rest`
 pub record Reached (m : Mode) (at : ℕ) (text : List ℕ) (scan : Scan) (rest : List ℕ) : Type 0 where
@@ -226,6 +231,7 @@ TakesBracket old bytes (Err e) new = Unit {0}
 pub record TakesComment (old : Scan) (bytes : List ℕ) (len : ℕ) (new : Scan) : Type 0 where
   pub hash : begins is_hash bytes ≡ true
   pub run : IsRunOf is_comment_byte bytes len
+  pub utf8 : IsUtf8 (take len bytes)
   pub within : len < length bytes
   pub closes : Closes (opened old modes.Comment len) new
 
@@ -291,12 +297,12 @@ pub record ReachedShut (m : Mode) (at : ℕ) (text : List ℕ) (scan : Scan) (re
   pub reached : Reached m at text unshut rest
   pub how : (scan ≡ unshut) ⊎ IsShut unshut scan rest
 
--- what pieces leave of a text is no longer than the text
+-- what pieces leave of these bytes is no longer than they are
 abbrev pub IsNoLonger : List ℕ → Left → Type 0
-IsNoLonger text (left.Text rest) = length rest.now ≤ length text
-IsNoLonger text (left.LineEnd len) = Unit {0}
+IsNoLonger bytes (left.Bytes rest) = length rest.now ≤ length bytes
+IsNoLonger bytes (left.LineEnd len) = Unit {0}
 
 -- the scan of a text has come to what pieces leave of it, or the line has ended
 abbrev pub LeavesOff : Mode → ℕ → List ℕ → Scan → Left → Type 0
-LeavesOff m line whole scan (left.Text rest) = ReachedShut m line whole scan rest.now
+LeavesOff m line whole scan (left.Bytes rest) = ReachedShut m line whole scan rest.now
 LeavesOff m line whole scan (left.LineEnd len) = ScansIn m line whole scan (stops.LineEnd len)

@@ -1,7 +1,7 @@
 -- What the scan of one logical line holds, in the words of the machine. It serves the contracts of private functions.
-use Rattle.std.specs.Prelude.{◌≡◌, ℕ, ◌+◌, ◌-◌, ◌==◌, ◌&&◌, ◌||◌, not, Bool, true, false, Option, None, Some, Result, Ok, Err, List, [], ◌∷◌, ◌++◌, encode_utf8_all, if◌then◌else◌, ◌⊎◌}
-use Rattle.std.specs.Str.{all_scalars}
-use Rattle.std.specs.Char.{len_utf8}
+use Rattle.std.specs.Prelude.{◌≡◌, ℕ, ◌+◌, ◌-◌, ◌==◌, ◌&&◌, ◌||◌, not, Bool, true, false, Option, None, Some, Result, Ok, Err, List, [], ◌∷◌, ◌++◌, encode_utf8, encode_utf8_all, if◌then◌else◌, ◌⊎◌}
+use Rattle.std.specs.Str.{all_scalars, StartsWithNoChar}
+use Rattle.std.specs.Char.{len_utf8, IsScalar}
 use Rattle.std.specs.declared.alloc.AllocError.{AllocError}
 use Rattle.py_lines.specs.Character.{is_return, is_line_feed}
 use Rattle.py_lines.specs.Piece.{operator, line_end, Piece, ends, is_mark_class, spelled, begins}
@@ -318,13 +318,13 @@ IsLineBefore m scan read len = (after : List ℕ) → (ends is_return read ≡ t
 abbrev pub EndsWhole : List ℕ → List ℕ → Type 0
 EndsWhole read rest = (ends is_return read ≡ false) ⊎ ((b : ℕ) × (more : List ℕ) × (rest ≡ b ∷ more) × (b ≡ 10 → ⊥))
 
--- The scan of a line stops after these characters of it, with `rest` after them. Where the text ends here, more may follow.
+-- The scan of a line stops after these characters of it, with `rest` after them. Where no character follows, more bytes may.
 abbrev pub StopsIn : Mode → Scan → Stop → List ℕ → List ℕ → Type 0
-StopsIn m scan stops.TextEnd read rest = IsUnderWay m scan read × (rest ≡ [])
+StopsIn m scan stops.TextEnd read rest = IsUnderWay m scan read × StartsWithNoChar rest
 StopsIn m scan (stops.LineEnd len) read rest = IsLineBefore m scan read len × EndsWhole read rest
-StopsIn m scan (stops.Refused c) read rest = StopsSo m scan (stops.Refused c) read rest
+StopsIn m scan (stops.Refused c) read rest = (way : IsUnderWay m scan read) × (after : List ℕ) × IsScalar c × (rest ≡ encode_utf8 c ++ after) × (stack_if (step way.state c) ≡ None) × (is_returned scan && not (is_line_feed c) ≡ false)
 
--- where the scan of a line stops that began with this text
+-- where the scan of a line stops that began with these bytes
 pub record ScansIn (m : Mode) (line : ℕ) (whole : List ℕ) (scan : Scan) (stop : Stop) : Type 0 where
   pub read : List ℕ
   pub rest : List ℕ

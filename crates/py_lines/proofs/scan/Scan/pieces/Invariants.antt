@@ -1,5 +1,4 @@
 use Rattle.std.proofs.Common.{ℕ, ◌+◌, ◌<◌, ◌≤◌, ◌^◌, List, [], length}
-use Rattle.std.specs.Str.{IsUtf8}
 use Rattle.py_lines.specs.declared.mode.Mode.{Mode}
 use Rattle.py_lines.specs.Private.Machine.{IsSound}
 use Rattle.py_lines.specs.Private.Scan.{line_start}
@@ -10,9 +9,8 @@ abbrev pub invariant-pieces : goal.invariant-pieces
 invariant-pieces l = record {
   room : l.self.stop + length l.rest < 2 ^ 64;
   lines : l.self.count.line + length l.rest < 2 ^ 64;
-  shorter : length l.rest ≤ length l.text;
-  utf8 : IsUtf8 l.rest;
-  reached : (m : Mode) (at : ℕ) (whole : List ℕ) → IsUtf8 whole → IsSound (line_start m) [] → Reached m at whole l.initial.self l.text → ReachedShut m at whole l.self l.rest;
+  shorter : length l.rest ≤ length l.bytes;
+  reached : (m : Mode) (at : ℕ) (whole : List ℕ) → IsSound (line_start m) [] → Reached m at whole l.initial.self l.bytes → ReachedShut m at whole l.self l.rest;
 }
 
 abbrev pub decreases-pieces : goal.decreases-pieces

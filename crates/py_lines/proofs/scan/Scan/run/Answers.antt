@@ -9,7 +9,7 @@ use Rattle.py_lines.proofs.scan.Scan.run.Goals.{in-TextEnd, in_default, else-mat
 use Rattle.py_lines.proofs.scan.Scan.run.Goals as goal
 
 pub extend-requires-clause-way : goal.extend-requires-clause-way
-extend-requires-clause-way c = (c.args.self.now.piece.mode, c.args.self.now.line, c.args.text.now, c.utf8.text, c.requires.sound, begun_reached c.args.self.now c.args.text.now c.requires.start c.requires.stacked)
+extend-requires-clause-way c = (c.args.self.now.piece.mode, c.args.self.now.line, c.args.text.now, c.requires.sound, begun_reached c.args.self.now c.args.text.now c.as_bytes.result.now c.as_bytes.ensures.value c.requires.start c.requires.stacked)
 
 text_ended : (stop : Stop) (b : Bool) → b ≡ false → b ≡ true → stop ≡ stops.TextEnd
 text_ended stop b is_false is_true = absurd (both_ways b is_false is_true)
@@ -17,22 +17,22 @@ text_ended stop b is_false is_true = absurd (both_ways b is_false is_true)
 pub close-requires : goal.close-requires
 close-requires c =
     let ended : c.in_ok-stop.stop ≡ stops.TextEnd = elim c.match-matches.branch [ in-TextEnd w ↦ w.in-TextEnd.is | in_default w ↦ text_ended c.in_ok-stop.stop c.match-matches.matches w.matches-is c.if-matches.true ] in
-    let scans = subst (ScansIn c.args.self.now.piece.mode c.args.self.now.line c.args.text.now c.extend.new.self) ended (c.in_ok-stop.ensures.stops c.args.self.now.piece.mode c.args.self.now.line c.args.text.now c.utf8.text c.requires.sound (begun_reached c.args.self.now c.args.text.now c.requires.start c.requires.stacked)) in
+    let scans = subst (ScansIn c.args.self.now.piece.mode c.args.self.now.line c.args.text.now c.extend.new.self) ended (c.in_ok-stop.ensures.stops c.args.self.now.piece.mode c.args.self.now.line c.args.text.now c.requires.sound (begun_reached c.args.self.now c.args.text.now c.as_bytes.result.now c.as_bytes.ensures.value c.requires.start c.requires.stacked)) in
     way_order c.extend.new.self scans.stops.0.state scans.stops.0.tallies
 
 pub returns-then-is_returned-clause-stops : goal.returns-then-is_returned-clause-stops
 returns-then-is_returned-clause-stops c =
     let ended : c.in_ok-stop.stop ≡ stops.TextEnd = elim c.match-matches.branch [ in-TextEnd w ↦ w.in-TextEnd.is | in_default w ↦ text_ended c.in_ok-stop.stop c.match-matches.matches w.matches-is c.if-matches.true ] in
-    let scans = subst (ScansIn c.args.self.now.piece.mode c.args.self.now.line c.args.text.now c.extend.new.self) ended (c.in_ok-stop.ensures.stops c.args.self.now.piece.mode c.args.self.now.line c.args.text.now c.utf8.text c.requires.sound (begun_reached c.args.self.now c.args.text.now c.requires.start c.requires.stacked)) in
-    scans_returned c.args.self.now.piece.mode c.args.self.now.line c.args.text.now c.extend.new.self c.close.new.self c.requires.sound scans (sym c.is_returned.ensures ∙ c.if-is_returned.true) c.in_ok-close.ensures
+    let scans = subst (ScansIn c.args.self.now.piece.mode c.args.self.now.line c.args.text.now c.extend.new.self) ended (c.in_ok-stop.ensures.stops c.args.self.now.piece.mode c.args.self.now.line c.args.text.now c.requires.sound (begun_reached c.args.self.now c.args.text.now c.as_bytes.result.now c.as_bytes.ensures.value c.requires.start c.requires.stacked)) in
+    scans_returned c.args.self.now.piece.mode c.args.self.now.line c.args.text.now c.extend.new.self c.close.new.self c.utf8.text c.requires.sound scans (sym c.is_returned.ensures ∙ c.if-is_returned.true) c.in_ok-close.ensures
 
 pub returns-then-is_returned-clause-line : goal.returns-then-is_returned-clause-line
 returns-then-is_returned-clause-line c =
-    c.in_ok-close.ensures.line ∙ (c.in_ok-stop.ensures.stops c.args.self.now.piece.mode c.args.self.now.line c.args.text.now c.utf8.text c.requires.sound (begun_reached c.args.self.now c.args.text.now c.requires.start c.requires.stacked)).number
+    c.in_ok-close.ensures.line ∙ (c.in_ok-stop.ensures.stops c.args.self.now.piece.mode c.args.self.now.line c.args.text.now c.requires.sound (begun_reached c.args.self.now c.args.text.now c.as_bytes.result.now c.as_bytes.ensures.value c.requires.start c.requires.stacked)).number
 
 pub returns-clause-stops : goal.returns-clause-stops
 returns-clause-stops c =
-    let scans = c.in_ok-stop.ensures.stops c.args.self.now.piece.mode c.args.self.now.line c.args.text.now c.utf8.text c.requires.sound (begun_reached c.args.self.now c.args.text.now c.requires.start c.requires.stacked) in
+    let scans = c.in_ok-stop.ensures.stops c.args.self.now.piece.mode c.args.self.now.line c.args.text.now c.requires.sound (begun_reached c.args.self.now c.args.text.now c.as_bytes.result.now c.as_bytes.ensures.value c.requires.start c.requires.stacked) in
     scans_alone c.args.self.now.piece.mode c.args.self.now.line c.args.text.now c.extend.new.self c.in_ok-stop.stop c.utf8.text
     (λ ended. elim c.else-matches.branch [
       | else-matches-via-then-matches+else-is_returned w ↦ sym w.is_returned.ensures ∙ w.if-is_returned.false
@@ -41,4 +41,4 @@ returns-clause-stops c =
 
 pub returns-clause-line : goal.returns-clause-line
 returns-clause-line c =
-    (c.in_ok-stop.ensures.stops c.args.self.now.piece.mode c.args.self.now.line c.args.text.now c.utf8.text c.requires.sound (begun_reached c.args.self.now c.args.text.now c.requires.start c.requires.stacked)).number
+    (c.in_ok-stop.ensures.stops c.args.self.now.piece.mode c.args.self.now.line c.args.text.now c.requires.sound (begun_reached c.args.self.now c.args.text.now c.as_bytes.result.now c.as_bytes.ensures.value c.requires.start c.requires.stacked)).number

@@ -4,7 +4,7 @@ use Rattle.std.specs.Bool.{MatchBool}
 use Rattle.std.specs.Str.{IsAscii, IsNotAscii}
 use Rattle.std.proofs.lemmas.List.{take-append-drop}
 use Rattle.std.proofs.lemmas.Str.{IsUtf8-from_ascii, IsUtf8-append}
-use Rattle.py_lines.proofs.source.is_short_ascii.Goals as goal
+use Rattle.py_lines.proofs.utf8.is_short_ascii.Goals as goal
 
 utf8_of : (bs : List ℕ) (b : Bool) → MatchBool b (IsAscii bs) (IsNotAscii bs) → IsTrue b → IsUtf8 bs
 utf8_of bs b cases is = IsUtf8-from_ascii bs (subst (λ (t : Bool). MatchBool t (IsAscii bs) (IsNotAscii bs)) is cases)

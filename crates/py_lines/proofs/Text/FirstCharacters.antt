@@ -1,0 +1,78 @@
+-- The character that bytes begin with.
+use Rattle.std.proofs.Common.{◌≡◌, ℕ, ◌+◌, ◌<◌, ◌≤◌, Option, None, Some, List, [], ◌∷◌, ◌++◌, length, take, drop, slice_get, slice_index, refl, sym, ap, ◌∙◌, subst, append_assoc, arith, length-append, length-take-le, take-append-drop}
+use Rattle.std.specs.Prelude.{min, encode_utf8, IsUtf8, MatchOption}
+use Rattle.std.specs.Str.{StartsWithNoChar, IsValidUpTo, all_scalars}
+use Rattle.std.specs.Char.{IsScalar, len_utf8}
+use Rattle.std.proofs.Math.Nat.{le-min, min-le_left}
+use Rattle.std.proofs.Math.Utf8.{scalar_cases}
+use Rattle.std.proofs.lemmas.Bool.{and_parts}
+use Rattle.std.proofs.lemmas.List.{take_all}
+use Rattle.std.proofs.lemmas.Str.{cons_from_encodes, length-encode, len_utf8_bounds, IsUtf8-encode}
+use Rattle.std.proofs.Math.Seq.{take-append_seam, drop-append_seam}
+use Rattle.py_lines.specs.Private.Run.{BeginsWith}
+use Rattle.py_lines.proofs.Text.Utf8Prefixes.{nothing_bad}
+use Rattle.py_lines.proofs.Text.Utf8Shapes.{Shape, shape}
+
+-- what the first byte of a character tells of their number
+pub record Encoded (c first : ℕ) : Type 0 where
+  pub one : first < 128 → length (encode_utf8 c) ≡ 1
+  pub two : 128 ≤ first → first < 224 → length (encode_utf8 c) ≡ 2
+  pub three : 224 ≤ first → first < 240 → length (encode_utf8 c) ≡ 3
+  pub four : 240 ≤ first → length (encode_utf8 c) ≡ 4
+
+pub encoded : (c first : ℕ) → IsScalar c → first ≡ slice_index (encode_utf8 c) 0 → Encoded c first
+encoded c first scalar is = go (shape c (scalar_cases c scalar))
+  where
+    go : Shape c → Encoded c first
+    go (Shape.of1 l e) =
+        let same : first ≡ c = is ∙ ap (λ t. slice_index t 0) e in
+        record { one = λ h. ap length e; two = λ h k. absurd (omega (arith, same, l, h)); three = λ h k. absurd (omega (arith, same, l, h)); four = λ h. absurd (omega (arith, same, l, h)) }
+    go (Shape.of2 a b l u f s least e) =
+        let same : first ≡ a = is ∙ ap (λ t. slice_index t 0) e in
+        record { one = λ h. absurd (omega (arith, same, l, h)); two = λ h k. ap length e; three = λ h k. absurd (omega (arith, same, u, h)); four = λ h. absurd (omega (arith, same, u, h)) }
+    go (Shape.of3 a b d l u f g s least e) =
+        let same : first ≡ a = is ∙ ap (λ t. slice_index t 0) e in
+        record { one = λ h. absurd (omega (arith, same, l, h)); two = λ h k. absurd (omega (arith, same, l, k)); three = λ h k. ap length e; four = λ h. absurd (omega (arith, same, u, h)) }
+    go (Shape.of4 a b d x l u f g h s least e) =
+        let same : first ≡ a = is ∙ ap (λ t. slice_index t 0) e in
+        record { one = λ h. absurd (omega (arith, same, l, h)); two = λ h k. absurd (omega (arith, same, l, k)); three = λ h k. absurd (omega (arith, same, l, k)); four = λ h. ap length e }
+
+-- the bytes after the character don't matter
+pub begins_with : (bytes rest : List ℕ) (c : ℕ) → IsScalar c → bytes ≡ encode_utf8 c ++ rest → BeginsWith bytes c
+begins_with bytes rest c scalar is = record {
+  scalar = scalar;
+  spell = ap (λ t. encode_utf8 c ++ t) (ap (drop (len_utf8 c)) is ∙ ap (λ (n : ℕ). drop n (encode_utf8 c ++ rest)) (sym (length-encode c)) ∙ drop-append_seam (encode_utf8 c) rest) ∙ sym is;
+}
+
+-- the number of bytes that the first byte tells
+abbrev pub Tells : List ℕ → ℕ → Type 0
+Tells bytes len = (c : ℕ) → IsScalar c → slice_index bytes 0 ≡ slice_index (encode_utf8 c) 0 → len ≡ len_utf8 c
+
+some_index : (a b : List ℕ) → 0 < length a → slice_index (a ++ b) 0 ≡ slice_index a 0
+some_index [] b some = absurd (omega (arith, some))
+some_index (x ∷ xs) b some = refl
+
+-- if so many bytes aren't text, no character begins there
+pub none_encoded : (bytes : List ℕ) (len n k : ℕ) → Tells bytes len → n ≡ min len (length bytes) → IsValidUpTo (take n bytes) k → StartsWithNoChar bytes
+none_encoded bytes len n k tells least valid c rest scalar is =
+    let size : length bytes ≡ length (encode_utf8 c) + length rest = ap length is ∙ length-append (encode_utf8 c) rest in
+    let first : slice_index bytes 0 ≡ slice_index (encode_utf8 c) 0 = ap (λ t. slice_index t 0) is ∙ some_index (encode_utf8 c) rest (omega (arith, length-encode c, len_utf8_bounds c)) in
+    let told : len ≡ length (encode_utf8 c) = tells c scalar first ∙ sym (length-encode c) in
+    let both : length (encode_utf8 c) ≤ min len (length bytes) = le-min (omega (arith, told)) (omega (arith, size)) in
+    let all : n ≡ length (encode_utf8 c) = omega (arith, least, both, told, min-le_left len (length bytes)) in
+    let taken : take n bytes ≡ encode_utf8 c = ap (take n) is ∙ ap (λ (m : ℕ). take m (encode_utf8 c ++ rest)) all ∙ take-append_seam (encode_utf8 c) rest in
+    let whole : take (length (take n bytes)) (take n bytes) ≡ take n bytes = take_all (length (take n bytes)) (take n bytes) (omega arith) in
+    valid.longest (length (take n bytes)) valid.short (subst IsUtf8 (sym (whole ∙ taken)) (IsUtf8-encode c scalar))
+
+-- the first character of the text that so many bytes are
+pub first_of : (bytes : List ℕ) (n : ℕ) (r : Option ℕ) (before after : List ℕ) (P : Type 0) → 0 < n → n ≤ length bytes → IsUtf8 (take n bytes) → before ≡ take n bytes → MatchOption r ((length before ≡ 0) × P) (λ c. before ≡ encode_utf8 c ++ after) → MatchOption r (StartsWithNoChar bytes) (BeginsWith bytes)
+first_of bytes n None before after P some within utf8 front steps = absurd (omega (arith, some, steps.0, ap length front, length-take-le n bytes within))
+first_of bytes n (Some c) before after P some within utf8 front steps =
+    let spell : take n bytes ≡ encode_utf8 c ++ after = sym front ∙ steps in
+    let first = cons_from_encodes utf8.0 after c (utf8.1.1 ∙ spell) in
+    let scalar : IsScalar c = (and_parts _ _ (ap all_scalars (sym first.1) ∙ utf8.1.0)).0 in
+    begins_with bytes (after ++ drop n bytes) c scalar (sym (take-append-drop n bytes) ∙ ap (λ l. l ++ drop n bytes) spell ∙ append_assoc (encode_utf8 c) after (drop n bytes))
+
+pub none_first : (bytes : List ℕ) → slice_get bytes 0 ≡ None → StartsWithNoChar bytes
+none_first [] is = nothing_bad
+none_first (b ∷ bs) is = absurd (cc)

@@ -1,0 +1,28 @@
+use Rattle.std.proofs.Common.{ℕ, Err, List, length, ◌++◌, refl, sym, ap, ◌∙◌, subst, arith}
+use Rattle.py_lines.specs.declared.feed.Feed.{Feed}
+use Rattle.py_lines.specs.declared.fault.LexError.{LexError}
+use Rattle.py_lines.specs.Private.Scan.{ScansIn}
+use Rattle.py_lines.specs.Private.Source.{first_mode}
+use Rattle.py_lines.specs.Private.Feed.{KeepsText, ScansHeld}
+use Rattle.py_lines.proofs.Feeds.Characters.{stops_held}
+use Rattle.py_lines.proofs.feed.Feed.take_scanned.Goals as goal
+
+pub meet-requires : goal.meet-requires
+meet-requires c =
+    let f = c.args.self.now in
+    let s = c.requires.scanned in
+    let held : Feed = record f { held = c.extend_from_slice.new.self } in
+    let keeps : KeepsText held held = record { held = refl; place = refl; line = refl; ended = refl } in
+    let items = c.in_default-extend_from_slice.ensures.items ∙ ap (λ l. l ++ c.args.chunk.now) s.none_held in
+    record {
+      stops = stops_held held held c.args.stop keeps (subst (λ (l : List ℕ). ScansIn (first_mode f.place) f.line l f.scan c.args.stop) (sym items) s.stops);
+      not_ready = c.requires.not_ready;
+      fits = omega (arith, c.requires.fits, ap length items);
+      few_lines = c.requires.few_lines;
+    }
+
+pub returns-in-Err-Fault : goal.returns-in-Err-Fault
+returns-in-Err-Fault c =
+    let f = c.args.self.now in
+    let mid : Feed = record f { held = c.extend_from_slice.new.self } in
+    record { mid = mid; more = record { held = c.in_default-extend_from_slice.ensures.items; place = refl; line = refl; ended = refl }; fails = subst (λ (e : LexError). ScansHeld mid (Err e) c.meet.new.self) c.in-Err-Fault.field-0-is c.in-Err-Fault.ensures }

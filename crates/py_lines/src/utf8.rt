@@ -1,0 +1,89 @@
+//! The text that bytes begin with.
+
+ghost use Rattle.std.specs.Prelude.{◌≡◌, ◌<◌, ℕ, length, take, drop, slice_index, encode_utf8, IsTrue, IsUtf8, MatchOption};
+ghost use Rattle.std.specs.Char.{IsScalar, len_utf8};
+ghost use Rattle.std.specs.Str.{StartsWithNoChar};
+ghost use Rattle.py_lines.specs.Private.Run.{BeginsWith};
+
+/// Up to so many bytes are tested for ASCII at once.
+const SHORT: usize = 64;
+
+/// Whether the bytes are few, and ASCII.
+#[inline(always)]
+fn is_short_ascii(bytes: &[u8]) -> bool
+    ensures { IsTrue result → IsUtf8 bytes.now }
+{
+    if bytes.len() <= SHORT {
+        return bytes.is_ascii();
+    }
+    if bytes.len() > 2 * SHORT {
+        return false;
+    }
+    let (front, rest) = bytes.split_at(SHORT);
+    front.is_ascii() && rest.is_ascii()
+}
+
+/// The text that the bytes begin with, up to the first that begin no character.
+#[inline(always)]
+pub fn utf8_front(bytes: &[u8]) -> &str
+    ensures front { result.now ≡ take (length result.now) bytes.now }
+    ensures bad { StartsWithNoChar (drop (length result.now) bytes.now) }
+{
+    if is_short_ascii(bytes) {
+        // ASCII is UTF-8.
+        return unsafe { std::str::from_utf8_unchecked(bytes) };
+    }
+    match std::str::from_utf8(bytes) {
+        Ok(text) => text,
+        // Before that byte all is UTF-8.
+        Err(error) => unsafe { std::str::from_utf8_unchecked(&bytes[..error.valid_up_to()]) },
+    }
+}
+
+/// Whether the bytes are UTF-8.
+#[inline(always)]
+pub fn is_utf8(bytes: &[u8]) -> bool
+    ensures { IsTrue result → IsUtf8 bytes.now }
+{
+    is_short_ascii(bytes) || std::str::from_utf8(bytes).is_ok()
+}
+
+/// The character that the bytes begin with, if they begin with one.
+#[inline(always)]
+pub fn first_character(bytes: &[u8]) -> Option<char>
+    ensures { MatchOption result (StartsWithNoChar bytes.now) (BeginsWith bytes.now) }
+{
+    match bytes.first().copied() {
+        Some(first) if first.is_ascii() => Some(first as char),
+        Some(_) => wide_character(bytes),
+        None => None,
+    }
+}
+
+/// The same, where it has more bytes than one.
+fn wide_character(bytes: &[u8]) -> Option<char>
+    requires { 0 < length bytes.now }
+    ensures { MatchOption result (StartsWithNoChar bytes.now) (BeginsWith bytes.now) }
+{
+    let len = encoded_len(bytes[0]).min(bytes.len());
+    match std::str::from_utf8(&bytes[..len]) {
+        Ok(text) => text.chars().next(),
+        Err(_) => None,
+    }
+}
+
+/// How many bytes a character has that begins with this one, if any does.
+fn encoded_len(first: u8) -> usize
+    ensures some { 0 < result }
+    ensures is { (c : ℕ) → IsScalar c → first ≡ slice_index (encode_utf8 c) 0 → result ≡ len_utf8 c }
+{
+    if first < 0x80 {
+        1
+    } else if first < 0xE0 {
+        2
+    } else if first < 0xF0 {
+        3
+    } else {
+        4
+    }
+}
