@@ -9,7 +9,6 @@ pub mod ReadingLemmas
 pub mod StepLemmas
 pub mod GoingLemmas
 pub mod BeginningLemmas
-pub mod BlankLines
 pub mod OneFoundLemmas
 pub mod PieceStarts
 pub mod SettledFoundLemmas

@@ -6,12 +6,12 @@ use crate::error::{FindError, ResumeError};
 use crate::finder::Outcome;
 use crate::options::FindOptions;
 use crate::pending::{Pending, Place};
-use crate::step::{Step, judge};
+use crate::step::{Step, is_plain, judge};
 use crate::take::{pass_known, take_new};
 use py_imports::Binding;
 use py_imports::laws::binds_or_is_bad;
 use py_lines::laws::{given_lines_begin_the_text, one_lexing, settled_is_final};
-use py_lines::{Fault, LexError, Scanner, Unit};
+use py_lines::{Fault, LexError, Scanner};
 use std::alloc::Global;
 use std::marker::Model;
 
@@ -43,7 +43,7 @@ impl Model for PieceFinder {
 impl PieceFinder {
     ghost use Rattle.isort_find.specs.Cursor.{first_standing, HasStopped};
     ghost use Rattle.isort_find.specs.Pieces.{PieceFinding, HasFoundIn, AreAllSettled, IsUndecided, IsOpenYet, FeedsPiece, GivesReady, EndsFeeding, fed_by, held_by, has_ready};
-    ghost use Rattle.isort_find.specs.Steps.Feedings.{IsNextPlace, LetsGo, FollowsStep, ReadsReady, LooksAhead, TriesReady, TakesBytesOf, GoesOn, TakesAll, ReadsUnread, TakesReady, Rests, with_fault, with_read};
+    ghost use Rattle.isort_find.specs.Steps.Feedings.{IsNextPlace, LetsGo, FollowsStep, HoldsPlain, ReadsReady, LooksAhead, TriesReady, TakesBytesOf, GoesOn, TakesAll, ReadsUnread, TakesReady, Rests, with_fault, with_read};
 
     /// A finder at the start of a text, before its first piece. It answers `Memory` alone.
     pub fn new(alloc: Global, options: FindOptions) -> Result<PieceFinder, FindError>
@@ -138,22 +138,19 @@ impl PieceFinder {
         }
     }
 
-    // Reads the logical line that is ready, if one is. Without memory for its bindings it is left unread.
-    fn read_line(&mut self) -> Result<(), FindError>
-        ensures { ReadsReady self.old result self.new }
+    // Whether a logical line is ready that binds nothing, as is seen at once.
+    #[inline(always)]
+    fn holds_plain(&self) -> bool
+        ensures { IsTrue result → HoldsPlain self.now }
     {
         match self.scanner.ready() {
-            // Without tokens it binds nothing.
-            Some(Unit { tokens: [], .. }) => {
-                self.look_at(Vec::new(self.alloc), self.place());
-                Ok(())
-            }
-            Some(_) | None => self.read_tokens(),
+            Some(unit) => is_plain(&unit, self.cursor.options()),
+            None => false,
         }
     }
 
-    // The same, through the tokens of the line. It is apart so that a line without tokens takes few steps.
-    fn read_tokens(&mut self) -> Result<(), FindError>
+    // Reads the logical line that is ready, if one is. Without memory for its bindings it is left unread.
+    fn read_line(&mut self) -> Result<(), FindError>
         ensures { ReadsReady self.old result self.new }
     {
         let place = self.place();
@@ -173,7 +170,20 @@ impl PieceFinder {
     }
 
     // The same as `read_line`, where a line that is left unread is no error, and what is ready then is known.
+    #[inline(always)]
     fn try_line(&mut self) -> Result<(), FindError>
+        ensures { TriesReady self.old result self.new }
+    {
+        if self.holds_plain() {
+            self.look_at(Vec::new(self.alloc), self.place());
+            return Ok(());
+        }
+        self.try_words()
+    }
+
+    // The same, for a logical line that may bind something. It is apart so that other lines take few steps.
+    #[cold]
+    fn try_words(&mut self) -> Result<(), FindError>
         ensures { TriesReady self.old result self.new }
     {
         match self.read_line() {
@@ -186,6 +196,7 @@ impl PieceFinder {
     }
 
     // Takes bytes up to the end of a logical line, and reads that line: how many.
+    #[inline(always)]
     fn take_line(&mut self, piece: &[u8]) -> Result<usize, FindError>
         requires fits { fed_by self.old + length piece.now ≤ 2 ^ 62 }
         requires open_yet { self.old.scanning.ended ≡ false }
@@ -210,7 +221,7 @@ impl PieceFinder {
     }
 
     // Takes bytes, line by line, until a binding is ready: how many. After a line that gives nothing the byte that is held
-    // of the next one is looked at too. Where memory runs out after the first line, the next one is left unread.
+    // of the next one is looked at too. Where memory runs out after the first byte, the next line is left unread.
     fn take_lines(&mut self, piece: &[u8]) -> Result<usize, FindError>
         requires fits { fed_by self.old + length piece.now ≤ 2 ^ 62 }
         requires open_yet { self.old.scanning.ended ≡ false }
@@ -219,18 +230,21 @@ impl PieceFinder {
         ensures takes { TakesBytesOf self.old piece.now result self.new }
         ensures done { (n : ℕ) → result ≡ Ok n → has_ready self.new ≡ false → TakesAll piece.now n self.new }
     {
-        let mut taken = self.take_line(piece)?;
-        'lines: while self.goes_on(taken < piece.len()) {
+        let mut taken = 0;
+        'lines: loop {
             match self.take_line(&piece[taken..]) {
                 Ok(more) => taken += more,
+                Err(FindError::Fault(fault)) => return Err(FindError::Fault(fault)),
+                Err(FindError::Memory) if taken == 0 => return Err(FindError::Memory),
                 Err(FindError::Memory) => {
                     self.unread = true;
                     return Ok(taken);
                 }
-                Err(FindError::Fault(fault)) => return Err(FindError::Fault(fault)),
+            }
+            if !self.goes_on(taken < piece.len()) {
+                return Ok(taken);
             }
         }
-        Ok(taken)
     }
 
     // Whether nothing is ready, and there is more of the piece, or a line is held that gave nothing.

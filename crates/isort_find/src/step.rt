@@ -1,10 +1,11 @@
-ghost use Rattle.std.specs.Prelude.{◌≡◌};
+ghost use Rattle.std.specs.Prelude.{◌≡◌, [], false, IsTrue};
 ghost use Rattle.py_lines.specs.Lines.{line_in};
+ghost use Rattle.py_imports.specs.Binds.{Binds};
 ghost use Rattle.isort_find.specs.Found.{ends_top};
 ghost use Rattle.isort_find.specs.Steps.Readings.{Judges, StepsTo};
 
 use crate::options::FindOptions;
-use py_imports::{Binding, ImportError, bindings_of, is_declaration};
+use py_imports::{Binding, ImportError, bindings_of, has_first_word, is_declaration};
 use py_lines::{Fault, LexError, Lines, Unit};
 use std::alloc::Global;
 
@@ -28,6 +29,14 @@ fn ends_top(unit: &Unit<'_>, options: FindOptions) -> bool
     ensures { result ≡ ends_top options (line_in unit.now) }
 {
     options.top_only && is_declaration(unit)
+}
+
+/// Whether the logical line counts and has no word that an import statement begins with. Most lines are so.
+pub fn is_plain(unit: &Unit<'_>, options: FindOptions) -> bool
+    ensures none { IsTrue result → Binds (line_in unit.now) [] }
+    ensures counts { IsTrue result → ends_top options (line_in unit.now) ≡ false }
+{
+    !has_first_word(unit) && !ends_top(unit, options)
 }
 
 /// What the logical line is to a finder.

@@ -1,14 +1,15 @@
-ghost use Rattle.std.specs.Prelude.{◌≡◌, ◌<◌, ◌+◌, Some, length, map, slice_get, IfOk, OnOk, IfErr, string_bytes};
+ghost use Rattle.std.specs.Prelude.{◌≡◌, ◌<◌, ◌+◌, Some, false, [], ◌∷◌, length, map, slice_get, IfOk, OnOk, IfErr, string_bytes};
 ghost use Rattle.std.specs.List.{list_any};
 ghost use Rattle.std.specs.Option.{option_map};
 ghost use Rattle.py_lines.specs.Lines.{line_in};
 ghost use Rattle.py_lines.specs.declared.fault.FaultKind.TheVariants.{BadImport};
 ghost use Rattle.py_lines.specs.declared.token.Token.{Token};
+ghost use Rattle.py_imports.specs.Grammar.{begins_import};
 ghost use Rattle.py_imports.specs.Statement.{Place};
-ghost use Rattle.py_imports.specs.Binds.{Binds, Refuses};
+ghost use Rattle.py_imports.specs.Binds.{terminal_in, Binds, Refuses};
 ghost use Rattle.py_imports.specs.Bound.{bound_of, bound_at};
 ghost use Rattle.py_imports.specs.Reading.Items.{imported_of, AreLeft};
-ghost use Rattle.py_imports.specs.Reading.Bindings.{may_begin_import, is_first_word, BindsOne, RefusesItems, BindsMore, RefusesAt, IsPlaceAt};
+ghost use Rattle.py_imports.specs.Reading.Bindings.{is_first_word, BindsOne, RefusesItems, BindsMore, RefusesAt, IsPlaceAt};
 
 use crate::binding::Binding;
 use crate::error::ImportError;
@@ -106,28 +107,19 @@ fn bind_statement(
     bind_items(alloc, items, head, fault_at(unit, place), bindings)
 }
 
-// Whether a word begins as `import` or `from` does. Few words do, so this is asked before all else.
-fn may_begin_import(word: &str) -> bool
-    ensures { result ≡ may_begin_import word.now }
-{
-    match word.as_bytes().first() {
-        Some(&byte) => byte == b'i' || byte == b'f',
-        None => false,
-    }
-}
-
 // Whether the token at `place` is spelled as the first word of an import statement.
 fn is_first_word(unit: &Unit<'_>, place: usize) -> bool
     requires { place < length unit.now.tokens.now }
     ensures { (t : Token) → slice_get unit.now.tokens.now place ≡ Some t → result ≡ is_first_word unit.now.text.now t }
 {
-    let word = unit.word(place);
-    may_begin_import(word) && form_of(unit.tokens[place].kind, word).is_some()
+    form_of(unit.tokens[place].kind, unit.word(place)).is_some()
 }
 
-// Whether a token of the logical line is spelled so. A line with no such token binds nothing.
-fn has_first_word(unit: &Unit<'_>) -> bool
-    ensures { result ≡ list_any (is_first_word unit.now.text.now) unit.now.tokens.now }
+/// Whether a token of the logical line is spelled as the first word of an import statement, `import` or `from`. Few lines
+/// have one, and a line without binds nothing.
+pub fn has_first_word(unit: &Unit<'_>) -> bool
+    ensures word { result ≡ list_any (λ t. begins_import (terminal_in unit.now.text.now t ∷ [])) unit.now.tokens.now }
+    ensures none { result ≡ false → Binds (line_in unit.now) [] }
 {
     'tokens: for place in 0..unit.tokens.len() {
         if is_first_word(unit, place) {

@@ -15,7 +15,7 @@ mod statement;
 
 pub use action::{Action, says};
 pub use binding::Binding;
-pub use bindings::bindings_of;
+pub use bindings::{bindings_of, has_first_word};
 pub use declaration::is_declaration;
 pub use error::ImportError;
 pub use shape::{Shape, shape_of};

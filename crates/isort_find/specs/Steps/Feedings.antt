@@ -4,6 +4,8 @@ use Rattle.py_lines.specs.LogicalLine.{LogicalLine}
 use Rattle.py_lines.specs.Scanning.{fed_of, GoesOnWith, Releases}
 use Rattle.py_lines.specs.declared.fault.Fault.{Fault}
 use Rattle.py_imports.specs.Bound.{Bound, bound_of}
+use Rattle.py_imports.specs.Binds.{Binds}
+use Rattle.isort_find.specs.Found.{ends_top}
 use Rattle.isort_find.specs.Pending.{Looking}
 use Rattle.isort_find.specs.Pieces.{PieceFinding, HasFoundIn, AreAllSettled, IsUndecided, KeepsAll, MeetsFaultIn, options_for, fed_by, has_ready}
 use Rattle.isort_find.specs.Steps.Lookings.{Passes, TakesNext}
@@ -72,6 +74,14 @@ pub record JudgesReady (old : PieceFinding) (result : Result (Unit {0}) FindErro
 -- the same, if a line is ready
 abbrev pub ReadsReady : PieceFinding → Result (Unit {0}) FindError → PieceFinding → Type 0
 ReadsReady old result new = ((old.scanning.ready ≡ None) × (result ≡ Ok tt) × (new ≡ with_none_unread old)) ⊎ JudgesReady old result new
+
+-- a line is ready that counts and binds nothing
+pub record HoldsPlain (f : PieceFinding) : Type 0 where
+  pub line : LogicalLine
+  pub ready : f.scanning.ready ≡ Some line
+  pub some_text : 0 < length line.text
+  pub binds : Binds line []
+  pub counts : ends_top (options_for f) line ≡ false
 
 -- bindings were looked at whose keys were given
 pub record LooksAhead (old new : PieceFinding) : Type 0 where

@@ -1,6 +1,5 @@
 -- What the program has bound of a statement.
-use Rattle.std.specs.Prelude.{◌≡◌, ℕ, ◌+◌, Bool, false, ◌==◌, ◌||◌, Some, List, [], ◌∷◌, ◌++◌, map, drop, slice_get}
-use Rattle.std.specs.Str.{byte}
+use Rattle.std.specs.Prelude.{◌≡◌, ℕ, ◌+◌, Bool, Some, List, [], ◌∷◌, ◌++◌, map, drop, slice_get}
 use Rattle.py_imports.specs.Grammar.{begins_import, Imported}
 use Rattle.py_imports.specs.Statement.{significant, Place}
 use Rattle.py_imports.specs.Binds.{terminal_in, BindsAt, IsBadStart}
@@ -13,11 +12,6 @@ use Rattle.py_lines.specs.LogicalLine.{LogicalLine}
 use Rattle.py_lines.specs.declared.fault.Fault.{Fault}
 use Rattle.py_lines.specs.declared.fault.FaultKind.TheVariants.{BadImport}
 use Rattle.py_lines.specs.declared.token.Token.{Token}
-
--- whether a word begins as `import` or `from` does
-abbrev pub may_begin_import : List ℕ → Bool
-may_begin_import [] = false
-may_begin_import (b ∷ bs) = b == byte "i" || b == byte "f"
 
 -- whether a token of this text is spelled as the first word of an import statement
 abbrev pub is_first_word : List ℕ → Token → Bool

@@ -1,16 +1,21 @@
--- Bytes were taken up to here, as by one call.
-use Rattle.std.proofs.Common.{◌≡◌, ◌+◌, ◌-◌, ◌*◌, ◌≤◌, length}
-use Rattle.isort_find.specs.Pieces.{PieceFinding, fed_by}
-use Rattle.isort_find.specs.Steps.Feedings.{TakesSome}
+-- Bytes were taken up to here, as by one call, and nothing is ready.
+use Rattle.std.proofs.Common.{◌≡◌, ◌+◌, ◌-◌, ◌*◌, ◌≤◌, false, length}
+use Rattle.py_lines.specs.Scanning.{ready_lines}
+use Rattle.isort_find.specs.Pieces.{fed_by, has_ready}
+use Rattle.isort_find.specs.declared.finder.Outcome.TheVariants as outcome
+use Rattle.isort_find.proofs.PieceLines.{HasTaken}
 use Rattle.isort_find.proofs.pieces.PieceFinder.take_lines.Given as goal
 
 abbrev pub invariant-lines : goal.invariant-lines
 invariant-lines l = record {
-  takes : (old : PieceFinding) → TakesSome old l.piece l.initial.taken l.initial.self → TakesSome old l.piece l.taken l.self;
+  takes : HasTaken l.initial.self l.piece l.taken l.self;
   within : l.taken ≤ length l.piece;
-  fed : fed_by l.self + l.initial.taken ≡ fed_by l.initial.self + l.taken;
-  open_yet : l.self.scanning.ended ≡ l.initial.self.scanning.ended;
+  fed : fed_by l.self ≡ fed_by l.initial.self + l.taken;
+  is_open : l.self.outcome ≡ outcome.Open;
+  none_ready : has_ready l.self ≡ false;
+  open_yet : l.self.scanning.ended ≡ false;
 }
 
+-- A line that gets ready, or is let go, is a step where no byte is taken.
 abbrev pub decreases-lines : goal.decreases-lines
-decreases-lines l = (length l.piece - l.taken) * 2 + length l.self.scanning.held
+decreases-lines l = (length l.piece - l.taken) * 4 + length l.self.scanning.held * 2 + (1 - length (ready_lines l.self.scanning.ready))
