@@ -192,11 +192,18 @@ impl Scan {
         Ok(())
     }
 
+    /// Whether a line end ends the line here: no bracket is open.
+    fn ends_line(&self) -> bool
+        ensures { result ≡ none_open (stack_of self.now.brackets) }
+    {
+        self.brackets.is_empty()
+    }
+
     /// What a line end of so many bytes comes to: in brackets the line goes on.
     fn line_end(&self, len: usize) -> Progress
         ensures { result ≡ line_end_progress (none_open (stack_of self.now.brackets)) len }
     {
-        if self.brackets.is_empty() {
+        if self.ends_line() {
             Progress::LineEnded(len)
         } else {
             Progress::Going
@@ -382,7 +389,7 @@ impl Scan {
     pub fn is_returned(&self) -> bool
         ensures { result ≡ is_returned self.now }
     {
-        self.piece.mode.is_return() && self.brackets.is_empty()
+        self.piece.mode.is_return() && self.ends_line()
     }
 
     /// Whether the line ended before `c`, with the CR just read.
@@ -649,7 +656,7 @@ impl Scan {
         let Some(next) = bytes.get(1).copied() else {
             return Taken::Nothing;
         };
-        let ends = self.brackets.is_empty();
+        let ends = self.ends_line();
         if is_line_feed(next as char) {
             self.pass_return(2);
             return if ends {

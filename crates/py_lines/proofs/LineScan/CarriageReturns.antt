@@ -1,5 +1,5 @@
 -- A line end that CR begins is taken whole: CR opens a piece, and LF, or what follows, closes it.
-use Rattle.std.proofs.Common.{◌≡◌, ℕ, ◌+◌, ◌<◌, Bool, true, false, not, ◌&&◌, inr, Ok, List, [], ◌∷◌, ◌++◌, length, drop, get_or, refl, sym, ap, ◌∙◌, subst, append-nil, arith, ⊎_elim, lit<}
+use Rattle.std.proofs.Common.{◌≡◌, ℕ, ◌+◌, ◌==◌, ◌<◌, Bool, true, false, not, ◌&&◌, inr, Ok, List, [], ◌∷◌, ◌++◌, length, drop, get_or, refl, sym, ap, ◌∙◌, subst, append-nil, arith, ⊎_elim, lit<}
 use Rattle.std.specs.Prelude.{encode_utf8}
 use Rattle.std.proofs.lemmas.Bool.{and_right, both_ways}
 use Rattle.std.proofs.lemmas.Str.{encode_ascii, len_utf8_ascii}
@@ -23,13 +23,9 @@ use Rattle.py_lines.proofs.LineScan.LineStops.{GoesTo, ShutsTo, StopsNow, TakesT
 use Rattle.py_lines.proofs.LineScan.NextCharacter.{takes_returned}
 use Rattle.py_lines.proofs.LineScan.ShortPieces.{Goes, ascii_scalar, free_is, settled, settles, shut_from}
 
--- the scan with CR open after closed pieces
-abbrev with_return : Scan → Scan
-with_return old = record old { piece = record { mode = modes.Return; start = old.stop; line = old.count.line }; stop = old.stop + 1; count = record { line = old.count.line + 1; after_return = true } }
-
--- and with LF after it
-abbrev with_feed : Scan → Scan
-with_feed old = record old { piece = record { mode = modes.Return; start = old.stop; line = old.count.line }; stop = old.stop + 2; count = record { line = old.count.line + 1; after_return = false } }
+-- the scan with a line end of so many bytes open after closed pieces, which CR begins
+abbrev with_end : Scan → ℕ → Scan
+with_end old len = record old { piece = record { mode = modes.Return; start = old.stop; line = old.count.line }; stop = old.stop + len; count = record { line = old.count.line + 1; after_return = len == 1 } }
 
 -- what CR and LF count
 return_counts : (after_return : Bool) → (counts_behind after_return 13 ≡ 1) × (is_return 13 ≡ true)
@@ -41,14 +37,14 @@ unfolding counts_behind is_return is_line_feed
 feed_counts = (refl, refl)
 
 -- CR opens
-return_begins : (old : Scan) → is_free old.piece.mode ≡ true → Begins old 13 (starts.Open modes.Return) (Ok progress.Going) (with_return old)
+return_begins : (old : Scan) → is_free old.piece.mode ≡ true → Begins old 13 (starts.Open modes.Return) (Ok progress.Going) (with_end old 1)
 return_begins old free =
     let size = len_utf8_ascii 13 (lit< tt) in
     let counts = return_counts old.count.after_return in (
       refl,
       record {
         mid = settled old;
-        read = record (with_return old) { piece = record { mode = old.piece.mode; start = old.stop; line = old.count.line } };
+        read = record (with_end old 1) { piece = record { mode = old.piece.mode; start = old.stop; line = old.count.line } };
         closes = settles old (free_is old.piece.mode free);
         reads = record {
           stop = ap (λ (n : ℕ). old.stop + n) (sym size);
@@ -67,14 +63,14 @@ return_begins old free =
       },
     )
 
-return_takes : (old : Scan) → is_free old.piece.mode ≡ true → TakesTo old 13 progress.Going (with_return old)
+return_takes : (old : Scan) → is_free old.piece.mode ≡ true → TakesTo old 13 progress.Going (with_end old 1)
 return_takes old free = record {
-  begun = λ is. subst (λ (s : Start). Begins old 13 s (Ok progress.Going) (with_return old)) (sym (start-return 13 (return_counts false).1)) (return_begins old free);
+  begun = λ is. subst (λ (s : Start). Begins old 13 s (Ok progress.Going) (with_end old 1)) (sym (start-return 13 (return_counts false).1)) (return_begins old free);
   taken = λ s read other. absurd (both_ways _ other free);
 }
 
 -- LF closes it
-feed_reads : (old : Scan) → ReadsCharacter (with_return old) 10 (with_feed old)
+feed_reads : (old : Scan) → ReadsCharacter (with_end old 1) 10 (with_end old 2)
 feed_reads old =
     let size = len_utf8_ascii 10 (lit< tt) in
     record {
@@ -91,23 +87,8 @@ feed_reads old =
       brackets = refl;
     }
 
-feed_closes : (old : Scan) → Closes (with_feed old) (line_ended old 2)
-feed_closes old = record {
-  tokens = sym (append-nil old.tokens.items);
-  kind = refl;
-  indent = refl;
-  margin = sym (and_right old.margin false refl);
-  mode = refl;
-  start = refl;
-  stop = refl;
-  piece_line = refl;
-  line = refl;
-  count = refl;
-  brackets = refl;
-}
-
-return_closes : (old : Scan) → Closes (with_return old) (line_ended old 1)
-return_closes old = record {
+end_closes : (old : Scan) (len : ℕ) → Closes (with_end old len) (line_ended old len)
+end_closes old len = record {
   tokens = sym (append-nil old.tokens.items);
   kind = refl;
   indent = refl;
@@ -125,11 +106,11 @@ feed_move : move_of modes.Return 10 ≡ moves.Closes
 unfolding move_of
 feed_move = rw (feed_from 10 refl) refl
 
-feed_takes : (old : Scan) (p : Progress) → p ≡ line_end_progress (none_open (stack_of old.brackets)) 2 → TakesTo (with_return old) 10 p (line_ended old 2)
+feed_takes : (old : Scan) (p : Progress) → p ≡ line_end_progress (none_open (stack_of old.brackets)) 2 → TakesTo (with_end old 1) 10 p (line_ended old 2)
 feed_takes old p is = record {
   begun = λ is. absurd (both_ways _ refl is);
   taken = λ s read other sound none not_yet tallies stacked.
-      takes_returned (with_return old) (with_feed old) (line_ended old 2) s.done s.mode s.held read 10 p (ap is_return_mode (sym tallies.mode)) (ap (λ m. move_of m 10) (sym tallies.mode) ∙ feed_move) sound tallies stacked none (feed_reads old) (feed_closes old) is;
+      takes_returned (with_end old 1) (with_end old 2) (line_ended old 2) s.done s.mode s.held read 10 p (ap is_return_mode (sym tallies.mode)) (ap (λ m. move_of m 10) (sym tallies.mode) ∙ feed_move) sound tallies stacked none (feed_reads old) (end_closes old 2) is;
 }
 
 -- a character that ended no line before it
@@ -145,27 +126,27 @@ encodes_one c after bytes low spell = sym spell ∙ ap (λ t. t ++ after) (sym (
 
 module _ (first : Scan) (text : List ℕ) (old : Scan) (bytes : List ℕ) (free : is_free old.piece.mode ≡ true) (shuts : ShutsTo first text old bytes) where
   -- after CR
-  return_shuts : (after : List ℕ) → 13 ∷ after ≡ bytes → ShutsTo first text (with_return old) after
+  return_shuts : (after : List ℕ) → 13 ∷ after ≡ bytes → ShutsTo first text (with_end old 1) after
   return_shuts after spell m at whole start r =
-      shut_from m at whole (with_return old) after (goes_character first text old bytes shuts 13 (ascii_scalar 13 (lit< tt)) after (encodes_one 13 after bytes (lit< tt) spell) (with_return old) (free_yet old 13 free) (return_takes old free) m at whole start r)
+      shut_from m at whole (with_end old 1) after (goes_character first text old bytes shuts 13 (ascii_scalar 13 (lit< tt)) after (encodes_one 13 after bytes (lit< tt) spell) (with_end old 1) (free_yet old 13 free) (return_takes old free) m at whole start r)
 
   -- after CR LF the line goes on
   feed_goes : (new : Scan) → none_open (stack_of old.brackets) ≡ false → (feed : TakesReturnFeed old bytes new) → GoesTo first text new feed.after
   feed_goes new inside feed =
       subst (λ (s : Scan). GoesTo first text s feed.after) (sym feed.is)
-      (goes_character first text (with_return old) (10 ∷ feed.after) (return_shuts (10 ∷ feed.after) feed.spell) 10 (ascii_scalar 10 (lit< tt)) feed.after (encodes_one 10 feed.after (10 ∷ feed.after) (lit< tt) refl) (line_ended old 2) (feed_yet (with_return old)) (feed_takes old progress.Going (ap (λ b. line_end_progress b 2) (sym inside))))
+      (goes_character first text (with_end old 1) (10 ∷ feed.after) (return_shuts (10 ∷ feed.after) feed.spell) 10 (ascii_scalar 10 (lit< tt)) feed.after (encodes_one 10 feed.after (10 ∷ feed.after) (lit< tt) refl) (line_ended old 2) (feed_yet (with_end old 1)) (feed_takes old progress.Going (ap (λ b. line_end_progress b 2) (sym inside))))
 
   -- or it has ended
   feed_ends : (new : Scan) → none_open (stack_of old.brackets) ≡ true → TakesReturnFeed old bytes new → StopsNow first text new (stops.LineEnd 2)
   feed_ends new outside feed =
       subst (λ (s : Scan). StopsNow first text s (stops.LineEnd 2)) (sym feed.is)
-      (stops_line first text (with_return old) (10 ∷ feed.after) (return_shuts (10 ∷ feed.after) feed.spell) 10 (ascii_scalar 10 (lit< tt)) feed.after (encodes_one 10 feed.after (10 ∷ feed.after) (lit< tt) refl) (line_ended old 2) 2 (feed_yet (with_return old)) (feed_takes old (progress.LineEnded 2) (ap (λ b. line_end_progress b 2) (sym outside))))
+      (stops_line first text (with_end old 1) (10 ∷ feed.after) (return_shuts (10 ∷ feed.after) feed.spell) 10 (ascii_scalar 10 (lit< tt)) feed.after (encodes_one 10 feed.after (10 ∷ feed.after) (lit< tt) refl) (line_ended old 2) 2 (feed_yet (with_end old 1)) (feed_takes old (progress.LineEnded 2) (ap (λ b. line_end_progress b 2) (sym outside))))
 
   -- it has ended before another byte
   alone_ends : (new : Scan) → TakesReturnAlone old bytes new → StopsNow first text new (stops.LineEnd 1)
   alone_ends new alone =
       subst (λ (s : Scan). StopsNow first text s (stops.LineEnd 1)) (sym alone.is)
-      (stops_before first text (with_return old) (alone.next ∷ alone.after) (return_shuts (alone.next ∷ alone.after) alone.spell) (line_ended old 1) alone.ends (λ read. inr (alone.next, alone.after, refl, (λ ten. both_ways _ alone.apart (feed_from alone.next ten)))) (return_closes old))
+      (stops_before first text (with_end old 1) (alone.next ∷ alone.after) (return_shuts (alone.next ∷ alone.after) alone.spell) (line_ended old 1) alone.ends (λ read. inr (alone.next, alone.after, refl, (λ ten. both_ways _ alone.apart (feed_from alone.next ten)))) (end_closes old 1))
 
   pub return_goes : (new : Scan) (len : ℕ) → TakesReturn old bytes (taken.Bytes len) new → ShutsTo first text new (drop len bytes)
   return_goes new len (two, inside, feed) m at whole start r =

@@ -96,10 +96,10 @@ pub some_unset : (p : ℕ → Bool) (vs ms : List ℕ) → length vs ≡ 16 → 
 some_unset p vs ms long e some = sym (ap (λ b. cond b 16 (count_trailing_zeros 64 (unset_bits ms))) (ne_eqb _ _ some)) ∙ first_unset p vs ms long e
 
 -- from a run in sixteen bytes to a run in all
-pub sixteen_le : (p : ℕ → Bool) (xs : List ℕ) (i r : ℕ) → i + 16 ≤ length xs → r ≡ prefix_len p (chunk i 16 xs) → r ≤ 16
+sixteen_le : (p : ℕ → Bool) (xs : List ℕ) (i r : ℕ) → i + 16 ≤ length xs → r ≡ prefix_len p (chunk i 16 xs) → r ≤ 16
 sixteen_le p xs i r room counted = omega (arith, counted, length-chunk i 16 xs room, prefix_len-le-length p (chunk i 16 xs))
 
-pub sixteen_pass : (p : ℕ → Bool) (xs : List ℕ) (i r : ℕ) → i + 16 ≤ length xs → r ≡ prefix_len p (chunk i 16 xs)
+sixteen_pass : (p : ℕ → Bool) (xs : List ℕ) (i r : ℕ) → i + 16 ≤ length xs → r ≡ prefix_len p (chunk i 16 xs)
     → ((k : ℕ) → k < i → p (slice_index xs k) ≡ true) → (k : ℕ) → k < i + r → p (slice_index xs k) ≡ true
 sixteen_pass p xs i r room counted before k lt =
     elim (cases_lt k i) [
@@ -110,11 +110,31 @@ sixteen_pass p xs i r room counted before k lt =
           subst (λ x. p x ≡ true) at (prefix_len_passes p (chunk i 16 xs) (k - i) 0 (omega (arith, counted)))
     ]
 
-pub sixteen_stop : (p : ℕ → Bool) (xs : List ℕ) (i r : ℕ) → i + 16 ≤ length xs → r ≡ prefix_len p (chunk i 16 xs)
+sixteen_stop : (p : ℕ → Bool) (xs : List ℕ) (i r : ℕ) → i + 16 ≤ length xs → r ≡ prefix_len p (chunk i 16 xs)
     → r < 16 → p (slice_index xs (i + r)) ≡ false
 sixteen_stop p xs i r room counted short =
     let at : slice_index (chunk i 16 xs) (prefix_len p (chunk i 16 xs)) ≡ slice_index xs (i + r) = ap (λ j. slice_index (chunk i 16 xs) j) (sym counted) ∙ get_or-chunk i 16 xs r 0 short in
     subst (λ x. p x ≡ false) at (prefix_len_stops p (chunk i 16 xs) 0 (omega (arith, counted, length-chunk i 16 xs room)))
+
+-- sixteen bytes more were looked at, of which so many go on with a run
+pub record Sixteen (p : ℕ → Bool) (xs : List ℕ) (i r : ℕ) : Type 0 where
+  pub room : i + 16 ≤ length xs
+  pub most : r ≤ 16
+  pub each : (k : ℕ) → k < i + r → p (slice_index xs k) ≡ true
+  pub ends : r < 16 → IsRunOf p xs (i + r)
+
+pub sixteen : (p : ℕ → Bool) (xs : List ℕ) (i r : ℕ) (mask : List ℕ) → i ≤ length xs → 16 ≤ length xs - i → ((k : ℕ) → k < i → p (slice_index xs k) ≡ true)
+    → ((passes : ℕ → Bool) (lanes : List ℕ) → length lanes ≡ 16 → Marks passes lanes mask → r ≡ prefix_len passes lanes) → Marks p (chunk i 16 xs) mask → Sixteen p xs i r
+sixteen p xs i r mask within more before counts marks =
+    let room : i + 16 ≤ length xs = omega (arith, within, more) in
+    let counted = counts p (chunk i 16 xs) (length-chunk i 16 xs room) marks in
+    let each = sixteen_pass p xs i r room counted before in
+    record {
+      room = room;
+      most = sixteen_le p xs i r room counted;
+      each = each;
+      ends = λ short. record { within = omega (arith, room, short); each = each; ends = λ lt. sixteen_stop p xs i r room counted short };
+    }
 
 -- a run goes on with the run that the rest begins with
 pub run_goes_on : (p : ℕ → Bool) (xs : List ℕ) (i n : ℕ) → i ≤ length xs → ((k : ℕ) → k < i → p (slice_index xs k) ≡ true) → IsRunOf p (take (length xs - i) (drop i xs)) n → IsRunOf p xs (i + n)
