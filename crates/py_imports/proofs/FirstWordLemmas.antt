@@ -1,13 +1,15 @@
 -- A logical line without a token that is spelled as the first word of an import statement binds nothing.
-use Rattle.std.proofs.Common.{◌≡◌, ℕ, Bool, true, false, ◌||◌, Option, None, Some, List, [], ◌∷◌, ◌++◌, filter, refl, sym, ap, ◌∙◌}
+use Rattle.std.proofs.Common.{◌≡◌, ℕ, Bool, true, false, ◌||◌, Option, None, Some, List, [], ◌∷◌, ◌++◌, filter, codes, ◌==◌, if◌then◌else◌, refl, sym, ap, ◌∙◌}
 use Rattle.std.specs.List.{list_any}
 use Rattle.std.specs.Option.{is_some}
+use Rattle.std.specs.Str.{byte, bytes_eq}
 use Rattle.std.specs.Prelude.{MatchOption}
 use Rattle.py_lines.specs.LogicalLine.{LogicalLine}
 use Rattle.py_lines.specs.declared.token.TokKind.{TokKind}
+use Rattle.py_lines.specs.declared.token.TokKind.TheVariants as kind
 use Rattle.py_lines.specs.declared.token.Token.{Token}
 use Rattle.py_imports.specs.Statement.{is_comment, significant, may_start_behind, Place, places_from}
-use Rattle.py_imports.specs.Grammar.{Terminal, import_word, from_word, as_word, name, dot, comma, star, opening, closing, other, terminal_of, begins_import}
+use Rattle.py_imports.specs.Grammar.{Terminal, import_word, from_word, as_word, name, dot, comma, star, opening, closing, other, terminal_of, begins_import, is_keyword}
 use Rattle.py_imports.specs.Binds.{terminal_in, nothing, BindEach, Binds}
 use Rattle.py_imports.specs.Reading.Bindings.{is_first_word}
 use Rattle.py_imports.specs.Reading.Items.{with_first_word}
@@ -33,6 +35,19 @@ pub found_word : (kind : TokKind) (word : List ℕ) (form : Option Form) (found 
 found_word kind word None found e h = e ∙ sym (h [])
 found_word kind word (Some form.Import) found e h = e ∙ sym (ap begins_import (h []))
 found_word kind word (Some form.From) found e h = e ∙ sym (ap begins_import (h []))
+
+-- neither of two terminals begins an import statement
+neither_begins : (b : Bool) (x y : Terminal) → begins_import (x ∷ []) ≡ false → begins_import (y ∷ []) ≡ false → begins_import ((if b then x else y) ∷ []) ≡ false
+neither_begins true x y e f = e
+neither_begins false x y e f = f
+
+-- a token that is spelled as neither word begins none
+pub other_word : (kind : TokKind) (word : List ℕ) → bytes_eq word (codes "import") ≡ false → bytes_eq word (codes "from") ≡ false → begins_import (terminal_of kind word ∷ []) ≡ false
+other_word kind.Name word e f = rw (e, f) (neither_begins (bytes_eq word (codes "as")) _ _ refl (neither_begins (is_keyword word) _ _ refl refl))
+other_word (kind.Op c) word e f = neither_begins (c == byte ".") _ _ refl (neither_begins (c == byte ",") _ _ refl (neither_begins (c == byte "*") _ _ refl (neither_begins (c == byte "(") _ _ refl (neither_begins (c == byte ")") _ _ refl refl))))
+other_word kind.Number word e f = refl
+other_word kind.Str word e f = refl
+other_word kind.Remark word e f = refl
 
 first_fails : (a b : Bool) → a || b ≡ false → a ≡ false
 first_fails true b e = absurd cc

@@ -1,5 +1,6 @@
-ghost use Rattle.std.specs.Prelude.{◌≡◌, ◌<◌, ◌+◌, Some, false, [], ◌∷◌, length, map, slice_get, IfOk, OnOk, IfErr, string_bytes};
+ghost use Rattle.std.specs.Prelude.{◌≡◌, ◌<◌, ◌+◌, Some, false, [], ◌∷◌, length, map, slice_get, codes, IfOk, OnOk, IfErr, string_bytes};
 ghost use Rattle.std.specs.List.{list_any};
+ghost use Rattle.std.specs.Str.{bytes_eq};
 ghost use Rattle.std.specs.Option.{option_map};
 ghost use Rattle.py_lines.specs.Lines.{line_in};
 ghost use Rattle.py_lines.specs.declared.fault.FaultKind.TheVariants.{BadImport};
@@ -107,12 +108,33 @@ fn bind_statement(
     bind_items(alloc, items, head, fault_at(unit, place), bindings)
 }
 
+// The length and the first byte of `import` and `from`, as one number. One comparison of it rules out most words.
+const IMPORT: usize = 6 << 8 | b'i' as usize;
+
+const FROM: usize = 4 << 8 | b'f' as usize;
+
+// Whether the length of a word and its first byte are those of `import` or `from`. Few other words have them.
+#[inline(always)]
+fn may_be_first_word(word: &str) -> bool
+    ensures import { result ≡ false → bytes_eq word.now (codes "import") ≡ false }
+    ensures from { result ≡ false → bytes_eq word.now (codes "from") ≡ false }
+{
+    match word.as_bytes().first().copied() {
+        Some(first) => {
+            let outline = word.len() << 8 | first as usize;
+            outline == IMPORT || outline == FROM
+        }
+        None => false,
+    }
+}
+
 // Whether the token at `place` is spelled as the first word of an import statement.
 fn is_first_word(unit: &Unit<'_>, place: usize) -> bool
     requires { place < length unit.now.tokens.now }
     ensures { (t : Token) → slice_get unit.now.tokens.now place ≡ Some t → result ≡ is_first_word unit.now.text.now t }
 {
-    form_of(unit.tokens[place].kind, unit.word(place)).is_some()
+    let word = unit.word(place);
+    may_be_first_word(word) && form_of(unit.tokens[place].kind, word).is_some()
 }
 
 /// Whether a token of the logical line is spelled as the first word of an import statement, `import` or `from`. Few lines
