@@ -509,6 +509,17 @@ impl Scan {
         }
     }
 
+    /// The same, or a string.
+    #[inline(always)]
+    fn may_begin(&self, byte: u8) -> bool
+        ensures { result ≡ true → may_begin (stack_of self.now.brackets) byte ≡ true }
+    {
+        match FirstByte::of(byte) {
+            FirstByte::Quote => true,
+            _ => self.follows(byte),
+        }
+    }
+
     /// Whether the bytes begin with a piece that may stand next, other than a string.
     #[inline(always)]
     fn is_followed(&self, bytes: &[u8]) -> bool
@@ -526,7 +537,7 @@ impl Scan {
         ensures { result ≡ true → begins (may_begin (stack_of self.now.brackets)) bytes.now ≡ true }
     {
         match bytes.first().copied() {
-            Some(byte) => is_quote(byte as char) || self.follows(byte),
+            Some(byte) => self.may_begin(byte),
             None => false,
         }
     }
@@ -540,11 +551,14 @@ impl Scan {
         let len = word_run(bytes);
         if !self.is_followed(&bytes[len..]) {
             self.open(Mode::Word(Spelling::of_word(&bytes[..len])), len);
-        } else if bytes[0].is_ascii_digit() {
-            self.add(TokKind::Number, len)?;
-        } else {
-            self.add(TokKind::Name, len)?;
+            return Ok(len);
         }
+        let kind = if bytes[0].is_ascii_digit() {
+            TokKind::Number
+        } else {
+            TokKind::Name
+        };
+        self.add(kind, len)?;
         Ok(len)
     }
 
@@ -555,15 +569,21 @@ impl Scan {
         ensures { TakesRun is_space may_begin space_mode self.old bytes.now result self.new }
     {
         let len = space_run(bytes);
-        self.open(Mode::Space, len);
-        if self.is_begun(&bytes[len..]) {
-            if self.margin {
-                self.indent = len;
-            }
-            self.margin = false;
-            self.piece.mode = Mode::Free;
-            self.piece.start = self.stop;
+        if !self.is_begun(&bytes[len..]) {
+            self.open(Mode::Space, len);
+            return len;
         }
+        if self.margin {
+            self.indent = len;
+        }
+        self.margin = false;
+        self.stop += len;
+        self.piece = OpenPiece {
+            mode: Mode::Free,
+            start: self.stop,
+            line: self.count.line,
+        };
+        self.count.after_return = false;
         len
     }
 
@@ -740,8 +760,9 @@ impl Scan {
                 self.end_return();
                 return Ok(Stop::LineEnd(1));
             }
+            let len = c.len_utf8();
             match self.take(c)? {
-                Progress::Going => rest = self.hold(&left[c.len_utf8()..]),
+                Progress::Going => rest = self.hold(&left[len..]),
                 Progress::LineEnded(len) => return Ok(Stop::LineEnd(len)),
                 Progress::Refused => return Ok(Stop::Refused(c)),
             }

@@ -61,7 +61,7 @@ hold-rest-requires-clause-bytes c =
     let shuts = left_shuts c.args.self.now c.args.bytes.now c.characters.self c.characters.rest.now c.pieces.new.self c.in_ok-left.field-0 c.in-Bytes.left c.in-Bytes.is c.characters.invariant.goes c.in_ok-left.ensures.reached in
     let takes = subst (λ (p : Progress). TakesTo c.pieces.new.self c.in-Some.c p c.take.new.self) c.in-Going.is (record { begun = c.in_ok-take.ensures.begins; taken = c.in_ok-take.ensures.takes }) in
     let goes = goes_character c.args.self.now c.args.bytes.now c.pieces.new.self before shuts c.in-Some.c b.scalar rest (sym b.spell) c.take.new.self (sym c.ends_before.ensures ∙ c.if-ends_before.false) takes in
-    omega (arith, c.requires.bytes, goes_room c.args.self.now c.args.bytes.now c.take.new.self rest c.requires.way goes, ap length (after_is before c.in-Some.c c.len_utf8.result c.len_utf8.ensures.value))
+    omega (arith, c.requires.bytes, goes_room c.args.self.now c.args.bytes.now c.take.new.self rest c.requires.way goes, ap length (after_is before c.in-Some.c c.len_utf8-len.result c.len_utf8-len.ensures.value))
 
 pub hold-rest-requires-clause-quote : goal.hold-rest-requires-clause-quote
 hold-rest-requires-clause-quote c =
@@ -81,7 +81,7 @@ characters-preserved c =
     let shuts = left_shuts c.args.self.now c.args.bytes.now c.characters.self c.characters.rest.now c.pieces.new.self c.in_ok-left.field-0 c.in-Bytes.left c.in-Bytes.is c.characters.invariant.goes c.in_ok-left.ensures.reached in
     let takes = subst (λ (p : Progress). TakesTo c.pieces.new.self c.in-Some.c p c.take.new.self) c.in-Going.is (record { begun = c.in_ok-take.ensures.begins; taken = c.in_ok-take.ensures.takes }) in
     let goes = goes_character c.args.self.now c.args.bytes.now c.pieces.new.self before shuts c.in-Some.c b.scalar rest (sym b.spell) c.take.new.self (sym c.ends_before.ensures ∙ c.if-ends_before.false) takes in
-    record { goes = goes_run c.args.self.now c.args.bytes.now c.take.new.self c.hold-rest.new.self rest c.hold-rest.result.now goes (subst (λ (t : List ℕ). Holds c.take.new.self t c.hold-rest.result.now c.hold-rest.new.self) (after_is before c.in-Some.c c.len_utf8.result c.len_utf8.ensures.value) c.hold-rest.ensures) }
+    record { goes = goes_run c.args.self.now c.args.bytes.now c.take.new.self c.hold-rest.new.self rest c.hold-rest.result.now goes (subst (λ (t : List ℕ). Holds c.take.new.self t c.hold-rest.result.now c.hold-rest.new.self) (after_is before c.in-Some.c c.len_utf8-len.result c.len_utf8-len.ensures.value) c.hold-rest.ensures) }
 
 pub characters-init : goal.characters-init
 characters-init c = record { goes = λ m line whole start r. r }
