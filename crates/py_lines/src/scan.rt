@@ -12,7 +12,7 @@ ghost use Rattle.py_lines.specs.declared.token.TokKind.TheVariants.{Op};
 ghost use Rattle.py_lines.specs.declared.mode.Mode.{Mode};
 
 use crate::brackets::Brackets;
-use crate::character::{is_closing, is_line_feed, is_opening, is_quote};
+use crate::character::{is_closing, is_line_feed, is_opening};
 use crate::count::Count;
 use crate::fault::FaultKind;
 use crate::mode::{Mode, Move, Spelling, Start};
