@@ -1,5 +1,5 @@
 use isort_find::laws::equal_keys;
-use isort_find::{Cursor, FindError, FindOptions, Finder, ImportKey, ResumeError, key_of};
+use isort_find::{Cursor, FindError, FindOptions, Finder, ImportKey, KeyText, ResumeError, key_of};
 use py_imports::{Binding, ImportError};
 use py_lines::{Fault, FaultKind};
 use std::alloc::Global;
@@ -43,6 +43,18 @@ fn tell_place(cursor: &Cursor, out: &mut String) -> Result<(), Fail> {
     Ok(())
 }
 
+fn tell_answers(
+    alloc: Global,
+    finder: &mut Finder<'_>,
+    answers: usize,
+    out: &mut String,
+) -> Result<(), Fail> {
+    for _ in 0..answers {
+        tell(alloc, finder, out)?;
+    }
+    Ok(())
+}
+
 // Tells so many answers, and where the finder stops after them.
 fn tell_some(
     alloc: Global,
@@ -50,9 +62,7 @@ fn tell_some(
     answers: usize,
     out: &mut String,
 ) -> Result<Cursor, Fail> {
-    for _ in 0..answers {
-        tell(alloc, &mut finder, out)?;
-    }
+    tell_answers(alloc, &mut finder, answers, out)?;
     let cursor = finder.stop();
     tell_place(&cursor, out)?;
     Ok(cursor)
@@ -227,23 +237,25 @@ fn tells_stories(rt: HostRuntime) -> Result<(), Fail> {
     Ok(())
 }
 
-// What is told where a cursor after 14 bytes is refused.
-fn refused(alloc: Global) -> Result<String, Fail> {
-    let mut out = String::new(alloc);
-    let finder = begun(alloc, "import a, b, c", options(None, false))?;
-    let cursor = tell_some(alloc, finder, 4, &mut out)?;
-    match Finder::resume(alloc, b"import a", cursor) {
-        Err((cursor, ResumeError::TextTooShort)) => {
-            tell_place(&cursor, &mut out)?;
-            Ok(out)
-        }
+// The cursor that comes back where a text ends before it.
+fn refused(alloc: Global, text: &str, cursor: Cursor) -> Result<Cursor, Fail> {
+    match Finder::resume(alloc, text.as_bytes(), cursor) {
+        Err((cursor, ResumeError::TextTooShort)) => Ok(cursor),
         _ => Err(Fail::from("the text is too short")),
     }
 }
 
+// What is told where a cursor after 14 bytes is refused.
+fn tell_refused(alloc: Global, out: &mut String) -> Result<(), Fail> {
+    let finder = begun(alloc, "import a, b, c", options(None, false))?;
+    let cursor = tell_some(alloc, finder, 4, out)?;
+    tell_place(&refused(alloc, "import a", cursor)?, out)
+}
+
 #[test]
 fn refuses_short_texts(rt: HostRuntime) -> Result<(), Fail> {
-    let told = refused(rt.alloc())?;
+    let mut told = String::new(rt.alloc());
+    tell_refused(rt.alloc(), &mut told)?;
     assert_eq!(rt;
         told.as_str(),
         "1 import a\n1 import b\n1 import c\nend\nat 14, 3\nat 14, 3\n"
@@ -295,6 +307,14 @@ impl Patience {
         Ok(binding.line == line && spelled.as_str() == statement)
     }
 
+    // Asks the finder for this import.
+    fn hears(self, finder: &mut Finder<'_>, line: u64, statement: &str) -> Result<(), Fail> {
+        match self.next(finder)? {
+            Some(binding) if self.tells(&binding, line, statement)? => Ok(()),
+            _ => Err(Fail::from("another import was told")),
+        }
+    }
+
     // Asks a finder that goes on from the cursor for this import, and stops it again.
     fn passes(
         self,
@@ -304,21 +324,23 @@ impl Patience {
         statement: &str,
     ) -> Result<Cursor, Fail> {
         let mut finder = self.resumed(text, cursor)?;
-        let binding = self.next(&mut finder)?.ok_or("an import is missing")?;
-        match self.tells(&binding, line, statement)? {
-            true => Ok(finder.stop()),
-            false => Err(Fail::from("another import was told")),
-        }
+        self.hears(&mut finder, line, statement)?;
+        Ok(finder.stop())
     }
 
-    // What such a finder tells after the last import.
-    fn end(self, text: &str, cursor: Cursor) -> Result<Option<Fault>, Fail> {
-        let mut finder = self.resumed(text, cursor)?;
-        match self.next(&mut finder) {
+    // What the finder tells after the last import.
+    fn end(self, finder: &mut Finder<'_>) -> Result<Option<Fault>, Fail> {
+        match self.next(finder) {
             Ok(None) => Ok(None),
             Err(FindError::Fault(fault)) => Ok(Some(fault)),
             _ => Err(Fail::from("another import was told")),
         }
+    }
+
+    // What a finder tells then that goes on from the cursor.
+    fn end_after(self, text: &str, cursor: Cursor) -> Result<Option<Fault>, Fail> {
+        let mut finder = self.resumed(text, cursor)?;
+        self.end(&mut finder)
     }
 }
 
@@ -333,10 +355,10 @@ fn ask(
     for (line, statement) in told.iter() {
         cursor = patience.passes(text, cursor, *line, statement)?;
     }
-    match patience.end(text, cursor)? == end {
-        true => Ok(()),
-        false => Err(Fail::from("another end was told")),
+    if patience.end_after(text, cursor)? == end {
+        return Ok(());
     }
+    Err(Fail::from("another end was told"))
 }
 
 fn ask_all(patience: Patience) -> Result<(), Fail> {
@@ -400,17 +422,30 @@ fn keeps_its_options(rt: HostRuntime) -> Result<(), Fail> {
     Ok(())
 }
 
+// The finder's next import.
+fn next_of(finder: &mut Finder<'_>) -> Result<Binding, Fail> {
+    match finder.next_import()? {
+        Some(binding) => Ok(binding),
+        None => Err(Fail::from("an import is missing")),
+    }
+}
+
 // The first import of a text.
 fn first_of(alloc: Global, text: &str) -> Result<Binding, Fail> {
     let mut finder = begun(alloc, text, options(None, false))?;
-    let binding: Binding = finder.next_import()?.ok_or("an import is missing")?;
-    Ok(binding)
+    next_of(&mut finder)
+}
+
+// The key of the first import of a text.
+fn first_key(alloc: Global, text: &str, key: ImportKey) -> Result<KeyText, Fail> {
+    let binding = first_of(alloc, text)?;
+    Ok(key_of(alloc, &binding, key)?)
 }
 
 // Whether the first imports of two texts have one key.
 fn is_one(alloc: Global, one: &str, other: &str, key: ImportKey) -> Result<bool, Fail> {
-    let one = key_of(alloc, &first_of(alloc, one)?, key)?;
-    let other = key_of(alloc, &first_of(alloc, other)?, key)?;
+    let one = first_key(alloc, one, key)?;
+    let other = first_key(alloc, other, key)?;
     Ok(equal_keys(&one, &other))
 }
 

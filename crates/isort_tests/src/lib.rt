@@ -7,7 +7,7 @@ mod acts;
 #[cfg(test)]
 mod command_line;
 #[cfg(test)]
-mod faults;
+mod errors;
 #[cfg(test)]
 mod find;
 #[cfg(test)]
