@@ -64,3 +64,10 @@ hanging_in_brackets-written v indentation end m comment room items some =
 pub some_values : {X Y : Type 0} (value : X → Y) (xs : List X) → (xs ≡ [] → ⊥) → map value xs ≡ [] → ⊥
 some_values value [] some e = some (λ i. [])
 some_values value (x ∷ xs) some e = cc
+
+-- a statement on one line that was written in four or five parts, and its line end
+pub line_of_four : (i h s r e : List ℕ) → (((i ++ h) ++ s) ++ r) ++ e ≡ ((i ++ (h ++ (s ++ r))) ++ e) ++ []
+line_of_four i h s r e = simp (append_assoc, append-nil)
+
+pub line_of_five : (i h m a r e : List ℕ) → ((((i ++ h) ++ m) ++ a) ++ r) ++ e ≡ ((i ++ (h ++ (m ++ (a ++ r)))) ++ e) ++ []
+line_of_five i h m a r e = simp (append_assoc, append-nil)
