@@ -1,7 +1,7 @@
 //! What the program tells, on both outputs.
 use crate::FAILED;
 use isort_cmd::{Action, Outcome, RunError, fault_text, report};
-use std::io::{self, Write};
+use std::io::{self, ErrorKind, Write};
 
 /// Puts a text on standard output.
 pub(crate) fn print(rt: &HostRuntime, text: &str) -> io::Result<()> {
@@ -16,6 +16,15 @@ pub(crate) fn tell(rt: &HostRuntime, text: &str) {
 /// Tells that memory ran out, where no file is to blame.
 pub(crate) fn tell_no_memory(rt: &HostRuntime) {
     tell(rt, "isort: R5 out of memory\n");
+}
+
+/// What an error of a file is told as: that memory ran out, or else as the other one.
+pub(crate) fn told_as(error: &io::Error, other: RunError) -> RunError {
+    if error.kind() == ErrorKind::OutOfMemory {
+        RunError::Memory
+    } else {
+        other
+    }
 }
 
 /// Tells why the file at `path` could not be read, understood or written.

@@ -1,6 +1,6 @@
 //! The settings of a run that sorts.
 use crate::MOST_BYTES;
-use crate::messages::{tell, tell_error, tell_no_memory};
+use crate::messages::{tell, tell_error, tell_no_memory, told_as};
 use isort_cmd::{Metered, Profile, RunError, Settings, SettingsError, read_text, settings_text};
 use std::fs::File;
 use std::io::ErrorKind;
@@ -73,7 +73,7 @@ fn settings_bytes<'a>(rt: &HostRuntime, named: Option<&'a str>) -> Result<Vec<u8
         Err(error) if named.is_none() && error.kind() == ErrorKind::NotFound => {
             return Ok(Vec::new(rt.alloc()));
         }
-        Err(_) => return Err(Refusal::File(path, RunError::Read)),
+        Err(error) => return Err(Refusal::File(path, told_as(&error, RunError::Read))),
     };
     match read_text(rt.alloc(), &mut Metered::new(file), MOST_BYTES) {
         Ok(text) => Ok(text),

@@ -1,5 +1,6 @@
 //! What is done with each file.
 use crate::MOST_BYTES;
+use crate::messages::told_as;
 use crate::settings::{Refusal, Wishes, settings};
 use isort_cmd::{
     Action, FindOptions, Metered, Outcome, RunError, Settings, check_run, identify, sort_run,
@@ -89,7 +90,7 @@ fn open(rt: &HostRuntime, path: &str) -> Result<Input, RunError> {
     }
     match File::open(rt, path) {
         Ok(file) => Ok(Input::File(file)),
-        Err(_) => Err(RunError::Read),
+        Err(error) => Err(told_as(&error, RunError::Read)),
     }
 }
 
@@ -135,10 +136,18 @@ fn print_sorted(rt: &HostRuntime, path: &str, settings: &Settings) -> Result<Out
 fn rewrite(rt: &HostRuntime, path: &str, settings: &Settings) -> Result<Outcome, RunError> {
     let mut reader = Metered::new(open(rt, path)?);
     let mut sorted = Metered::new(Vec::new(rt.alloc()));
-    let outcome = sort_run(rt.alloc(), &mut reader, &mut sorted, settings, MOST_BYTES)?;
+    let outcome = match sort_run(rt.alloc(), &mut reader, &mut sorted, settings, MOST_BYTES) {
+        Ok(outcome) => outcome,
+        // A vector takes all bytes, unless memory runs out.
+        Err(RunError::Write) => return Err(RunError::Memory),
+        Err(error) => return Err(error),
+    };
     drop(reader);
-    if outcome == Outcome::Changed && overwrite(rt, path, sorted.into_inner().as_slice()).is_err() {
-        return Err(RunError::Write);
+    if outcome == Outcome::Changed {
+        let written = overwrite(rt, path, sorted.into_inner().as_slice());
+        if let Err(error) = written {
+            return Err(told_as(&error, RunError::Write));
+        }
     }
     Ok(outcome)
 }
