@@ -26,6 +26,7 @@ const FAILED: u8 = 1;
 /// The status of wrong usage, and of wrong settings.
 const REFUSED: u8 = 2;
 
+/// Does what the command line asks for.
 fn main(rt: HostRuntime) -> ExitCode {
     let status = match words(&rt) {
         Ok(words) => match command(rt.alloc(), words) {
@@ -37,12 +38,12 @@ fn main(rt: HostRuntime) -> ExitCode {
     ExitCode::from(status)
 }
 
-// The words of the command line, of which the first is the program's name.
+/// The words of the command line, of which the first is the program's name.
 fn words(rt: &HostRuntime) -> io::Result<Vec<String>> {
     Ok(env::args(rt)?.collect(rt.alloc())?)
 }
 
-// Words that can't be had: one of them is not UTF-8, or memory ran out.
+/// Words that can't be had: one of them is not UTF-8, or memory ran out.
 fn refuse_words(rt: &HostRuntime, error: &io::Error) -> u8 {
     if error.kind() == ErrorKind::OutOfMemory {
         tell_no_memory(rt);
@@ -52,7 +53,7 @@ fn refuse_words(rt: &HostRuntime, error: &io::Error) -> u8 {
     REFUSED
 }
 
-// Words that give no job. Only help that was asked for goes to standard output, and is no failure.
+/// Words that give no job. Only help that was asked for goes to standard output, and is no failure.
 fn refuse(rt: &HostRuntime, error: &UsageError) -> u8 {
     if let UsageError::Help(text) = error {
         return print_help(rt, text.as_str());
@@ -61,6 +62,7 @@ fn refuse(rt: &HostRuntime, error: &UsageError) -> u8 {
     REFUSED
 }
 
+/// Prints the help that was asked for, and answers the status.
 fn print_help(rt: &HostRuntime, text: &str) -> u8 {
     if print(rt, text).is_ok() {
         return 0;
@@ -69,7 +71,7 @@ fn print_help(rt: &HostRuntime, text: &str) -> u8 {
     FAILED
 }
 
-// Does the job, and answers the process's status.
+/// Does the job, and answers the process's status.
 fn run(rt: &HostRuntime, job: &Job) -> u8 {
     match Task::new(rt, &job.action) {
         Ok(task) => run_over_files(rt, job, &task),
@@ -80,7 +82,7 @@ fn run(rt: &HostRuntime, job: &Job) -> u8 {
     }
 }
 
-// Takes the files in the order given. What comes of one says nothing of the next.
+/// Takes the files in the order given. What comes of one says nothing of the next.
 fn run_over_files(rt: &HostRuntime, job: &Job, task: &Task) -> u8 {
     let mut status = 0;
     for path in &job.files {

@@ -65,7 +65,7 @@ pub(crate) fn settings<'a>(rt: &HostRuntime, wishes: &Wishes<'a>) -> Result<Sett
     Ok(settings)
 }
 
-// The bytes of the settings file. The folder's own may be missing, which is as good as an empty one.
+/// The bytes of the settings file. The folder's own may be missing, which is as good as an empty one.
 fn settings_bytes<'a>(rt: &HostRuntime, named: Option<&'a str>) -> Result<Vec<u8>, Refusal<'a>> {
     let path = named.unwrap_or(SETTINGS_FILE);
     let file = match File::open(rt, path) {
@@ -81,7 +81,7 @@ fn settings_bytes<'a>(rt: &HostRuntime, named: Option<&'a str>) -> Result<Vec<u8
     }
 }
 
-// Tells of each key that is none of ours, in the order of their bytes.
+/// Tells of each key that is none of ours, in the order of their bytes.
 fn warn_of_unknown_keys(rt: &HostRuntime, keys: &[String]) {
     for key in keys {
         let _lost = eprintln!(rt; "isort: settings: {key} ignored");

@@ -67,7 +67,7 @@ impl Task {
     }
 }
 
-// Where a text comes from.
+/// Where a text comes from.
 #[derive(Drop)]
 enum Input {
     Standard(Stdin),
@@ -83,7 +83,7 @@ impl Read for Input {
     }
 }
 
-// What the path stands for.
+/// What the path stands for.
 fn open(rt: &HostRuntime, path: &str) -> Result<Input, RunError> {
     if path == STANDARD_INPUT {
         return Ok(Input::Standard(rt.stdin()));
@@ -94,7 +94,7 @@ fn open(rt: &HostRuntime, path: &str) -> Result<Input, RunError> {
     }
 }
 
-// Lists the imports on standard output. A listing that can't be written whole is a failed write.
+/// Lists the imports on standard output. A listing that can't be written whole is a failed write.
 fn list(rt: &HostRuntime, path: &str, options: FindOptions) -> Result<Outcome, RunError> {
     let mut reader = Metered::new(open(rt, path)?);
     let Ok(out) = BufWriter::new(rt.alloc(), rt.stdout()) else {
@@ -115,7 +115,7 @@ fn list(rt: &HostRuntime, path: &str, options: FindOptions) -> Result<Outcome, R
     }
 }
 
-// Compares the text with its sorted text.
+/// Compares the text with its sorted text.
 fn check(rt: &HostRuntime, path: &str, settings: &Settings) -> Result<Outcome, RunError> {
     let mut reader = Metered::new(open(rt, path)?);
     Ok(if check_run(rt.alloc(), &mut reader, settings, MOST_BYTES)? {
@@ -125,14 +125,14 @@ fn check(rt: &HostRuntime, path: &str, settings: &Settings) -> Result<Outcome, R
     })
 }
 
-// Puts the sorted text on standard output.
+/// Puts the sorted text on standard output.
 fn print_sorted(rt: &HostRuntime, path: &str, settings: &Settings) -> Result<Outcome, RunError> {
     let mut reader = Metered::new(open(rt, path)?);
     let mut writer = Metered::new(rt.stdout());
     sort_run(rt.alloc(), &mut reader, &mut writer, settings, MOST_BYTES)
 }
 
-// Sorts the text in memory, and writes the file only where that changed it.
+/// Sorts the text in memory, and writes the file only where that changed it.
 fn rewrite(rt: &HostRuntime, path: &str, settings: &Settings) -> Result<Outcome, RunError> {
     let mut reader = Metered::new(open(rt, path)?);
     let mut sorted = Metered::new(Vec::new(rt.alloc()));
@@ -152,7 +152,7 @@ fn rewrite(rt: &HostRuntime, path: &str, settings: &Settings) -> Result<Outcome,
     Ok(outcome)
 }
 
-// Writes the text into the file that is there, so that its links and permissions stay.
+/// Writes the text into the file that is there, so that its links and permissions stay.
 fn overwrite(rt: &HostRuntime, path: &str, text: &[u8]) -> io::Result<()> {
     let mut file = File::options().write(true).truncate(true).open(rt, path)?;
     file.write_all(text)

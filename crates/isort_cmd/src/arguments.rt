@@ -23,7 +23,7 @@ Examples:
   isort -c a.py b.py  Say which of the two files are not sorted
   isort --identify -  List the imports of standard input";
 
-// What the help says of the files and of each option.
+/// What the help says of the files and of each option.
 const FILES: &str = "Python files; - is standard input";
 
 const IDENTIFY: &str = "List the imports, and sort nothing";
@@ -69,6 +69,7 @@ pub(crate) fn isort_command<'a>(alloc: Global) -> Result<Command<'a>, AllocError
     with_settings_options(alloc, command)
 }
 
+/// The parser with the options of a listing too.
 fn with_listing_options<'a>(alloc: Global, command: Command<'a>) -> Result<Command<'a>, AllocError>
     ensures { IfOk result (λ c. app_of c ≡ with_listing_rules (app_of command.entry)) }
 {
@@ -82,6 +83,7 @@ fn with_listing_options<'a>(alloc: Global, command: Command<'a>) -> Result<Comma
         .arg(flag(alloc, "top-only", TOP_ONLY))
 }
 
+/// The parser with the options of sorting too.
 fn with_sorting_options<'a>(alloc: Global, command: Command<'a>) -> Result<Command<'a>, AllocError>
     ensures { IfOk result (λ c. app_of c ≡ with_sorting_rules (app_of command.entry)) }
 {
@@ -92,6 +94,7 @@ fn with_sorting_options<'a>(alloc: Global, command: Command<'a>) -> Result<Comma
         .arg(flag(alloc, "stdout", STDOUT).short('d'))
 }
 
+/// The parser with the options of sorting's settings too.
 fn with_settings_options<'a>(alloc: Global, command: Command<'a>) -> Result<Command<'a>, AllocError>
     ensures { IfOk result (λ c. app_of c ≡ with_settings_rules (app_of command.entry)) }
 {
@@ -103,7 +106,7 @@ fn with_settings_options<'a>(alloc: Global, command: Command<'a>) -> Result<Comm
         .arg(number(alloc, "multi-line", MULTI_LINE).short('m'))
 }
 
-// An option without a value.
+/// An option without a value.
 fn flag<'a>(alloc: Global, name: &'a str, help: &'a str) -> Arg<'a>
     ensures rule { rule_of result ≡ flag_rule name.entry.now }
     ensures local { result.global ≡ false }
@@ -114,7 +117,7 @@ fn flag<'a>(alloc: Global, name: &'a str, help: &'a str) -> Arg<'a>
         .help(help)
 }
 
-// An option with a text.
+/// An option with a text.
 fn text<'a>(alloc: Global, name: &'a str, value: &'a str, help: &'a str) -> Arg<'a>
     ensures rule { rule_of result ≡ text_rule name.entry.now }
     ensures local { result.global ≡ false }
@@ -125,7 +128,7 @@ fn text<'a>(alloc: Global, name: &'a str, value: &'a str, help: &'a str) -> Arg<
         .help(help)
 }
 
-// An option with a whole number.
+/// An option with a whole number.
 fn number<'a>(alloc: Global, name: &'a str, help: &'a str) -> Arg<'a>
     ensures rule { rule_of result ≡ number_rule name.entry.now }
     ensures local { result.global ≡ false }

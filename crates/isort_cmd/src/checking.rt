@@ -1,3 +1,4 @@
+//! Checking whether a text is sorted.
 ghost use Rattle.std.specs.Prelude.{◌≡◌, ◌≢◌, ◌≤◌, ◌<◌, ◌^◌, Ok, length, OnOk, IfOk, IfSome};
 ghost use Rattle.std.specs.Io.KnownBytes.{IsAtEnd};
 ghost use Rattle.py_lines.specs.declared.fault.Fault.{Fault};

@@ -25,7 +25,7 @@ pub(crate) fn job_of(alloc: Global, matches: &ArgMatches<'_>) -> Result<Job, Usa
     })
 }
 
-// Whether options were given that do not go together.
+/// Whether options were given that do not go together.
 fn is_forbidden(matches: &ArgMatches<'_>) -> bool
     ensures { result ≡ is_forbidden (rows_in matches.now) }
 {
@@ -36,7 +36,7 @@ fn is_forbidden(matches: &ArgMatches<'_>) -> bool
     }
 }
 
-// Whether an option was given that goes with sorting alone.
+/// Whether an option was given that goes with sorting alone.
 fn wants_sorting(matches: &ArgMatches<'_>) -> bool
     ensures { result ≡ wants_sorting (rows_in matches.now) }
 {
@@ -49,7 +49,7 @@ fn wants_sorting(matches: &ArgMatches<'_>) -> bool
         || was_given(matches, "multi-line")
 }
 
-// How many options that name a key were given.
+/// How many options that name a key were given.
 fn key_count(matches: &ArgMatches<'_>) -> usize
     ensures { result ≡ key_count (rows_in matches.now) }
 {
@@ -59,6 +59,7 @@ fn key_count(matches: &ArgMatches<'_>) -> usize
         + usize::from(was_given(matches, "attributes"))
 }
 
+/// What is done with each file.
 fn action_of(alloc: Global, matches: &ArgMatches<'_>) -> Result<Action, UsageError>
     ensures ok { IfOk result (IsAction (rows_in matches.now)) }
     ensures err { IfErr result (λ e. e ≡ UsageError.Memory) }
@@ -79,7 +80,7 @@ fn action_of(alloc: Global, matches: &ArgMatches<'_>) -> Result<Action, UsageErr
     })
 }
 
-// The key of the option that names one.
+/// The key of the option that names one.
 fn key_in(matches: &ArgMatches<'_>) -> Option<ImportKey>
     ensures { result ≡ key_in (rows_in matches.now) }
 {
@@ -96,6 +97,7 @@ fn key_in(matches: &ArgMatches<'_>) -> Option<ImportKey>
     }
 }
 
+/// The files, in their order.
 #[tactic(auto, using(crate::proofs::MatchLemmas::all_found))]
 fn files_of(alloc: Global, matches: &ArgMatches<'_>) -> Result<Vec<String>, UsageError>
     ensures ok { IfOk result (λ files. map string_bytes files.items ≡ unwrap_or (all_of (codes "FILE") (rows_in matches.now)) []) }
@@ -107,6 +109,7 @@ fn files_of(alloc: Global, matches: &ArgMatches<'_>) -> Result<Vec<String>, Usag
     }
 }
 
+/// Copies of the texts, in their order.
 fn copies(alloc: Global, texts: &[&str]) -> Result<Vec<String>, UsageError>
     ensures ok { IfOk result (λ all. map string_bytes all.items ≡ map (λ text. text.now) texts.now) }
     ensures err { IfErr result (λ e. e ≡ UsageError.Memory) }
@@ -118,14 +121,14 @@ fn copies(alloc: Global, texts: &[&str]) -> Result<Vec<String>, UsageError>
     Ok(all)
 }
 
-// The number that the option was given.
+/// The number that the option was given.
 fn number_of(matches: &ArgMatches<'_>, name: &str) -> Option<u32>
     ensures { result ≡ number_of name.now (rows_in matches.now) }
 {
     matches.get_one::<u32>(name)
 }
 
-// The text that the option was given.
+/// The text that the option was given.
 #[tactic(auto, using(crate::proofs::MatchLemmas::first_found))]
 fn text_of(
     alloc: Global,
@@ -141,7 +144,7 @@ fn text_of(
     }
 }
 
-// Whether the words gave the option.
+/// Whether the words gave the option.
 #[tactic(auto, using(crate::proofs::MatchLemmas::source_found))]
 fn was_given(matches: &ArgMatches<'_>, name: &str) -> bool
     ensures { result ≡ was_given name.now (rows_in matches.now) }

@@ -35,7 +35,7 @@ pub fn command(alloc: Global, words: Vec<String>) -> Result<Job, UsageError>
     }
 }
 
-// What the parser finds in the words.
+/// What the parser finds in the words.
 fn parse<'a>(alloc: Global, words: &'a [String]) -> Result<ArgMatches<'a>, Error>
     ensures ok { IfOk result (IsParse (map string_bytes words.now)) }
     ensures err { IfErr result (HasKind (fault_of isort_app (map string_bytes words.now))) }
@@ -44,7 +44,7 @@ fn parse<'a>(alloc: Global, words: &'a [String]) -> Result<ArgMatches<'a>, Error
     isort_command(alloc)?.try_get_matches_from(words)
 }
 
-// What an error of the parser is told as.
+/// What an error of the parser is told as.
 fn refusal(alloc: Global, error: &Error) -> UsageError
     ensures { IsToldAs (kind_of error.now) result }
 {

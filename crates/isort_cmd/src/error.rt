@@ -1,3 +1,4 @@
+//! Why a run ends early.
 ghost use Rattle.std.specs.Prelude.{◌≡◌};
 
 use isort_find::FindError;

@@ -1,3 +1,4 @@
+//! What the program is asked to do.
 use isort_find::FindOptions;
 
 /// What one run of the program has to do.

@@ -1,3 +1,4 @@
+//! The line of a listing that tells of one import.
 ghost use Rattle.std.specs.Prelude.{◌≡◌, ◌++◌, OnOk, IfErr, string_bytes};
 ghost use Rattle.py_imports.specs.Bound.{bound_of};
 ghost use Rattle.isort_cmd.specs.Printed.{place_text, line_text};
@@ -6,7 +7,7 @@ use crate::error::RunError;
 use py_imports::Binding;
 use std::alloc::Global;
 
-// Puts `path:line ` after `out`, and `indented ` where the line is.
+/// Puts `path:line ` after `out`, and `indented ` where the line is.
 fn push_place(path: &str, line: u64, indented: bool, out: &mut String) -> Result<(), RunError>
     ensures ok { OnOk result (string_bytes out.new ≡ string_bytes out.old ++ place_text path.now line indented) }
     ensures err { IfErr result (λ e. e ≡ RunError.Memory) }
@@ -18,7 +19,7 @@ fn push_place(path: &str, line: u64, indented: bool, out: &mut String) -> Result
     Ok(())
 }
 
-// Puts the line of a binding after `out`.
+/// Puts the line of a binding after `out`.
 pub(crate) fn push_line(
     alloc: Global,
     binding: &Binding,

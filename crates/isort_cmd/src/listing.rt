@@ -1,3 +1,4 @@
+//! Listing the imports of a text that is read in pieces.
 ghost use Rattle.std.specs.Prelude.{◌≡◌, ◌≢◌, ◌+◌, ◌⊎◌, ◌≤◌, ◌<◌, ◌^◌, ℕ, true, false, Option, None, Some, List, [], ◌++◌, length, IfOk, OnOk, IfErr, IfSome};
 ghost use Rattle.std.specs.Io.KnownBytes.{IsAtEnd, Consumes};
 ghost use Rattle.py_lines.specs.declared.fault.Fault.{Fault};
@@ -19,10 +20,10 @@ use isort_find::{FindOptions, PieceFinder};
 use std::alloc::Global;
 use std::io::{Read, Write};
 
-// How many bytes a read asks for.
+/// How many bytes a read asks for.
 const PIECE: usize = 8192;
 
-// Writes the line of the next import that is ready: whether there is one.
+/// Writes the line of the next import that is ready: whether there is one.
 fn list_next<W: Write>(
     alloc: Global,
     finder: &mut PieceFinder,
@@ -54,7 +55,7 @@ fn list_next<W: Write>(
     Ok(true)
 }
 
-// Writes the lines of all imports that are ready: whether there are any.
+/// Writes the lines of all imports that are ready: whether there are any.
 fn list_ready<W: Write>(
     alloc: Global,
     finder: &mut PieceFinder,
@@ -82,7 +83,7 @@ fn list_ready<W: Write>(
     Ok(some)
 }
 
-// Looks at the byte that may be held after the last logical line: it may decide a fault.
+/// Looks at the byte that may be held after the last logical line: it may decide a fault.
 fn look_at_held(finder: &mut PieceFinder) -> Result<(), RunError>
     requires fits { fed_by finder.old ≤ 2 ^ 62 }
     requires open_yet { finder.old.scanning.ended ≡ false }
@@ -104,7 +105,7 @@ fn look_at_held(finder: &mut PieceFinder) -> Result<(), RunError>
     Ok(())
 }
 
-// Feeds a piece whole, and lists what gets ready. Lines that were written are flushed before more is read.
+/// Feeds a piece whole, and lists what gets ready. Lines that were written are flushed before more is read.
 fn list_piece<W: Write>(
     alloc: Global,
     finder: &mut PieceFinder,
@@ -145,7 +146,7 @@ fn list_piece<W: Write>(
     Ok(())
 }
 
-// Reads to the end, and lists the imports in the logical lines that the bytes settle.
+/// Reads to the end, and lists the imports in the logical lines that the bytes settle.
 fn list_pieces<R: Read, W: Write>(
     alloc: Global,
     reader: &mut Metered<R>,
@@ -184,7 +185,7 @@ fn list_pieces<R: Read, W: Write>(
     }
 }
 
-// Ends the text, and lists the imports of its last logical line.
+/// Ends the text, and lists the imports of its last logical line.
 fn list_end<W: Write>(
     alloc: Global,
     finder: &mut PieceFinder,

@@ -1,3 +1,4 @@
+//! The lines that tell of errors and of refused settings.
 ghost use Rattle.std.specs.Prelude.{◌≡◌, IfOk, IfErr, string_bytes};
 ghost use Rattle.isort_cmd.specs.FaultText.{error_line};
 ghost use Rattle.isort_cmd.specs.Reported.{settings_line};

@@ -1,3 +1,4 @@
+//! A reader or writer that notes how its last call ended.
 ghost use Rattle.std.specs.Prelude.{◌≡◌};
 ghost use Rattle.std.specs.Io.{ReadsAtMost, WritesAtMost};
 ghost use Rattle.std.specs.Io.KnownBytes.{Keeps, ReadConsumes, WriteAppends};
@@ -23,7 +24,7 @@ pub enum Last {
 }
 
 impl Last {
-    // How many calls in a row ended in an interruption, up to 1000.
+    /// How many calls in a row ended in an interruption, up to 1000.
     fn interruptions(self) -> u16
         ensures { result ≡ interruptions self }
     {
@@ -70,7 +71,7 @@ impl<T> Metered<T> {
         self.last
     }
 
-    // Notes a call that failed.
+    /// Notes a call that failed.
     fn note_error(&mut self, e: &io::Error)
         ensures inner { inner_of self.new ≡ inner_of self.old }
         ensures last { last_of self.new ≡ end_of_error (last_of self.old) e.now }

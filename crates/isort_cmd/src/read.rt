@@ -1,3 +1,4 @@
+//! Reading, piece by piece and to the end.
 ghost use Rattle.std.specs.Prelude.{◌≡◌, ◌≢◌, ◌<◌, ◌≤◌, ◌^◌, IfOk, OnOk, IfErr, IfSome, length};
 ghost use Rattle.std.specs.Io.{ReadsAtMost};
 ghost use Rattle.std.specs.Io.KnownBytes.{IsAtEnd, ReadConsumes};
@@ -10,10 +11,10 @@ use crate::metered::{Last, MOST_INTERRUPTIONS, Metered};
 use std::alloc::Global;
 use std::io::Read;
 
-// How many bytes a read asks for.
+/// How many bytes a read asks for.
 const PIECE: usize = 65536;
 
-// One read, tried again where it was interrupted fewer than 1000 times in a row.
+/// One read, tried again where it was interrupted fewer than 1000 times in a row.
 pub(crate) fn read_piece<R: Read>(
     reader: &mut Metered<R>,
     piece: &mut [u8],

@@ -1,3 +1,4 @@
+//! What is told of a file after it was listed, checked or sorted.
 ghost use Rattle.std.specs.Prelude.{◌≡◌, IfOk, IfErr};
 ghost use Rattle.isort_cmd.specs.Reported.{report_value, reported};
 

@@ -1,3 +1,4 @@
+//! Sorting a text that is read to its end.
 ghost use Rattle.std.specs.Prelude.{◌≡◌, ◌≢◌, ◌≤◌, ◌<◌, ◌^◌, length, OnOk, IfOk, IfErr, IfSome};
 ghost use Rattle.std.specs.Io.KnownBytes.{IsAtEnd, Keeps};
 ghost use Rattle.py_lines.specs.declared.fault.Fault.{Fault};
@@ -15,7 +16,7 @@ use isort_sort::{Outcome, Sorted, sort_code};
 use std::alloc::Global;
 use std::io::{Read, Write};
 
-// Writes the sorted text, which is the text itself where it is sorted or asks to be left as it is.
+/// Writes the sorted text, which is the text itself where it is sorted or asks to be left as it is.
 fn write_sorted<W: Write>(
     alloc: Global,
     text: &[u8],

@@ -1,3 +1,5 @@
+//! What a run prints, and its status.
+
 /// What a run over one file prints, and the status that it asks for.
 #[derive(Debug, Drop)]
 pub struct Report {

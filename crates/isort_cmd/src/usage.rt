@@ -1,3 +1,4 @@
+//! Why a command line gives no job.
 use std::alloc::{AllocError, AllocFailed};
 use std::error::Error;
 use std::fmt;

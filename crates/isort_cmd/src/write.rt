@@ -1,3 +1,4 @@
+//! Writing and flushing, tried again after interruptions.
 ghost use Rattle.std.specs.Prelude.{◌≡◌, ◌<◌, ◌≤◌, IfOk, OnOk, OnErr, IfErr, length, take};
 ghost use Rattle.std.specs.Io.KnownBytes.{Appends, Keeps};
 ghost use Rattle.isort_cmd.specs.Metered.{inner_of, last_of, IsGivenUp};
@@ -7,7 +8,7 @@ use crate::error::RunError;
 use crate::metered::{Last, MOST_INTERRUPTIONS, Metered};
 use std::io::Write;
 
-// One write of some bytes, tried again where it was interrupted fewer than 1000 times in a row.
+/// One write of some bytes, tried again where it was interrupted fewer than 1000 times in a row.
 fn write_some<W: Write>(writer: &mut Metered<W>, bytes: &[u8]) -> Result<usize, RunError>
     requires fine { last_of writer.old ≡ Last.Fine }
     requires some { 0 < length bytes.now }
@@ -32,7 +33,7 @@ fn write_some<W: Write>(writer: &mut Metered<W>, bytes: &[u8]) -> Result<usize, 
     }
 }
 
-// Writes the bytes whole, or a prefix of them where a write fails.
+/// Writes the bytes whole, or a prefix of them where a write fails.
 pub(crate) fn write_whole<W: Write>(writer: &mut Metered<W>, bytes: &[u8]) -> Result<(), RunError>
     requires { last_of writer.old ≡ Last.Fine }
     ensures ok { OnOk result (Appends (W.contents (inner_of writer.old)) (W.contents (inner_of writer.new)) bytes.now) }
@@ -49,7 +50,7 @@ pub(crate) fn write_whole<W: Write>(writer: &mut Metered<W>, bytes: &[u8]) -> Re
     Ok(())
 }
 
-// Flushes, tried again where it was interrupted fewer than 1000 times in a row.
+/// Flushes, tried again where it was interrupted fewer than 1000 times in a row.
 pub(crate) fn flush_whole<W: Write>(writer: &mut Metered<W>) -> Result<(), RunError>
     requires fine { last_of writer.old ≡ Last.Fine }
     ensures kept { Keeps (W.contents (inner_of writer.old)) (W.contents (inner_of writer.new)) }

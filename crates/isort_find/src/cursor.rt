@@ -1,3 +1,4 @@
+//! Where a finder stopped, with what it needs to go on.
 ghost use Rattle.std.specs.Prelude.{◌≡◌, ◌+◌, ◌-◌, ◌^◌, IfOk, IfErr, OnErr, min};
 ghost use Rattle.py_imports.specs.Bound.{bound_of};
 
@@ -94,6 +95,7 @@ impl Cursor {
         self.taken = 0;
     }
 
+    /// Where the logical line begins from which a finder goes on.
     pub(crate) fn place(&self) -> Place
         ensures offset { result.offset ≡ self.now.offset }
         ensures line { result.line ≡ self.now.line }
@@ -101,6 +103,7 @@ impl Cursor {
         self.place
     }
 
+    /// How many bindings of that line were given or passed over.
     pub(crate) fn taken(&self) -> usize
         ensures { result ≡ self.now.taken }
     {

@@ -1,3 +1,4 @@
+//! Why a finder gives no import, or doesn't go on.
 ghost use Rattle.std.specs.Prelude.{◌≡◌};
 ghost use Rattle.isort_find.specs.declared.error.FindError.TheVariants.{Memory};
 

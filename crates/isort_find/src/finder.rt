@@ -1,3 +1,4 @@
+//! The imports of a whole text, one after another.
 ghost use Rattle.std.specs.Prelude.{◌≡◌, ◌<◌, ◌≤◌, ◌↔◌, ℕ, List, [], false, length, map, IfOk, IfErr, OnOk, OnErr};
 ghost use Rattle.py_imports.specs.Bound.{Bound, bound_of};
 
@@ -73,7 +74,7 @@ impl<'t> Finder<'t> {
         })
     }
 
-    // The next binding of the logical line read last whose key wasn't given yet.
+    /// The next binding of the logical line read last whose key wasn't given yet.
     fn next_new(&mut self) -> Result<Option<Binding>, FindError>
         requires { self.old.outcome ≡ Outcome.Open }
         ensures { GivesNew self.old result self.new }
@@ -82,7 +83,7 @@ impl<'t> Finder<'t> {
         take_new(self.alloc, &mut self.pending, &mut self.cursor)
     }
 
-    // Goes back to where the logical line begins that has to be read again.
+    /// Goes back to where the logical line begins that has to be read again.
     fn go_back(&mut self) -> Result<(), FindError>
         ensures ok { OnOk result (GoesBack self.old self.new) }
         ensures err { IfErr result (λ e. e ≡ FindError.Memory) }
@@ -101,7 +102,7 @@ impl<'t> Finder<'t> {
         }
     }
 
-    // Where the next logical line begins.
+    /// Where the next logical line begins.
     fn place(&self) -> Place
         requires { self.now.again ≡ false }
         ensures offset { result.offset ≡ self.now.reader.place }
@@ -113,7 +114,7 @@ impl<'t> Finder<'t> {
         }
     }
 
-    // Does what follows from a step, which was read at `place`.
+    /// Does what follows from a step, which was read at `place`.
     fn follow(&mut self, place: Place, step: Step) -> Result<(), FindError>
         requires { self.old.again ≡ false }
         ensures { Follows self.old place step result self.new }
@@ -142,7 +143,7 @@ impl<'t> Finder<'t> {
         }
     }
 
-    // Reads the next logical line, where nothing is left of the one read last.
+    /// Reads the next logical line, where nothing is left of the one read last.
     fn read_line(&mut self) -> Result<(), FindError>
         requires is_open { self.old.outcome ≡ Outcome.Open }
         requires none_left { self.old.pending.left ≡ [] }

@@ -1,3 +1,4 @@
+//! The keys under which only the first import is found.
 ghost use Rattle.std.specs.Prelude.{◌≡◌, ◌↔◌, IsTrue, IfOk, IfErr, string_bytes};
 ghost use Rattle.std.specs.Option.{option_map};
 ghost use Rattle.py_imports.specs.Bound.{bound_of};
@@ -18,7 +19,7 @@ pub struct KeyText {
     alias: Option<String>,
 }
 
-// The leading dots and the first name of a module.
+/// The leading dots and the first name of a module.
 fn package_of(name: &str) -> &str
     ensures { result.now ≡ package_of name.now }
 {
@@ -33,7 +34,7 @@ fn package_of(name: &str) -> &str
     name
 }
 
-// A copy of the text, if there is one.
+/// A copy of the text, if there is one.
 fn copy_of(text: &Option<String>) -> Result<Option<String>, AllocError>
     ensures { IfOk result (λ copy. option_map string_bytes copy ≡ option_map string_bytes text.now) }
 {
@@ -43,7 +44,7 @@ fn copy_of(text: &Option<String>) -> Result<Option<String>, AllocError>
     }
 }
 
-// A key with copies of these texts.
+/// A key with copies of these texts.
 fn key_with(
     alloc: Global,
     text: &str,

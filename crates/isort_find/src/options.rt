@@ -1,3 +1,5 @@
+//! Which imports are found.
+
 /// By what two imports count as one.
 #[derive(Clone, Copy, Debug, PartialEq, Eq)]
 pub enum ImportKey {

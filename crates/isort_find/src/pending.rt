@@ -1,3 +1,4 @@
+//! The bindings of the last logical line that are still to be given.
 ghost use Rattle.std.specs.Prelude.{◌≡◌, ℕ, ◌+◌, ◌^◌, ◌<◌, [], ◌∷◌, length, min, map, drop, MatchOption, vec_len};
 ghost use Rattle.std.specs.VecDeque.{deque_len};
 ghost use Rattle.py_imports.specs.Bound.{bound_of};
@@ -34,7 +35,7 @@ impl Model for Pending {
     ghost invariant = { λ p. p.taken + deque_len p.bindings < 2 ^ 64 };
 }
 
-// Takes out the first `count` bindings, or all where there are fewer.
+/// Takes out the first `count` bindings, or all where there are fewer.
 fn skip_first(bindings: &mut VecDeque<Binding>, count: usize)
     ensures items { bindings.new.items ≡ drop count bindings.old.items }
 {
@@ -75,7 +76,7 @@ impl Pending {
         }
     }
 
-    // The same as `refill`, which seldom calls it: most lines bind nothing.
+    /// The same as `refill`, which seldom calls it: most lines bind nothing.
     #[cold]
     fn replace(&mut self, bindings: Vec<Binding>, place: Place, taken: usize)
         ensures place { self.new.place ≡ place }

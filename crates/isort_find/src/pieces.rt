@@ -1,3 +1,4 @@
+//! The imports of a text that comes in pieces.
 ghost use Rattle.std.specs.Prelude.{◌≡◌, ◌↔◌, ◌+◌, ◌≤◌, ◌^◌, ◌⊎◌, ℕ, List, [], true, false, None, Ok, length, map, IsTrue, IfOk, IfErr};
 ghost use Rattle.py_imports.specs.Bound.{Bound, bound_of};
 
@@ -77,7 +78,7 @@ impl PieceFinder {
         })
     }
 
-    // Where the next logical line begins.
+    /// Where the next logical line begins.
     fn place(&self) -> Place
         ensures { IsNextPlace self.now result }
     {
@@ -87,7 +88,7 @@ impl PieceFinder {
         }
     }
 
-    // The text has this fault, from now on. The logical line that has it begins at `place`.
+    /// The text has this fault, from now on. The logical line that has it begins at `place`.
     fn fail(&mut self, place: Place, fault: Fault) -> FindError
         ensures answer { result ≡ FindError.Fault fault }
         ensures kept { self.new ≡ with_fault self.old place fault }
@@ -97,7 +98,7 @@ impl PieceFinder {
         FindError::Fault(fault)
     }
 
-    // Lets the logical line go that was read last, if it is held yet.
+    /// Lets the logical line go that was read last, if it is held yet.
     fn let_go(&mut self)
         ensures { LetsGo self.old self.new }
     {
@@ -106,7 +107,7 @@ impl PieceFinder {
         }
     }
 
-    // The bindings of the logical line at `place` are to be looked at, except those that were.
+    /// The bindings of the logical line at `place` are to be looked at, except those that were.
     #[inline(always)]
     fn look_at(&mut self, bindings: Vec<Binding>, place: Place)
         ensures { self.new ≡ with_read self.old place (map bound_of bindings.items) }
@@ -116,7 +117,7 @@ impl PieceFinder {
         self.unread = false;
     }
 
-    // Does what follows from the logical line that is ready, which begins at `place`.
+    /// Does what follows from the logical line that is ready, which begins at `place`.
     fn follow(&mut self, place: Place, step: Step) -> Result<(), FindError>
         ensures { FollowsStep self.old place step result self.new }
     {
@@ -138,7 +139,7 @@ impl PieceFinder {
         }
     }
 
-    // Whether a logical line is ready that binds nothing, as is seen at once.
+    /// Whether a logical line is ready that binds nothing, as is seen at once.
     #[inline(always)]
     fn holds_plain(&self) -> bool
         ensures { IsTrue result → HoldsPlain self.now }
@@ -149,7 +150,7 @@ impl PieceFinder {
         }
     }
 
-    // Reads the logical line that is ready, if one is. Without memory for its bindings it is left unread.
+    /// Reads the logical line that is ready, if one is. Without memory for its bindings it is left unread.
     fn read_line(&mut self) -> Result<(), FindError>
         ensures { ReadsReady self.old result self.new }
     {
@@ -162,14 +163,14 @@ impl PieceFinder {
         self.follow(place, step)
     }
 
-    // Passes over bindings whose keys were given. Without memory the next one is left as if it were new.
+    /// Passes over bindings whose keys were given. Without memory the next one is left as if it were new.
     fn look_ahead(&mut self)
         ensures { LooksAhead self.old self.new }
     {
         let _ = pass_known(self.alloc, &mut self.pending, &self.cursor);
     }
 
-    // The same as `read_line`, where a line that is left unread is no error, and what is ready then is known.
+    /// The same as `read_line`, where a line that is left unread is no error, and what is ready then is known.
     #[inline(always)]
     fn try_line(&mut self) -> Result<(), FindError>
         ensures { TriesReady self.old result self.new }
@@ -181,7 +182,7 @@ impl PieceFinder {
         self.try_words()
     }
 
-    // The same, for a logical line that may bind something. It is apart so that other lines take few steps.
+    /// The same, for a logical line that may bind something. It is apart so that other lines take few steps.
     #[cold]
     fn try_words(&mut self) -> Result<(), FindError>
         ensures { TriesReady self.old result self.new }
@@ -195,7 +196,7 @@ impl PieceFinder {
         }
     }
 
-    // Takes bytes up to the end of a logical line, and reads that line: how many.
+    /// Takes bytes up to the end of a logical line, and reads that line: how many.
     #[inline(always)]
     fn take_line(&mut self, piece: &[u8]) -> Result<usize, FindError>
         requires fits { fed_by self.old + length piece.now ≤ 2 ^ 62 }
@@ -220,8 +221,8 @@ impl PieceFinder {
         }
     }
 
-    // Takes bytes, line by line, until a binding is ready: how many. After a line that gives nothing the byte that is held
-    // of the next one is looked at too. Where memory runs out after the first byte, the next line is left unread.
+    /// Takes bytes, line by line, until a binding is ready: how many. After a line that gives nothing the byte that is held
+    /// of the next one is looked at too. Where memory runs out after the first byte, the next line is left unread.
     fn take_lines(&mut self, piece: &[u8]) -> Result<usize, FindError>
         requires fits { fed_by self.old + length piece.now ≤ 2 ^ 62 }
         requires open_yet { self.old.scanning.ended ≡ false }
@@ -247,7 +248,7 @@ impl PieceFinder {
         }
     }
 
-    // Whether nothing is ready, and there is more of the piece, or a line is held that gave nothing.
+    /// Whether nothing is ready, and there is more of the piece, or a line is held that gave nothing.
     fn goes_on(&self, more: bool) -> bool
         ensures goes { IsTrue result → GoesOn self.now more }
         ensures done { result ≡ false → has_ready self.now ≡ false → (self.now.outcome ≡ Outcome.Open → ⊥) ⊎ ((more ≡ false) × (self.now.scanning.ready ≡ None)) }
@@ -261,13 +262,14 @@ impl PieceFinder {
         }
     }
 
+    /// Whether neither the end nor a fault was met.
     fn is_open(&self) -> bool
         ensures { IsTrue result ↔ (self.now.outcome ≡ Outcome.Open) }
     {
         matches!(self.outcome, Outcome::Open)
     }
 
-    // After the top every piece is taken whole.
+    /// After the top every piece is taken whole.
     fn pass(&mut self, piece: &[u8]) -> usize
         requires { self.old.passed + length piece.now ≤ 2 ^ 62 }
         ensures all { result ≡ length piece.now }
@@ -314,8 +316,8 @@ impl PieceFinder {
         self.is_open() && (self.unread || self.pending.front().is_some())
     }
 
-    // Nothing is ready: the line read last is let go, and the cursor goes to where the next one begins. It stands there
-    // where some of that line's bindings were looked at before.
+    /// Nothing is ready: the line read last is let go, and the cursor goes to where the next one begins. It stands there
+    /// where some of that line's bindings were looked at before.
     fn rest(&mut self)
         ensures { Rests self.old self.new }
     {
@@ -328,7 +330,7 @@ impl PieceFinder {
         }
     }
 
-    // Reads the last logical line, if it was left unread.
+    /// Reads the last logical line, if it was left unread.
     fn read_unread(&mut self) -> Result<(), FindError>
         ensures { ReadsUnread self.old result self.new }
     {
@@ -338,7 +340,7 @@ impl PieceFinder {
         Ok(())
     }
 
-    // The next binding of the last logical line whose key wasn't given yet. A line that was left unread is read first.
+    /// The next binding of the last logical line whose key wasn't given yet. A line that was left unread is read first.
     fn take_ready(&mut self) -> Result<Option<Binding>, FindError>
         requires is_open { self.old.outcome ≡ Outcome.Open }
         ensures { TakesReady self.old result self.new }

@@ -1,3 +1,4 @@
+//! What the next logical line is to a finder.
 ghost use Rattle.std.specs.Prelude.{◌≡◌, [], false, IsTrue};
 ghost use Rattle.py_lines.specs.Lines.{line_in};
 ghost use Rattle.py_imports.specs.Binds.{Binds};
@@ -24,7 +25,7 @@ pub enum Step {
     NoMemory,
 }
 
-// Whether the logical line ends the top.
+/// Whether the logical line ends the top.
 fn ends_top(unit: &Unit<'_>, options: FindOptions) -> bool
     ensures { result ≡ ends_top options (line_in unit.now) }
 {

@@ -1,3 +1,4 @@
+//! Taking the next binding whose key is new.
 ghost use Rattle.isort_find.specs.Steps.Lookings.{TakesNext, PassesKnown};
 
 use crate::cursor::Cursor;

@@ -65,7 +65,7 @@ pub(crate) fn arrange(
     Ok(text)
 }
 
-// Puts blank lines after a text.
+/// Puts blank lines after a text.
 fn push_blank_lines(text: &mut String, end: LineEnd, blanks: usize) -> Result<(), SortError>
     ensures ok { OnOk result (string_bytes text.new ≡ string_bytes text.old ++ flat_map (λ (l : List ℕ). l) (replicate blanks (end_bytes end))) }
     ensures err { IfErr result (λ e. e ≡ SortError.Memory) }

@@ -9,10 +9,10 @@ use py_imports::{Action, says};
 use py_lines::Unit;
 use std::alloc::{AllocError, Global};
 
-// The space that may stand between the tokens of a line (Python Language Reference, 2.1.9).
+/// The space that may stand between the tokens of a line (Python Language Reference, 2.1.9).
 const SPACE: [char; 3] = [' ', '\t', '\x0c'];
 
-// What a comment says: its text without `#`, and without the space round that.
+/// What a comment says: its text without `#`, and without the space round that.
 fn content(comment: &str) -> &str
     ensures { result.now ≡ stripped (without_hash comment.now) }
 {

@@ -248,7 +248,7 @@ impl BlockFinder {
         Ok(self.found)
     }
 
-    // Puts the block that ends, if there is one, among those found.
+    /// Puts the block that ends, if there is one, among those found.
     fn close(
         &mut self,
         ending: Option<OpenBlock>,

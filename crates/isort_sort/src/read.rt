@@ -90,7 +90,7 @@ impl LineReader {
         Ok(())
     }
 
-    // Begins the text where this line is its first. The result is how many bytes of a byte order mark the line has.
+    /// Begins the text where this line is its first. The result is how many bytes of a byte order mark the line has.
     fn begin(&mut self, alloc: Global, unit: &Unit<'_>) -> usize
         requires counted { IsCounted (finding_value self.old.blocks) }
         ensures mark { (lines : List LogicalLine) → IsReadSoFar lines self.old → result ≡ mark_after lines (line_in unit.now) }
@@ -125,7 +125,7 @@ impl LineReader {
     }
 }
 
-// Hands a line that begins with so many bytes of a byte order mark to the finder; `off` says whether sorting is off.
+/// Hands a line that begins with so many bytes of a byte order mark to the finder; `off` says whether sorting is off.
 fn find_line(
     blocks: &mut BlockFinder,
     alloc: Global,

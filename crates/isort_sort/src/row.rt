@@ -53,13 +53,14 @@ pub(crate) fn indentation<'s>(unit: &Unit<'s>) -> &'s str
     &unit.text[start..start + unit.indent]
 }
 
+/// Whether a logical line holds comments alone.
 fn is_comment_kind(kind: UnitKind) -> bool
     ensures { result ≡ is_comment_kind kind }
 {
     matches!(kind, UnitKind::Comment)
 }
 
-// Whether the line holds comments alone, one of which says the action.
+/// Whether the line holds comments alone, one of which says the action.
 fn says_alone(unit: &Unit<'_>, action: Action) -> bool
     ensures { result ≡ says_alone action (line_in unit.now) }
 {
@@ -73,14 +74,14 @@ pub(crate) fn is_off_after(unit: &Unit<'_>, off: bool) -> bool
     says_alone(unit, Action::Off) || (off && !says_alone(unit, Action::On))
 }
 
-// Whether the line parts blocks.
+/// Whether the line parts blocks.
 fn parts_blocks(unit: &Unit<'_>) -> bool
     ensures { result ≡ parts_blocks (line_in unit.now) }
 {
     says_alone(unit, Action::Off) || says_alone(unit, Action::On) || says_alone(unit, Action::Split)
 }
 
-// What a line asks of the blank lines between a block and itself, where it is neither a member nor between members.
+/// What a line asks of the blank lines between a block and itself, where it is neither a member nor between members.
 fn blank_lines_before(unit: &Unit<'_>, shape: Shape) -> BlankLines
     ensures { before_of result ≡ before_line (line_in unit.now) shape }
 {

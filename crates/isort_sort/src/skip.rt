@@ -14,27 +14,28 @@ use crate::comment::comments_say;
 use py_imports::{Action, says};
 use py_lines::{TokKind, Token, Unit};
 
-// The place of the first token that is no comment.
+/// The place of the first token that is no comment.
 fn first_code(tokens: &[Token]) -> Option<usize>
     ensures { result ≡ position (λ t. not (is_comment t.kind)) tokens.now }
 {
     tokens.iter().position(|token| !token.kind.is_comment())
 }
 
-// Whether the line has a token that is no comment.
+/// Whether the line has a token that is no comment.
 fn has_code(unit: &Unit<'_>) -> bool
     ensures { result ≡ has_code (line_in unit.now) }
 {
     first_code(unit.tokens).is_some()
 }
 
+/// Whether a token is a string.
 fn is_string(kind: TokKind) -> bool
     ensures { result ≡ is_string kind }
 {
     matches!(kind, TokKind::Str)
 }
 
-// Whether the line's first token that is no comment is a string that says `skip_file`.
+/// Whether the line's first token that is no comment is a string that says `skip_file`.
 fn string_skips(unit: &Unit<'_>) -> bool
     ensures { result ≡ string_skips (line_in unit.now) (slice_get (significant (line_in unit.now).tokens) 0) }
 {
@@ -76,7 +77,7 @@ impl SkipReader {
         };
     }
 
-    // Whether the text asks for it by what was read, or by this line.
+    /// Whether the text asks for it by what was read, or by this line.
     fn skips_with(&self, unit: &Unit<'_>) -> bool
         ensures { result ≡ self.now.skips || list_any (says action.SkipFile) (comment_texts (line_in unit.now)) || (not self.now.begun && string_skips (line_in unit.now) (slice_get (significant (line_in unit.now).tokens) 0)) }
     {

@@ -12,7 +12,7 @@ use crate::sorted_text::sorted_text;
 use isort_settings::Settings;
 use std::alloc::Global;
 
-// The span of a block, and how many members it has.
+/// The span of a block, and how many members it has.
 fn span(block: &FoundBlock) -> Block
     ensures { result ≡ span_of (found_value block.now) }
 {

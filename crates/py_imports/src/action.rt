@@ -1,3 +1,4 @@
+//! What comments ask of isort.
 ghost use Rattle.std.specs.Prelude.{◌≡◌};
 ghost use Rattle.py_imports.specs.Action.{is_word_byte, begins_with_word_byte, begins_with_phrase, begins_with_action, says};
 
@@ -19,6 +20,7 @@ pub enum Action {
 impl Action {
     ghost use Rattle.py_imports.specs.Action.{action_word};
 
+    /// The word that asks for the action.
     fn spelling(self) -> &'static [u8]
         ensures { result.now ≡ action_word self }
     {
@@ -32,12 +34,14 @@ impl Action {
     }
 }
 
+/// Whether a byte is an ASCII letter, a digit or `_`.
 fn is_word_byte(b: u8) -> bool
     ensures { result ≡ is_word_byte b }
 {
     b.is_ascii_alphanumeric() || b == b'_'
 }
 
+/// Whether the text begins with such a byte.
 fn begins_with_word_byte(text: &[u8]) -> bool
     ensures { result ≡ begins_with_word_byte text.now }
 {
@@ -47,7 +51,7 @@ fn begins_with_word_byte(text: &[u8]) -> bool
     }
 }
 
-// Whether the text begins with the phrase, and no byte of a word follows.
+/// Whether the text begins with the phrase, and no byte of a word follows.
 fn begins_with_phrase(text: &[u8], phrase: &[u8]) -> bool
     ensures { result ≡ begins_with_phrase phrase.now text.now }
 {
@@ -57,7 +61,7 @@ fn begins_with_phrase(text: &[u8], phrase: &[u8]) -> bool
     }
 }
 
-// Whether the text begins with `isort:`, at most one space, and the action.
+/// Whether the text begins with `isort:`, at most one space, and the action.
 fn begins_with_action(text: &[u8], action: Action) -> bool
     ensures { result ≡ begins_with_action action text.now }
 {

@@ -1,3 +1,4 @@
+//! One name that an import statement binds.
 ghost use Rattle.std.specs.Prelude.{◌≡◌, IfOk, IfErr, string_bytes};
 ghost use Rattle.std.specs.Option.{option_map};
 
@@ -19,7 +20,7 @@ pub struct Binding {
     pub alias_name: Option<String>,
 }
 
-// A copy of the text, if there is one.
+/// A copy of the text, if there is one.
 fn copy_of(text: &Option<String>) -> Result<Option<String>, AllocError>
     ensures { IfOk result (λ copy. option_map string_bytes copy ≡ option_map string_bytes text.now) }
 {

@@ -1,3 +1,4 @@
+//! What the import statements of a logical line bind.
 ghost use Rattle.std.specs.Prelude.{◌≡◌, ◌<◌, ◌+◌, Some, false, [], ◌∷◌, length, map, slice_get, codes, IfOk, OnOk, IfErr, string_bytes};
 ghost use Rattle.std.specs.List.{list_any};
 ghost use Rattle.std.specs.Str.{bytes_eq};
@@ -19,14 +20,14 @@ use crate::statement::{depth_past, divides, statement_end};
 use py_lines::{Fault, FaultKind, Unit};
 use std::alloc::{AllocError, Global};
 
-// What the bindings of one statement have in common.
+/// What the bindings of one statement have in common.
 #[derive(Clone, Copy)]
 struct Head {
     line: u64,
     indented: bool,
 }
 
-// The text in memory of its own, if there is one.
+/// The text in memory of its own, if there is one.
 fn owned(alloc: Global, text: Option<&str>) -> Result<Option<String>, AllocError>
     ensures { IfOk result (λ copy. option_map string_bytes copy ≡ option_map (λ t. t.now) text.entry) }
 {
@@ -36,7 +37,7 @@ fn owned(alloc: Global, text: Option<&str>) -> Result<Option<String>, AllocError
     }
 }
 
-// The binding of an item.
+/// The binding of an item.
 fn binding_of(alloc: Global, head: Head, item: ImportItem<'_>) -> Result<Binding, AllocError>
     ensures { IfOk result (λ b. bound_of b ≡ bound_at head.line head.indented (imported_of item.entry)) }
 {
@@ -51,7 +52,7 @@ fn binding_of(alloc: Global, head: Head, item: ImportItem<'_>) -> Result<Binding
     })
 }
 
-// Puts the bindings of a statement's items after `bindings`; or answers the fault, where it isn't in the grammar.
+/// Puts the bindings of a statement's items after `bindings`; or answers the fault, where it isn't in the grammar.
 fn bind_items(
     alloc: Global,
     mut items: ImportItems<'_>,
@@ -71,7 +72,7 @@ fn bind_items(
     }
 }
 
-// The fault of a bad statement that starts at `place`.
+/// The fault of a bad statement that starts at `place`.
 fn fault_at(unit: &Unit<'_>, place: usize) -> Fault
     requires { place < length unit.now.tokens.now }
     ensures { (t : Token) → slice_get unit.now.tokens.now place ≡ Some t → result ≡ record { kind = BadImport; offset = unit.now.offset + t.start; line = t.line } }
@@ -84,7 +85,7 @@ fn fault_at(unit: &Unit<'_>, place: usize) -> Fault
     }
 }
 
-// Puts what the statement that starts at `place` binds after `bindings`.
+/// Puts what the statement that starts at `place` binds after `bindings`.
 fn bind_statement(
     alloc: Global,
     unit: &Unit<'_>,
@@ -108,12 +109,12 @@ fn bind_statement(
     bind_items(alloc, items, head, fault_at(unit, place), bindings)
 }
 
-// The length and the first byte of `import` and `from`, as one number. One comparison of it rules out most words.
+/// The length and the first byte of `import` and `from`, as one number. One comparison of it rules out most words.
 const IMPORT: usize = 6 << 8 | b'i' as usize;
 
 const FROM: usize = 4 << 8 | b'f' as usize;
 
-// Whether the length of a word and its first byte are those of `import` or `from`. Few other words have them.
+/// Whether the length of a word and its first byte are those of `import` or `from`. Few other words have them.
 #[inline(always)]
 fn may_be_first_word(word: &str) -> bool
     ensures import { result ≡ false → bytes_eq word.now (codes "import") ≡ false }
@@ -128,7 +129,7 @@ fn may_be_first_word(word: &str) -> bool
     }
 }
 
-// Whether the token at `place` is spelled as the first word of an import statement.
+/// Whether the token at `place` is spelled as the first word of an import statement.
 fn is_first_word(unit: &Unit<'_>, place: usize) -> bool
     requires { place < length unit.now.tokens.now }
     ensures { (t : Token) → slice_get unit.now.tokens.now place ≡ Some t → result ≡ is_first_word unit.now.text.now t }
@@ -151,7 +152,7 @@ pub fn has_first_word(unit: &Unit<'_>) -> bool
     false
 }
 
-// What all import statements of a logical line bind, statement after statement. Few lines need it.
+/// What all import statements of a logical line bind, statement after statement. Few lines need it.
 #[cold]
 fn bind_statements(alloc: Global, unit: &Unit<'_>) -> Result<Vec<Binding>, ImportError>
     ensures ok { IfOk result (λ bindings. Binds (line_in unit.now) (map bound_of bindings.items)) }

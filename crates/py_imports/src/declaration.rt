@@ -1,10 +1,11 @@
+//! Whether a logical line declares a function or class.
 ghost use Rattle.std.specs.Prelude.{◌≡◌, slice_get};
 ghost use Rattle.py_lines.specs.Lines.{line_in};
 ghost use Rattle.py_imports.specs.Declaration.{is_word, is_at, begins_declaration, is_declaration};
 
 use py_lines::{TokKind, Unit, UnitKind};
 
-// Whether the token at place `i`, if there is one, is this word.
+/// Whether the token at place `i`, if there is one, is this word.
 fn is_word(unit: &Unit<'_>, i: usize, word: &str) -> bool
     ensures { result ≡ is_word unit.now.text.now word.now (slice_get unit.now.tokens.now i) }
 {
@@ -14,7 +15,7 @@ fn is_word(unit: &Unit<'_>, i: usize, word: &str) -> bool
     }
 }
 
-// Whether the first token is `@`.
+/// Whether the first token is `@`.
 fn begins_with_at_sign(unit: &Unit<'_>) -> bool
     ensures { result ≡ is_at (slice_get unit.now.tokens.now 0) }
 {
@@ -24,7 +25,7 @@ fn begins_with_at_sign(unit: &Unit<'_>) -> bool
     }
 }
 
-// Whether the tokens begin with `def`, `class`, `@` or `async def`.
+/// Whether the tokens begin with `def`, `class`, `@` or `async def`.
 fn begins_declaration(unit: &Unit<'_>) -> bool
     ensures { result ≡ begins_declaration unit.now.text.now unit.now.tokens.now }
 {

@@ -1,3 +1,4 @@
+//! Why a logical line gives no bindings.
 ghost use Rattle.std.specs.Prelude.{◌≡◌};
 ghost use Rattle.py_imports.specs.declared.error.ImportError.TheVariants.{Memory};
 

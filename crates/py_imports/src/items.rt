@@ -1,3 +1,4 @@
+//! The items of an import statement, one after another.
 ghost use Rattle.std.specs.Prelude.{◌≡◌, ◌≢◌, ◌≤◌, ◌-◌, ◌++◌, List, [], ◌∷◌, false, None, length, map, take, drop, codes, string_bytes, OnOk, IfSome, MatchOption};
 ghost use Rattle.py_imports.specs.Statement.{significant};
 ghost use Rattle.py_imports.specs.Binds.{terminal_in};
@@ -10,14 +11,14 @@ use crate::lexemes::Lexemes;
 use py_lines::{TokKind, Unit};
 use std::alloc::AllocError;
 
-// Which import statement it is, by its first word.
+/// Which import statement it is, by its first word.
 #[derive(Clone, Copy)]
 pub(crate) enum Form {
     Import,
     From,
 }
 
-// The import statement that a token begins, if it does.
+/// The import statement that a token begins, if it does.
 pub(crate) fn form_of(kind: TokKind, word: &str) -> Option<Form>
     ensures form { MatchOption result ((ts : List Terminal) → begins_import (terminal_of kind word.now ∷ ts) ≡ false) (λ form. (ts : List Terminal) → terminal_of kind word.now ∷ ts ≡ with_first_word form ts) }
     ensures name { IfSome result (λ form. kind ≡ TokKind.Name) }
@@ -29,7 +30,7 @@ pub(crate) fn form_of(kind: TokKind, word: &str) -> Option<Form>
     }
 }
 
-// A module of an import statement: its names and dots, with what stands between them.
+/// A module of an import statement: its names and dots, with what stands between them.
 #[derive(Clone, Copy)]
 pub(crate) struct ModulePath<'u> {
     names: Lexemes<'u>,
@@ -38,7 +39,7 @@ pub(crate) struct ModulePath<'u> {
 impl ModulePath<'_> {
     ghost use Rattle.py_imports.specs.Reading.Items.{path_of};
 
-    // Puts its names and dots after `text`, without what stands between them.
+    /// Puts its names and dots after `text`, without what stands between them.
     pub(crate) fn push_onto(self, text: &mut String) -> Result<(), AllocError>
         ensures { OnOk result (string_bytes text.new ≡ string_bytes text.old ++ path_of self.entry) }
     {
@@ -54,7 +55,7 @@ impl ModulePath<'_> {
     }
 }
 
-// What one item of an import statement imports, lent out of its logical line.
+/// What one item of an import statement imports, lent out of its logical line.
 #[derive(Clone, Copy)]
 pub(crate) struct ImportItem<'u> {
     pub(crate) module: ModulePath<'u>,
@@ -64,7 +65,7 @@ pub(crate) struct ImportItem<'u> {
     pub(crate) alias: Option<&'u str>,
 }
 
-// What has to follow in an import statement.
+/// What has to follow in an import statement.
 #[derive(Clone, Copy)]
 enum Stage<'u> {
     // MODULE [as NAME] {, MODULE [as NAME]}
@@ -79,7 +80,7 @@ enum Stage<'u> {
     End,
 }
 
-// The stage of a statement's end, where nothing is left.
+/// The stage of a statement's end, where nothing is left.
 fn end_at<'u>(tokens: Lexemes<'u>) -> Option<Stage<'u>>
     ensures { MatchOption result (rest_of tokens.entry ≢ []) (λ stage. (stage ≡ Stage.End) × (rest_of tokens.entry ≡ [])) }
 {
@@ -90,11 +91,11 @@ fn end_at<'u>(tokens: Lexemes<'u>) -> Option<Stage<'u>>
     }
 }
 
-// The statement isn't in the import grammar.
+/// The statement isn't in the import grammar.
 #[derive(Clone, Copy, Debug)]
 pub(crate) struct BadStatement;
 
-// The items of an import statement, which are read from left to right. Reading them takes no memory.
+/// The items of an import statement, which are read from left to right. Reading them takes no memory.
 #[derive(Clone, Copy)]
 pub(crate) struct ImportItems<'u> {
     stage: Stage<'u>,
@@ -104,8 +105,8 @@ pub(crate) struct ImportItems<'u> {
 impl<'u> ImportItems<'u> {
     ghost use Rattle.py_imports.specs.Reading.Items.{path_of, imported_of, ListsOf, AreLeft, most_left, AreSameLists, IsFirst, IsNext, GetFewer, FollowsItem, FollowsBracketed, TellsWhether};
 
-    // The items of the statement whose first word stands directly before the token at `place`, and which ends before
-    // the token at `end`.
+    /// The items of the statement whose first word stands directly before the token at `place`, and which ends before
+    /// the token at `end`.
     pub(crate) fn new(unit: &'u Unit<'u>, form: Form, place: usize, end: usize) -> ImportItems<'u>
         requires ordered { place ≤ end }
         requires within { end ≤ length unit.now.tokens.now }
@@ -124,7 +125,7 @@ impl<'u> ImportItems<'u> {
         }
     }
 
-    // Whether the statement is in the import grammar.
+    /// Whether the statement is in the import grammar.
     pub(crate) fn is_in_grammar(mut self) -> bool
         ensures { TellsWhether result (AreLeft self.entry) }
     {
@@ -137,7 +138,7 @@ impl<'u> ImportItems<'u> {
         }
     }
 
-    // The next item; none where all were read; a refusal where the statement isn't in the grammar.
+    /// The next item; none where all were read; a refusal where the statement isn't in the grammar.
     pub(crate) fn next(&mut self) -> Result<Option<ImportItem<'u>>, BadStatement>
         ensures item { IsNext (AreLeft self.old) result (AreLeft self.new) }
         ensures fewer { GetFewer result (most_left self.old) (most_left self.new) }
@@ -155,7 +156,7 @@ impl<'u> ImportItems<'u> {
         }
     }
 
-    // MODULE [as NAME], and the comma after it, if there is one
+    /// MODULE [as NAME], and the comma after it, if there is one
     fn module_item(&mut self) -> Option<ImportItem<'u>>
         ensures item { IsFirst (ListsOf whole_module (AreItems modules (rest_of self.old.tokens))) result (AreLeft self.new) }
         ensures fewer { IfSome result (λ _. most_left self.new ≤ length (rest_of self.old.tokens)) }
@@ -170,7 +171,7 @@ impl<'u> ImportItems<'u> {
         })
     }
 
-    // RELATIVE_MODULE `import`, and the first item after them
+    /// RELATIVE_MODULE `import`, and the first item after them
     fn from_item(&mut self) -> Option<ImportItem<'u>>
         ensures item { IsFirst (IsImport (from_word ∷ rest_of self.old.tokens)) result (AreLeft self.new) }
         ensures fewer { IfSome result (λ _. most_left self.new ≤ length (rest_of self.old.tokens)) }
@@ -179,7 +180,7 @@ impl<'u> ImportItems<'u> {
         self.first_item(ModulePath { names })
     }
 
-    // `*` alone, NAME [as NAME], or the same in brackets
+    /// `*` alone, NAME [as NAME], or the same in brackets
     fn first_item(&mut self, from: ModulePath<'u>) -> Option<ImportItem<'u>>
         ensures item { IsFirst (ListsOf (attribute_of (path_of from.entry)) (AreNames (rest_of self.old.tokens))) result (AreLeft self.new) }
         ensures fewer { IfSome result (λ _. most_left self.new ≤ length (rest_of self.old.tokens)) }
@@ -195,7 +196,7 @@ impl<'u> ImportItems<'u> {
         }
     }
 
-    // `*`, where nothing comes after it
+    /// `*`, where nothing comes after it
     fn star_item(&mut self, from: ModulePath<'u>, after: Lexemes<'u>) -> Option<ImportItem<'u>>
         ensures item { MatchOption result (rest_of after.entry ≢ []) (λ i. (rest_of after.entry ≡ []) × (imported_of i ≡ attribute_of (path_of from.entry) (record { path = codes "*"; alias = None })) × (self.new.stage ≡ Stage.End)) }
     {
@@ -210,7 +211,7 @@ impl<'u> ImportItems<'u> {
         })
     }
 
-    // NAME [as NAME], and the comma after it, if there is one
+    /// NAME [as NAME], and the comma after it, if there is one
     fn name_item(&mut self, from: ModulePath<'u>) -> Option<ImportItem<'u>>
         ensures item { IsFirst (ListsOf (attribute_of (path_of from.entry)) (AreItems identifiers (rest_of self.old.tokens))) result (AreLeft self.new) }
         ensures fewer { IfSome result (λ _. most_left self.new ≤ length (rest_of self.old.tokens)) }
@@ -224,7 +225,7 @@ impl<'u> ImportItems<'u> {
         })
     }
 
-    // NAME [as NAME] in brackets, and the comma or the closing bracket after it
+    /// NAME [as NAME] in brackets, and the comma or the closing bracket after it
     fn bracketed_item(&mut self, from: ModulePath<'u>) -> Option<ImportItem<'u>>
         ensures item { IsFirst (ListsOf (attribute_of (path_of from.entry)) (AreBracketed (rest_of self.old.tokens))) result (AreLeft self.new) }
         ensures fewer { IfSome result (λ _. most_left self.new ≤ length (rest_of self.old.tokens)) }
@@ -238,7 +239,7 @@ impl<'u> ImportItems<'u> {
         })
     }
 
-    // What has to come after an item without brackets: after a comma more at this stage.
+    /// What has to come after an item without brackets: after a comma more at this stage.
     fn after_item(&mut self, stage: Stage<'u>) -> Option<Stage<'u>>
         ensures { FollowsItem stage.entry (rest_of self.old.tokens) result (rest_of self.new.tokens) }
     {
@@ -249,7 +250,7 @@ impl<'u> ImportItems<'u> {
         }
     }
 
-    // What has to come after an item in brackets: after a comma more, or nothing after the closing bracket.
+    /// What has to come after an item in brackets: after a comma more, or nothing after the closing bracket.
     fn after_bracketed(&mut self, from: ModulePath<'u>) -> Option<Stage<'u>>
         ensures { FollowsBracketed from.entry (rest_of self.old.tokens) result (rest_of self.new.tokens) }
     {

@@ -1,9 +1,10 @@
+//! Tokens as the import grammar sees them.
 ghost use Rattle.std.specs.Prelude.{◌≡◌, List, ◌∷◌};
 ghost use Rattle.py_imports.specs.Grammar.{Terminal, terminal_of, terminal_of_word, terminal_of_operator, is_keyword};
 
 use py_lines::TokKind;
 
-// The keywords (Python Language Reference, 2.3.1), by their length in bytes.
+/// The keywords (Python Language Reference, 2.3.1), by their length in bytes.
 const KEYWORDS_OF_TWO: [&str; 5] = ["as", "if", "in", "is", "or"];
 
 const KEYWORDS_OF_THREE: [&str; 6] = ["and", "def", "del", "for", "not", "try"];
@@ -20,7 +21,7 @@ const KEYWORDS_OF_SEVEN: [&str; 1] = ["finally"];
 
 const KEYWORDS_OF_EIGHT: [&str; 2] = ["continue", "nonlocal"];
 
-// A word is compared with the keywords of its own length alone, since most words are names.
+/// A word is compared with the keywords of its own length alone, since most words are names.
 fn is_keyword(word: &str) -> bool
     ensures { result ≡ is_keyword word.now }
 {
@@ -36,7 +37,7 @@ fn is_keyword(word: &str) -> bool
     }
 }
 
-// A token of an import statement, as the import grammar sees it.
+/// A token of an import statement, as the import grammar sees it.
 #[derive(Clone, Copy)]
 pub(crate) enum Lexeme<'s> {
     Import,
@@ -55,7 +56,7 @@ pub(crate) enum Lexeme<'s> {
 impl<'s> Lexeme<'s> {
     ghost use Rattle.py_imports.specs.Reading.Lexemes.{followed_by};
 
-    // The lexeme of a token with this text.
+    /// The lexeme of a token with this text.
     pub(crate) fn of_token(kind: TokKind, word: &'s str) -> Lexeme<'s>
         ensures { (ts : List Terminal) → followed_by result ts ≡ terminal_of kind word.now ∷ ts }
     {
@@ -66,6 +67,7 @@ impl<'s> Lexeme<'s> {
         }
     }
 
+    /// What a name or keyword is to the grammar.
     fn of_word(word: &'s str) -> Lexeme<'s>
         ensures { (ts : List Terminal) → followed_by result ts ≡ terminal_of_word word.now ∷ ts }
     {
@@ -82,6 +84,7 @@ impl<'s> Lexeme<'s> {
         }
     }
 
+    /// What an operator is to the grammar.
     fn of_operator(c: u8) -> Lexeme<'s>
         ensures { (ts : List Terminal) → followed_by result ts ≡ terminal_of_operator c ∷ ts }
     {

@@ -1,3 +1,4 @@
+//! The tokens of an import statement, read from left to right.
 ghost use Rattle.std.specs.Prelude.{◌≡◌, ◌≢◌, ◌≤◌, ◌-◌, ◌++◌, ℕ, [], false, None, Some, length, map, take, drop, MatchBool, MatchOption, List};
 ghost use Rattle.std.specs.Option.{option_map};
 ghost use Rattle.py_imports.specs.Statement.{significant};
@@ -8,7 +9,7 @@ ghost use Rattle.py_imports.specs.Grammar.{identifiers};
 use crate::lexeme::Lexeme;
 use py_lines::Unit;
 
-// The lexemes of some tokens of a logical line, which are read from left to right.
+/// The lexemes of some tokens of a logical line, which are read from left to right.
 #[derive(Clone, Copy)]
 pub(crate) struct Lexemes<'u> {
     unit: &'u Unit<'u>,
@@ -21,7 +22,7 @@ pub(crate) struct Lexemes<'u> {
 impl<'u> Lexemes<'u> {
     ghost use Rattle.py_imports.specs.Reading.Lexemes.{followed_by, rest_of, Follows, names_text, begins_import_word, PassesDots};
 
-    // The tokens from `place` up to `end`, of which none was read.
+    /// The tokens from `place` up to `end`, of which none was read.
     pub(crate) fn new(unit: &'u Unit<'u>, place: usize, end: usize) -> Lexemes<'u>
         requires ordered { place ≤ end }
         requires within { end ≤ length unit.now.tokens.now }
@@ -30,7 +31,7 @@ impl<'u> Lexemes<'u> {
         Lexemes { unit, place, end }
     }
 
-    // The next token that is no comment.
+    /// The next token that is no comment.
     pub(crate) fn next(&mut self) -> Lexeme<'u>
         ensures lexeme { rest_of self.old ≡ followed_by result (rest_of self.new) }
         ensures further { Follows self.old self.new }
@@ -46,21 +47,21 @@ impl<'u> Lexemes<'u> {
         Lexeme::End
     }
 
-    // Whether the word `import` is next.
+    /// Whether the word `import` is next.
     fn is_at_import(mut self) -> bool
         ensures { result ≡ begins_import_word (rest_of self.entry) }
     {
         matches!(self.next(), Lexeme::Import)
     }
 
-    // Whether nothing is left.
+    /// Whether nothing is left.
     pub(crate) fn is_at_end(mut self) -> bool
         ensures { MatchBool result (rest_of self.entry ≡ []) (rest_of self.entry ≢ []) }
     {
         matches!(self.next(), Lexeme::End)
     }
 
-    // What was read since `start`.
+    /// What was read since `start`.
     fn since(self, start: Lexemes<'u>) -> Lexemes<'u>
         requires { Follows start self }
         ensures { rest_of start.entry ≡ rest_of result ++ rest_of self.entry }
@@ -72,7 +73,7 @@ impl<'u> Lexemes<'u> {
         }
     }
 
-    // Reads a module, and answers its names and dots.
+    /// Reads a module, and answers its names and dots.
     pub(crate) fn module(&mut self) -> Option<Lexemes<'u>>
         ensures path { MatchOption result (at_module (rest_of self.old) ≡ None) (λ path. at_module (rest_of self.old) ≡ Some (record { spelled = names_text path; rest = rest_of self.new })) }
         ensures further { Follows self.old self.new }
@@ -90,7 +91,7 @@ impl<'u> Lexemes<'u> {
         }
     }
 
-    // Passes the dots that a relative module begins with: whether there are any.
+    /// Passes the dots that a relative module begins with: whether there are any.
     fn pass_dots(&mut self) -> bool
         ensures dots { PassesDots (rest_of self.old) result (rest_of self.new) }
         ensures further { Follows self.old self.new }
@@ -104,7 +105,7 @@ impl<'u> Lexemes<'u> {
         dotted
     }
 
-    // Reads a relative module and the word `import` after it, and answers the module's names and dots.
+    /// Reads a relative module and the word `import` after it, and answers the module's names and dots.
     pub(crate) fn relative_module(&mut self) -> Option<Lexemes<'u>>
         ensures { MatchOption result (at_relative false (rest_of self.old) ≡ None) (λ path. at_relative false (rest_of self.old) ≡ Some (record { spelled = names_text path; rest = rest_of self.new })) }
     {
@@ -120,7 +121,7 @@ impl<'u> Lexemes<'u> {
         }
     }
 
-    // Reads the name after `as`, if that is what follows. There is no answer where no name comes after it.
+    /// Reads the name after `as`, if that is what follows. There is no answer where no name comes after it.
     pub(crate) fn alias(&mut self) -> Option<Option<&'u str>>
         ensures { MatchOption result ((path : List ℕ) → alias_behind path (rest_of self.old) ≡ None) (λ alias. (path : List ℕ) → alias_behind path (rest_of self.old) ≡ Some (record { item = record { path = path; alias = option_map (λ a. a.now) alias }; rest = rest_of self.new })) }
     {
@@ -135,7 +136,7 @@ impl<'u> Lexemes<'u> {
         Some(Some(name))
     }
 
-    // Reads NAME [as NAME].
+    /// Reads NAME [as NAME].
     pub(crate) fn name_with_alias(&mut self) -> Option<(&'u str, Option<&'u str>)>
         ensures { MatchOption result (at_item identifiers (rest_of self.old) ≡ None) (λ r. at_item identifiers (rest_of self.old) ≡ Some (record { item = record { path = r.0.now; alias = option_map (λ a. a.now) r.1 }; rest = rest_of self.new })) }
     {

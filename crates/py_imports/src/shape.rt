@@ -1,3 +1,4 @@
+//! Whether a logical line can be sorted.
 ghost use Rattle.std.specs.Prelude.{◌≡◌, ◌<◌, ◌+◌, ◌==◌, ◌||◌, not, false, Some, [], MatchBool, MatchOption, length, position, slice_get};
 ghost use Rattle.std.specs.List.{list_any, list_all};
 ghost use Rattle.py_lines.specs.Lines.{line_in};
@@ -22,14 +23,14 @@ pub enum Shape {
     Other,
 }
 
-// The place of the first token that is no comment.
+/// The place of the first token that is no comment.
 fn first_code(tokens: &[Token]) -> Option<usize>
     ensures { result ≡ position (λ t. not (is_comment t.kind)) tokens.now }
 {
     tokens.iter().position(|token| !token.kind.is_comment())
 }
 
-// The place and the first word of the import statement that code begins with, if it does.
+/// The place and the first word of the import statement that code begins with, if it does.
 #[tactic(auto, using(crate::proofs::ShapeLemmas::no_code))]
 fn begun_at(unit: &Unit<'_>) -> Option<(usize, Form)>
     ensures { MatchOption result (begins_so (line_in unit.now) ≡ false) (λ r. BeginsAt (line_in unit.now) r.0 r.1) }
@@ -42,7 +43,7 @@ fn begun_at(unit: &Unit<'_>) -> Option<(usize, Form)>
     Some((place, form))
 }
 
-// The bytes of the byte order mark that the line begins with.
+/// The bytes of the byte order mark that the line begins with.
 fn mark_len(unit: &Unit<'_>) -> usize
     ensures { result ≡ mark_len (line_in unit.now) }
 {
@@ -53,21 +54,21 @@ fn mark_len(unit: &Unit<'_>) -> usize
     }
 }
 
-// Whether a `;` stands outside brackets.
+/// Whether a `;` stands outside brackets.
 fn is_divided(tokens: &[Token]) -> bool
     ensures { result ≡ list_any is_end (places_from [] (significant tokens.now)) }
 {
     statement_end(tokens, 0) < tokens.len()
 }
 
-// Whether a token of this kind stands well, if it is a comment: last, or directly after `(`.
+/// Whether a token of this kind stands well, if it is a comment: last, or directly after `(`.
 fn stands_well(kind: TokKind, is_last: bool, after_opening: bool) -> bool
     ensures { result ≡ not (is_comment kind) || is_last || after_opening }
 {
     !kind.is_comment() || is_last || after_opening
 }
 
-// Whether each comment is the last token, or stands directly after `(`.
+/// Whether each comment is the last token, or stands directly after `(`.
 fn comments_stand_well(tokens: &[Token]) -> bool
     ensures { result ≡ list_all stands_well (places_from [] tokens.now) }
 {
@@ -81,7 +82,7 @@ fn comments_stand_well(tokens: &[Token]) -> bool
     true
 }
 
-// Whether the token at `place` is a comment that says `skip`.
+/// Whether the token at `place` is a comment that says `skip`.
 fn is_skip(unit: &Unit<'_>, place: usize) -> bool
     requires { place < length unit.now.tokens.now }
     ensures { (t : Token) → slice_get unit.now.tokens.now place ≡ Some t → result ≡ says_skip unit.now.text.now t }
@@ -89,7 +90,7 @@ fn is_skip(unit: &Unit<'_>, place: usize) -> bool
     unit.tokens[place].kind.is_comment() && says(unit.word(place), Action::Skip)
 }
 
-// Whether a comment says `skip`. It goes by places, since a unit gives the text of the token at a place.
+/// Whether a comment says `skip`. It goes by places, since a unit gives the text of the token at a place.
 fn says_skip(unit: &Unit<'_>) -> bool
     ensures { result ≡ list_any (says_skip unit.now.text.now) unit.now.tokens.now }
 {
@@ -101,7 +102,7 @@ fn says_skip(unit: &Unit<'_>) -> bool
     false
 }
 
-// Whether the token at `place` stands directly after mark and indentation.
+/// Whether the token at `place` stands directly after mark and indentation.
 fn stands_first(unit: &Unit<'_>, place: usize) -> bool
     requires { place < length unit.now.tokens.now }
     ensures { (t : Token) → slice_get unit.now.tokens.now place ≡ Some t → result ≡ (t.start == mark_len (line_in unit.now) + unit.now.indent) }
@@ -111,7 +112,7 @@ fn stands_first(unit: &Unit<'_>, place: usize) -> bool
     mark <= start && start - mark == unit.indent
 }
 
-// Whether the line can be sorted whose import statement begins at `place`.
+/// Whether the line can be sorted whose import statement begins at `place`.
 fn is_sortable(unit: &Unit<'_>, place: usize, form: Form) -> bool
     requires { BeginsAt (line_in unit.now) place form }
     ensures { MatchBool result (IsSortable (line_in unit.now)) (¬ (IsSortable (line_in unit.now))) }

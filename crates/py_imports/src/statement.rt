@@ -1,4 +1,4 @@
-// Where the statements of a logical line start and end.
+//! Where the statements of a logical line start and end.
 
 ghost use Rattle.std.specs.Prelude.{◌≡◌, ◌==◌, ◌&&◌, ◌≤◌, ◌<◌, ◌+◌, ◌-◌, ◌^◌, Some, true, length, take, drop, slice_get};
 ghost use Rattle.py_lines.specs.declared.token.Token.{Token};
@@ -7,21 +7,21 @@ ghost use Rattle.py_imports.specs.Reading.Parsing.{up_to_semicolon};
 
 use py_lines::{TokKind, Token};
 
-// Whether a token at this depth ends the statement before it.
+/// Whether a token at this depth ends the statement before it.
 fn ends_statement(depth: usize, kind: TokKind) -> bool
     ensures { result ≡ is_semicolon kind && (depth == 0) }
 {
     kind.is_operator(b';') && depth == 0
 }
 
-// Whether a statement may start after a token at this depth.
+/// Whether a statement may start after a token at this depth.
 pub(crate) fn divides(depth: usize, kind: TokKind) -> bool
     ensures { result ≡ is_divider kind && (depth == 0) }
 {
     (kind.is_operator(b';') || kind.is_operator(b':')) && depth == 0
 }
 
-// How many brackets are open after a token.
+/// How many brackets are open after a token.
 pub(crate) fn depth_past(depth: usize, kind: TokKind) -> usize
     requires { depth + 1 < 2 ^ 64 }
     ensures { result ≡ depth_past depth kind }
@@ -35,7 +35,7 @@ pub(crate) fn depth_past(depth: usize, kind: TokKind) -> usize
     }
 }
 
-// Where the statement that starts at `start` ends: at the next `;` outside brackets, or after all tokens.
+/// Where the statement that starts at `start` ends: at the next `;` outside brackets, or after all tokens.
 pub(crate) fn statement_end(tokens: &[Token], start: usize) -> usize
     requires { start ≤ length tokens.now }
     ensures from { start ≤ result }

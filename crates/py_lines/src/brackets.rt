@@ -40,6 +40,7 @@ impl Brackets {
     ghost use Rattle.py_lines.specs.Private.Run.{may_stand};
     ghost use Rattle.py_lines.specs.Private.Scan.{stack_of, none_open, IsInnermost, Meets};
 
+    /// No bracket is open.
     pub fn new(alloc: Global) -> Brackets
         ensures { stack_of result ≡ [] }
     {
@@ -55,12 +56,14 @@ impl Brackets {
         self.open.clear();
     }
 
+    /// Whether no bracket is open.
     pub fn is_empty(&self) -> bool
         ensures { result ≡ none_open (stack_of self.now) }
     {
         self.open.is_empty()
     }
 
+    /// The bracket that was opened last and is still open.
     #[tactic(auto, using(crate::proofs::LineScan::BracketStack::last_in))]
     pub fn innermost(&self) -> Option<OpenBracket>
         ensures { IsInnermost result (stack_of self.now) }

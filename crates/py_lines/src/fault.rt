@@ -1,3 +1,4 @@
+//! What is wrong with a text, and where.
 ghost use Rattle.std.specs.Prelude.{◌≡◌};
 ghost use Rattle.py_lines.specs.declared.fault.LexError.TheVariants.{Memory};
 ghost use Rattle.py_lines.specs.FaultWords.{fault_words};

@@ -92,6 +92,7 @@ impl Feed {
     ghost use Rattle.py_lines.specs.Private.Source.{first_mode};
     ghost use Rattle.py_lines.specs.Private.Feed.{Restarts, IsOpen, FailsAt, ClosesLine, ScansCharacters, ScansHeld, StopsHeld, whole_end, GivesBack, TakesChunk, HasScannedNext, IsHeldSo, IsScanned, IsReady, IsSoundFeed, FeedsSo, EndsHeld, EndsText, LetsGo};
 
+    /// A text's start, of which nothing was fed.
     pub fn new(alloc: Global) -> Feed
         ensures start { scanning_of result ≡ begun_at 0 1 }
         ensures opens { IsOpen result [] [] }

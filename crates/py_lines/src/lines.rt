@@ -1,3 +1,4 @@
+//! The logical lines of a whole text, one after another.
 ghost use Rattle.std.specs.Prelude.{◌≡◌, ℕ, List, [], IfOk, IfErr};
 ghost use Rattle.std.specs.Borrow.{sem};
 ghost use Rattle.py_lines.specs.LogicalLine.{LogicalLine};

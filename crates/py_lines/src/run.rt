@@ -55,6 +55,7 @@ pub enum FirstByte {
 }
 
 impl FirstByte {
+    /// What a byte begins.
     #[inline(always)]
     pub fn of(b: u8) -> FirstByte
         ensures { BeginsSo result b }

@@ -1,3 +1,4 @@
+//! The logical lines of a text that comes in pieces.
 ghost use Rattle.std.specs.Prelude.{◌≡◌, ℕ, ◌+◌, ◌<◌, ◌≤◌, ◌^◌, false, None, Some, IsSome, List, [], length, IfOk, IfErr};
 ghost use Rattle.py_lines.specs.LogicalLine.{LogicalLine};
 ghost use Rattle.py_lines.specs.Given.{AreFirstLines};

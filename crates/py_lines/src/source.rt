@@ -44,6 +44,7 @@ impl<'t> Source<'t> {
     ghost use Rattle.py_lines.specs.Token.{EachLiesIn};
     ghost use Rattle.py_lines.specs.UnitLine.{line_in};
 
+    /// The text's start.
     pub fn new(alloc: Global, bytes: &'t [u8]) -> Source<'t>
         ensures { reader_of result ≡ at_start bytes.now }
     {

@@ -1,3 +1,4 @@
+//! Tokens, and of what kind each is.
 ghost use Rattle.std.specs.Prelude.{◌≡◌, ◌==◌};
 ghost use Rattle.py_lines.specs.Token.{is_comment, is_operator_where, opens_bracket, closes_bracket};
 

@@ -1,3 +1,4 @@
+//! Logical lines.
 ghost use Rattle.std.specs.Prelude.{◌≡◌, ℕ, ◌+◌, ◌^◌, ◌<◌, Some, length, slice_get, slice_range};
 ghost use Rattle.py_lines.specs.Token.{EachLiesIn};
 ghost use Rattle.py_lines.specs.declared.token.Token.{Token};
