@@ -6,6 +6,7 @@
 #![tactic(auto)]
 
 mod messages;
+mod rewrite;
 mod settings;
 mod task;
 

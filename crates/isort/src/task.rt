@@ -1,11 +1,12 @@
 //! What is done with each file.
 use crate::MOST_BYTES;
 use crate::messages::told_as;
+use crate::rewrite::rewrite;
 use crate::settings::{Refusal, Wishes, settings};
 use isort_cmd::{
     Action, FindOptions, Metered, Outcome, RunError, Settings, check_run, identify, sort_run,
 };
-use std::fs::File;
+use std::fs::{self, File, Metadata};
 use std::io::{self, BufWriter, Read, Stdin, Write};
 
 /// The path that stands for standard input.
@@ -61,7 +62,7 @@ impl Task {
         match self {
             Task::List(options) => list(rt, path, *options),
             Task::Check(settings) => check(rt, path, settings),
-            Task::Rewrite(settings) if path != STANDARD_INPUT => rewrite(rt, path, settings),
+            Task::Rewrite(settings) if path != STANDARD_INPUT => sort_file(rt, path, settings),
             Task::Print(settings) | Task::Rewrite(settings) => print_sorted(rt, path, settings),
         }
     }
@@ -132,8 +133,9 @@ fn print_sorted(rt: &HostRuntime, path: &str, settings: &Settings) -> Result<Out
     sort_run(rt.alloc(), &mut reader, &mut writer, settings, MOST_BYTES)
 }
 
-/// Sorts the text in memory, and writes the file only where that changed it.
-fn rewrite(rt: &HostRuntime, path: &str, settings: &Settings) -> Result<Outcome, RunError> {
+/// Sorts the text in memory, and rewrites the file only where that changed it.
+fn sort_file(rt: &HostRuntime, path: &str, settings: &Settings) -> Result<Outcome, RunError> {
+    let seen = look_at(rt, path)?;
     let mut reader = Metered::new(open(rt, path)?);
     let mut sorted = Metered::new(Vec::new(rt.alloc()));
     let outcome = match sort_run(rt.alloc(), &mut reader, &mut sorted, settings, MOST_BYTES) {
@@ -144,7 +146,7 @@ fn rewrite(rt: &HostRuntime, path: &str, settings: &Settings) -> Result<Outcome,
     };
     drop(reader);
     if outcome == Outcome::Changed {
-        let written = overwrite(rt, path, sorted.into_inner().as_slice());
+        let written = rewrite(rt, path, &seen, sorted.into_inner().as_slice());
         if let Err(error) = written {
             return Err(told_as(&error, RunError::Write));
         }
@@ -152,8 +154,12 @@ fn rewrite(rt: &HostRuntime, path: &str, settings: &Settings) -> Result<Outcome,
     Ok(outcome)
 }
 
-/// Writes the text into the file that is there, so that its links and permissions stay.
-fn overwrite(rt: &HostRuntime, path: &str, text: &[u8]) -> io::Result<()> {
-    let mut file = File::options().write(true).truncate(true).open(rt, path)?;
-    file.write_all(text)
+/// What the system says of a file that is to be sorted. What is neither a file nor a folder, such as a pipe, can't be
+/// rewritten, so it isn't read either. A folder is refused when it is read.
+fn look_at(rt: &HostRuntime, path: &str) -> Result<Metadata, RunError> {
+    match fs::metadata(rt, path) {
+        Ok(seen) if seen.is_file() || seen.is_dir() => Ok(seen),
+        Ok(_) => Err(RunError::Write),
+        Err(error) => Err(told_as(&error, RunError::Read)),
+    }
 }

@@ -1,0 +1,5 @@
+import json
+import os
+import sys
+
+x = 1

@@ -1,0 +1,2 @@
+import sys, os, json
+x = 1

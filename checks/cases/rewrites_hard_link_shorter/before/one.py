@@ -1,0 +1,9 @@
+import sys
+import os
+import sys
+import os
+
+
+
+
+x = 1
