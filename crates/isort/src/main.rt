@@ -6,11 +6,13 @@
 #![tactic(auto)]
 
 mod messages;
+mod output;
 mod rewrite;
 mod settings;
 mod task;
 
-use crate::messages::{print, tell, tell_no_memory, tell_result};
+use crate::messages::{tell, tell_no_memory};
+use crate::output::Output;
 use crate::settings::tell_refusal;
 use crate::task::Task;
 use isort_cmd::{Job, UsageError, command};
@@ -57,19 +59,10 @@ fn refuse_words(rt: &HostRuntime, error: &io::Error) -> u8 {
 /// Words that give no job. Only help that was asked for goes to standard output, and is no failure.
 fn refuse(rt: &HostRuntime, error: &UsageError) -> u8 {
     if let UsageError::Help(text) = error {
-        return print_help(rt, text.as_str());
+        return Output::new().print(rt, text.as_str());
     }
     tell(rt, error.text());
     REFUSED
-}
-
-/// Prints the help that was asked for, and answers the status.
-fn print_help(rt: &HostRuntime, text: &str) -> u8 {
-    if print(rt, text).is_ok() {
-        return 0;
-    }
-    tell(rt, "isort: R3 cannot be written\n");
-    FAILED
 }
 
 /// Does the job, and answers the process's status.
@@ -85,10 +78,12 @@ fn run(rt: &HostRuntime, job: &Job) -> u8 {
 
 /// Takes the files in the order given. What comes of one says nothing of the next.
 fn run_over_files(rt: &HostRuntime, job: &Job, task: &Task) -> u8 {
+    let mut output = Output::new();
     let mut status = 0;
     for path in &job.files {
-        let result = task.run(rt, path.as_str());
-        status = status.max(tell_result(rt, path.as_str(), &job.action, &result));
+        let path = path.as_str();
+        let result = task.run(rt, path);
+        status = status.max(output.tell_result(rt, path, task, &job.action, &result));
     }
     status
 }

@@ -1,12 +1,6 @@
-//! What the program tells, on both outputs.
-use crate::FAILED;
-use isort_cmd::{Action, Outcome, RunError, fault_text, report};
+//! What the program tells on standard error.
+use isort_cmd::{RunError, fault_text};
 use std::io::{self, ErrorKind, Write};
-
-/// Puts a text on standard output.
-pub(crate) fn print(rt: &HostRuntime, text: &str) -> io::Result<()> {
-    rt.stdout().write_all(text.as_bytes())
-}
 
 /// Puts a text on standard error. One that can't be written there is lost: no other place is left to tell it.
 pub(crate) fn tell(rt: &HostRuntime, text: &str) {
@@ -33,23 +27,4 @@ pub(crate) fn tell_error(rt: &HostRuntime, path: &str, error: &RunError) {
         Ok(line) => tell(rt, line.as_str()),
         Err(_) => tell_no_memory(rt),
     }
-}
-
-/// Tells what came of the file at `path`, and answers the status for it.
-pub(crate) fn tell_result(
-    rt: &HostRuntime,
-    path: &str,
-    action: &Action,
-    answer: &Result<Outcome, RunError>,
-) -> u8 {
-    let Ok(report) = report(rt.alloc(), path, action, answer) else {
-        tell_no_memory(rt);
-        return FAILED;
-    };
-    tell(rt, report.err.as_str());
-    if print(rt, report.out.as_str()).is_err() {
-        tell_error(rt, path, &RunError::Write);
-        return FAILED;
-    }
-    report.status
 }

@@ -56,6 +56,15 @@ impl Task {
         }
     }
 
+    /// Whether what it writes of the file at `path` goes to standard output.
+    pub(crate) fn is_printing(&self, path: &str) -> bool {
+        match self {
+            Task::List(_) | Task::Print(_) => true,
+            Task::Check(_) => false,
+            Task::Rewrite(_) => path == STANDARD_INPUT,
+        }
+    }
+
     /// Does it with the file at `path`. By then no file is open any more, so that what is told of it goes nowhere else,
     /// even where the process was begun with a closed output.
     pub(crate) fn run(&self, rt: &HostRuntime, path: &str) -> Result<Outcome, RunError> {
