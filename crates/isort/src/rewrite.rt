@@ -26,8 +26,13 @@ pub(crate) fn rewrite(
 ) -> io::Result<()> {
     // A file that may not be written is refused here, although its folder might let it be replaced.
     let file = File::options().read(true).write(true).open(rt, path)?;
-    match replace(rt, path, seen, text) {
-        Err(error) if is_no_place(error.kind()) => write_in_place(rt, &file, seen, text),
+    // To open a file for writing may touch it: an overlay of file systems makes its own copy of it then.
+    let opened = file.metadata()?;
+    if !has_same_text(&opened, seen) {
+        return Err(changed());
+    }
+    match replace(rt, path, &opened, text) {
+        Err(error) if is_no_place(error.kind()) => write_in_place(rt, &file, &opened, text),
         done => done,
     }
 }
@@ -46,33 +51,40 @@ fn is_no_place(kind: ErrorKind) -> bool {
     )
 }
 
-/// That the file is still the one that was seen, with the same text.
-fn expect_unchanged(now: &Metadata, seen: &Metadata) -> io::Result<()> {
-    let is_same = now.dev() == seen.dev()
-        && now.ino() == seen.ino()
-        && now.len() == seen.len()
-        && now.mtime() == seen.mtime()
-        && now.mtime_nsec() == seen.mtime_nsec()
-        && now.ctime() == seen.ctime()
-        && now.ctime_nsec() == seen.ctime_nsec();
-    if is_same {
+/// Whether both are of one file, whose text nobody wrote in between.
+fn has_same_text(now: &Metadata, then: &Metadata) -> bool {
+    now.dev() == then.dev()
+        && now.ino() == then.ino()
+        && now.len() == then.len()
+        && now.mtime() == then.mtime()
+        && now.mtime_nsec() == then.mtime_nsec()
+}
+
+/// That nothing of the file was changed since it was opened for writing.
+fn expect_unchanged(now: &Metadata, opened: &Metadata) -> io::Result<()> {
+    let is_untouched = now.ctime() == opened.ctime() && now.ctime_nsec() == opened.ctime_nsec();
+    if is_untouched && has_same_text(now, opened) {
         Ok(())
     } else {
-        let message = "the file was changed after it was read";
-        Err(io::Error::new(ErrorKind::Other, message))
+        Err(changed())
     }
 }
 
+/// The error of a file that another program changed.
+fn changed() -> io::Error {
+    io::Error::new(ErrorKind::Other, "the file was changed after it was read")
+}
+
 /// Writes the text to a new file and renames that over the old one. After an error the new file is gone.
-fn replace(rt: &HostRuntime, path: &str, seen: &Metadata, text: &[u8]) -> io::Result<()> {
-    if seen.nlink() != 1 {
+fn replace(rt: &HostRuntime, path: &str, opened: &Metadata, text: &[u8]) -> io::Result<()> {
+    if opened.nlink() != 1 {
         return Err(io::Error::from(ErrorKind::Unsupported));
     }
     let target = target(rt, path)?;
     let (beside, file) = create_beside(rt, target.as_path())?;
-    let mut done = fill(&file, seen, text);
+    let mut done = fill(&file, opened, text);
     if done.is_ok() {
-        done = put_over(rt, beside.as_path(), target.as_path(), seen);
+        done = put_over(rt, beside.as_path(), target.as_path(), opened);
     }
     if done.is_err() {
         let _left = fs::remove_file(rt, beside.as_path());
@@ -121,33 +133,33 @@ fn create(rt: &HostRuntime, path: Path<'_>) -> io::Result<File> {
 }
 
 /// Gives the new file the owner, the text and the permissions, in this order: a new owner may take permissions away.
-fn fill(mut file: &File, seen: &Metadata, text: &[u8]) -> io::Result<()> {
-    keep_owner(file, seen)?;
+fn fill(mut file: &File, opened: &Metadata, text: &[u8]) -> io::Result<()> {
+    keep_owner(file, opened)?;
     file.write_all(text)?;
-    file.set_permissions(seen.permissions())?;
+    file.set_permissions(opened.permissions())?;
     file.sync_data()
 }
 
 /// Gives the new file the owner and group of the old one. If that is refused, the file can't be replaced.
-fn keep_owner(file: &File, seen: &Metadata) -> io::Result<()> {
+fn keep_owner(file: &File, opened: &Metadata) -> io::Result<()> {
     let now = file.metadata()?;
-    if now.uid() == seen.uid() && now.gid() == seen.gid() {
+    if now.uid() == opened.uid() && now.gid() == opened.gid() {
         return Ok(());
     }
-    match fchown(file, Some(seen.uid()), Some(seen.gid())) {
+    match fchown(file, Some(opened.uid()), Some(opened.gid())) {
         Ok(()) => Ok(()),
         Err(_) => Err(io::Error::from(ErrorKind::Unsupported)),
     }
 }
 
-/// Renames the new file over the old one, if that is still the one that was seen.
+/// Renames the new file over the old one, if that is still the one that was opened for writing.
 fn put_over(
     rt: &HostRuntime,
     beside: Path<'_>,
     target: Path<'_>,
-    seen: &Metadata,
+    opened: &Metadata,
 ) -> io::Result<()> {
-    expect_unchanged(&fs::metadata(rt, target)?, seen)?;
+    expect_unchanged(&fs::metadata(rt, target)?, opened)?;
     fs::rename(rt, beside, target)
 }
 
@@ -156,12 +168,12 @@ fn put_over(
 fn write_in_place(
     rt: &HostRuntime,
     mut file: &File,
-    seen: &Metadata,
+    opened: &Metadata,
     text: &[u8],
 ) -> io::Result<()> {
     let mut old = Vec::new(rt.alloc());
     file.read_to_end(&mut old)?;
-    expect_unchanged(&file.metadata()?, seen)?;
+    expect_unchanged(&file.metadata()?, opened)?;
     if let Err(error) = lengthen(file, old.len(), text) {
         file.set_len(old.len() as u64)?;
         return Err(error);
