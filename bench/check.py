@@ -8,6 +8,7 @@ FOLDER, except in `site-packages`, that isort accepts. It is copied to a tempora
 The passes take all files in one call:
 
 - `isort -c`;
+- `isort --identify`, which lists the imports;
 - `isort -c` of isort 5, with one job and with as many jobs as there are cores;
 - `wc -m`, which counts characters, here of UTF-8.
 
@@ -74,6 +75,7 @@ def main() -> int:
         files = [f"files/{path.name}" for path in paths]
         passes = {
             "`isort -c`": [program, "-c", *files],
+            "`isort --identify`": [program, "--identify", *files],
             "`isort -c` of isort 5, one job": [isort5, "-c", *files],
             f"`isort -c -j {cores}` of isort 5": [isort5, "-c", "-j", str(cores), *files],
             "`wc -m`": [shutil.which("wc"), "-m", *files],

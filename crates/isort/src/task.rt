@@ -4,10 +4,12 @@ use crate::messages::told_as;
 use crate::rewrite::rewrite;
 use crate::settings::{Refusal, Wishes, settings};
 use isort_cmd::{
-    Action, FindOptions, Metered, Outcome, RunError, Settings, check_run, identify, sort_run,
+    Action, FindOptions, Metered, Outcome, RunError, Settings, check_run, identify, read_text,
+    sort_run,
 };
+use isort_sort::{Sorted, sort_code};
 use std::fs::{self, File, Metadata};
-use std::io::{self, BufWriter, Read, Stdin, Write};
+use std::io::{self, BufWriter, Read, Stdin, Stdout, Write};
 
 /// The path that stands for standard input.
 const STANDARD_INPUT: &str = "-";
@@ -104,13 +106,29 @@ fn open(rt: &HostRuntime, path: &str) -> Result<Input, RunError> {
     }
 }
 
-/// Lists the imports on standard output. A listing that can't be written whole is a failed write.
+/// Standard output, through a buffer.
+fn buffered_output(rt: &HostRuntime) -> Result<BufWriter<Stdout>, RunError> {
+    match BufWriter::new(rt.alloc(), rt.stdout()) {
+        Ok(out) => Ok(out),
+        Err(_) => Err(RunError::Memory),
+    }
+}
+
+/// The answer of a run, once what it wrote to standard output is out. What can't be written whole is a failed write.
+fn written_out(
+    out: Metered<BufWriter<Stdout>>,
+    answer: Result<Outcome, RunError>,
+) -> Result<Outcome, RunError> {
+    match out.into_inner().flush() {
+        Ok(()) => answer,
+        Err(_) => Err(RunError::Write),
+    }
+}
+
+/// Lists the imports on standard output.
 fn list(rt: &HostRuntime, path: &str, options: FindOptions) -> Result<Outcome, RunError> {
     let mut reader = Metered::new(open(rt, path)?);
-    let Ok(out) = BufWriter::new(rt.alloc(), rt.stdout()) else {
-        return Err(RunError::Memory);
-    };
-    let mut writer = Metered::new(out);
+    let mut writer = Metered::new(buffered_output(rt)?);
     let listed = identify(
         rt.alloc(),
         &mut reader,
@@ -119,10 +137,7 @@ fn list(rt: &HostRuntime, path: &str, options: FindOptions) -> Result<Outcome, R
         options,
         MOST_BYTES,
     );
-    match writer.into_inner().flush() {
-        Ok(()) => listed.map(|()| Outcome::Same),
-        Err(_) => Err(RunError::Write),
-    }
+    written_out(writer, listed.map(|()| Outcome::Same))
 }
 
 /// Compares the text with its sorted text.
@@ -138,29 +153,27 @@ fn check(rt: &HostRuntime, path: &str, settings: &Settings) -> Result<Outcome, R
 /// Puts the sorted text on standard output.
 fn print_sorted(rt: &HostRuntime, path: &str, settings: &Settings) -> Result<Outcome, RunError> {
     let mut reader = Metered::new(open(rt, path)?);
-    let mut writer = Metered::new(rt.stdout());
-    sort_run(rt.alloc(), &mut reader, &mut writer, settings, MOST_BYTES)
+    let mut writer = Metered::new(buffered_output(rt)?);
+    let sorted = sort_run(rt.alloc(), &mut reader, &mut writer, settings, MOST_BYTES);
+    written_out(writer, sorted)
 }
 
 /// Sorts the text in memory, and rewrites the file only where that changed it.
 fn sort_file(rt: &HostRuntime, path: &str, settings: &Settings) -> Result<Outcome, RunError> {
     let seen = look_at(rt, path)?;
     let mut reader = Metered::new(open(rt, path)?);
-    let mut sorted = Metered::new(Vec::new(rt.alloc()));
-    let outcome = match sort_run(rt.alloc(), &mut reader, &mut sorted, settings, MOST_BYTES) {
-        Ok(outcome) => outcome,
-        // A vector takes all bytes, unless memory runs out.
-        Err(RunError::Write) => return Err(RunError::Memory),
-        Err(error) => return Err(error),
-    };
+    let text = read_text(rt.alloc(), &mut reader, MOST_BYTES)?;
     drop(reader);
-    if outcome == Outcome::Changed {
-        let written = rewrite(rt, path, &seen, sorted.into_inner().as_slice());
-        if let Err(error) = written {
-            return Err(told_as(&error, RunError::Write));
-        }
+    let sorted = match sort_code(rt.alloc(), text.as_slice(), settings)? {
+        Sorted::Same => return Ok(Outcome::Same),
+        Sorted::Skipped => return Ok(Outcome::Skipped),
+        Sorted::Changed(sorted) => sorted,
+    };
+    drop(text);
+    match rewrite(rt, path, &seen, sorted.as_bytes()) {
+        Ok(()) => Ok(Outcome::Changed),
+        Err(error) => Err(told_as(&error, RunError::Write)),
     }
-    Ok(outcome)
 }
 
 /// What the system says of a file that is to be sorted. What is neither a file nor a folder, such as a pipe, can't be

@@ -1,4 +1,3 @@
-pub mod WrittenLemmas
 pub mod PrintedLemmas
 pub mod ListingLemmas
 pub mod PieceLemmas

@@ -17,7 +17,8 @@ use Rattle.isort_find.specs.declared.finder.Outcome.TheVariants as outcome
 use Rattle.isort_cmd.specs.Printed.{printed, line_text}
 use Rattle.isort_cmd.specs.RunError.{run_error_of}
 use Rattle.isort_cmd.specs.Steps.{IsListed, LeavesReady}
-use Rattle.isort_cmd.specs.Written.{AppendsFront, ListsFront}
+use Rattle.isort_sort.specs.Written.{AppendsFront}
+use Rattle.isort_cmd.specs.Written.{ListsFront}
 use Rattle.isort_cmd.specs.declared.error.RunError.{RunError}
 use Rattle.isort_cmd.specs.declared.error.RunError.TheVariants as run
 use Rattle.isort_cmd.proofs.PrintedLemmas.{printed-append, printed-snoc}

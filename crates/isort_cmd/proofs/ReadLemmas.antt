@@ -9,7 +9,7 @@ use Rattle.isort_find.specs.Pieces.{PieceFinding, fed_by}
 use Rattle.isort_find.specs.declared.options.FindOptions.{FindOptions}
 use Rattle.isort_cmd.specs.Steps.{IsReadError, HasListed, LeavesPiece, ListsRead, LeavesKnown, LeavesRead}
 use Rattle.isort_cmd.specs.Written.{AreFed}
-use Rattle.isort_cmd.specs.declared.metered.Last.{Last}
+use Rattle.isort_sort.specs.declared.metered.Last.{Last}
 use Rattle.isort_cmd.specs.declared.error.RunError.{RunError}
 use Rattle.isort_cmd.specs.declared.error.RunError.TheVariants as run
 

@@ -1,4 +1,3 @@
-pub mod Metered
 pub mod RunError
 pub mod Written
 pub mod Printed

@@ -11,8 +11,8 @@ use Rattle.isort_find.specs.declared.options.FindOptions.{FindOptions}
 use Rattle.isort_find.specs.declared.finder.Outcome.TheVariants as outcome
 use Rattle.isort_cmd.specs.Printed.{printed}
 use Rattle.isort_cmd.specs.Written.{AreFed, Lists, ListsFront}
-use Rattle.isort_cmd.specs.declared.metered.Last.{Last}
-use Rattle.isort_cmd.specs.declared.metered.Last.TheVariants as last
+use Rattle.isort_sort.specs.declared.metered.Last.{Last}
+use Rattle.isort_sort.specs.declared.metered.Last.TheVariants as last
 use Rattle.isort_cmd.specs.declared.error.RunError.{RunError}
 use Rattle.isort_cmd.specs.declared.error.RunError.TheVariants as run
 

@@ -6,16 +6,10 @@ use Rattle.py_imports.specs.Bound.{Bound}
 use Rattle.isort_find.specs.Found.{IsFound}
 use Rattle.isort_find.specs.Settled.{IsFoundSettled, DecidesFound}
 use Rattle.isort_find.specs.declared.options.FindOptions.{FindOptions}
+use Rattle.isort_sort.specs.Written.{AppendsFront}
 use Rattle.isort_cmd.specs.Printed.{printed}
 use Rattle.isort_cmd.specs.declared.error.RunError.{RunError}
 use Rattle.isort_cmd.specs.declared.error.RunError.TheVariants as run
-
--- known bytes grow by a prefix of these
-pub record AppendsFront (old new : Option (List ℕ)) (bytes : List ℕ) : Type 0 where
-  pub front : List ℕ
-  pub rest : List ℕ
-  pub split : front ++ rest ≡ bytes
-  pub appended : Appends old new front
 
 -- the lines of all imports that are found in the text with these options, up to this end, were written
 pub record Lists (path text : List ℕ) (options : FindOptions) (end : Option Fault) (old new : Option (List ℕ)) : Type 0 where

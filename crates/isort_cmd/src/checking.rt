@@ -5,13 +5,12 @@ ghost use Rattle.py_lines.specs.declared.fault.Fault.{Fault};
 ghost use Rattle.isort_settings.specs.Values.{values};
 ghost use Rattle.isort_sort.specs.Answers.{Checks};
 ghost use Rattle.isort_sort.specs.Sorted.{HasFault};
-ghost use Rattle.isort_cmd.specs.Metered.{inner_of, last_of};
+ghost use Rattle.isort_sort.specs.Metered.{inner_of, last_of};
 
 use crate::error::RunError;
-use crate::metered::{Last, Metered};
 use crate::read::read_text;
 use isort_settings::Settings;
-use isort_sort::check_code;
+use isort_sort::{Last, Metered, check_code};
 use std::alloc::Global;
 use std::io::Read;
 

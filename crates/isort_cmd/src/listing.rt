@@ -5,18 +5,18 @@ ghost use Rattle.py_lines.specs.declared.fault.Fault.{Fault};
 ghost use Rattle.isort_find.specs.Pieces.{due_by, fed_by, has_ready, options_for};
 ghost use Rattle.isort_find.specs.declared.options.FindOptions.{FindOptions};
 ghost use Rattle.isort_find.specs.declared.finder.Outcome.TheVariants as outcome;
-ghost use Rattle.isort_cmd.specs.Metered.{inner_of, last_of, IsGivenUp};
+ghost use Rattle.isort_sort.specs.Metered.{inner_of, last_of, IsGivenUp};
 ghost use Rattle.isort_cmd.specs.RunError.{IsUnread};
 ghost use Rattle.isort_cmd.specs.Steps.{IsOutputError, IsListed, HasListed, HasListedTo, LeavesReady, LeavesPiece, ListsRead, LeavesRead};
 ghost use Rattle.isort_cmd.specs.Written.{Lists, ListsSettled, ListsToFault, AreFed, LeavesAtError};
 
 use crate::error::RunError;
+use crate::flush::flush_whole;
 use crate::line::push_line;
-use crate::metered::{Last, Metered};
 use crate::read::read_piece;
-use crate::write::{flush_whole, write_whole};
 use isort_find::laws::{given_begin_the_found, one_found, settled_found_is_final};
 use isort_find::{FindOptions, PieceFinder};
+use isort_sort::{Last, Metered, write_whole};
 use std::alloc::Global;
 use std::io::{Read, Write};
 

@@ -2,12 +2,12 @@
 ghost use Rattle.std.specs.Prelude.{◌≡◌, ◌≢◌, ◌<◌, ◌≤◌, ◌^◌, IfOk, OnOk, IfErr, IfSome, length};
 ghost use Rattle.std.specs.Io.{ReadsAtMost};
 ghost use Rattle.std.specs.Io.KnownBytes.{IsAtEnd, ReadConsumes};
-ghost use Rattle.isort_cmd.specs.Metered.{inner_of, last_of};
+ghost use Rattle.isort_sort.specs.Metered.{inner_of, last_of};
 ghost use Rattle.isort_cmd.specs.RunError.{IsInputError};
 ghost use Rattle.isort_cmd.specs.Steps.{IsReadError};
 
 use crate::error::RunError;
-use crate::metered::{Last, MOST_INTERRUPTIONS, Metered};
+use isort_sort::{Last, MOST_INTERRUPTIONS, Metered};
 use std::alloc::Global;
 use std::io::Read;
 

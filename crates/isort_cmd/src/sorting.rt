@@ -3,43 +3,16 @@ ghost use Rattle.std.specs.Prelude.{◌≡◌, ◌≢◌, ◌≤◌, ◌<◌, �
 ghost use Rattle.std.specs.Io.KnownBytes.{IsAtEnd, Keeps};
 ghost use Rattle.py_lines.specs.declared.fault.Fault.{Fault};
 ghost use Rattle.isort_settings.specs.Values.{values};
-ghost use Rattle.isort_cmd.specs.Metered.{inner_of, last_of, IsGivenUp};
-ghost use Rattle.isort_cmd.specs.Sorting.{IsUnwritten, LeavesUnsorted, WritesSorted};
-ghost use Rattle.isort_cmd.specs.Steps.{IsOutputError};
+ghost use Rattle.isort_sort.specs.Metered.{inner_of, last_of, IsGivenUp};
+ghost use Rattle.isort_sort.specs.Written.{WritesSorted};
+ghost use Rattle.isort_cmd.specs.Sorting.{IsUnwritten, LeavesUnsorted};
 
 use crate::error::RunError;
-use crate::metered::{Last, Metered};
 use crate::read::read_text;
-use crate::write::write_whole;
 use isort_settings::Settings;
-use isort_sort::{Outcome, Sorted, sort_code};
+use isort_sort::{Last, Metered, Outcome, sort_to};
 use std::alloc::Global;
 use std::io::{Read, Write};
-
-/// Writes the sorted text, which is the text itself where it is sorted or asks to be left as it is.
-fn write_sorted<W: Write>(
-    alloc: Global,
-    text: &[u8],
-    writer: &mut Metered<W>,
-    settings: &Settings,
-) -> Result<Outcome, RunError>
-    requires fine { last_of writer.old ≡ Last.Fine }
-    ensures ok { IfOk result (λ outcome. WritesSorted text.now (values settings.now) outcome (W.contents (inner_of writer.old)) (W.contents (inner_of writer.new))) }
-    ensures err { IfErr result (λ e. LeavesUnsorted text.now (values settings.now) e (W.contents (inner_of writer.old)) (W.contents (inner_of writer.new))) }
-    ensures errors { IfErr result IsOutputError }
-    ensures unwritten { IfErr result (λ e. IsUnwritten e → Keeps (W.contents (inner_of writer.old)) (W.contents (inner_of writer.new))) }
-    ensures stopped { result ≡ Err RunError.Write → IsGivenUp (last_of writer.new) }
-    ensures fine { result ≢ Err RunError.Write → last_of writer.new ≡ Last.Fine }
-{
-    let sorted = sort_code(alloc, text, settings)?;
-    let (outcome, bytes) = match &sorted {
-        Sorted::Same => (Outcome::Same, text),
-        Sorted::Changed(changed) => (Outcome::Changed, changed.as_bytes()),
-        Sorted::Skipped => (Outcome::Skipped, text),
-    };
-    write_whole(writer, bytes)?;
-    Ok(outcome)
-}
 
 /// Sorts the imports of a Python text: reads `reader` to its end, and then writes the sorted text to `writer`, also
 /// where it is the text itself.
@@ -85,5 +58,5 @@ pub fn sort_run<R: Read, W: Write>(
     ensures writer_fine { result ≢ Err RunError.Write → last_of writer.new ≡ Last.Fine }
 {
     let text = read_text(alloc, reader, max)?;
-    write_sorted(alloc, text.as_slice(), writer, settings)
+    Ok(sort_to(alloc, text.as_slice(), settings, writer)?)
 }

@@ -30,8 +30,10 @@ pub mod FindingSteps
 pub mod FindingRows
 pub mod OneBlocks
 pub mod ArrangingSteps
+pub mod PartsLemmas
+pub mod SortedTextLemmas
+pub mod WrittenLemmas
 pub mod Spans
-pub mod Checking
 pub mod SomeBlocks
 pub mod SomeRows
 pub mod OneRows

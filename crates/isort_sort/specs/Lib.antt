@@ -25,3 +25,6 @@ pub mod GroupOrder
 pub mod Packing
 pub mod Wrap
 pub mod WrapMode
+pub mod Metered
+pub mod Written
+pub mod Parts

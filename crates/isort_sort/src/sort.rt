@@ -1,16 +1,23 @@
-//! Sorting a text in memory.
-ghost use Rattle.std.specs.Prelude.{◌≡◌, IfOk, IfErr};
+//! Sorting a text, in memory or to a writer.
+ghost use Rattle.std.specs.Prelude.{◌≡◌, ◌≢◌, IfOk, IfErr};
 ghost use Rattle.isort_settings.specs.Values.{values};
 ghost use Rattle.isort_sort.specs.Answers.{AreBlocksOf, Checks, IsRefused, Sorts};
 ghost use Rattle.isort_sort.specs.Found.{span_of};
 ghost use Rattle.isort_sort.specs.FoundValues.{found_value};
+ghost use Rattle.isort_sort.specs.Metered.{inner_of, last_of, IsGivenUp};
+ghost use Rattle.isort_sort.specs.Written.{LeavesUnwritten, WritesSorted};
 
-use crate::answer::{Block, SortError, Sorted};
+use crate::answer::{Block, Outcome, SortError, Sorted};
 use crate::finder::FoundBlock;
+use crate::metered::{Last, Metered};
+use crate::parts::Parts;
 use crate::read::{FoundText, find_blocks};
-use crate::sorted_text::sorted_text;
+use crate::sorted_text::SortedText;
+use crate::write::write_whole;
 use isort_settings::Settings;
+use isort_settings::laws::{modules_are_totally_ordered, names_are_totally_ordered};
 use std::alloc::Global;
+use std::io::Write;
 
 /// The span of a block, and how many members it has.
 fn span(block: &FoundBlock) -> Block
@@ -48,20 +55,70 @@ pub fn sort_code(alloc: Global, text: &[u8], settings: &Settings) -> Result<Sort
     let FoundText::Blocks(found) = find_blocks(alloc, text)? else {
         return Ok(Sorted::Skipped);
     };
-    let sorted = sorted_text(alloc, text, settings, found.mark, found.blocks)?;
-    if sorted.as_bytes() == text {
-        Ok(Sorted::Same)
+    let sorted = SortedText::new(alloc, text, settings, found)?;
+    Ok(if sorted.is(text) {
+        Sorted::Same
     } else {
-        Ok(Sorted::Changed(sorted))
-    }
+        Sorted::Changed(sorted.joined(alloc)?)
+    })
 }
 
-/// Whether the text is its own sorted text.
+/// Whether the text is its own sorted text. It stops at the first block that isn't, and makes no text of its own.
 ///
 /// The errors are those of `sort_code`.
 pub fn check_code(alloc: Global, text: &[u8], settings: &Settings) -> Result<bool, SortError>
     ensures { Checks text.now (values settings.now) result }
 {
-    let sorted = sort_code(alloc, text, settings)?;
-    Ok(!matches!(sorted, Sorted::Changed(_)))
+    modules_are_totally_ordered();
+    names_are_totally_ordered();
+    let FoundText::Blocks(found) = find_blocks(alloc, text)? else {
+        return Ok(true);
+    };
+    let mut parts = Parts::new(text, settings, found);
+    let mut left = text;
+    'parts: while let Some(part) = parts.next(alloc)? {
+        match part.cut_off(left) {
+            Some(rest) => left = rest,
+            None => return Ok(false),
+        }
+    }
+    Ok(left == parts.rest())
+}
+
+/// Writes the sorted text to `writer`, also where it is the text itself: its unchanged parts as they stand in the text,
+/// and the layouts of its blocks. No second text is made.
+///
+/// `Same` and `Skipped` say that it is the text: the text is sorted, or asks to be left as it is.
+///
+/// - `Fault`: the text has this fault; nothing was written.
+/// - `Memory`: memory ran out; nothing was written.
+/// - `Write`: a write failed, took no byte, or was interrupted 1000 times in a row; a prefix of the sorted text was
+///   written.
+///
+/// After each answer except `Write` the last call of `writer` is fine.
+pub fn sort_to<W: Write>(
+    alloc: Global,
+    text: &[u8],
+    settings: &Settings,
+    writer: &mut Metered<W>,
+) -> Result<Outcome, SortError>
+    requires { last_of writer.old ≡ Last.Fine }
+    ensures ok { IfOk result (λ outcome. WritesSorted text.now (values settings.now) outcome (W.contents (inner_of writer.old)) (W.contents (inner_of writer.new))) }
+    ensures err { IfErr result (λ e. LeavesUnwritten text.now (values settings.now) e (W.contents (inner_of writer.old)) (W.contents (inner_of writer.new))) }
+    ensures stopped { result ≡ Err SortError.Write → IsGivenUp (last_of writer.new) }
+    ensures fine { result ≢ Err SortError.Write → last_of writer.new ≡ Last.Fine }
+{
+    let sorted = match find_blocks(alloc, text)? {
+        FoundText::Blocks(found) => SortedText::new(alloc, text, settings, found)?,
+        FoundText::Skipped => {
+            write_whole(writer, text)?;
+            return Ok(Outcome::Skipped);
+        }
+    };
+    if sorted.is(text) {
+        write_whole(writer, text)?;
+        return Ok(Outcome::Same);
+    }
+    sorted.write_to(writer)?;
+    Ok(Outcome::Changed)
 }

@@ -1,75 +1,110 @@
-//! The sorted text.
-ghost use Rattle.std.specs.Prelude.{◌≡◌, ◌++◌, ◌≤◌, ℕ, List, length, map, slice_range, string_bytes, IfOk, OnOk, IfErr};
+//! A sorted text, of which the layouts alone are copies.
+ghost use Rattle.std.specs.Prelude.{◌≡◌, ◌≢◌, MatchBool, string_bytes, IfOk, OnOk, OnErr, IfErr};
+ghost use Rattle.std.specs.Io.KnownBytes.{Appends};
 ghost use Rattle.std.specs.Str.{IsUtf8};
-ghost use Rattle.isort_settings.specs.Values.{Values, values};
-ghost use Rattle.isort_sort.specs.Arranged.{IsArranged};
-ghost use Rattle.isort_sort.specs.Arranging.{IsCutText};
-ghost use Rattle.isort_sort.specs.Blocks.{Cut};
-ghost use Rattle.isort_sort.specs.FoundValues.{found_value};
-ghost use Rattle.isort_sort.specs.LineEnd.{end_bytes};
-ghost use Rattle.isort_sort.specs.Sorted.{first_end, IsSortedCut};
+ghost use Rattle.isort_settings.specs.Values.{values};
+ghost use Rattle.isort_sort.specs.Metered.{inner_of, last_of, IsGivenUp};
+ghost use Rattle.isort_sort.specs.Parts.{sorted_bytes, AreTexts};
+ghost use Rattle.isort_sort.specs.Reading.{IsFoundIn};
+ghost use Rattle.isort_sort.specs.Sorted.{IsLaidOut};
+ghost use Rattle.isort_sort.specs.Written.{AppendsFront};
 
 use crate::answer::SortError;
-use crate::arrange::arrange;
-use crate::finder::FoundBlock;
-use crate::line_end::LineEnd;
+use crate::metered::{Last, Metered};
+use crate::parts::{Part, Parts};
+use crate::read::{FoundBlocks, FoundText};
+use crate::write::write_whole;
 use isort_settings::Settings;
 use std::alloc::Global;
+use std::io::Write;
 use std::str;
 
-/// A part of a text, which is UTF-8.
-fn part(text: &[u8], start: usize, stop: usize) -> &str
-    requires ordered { start ≤ stop }
-    requires within { stop ≤ length text.now }
-    requires utf8 { IsUtf8 (slice_range text.now start stop) }
-    ensures { result.now ≡ slice_range text.now start stop }
+/// A sorted text: its parts, and what stays of the text after the last of them.
+#[derive(Drop)]
+pub(crate) struct SortedText<'t> {
+    parts: Vec<Part<'t>>,
+    rest: &'t [u8],
+}
+
+impl<'t> SortedText<'t> {
+    /// The sorted text of a text in which these blocks were found.
+    pub(crate) fn new(
+        alloc: Global,
+        text: &'t [u8],
+        settings: &'t Settings,
+        found: FoundBlocks,
+    ) -> Result<SortedText<'t>, SortError>
+        requires { IsFoundIn text.now (FoundText.Blocks found) }
+        ensures laid { IfOk result (λ sorted. IsLaidOut text.now (values settings.now) (sorted_bytes sorted)) }
+        ensures parts { IfOk result (λ sorted. AreTexts sorted.parts.items) }
+        ensures rest { IfOk result (λ sorted. IsUtf8 sorted.rest.now) }
+        ensures err { IfErr result (λ e. e ≡ SortError.Memory) }
+    {
+        let mut made = Parts::new(text, settings, found);
+        let mut parts = Vec::new(alloc);
+        'parts: while let Some(part) = made.next(alloc)? {
+            parts.push(part)?;
+        }
+        Ok(SortedText {
+            parts,
+            rest: made.rest(),
+        })
+    }
+
+    /// Whether it is this text.
+    pub(crate) fn is(&self, text: &[u8]) -> bool
+        ensures { MatchBool result (sorted_bytes self.now ≡ text.now) (sorted_bytes self.now ≢ text.now) }
+    {
+        let mut left = text;
+        'parts: for part in &self.parts {
+            match part.cut_off(left) {
+                Some(rest) => left = rest,
+                None => return false,
+            }
+        }
+        left == self.rest
+    }
+
+    /// It as one text.
+    pub(crate) fn joined(&self, alloc: Global) -> Result<String, SortError>
+        requires parts { AreTexts self.now.parts.items }
+        requires rest { IsUtf8 self.now.rest.now }
+        ensures ok { IfOk result (λ sorted. string_bytes sorted ≡ sorted_bytes self.now) }
+        ensures err { IfErr result (λ e. e ≡ SortError.Memory) }
+    {
+        let mut sorted = String::new(alloc);
+        'parts: for part in &self.parts {
+            sorted.push_str(text_of(part.before))?;
+            sorted.push_str(part.layout.as_str())?;
+        }
+        sorted.push_str(text_of(self.rest))?;
+        Ok(sorted)
+    }
+
+    /// Writes it whole, or a prefix of it where a write fails.
+    pub(crate) fn write_to<W: Write>(&self, writer: &mut Metered<W>) -> Result<(), SortError>
+        requires { last_of writer.old ≡ Last.Fine }
+        ensures ok { OnOk result (Appends (W.contents (inner_of writer.old)) (W.contents (inner_of writer.new)) (sorted_bytes self.now)) }
+        ensures fine { OnOk result (last_of writer.new ≡ Last.Fine) }
+        ensures front { OnErr result (AppendsFront (W.contents (inner_of writer.old)) (W.contents (inner_of writer.new)) (sorted_bytes self.now)) }
+        ensures err { IfErr result (λ e. e ≡ SortError.Write) }
+        ensures stopped { OnErr result (IsGivenUp (last_of writer.new)) }
+    {
+        'parts: for part in &self.parts {
+            write_whole(writer, part.before)?;
+            write_whole(writer, part.layout.as_bytes())?;
+        }
+        write_whole(writer, self.rest)
+    }
+}
+
+/// Bytes that are UTF-8, as a text.
+fn text_of(bytes: &[u8]) -> &str
+    requires { IsUtf8 bytes.now }
+    ensures { result.now ≡ bytes.now }
 {
-    match str::from_utf8(&text[start..stop]) {
-        Ok(part) => part,
+    match str::from_utf8(bytes) {
+        Ok(text) => text,
         Err(_) => unreachable!(),
     }
-}
-
-/// Writes the text from a byte up to a block, and the layout of the block.
-fn push_block(
-    alloc: Global,
-    settings: &Settings,
-    end: LineEnd,
-    before: &str,
-    block: FoundBlock,
-    out: &mut String,
-) -> Result<(), SortError>
-    ensures ok { OnOk result ((own : List ℕ) × IsArranged (values settings.now) (end_bytes end) (found_value block) own × (string_bytes out.new ≡ (string_bytes out.old ++ before.now) ++ own)) }
-    ensures err { IfErr result (λ e. e ≡ SortError.Memory) }
-{
-    out.push_str(before)?;
-    let layout = arrange(alloc, settings, end, block)?;
-    out.push_str(layout.as_str())?;
-    Ok(())
-}
-
-/// The text, which begins with a mark of `mark` bytes, with the span of each block replaced by its layout.
-pub(crate) fn sorted_text(
-    alloc: Global,
-    text: &[u8],
-    settings: &Settings,
-    mark: usize,
-    blocks: Vec<FoundBlock>,
-) -> Result<String, SortError>
-    requires { (bytes : List ℕ) × (cut : Cut) × (mark ≡ length bytes) × IsCutText text.now bytes cut (map found_value blocks.items) }
-    ensures ok { IfOk result (λ sorted. (bytes : List ℕ) (cut : Cut) → mark ≡ length bytes → IsCutText text.now bytes cut (map found_value blocks.items)
-        → (body : List ℕ) × (string_bytes sorted ≡ bytes ++ body) × IsSortedCut (values settings.now) (first_end text.now) cut body) }
-    ensures err { IfErr result (λ e. e ≡ SortError.Memory) }
-{
-    let end = LineEnd::first_of(text);
-    let mut out = String::from_str(alloc, part(text, 0, mark))?;
-    let mut at = mark;
-    'blocks: for block in blocks {
-        let stop = block.stop;
-        let before = part(text, at, block.start);
-        push_block(alloc, settings, end, before, block, &mut out)?;
-        at = stop;
-    }
-    out.push_str(part(text, at, text.len()))?;
-    Ok(out)
 }

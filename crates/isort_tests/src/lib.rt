@@ -28,3 +28,5 @@ mod settings;
 mod sort;
 #[cfg(test)]
 mod sorting_runs;
+#[cfg(test)]
+mod writing;

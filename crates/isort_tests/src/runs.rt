@@ -1,5 +1,5 @@
 ghost use Rattle.std.specs.Prelude.{◌≡◌, ◌≤◌, ◌^◌};
-ghost use Rattle.isort_cmd.specs.Metered.{last_of};
+ghost use Rattle.isort_sort.specs.Metered.{last_of};
 
 use isort_cmd::*;
 use isort_settings::SettingKey;

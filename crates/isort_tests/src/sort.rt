@@ -1,3 +1,4 @@
+use crate::writing::is_written;
 use isort_settings::Settings;
 use isort_sort::{Block, Outcome, SortError, Sorted, blocks, check_code, sort_code};
 use py_lines::{Fault, FaultKind};
@@ -8,19 +9,16 @@ use std::test::Fail;
 /// Lines of `[tool.isort]`, a text, and what it is sorted to under these settings.
 type Case = (&'static str, &'static str, &'static str);
 
-/// The sorted text, under the settings of these lines of `[tool.isort]`.
-fn sorted(alloc: Global, lines: &str, text: &str) -> Result<String, Fail> {
+/// Whether the text is sorted to this one, in memory and to a writer, under the settings of these lines of `[tool.isort]`.
+fn is_sorted(alloc: Global, lines: &str, text: &str, want: &str) -> Result<bool, Fail> {
     let table = format!(in alloc; "[tool.isort]\n{lines}\n")?;
     let (settings, _unknown) = Settings::from_pyproject(alloc, table.as_bytes(), None)?;
-    match sort_code(alloc, text.as_bytes(), &settings)? {
-        Sorted::Same | Sorted::Skipped => Ok(String::from_str(alloc, text)?),
-        Sorted::Changed(sorted) => Ok(sorted),
-    }
-}
-
-/// Whether the text is sorted to this one, under the settings of these lines of `[tool.isort]`.
-fn is_sorted(alloc: Global, lines: &str, text: &str, want: &str) -> Result<bool, Fail> {
-    Ok(sorted(alloc, lines, text)?.as_str() == want)
+    let (outcome, same) = match sort_code(alloc, text.as_bytes(), &settings)? {
+        Sorted::Same => (Outcome::Same, text == want),
+        Sorted::Skipped => (Outcome::Skipped, text == want),
+        Sorted::Changed(sorted) => (Outcome::Changed, sorted.as_str() == want),
+    };
+    Ok(same && is_written(alloc, &settings, text, Ok(outcome), want.as_bytes()))
 }
 
 /// Each text is sorted to the one beside it, and that one stays as it is.
@@ -753,8 +751,10 @@ const FAULTS: &[Faulty] = &[
 
 /// Whether each call refuses the text so.
 fn is_refused(alloc: Global, settings: &Settings, text: &str, want: SortError) -> bool {
+    let written = is_written(alloc, settings, text, Err(want), b"");
     let text = text.as_bytes();
-    sort_code(alloc, text, settings).err() == Some(want)
+    written
+        && sort_code(alloc, text, settings).err() == Some(want)
         && check_code(alloc, text, settings).err() == Some(want)
         && blocks(alloc, text).err() == Some(want)
 }

@@ -1,23 +1,22 @@
 ghost use Rattle.std.specs.Prelude.{◌≤◌, ◌^◌};
 
+use crate::writing::Slow;
 use isort_cmd::{Metered, RunError, check_run, sort_run};
 use isort_settings::Settings;
 use isort_sort::Outcome;
 use py_lines::{Fault, FaultKind};
 use std::alloc::Global;
-use std::io;
-use std::io::{ErrorKind, Write};
 use std::test::Fail;
 
-const UNSORTED: &str =
+pub(crate) const UNSORTED: &str =
     "from . import z\nimport sys\nimport requests\nfrom __future__ import annotations\nimport os\n";
 
-const SORTED: &str =
+pub(crate) const SORTED: &str =
     "from __future__ import annotations\n\nimport os\nimport sys\n\nimport requests\n\nfrom . import z\n";
 
-const SKIPPED: &str = "\"\"\"isort: skip_file\"\"\"\nimport b\nimport a\n";
+pub(crate) const SKIPPED: &str = "\"\"\"isort: skip_file\"\"\"\nimport b\nimport a\n";
 
-const BROKEN: &str = "import b\nimport a\nx = )";
+pub(crate) const BROKEN: &str = "import b\nimport a\nx = )";
 
 const WRONG_CLOSE: RunError = RunError::Fault(Fault {
     kind: FaultKind::WrongClose,
@@ -91,35 +90,11 @@ fn checks_texts(rt: HostRuntime) -> Result<(), Fail> {
     Ok(())
 }
 
-// A writer that has room for so many bytes more, and then fails.
-#[derive(Drop)]
-struct Narrow {
-    taken: Vec<u8>,
-    room: usize,
-}
-
-impl Write for Narrow {
-    fn write(&mut self, buf: &[u8]) -> io::Result<usize> {
-        let count = buf.len().min(self.room);
-        if count == 0 {
-            return Err(io::Error::from(ErrorKind::Other));
-        }
-        self.taken.extend_from_slice(&buf[..count])?;
-        self.room -= count;
-        Ok(count)
-    }
-
-    fn flush(&mut self) -> io::Result<()> {
-        Ok(())
-    }
-}
-
 #[test]
 fn writes_a_prefix(rt: HostRuntime) -> Result<(), Fail> {
     let settings = Settings::plain(rt.alloc())?;
     let mut reader = Metered::new(UNSORTED.as_bytes());
-    let taken = Vec::new(rt.alloc());
-    let mut writer = Metered::new(Narrow { taken, room: 5 });
+    let mut writer = Metered::new(Slow::new(rt.alloc(), 5, 1000));
     let got = sort_run(rt.alloc(), &mut reader, &mut writer, &settings, 1000);
     assert_eq!(rt; got, Err(RunError::Write));
     assert_eq!(rt; writer.into_inner().taken.as_slice(), b"from ".as_slice());

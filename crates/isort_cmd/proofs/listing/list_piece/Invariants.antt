@@ -1,7 +1,7 @@
 -- What the bytes taken had ready was listed.
 use Rattle.std.proofs.Common.{◌≡◌, length}
-use Rattle.isort_cmd.specs.Metered.{inner_of, last_of}
-use Rattle.isort_cmd.specs.declared.metered.Last.TheVariants.{Fine}
+use Rattle.isort_sort.specs.Metered.{inner_of, last_of}
+use Rattle.isort_sort.specs.declared.metered.Last.TheVariants.{Fine}
 use Rattle.isort_cmd.proofs.PieceLemmas.{IsAmid}
 use Rattle.isort_cmd.proofs.listing.list_piece.Given as goal
 

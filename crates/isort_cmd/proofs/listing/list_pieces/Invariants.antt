@@ -1,9 +1,9 @@
 -- All that was read was fed, and what it settles was listed.
 use Rattle.std.proofs.Common.{◌≡◌, ◌-◌, length}
 use Rattle.isort_find.specs.Pieces.{fed_by, options_for}
-use Rattle.isort_cmd.specs.Metered.{inner_of, last_of}
+use Rattle.isort_sort.specs.Metered.{inner_of, last_of}
 use Rattle.isort_cmd.specs.Steps.{ListsRead}
-use Rattle.isort_cmd.specs.declared.metered.Last.TheVariants.{Fine}
+use Rattle.isort_sort.specs.declared.metered.Last.TheVariants.{Fine}
 use Rattle.isort_cmd.proofs.listing.list_pieces.Given as goal
 
 abbrev pub invariant-pieces : goal.invariant-pieces

@@ -4,9 +4,9 @@ use Rattle.py_lines.specs.declared.fault.Fault.{Fault}
 use Rattle.isort_find.specs.Pieces.{due_by, fed_by}
 use Rattle.isort_find.specs.declared.options.FindOptions.{FindOptions}
 use Rattle.isort_find.specs.declared.finder.Outcome.TheVariants as outcome
-use Rattle.isort_cmd.specs.Metered.{inner_of, last_of}
+use Rattle.isort_sort.specs.Metered.{inner_of, last_of}
 use Rattle.isort_cmd.specs.Steps.{IsListed}
-use Rattle.isort_cmd.specs.declared.metered.Last.TheVariants.{Fine}
+use Rattle.isort_sort.specs.declared.metered.Last.TheVariants.{Fine}
 use Rattle.isort_cmd.proofs.listing.list_ready.Given as goal
 
 abbrev pub invariant-imports : goal.invariant-imports

@@ -1,7 +1,7 @@
 -- The reader gave nothing yet, and each try counts one interruption more.
 use Rattle.std.proofs.Common.{◌≡◌, ◌-◌, ◌<◌, length}
 use Rattle.std.specs.Io.KnownBytes.{Keeps}
-use Rattle.isort_cmd.specs.Metered.{inner_of, last_of, interruptions}
+use Rattle.isort_sort.specs.Metered.{inner_of, last_of, interruptions}
 use Rattle.isort_cmd.proofs.read.read_piece.Given as goal
 
 abbrev pub invariant-tries : goal.invariant-tries

@@ -1,8 +1,8 @@
 -- What was read is a prefix of the reader's bytes, and isn't too long yet.
 use Rattle.std.proofs.Common.{◌≡◌, ◌+◌, ◌-◌, ◌≤◌, length, vec_len, vec_items}
 use Rattle.std.specs.Io.KnownBytes.{Consumes}
-use Rattle.isort_cmd.specs.Metered.{inner_of, last_of}
-use Rattle.isort_cmd.specs.declared.metered.Last.TheVariants.{Fine}
+use Rattle.isort_sort.specs.Metered.{inner_of, last_of}
+use Rattle.isort_sort.specs.declared.metered.Last.TheVariants.{Fine}
 use Rattle.isort_cmd.proofs.read.read_text.Given as goal
 
 abbrev pub invariant-pieces : goal.invariant-pieces

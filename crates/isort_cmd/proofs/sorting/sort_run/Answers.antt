@@ -1,4 +1,4 @@
-use Rattle.std.proofs.Common.{◌≡◌, ℕ, ◌≤◌, ◌∙◌, sym, ap, subst, Option, None, Some, IfSome, Result, Ok, Err, OnOk, List, length}
+use Rattle.std.proofs.Common.{◌≡◌, ℕ, ◌≤◌, ◌∙◌, sym, ap, subst, Option, None, Some, IfSome, Result, Ok, Err, List, length}
 use Rattle.std.proofs.lemmas.Result.{err_from_is_err_and}
 use Rattle.isort_sort.specs.declared.answer.Outcome.{Outcome}
 use Rattle.isort_cmd.specs.declared.error.RunError.{RunError}
@@ -9,15 +9,11 @@ within_known : (known : Option (List ℕ)) (items : List ℕ) (max : ℕ) → If
 within_known None items max whole h = tt
 within_known (Some all) items max whole h = subst (λ n. n ≤ max) (sym (ap length whole)) h
 
-on_ok : (r : Result Outcome RunError) (P : Type 0) → P → OnOk r P
-on_ok (Ok outcome) P h = h
-on_ok (Err e) P h = tt
-
 same_error : (r : Result Outcome RunError) (e d : RunError) → r ≡ Err e → r ≡ Err d → e ≡ d
 same_error r e d h k = cc
 
 pub returns-clause-within : goal.returns-clause-within
-returns-clause-within g c = on_ok _ _ (within_known _ c.in_ok-text.text.items c.args.max c.in_ok-text.ensures.whole c.in_ok-text.ensures.within)
+returns-clause-within g c = within_known _ c.in_ok-text.text.items c.args.max c.in_ok-text.ensures.whole c.in_ok-text.ensures.within
 
 pub returns-clause-fault_within : goal.returns-clause-fault_within
 returns-clause-fault_within g c = λ f e. within_known _ c.in_ok-text.text.items c.args.max c.in_ok-text.ensures.whole c.in_ok-text.ensures.within

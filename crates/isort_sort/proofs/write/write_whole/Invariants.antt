@@ -1,9 +1,9 @@
 -- What was written is a prefix of the bytes, and `rest` is what follows it.
 use Rattle.std.proofs.Common.{◌≡◌, ◌++◌, ℕ, List, length}
 use Rattle.std.specs.Io.KnownBytes.{Appends}
-use Rattle.isort_cmd.specs.Metered.{inner_of, last_of}
-use Rattle.isort_cmd.specs.declared.metered.Last.TheVariants.{Fine}
-use Rattle.isort_cmd.proofs.write.write_whole.Given as goal
+use Rattle.isort_sort.specs.Metered.{inner_of, last_of}
+use Rattle.isort_sort.specs.declared.metered.Last.TheVariants.{Fine}
+use Rattle.isort_sort.proofs.write.write_whole.Given as goal
 
 abbrev pub invariant-loop-rest : goal.invariant-loop-rest
 invariant-loop-rest g l = (front : List ℕ) × (last_of l.writer ≡ Fine) × (front ++ l.rest ≡ l.bytes) × Appends (g.W.Write.contents (inner_of l.initial.writer)) (g.W.Write.contents (inner_of l.writer)) front

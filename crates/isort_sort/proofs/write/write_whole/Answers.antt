@@ -1,7 +1,7 @@
 use Rattle.std.proofs.Common.{take, ◌++◌}
 use Rattle.std.proofs.KnownBytes.{Appends-trans}
-use Rattle.isort_cmd.proofs.WrittenLemmas.{split_more}
-use Rattle.isort_cmd.proofs.write.write_whole.Goals as goal
+use Rattle.isort_sort.proofs.WrittenLemmas.{split_more}
+use Rattle.isort_sort.proofs.write.write_whole.Goals as goal
 
 pub loop-rest-preserved : goal.loop-rest-preserved
 loop-rest-preserved g c =

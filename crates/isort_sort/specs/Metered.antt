@@ -4,9 +4,9 @@ use Rattle.std.specs.IoError.{error_kind}
 use Rattle.std.specs.declared.io.Error.{Error}
 use Rattle.std.specs.declared.io.ErrorKind.{ErrorKind}
 use Rattle.std.specs.declared.io.ErrorKind.TheVariants.{Interrupted}
-use Rattle.isort_cmd.specs.declared.metered.Last.{Last}
-use Rattle.isort_cmd.specs.declared.metered.Last.TheVariants as last
-use Rattle.isort_cmd.specs.declared.metered.Metered.{Metered}
+use Rattle.isort_sort.specs.declared.metered.Last.{Last}
+use Rattle.isort_sort.specs.declared.metered.Last.TheVariants as last
+use Rattle.isort_sort.specs.declared.metered.Metered.{Metered}
 
 -- the reader or writer inside
 abbrev pub inner_of : {T : Type 0} → Metered T → T

@@ -2,7 +2,7 @@
 ghost use Rattle.std.specs.Prelude.{◌≡◌};
 ghost use Rattle.std.specs.Io.{ReadsAtMost, WritesAtMost};
 ghost use Rattle.std.specs.Io.KnownBytes.{Keeps, ReadConsumes, WriteAppends};
-ghost use Rattle.isort_cmd.specs.Metered.{inner_of, last_of, interruptions, end_of_error, end_of_read, end_of_write, end_of_flush};
+ghost use Rattle.isort_sort.specs.Metered.{inner_of, last_of, interruptions, end_of_error, end_of_read, end_of_write, end_of_flush};
 
 use std::io;
 use std::io::{ErrorKind, Read, Write};

@@ -1,8 +1,8 @@
--- The writer kept what it has, and each try counts one interruption more.
+-- The writer took nothing yet, and each try counts one interruption more.
 use Rattle.std.proofs.Common.{◌-◌, ◌<◌}
 use Rattle.std.specs.Io.KnownBytes.{Keeps}
-use Rattle.isort_cmd.specs.Metered.{inner_of, last_of, interruptions}
-use Rattle.isort_cmd.proofs.write.flush_whole.Given as goal
+use Rattle.isort_sort.specs.Metered.{inner_of, last_of, interruptions}
+use Rattle.isort_sort.proofs.write.write_some.Given as goal
 
 abbrev pub invariant-tries : goal.invariant-tries
 invariant-tries g l = record {

@@ -1,0 +1,15 @@
+-- The text begins with what was made, and blocks become fewer.
+use Rattle.std.proofs.Common.{◌≡◌, ◌++◌, ℕ, List, length}
+use Rattle.isort_settings.specs.Values.{values}
+use Rattle.isort_sort.specs.Parts.{left_of, HasMade}
+use Rattle.isort_sort.proofs.sort.check_code.Given as goal
+
+abbrev pub invariant-parts : goal.invariant-parts
+invariant-parts l = record {
+  out : List ℕ;
+  made : HasMade l.text (values l.settings) l.parts out;
+  split : l.text ≡ out ++ l.left;
+}
+
+abbrev pub decreases-parts : goal.decreases-parts
+decreases-parts l = length (left_of l.parts)

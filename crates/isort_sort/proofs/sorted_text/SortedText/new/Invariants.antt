@@ -1,0 +1,14 @@
+-- The parts so far were made, and blocks become fewer.
+use Rattle.std.proofs.Common.{length, flat_map}
+use Rattle.isort_settings.specs.Values.{values}
+use Rattle.isort_sort.specs.Parts.{part_text, left_of, AreTexts, HasMade}
+use Rattle.isort_sort.proofs.sorted_text.SortedText.new.Given as goal
+
+abbrev pub invariant-parts : goal.invariant-parts
+invariant-parts l = record {
+  made : HasMade l.text (values l.settings) l.made (flat_map part_text l.parts.items);
+  texts : AreTexts l.parts.items;
+}
+
+abbrev pub decreases-parts : goal.decreases-parts
+decreases-parts l = length (left_of l.made)

@@ -1,0 +1,40 @@
+-- What sorting to a writer leaves in it.
+use Rattle.std.specs.Prelude.{◌≡◌, ◌≢◌, ℕ, List, Option, ◌++◌}
+use Rattle.std.specs.Io.KnownBytes.{Appends, Keeps}
+use Rattle.isort_settings.specs.Values.{Values}
+use Rattle.isort_sort.specs.Sorted.{HasFault, IsSkipped, IsLaidOut, IsSorted}
+use Rattle.isort_sort.specs.declared.answer.Outcome.{Outcome}
+use Rattle.isort_sort.specs.declared.answer.Outcome.TheVariants as outcome
+use Rattle.isort_sort.specs.declared.answer.SortError.{SortError}
+use Rattle.isort_sort.specs.declared.answer.SortError.TheVariants as error
+
+-- known bytes grow by a prefix of these
+pub record AppendsFront (old new : Option (List ℕ)) (bytes : List ℕ) : Type 0 where
+  pub front : List ℕ
+  pub rest : List ℕ
+  pub split : front ++ rest ≡ bytes
+  pub appended : Appends old new front
+
+-- the sorted text, with what the outcome says of it
+abbrev pub IsSortedAs : List ℕ → Values → Outcome → List ℕ → Type 0
+IsSortedAs text v outcome.Same sorted = IsLaidOut text v sorted × (sorted ≡ text)
+IsSortedAs text v outcome.Changed sorted = IsLaidOut text v sorted × (sorted ≢ text)
+IsSortedAs text v outcome.Skipped sorted = IsSkipped text × (sorted ≡ text)
+
+-- the sorted text was written whole
+pub record WritesSorted (text : List ℕ) (v : Values) (outcome : Outcome) (old new : Option (List ℕ)) : Type 0 where
+  pub sorted : List ℕ
+  pub is : IsSortedAs text v outcome sorted
+  pub written : Appends old new sorted
+
+-- a prefix of the sorted text was written
+pub record WritesSortedFront (text : List ℕ) (v : Values) (old new : Option (List ℕ)) : Type 0 where
+  pub sorted : List ℕ
+  pub is : IsSorted text v sorted
+  pub written : AppendsFront old new sorted
+
+-- what an error says of the text and leaves: a prefix of the sorted text where a write failed, and else nothing
+abbrev pub LeavesUnwritten : List ℕ → Values → SortError → Option (List ℕ) → Option (List ℕ) → Type 0
+LeavesUnwritten text v (error.Fault fault) old new = HasFault text fault × Keeps old new
+LeavesUnwritten text v error.Write old new = WritesSortedFront text v old new
+LeavesUnwritten text v error.Memory old new = Keeps old new

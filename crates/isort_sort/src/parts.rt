@@ -1,0 +1,99 @@
+//! A sorted text, part by part, as it is made.
+ghost use Rattle.std.specs.Prelude.{◌≡◌, ◌++◌, ◌≤◌, ℕ, List, [], length, slice_range, IfOk, IfErr, IfSome};
+ghost use Rattle.std.specs.Str.{IsUtf8};
+ghost use Rattle.isort_settings.specs.Values.{Values, values};
+ghost use Rattle.isort_sort.specs.Parts.{part_text, left_of, HasMade, Makes};
+ghost use Rattle.isort_sort.specs.Reading.{IsFoundIn};
+ghost use Rattle.isort_sort.specs.Sorted.{IsLaidOut};
+
+use crate::answer::SortError;
+use crate::arrange::arrange;
+use crate::finder::FoundBlock;
+use crate::line_end::LineEnd;
+use crate::read::{FoundBlocks, FoundText};
+use isort_settings::Settings;
+use std::alloc::Global;
+use std::vec::IntoIter;
+
+/// What a sorted text has up to the end of a block.
+#[derive(Drop)]
+pub(crate) struct Part<'t> {
+    /// What stays of the text before the block.
+    pub(crate) before: &'t [u8],
+    /// The layout of the block.
+    pub(crate) layout: String,
+}
+
+/// The bytes of a text from one place up to another.
+fn between(text: &[u8], start: usize, stop: usize) -> &[u8]
+    requires ordered { start ≤ stop }
+    requires within { stop ≤ length text.now }
+    ensures { result.now ≡ slice_range text.now start stop }
+{
+    &text[start..stop]
+}
+
+impl Part<'_> {
+    /// What follows the part, where the bytes begin with it.
+    pub(crate) fn cut_off<'b>(&self, bytes: &'b [u8]) -> Option<&'b [u8]>
+        ensures some { IfSome result (λ rest. bytes.now ≡ part_text self.now ++ rest.now) }
+        ensures none { result ≡ None → (rest : List ℕ) → bytes.now ≡ part_text self.now ++ rest → ⊥ }
+    {
+        bytes
+            .strip_prefix(self.before)?
+            .strip_prefix(self.layout.as_bytes())
+    }
+}
+
+/// The parts of a sorted text, one after another.
+#[derive(Drop)]
+pub(crate) struct Parts<'t> {
+    text: &'t [u8],
+    settings: &'t Settings,
+    /// The line end that is written.
+    end: LineEnd,
+    /// The byte after the last block that was laid out.
+    at: usize,
+    /// The blocks that are left.
+    blocks: IntoIter<FoundBlock>,
+}
+
+impl<'t> Parts<'t> {
+    /// The parts of the text, of which none is made yet.
+    pub(crate) fn new(text: &'t [u8], settings: &'t Settings, found: FoundBlocks) -> Parts<'t>
+        requires { IsFoundIn text.now (FoundText.Blocks found) }
+        ensures { HasMade text.now (values settings.now) result [] }
+    {
+        Parts {
+            text,
+            settings,
+            end: LineEnd::first_of(text),
+            at: 0,
+            blocks: found.blocks.into_iter(),
+        }
+    }
+
+    /// The part up to the end of the next block; none where no block is left.
+    pub(crate) fn next(&mut self, alloc: Global) -> Result<Option<Part<'t>>, SortError>
+        requires { (text : List ℕ) × (v : Values) × (out : List ℕ) × HasMade text v self.old out }
+        ensures ok { IfOk result (λ part. Makes self.old part self.new) }
+        ensures err { IfErr result (λ e. e ≡ SortError.Memory) }
+    {
+        let Some(block) = self.blocks.next() else {
+            return Ok(None);
+        };
+        let before = between(self.text, self.at, block.start);
+        self.at = block.stop;
+        let layout = arrange(alloc, self.settings, self.end, block)?;
+        Ok(Some(Part { before, layout }))
+    }
+
+    /// What stays of the text after the last block.
+    pub(crate) fn rest(&self) -> &'t [u8]
+        requires { (text : List ℕ) × (v : Values) × (out : List ℕ) × HasMade text v self.now out }
+        ensures laid { (text : List ℕ) (v : Values) (out : List ℕ) → HasMade text v self.now out → left_of self.now ≡ [] → IsLaidOut text v (out ++ result.now) }
+        ensures utf8 { left_of self.now ≡ [] → IsUtf8 result.now }
+    {
+        between(self.text, self.at, self.text.len())
+    }
+}
