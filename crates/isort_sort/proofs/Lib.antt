@@ -17,6 +17,8 @@ pub mod MarkLemmas
 pub mod RoleLemmas
 pub mod SkipLemmas
 pub mod RowsText
+pub mod SilenceLemmas
+pub mod PassingLemmas
 pub mod LineLemmas
 pub mod LinesRead
 pub mod ReadingLemmas

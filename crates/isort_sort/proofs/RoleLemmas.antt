@@ -11,7 +11,7 @@ begins : (ts : List Terminal) (is : List Imported) → IsImport ts is → begins
 begins ts is (import_statement rest items h) = refl
 begins ts is (from_statement all from rest items e h k) = ap begins_import e
 
-sortable_begins : (line : LogicalLine) → IsSortable line → begins_so line ≡ true
+pub sortable_begins : (line : LogicalLine) → IsSortable line → begins_so line ≡ true
 sortable_begins line h = ap (λ k. is_code k && begins_import (terminals_of line)) h.code ∙ begins (terminals_of line) h.imported h.is
 
 -- a line of another shape can't be sorted

@@ -16,7 +16,7 @@ put_spelled : (p : Piece) (us : List (List Piece)) → flat_map spelled (put_fir
 put_spelled p [] = append-nil (p.text ++ [])
 put_spelled p (u ∷ us) = append_assoc p.text (spelled u) (flat_map spelled us)
 
-cut_spelled : (depth : ℕ) (ps : List Piece) → flat_map spelled (cut depth ps) ≡ spelled ps
+pub cut_spelled : (depth : ℕ) (ps : List Piece) → flat_map spelled (cut depth ps) ≡ spelled ps
 cut_spelled depth [] = refl
 cut_spelled depth (p ∷ ps) = by (is_line_end_class p.class && (depth == 0)) (cut_spelled depth ps) (cut_spelled (depth_after depth p) ps)
   where
@@ -28,7 +28,7 @@ cut_spelled depth (p ∷ ps) = by (is_line_end_class p.class && (depth == 0)) (c
 abbrev pub texts_of_lines : List LogicalLine → List ℕ
 texts_of_lines lines = flat_map (λ line. line.text) lines
 
-lines_spelled : (offset line : ℕ) (us : List (List Piece)) → texts_of_lines (lines_from offset line us) ≡ encode_utf8_all (flat_map spelled us)
+pub lines_spelled : (offset line : ℕ) (us : List (List Piece)) → texts_of_lines (lines_from offset line us) ≡ encode_utf8_all (flat_map spelled us)
 lines_spelled offset line [] = refl
 lines_spelled offset line (u ∷ us) = ap (λ (t : List ℕ). encode_utf8_all (spelled u) ++ t) (lines_spelled (offset + byte_len (spelled u)) (line + line_ends (spelled u)) us) ∙ sym (encodes-append (spelled u) (flat_map spelled us))
 

@@ -1,10 +1,11 @@
 //! The comments of a logical line.
-ghost use Rattle.std.specs.Prelude.{◌≡◌, IfOk, map, string_bytes};
+ghost use Rattle.std.specs.Prelude.{◌≡◌, IfOk, IsTrue, map, string_bytes};
 ghost use Rattle.std.specs.List.{list_any};
 ghost use Rattle.py_lines.specs.Lines.{line_in};
 ghost use Rattle.py_imports.specs.Action.{says};
-ghost use Rattle.isort_sort.specs.Line.{comment_texts, own_comments, stripped, without_hash};
+ghost use Rattle.isort_sort.specs.Line.{IsSilent, comment_texts, own_comments, stripped, without_hash};
 
+use memchr::memmem;
 use py_imports::{Action, says};
 use py_lines::Unit;
 use std::alloc::{AllocError, Global};
@@ -20,10 +21,27 @@ fn content(comment: &str) -> &str
     text.trim_start_matches(SPACE).trim_end_matches(SPACE)
 }
 
+/// Whether `isort:` stands nowhere in the text. Most texts are so, and no part of one says an action.
+pub(crate) fn is_silent(text: &[u8]) -> bool
+    ensures { IsTrue result → IsSilent text.now }
+{
+    memmem::find(text, b"isort:").is_none()
+}
+
+/// Whether the text of a string says the action.
+pub(crate) fn string_says(text: &str, action: Action) -> bool
+    ensures { result ≡ says action text.now }
+{
+    !is_silent(text.as_bytes()) && says(text, action)
+}
+
 /// Whether a comment of the line says the action.
 pub(crate) fn comments_say(unit: &Unit<'_>, action: Action) -> bool
     ensures { result ≡ list_any (says action) (comment_texts (line_in unit.now)) }
 {
+    if is_silent(unit.text.as_bytes()) {
+        return false;
+    }
     'tokens: for (place, token) in unit.tokens.iter().enumerate() {
         if token.kind.is_comment() && says(unit.word(place), action) {
             return true;

@@ -169,6 +169,15 @@ impl BlockFinder {
         self.place
     }
 
+    /// Takes in a line of so many bytes, whatever it is, where no block may go on.
+    pub(crate) fn pass(&mut self, len: usize)
+        requires closed { (finding_value self.old).opened ≡ None }
+        requires fits { (finding_value self.old).place + len < 2 ^ 64 }
+        ensures value { finding_value self.new ≡ record (finding_value self.old) { place = (finding_value self.old).place + len } }
+    {
+        self.place += len;
+    }
+
     /// Takes in a line without tokens.
     pub(crate) fn push_blank(&mut self, line: LineStop)
         requires counted { IsCounted (finding_value self.old) }

@@ -1,22 +1,23 @@
 //! Reading a text that is to be sorted, and finding its blocks.
-ghost use Rattle.std.specs.Prelude.{◌≡◌, ℕ, ◌+◌, ◌-◌, ◌<◌, ◌≤◌, ◌^◌, MatchOption, ⊤, List, ◌∷◌, [], ◌++◌, length, map, IfOk, IfErr, OnOk};
+ghost use Rattle.std.specs.Prelude.{◌≡◌, ℕ, ◌+◌, ◌-◌, ◌<◌, ◌≤◌, ◌^◌, MatchOption, ⊤, List, ◌∷◌, [], ◌++◌, false, length, map, IsTrue, IfOk, IfErr, OnOk};
 ghost use Rattle.py_lines.specs.Lines.{line_in};
 ghost use Rattle.py_lines.specs.LogicalLine.{LogicalLine};
 ghost use Rattle.py_imports.specs.Binds.{Binds};
 ghost use Rattle.py_imports.specs.Bound.{bound_of};
 ghost use Rattle.isort_sort.specs.Answers.{IsRefused};
 ghost use Rattle.isort_sort.specs.FoundValues.{finding_value, IsCounted};
+ghost use Rattle.isort_sort.specs.Line.{IsSilent};
 ghost use Rattle.isort_sort.specs.Reading.{FindsLine, IsReadSoFar, IsReadBefore, IsFoundIn};
 ghost use Rattle.isort_sort.specs.Row.{mark_after};
 ghost use Rattle.isort_sort.specs.Sorted.{IsAccepted};
 
 use crate::answer::SortError;
-use crate::comment::{comment_texts, own_comments};
+use crate::comment::{comment_texts, is_silent, own_comments};
 use crate::finder::{BlockFinder, FoundBlock, LineStop};
 use crate::member::Member;
 use crate::row::{Role, indentation, is_off_after, mark_len, role_of};
 use crate::skip::SkipReader;
-use py_imports::{Binding, bindings_of};
+use py_imports::{Binding, bindings_of, has_first_word};
 use py_lines::{Lines, Unit};
 use std::alloc::Global;
 
@@ -88,6 +89,35 @@ impl LineReader {
         self.off = is_off_after(unit, self.off);
         self.skip.push(unit);
         Ok(())
+    }
+
+    /// Passes over the line, where no block needs it: it has no import statement and holds no `isort:`, as each line of a
+    /// silent text, and no block may go on. The text's first line and the string that the text may begin with are read.
+    /// Most lines are passed over. The result is whether this one was.
+    #[inline(always)]
+    fn pass(&mut self, unit: &Unit<'_>, silent: bool) -> bool
+        requires silent { IsTrue silent → IsSilent (line_in unit.now).text }
+        requires counted { IsCounted (finding_value self.old.blocks) }
+        requires fits { (finding_value self.old.blocks).place + length (line_in unit.now).text < 2 ^ 64 }
+        ensures on { IsTrue result → (lines : List LogicalLine) → IsReadSoFar lines self.old → IsReadSoFar (lines ++ line_in unit.now ∷ []) self.new }
+        ensures binds { IsTrue result → Binds (line_in unit.now) [] }
+        ensures counted { IsCounted (finding_value self.new.blocks) }
+        ensures place { IsTrue result → (finding_value self.new.blocks).place ≤ (finding_value self.old.blocks).place + length (line_in unit.now).text }
+        ensures same { result ≡ false → self.new ≡ self.old }
+    {
+        if !self.begun
+            || self.blocks.is_open()
+            || self.skip.begins_by(unit)
+            || has_first_word(unit)
+        {
+            return false;
+        }
+        let text = unit.text.as_bytes();
+        if !silent && !is_silent(text) {
+            return false;
+        }
+        self.blocks.pass(text.len());
+        true
     }
 
     /// Begins the text where this line is its first. The result is how many bytes of a byte order mark the line has.
@@ -176,9 +206,13 @@ pub(crate) fn find_blocks(alloc: Global, text: &[u8]) -> Result<FoundText, SortE
     ensures ok { IfOk result (λ found. IsFoundIn text.now found) }
     ensures err { IfErr result (λ e. IsRefused text.now e) }
 {
+    let silent = is_silent(text);
     let mut lines = Lines::new(alloc, text)?;
     let mut reader = LineReader::new(alloc);
     'lines: while let Some(unit) = lines.next_unit()? {
+        if reader.pass(&unit, silent) {
+            continue;
+        }
         let bindings = bindings_of(alloc, &unit)?;
         reader.push(alloc, &unit, bindings)?;
     }

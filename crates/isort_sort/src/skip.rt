@@ -10,8 +10,8 @@ ghost use Rattle.isort_sort.specs.Line.{comment_texts};
 ghost use Rattle.isort_sort.specs.Reading.{has_code, IsSkipSoFar};
 ghost use Rattle.isort_sort.specs.Row.{is_string, string_skips};
 
-use crate::comment::comments_say;
-use py_imports::{Action, says};
+use crate::comment::{comments_say, string_says};
+use py_imports::Action;
 use py_lines::{TokKind, Token, Unit};
 
 /// The place of the first token that is no comment.
@@ -41,7 +41,7 @@ fn string_skips(unit: &Unit<'_>) -> bool
 {
     match first_code(unit.tokens) {
         Some(place) => {
-            is_string(unit.tokens[place].kind) && says(unit.word(place), Action::SkipFile)
+            is_string(unit.tokens[place].kind) && string_says(unit.word(place), Action::SkipFile)
         }
         None => false,
     }
@@ -65,6 +65,13 @@ impl SkipReader {
             skips: false,
             begun: false,
         }
+    }
+
+    /// Whether the line has the first token of the text that is no comment.
+    pub(crate) fn begins_by(&self, unit: &Unit<'_>) -> bool
+        ensures { result ≡ not self.now.begun && has_code (line_in unit.now) }
+    {
+        !self.begun && has_code(unit)
     }
 
     /// Reads one more line.

@@ -1,12 +1,18 @@
-use Rattle.std.proofs.Common.{◌||◌, ◌&&◌, ◌+◌, drop, get_or, sym, ap, ◌∙◌}
+use Rattle.std.proofs.Common.{◌||◌, ◌&&◌, ◌+◌, drop, get_or, sym, ap, ◌∙◌, subst}
 use Rattle.std.specs.Prelude.{slice_range}
 use Rattle.std.proofs.lemmas.Option.{slice_get-get_or}
+use Rattle.py_lines.specs.Lines.{line_in}
 use Rattle.py_lines.specs.declared.token.Token.{Token}
 use Rattle.py_lines.specs.declared.token.TokKind.TheVariants as kind
 use Rattle.py_imports.specs.Action.{says}
 use Rattle.isort_sort.proofs.CommentLemmas.{comments_say, says_on}
+use Rattle.isort_sort.specs.Line.{IsSilent}
+use Rattle.isort_sort.proofs.SilenceLemmas.{silent_comments}
 use Rattle.isort_sort.proofs.comment.comments_say.Goals as goal
 use Rattle.isort_sort.proofs.comment.comments_say.Goals.{else-is_comment-via-then-is_comment+else-says, else-is_comment-via-else-is_comment}
+
+pub returns-then-is_silent : goal.returns-then-is_silent
+returns-then-is_silent c = sym (silent_comments c.args.action (line_in c.args.unit.now) (subst IsSilent c.as_bytes.ensures.value (c.is_silent.ensures c.if-is_silent.true)))
 
 pub returns-then-says : goal.returns-then-says
 returns-then-says c =

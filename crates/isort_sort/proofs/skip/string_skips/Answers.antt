@@ -16,7 +16,7 @@ returns-then-is_string c =
     let t = get_or line.tokens c.in-Some.place none in
     let here = slice_get-get_or line.tokens c.in-Some.place none (place_within line.tokens c.in-Some.place c.in-Some.ensures) in
     let text = slice_range line.text t.start t.stop in
-    c.says.ensures
+    c.string_says.ensures
     ∙ ap (says action.SkipFile) (c.word.ensures t here)
     ∙ sym (string_found line c.in-Some.place t c.in-Some.ensures here ∙ ap (λ b. b && says action.SkipFile text) (sym c.is_string.ensures ∙ c.if-is_string.true))
 
