@@ -1,7 +1,8 @@
 //! The options and files of the command line, and its help.
 ghost use Rattle.std.specs.Prelude.{◌≡◌, IfOk, false};
 ghost use Rattle.clap.specs.Words.{app_of, rule_of};
-ghost use Rattle.isort_cmd.specs.Options.{flag_rule, number_rule, text_rule, with_listing_rules, with_settings_rules, with_sorting_rules, isort_app};
+ghost use Rattle.isort_cmd.specs.Options.{isort_app};
+ghost use Rattle.isort_cmd.specs.ParserSteps.{rule_of_option, with_letter_of, with_rules_of, with_value_of};
 
 use clap::{Arg, ArgAction, Command, value_parser};
 use std::alloc::{AllocError, Global};
@@ -23,34 +24,131 @@ Examples:
   isort -c a.py b.py  Say which of the two files are not sorted
   isort --identify -  List the imports of standard input";
 
-/// What the help says of the files and of each option.
+/// What the help says of the files.
 const FILES: &str = "Python files; - is standard input";
 
-const IDENTIFY: &str = "List the imports, and sort nothing";
+/// The help's heading of the options of a listing.
+const LISTING: &str = "Listing";
 
-const UNIQUE: &str = "List only the first of equal imports";
+/// The help's heading of the options of sorting.
+const SORTING: &str = "Sorting";
 
-const PACKAGES: &str = "List only the first import of each package";
+/// The help's heading of the options of sorting's settings.
+const SETTINGS: &str = "Settings of sorting";
 
-const MODULES: &str = "List only the first import of each module";
+/// What an option takes.
+enum OptionValue {
+    /// Nothing.
+    Flag,
+    /// A text, and what the help calls it.
+    Text(&'static str),
+    /// A whole number.
+    Number,
+}
 
-const ATTRIBUTES: &str = "List only the first import of each attribute of a module";
+/// An option of the command line.
+struct CommandOption {
+    heading: &'static str,
+    name: &'static str,
+    letter: Option<char>,
+    value: OptionValue,
+    help: &'static str,
+}
 
-const TOP_ONLY: &str = "List only the imports before the first function or class";
-
-const CHECK_ONLY: &str = "Change nothing, and say which files are not sorted";
-
-const CHECK: &str = "The same as --check-only";
-
-const STDOUT: &str = "Write the sorted text to standard output, not to the file";
-
-const SETTINGS_FILE: &str = "Read the settings from F, not from ./pyproject.toml";
-
-const PROFILE: &str = "Start from the settings of profile P; the only one is black";
-
-const LINE_LENGTH: &str = "Wrap imports longer than N characters, 1 to 10000";
-
-const MULTI_LINE: &str = "How to wrap: 0 grid, 1 vertical, 2 hanging, 3 vertical hanging";
+/// The options, in the order of the help.
+static OPTIONS: [CommandOption; 13] = [
+    CommandOption {
+        heading: LISTING,
+        name: "identify",
+        letter: None,
+        value: OptionValue::Flag,
+        help: "List the imports, and sort nothing",
+    },
+    CommandOption {
+        heading: LISTING,
+        name: "unique",
+        letter: None,
+        value: OptionValue::Flag,
+        help: "List only the first of equal imports",
+    },
+    CommandOption {
+        heading: LISTING,
+        name: "packages",
+        letter: None,
+        value: OptionValue::Flag,
+        help: "List only the first import of each package",
+    },
+    CommandOption {
+        heading: LISTING,
+        name: "modules",
+        letter: None,
+        value: OptionValue::Flag,
+        help: "List only the first import of each module",
+    },
+    CommandOption {
+        heading: LISTING,
+        name: "attributes",
+        letter: None,
+        value: OptionValue::Flag,
+        help: "List only the first import of each attribute of a module",
+    },
+    CommandOption {
+        heading: LISTING,
+        name: "top-only",
+        letter: None,
+        value: OptionValue::Flag,
+        help: "List only the imports before the first function or class",
+    },
+    CommandOption {
+        heading: SORTING,
+        name: "check-only",
+        letter: Some('c'),
+        value: OptionValue::Flag,
+        help: "Change nothing, and say which files are not sorted",
+    },
+    CommandOption {
+        heading: SORTING,
+        name: "check",
+        letter: None,
+        value: OptionValue::Flag,
+        help: "The same as --check-only",
+    },
+    CommandOption {
+        heading: SORTING,
+        name: "stdout",
+        letter: Some('d'),
+        value: OptionValue::Flag,
+        help: "Write the sorted text to standard output, not to the file",
+    },
+    CommandOption {
+        heading: SETTINGS,
+        name: "settings-file",
+        letter: None,
+        value: OptionValue::Text("F"),
+        help: "Read the settings from F, not from ./pyproject.toml",
+    },
+    CommandOption {
+        heading: SETTINGS,
+        name: "profile",
+        letter: None,
+        value: OptionValue::Text("P"),
+        help: "Start from the settings of profile P; the only one is black",
+    },
+    CommandOption {
+        heading: SETTINGS,
+        name: "line-length",
+        letter: Some('l'),
+        value: OptionValue::Number,
+        help: "Wrap imports longer than N characters, 1 to 10000",
+    },
+    CommandOption {
+        heading: SETTINGS,
+        name: "multi-line",
+        letter: Some('m'),
+        value: OptionValue::Number,
+        help: "How to wrap: 0 grid, 1 vertical, 2 hanging, 3 vertical hanging",
+    },
+];
 
 /// The parser of the command line.
 pub(crate) fn isort_command<'a>(alloc: Global) -> Result<Command<'a>, AllocError>
@@ -64,74 +162,56 @@ pub(crate) fn isort_command<'a>(alloc: Global) -> Result<Command<'a>, AllocError
         .required(true)
         .num_args(1..)
         .help(FILES);
-    let command = with_listing_options(alloc, command.arg(files)?)?;
-    let command = with_sorting_options(alloc, command)?;
-    with_settings_options(alloc, command)
+    with_options(alloc, command.arg(files)?, &OPTIONS)
 }
 
-/// The parser with the options of a listing too.
-fn with_listing_options<'a>(alloc: Global, command: Command<'a>) -> Result<Command<'a>, AllocError>
-    ensures { IfOk result (λ c. app_of c ≡ with_listing_rules (app_of command.entry)) }
+/// The parser with these options too.
+fn with_options<'a>(
+    alloc: Global,
+    command: Command<'a>,
+    options: &[CommandOption],
+) -> Result<Command<'a>, AllocError>
+    ensures { IfOk result (λ c. app_of c ≡ with_rules_of options.now (app_of command.entry)) }
 {
-    command
-        .next_help_heading("Listing")
-        .arg(flag(alloc, "identify", IDENTIFY))?
-        .arg(flag(alloc, "unique", UNIQUE))?
-        .arg(flag(alloc, "packages", PACKAGES))?
-        .arg(flag(alloc, "modules", MODULES))?
-        .arg(flag(alloc, "attributes", ATTRIBUTES))?
-        .arg(flag(alloc, "top-only", TOP_ONLY))
+    let mut command = command;
+    for option in options {
+        command = command
+            .next_help_heading(option.heading)
+            .arg(argument(alloc, option))?;
+    }
+    Ok(command)
 }
 
-/// The parser with the options of sorting too.
-fn with_sorting_options<'a>(alloc: Global, command: Command<'a>) -> Result<Command<'a>, AllocError>
-    ensures { IfOk result (λ c. app_of c ≡ with_sorting_rules (app_of command.entry)) }
-{
-    command
-        .next_help_heading("Sorting")
-        .arg(flag(alloc, "check-only", CHECK_ONLY).short('c'))?
-        .arg(flag(alloc, "check", CHECK))?
-        .arg(flag(alloc, "stdout", STDOUT).short('d'))
-}
-
-/// The parser with the options of sorting's settings too.
-fn with_settings_options<'a>(alloc: Global, command: Command<'a>) -> Result<Command<'a>, AllocError>
-    ensures { IfOk result (λ c. app_of c ≡ with_settings_rules (app_of command.entry)) }
-{
-    command
-        .next_help_heading("Settings of sorting")
-        .arg(text(alloc, "settings-file", "F", SETTINGS_FILE))?
-        .arg(text(alloc, "profile", "P", PROFILE))?
-        .arg(number(alloc, "line-length", LINE_LENGTH).short('l'))?
-        .arg(number(alloc, "multi-line", MULTI_LINE).short('m'))
-}
-
-/// An option without a value.
-fn flag<'a>(alloc: Global, name: &'a str, help: &'a str) -> Arg<'a>
-    ensures rule { rule_of result ≡ flag_rule name.entry.now }
+/// The option as the parser takes it.
+fn argument<'a>(alloc: Global, option: &CommandOption) -> Arg<'a>
+    ensures rule { rule_of result ≡ rule_of_option option.now }
     ensures local { result.global ≡ false }
 {
-    Arg::new(alloc, name)
-        .long(name)
-        .action(ArgAction::SetTrue)
-        .help(help)
+    let argument = Arg::new(alloc, option.name)
+        .long(option.name)
+        .help(option.help);
+    with_letter(with_value(argument, &option.value), option.letter)
 }
 
-/// An option with a text.
-fn text<'a>(alloc: Global, name: &'a str, value: &'a str, help: &'a str) -> Arg<'a>
-    ensures rule { rule_of result ≡ text_rule name.entry.now }
-    ensures local { result.global ≡ false }
+/// The argument with its value, if it takes one.
+fn with_value<'a>(argument: Arg<'a>, value: &OptionValue) -> Arg<'a>
+    ensures rule { rule_of result ≡ with_value_of value.now (rule_of argument.entry) }
+    ensures local { result.global ≡ argument.entry.global }
 {
-    Arg::new(alloc, name)
-        .long(name)
-        .value_name(value)
-        .help(help)
+    match *value {
+        OptionValue::Flag => argument.action(ArgAction::SetTrue),
+        OptionValue::Text(name) => argument.value_name(name),
+        OptionValue::Number => argument.value_name("N").value_parser(value_parser!(u32)),
+    }
 }
 
-/// An option with a whole number.
-fn number<'a>(alloc: Global, name: &'a str, help: &'a str) -> Arg<'a>
-    ensures rule { rule_of result ≡ number_rule name.entry.now }
-    ensures local { result.global ≡ false }
+/// The argument by one letter too, if it has one.
+fn with_letter<'a>(argument: Arg<'a>, letter: Option<char>) -> Arg<'a>
+    ensures rule { rule_of result ≡ with_letter_of letter (rule_of argument.entry) }
+    ensures local { result.global ≡ argument.entry.global }
 {
-    text(alloc, name, "N", help).value_parser(value_parser!(u32))
+    match letter {
+        Some(letter) => argument.short(letter),
+        None => argument,
+    }
 }

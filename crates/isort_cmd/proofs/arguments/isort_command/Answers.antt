@@ -1,7 +1,7 @@
 use Rattle.std.proofs.Common.{◌≡◌, ◌∙◌, ap, ap₂, codes, Option, true, false}
 use Rattle.std.proofs.lemmas.Result.{IfOk-weaker}
 use Rattle.clap.specs.Simple.{app_of_fields}
-use Rattle.clap.specs.Words.{Rule, app_of, new_app, rule_of}
+use Rattle.clap.specs.Words.{App, Rule, app_of, new_app, rule_of}
 use Rattle.clap.specs.declared.builder.arg.Arg.{Arg}
 use Rattle.clap.specs.declared.builder.range.ValueRange.{ValueRange}
 use Rattle.isort_cmd.specs.Options.{files_rule, isort_app, with_listing_rules, with_settings_rules, with_sorting_rules}
@@ -20,6 +20,4 @@ returns c =
     let start : app_of c.in_ok-command.command ≡ new_app (codes "isort") =
     ap app_of_fields c.in_ok-command.ensures.0 ∙ ap app_of_fields c.after_help.ensures ∙ ap app_of_fields c.about.ensures ∙ c.new.ensures.app in
     let first = added c.in_ok-arg.ensures local start files in
-    let second = c.in_ok-command-2.ensures ∙ ap with_listing_rules first in
-    let third = c.in_ok-command-3.ensures ∙ ap with_sorting_rules second in
-    IfOk-weaker c.with_settings_options.result _ _ (λ new h. h ∙ ap with_settings_rules third) c.with_settings_options.ensures
+    IfOk-weaker c.with_options.result _ _ (λ new h. h ∙ ap (λ (a : App). with_settings_rules (with_sorting_rules (with_listing_rules a))) first) c.with_options.ensures
