@@ -12,7 +12,7 @@ use std::alloc::Global;
 use std::io::Read;
 
 /// How many bytes a read asks for.
-const PIECE: usize = 65536;
+const PIECE: usize = 16384;
 
 /// One read, tried again where it was interrupted fewer than 1000 times in a row.
 pub(crate) fn read_piece<R: Read>(

@@ -9,7 +9,7 @@ abbrev pub invariant-pieces : goal.invariant-pieces
 invariant-pieces g l = record {
   fine : last_of l.reader ≡ Fine;
   within : vec_len l.text ≤ l.max;
-  room : length l.piece ≡ 65536;
+  room : length l.piece ≡ 16384;
   front : Consumes (g.R.Read.remaining (inner_of l.initial.reader)) (g.R.Read.remaining (inner_of l.reader)) (vec_items l.text);
 }
 
