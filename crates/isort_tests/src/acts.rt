@@ -9,9 +9,10 @@ use std::marker::Model;
 use std::test::Fail;
 
 /// More bytes than a text of these tests has.
-const MOST: u64 = 1000;
+const MOST: u64 = 1_000_000;
 
-fn tell_binding(alloc: Global, binding: &Binding, out: &mut String) -> Result<(), Fail> {
+/// An import: its line, and its statement.
+pub(crate) fn tell_binding(alloc: Global, binding: &Binding, out: &mut String) -> Result<(), Fail> {
     let line = binding.line;
     let indented = if binding.indented { "indented " } else { "" };
     let statement = binding.statement(alloc)?;
@@ -19,7 +20,8 @@ fn tell_binding(alloc: Global, binding: &Binding, out: &mut String) -> Result<()
     Ok(())
 }
 
-fn tell_fault(fault: Fault, out: &mut String) -> Result<(), Fail> {
+/// A fault: what is printed of it, its byte, and its line.
+pub(crate) fn tell_fault(fault: Fault, out: &mut String) -> Result<(), Fail> {
     let Fault { kind, offset, line } = fault;
     writeln!(out, "{kind}, {offset}, {line}")?;
     Ok(())
@@ -204,7 +206,8 @@ fn tell_step(alloc: Global, finder: &mut Fed, piece: &[u8], out: &mut String) ->
     tell_state(finder, out)
 }
 
-fn tell_place(cursor: &Cursor, out: &mut String) -> Result<(), Fail> {
+/// Where a finder stands, and how many imports it has given.
+pub(crate) fn tell_place(cursor: &Cursor, out: &mut String) -> Result<(), Fail> {
     let offset = cursor.offset();
     let given = cursor.given();
     writeln!(out, "at {offset}, {given}")?;
@@ -261,17 +264,17 @@ fn go_by_bytes(alloc: Global, mut finder: Fed, text: &[u8], out: &mut String) ->
 
 /// What is done with a finder.
 #[derive(Clone, Copy)]
-pub(crate) enum Act {
+pub(crate) enum Act<'t> {
     /// Feeds a piece once, and tells how many bytes were taken, or the fault.
-    Feed(&'static [u8]),
+    Feed(&'t [u8]),
     /// Feeds a piece whole, and tells the imports that get ready, and its fault.
-    Piece(&'static [u8]),
+    Piece(&'t [u8]),
     /// Feeds a piece once, and tells that, the state, the imports that are ready, and the state after them.
-    Step(&'static [u8]),
+    Step(&'t [u8]),
     /// Feeds two pieces whole, and ends the text, up to a fault.
-    Text(&'static [u8], &'static [u8]),
+    Text(&'t [u8], &'t [u8]),
     /// Feeds this text byte by byte, and ends it, up to a fault. It stops before each byte, and goes on from there.
-    Bytes(&'static [u8]),
+    Bytes(&'t [u8]),
     /// Tells the next import that is ready, if one is.
     Next,
     /// Tells whether an import is ready.
@@ -283,9 +286,11 @@ pub(crate) enum Act {
     /// Stops, tells the place, and goes on from there.
     Stop,
     /// Stops, tells the place, gives the other imports of this text from there, tells the place, and goes on from there.
-    Whole(&'static [u8]),
+    Whole(&'t [u8]),
     /// Gives so many imports of this text from its start on, tells the place, and goes on from there.
-    First(&'static [u8], usize),
+    First(&'t [u8], usize),
+    /// Gives all imports of this text, from its start on, and its end or fault, and goes on from there.
+    Found(&'t [u8]),
 }
 
 fn tell_next(alloc: Global, finder: &mut Fed, out: &mut String) -> Result<(), Fail> {
@@ -410,8 +415,35 @@ fn go_first(
     Fed::resume(alloc, cursor)
 }
 
+// All imports of a whole text, and its end or fault.
+fn tell_found(alloc: Global, finder: &mut Finder, out: &mut String) -> Result<(), Fail> {
+    for _ in 0..100 {
+        match finder.next_import() {
+            Ok(Some(binding)) => tell_binding(alloc, &binding, out)?,
+            Ok(None) => {
+                out.push_str("end\n")?;
+                return Ok(());
+            }
+            Err(error) => return tell_error(error, out),
+        }
+    }
+    Err(Fail::from("there are too many imports"))
+}
+
+// A finder that goes on from where one of this whole text stops, which tells all of it.
+fn go_found(
+    alloc: Global,
+    text: &[u8],
+    options: FindOptions,
+    out: &mut String,
+) -> Result<Fed, Fail> {
+    let mut whole = Finder::new(alloc, text, options)?;
+    tell_found(alloc, &mut whole, out)?;
+    Fed::resume(alloc, whole.stop())
+}
+
 // Feeds a piece, or two.
-fn tell_fed(alloc: Global, finder: &mut Fed, act: Act, out: &mut String) -> Result<(), Fail> {
+fn tell_fed(alloc: Global, finder: &mut Fed, act: Act<'_>, out: &mut String) -> Result<(), Fail> {
     match act {
         Act::Feed(piece) => tell_feed(finder, piece, out),
         Act::Piece(piece) => {
@@ -425,7 +457,7 @@ fn tell_fed(alloc: Global, finder: &mut Fed, act: Act, out: &mut String) -> Resu
 }
 
 // Does what feeds nothing, and leaves a finder where it is.
-fn tell_call(alloc: Global, finder: &mut Fed, act: Act, out: &mut String) -> Result<(), Fail> {
+fn tell_call(alloc: Global, finder: &mut Fed, act: Act<'_>, out: &mut String) -> Result<(), Fail> {
     match act {
         Act::Next => tell_next(alloc, finder, out),
         Act::Ready => tell_whether(finder, out),
@@ -440,7 +472,7 @@ fn go(
     alloc: Global,
     finder: Fed,
     options: FindOptions,
-    act: Act,
+    act: Act<'_>,
     out: &mut String,
 ) -> Result<Fed, Fail> {
     match act {
@@ -448,6 +480,7 @@ fn go(
         Act::Stop => go_on(alloc, finder, out),
         Act::Whole(text) => go_whole(alloc, finder, text, out),
         Act::First(text, most) => go_first(alloc, text, options, most, out),
+        Act::Found(text) => go_found(alloc, text, options, out),
         _ => Ok(finder),
     }
 }
@@ -457,7 +490,7 @@ fn tell_act(
     alloc: Global,
     mut finder: Fed,
     options: FindOptions,
-    act: Act,
+    act: Act<'_>,
     out: &mut String,
 ) -> Result<Fed, Fail> {
     tell_call(alloc, &mut finder, act, out)?;
@@ -468,7 +501,7 @@ fn tell_act(
 fn tell_all(
     alloc: Global,
     options: FindOptions,
-    acts: &[Act],
+    acts: &[Act<'_>],
     out: &mut String,
 ) -> Result<(), Fail> {
     let mut finder = Fed::new(alloc, options)?;
@@ -479,7 +512,11 @@ fn tell_all(
 }
 
 /// What a finder tells with which all this is done, in order.
-pub(crate) fn tell_acts(alloc: Global, options: FindOptions, acts: &[Act]) -> Result<String, Fail> {
+pub(crate) fn tell_acts(
+    alloc: Global,
+    options: FindOptions,
+    acts: &[Act<'_>],
+) -> Result<String, Fail> {
     let mut out = String::new(alloc);
     tell_all(alloc, options, acts, &mut out)?;
     Ok(out)

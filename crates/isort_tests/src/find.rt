@@ -1,3 +1,4 @@
+use crate::acts::{tell_binding, tell_fault, tell_place};
 use isort_find::laws::equal_keys;
 use isort_find::{Cursor, FindError, FindOptions, Finder, ImportKey, KeyText, ResumeError, key_of};
 use py_imports::{Binding, ImportError};
@@ -7,20 +8,6 @@ use std::test::Fail;
 
 const fn options(unique: Option<ImportKey>, top_only: bool) -> FindOptions {
     FindOptions { unique, top_only }
-}
-
-fn tell_binding(alloc: Global, binding: &Binding, out: &mut String) -> Result<(), Fail> {
-    let line = binding.line;
-    let indented = if binding.indented { "indented " } else { "" };
-    let statement = binding.statement(alloc)?;
-    writeln!(out, "{line} {indented}{statement}")?;
-    Ok(())
-}
-
-fn tell_fault(fault: Fault, out: &mut String) -> Result<(), Fail> {
-    let Fault { kind, offset, line } = fault;
-    writeln!(out, "{kind}, {offset}, {line}")?;
-    Ok(())
 }
 
 // What the next call answers goes after `out`, on a line of its own.
@@ -34,13 +21,6 @@ fn tell(alloc: Global, finder: &mut Finder<'_>, out: &mut String) -> Result<(), 
         Err(FindError::Fault(fault)) => tell_fault(fault, out),
         Err(error) => Err(Fail::from(error)),
     }
-}
-
-fn tell_place(cursor: &Cursor, out: &mut String) -> Result<(), Fail> {
-    let offset = cursor.offset();
-    let given = cursor.given();
-    writeln!(out, "at {offset}, {given}")?;
-    Ok(())
 }
 
 fn tell_answers(

@@ -7,6 +7,8 @@ mod acts;
 #[cfg(test)]
 mod command_line;
 #[cfg(test)]
+mod devices;
+#[cfg(test)]
 mod errors;
 #[cfg(test)]
 mod find;

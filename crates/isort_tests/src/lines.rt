@@ -13,8 +13,8 @@ fn tell_token(told: &mut String, unit: &Unit<'_>, i: usize) -> Result<(), Fail> 
     Ok(())
 }
 
-// A unit: what it holds, its byte, line, indentation and line end, and then its tokens.
-fn tell_unit(told: &mut String, unit: &Unit<'_>) -> Result<(), Fail> {
+/// A unit: what it holds, its byte, line, indentation and line end, and then its tokens.
+pub(crate) fn tell_unit(told: &mut String, unit: &Unit<'_>) -> Result<(), Fail> {
     let shown = (unit.kind, unit.offset, unit.line, unit.indent, unit.end_len);
     write!(told, "{shown:?}")?;
     for i in 0..unit.tokens.len() {
@@ -23,8 +23,8 @@ fn tell_unit(told: &mut String, unit: &Unit<'_>) -> Result<(), Fail> {
     Ok(())
 }
 
-// A fault: its byte, and what is printed of it.
-fn tell_fault(told: &mut String, error: LexError) -> Result<(), Fail> {
+/// A fault: its byte, and what is printed of it.
+pub(crate) fn tell_fault(told: &mut String, error: LexError) -> Result<(), Fail> {
     if let LexError::Fault(fault) = error {
         let offset = fault.offset;
         write!(told, "{offset} {error}")?;

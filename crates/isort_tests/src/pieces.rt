@@ -1,5 +1,7 @@
 use crate::acts::{Act, tell_acts};
 use isort_find::{FindOptions, ImportKey};
+use std::alloc::Global;
+use std::process::Abort;
 use std::test::Fail;
 
 const PLAIN: FindOptions = FindOptions {
@@ -32,8 +34,15 @@ const UNIQUE: FindOptions = FindOptions {
     top_only: false,
 };
 
-// What each of these texts tells, with these options.
-const ROWS: [(&[u8], FindOptions, &str); 33] = [
+// A text, options, and what is told of the text with them.
+type Row<'t> = (&'t [u8], FindOptions, &'static str);
+
+const ROWS: &[Row<'static>] = &[
+    (
+        b"import a, b, c",
+        PLAIN,
+        "1 import a\n1 import b\n1 import c\nend\nat 14, 3\n",
+    ),
     (
         b"import os, sys as s",
         PLAIN,
@@ -185,16 +194,115 @@ const ROWS: [(&[u8], FindOptions, &str); 33] = [
     ),
 ];
 
+// Cuts each text in two at every byte. The two pieces tell what the row says, and the first one alone tells what a finder
+// of whole texts tells of it.
+fn are_told_in_every_cut(rt: &impl Abort, alloc: Global, rows: &[Row<'_>]) -> Result<(), Fail> {
+    for (text, options, told) in rows {
+        for cut in 0..=text.len() {
+            let (first, second) = (&text[..cut], &text[cut..]);
+            let both = tell_acts(alloc, *options, &[Act::Text(first, second), Act::Stop])?;
+            assert!(rt; both.as_str() == *told, "{cut}: {both} {told}");
+            let piece = tell_acts(alloc, *options, &[Act::Text(first, b""), Act::Stop])?;
+            let whole = tell_acts(alloc, *options, &[Act::Found(first), Act::Stop])?;
+            assert!(rt;
+                piece.as_str() == whole.as_str(),
+                "{cut} of {told}: {piece} {whole}"
+            );
+        }
+    }
+    Ok(())
+}
+
 #[test]
 fn tells_the_same_in_every_cut(rt: HostRuntime) -> Result<(), Fail> {
-    for (text, options, told) in ROWS.iter() {
-        for cut in 0..=text.len() {
-            let found = tell_acts(
-                rt.alloc(),
-                *options,
-                &[Act::Text(&text[..cut], &text[cut..]), Act::Stop],
-            )?;
-            assert!(rt; found.as_str() == *told, "{cut}: {found} {told}");
+    are_told_in_every_cut(&rt, rt.alloc(), ROWS)
+}
+
+const TOO_DEEP: &str = "F8 more than 200 brackets open, 200, 1\nat 0, 0\n";
+
+#[test]
+fn counts_brackets_in_every_cut(rt: HostRuntime) -> Result<(), Fail> {
+    let mut text = [b'('; 401];
+    for byte in text[201..].iter_mut() {
+        *byte = b')';
+    }
+    let open = "F6 bracket not closed, 199, 1\nat 0, 0\n";
+    let rows = [
+        (&text[1..401], PLAIN, "end\nat 400, 0\n"),
+        (&text[1..201], PLAIN, open),
+        (&text[..201], PLAIN, TOO_DEEP),
+    ];
+    are_told_in_every_cut(&rt, rt.alloc(), &rows)
+}
+
+#[test]
+fn refuses_deep_texts(rt: HostRuntime) -> Result<(), Fail> {
+    let text = b"(".as_slice().repeat(rt.alloc(), 100_000)?;
+    for act in [Act::Text(text.as_slice(), b""), Act::Found(text.as_slice())] {
+        let told = tell_acts(rt.alloc(), PLAIN, &[act, Act::Stop])?;
+        assert_eq!(rt; told.as_str(), TOO_DEEP);
+    }
+    Ok(())
+}
+
+const ACCEPTED: &str = "end\n";
+
+const OPEN_STRING: &str = "F3 string not closed, 0, 1\n";
+
+const OPEN_TRIPLE: &str = "F4 triple-quoted string not closed, 0, 1\n";
+
+// Texts, and what is told of their prefixes of 0, 1, 2 bytes and so on.
+const PREFIXES: &[(&[u8], &[&str])] = &[
+    (
+        b"\"\"\"a\"\"\"",
+        &[
+            ACCEPTED,
+            OPEN_STRING,
+            ACCEPTED,
+            OPEN_TRIPLE,
+            OPEN_TRIPLE,
+            OPEN_TRIPLE,
+            OPEN_TRIPLE,
+            ACCEPTED,
+        ],
+    ),
+    (
+        b"rb'x'",
+        &[
+            ACCEPTED,
+            ACCEPTED,
+            ACCEPTED,
+            OPEN_STRING,
+            OPEN_STRING,
+            ACCEPTED,
+        ],
+    ),
+    (
+        b"a\\\r\n",
+        &[
+            ACCEPTED,
+            ACCEPTED,
+            "F7 backslash not before a line end, 1, 1\n",
+            ACCEPTED,
+            ACCEPTED,
+        ],
+    ),
+    (b"\xc3\xa9", &[ACCEPTED, "F1 not UTF-8, 0, 1\n", ACCEPTED]),
+];
+
+#[test]
+fn tells_of_every_prefix(rt: HostRuntime) -> Result<(), Fail> {
+    for (text, answers) in PREFIXES {
+        assert_eq!(rt; answers.len(), text.len() + 1);
+        for (upto, want) in answers.iter().enumerate() {
+            let prefix = &text[..upto.min(text.len())];
+            let piece = tell_acts(rt.alloc(), PLAIN, &[Act::Text(prefix, b"")])?;
+            let whole = tell_acts(rt.alloc(), PLAIN, &[Act::Found(prefix)])?;
+            assert_eq!(rt;
+                (piece.as_str(), whole.as_str()),
+                (*want, *want),
+                "{upto} of {text:?}"
+            );
         }
     }
     Ok(())
@@ -324,7 +432,7 @@ fn tells_each_step(rt: HostRuntime) -> Result<(), Fail> {
 }
 
 // What each of these finders tells, with these options, of what is done with it.
-type Script = (FindOptions, &'static [Act], &'static str);
+type Script = (FindOptions, &'static [Act<'static>], &'static str);
 
 #[test]
 fn takes_nothing_while_an_import_is_ready(rt: HostRuntime) -> Result<(), Fail> {

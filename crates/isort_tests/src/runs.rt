@@ -1,6 +1,7 @@
 ghost use Rattle.std.specs.Prelude.{◌≡◌, ◌≤◌, ◌^◌};
 ghost use Rattle.isort_sort.specs.Metered.{last_of};
 
+use crate::writing::Slow;
 use isort_cmd::*;
 use isort_settings::SettingKey;
 use py_lines::{Fault, FaultKind};
@@ -9,14 +10,14 @@ use std::io;
 use std::io::{ErrorKind, Read, Write};
 use std::test::Fail;
 
-const ALL: FindOptions = FindOptions {
+pub(crate) const ALL: FindOptions = FindOptions {
     unique: None,
     top_only: false,
 };
 
-const FIRST: &str = "import os, sys as s  # import x\n\"import a\"\nimport os.path\n";
+pub(crate) const FIRST: &str = "import os, sys as s  # import x\n\"import a\"\nimport os.path\n";
 
-const FIRST_LINES: &str = "-:1 import os\n-:1 import sys as s\n-:3 import os.path\n";
+pub(crate) const FIRST_LINES: &str = "-:1 import os\n-:1 import sys as s\n-:3 import os.path\n";
 
 const fn fault(kind: FaultKind, offset: u64, line: u64) -> RunError {
     RunError::Fault(Fault { kind, offset, line })
@@ -299,34 +300,10 @@ fn lists_two_texts_to_one_writer(rt: HostRuntime) -> Result<(), Fail> {
     Ok(())
 }
 
-// A writer that takes at most `piece` bytes a call, and `room` bytes in all; then it fails.
-#[derive(Drop)]
-struct Narrow {
-    taken: Vec<u8>,
-    piece: usize,
-    room: usize,
-}
-
-impl Write for Narrow {
-    fn write(&mut self, buf: &[u8]) -> io::Result<usize> {
-        let count = buf.len().min(self.piece).min(self.room);
-        if count == 0 {
-            return Err(io::Error::from(ErrorKind::Other));
-        }
-        self.taken.extend_from_slice(&buf[..count])?;
-        self.room -= count;
-        Ok(count)
-    }
-
-    fn flush(&mut self) -> io::Result<()> {
-        Ok(())
-    }
-}
-
-// Whether the lines of `FIRST` are written to such a writer with this end, so far, and how its last call ended.
+// Whether the lines of `FIRST` are written to this writer with this end, so far, and how its last call ended.
 fn writes(
     alloc: Global,
-    narrow: Narrow,
+    narrow: Slow,
     want: Result<(), RunError>,
     last: Last,
     lines: &str,
@@ -349,8 +326,7 @@ fn writes_in_pieces(rt: HostRuntime) -> Result<(), Fail> {
         (1000, 5, Err(RunError::Write), Last::Failed, "-:1 i"),
         (1, 1000, Ok(()), Last::Fine, FIRST_LINES),
     ] {
-        let taken = Vec::new(rt.alloc());
-        let narrow = Narrow { taken, piece, room };
+        let narrow = Slow::new(rt.alloc(), room, piece);
         assert!(rt; writes(rt.alloc(), narrow, want, last, lines), "{piece}");
     }
     Ok(())

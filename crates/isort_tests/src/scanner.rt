@@ -1,5 +1,6 @@
 ghost use Rattle.std.specs.Prelude.{◌≡◌, ◌≤◌, true, false, None, OnOk, IfOk};
 
+use crate::lines::{tell_fault, tell_unit};
 use py_lines::*;
 use std::alloc::Global;
 use std::fmt::Write;
@@ -7,36 +8,6 @@ use std::test::Fail;
 
 /// More bytes than a text of these tests has.
 const MOST: u64 = 1000;
-
-// A token: what it is, its text, and its line.
-fn tell_token(told: &mut String, unit: &Unit<'_>, i: usize) -> Result<(), Fail> {
-    if i < unit.tokens.len() {
-        let token = unit.tokens[i];
-        let shown = (token.kind, unit.word(i), token.line);
-        write!(told, " {shown:?}")?;
-    }
-    Ok(())
-}
-
-// A unit: what it holds, its byte, line, indentation and line end, and then its tokens.
-fn tell_unit(told: &mut String, unit: &Unit<'_>) -> Result<(), Fail> {
-    let shown = (unit.kind, unit.offset, unit.line, unit.indent, unit.end_len);
-    write!(told, "{shown:?}")?;
-    for i in 0..unit.tokens.len() {
-        tell_token(told, unit, i)?;
-    }
-    told.push_str("; ")?;
-    Ok(())
-}
-
-// A fault: its byte, and what is printed of it.
-fn tell_fault(told: &mut String, error: LexError) -> Result<(), Fail> {
-    if let LexError::Fault(fault) = error {
-        let offset = fault.offset;
-        write!(told, "{offset} {error}")?;
-    }
-    Ok(())
-}
 
 // The line that is ready, which is then released, if one is.
 fn tell_ready(told: &mut String, scanner: &mut Scanner) -> Result<(), Fail>
@@ -47,6 +18,7 @@ fn tell_ready(told: &mut String, scanner: &mut Scanner) -> Result<(), Fail>
         return Ok(());
     };
     tell_unit(told, &unit)?;
+    told.push_str("; ")?;
     scanner.release();
     Ok(())
 }
