@@ -22,20 +22,19 @@ use Rattle.isort_sort.proofs.MarkLemmas.{rest_utf8, mark_utf8, mark_taken}
 use Rattle.isort_sort.proofs.RowsText.{text_of_rows}
 
 -- the first line
-pub beginning : (lines : List LogicalLine) (line : LogicalLine) (old new : LineReader) (mark : ℕ) → old.begun ≡ false → mark ≡ mark_len line → finding_value new.blocks ≡ record { found = []; opened = None; place = mark } → new.mark ≡ mark → new.begun ≡ true → new.off ≡ old.off → new.skip ≡ old.skip → IsReadSoFar lines old → IsReadBefore lines line new
-beginning [] line old new mark begun m fresh marked started off skip h =
+pub beginning : (lines : List LogicalLine) (line : LogicalLine) (old new : LineReader) (mark : ℕ) → old.begun ≡ false → mark ≡ mark_len line → finding_value new.blocks ≡ record { found = []; opened = None; place = mark } → new.begun ≡ true → new.off ≡ old.off → new.skip ≡ old.skip → IsReadSoFar lines old → IsReadBefore lines line new
+beginning [] line old new mark begun m fresh started off skip h =
     let taken : mark ≡ length (mark_of (line ∷ [])) = m ∙ sym (mark_taken line) in
     record {
       rows = [];
       seen = refl;
       utf8 = tt;
       finding = subst (λ (n : ℕ). IsFinding n [] (finding_value new.blocks)) taken (subst (IsFinding mark []) (sym fresh) (nothing_found mark));
-      mark = marked ∙ taken;
       begun = started;
       off = off ∙ h.off;
       skip = subst (IsSkipSoFar []) (sym skip) h.skip;
     }
-beginning (l ∷ ls) line old new mark begun m fresh marked started off skip h = absurd (let both : true ≡ false = sym h.begun ∙ begun in cc)
+beginning (l ∷ ls) line old new mark begun m fresh started off skip h = absurd (let both : true ≡ false = sym h.begun ∙ begun in cc)
 
 after_utf8 : (lines : List LogicalLine) (line : LogicalLine) → IsUtf8 line.text → IsUtf8 (drop (mark_after lines line) line.text)
 after_utf8 [] line utf8 = rest_utf8 line utf8
@@ -46,15 +45,14 @@ some_line [] line = refl
 some_line (l ∷ ls) line = refl
 
 -- a line was read
-pub read_on : (lines : List LogicalLine) (line : LogicalLine) (old new : LineReader) (off : Bool) (mark : ℕ) → off ≡ old.off → mark ≡ mark_after lines line → FindsLine off mark line (finding_value old.blocks) (finding_value new.blocks) → new.mark ≡ old.mark → new.begun ≡ old.begun → new.off ≡ turned off line → (IsSkipSoFar lines old.skip → IsSkipSoFar (lines ++ line ∷ []) new.skip) → IsReadBefore lines line old → IsReadSoFar (lines ++ line ∷ []) new
-read_on lines line old new off mark was m finds marked begun turns skips h =
+pub read_on : (lines : List LogicalLine) (line : LogicalLine) (old new : LineReader) (off : Bool) (mark : ℕ) → off ≡ old.off → mark ≡ mark_after lines line → FindsLine off mark line (finding_value old.blocks) (finding_value new.blocks) → new.begun ≡ old.begun → new.off ≡ turned off line → (IsSkipSoFar lines old.skip → IsSkipSoFar (lines ++ line ∷ []) new.skip) → IsReadBefore lines line old → IsReadSoFar (lines ++ line ∷ []) new
+read_on lines line old new off mark was m finds begun turns skips h =
     let found = finds (length (mark_of (lines ++ line ∷ []))) h.rows h.finding in
     record {
       rows = h.rows ++ found.0 ∷ [];
       seen = rows_push [] lines h.rows line found.0 h.seen (row_after lines line off mark found.0 (was ∙ h.off) m found.1);
       utf8 = utf8_push h.rows found.0 h.utf8 (subst IsUtf8 (sym (found.1.text ∙ ap (λ n. drop n line.text) m)) (after_utf8 lines line found.1.utf8));
       finding = found.2;
-      mark = marked ∙ h.mark;
       begun = begun ∙ h.begun ∙ some_line lines line;
       off = turns ∙ ap (λ b. turned b line) (was ∙ h.off) ∙ sym (off_push lines line);
       skip = skips h.skip;
@@ -65,13 +63,12 @@ mark_is_utf8 [] = IsUtf8-nil
 mark_is_utf8 (line ∷ lines) = mark_utf8 line
 
 -- the blocks of a text that was read to its end
-pub found_in : (text : List ℕ) (lines : List LogicalLine) (r : LineReader) (found : List Found) → r.skip.skips ≡ false → found ≡ closed_found None (finding_value r.blocks) → IsReadSoFar lines r → IsAccepted text lines → (of : List LogicalLine) × (cut : Cut) × HasBlocks text of cut × (r.mark ≡ length (mark_of of)) × IsCutText text (mark_of of) cut found
+pub found_in : (text : List ℕ) (lines : List LogicalLine) (r : LineReader) (found : List Found) → r.skip.skips ≡ false → found ≡ closed_found None (finding_value r.blocks) → IsReadSoFar lines r → IsAccepted text lines → (of : List LogicalLine) × (cut : Cut) × HasBlocks text of cut × IsCutText text (mark_of of) cut found
 found_in text lines r found skips all h accepted =
     let blocks : AreAll (length (mark_of lines)) h.rows (closed_found None (finding_value r.blocks)) = all_found (length (mark_of lines)) h.rows (finding_value r.blocks) h.finding in (
       lines,
       blocks.cut,
       record { accepted = accepted; unskipped = sym h.skip.skips ∙ skips; rows = h.rows; seen = h.seen; cut_at = blocks.is },
-      h.mark,
       record {
         split = text_of_rows text lines h.rows accepted.lexed h.seen ∙ ap (λ rows. mark_of lines ++ texts_of rows) (sym blocks.is.all);
         spans = all ∙ blocks.found;

@@ -1,15 +1,14 @@
 -- A sorted text is made part by part.
-use Rattle.std.proofs.Common.{◌≡◌, ℕ, ◌+◌, ◌-◌, ◌≤◌, List, [], ◌∷◌, ◌++◌, length, length-append, take, drop, map, refl, sym, ap, ◌∙◌, subst, append_assoc, append-nil, arith, string_bytes}
+use Rattle.std.proofs.Common.{Vec, Global, ◌≡◌, ℕ, ◌+◌, ◌-◌, ◌≤◌, List, [], ◌∷◌, ◌++◌, length, length-append, take, drop, map, refl, sym, ap, ◌∙◌, subst, append_assoc, append-nil, arith}
 use Rattle.std.specs.Prelude.{slice_range}
 use Rattle.std.specs.Str.{IsUtf8}
 use Rattle.std.proofs.lemmas.List.{drop-drop}
 use Rattle.std.proofs.lemmas.Str.{IsUtf8-nil, IsUtf8-append}
 use Rattle.std.proofs.Math.Seq.{take-add}
-use Rattle.py_lines.specs.LogicalLine.{LogicalLine}
 use Rattle.isort_settings.specs.Values.{Values, values}
 use Rattle.isort_sort.specs.Arranged.{IsArranged}
-use Rattle.isort_sort.specs.Arranging.{IsCutText, IsArranging}
-use Rattle.isort_sort.specs.Blocks.{Cut, cut_rows}
+use Rattle.isort_sort.specs.Arranging.{IsArranging}
+use Rattle.isort_sort.specs.Blocks.{cut_rows}
 use Rattle.isort_sort.specs.Found.{Found}
 use Rattle.isort_sort.specs.FoundValues.{found_value}
 use Rattle.isort_sort.specs.LineEnd.{end_bytes}
@@ -17,7 +16,7 @@ use Rattle.isort_sort.specs.Parts.{left_of, HasMade}
 use Rattle.isort_sort.specs.Reading.{IsFoundIn}
 use Rattle.isort_sort.specs.Sorted.{first_end, mark_of, texts_of, IsLaidOut}
 use Rattle.isort_sort.specs.declared.parts.Parts.{Parts}
-use Rattle.isort_sort.specs.declared.read.FoundBlocks.{FoundBlocks}
+use Rattle.isort_sort.specs.declared.finder.FoundBlock.{FoundBlock}
 use Rattle.isort_sort.specs.declared.read.FoundText.TheVariants as found_text
 use Rattle.isort_sort.proofs.ArrangingSteps.{part_between, begin_at, IsGap, next_gap, one_more, last_gap, all_written}
 use Rattle.isort_sort.proofs.SortedCuts.{some_sorted_cut}
@@ -34,9 +33,9 @@ nothing_between : (l : List ℕ) (i : ℕ) → slice_range l i i ≡ []
 nothing_between l i = let none : i - i ≡ 0 = omega arith in ap (λ (n : ℕ). take n (drop i l)) none
 
 -- nothing is made yet
-pub begin_made : (text : List ℕ) (v : Values) (p : Parts) (found : FoundBlocks) → IsFoundIn text (found_text.Blocks found) → p.text.now ≡ text → values p.settings.now ≡ v → end_bytes p.end ≡ first_end text → p.at ≡ 0 → left_of p ≡ map found_value found.blocks.items → HasMade text v p []
+pub begin_made : (text : List ℕ) (v : Values) (p : Parts) (found : Vec FoundBlock Global) → IsFoundIn text (found_text.Blocks found) → p.text.now ≡ text → values p.settings.now ≡ v → end_bytes p.end ≡ first_end text → p.at ≡ 0 → left_of p ≡ map found_value found.items → HasMade text v p []
 begin_made text v p found is same_text same_values same_end start left =
-    let cuts = is.4 in
+    let cuts = is.3 in
     let mark = mark_of is.0 in
     let first : slice_range text p.at (length mark) ≡ mark =
     ap (λ (n : ℕ). slice_range text n (length mark)) start ∙ ap (λ (t : List ℕ). slice_range t 0 (length mark)) cuts.split ∙ part_between [] mark (texts_of (cut_rows is.1)) 0 (length mark) refl (omega arith) in
@@ -51,7 +50,7 @@ begin_made text v p found is same_text same_values same_end start left =
       ordered = omega (arith, start);
       within = omega (arith, ap length cuts.split ∙ length-append mark (texts_of (cut_rows is.1)));
       utf8 = subst IsUtf8 (sym first) cuts.utf8_mark;
-      arranging = begin_at text v (first_end text) mark is.1 (map found_value found.blocks.items) (left_of p) (length mark) (slice_range text p.at (length mark)) cuts left refl (ap (λ (n : ℕ). slice_range text n (length mark)) start);
+      arranging = begin_at text v (first_end text) mark is.1 (map found_value found.items) (left_of p) (length mark) (slice_range text p.at (length mark)) cuts left refl (ap (λ (n : ℕ). slice_range text n (length mark)) start);
     }
 
 -- the text before the next block

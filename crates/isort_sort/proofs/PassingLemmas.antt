@@ -130,7 +130,6 @@ still_before (l ∷ ls) line r some h = record {
   seen = h.seen;
   utf8 = h.utf8;
   finding = h.finding;
-  mark = h.mark;
   begun = h.begun;
   off = h.off;
   skip = h.skip;
@@ -165,8 +164,8 @@ skips_on lines line r silent late h = skip_pushed lines line r r (sym kept) (sti
     kept = (λ i. r.skips || silent_comments action.SkipFile line silent i || no_string line r.begun late i) ∙ or_false r.skips
 
 -- a line was passed over
-pub passed_on : (lines : List LogicalLine) (line : LogicalLine) (old new : LineReader) → IsUtf8 line.text → IsSilent line.text → begins_so line ≡ false → old.begun ≡ true → not old.skip.begun && has_code line ≡ false → (finding_value old.blocks).opened ≡ None → finding_value new.blocks ≡ passed_to (length line.text) (finding_value old.blocks) → new.mark ≡ old.mark → new.begun ≡ old.begun → new.off ≡ old.off → new.skip ≡ old.skip → IsReadSoFar lines old → IsReadSoFar (lines ++ line ∷ []) new
-passed_on lines line old new utf8 silent plain some late closed value mark begun off skip h =
+pub passed_on : (lines : List LogicalLine) (line : LogicalLine) (old new : LineReader) → IsUtf8 line.text → IsSilent line.text → begins_so line ≡ false → old.begun ≡ true → not old.skip.begun && has_code line ≡ false → (finding_value old.blocks).opened ≡ None → finding_value new.blocks ≡ passed_to (length line.text) (finding_value old.blocks) → new.begun ≡ old.begun → new.off ≡ old.off → new.skip ≡ old.skip → IsReadSoFar lines old → IsReadSoFar (lines ++ line ∷ []) new
+passed_on lines line old new utf8 silent plain some late closed value begun off skip h =
     let other : is_some_line lines ≡ true = sym h.begun ∙ some in
     read_on
     lines
@@ -178,7 +177,6 @@ passed_on lines line old new utf8 silent plain some late closed value mark begun
     refl
     (no_mark lines line other)
     (subst (FindsLine old.off 0 line (finding_value old.blocks)) (sym value) (finds_passed old.off line (finding_value old.blocks) utf8 silent plain closed))
-    mark
     begun
     (off ∙ sym (silent_turned line silent old.off))
     (λ was. subst (IsSkipSoFar (lines ++ line ∷ [])) (sym skip) (skips_on lines line old.skip silent late was))

@@ -1,5 +1,5 @@
 -- A sorted text in parts is the text of its parts.
-use Rattle.std.proofs.Common.{◌≡◌, ◌≢◌, ℕ, ◌+◌, ◌<◌, ◌≤◌, Bool, true, false, MatchBool, Option, None, Some, MatchOption, IfSome, Result, Ok, Err, OnErr, List, [], ◌∷◌, ◌++◌, length, take, drop, get_or, flat_map, string_bytes, inr, refl, sym, ap, ◌∙◌, subst, append_assoc, append-nil, Bor}
+use Rattle.std.proofs.Common.{◌≡◌, ◌≢◌, ℕ, ◌+◌, ◌<◌, ◌≤◌, Bool, true, false, MatchBool, Option, None, Some, MatchOption, IfSome, Result, Ok, Err, OnErr, List, [], ◌∷◌, ◌++◌, length, take, drop, get_or, flat_map, inr, sym, ap, ◌∙◌, append_assoc, append-nil, Bor}
 use Rattle.std.specs.Cmp.Lexicographic.{bytes_decides, pointwise}
 use Rattle.std.specs.Io.KnownBytes.{Appends}
 use Rattle.std.specs.Str.{IsUtf8}
@@ -10,7 +10,7 @@ use Rattle.std.proofs.lemmas.List.{append_cancel_left, drop_all, drop_more, take
 use Rattle.std.proofs.lemmas.List.Concat.{flat_map-append}
 use Rattle.isort_settings.specs.Values.{Values}
 use Rattle.isort_sort.specs.Parts.{part_text, AreTexts, HasMade}
-use Rattle.isort_sort.specs.Sorted.{IsLaidOut, IsSorted}
+use Rattle.isort_sort.specs.Sorted.{IsSorted}
 use Rattle.isort_sort.specs.Written.{AppendsFront}
 use Rattle.isort_sort.specs.declared.answer.SortError.{SortError}
 use Rattle.isort_sort.specs.declared.parts.Part.{Part}

@@ -1,5 +1,5 @@
 -- The spans of the blocks of a cut.
-use Rattle.std.proofs.Common.{◌≡◌, ℕ, ◌+◌, List, [], ◌∷◌, ◌++◌, append-nil, length, drop, ◌≤◌, map, inl, inr, refl, sym, ap, ◌∙◌, subst}
+use Rattle.std.proofs.Common.{Vec, Global, ◌≡◌, ℕ, ◌+◌, List, [], ◌∷◌, ◌++◌, append-nil, length, drop, ◌≤◌, map, inl, inr, refl, sym, ap, ◌∙◌, subst}
 use Rattle.std.proofs.lemmas.List.{drop_all}
 use Rattle.isort_sort.specs.Answers.{spans_from, AreBlocksOf}
 use Rattle.isort_sort.specs.Blocks.{Cut, rest, block, cut_rows}
@@ -9,7 +9,6 @@ use Rattle.isort_sort.specs.Reading.{IsFoundIn}
 use Rattle.isort_sort.specs.Sorted.{mark_of, texts_of}
 use Rattle.isort_sort.specs.declared.answer.Block.{Block}
 use Rattle.isort_sort.specs.declared.finder.FoundBlock as code
-use Rattle.isort_sort.specs.declared.read.FoundBlocks.{FoundBlocks}
 use Rattle.isort_sort.specs.declared.read.FoundText.{FoundText}
 use Rattle.isort_sort.specs.declared.read.FoundText.TheVariants as found_text
 
@@ -31,10 +30,10 @@ spans_are bs at cut h = twice bs ∙ ap (map span_of) h ∙ spans_found at cut
     twice (b ∷ bs) = ap (λ l. span_of (found_value b) ∷ l) (twice bs)
 
 -- what was found gives the blocks of the text
-pub blocks_of_found : (text : List ℕ) (found : FoundText) (b : FoundBlocks) (blocks : List Block) → IsFoundIn text found → found ≡ found_text.Blocks b → blocks ≡ spans b.blocks.items → AreBlocksOf text blocks
+pub blocks_of_found : (text : List ℕ) (found : FoundText) (b : Vec code.FoundBlock Global) (blocks : List Block) → IsFoundIn text found → found ≡ found_text.Blocks b → blocks ≡ spans b.items → AreBlocksOf text blocks
 blocks_of_found text found b blocks is same are =
     let h = subst (IsFoundIn text) same is in
-    inr (h.0, h.1, h.2, are ∙ spans_are b.blocks.items (length (mark_of h.0)) h.1 h.4.spans)
+    inr (h.0, h.1, h.2, are ∙ spans_are b.items (length (mark_of h.0)) h.1 h.3.spans)
 
 -- no block is left
 pub all_taken : (bs : List code.FoundBlock) (passed : List code.FoundBlock) (taken : List Block) (i : ℕ) → passed ≡ bs → taken ++ spans (drop i passed) ≡ spans passed → length passed ≤ i → taken ≡ spans bs

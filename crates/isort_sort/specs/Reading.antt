@@ -48,7 +48,6 @@ pub record IsReadSoFar (lines : List LogicalLine) (r : LineReader) : Type 0 wher
   pub seen : AreRows [] lines rows
   pub utf8 : AreUtf8 rows
   pub finding : IsFinding (length (mark_of lines)) rows (finding_value r.blocks)
-  pub mark : r.mark ≡ length (mark_of lines)
   pub begun : r.begun ≡ is_some_line lines
   pub off : r.off ≡ is_off_after lines
   pub skip : IsSkipSoFar lines r.skip
@@ -59,7 +58,6 @@ pub record IsReadBefore (lines : List LogicalLine) (line : LogicalLine) (r : Lin
   pub seen : AreRows [] lines rows
   pub utf8 : AreUtf8 rows
   pub finding : IsFinding (length (mark_of (lines ++ line ∷ []))) rows (finding_value r.blocks)
-  pub mark : r.mark ≡ length (mark_of (lines ++ line ∷ []))
   pub begun : r.begun ≡ true
   pub off : r.off ≡ is_off_after lines
   pub skip : IsSkipSoFar lines r.skip
@@ -68,5 +66,4 @@ pub record IsReadBefore (lines : List LogicalLine) (line : LogicalLine) (r : Lin
 abbrev pub IsFoundIn : List ℕ → FoundText → Type 0
 IsFoundIn text found.Skipped = IsSkipped text
 IsFoundIn text (found.Blocks blocks) =
-    (lines : List LogicalLine) × (cut : Cut) × HasBlocks text lines cut
-    × (blocks.mark ≡ length (mark_of lines)) × IsCutText text (mark_of lines) cut (map found_value blocks.blocks.items)
+    (lines : List LogicalLine) × (cut : Cut) × HasBlocks text lines cut × IsCutText text (mark_of lines) cut (map found_value blocks.items)

@@ -10,7 +10,7 @@ use crate::answer::SortError;
 use crate::arrange::arrange;
 use crate::finder::FoundBlock;
 use crate::line_end::LineEnd;
-use crate::read::{FoundBlocks, FoundText};
+use crate::read::FoundText;
 use isort_settings::Settings;
 use std::alloc::Global;
 use std::vec::IntoIter;
@@ -60,8 +60,8 @@ pub(crate) struct Parts<'t> {
 
 impl<'t> Parts<'t> {
     /// The parts of the text, of which none is made yet.
-    pub(crate) fn new(text: &'t [u8], settings: &'t Settings, found: FoundBlocks) -> Parts<'t>
-        requires { IsFoundIn text.now (FoundText.Blocks found) }
+    pub(crate) fn new(text: &'t [u8], settings: &'t Settings, blocks: Vec<FoundBlock>) -> Parts<'t>
+        requires { IsFoundIn text.now (FoundText.Blocks blocks) }
         ensures { HasMade text.now (values settings.now) result [] }
     {
         Parts {
@@ -69,7 +69,7 @@ impl<'t> Parts<'t> {
             settings,
             end: LineEnd::first_of(text),
             at: 0,
-            blocks: found.blocks.into_iter(),
+            blocks: blocks.into_iter(),
         }
     }
 

@@ -21,22 +21,13 @@ use py_imports::{Binding, bindings_of, has_first_word};
 use py_lines::{Lines, Unit};
 use std::alloc::Global;
 
-/// The blocks of a text.
-#[derive(Drop)]
-pub(crate) struct FoundBlocks {
-    /// How many bytes of a byte order mark the text begins with.
-    pub(crate) mark: usize,
-    /// The blocks, in order.
-    pub(crate) blocks: Vec<FoundBlock>,
-}
-
 /// What was found in a text.
 #[derive(Drop)]
 pub(crate) enum FoundText {
     /// It asks to be left as it is.
     Skipped,
-    /// Its blocks.
-    Blocks(FoundBlocks),
+    /// Its blocks, in order.
+    Blocks(Vec<FoundBlock>),
 }
 
 /// What is known of a text, as far as its lines were read.
@@ -44,8 +35,6 @@ pub(crate) enum FoundText {
 pub(crate) struct LineReader {
     /// Whether a line was read.
     pub(crate) begun: bool,
-    /// How many bytes of a byte order mark the first line begins with.
-    pub(crate) mark: usize,
     /// Whether sorting is off after the lines.
     pub(crate) off: bool,
     pub(crate) skip: SkipReader,
@@ -61,7 +50,6 @@ impl LineReader {
     {
         LineReader {
             begun: false,
-            mark: 0,
             off: false,
             skip: SkipReader::new(),
             blocks: BlockFinder::new(alloc, 0),
@@ -135,7 +123,6 @@ impl LineReader {
         }
         let mark = mark_len(unit);
         self.begun = true;
-        self.mark = mark;
         self.blocks = BlockFinder::new(alloc, mark);
         mark
     }
@@ -148,10 +135,7 @@ impl LineReader {
         if self.skip.skips {
             return Ok(FoundText::Skipped);
         }
-        Ok(FoundText::Blocks(FoundBlocks {
-            mark: self.mark,
-            blocks: self.blocks.finish()?,
-        }))
+        Ok(FoundText::Blocks(self.blocks.finish()?))
     }
 }
 

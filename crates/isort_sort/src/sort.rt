@@ -39,7 +39,7 @@ pub fn blocks(alloc: Global, text: &[u8]) -> Result<Vec<Block>, SortError>
 {
     let mut blocks = Vec::new(alloc);
     if let FoundText::Blocks(found) = find_blocks(alloc, text)? {
-        'found: for block in &found.blocks {
+        'found: for block in &found {
             blocks.push(span(block))?;
         }
     }

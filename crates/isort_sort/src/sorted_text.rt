@@ -10,9 +10,10 @@ ghost use Rattle.isort_sort.specs.Sorted.{IsLaidOut};
 ghost use Rattle.isort_sort.specs.Written.{AppendsFront};
 
 use crate::answer::SortError;
+use crate::finder::FoundBlock;
 use crate::metered::{Last, Metered};
 use crate::parts::{Part, Parts};
-use crate::read::{FoundBlocks, FoundText};
+use crate::read::FoundText;
 use crate::write::write_whole;
 use isort_settings::Settings;
 use std::alloc::Global;
@@ -32,15 +33,15 @@ impl<'t> SortedText<'t> {
         alloc: Global,
         text: &'t [u8],
         settings: &'t Settings,
-        found: FoundBlocks,
+        blocks: Vec<FoundBlock>,
     ) -> Result<SortedText<'t>, SortError>
-        requires { IsFoundIn text.now (FoundText.Blocks found) }
+        requires { IsFoundIn text.now (FoundText.Blocks blocks) }
         ensures laid { IfOk result (λ sorted. IsLaidOut text.now (values settings.now) (sorted_bytes sorted)) }
         ensures parts { IfOk result (λ sorted. AreTexts sorted.parts.items) }
         ensures rest { IfOk result (λ sorted. IsUtf8 sorted.rest.now) }
         ensures err { IfErr result (λ e. e ≡ SortError.Memory) }
     {
-        let mut made = Parts::new(text, settings, found);
+        let mut made = Parts::new(text, settings, blocks);
         let mut parts = Vec::new(alloc);
         'parts: while let Some(part) = made.next(alloc)? {
             parts.push(part)?;

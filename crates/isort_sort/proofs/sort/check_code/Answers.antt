@@ -1,4 +1,4 @@
-use Rattle.std.proofs.Common.{◌++◌, ◌∙◌, ap, refl, sym, inr, subst, List, ℕ}
+use Rattle.std.proofs.Common.{◌++◌, ◌∙◌, ap, refl, inr, subst, List, ℕ}
 use Rattle.isort_settings.specs.Values.{values}
 use Rattle.isort_sort.specs.Parts.{part_text, Makes}
 use Rattle.isort_sort.proofs.SortedTextLemmas.{regrouped, same_or_not, checked_early}

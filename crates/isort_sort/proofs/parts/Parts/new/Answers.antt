@@ -5,4 +5,4 @@ use Rattle.isort_sort.proofs.PartsLemmas.{begin_made}
 use Rattle.isort_sort.proofs.parts.Parts.new.Goals as goal
 
 pub returns : goal.returns
-returns c = begin_made c.args.text.now (values c.args.settings.now) _ c.args.found c.requires refl refl c.first_of.ensures refl (ap (map found_value) c.into_iter.ensures.rest)
+returns c = begin_made c.args.text.now (values c.args.settings.now) _ c.args.blocks c.requires refl refl c.first_of.ensures refl (ap (map found_value) c.into_iter.ensures.rest)

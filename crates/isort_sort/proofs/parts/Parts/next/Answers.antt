@@ -1,8 +1,7 @@
-use Rattle.std.proofs.Common.{◌≡◌, [], ◌∷◌, ◌++◌, ap, ◌∙◌, sym, refl, length, map, subst, List, ℕ, arith, string_bytes}
+use Rattle.std.proofs.Common.{◌≡◌, [], ◌∷◌, ap, ◌∙◌, sym, refl, length, map, subst, List, ℕ, arith, string_bytes}
 use Rattle.std.specs.Prelude.{slice_range}
 use Rattle.std.specs.Str.{IsUtf8}
 use Rattle.std.specs.Vec.Iter.{into_iter_items}
-use Rattle.isort_settings.specs.Values.{values}
 use Rattle.isort_sort.specs.Arranged.{IsArranged}
 use Rattle.isort_sort.specs.FoundValues.{found_value}
 use Rattle.isort_sort.specs.LineEnd.{end_bytes}

@@ -9,7 +9,6 @@ returns-clause-start c = record {
   seen = refl;
   utf8 = tt;
   finding = subst (IsFinding 0 []) (sym c.new-2.ensures.start) (nothing_found 0);
-  mark = refl;
   begun = refl;
   off = refl;
   skip = c.new.ensures;

@@ -21,7 +21,7 @@ returns-clause-on c = λ is lines h.
     lines
     line
     old
-    (record { begun = old.begun; mark = old.mark; off = old.off; skip = old.skip; blocks = c.pass.new.self })
+    (record { begun = old.begun; off = old.off; skip = old.skip; blocks = c.pass.new.self })
     utf8
     silent
     (begins_none line (sym c.has_first_word.ensures.word ∙ c.if-has_first_word.false))
@@ -29,7 +29,6 @@ returns-clause-on c = λ is lines h.
     (sym c.begins_by.ensures ∙ c.if-begins_by.false)
     (none_open _ (sym c.is_open.ensures ∙ c.if-is_open.false))
     (c.pass.ensures.value ∙ ap (λ t. passed_to (length t) (finding_value old.blocks)) c.as_bytes-text.ensures.value)
-    refl
     refl
     refl
     refl

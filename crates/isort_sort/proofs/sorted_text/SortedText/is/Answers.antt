@@ -1,4 +1,4 @@
-use Rattle.std.proofs.Common.{◌++◌, ◌∙◌, ap, refl, sym, flat_map, drop, ◌+◌, List, ℕ}
+use Rattle.std.proofs.Common.{◌++◌, ◌∙◌, ap, refl, flat_map, drop, ◌+◌, List, ℕ}
 use Rattle.isort_sort.specs.Parts.{part_text, sorted_bytes}
 use Rattle.isort_sort.proofs.SortedTextLemmas.{bytes_from, bytes_last, regrouped, differs, same_or_not}
 use Rattle.isort_sort.proofs.sorted_text.SortedText.is.Goals as goal

@@ -1,7 +1,6 @@
-use Rattle.std.proofs.Common.{List, sym, ap, ◌∙◌, subst, flat_map, ℕ}
+use Rattle.std.proofs.Common.{sym, ap, ◌∙◌, subst, flat_map}
 use Rattle.isort_settings.specs.Values.{values}
 use Rattle.isort_sort.specs.Parts.{part_text, AreTexts, HasMade, Makes}
-use Rattle.isort_sort.specs.declared.parts.Part.{Part}
 use Rattle.isort_sort.proofs.SortedTextLemmas.{texts_snoc, bytes_snoc}
 use Rattle.isort_sort.proofs.sorted_text.SortedText.new.Goals as goal
 
