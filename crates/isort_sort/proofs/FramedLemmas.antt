@@ -32,26 +32,27 @@ framed_packed end first next between last room (i ∷ items) some =
     framed_lines end first next between last (packed room (i ∷ items)) (i ∷ b.0) b.1 b.2
 
 -- what is written of the three ways to wrap
-brackets : (i h p j t q r e : List ℕ) → ((((((i ++ h) ++ p) ++ j) ++ t) ++ q) ++ r) ++ e ≡ (i ++ (h ++ p)) ++ (j ++ ((t ++ (q ++ r)) ++ e))
-brackets i h p j t q r e = simp append_assoc
+brackets : (o j t q r e : List ℕ) → (((o ++ j) ++ t) ++ q) ++ (r ++ e) ≡ o ++ (j ++ ((t ++ (q ++ r)) ++ e))
+brackets o j t q r e = simp append_assoc
 
-pub in_brackets-written : (v : Values) (indentation end m comment : List ℕ) (room : ℕ) (items : List Item) → (items ≡ [] → ⊥) → ((((((indentation ++ head m) ++ codes "(") ++ join_by items_text (codes "," ++ (end ++ (indentation ++ replicate (width (head m) + 1) 32))) (packed room items)) ++ trailing_comma v) ++ codes ")") ++ comment) ++ end ≡ text_with end (in_brackets v indentation m comment (map items_text (packed room items)))
+pub in_brackets-written : (v : Values) (indentation end m comment : List ℕ) (room : ℕ) (items : List Item) → (items ≡ [] → ⊥) → ((((indentation ++ (head m ++ codes "(")) ++ join_by items_text (codes "," ++ (end ++ (indentation ++ replicate (width (head m) + 1) 32))) (packed room items)) ++ trailing_comma v) ++ codes ")") ++ (comment ++ end) ≡ text_with end (in_brackets v indentation m comment (map items_text (packed room items)))
 in_brackets-written v indentation end m comment room items some =
-    brackets indentation (head m) (codes "(") _ (trailing_comma v) (codes ")") comment end
+    brackets (indentation ++ (head m ++ codes "(")) _ (trailing_comma v) (codes ")") comment end
     ∙ sym (framed_packed end (indentation ++ (head m ++ codes "(")) (indentation ++ replicate (width (head m) + 1) 32) (codes ",") (trailing_comma v ++ (codes ")" ++ comment)) room items some)
 
-hung : (i h b e f j r : List ℕ) → (((((i ++ h) ++ b) ++ e) ++ (i ++ (f ++ j))) ++ r) ++ e ≡ ((i ++ (h ++ b)) ++ e) ++ ((i ++ f) ++ (j ++ (r ++ e)))
-hung i h b e f j r = simp append_assoc
+hung : (o i e f j r : List ℕ) → ((o ++ e) ++ (i ++ (f ++ j))) ++ (r ++ e) ≡ (o ++ e) ++ ((i ++ f) ++ (j ++ (r ++ e)))
+hung o i e f j r = simp append_assoc
 
-pub hanging-written : (indentation end m comment : List ℕ) (room : ℕ) (items : List Item) → (items ≡ [] → ⊥) → (((((indentation ++ head m) ++ (92 ∷ [])) ++ end) ++ (indentation ++ (four_spaces ++ join_by items_text ((codes ", " ++ 92 ∷ []) ++ (end ++ (indentation ++ four_spaces))) (packed room items)))) ++ comment) ++ end ≡ text_with end (hanging indentation m comment (map items_text (packed room items)))
+pub hanging-written : (indentation end m comment : List ℕ) (room : ℕ) (items : List Item) → (items ≡ [] → ⊥) → (((indentation ++ (head m ++ (92 ∷ []))) ++ end) ++ (indentation ++ (four_spaces ++ join_by items_text ((codes ", " ++ 92 ∷ []) ++ (end ++ (indentation ++ four_spaces))) (packed room items)))) ++ (comment ++ end) ≡ text_with end (hanging indentation m comment (map items_text (packed room items)))
 hanging-written indentation end m comment room items some =
-    hung indentation (head m) (92 ∷ []) end four_spaces _ comment
-    ∙ ap (λ t. ((indentation ++ (head m ++ (92 ∷ []))) ++ end) ++ t) (sym (framed_packed end (indentation ++ four_spaces) (indentation ++ four_spaces) (codes ", " ++ 92 ∷ []) comment room items some))
+    let first : List ℕ = indentation ++ (head m ++ (92 ∷ [])) in
+    hung first indentation end four_spaces _ comment
+    ∙ ap (λ t. (first ++ end) ++ t) (sym (framed_packed end (indentation ++ four_spaces) (indentation ++ four_spaces) (codes ", " ++ 92 ∷ []) comment room items some))
 
-hung_in_brackets : (i h p r e f j t q : List ℕ) → (((((((((i ++ h) ++ p) ++ r) ++ e) ++ (i ++ (f ++ j))) ++ t) ++ e) ++ i) ++ q) ++ e ≡ ((i ++ (h ++ (p ++ r))) ++ e) ++ (((i ++ f) ++ (j ++ (t ++ e))) ++ (((i ++ q) ++ e) ++ []))
+hung_in_brackets : (i h p r e f j t q : List ℕ) → (((i ++ (h ++ p)) ++ (r ++ e)) ++ (i ++ (f ++ j))) ++ (t ++ (e ++ (i ++ (q ++ e)))) ≡ ((i ++ (h ++ (p ++ r))) ++ e) ++ (((i ++ f) ++ (j ++ (t ++ e))) ++ (((i ++ q) ++ e) ++ []))
 hung_in_brackets i h p r e f j t q = simp (append_assoc, append-nil)
 
-pub hanging_in_brackets-written : (v : Values) (indentation end m comment : List ℕ) (room : ℕ) (items : List Item) → (items ≡ [] → ⊥) → (((((((((indentation ++ head m) ++ codes "(") ++ comment) ++ end) ++ (indentation ++ (four_spaces ++ join_by items_text (codes "," ++ (end ++ (indentation ++ four_spaces))) (packed room items)))) ++ trailing_comma v) ++ end) ++ indentation) ++ codes ")") ++ end ≡ text_with end (hanging_in_brackets v indentation m comment (map items_text (packed room items)))
+pub hanging_in_brackets-written : (v : Values) (indentation end m comment : List ℕ) (room : ℕ) (items : List Item) → (items ≡ [] → ⊥) → (((indentation ++ (head m ++ codes "(")) ++ (comment ++ end)) ++ (indentation ++ (four_spaces ++ join_by items_text (codes "," ++ (end ++ (indentation ++ four_spaces))) (packed room items)))) ++ (trailing_comma v ++ (end ++ (indentation ++ (codes ")" ++ end)))) ≡ text_with end (hanging_in_brackets v indentation m comment (map items_text (packed room items)))
 hanging_in_brackets-written v indentation end m comment room items some =
     let lines : List (List ℕ) = framed (indentation ++ four_spaces) (indentation ++ four_spaces) (codes ",") (trailing_comma v) (map items_text (packed room items)) in
     let last : List (List ℕ) = (indentation ++ codes ")") ∷ [] in
@@ -65,9 +66,9 @@ pub some_values : {X Y : Type 0} (value : X → Y) (xs : List X) → (xs ≡ [] 
 some_values value [] some e = some (λ i. [])
 some_values value (x ∷ xs) some e = cc
 
--- a statement on one line that was written in four or five parts, and its line end
-pub line_of_four : (i h s r e : List ℕ) → (((i ++ h) ++ s) ++ r) ++ e ≡ ((i ++ (h ++ (s ++ r))) ++ e) ++ []
-line_of_four i h s r e = simp (append_assoc, append-nil)
+-- a statement on one line, in the parts in which it was written
+pub star_line : (i h s r e : List ℕ) → (i ++ (h ++ s)) ++ (r ++ e) ≡ ((i ++ (h ++ (s ++ r))) ++ e) ++ []
+star_line i h s r e = simp (append_assoc, append-nil)
 
-pub line_of_five : (i h m a r e : List ℕ) → ((((i ++ h) ++ m) ++ a) ++ r) ++ e ≡ ((i ++ (h ++ (m ++ (a ++ r)))) ++ e) ++ []
-line_of_five i h m a r e = simp (append_assoc, append-nil)
+pub straight_line : (i h m a r e : List ℕ) → (((i ++ h) ++ m) ++ a) ++ (r ++ e) ≡ ((i ++ (h ++ (m ++ (a ++ r)))) ++ e) ++ []
+straight_line i h m a r e = simp (append_assoc, append-nil)

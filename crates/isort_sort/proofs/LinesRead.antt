@@ -1,5 +1,5 @@
 -- What is known of a text's lines as they are read, and what is found in the text.
-use Rattle.std.proofs.Common.{◌≡◌, ℕ, Bool, true, false, None, Result, Ok, Err, IfOk, List, [], ◌∷◌, ◌++◌, length, drop, refl, sym, ap, ◌∙◌, subst}
+use Rattle.std.proofs.Common.{◌≡◌, ℕ, Bool, true, false, None, List, [], ◌∷◌, ◌++◌, length, drop, refl, sym, ap, ◌∙◌, subst}
 use Rattle.std.specs.Str.{IsUtf8}
 use Rattle.std.proofs.lemmas.Str.{IsUtf8-nil}
 use Rattle.py_lines.specs.LogicalLine.{LogicalLine}
@@ -10,11 +10,9 @@ use Rattle.isort_sort.specs.Finding.{IsFinding, closed_found}
 use Rattle.isort_sort.specs.Found.{Found}
 use Rattle.isort_sort.specs.FoundValues.{finding_value}
 use Rattle.isort_sort.specs.LineRole.{turned}
-use Rattle.isort_sort.specs.Reading.{is_some_line, IsSkipSoFar, FindsLine, IsReadSoFar, IsReadBefore, IsFoundIn}
+use Rattle.isort_sort.specs.Reading.{is_some_line, IsSkipSoFar, FindsLine, IsReadSoFar, IsReadBefore}
 use Rattle.isort_sort.specs.Row.{mark_after}
 use Rattle.isort_sort.specs.Sorted.{texts_of, mark_of, IsAccepted, HasBlocks}
-use Rattle.isort_sort.specs.declared.answer.SortError.{SortError}
-use Rattle.isort_sort.specs.declared.read.FoundText.{FoundText}
 use Rattle.isort_sort.specs.declared.read.LineReader.{LineReader}
 use Rattle.isort_sort.proofs.FindingRows.{nothing_found, AreAll, all_found}
 use Rattle.isort_sort.proofs.LineLemmas.{rows_push, utf8_push, off_push, row_after}
@@ -76,8 +74,3 @@ found_in text lines r found skips all h accepted =
         utf8 = subst AreUtf8 (sym blocks.is.all) h.utf8;
       },
     )
-
--- the answer, where the text was read to its end
-pub answers : (text : List ℕ) (lines : List LogicalLine) (r : LineReader) (result : Result FoundText SortError) → IfOk result (λ found. (text : List ℕ) (lines : List LogicalLine) → IsReadSoFar lines r → IsAccepted text lines → IsFoundIn text found) → IsReadSoFar lines r → IsAccepted text lines → IfOk result (λ found. IsFoundIn text found)
-answers text lines r (Ok found) told h accepted = told text lines h accepted
-answers text lines r (Err e) told h accepted = tt

@@ -30,6 +30,10 @@ pub last_written : {X E : Type 0} (r : Result X E) (old a b mid new text : List 
 last_written (Ok x) old a b mid new text e f g = extend old a b mid new e f ∙ ap (λ t. old ++ t) g
 last_written (Err x) old a b mid new text e f g = tt
 
+pub last_extended : {X E : Type 0} (r : Result X E) (old a b mid new text : List ℕ) → mid ≡ old ++ a → OnOk r (new ≡ mid ++ b) → a ++ b ≡ text → OnOk r (new ≡ old ++ text)
+last_extended (Ok x) old a b mid new text e f g = extend old a b mid new e f ∙ ap (λ t. old ++ t) g
+last_extended (Err x) old a b mid new text e f g = tt
+
 -- where a text ends that another one follows, a character begins or the text ends
 pub split_after : (old text new : List ℕ) (n : ℕ) → IsUtf8 old → IsUtf8 new → new ≡ old ++ text → n ≡ length old → IsSplitPoint new n
 split_after old text new n before after e same =

@@ -88,6 +88,10 @@ closed_with next o = record o.found { next = if o.commented then Some as_many el
 abbrev pub closed_found : Option Before → Finding → List Found
 closed_found next f = option_map_or (λ o. f.found ++ closed_with next o ∷ []) f.opened f.found
 
+-- no block may go on
+abbrev pub closed_before : Option Before → Finding → Finding
+closed_before next f = record { found = closed_found next f; opened = None; place = f.place }
+
 abbrev pub after_blank : ℕ → Bool → Finding → Finding
 after_blank stop ended f = record { found = f.found; opened = option_map (with_blank stop ended) f.opened; place = stop }
 

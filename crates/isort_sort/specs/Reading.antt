@@ -10,7 +10,7 @@ use Rattle.isort_sort.specs.Blocks.{Cut}
 use Rattle.isort_sort.specs.Finding.{Finding, IsFinding}
 use Rattle.isort_sort.specs.FoundValues.{found_value, finding_value}
 use Rattle.isort_sort.specs.Row.{Row, HasRole, indentation_of, is_off_after, AreRows, skips_file}
-use Rattle.isort_sort.specs.Sorted.{mark_of, IsSkipped, HasBlocks}
+use Rattle.isort_sort.specs.Sorted.{mark_of, IsAccepted, IsSkipped, HasBlocks}
 use Rattle.isort_sort.specs.declared.read.FoundText.{FoundText}
 use Rattle.isort_sort.specs.declared.read.FoundText.TheVariants as found
 use Rattle.isort_sort.specs.declared.read.LineReader.{LineReader}
@@ -61,6 +61,12 @@ pub record IsReadBefore (lines : List LogicalLine) (line : LogicalLine) (r : Lin
   pub begun : r.begun ≡ true
   pub off : r.off ≡ is_off_after lines
   pub skip : IsSkipSoFar lines r.skip
+
+-- the text was read to its end: its lines are accepted, and their rows' blocks are found
+pub record IsWholeRead (text : List ℕ) (r : LineReader) : Type 0 where
+  pub lines : List LogicalLine
+  pub accepted : IsAccepted text lines
+  pub so_far : IsReadSoFar lines r
 
 -- what was found in a text: that it is skipped, or its blocks
 abbrev pub IsFoundIn : List ℕ → FoundText → Type 0

@@ -1,6 +1,6 @@
 //! Finding the blocks of a text, line by line.
 ghost use Rattle.std.specs.Prelude.{◌≡◌, ◌+◌, ◌<◌, ◌≤◌, ◌^◌, [], None, MatchOption, IfOk, OnOk, IfErr, is_some, map, option_map, string_bytes};
-ghost use Rattle.isort_sort.specs.Finding.{after_blank, after_comments, after_member, after_other, begun_with, closed_found, closed_with, with_blank, with_comments, with_member};
+ghost use Rattle.isort_sort.specs.Finding.{after_blank, after_comments, after_member, after_other, begun_with, closed_before, closed_found, closed_with, with_blank, with_comments, with_member};
 ghost use Rattle.isort_sort.specs.FoundValues.{before_value, finding_value, found_value, open_value, IsCounted};
 ghost use Rattle.isort_sort.specs.LineRole.{before_of};
 ghost use Rattle.isort_sort.specs.Values.{member_value};
@@ -76,14 +76,14 @@ impl OpenBlock {
         })
     }
 
-    /// The block with one member more, which takes the comments before it.
-    fn with_member(
-        mut self,
+    /// Takes in a member, with the comments before it.
+    fn push_member(
+        &mut self,
         alloc: Global,
         line: LineStop,
         mut member: Member,
-    ) -> Result<OpenBlock, SortError>
-        ensures ok { IfOk result (λ o. open_value o ≡ with_member line.stop line.ended (member_value member) (open_value self)) }
+    ) -> Result<(), SortError>
+        ensures value { OnOk result (open_value self.new ≡ with_member line.stop line.ended (member_value member) (open_value self.old)) }
         ensures err { IfErr result (λ e. e ≡ SortError.Memory) }
     {
         member.above = mem::replace(&mut self.above, Vec::new(alloc));
@@ -92,7 +92,7 @@ impl OpenBlock {
         self.block.ended = line.ended;
         self.block.blanks = 0;
         self.commented = false;
-        Ok(self)
+        Ok(())
     }
 
     /// Takes in a line without tokens.
@@ -223,17 +223,16 @@ impl BlockFinder {
         ensures err { IfErr result (λ e. e ≡ SortError.Memory) }
     {
         let start = mem::replace(&mut self.place, line.stop);
-        let open = match self.open.take() {
+        match &mut self.open {
             Some(open) if open.block.indentation.as_str() == indentation => {
-                open.with_member(alloc, line, member)?
+                open.push_member(alloc, line, member)
             }
-            other => {
-                self.close(other, Some(BlankLines::One))?;
-                OpenBlock::begin(alloc, start, line, indentation, member)?
+            _ => {
+                self.close(Some(BlankLines::One))?;
+                self.open = Some(OpenBlock::begin(alloc, start, line, indentation, member)?);
+                Ok(())
             }
-        };
-        self.open = Some(open);
-        Ok(())
+        }
     }
 
     /// Takes in a line that no block takes in.
@@ -243,8 +242,7 @@ impl BlockFinder {
         ensures err { IfErr result (λ e. e ≡ SortError.Memory) }
     {
         self.place = line.stop;
-        let open = self.open.take();
-        self.close(open, Some(next))
+        self.close(Some(next))
     }
 
     /// All blocks of the lines.
@@ -252,22 +250,17 @@ impl BlockFinder {
         ensures ok { IfOk result (λ found. map found_value found.items ≡ closed_found None (finding_value self)) }
         ensures err { IfErr result (λ e. e ≡ SortError.Memory) }
     {
-        let open = self.open.take();
-        self.close(open, None)?;
+        self.close(None)?;
         Ok(self.found)
     }
 
-    /// Puts the block that ends, if there is one, among those found.
-    fn close(
-        &mut self,
-        ending: Option<OpenBlock>,
-        next: Option<BlankLines>,
-    ) -> Result<(), SortError>
-        ensures value { OnOk result (finding_value self.new ≡ record (finding_value self.old) { found = closed_found (before_value next) (record (finding_value self.old) { opened = option_map open_value ending }) }) }
+    /// Puts the block that may go on, if there is one, among those found: it ends before such a line.
+    fn close(&mut self, next: Option<BlankLines>) -> Result<(), SortError>
+        ensures value { OnOk result (finding_value self.new ≡ closed_before (before_value next) (finding_value self.old)) }
         ensures err { IfErr result (λ e. e ≡ SortError.Memory) }
     {
-        if let Some(block) = ending {
-            self.found.push(block.close(next))?;
+        if let Some(open) = self.open.take() {
+            self.found.push(open.close(next))?;
         }
         Ok(())
     }

@@ -1,5 +1,5 @@
 //! The layout of a block.
-ghost use Rattle.std.specs.Prelude.{◌≡◌, ◌≢◌, ◌++◌, [], IfOk, IfErr, OnOk, map, max, string_bytes};
+ghost use Rattle.std.specs.Prelude.{◌≡◌, ◌≢◌, ◌++◌, [], IfOk, IfErr, OnOk, codes, map, max, string_bytes};
 ghost use Rattle.std.specs.List.{AllByRecursion, join_by};
 ghost use Rattle.isort_settings.specs.Values.{values};
 ghost use Rattle.isort_sort.specs.Group.{group_value, IsTextOf};
@@ -90,6 +90,7 @@ impl Layout<'_> {
     ghost use Rattle.isort_sort.specs.Wrapping.{
       flat,
       four_spaces,
+      head,
       hanging,
       hanging_in_brackets,
       in_brackets,
@@ -127,6 +128,25 @@ impl Layout<'_> {
         Ok(())
     }
 
+    /// Puts the beginning of a `from` statement after `out`, and `opening`, which its names or its joined comment follow.
+    fn push_opening(&self, out: &mut String, module: &str, opening: &str) -> Result<(), AllocError>
+        ensures { OnOk result (string_bytes out.new ≡ string_bytes out.old
+            ++ (self.now.indentation.now ++ (head module.now ++ opening.now))) }
+    {
+        out.push_str(self.indentation)?;
+        push_head(out, module)?;
+        out.push_str(opening)
+    }
+
+    /// Puts the joined comment after `out`, where there is one, and the line end.
+    fn push_line_end(&self, out: &mut String, comments: &[String]) -> Result<(), AllocError>
+        ensures { OnOk result (string_bytes out.new ≡ string_bytes out.old
+            ++ (remark (map string_bytes comments.now) ++ self.now.end.now)) }
+    {
+        push_remark(out, comments)?;
+        out.push_str(self.end)
+    }
+
     /// Puts a statement in brackets from its first line on after `out`: the modes 0 (grid) and 1 (vertical).
     fn push_in_brackets(
         &self,
@@ -150,14 +170,11 @@ impl Layout<'_> {
             indentation: self.indentation,
             spaces: bracket_width(module),
         };
-        out.push_str(self.indentation)?;
-        push_head(out, module)?;
-        out.push_str("(")?;
+        self.push_opening(out, module, "(")?;
         wrap.push_items(out, items)?;
         self.push_trailing_comma(out)?;
         out.push_str(")")?;
-        push_remark(out, comments)?;
-        out.push_str(self.end)
+        self.push_line_end(out, comments)
     }
 
     /// Puts the names of a wrapped statement after `out`, on lines that are indented further by four spaces.
@@ -200,12 +217,22 @@ impl Layout<'_> {
             (cut_texts (values self.now.settings.now) self.now.indentation.now module.now
             (map item_value items.now)))) }
     {
-        out.push_str(self.indentation)?;
-        push_head(out, module)?;
-        out.push_str("\\")?;
+        self.push_opening(out, module, "\\")?;
         out.push_str(self.end)?;
         self.push_further(out, self.line_room(module), ", \\", items)?;
-        push_remark(out, comments)?;
+        self.push_line_end(out, comments)
+    }
+
+    /// Puts the end of a statement after `out` whose closing bracket stands on a line of its own.
+    fn push_closing(&self, out: &mut String) -> Result<(), AllocError>
+        ensures { OnOk result (string_bytes out.new ≡ string_bytes out.old
+            ++ (trailing_comma (values self.now.settings.now) ++ (self.now.end.now
+            ++ (self.now.indentation.now ++ (codes ")" ++ self.now.end.now))))) }
+    {
+        self.push_trailing_comma(out)?;
+        out.push_str(self.end)?;
+        out.push_str(self.indentation)?;
+        out.push_str(")")?;
         out.push_str(self.end)
     }
 
@@ -226,17 +253,10 @@ impl Layout<'_> {
             (cut_texts (values self.now.settings.now) self.now.indentation.now module.now
             (map item_value items.now)))) }
     {
-        out.push_str(self.indentation)?;
-        push_head(out, module)?;
-        out.push_str("(")?;
-        push_remark(out, comments)?;
-        out.push_str(self.end)?;
+        self.push_opening(out, module, "(")?;
+        self.push_line_end(out, comments)?;
         self.push_further(out, self.line_room(module), ",", items)?;
-        self.push_trailing_comma(out)?;
-        out.push_str(self.end)?;
-        out.push_str(self.indentation)?;
-        out.push_str(")")?;
-        out.push_str(self.end)
+        self.push_closing(out)
     }
 
     /// Puts the lines of a wrapped statement after `out`.
@@ -341,8 +361,7 @@ impl Layout<'_> {
         out.push_str("import ")?;
         out.push_str(module)?;
         push_alias(out, alias)?;
-        push_remark(out, comments)?;
-        out.push_str(self.end)
+        self.push_line_end(out, comments)
     }
 
     /// Puts `from MODULE import *` after `out`.
@@ -357,11 +376,8 @@ impl Layout<'_> {
             self.now.indentation.now (star module.now)
             (remark (map string_bytes comments.now)) [] [])) }
     {
-        out.push_str(self.indentation)?;
-        push_head(out, module)?;
-        out.push_str("*")?;
-        push_remark(out, comments)?;
-        out.push_str(self.end)
+        self.push_opening(out, module, "*")?;
+        self.push_line_end(out, comments)
     }
 
     /// Puts the comments above a statement after `out`, each on a line.

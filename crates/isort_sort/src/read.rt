@@ -7,9 +7,8 @@ ghost use Rattle.py_imports.specs.Bound.{bound_of};
 ghost use Rattle.isort_sort.specs.Answers.{IsRefused};
 ghost use Rattle.isort_sort.specs.FoundValues.{finding_value, IsCounted};
 ghost use Rattle.isort_sort.specs.Line.{IsSilent};
-ghost use Rattle.isort_sort.specs.Reading.{FindsLine, IsReadSoFar, IsReadBefore, IsFoundIn};
+ghost use Rattle.isort_sort.specs.Reading.{FindsLine, IsReadSoFar, IsReadBefore, IsWholeRead, IsFoundIn};
 ghost use Rattle.isort_sort.specs.Row.{mark_after};
-ghost use Rattle.isort_sort.specs.Sorted.{IsAccepted};
 
 use crate::answer::SortError;
 use crate::comment::{comment_texts, is_silent, own_comments};
@@ -54,6 +53,26 @@ impl LineReader {
             skip: SkipReader::new(),
             blocks: BlockFinder::new(alloc, 0),
         }
+    }
+
+    /// Reads the lines of a text, of which none was read.
+    fn read(&mut self, alloc: Global, text: &[u8]) -> Result<(), SortError>
+        requires start { IsReadSoFar [] self.old }
+        requires counted { IsCounted (finding_value self.old.blocks) }
+        requires place { (finding_value self.old.blocks).place ≡ 0 }
+        ensures ok { OnOk result (IsWholeRead text.now self.new) }
+        ensures err { IfErr result (λ e. IsRefused text.now e) }
+    {
+        let silent = is_silent(text);
+        let mut lines = Lines::new(alloc, text)?;
+        'lines: while let Some(unit) = lines.next_unit()? {
+            if self.pass(&unit, silent) {
+                continue;
+            }
+            let bindings = bindings_of(alloc, &unit)?;
+            self.push(alloc, &unit, bindings)?;
+        }
+        Ok(())
     }
 
     /// Reads one more line, which binds `bindings`.
@@ -129,7 +148,7 @@ impl LineReader {
 
     /// What was found in the text of the lines.
     fn finish(self) -> Result<FoundText, SortError>
-        ensures ok { IfOk result (λ found. (text : List ℕ) (lines : List LogicalLine) → IsReadSoFar lines self → IsAccepted text lines → IsFoundIn text found) }
+        ensures ok { IfOk result (λ found. (text : List ℕ) → IsWholeRead text self → IsFoundIn text found) }
         ensures err { IfErr result (λ e. e ≡ SortError.Memory) }
     {
         if self.skip.skips {
@@ -190,15 +209,7 @@ pub(crate) fn find_blocks(alloc: Global, text: &[u8]) -> Result<FoundText, SortE
     ensures ok { IfOk result (λ found. IsFoundIn text.now found) }
     ensures err { IfErr result (λ e. IsRefused text.now e) }
 {
-    let silent = is_silent(text);
-    let mut lines = Lines::new(alloc, text)?;
     let mut reader = LineReader::new(alloc);
-    'lines: while let Some(unit) = lines.next_unit()? {
-        if reader.pass(&unit, silent) {
-            continue;
-        }
-        let bindings = bindings_of(alloc, &unit)?;
-        reader.push(alloc, &unit, bindings)?;
-    }
+    reader.read(alloc, text)?;
     reader.finish()
 }

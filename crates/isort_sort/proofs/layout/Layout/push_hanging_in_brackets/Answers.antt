@@ -5,7 +5,7 @@ use Rattle.isort_sort.specs.Packing.{packed}
 use Rattle.isort_sort.specs.Values.{item_value}
 use Rattle.isort_sort.specs.Wrapping.{items_text, four_spaces}
 use Rattle.isort_sort.proofs.FramedLemmas.{hanging_in_brackets-written, some_values}
-use Rattle.isort_sort.proofs.WritingLemmas.{extend, last_written}
+use Rattle.isort_sort.proofs.WritingLemmas.{extend, last_extended}
 use Rattle.isort_sort.proofs.layout.Layout.push_hanging_in_brackets.Goals as goal
 
 pub returns : goal.returns
@@ -14,8 +14,8 @@ returns c =
     let end = c.args.self.now.end.now in
     let items = map item_value c.args.items.now in
     let text : ℕ → List ℕ = λ r. indentation ++ (four_spaces ++ join_by items_text (codes "," ++ (end ++ (indentation ++ four_spaces))) (packed r items)) in
-    let further = c.in_ok-push_further.ensures ∙ ap (λ r. string_bytes c.push_str-3.new.self ++ text r) c.line_room.ensures in
-    last_written _ _ _ _ _ _ _
-    (extend _ _ _ _ _ (extend _ _ _ _ _ (extend _ _ _ _ _ (extend _ _ _ _ _ (extend _ _ _ _ _ (extend _ _ _ _ _ (extend _ _ _ _ _ (extend _ _ _ _ _ (extend _ _ _ _ _ c.in_ok-push_str.ensures.bytes c.in_ok-push_head.ensures) c.in_ok-push_str-2.ensures.bytes) c.in_ok-push_remark.ensures) c.in_ok-push_str-3.ensures.bytes) further) c.in_ok-push_trailing_comma.ensures) c.in_ok-push_str-4.ensures.bytes) c.in_ok-push_str-5.ensures.bytes) c.in_ok-push_str-6.ensures.bytes)
-    c.push_str-7.ensures.bytes
+    let further = c.in_ok-push_further.ensures ∙ ap (λ r. string_bytes c.push_line_end.new.out ++ text r) c.line_room.ensures in
+    last_extended _ _ _ _ _ _ _
+    (extend _ _ _ _ _ (extend _ _ _ _ _ c.in_ok-push_opening.ensures c.in_ok-push_line_end.ensures) further)
+    c.push_closing.ensures
     (hanging_in_brackets-written (values c.args.self.now.settings.now) indentation end c.args.module.now _ _ items (some_values item_value c.args.items.now c.requires))

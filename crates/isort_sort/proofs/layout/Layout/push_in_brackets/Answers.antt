@@ -5,7 +5,7 @@ use Rattle.isort_sort.specs.Packing.{line_room, packed}
 use Rattle.isort_sort.specs.Values.{item_value}
 use Rattle.isort_sort.specs.Wrapping.{items_text}
 use Rattle.isort_sort.proofs.FramedLemmas.{in_brackets-written, some_values}
-use Rattle.isort_sort.proofs.WritingLemmas.{extend, last_written}
+use Rattle.isort_sort.proofs.WritingLemmas.{extend, last_extended}
 use Rattle.isort_sort.proofs.layout.Layout.push_in_brackets.Goals as goal
 
 pub returns : goal.returns
@@ -15,8 +15,8 @@ returns c =
     let end = c.args.self.now.end.now in
     let items = map item_value c.args.items.now in
     let text : ℕ → ℕ → List ℕ = λ r n. join_by items_text (codes "," ++ (end ++ (indentation ++ replicate n 32))) (packed r items) in
-    let packed_text = c.in_ok-push_items.ensures ∙ ap (λ r. string_bytes c.push_str-2.new.self ++ text r c.bracket_width.result) c.line_room.ensures ∙ ap (λ n. string_bytes c.push_str-2.new.self ++ text (line_room v indentation c.args.module.now) n) c.bracket_width.ensures in
-    last_written _ _ _ _ _ _ _
-    (extend _ _ _ _ _ (extend _ _ _ _ _ (extend _ _ _ _ _ (extend _ _ _ _ _ (extend _ _ _ _ _ (extend _ _ _ _ _ c.in_ok-push_str.ensures.bytes c.in_ok-push_head.ensures) c.in_ok-push_str-2.ensures.bytes) packed_text) c.in_ok-push_trailing_comma.ensures) c.in_ok-push_str-3.ensures.bytes) c.in_ok-push_remark.ensures)
-    c.push_str-4.ensures.bytes
+    let packed_text = c.in_ok-push_items.ensures ∙ ap (λ r. string_bytes c.push_opening.new.out ++ text r c.bracket_width.result) c.line_room.ensures ∙ ap (λ n. string_bytes c.push_opening.new.out ++ text (line_room v indentation c.args.module.now) n) c.bracket_width.ensures in
+    last_extended _ _ _ _ _ _ _
+    (extend _ _ _ _ _ (extend _ _ _ _ _ (extend _ _ _ _ _ c.in_ok-push_opening.ensures packed_text) c.in_ok-push_trailing_comma.ensures) c.in_ok-push_str.ensures.bytes)
+    c.push_line_end.ensures
     (in_brackets-written v indentation end c.args.module.now _ _ items (some_values item_value c.args.items.now c.requires))

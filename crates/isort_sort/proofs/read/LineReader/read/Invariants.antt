@@ -6,7 +6,7 @@ use Rattle.py_imports.specs.Bound.{Bound}
 use Rattle.py_imports.specs.Binds.{BindAll}
 use Rattle.isort_sort.specs.FoundValues.{finding_value, IsCounted}
 use Rattle.isort_sort.specs.Reading.{IsReadSoFar}
-use Rattle.isort_sort.proofs.read.find_blocks.Given as goal
+use Rattle.isort_sort.proofs.read.LineReader.read.Given as goal
 
 abbrev pub invariant-lines : goal.invariant-lines
 invariant-lines l = record {
@@ -15,9 +15,9 @@ invariant-lines l = record {
   bounds : List Bound;
   are_given : HasGiven l.lines given;
   bind : BindAll given bounds;
-  so_far : IsReadSoFar given l.reader;
-  counted : IsCounted (finding_value l.reader.blocks);
-  place : (finding_value l.reader.blocks).place ≤ l.lines.place;
+  so_far : IsReadSoFar given l.self;
+  counted : IsCounted (finding_value l.self.blocks);
+  place : (finding_value l.self.blocks).place ≤ l.lines.place;
 }
 
 abbrev pub decreases-lines : goal.decreases-lines

@@ -6,11 +6,9 @@ use Rattle.py_imports.specs.Bound.{bound_of}
 use Rattle.isort_sort.specs.FoundValues.{finding_value}
 use Rattle.isort_sort.specs.Line.{IsSilent}
 use Rattle.isort_sort.specs.Reading.{IsReadSoFar}
-use Rattle.isort_sort.specs.Sorted.{IsAccepted}
-use Rattle.isort_sort.proofs.LinesRead.{answers}
 use Rattle.isort_sort.proofs.ReadingLemmas.{BindAll-snoc, continues, refuses_text, refuses_line}
 use Rattle.isort_sort.proofs.SilenceLemmas.{silent_line}
-use Rattle.isort_sort.proofs.read.find_blocks.Goals as goal
+use Rattle.isort_sort.proofs.read.LineReader.read.Goals as goal
 
 pub returns-in_err-unit-clause-err : goal.returns-in_err-unit-clause-err
 returns-in_err-unit-clause-err c =
@@ -71,9 +69,12 @@ pub returns-clause-ok : goal.returns-clause-ok
 returns-clause-ok c =
     let i = c.lines.invariant in
     let ends = subst (λ r. ReadsNext c.lines.lines r c.next_unit.follows.lender-at-none) (c.in_ok-unit.was ∙ ap Ok c.in_default.is) c.next_unit.follows.holds-at-none in
-    let accepted : IsAccepted c.args.text.now i.given = record {
-      bounds = i.bounds;
-      lexed = subst (λ t. IsLexed t i.given None) i.text (ends.all i.given i.are_given);
-      good = i.bind;
-    } in
-    answers c.args.text.now i.given c.lines.reader c.finish.result c.finish.ensures.ok i.so_far accepted
+    record {
+      lines = i.given;
+      accepted = record {
+        bounds = i.bounds;
+        lexed = subst (λ t. IsLexed t i.given None) i.text (ends.all i.given i.are_given);
+        good = i.bind;
+      };
+      so_far = i.so_far;
+    }
