@@ -1,0 +1,5 @@
+mod AnswerLemmas
+mod FindLemmas
+mod KeyLemmas
+mod ReadingLemmas
+mod RecordLemmas

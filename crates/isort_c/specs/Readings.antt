@@ -1,0 +1,46 @@
+-- What the text of a `pyproject.toml` stands for, or how it is answered.
+use Rattle.std.specs.Prelude.{◌≡◌, ◌⊎◌, ℕ, ◌==◌, if◌then◌else◌, List, length, Option, None, Some, Result, Ok, Err}
+use Rattle.std.specs.Result.{result_map_both}
+use Rattle.isort_settings.specs.Pyproject.{settings_of}
+use Rattle.isort_settings.specs.Values.{Values}
+use Rattle.isort_settings.specs.declared.error.SettingsError.{SettingsError}
+use Rattle.isort_settings.specs.declared.error.SettingsError.TheVariants as refusal
+use Rattle.isort_settings.specs.declared.profile.Profile.{Profile}
+use Rattle.isort_settings.specs.declared.profile.Profile.TheVariants.{Black}
+use Rattle.isort_c.specs.Answers.{plain_answer, IsUnlessMemory, filled}
+use Rattle.isort_c.specs.KeyNumbers.{key_number}
+use Rattle.isort_c.specs.Records.{name_records}
+use Rattle.isort_c.specs.declared.answer.Answer.{Answer}
+use Rattle.isort_c.specs.declared.answer.TheConstants.{SAME, SETTINGS, MEMORY, ARGUMENT}
+
+-- the profile of a number: 0 is none, and 1 is `black`
+abbrev pub profile_at : ℕ → Result (Option Profile) Answer
+profile_at n = if n == 0 then Ok None else if n == 1 then Ok (Some Black) else Err (plain_answer ARGUMENT)
+
+-- the answer at a refusal
+abbrev pub refused_answer : SettingsError → Answer
+refused_answer refusal.Memory = plain_answer MEMORY
+refused_answer refusal.BadToml = record (plain_answer SETTINGS) { label = 1 }
+refused_answer (refusal.BadValue k) = record (plain_answer SETTINGS) { label = 2; key = key_number k }
+refused_answer refusal.UnknownProfile = record (plain_answer SETTINGS) { label = 3 }
+refused_answer refusal.UnsupportedMode = record (plain_answer SETTINGS) { label = 4 }
+
+-- what the text stands for with this profile
+abbrev pub reading_with : List ℕ → Result (Option Profile) Answer → Result (Values × List (List ℕ)) Answer
+reading_with text (Ok profile) = result_map_both (λ r. r) refused_answer (settings_of text profile)
+reading_with text (Err answer) = Err answer
+
+-- the settings that the text stands for with the profile of this number, and the names of its unknown keys; or the
+-- answer where there are none
+abbrev pub reading : List ℕ → ℕ → Result (Values × List (List ℕ)) Answer
+reading text n = reading_with text (profile_at n)
+
+-- the names of unknown keys in the buffer
+abbrev pub TellsNames : List (List ℕ) → Answer → List ℕ → List ℕ → Type 0
+TellsNames names answer old new =
+    (answer ≡ record (plain_answer SAME) { size = length (name_records names) }) × (new ≡ filled (name_records names) old)
+
+-- what settings say
+abbrev pub AnswersSettings : Result (Values × List (List ℕ)) Answer → Answer → List ℕ → List ℕ → Type 0
+AnswersSettings (Ok (v, unknown)) answer old new = TellsNames unknown answer old new ⊎ ((answer ≡ plain_answer MEMORY) × (new ≡ old))
+AnswersSettings (Err refused) answer old new = IsUnlessMemory refused answer × (new ≡ old)

@@ -1,0 +1,93 @@
+//! What settings say.
+ghost use Rattle.std.specs.Prelude.{◌≡◌, ◌⊎◌, Ok, Err, IfOk, IfErr, OnOk, [], map, string_bytes};
+ghost use Rattle.isort_settings.specs.Values.{values};
+ghost use Rattle.isort_c.specs.Answers.{plain_answer, filled};
+ghost use Rattle.isort_c.specs.Readings.{profile_at, refused_answer, reading, AnswersSettings};
+ghost use Rattle.isort_c.specs.Records.{name_records};
+ghost use Rattle.isort_c.specs.declared.answer.TheConstants.{MEMORY};
+
+use crate::answer::{ARGUMENT, Answer, MEMORY, SAME, SETTINGS};
+use crate::buffer::fill;
+use crate::key::number_of;
+use crate::record::push_text;
+use isort_settings::{Profile, Settings, SettingsError};
+use std::alloc::{AllocError, Global};
+
+/// The profile of a number, or none for 0.
+fn profile_of(number: u32) -> Result<Option<Profile>, Answer>
+    ensures { result ≡ profile_at number }
+{
+    match number {
+        0 => Ok(None),
+        1 => Ok(Some(Profile::Black)),
+        _ => Err(Answer::plain(ARGUMENT)),
+    }
+}
+
+/// The answer where settings are refused.
+fn refused(error: SettingsError) -> Answer
+    ensures { result ≡ refused_answer error }
+{
+    let mut answer = Answer::plain(SETTINGS);
+    match error {
+        SettingsError::Memory => return Answer::plain(MEMORY),
+        SettingsError::BadToml => answer.label = 1,
+        SettingsError::BadValue(key) => {
+            answer.label = 2;
+            answer.key = number_of(key);
+        }
+        SettingsError::UnknownProfile => answer.label = 3,
+        SettingsError::UnsupportedMode => answer.label = 4,
+    }
+    answer
+}
+
+/// The settings that the text of a `pyproject.toml` stands for, with the profile of this number, and the names of its
+/// unknown keys; or the answer where there are none.
+pub fn read(alloc: Global, text: &[u8], profile: u32) -> Result<(Settings, Vec<String>), Answer>
+    ensures ok { IfOk result (λ r. reading text.now profile ≡ Ok (values r.0, map string_bytes r.1.items)) }
+    ensures err { IfErr result (λ a. (reading text.now profile ≡ Err a) ⊎ (a ≡ plain_answer MEMORY)) }
+{
+    let profile = profile_of(profile)?;
+    match Settings::from_pyproject(alloc, text, profile) {
+        Ok(read) => Ok(read),
+        Err(error) => Err(refused(error)),
+    }
+}
+
+/// The records of the names.
+fn records_of(alloc: Global, names: &[String]) -> Result<Vec<u8>, AllocError>
+    ensures { IfOk result (λ v. v.items ≡ name_records (map string_bytes names.now)) }
+{
+    let mut records = Vec::new(alloc);
+    for name in names {
+        push_text(name.as_str(), &mut records)?;
+    }
+    Ok(records)
+}
+
+/// Tells whether the settings are refused, and which of their keys are unknown.
+///
+/// `SAME`: the records of the unknown keys' names have `size` bytes. They stand at the beginning of `out` where it has so
+/// many bytes, and else `out` is as it was. After every other answer it is as it was.
+#[unsafe(no_mangle)]
+pub extern "C" fn fihroste_settings(
+    alloc: Global,
+    settings: &[u8],
+    profile: u32,
+    out: &mut [u8],
+) -> Answer
+    ensures { AnswersSettings (reading settings.now profile) result out.old out.new }
+{
+    let unknown = match read(alloc, settings, profile) {
+        Ok((_settings, unknown)) => unknown,
+        Err(answer) => return answer,
+    };
+    let Ok(records) = records_of(alloc, &unknown) else {
+        return Answer::plain(MEMORY);
+    };
+    fill(&records, out);
+    let mut answer = Answer::plain(SAME);
+    answer.size = records.len();
+    answer
+}

@@ -1,0 +1,80 @@
+//! Sorting and checking.
+ghost use Rattle.std.specs.Prelude.{◌≡◌};
+ghost use Rattle.isort_c.specs.Readings.{reading};
+ghost use Rattle.isort_c.specs.Sorting.{sort_error_answer, sort_answer, left_by, AnswersSort, AnswersCheck};
+
+use crate::answer::{Answer, CHANGED, MEMORY, SAME, SKIPPED};
+use crate::buffer::fill;
+use crate::settings::read;
+use isort_sort::{SortError, Sorted, check_code, sort_code};
+use std::alloc::Global;
+
+/// The answer at an error of sorting.
+fn at_error(error: SortError) -> Answer
+    ensures { result ≡ sort_error_answer error }
+{
+    match error {
+        SortError::Memory | SortError::Write => Answer::plain(MEMORY),
+        SortError::Fault(fault) => Answer::at_fault(fault),
+    }
+}
+
+/// Puts the sorted text at the buffer's beginning, where it fits.
+fn put(sorted: &Result<Sorted, SortError>, out: &mut [u8]) -> Answer
+    ensures answer { result ≡ sort_answer sorted.now }
+    ensures out { out.new ≡ left_by sorted.now out.old }
+{
+    match sorted {
+        Ok(Sorted::Same) => Answer::plain(SAME),
+        Ok(Sorted::Skipped) => Answer::plain(SKIPPED),
+        Ok(Sorted::Changed(text)) => {
+            let bytes = text.as_bytes();
+            fill(bytes, out);
+            let mut answer = Answer::plain(CHANGED);
+            answer.size = bytes.len();
+            answer
+        }
+        Err(error) => at_error(*error),
+    }
+}
+
+/// Sorts the text under the settings that the text of a `pyproject.toml` stands for, with the profile of this number.
+///
+/// `CHANGED`: the sorted text has `size` bytes. It stands at the beginning of `out` where `out` has so many, and else
+/// `out` is as it was. After every other answer `out` is as it was.
+#[unsafe(no_mangle)]
+pub extern "C" fn fihroste_sort(
+    alloc: Global,
+    text: &[u8],
+    settings: &[u8],
+    profile: u32,
+    out: &mut [u8],
+) -> Answer
+    ensures { AnswersSort text.now (reading settings.now profile) result out.old out.new }
+{
+    match read(alloc, settings, profile) {
+        Ok((settings, _unknown)) => put(&sort_code(alloc, text, &settings), out),
+        Err(answer) => answer,
+    }
+}
+
+/// Whether the text is its own sorted text: `SAME` or `CHANGED`, with no size, or what else `fihroste_sort` answers. A
+/// text that asks to be left as it is is its own sorted text.
+#[unsafe(no_mangle)]
+pub extern "C" fn fihroste_check(
+    alloc: Global,
+    text: &[u8],
+    settings: &[u8],
+    profile: u32,
+) -> Answer
+    ensures { AnswersCheck text.now (reading settings.now profile) result }
+{
+    match read(alloc, settings, profile) {
+        Ok((settings, _unknown)) => match check_code(alloc, text, &settings) {
+            Ok(true) => Answer::plain(SAME),
+            Ok(false) => Answer::plain(CHANGED),
+            Err(error) => at_error(error),
+        },
+        Err(answer) => answer,
+    }
+}
