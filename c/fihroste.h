@@ -35,7 +35,7 @@ enum fihroste_status {
     FIHROSTE_FAULT = 3,    /* the text can't be read to its end: F1 to F9, at `line` and `offset` */
     FIHROSTE_SETTINGS = 4, /* the settings are refused: S1 to S4 */
     FIHROSTE_MEMORY = 5,   /* memory ran out */
-    FIHROSTE_ARGUMENT = 6  /* the module is not UTF-8, or `unique` or `profile` is none of the numbers below */
+    FIHROSTE_ARGUMENT = 6  /* the name of a module is not UTF-8, or `unique` or `profile` is none of the numbers below */
 };
 
 /* `label` at FIHROSTE_FAULT. */
@@ -118,8 +118,8 @@ fihroste_answer fihroste_check(const uint8_t *text, size_t text_size, const uint
 fihroste_answer fihroste_find(const uint8_t *text, size_t text_size, uint32_t unique, bool top_only, uint8_t *out,
                               size_t room);
 
-/* The section of a module, in `section`. */
-fihroste_answer fihroste_place(const uint8_t *module, size_t module_size, const uint8_t *settings, size_t settings_size,
+/* The section of the module of this name, in `section`. */
+fihroste_answer fihroste_place(const uint8_t *name, size_t name_size, const uint8_t *settings, size_t settings_size,
                                uint32_t profile);
 
 /* Whether the settings are refused, and which keys of [tool.isort] are unknown. The result, at FIHROSTE_SAME, is a text

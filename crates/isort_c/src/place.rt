@@ -23,26 +23,26 @@ fn place_of(section: Section) -> u32
     }
 }
 
-/// The section of a module, in `section`, under the settings that the text of a `pyproject.toml` stands for, with the
-/// profile of this number.
+/// The section of the module of this name, in `section`, under the settings that the text of a `pyproject.toml` stands
+/// for, with the profile of this number.
 ///
 /// `ARGUMENT`: the module is not UTF-8, or no profile has the number.
 #[unsafe(no_mangle)]
 pub extern "C" fn fihroste_place(
     alloc: Global,
-    module: &[u8],
+    name: &[u8],
     settings: &[u8],
     profile: u32,
 ) -> Answer
-    ensures { AnswersPlace «module».now (reading settings.now profile) result }
+    ensures { AnswersPlace name.now (reading settings.now profile) result }
 {
-    let Ok(name) = str::from_utf8(module) else {
+    let Ok(module_name) = str::from_utf8(name) else {
         return Answer::plain(ARGUMENT);
     };
     match read(alloc, settings, profile) {
         Ok((settings, _unknown)) => {
             let mut answer = Answer::plain(SAME);
-            answer.section = place_of(settings.section_of(name));
+            answer.section = place_of(settings.section_of(module_name));
             answer
         }
         Err(answer) => answer,
