@@ -2,6 +2,7 @@
 -- and the reader of lines. No public contract names a word of these files.
 pub mod Machine
 pub mod Scan
+pub mod LineState
 pub mod Source
 pub mod Run
 pub mod Feed

@@ -4,10 +4,9 @@ ghost use Rattle.std.specs.Prelude.{◌≡◌, ℕ, ◌+◌, ◌-◌, ◌<◌, �
 ghost use Rattle.std.specs.Str.{StartsWithNoChar};
 ghost use Rattle.py_lines.specs.Private.Feed.{TellsHopeless};
 
-use crate::count::line_behind;
 use crate::fault::{Fault, FaultKind, LexError};
-use crate::mode::Mode;
-use crate::scan::{Scan, Stop};
+use crate::line_state::LineState;
+use crate::scan::Stop;
 use crate::unit::Unit;
 use std::alloc::{AllocError, Global};
 
@@ -69,107 +68,59 @@ fn drop_front(held: &mut Vec<u8>, len: usize)
 #[derive(Drop)]
 pub struct Feed {
     pub held: Vec<u8>,
-    /// The byte and the line at which `held` begins.
-    pub place: u64,
-    pub line: u64,
+    /// `held` begins at its place, and on its line.
+    pub state: LineState,
     /// Where a line is ready, the bytes of its line end. The line reaches to where the scan stopped.
     pub ready: Option<usize>,
     /// Whether the text has ended.
     pub ended: bool,
-    pub fault: Option<Fault>,
-    pub scan: Scan,
 }
 
 impl Feed {
-    ghost use Rattle.std.specs.Prelude.{◌&&◌, not, true, false, None, Some, Ok, Err, List, [], slice_index, encode_utf8, encode_utf8_all, IsUtf8};
-    ghost use Rattle.std.specs.Char.{len_utf8};
-    ghost use Rattle.py_lines.specs.Character.{is_line_feed};
+    ghost use Rattle.std.specs.Prelude.{◌&&◌, not, true, false, None, Some, Ok, Err, List, [], IsUtf8};
     ghost use Rattle.py_lines.specs.Scanning.{begun_at, Finishes};
     ghost use Rattle.py_lines.specs.Scanning.View.{ready_of, scanning_of};
     ghost use Rattle.py_lines.specs.UnitLine.{line_in};
-    ghost use Rattle.py_lines.specs.Private.Machine.{Bracket};
     ghost use Rattle.py_lines.specs.Private.Scan.{is_returned};
-    ghost use Rattle.py_lines.specs.Private.Source.{first_mode};
-    ghost use Rattle.py_lines.specs.Private.Feed.{Restarts, IsOpen, FailsAt, ClosesLine, ScansCharacters, ScansHeld, StopsHeld, whole_end, GivesBack, TakesChunk, HasScannedNext, IsHeldSo, IsScanned, IsReady, IsSoundFeed, FeedsSo, EndsHeld, EndsText, LetsGo};
+    ghost use Rattle.py_lines.specs.Private.Feed.{HasRoom, IsOpen, FailsAt, ClosesLine, ScansCharacters, ScansHeld, StopsHeld, whole_end, GivesBack, TakesChunk, HasScannedNext, IsScanned, IsReady, IsSoundFeed, FeedsSo, EndsHeld, EndsText, LetsGo};
 
-    /// A text's start, of which nothing was fed.
-    pub fn new(alloc: Global) -> Feed
-        ensures start { scanning_of result ≡ begun_at 0 1 }
-        ensures opens { IsOpen result [] [] }
-    {
-        Feed {
-            held: Vec::new(alloc),
-            place: 0,
-            line: 1,
-            ready: None,
-            ended: false,
-            fault: None,
-            scan: Scan::new(alloc),
-        }
-    }
-
-    /// From this byte of a text on, which is on this line.
+    /// At this byte of a text, which is on this line. Nothing was fed.
     pub fn at(alloc: Global, place: u64, line: u64) -> Feed
         ensures start { scanning_of result ≡ begun_at place line }
         ensures opens { IsOpen result [] [] }
     {
-        let mut feed = Feed::new(alloc);
-        feed.place = place;
-        feed.line = line;
-        feed.restart();
-        feed
-    }
-
-    /// What is open where a line begins: a mark may stand at the text's start.
-    fn first_mode(&self) -> Mode
-        ensures { result ≡ first_mode self.now.place }
-    {
-        if self.place == 0 {
-            Mode::Start
-        } else {
-            Mode::Free
+        Feed {
+            held: Vec::new(alloc),
+            state: LineState::at(alloc, place, line),
+            ready: None,
+            ended: false,
         }
-    }
-
-    /// The scan of the line is begun anew.
-    fn restart(&mut self)
-        ensures { Restarts self.old self.new }
-    {
-        let mode = self.first_mode();
-        self.scan.restart(mode, self.line);
     }
 
     /// The text has this fault, from now on. It stands so many bytes after the lines that were released.
     fn fail(&mut self, kind: FaultKind, behind: usize) -> LexError
         requires within { behind ≤ length self.old.held.items }
         requires text { IsUtf8 (take behind self.old.held.items) }
-        requires bytes { self.old.place + behind < 2 ^ 64 }
-        requires lines { self.old.line + behind + 1 < 2 ^ 64 }
+        requires room { HasRoom self.old 0 }
         ensures { FailsAt self.old kind behind result self.new }
     {
         // Whole characters end there, as the `requires` says.
         let front = unsafe { std::str::from_utf8_unchecked(&self.held[..behind]) };
-        let fault = Fault {
-            kind,
-            offset: self.place + behind as u64,
-            line: line_behind(self.line, front),
-        };
-        self.fault = Some(fault);
-        LexError::Fault(fault)
+        self.state.fail(kind, front)
     }
 
     /// Closes the open piece, and with it the line, which ends in so many bytes of line end.
     fn close(&mut self, end_len: usize) -> Result<(), LexError>
-        requires { self.old.scan.piece.start ≤ self.old.scan.stop }
+        requires { self.old.state.scan.piece.start ≤ self.old.state.scan.stop }
         ensures { ClosesLine self.old end_len result self.new }
     {
-        match self.scan.close() {
+        match self.state.scan.close() {
             Ok(()) => {
                 self.ready = Some(end_len);
                 Ok(())
             }
             Err(error) => {
-                self.restart();
+                self.state.restart();
                 Err(error.into())
             }
         }
@@ -180,15 +131,14 @@ impl Feed {
     #[inline(always)]
     fn scan_characters(&mut self) -> Result<Stop, LexError>
         requires opens { (read : List ℕ) × (rest : List ℕ) × IsOpen self.old read rest }
-        requires fits { self.old.place + length self.old.held.items ≤ 2 ^ 62 }
-        requires few_lines { self.old.line ≤ self.old.place + 1 }
+        requires room { HasRoom self.old 0 }
         ensures { ScansCharacters self.old result self.new }
     {
-        let stop = self.scan.stop;
-        match self.scan.extend(&self.held[stop..]) {
+        let stop = self.state.scan.stop;
+        match self.state.scan.extend(&self.held[stop..]) {
             Ok(stop) => Ok(stop),
             Err(error) => {
-                self.restart();
+                self.state.restart();
                 Err(error.into())
             }
         }
@@ -199,18 +149,17 @@ impl Feed {
     fn scan_part(&mut self) -> Result<(), LexError>
         requires opens { (read : List ℕ) × (rest : List ℕ) × IsOpen self.old read rest × StartsWithNoChar rest }
         requires not_ready { self.old.ready ≡ None }
-        requires fits { self.old.place + length self.old.held.items ≤ 2 ^ 62 }
-        requires few_lines { self.old.line ≤ self.old.place + 1 }
+        requires room { HasRoom self.old 0 }
         ensures { ScansHeld self.old result self.new }
     {
-        if self.scan.stop == self.held.len() {
+        if self.state.scan.stop == self.held.len() {
             return Ok(());
         }
-        if self.scan.is_returned() {
+        if self.state.scan.is_returned() {
             return self.close(1);
         }
-        if is_hopeless(&self.held[self.scan.stop..]) {
-            let behind = self.scan.stop;
+        if is_hopeless(&self.held[self.state.scan.stop..]) {
+            let behind = self.state.scan.stop;
             return Err(self.fail(FaultKind::BadUtf8, behind));
         }
         Ok(())
@@ -221,8 +170,7 @@ impl Feed {
     fn meet(&mut self, stop: Stop) -> Result<(), LexError>
         requires stops { (read : List ℕ) × (rest : List ℕ) × StopsHeld self.old stop read rest }
         requires not_ready { self.old.ready ≡ None }
-        requires fits { self.old.place + length self.old.held.items ≤ 2 ^ 62 }
-        requires few_lines { self.old.line ≤ self.old.place + 1 }
+        requires room { HasRoom self.old 0 }
         ensures { ScansHeld self.old result self.new }
     {
         match stop {
@@ -232,7 +180,7 @@ impl Feed {
             }
             Stop::TextEnd => self.scan_part(),
             Stop::Refused(c) => {
-                let flaw = self.scan.refusal(c);
+                let flaw = self.state.scan.refusal(c);
                 Err(self.fail(flaw.kind, flaw.place))
             }
         }
@@ -242,8 +190,7 @@ impl Feed {
     fn scan_held(&mut self) -> Result<(), LexError>
         requires opens { (read : List ℕ) × (rest : List ℕ) × IsOpen self.old read rest }
         requires not_ready { self.old.ready ≡ None }
-        requires fits { self.old.place + length self.old.held.items ≤ 2 ^ 62 }
-        requires few_lines { self.old.line ≤ self.old.place + 1 }
+        requires room { HasRoom self.old 0 }
         ensures { ScansHeld self.old result self.new }
     {
         let stop = self.scan_characters()?;
@@ -253,13 +200,13 @@ impl Feed {
     /// Where what is held of a line that is ready ends: after CR one byte shows that the line is whole.
     #[inline(always)]
     fn whole_end(&self) -> usize
-        requires { self.now.scan.stop + 1 < 2 ^ 64 }
-        ensures { result ≡ whole_end self.now.scan }
+        requires { self.now.state.scan.stop + 1 < 2 ^ 64 }
+        ensures { result ≡ whole_end self.now.state.scan }
     {
-        if self.scan.count.after_return {
-            self.scan.stop + 1
+        if self.state.scan.count.after_return {
+            self.state.scan.stop + 1
         } else {
-            self.scan.stop
+            self.state.scan.stop
         }
     }
 
@@ -302,7 +249,7 @@ impl Feed {
     {
         let len = self.whole_end();
         if let Err(error) = hold_first(&mut self.held, chunk, len) {
-            self.restart();
+            self.state.restart();
             return Err(error.into());
         }
         self.ready = Some(end_len);
@@ -315,15 +262,14 @@ impl Feed {
         requires scanned { HasScannedNext self.old chunk.now stop }
         requires not_ready { self.old.ready ≡ None }
         requires some { 0 < length chunk.now }
-        requires fits { self.old.place + length chunk.now ≤ 2 ^ 62 }
-        requires few_lines { self.old.line ≤ self.old.place + 1 }
+        requires room { HasRoom self.old (length chunk.now) }
         ensures { TakesChunk self.old chunk.now result self.new }
     {
         if let Stop::LineEnd(end_len) = stop {
             return self.take_line(chunk, end_len);
         }
         if let Err(error) = self.held.extend_from_slice(chunk) {
-            self.restart();
+            self.state.restart();
             return Err(error.into());
         }
         match self.meet(stop) {
@@ -347,14 +293,13 @@ impl Feed {
         requires none_held { self.old.held.items ≡ [] }
         requires not_ready { self.old.ready ≡ None }
         requires some { 0 < length chunk.now }
-        requires fits { self.old.place + length chunk.now ≤ 2 ^ 62 }
-        requires few_lines { self.old.line ≤ self.old.place + 1 }
+        requires room { HasRoom self.old (length chunk.now) }
         ensures { TakesChunk self.old chunk.now result self.new }
     {
-        match self.scan.extend(chunk) {
+        match self.state.scan.extend(chunk) {
             Ok(stop) => self.take_scanned(chunk, stop),
             Err(error) => {
-                self.restart();
+                self.state.restart();
                 Err(error.into())
             }
         }
@@ -365,8 +310,7 @@ impl Feed {
         requires opens { (read : List ℕ) × (rest : List ℕ) × IsOpen self.old read rest }
         requires not_ready { self.old.ready ≡ None }
         requires some { 0 < length chunk.now }
-        requires fits { self.old.place + length self.old.held.items + length chunk.now ≤ 2 ^ 62 }
-        requires few_lines { self.old.line ≤ self.old.place + 1 }
+        requires room { HasRoom self.old (length chunk.now) }
         ensures { TakesChunk self.old chunk.now result self.new }
     {
         let before = self.held.len();
@@ -390,10 +334,10 @@ impl Feed {
     /// Takes bytes of a piece, up to a line's end: how many.
     pub fn feed(&mut self, piece: &[u8]) -> Result<usize, LexError>
         requires sound { IsSoundFeed self.old }
-        requires fits { self.old.place + length self.old.held.items + length piece.now ≤ 2 ^ 62 }
+        requires fits { self.old.state.place + length self.old.held.items + length piece.now ≤ 2 ^ 62 }
         ensures { FeedsSo self.old piece.now result self.new }
     {
-        if let Some(fault) = self.fault {
+        if let Some(fault) = self.state.fault {
             return Err(LexError::Fault(fault));
         }
         if self.ready.is_some() {
@@ -419,19 +363,19 @@ impl Feed {
     /// Releases the line that is ready.
     pub fn release(&mut self)
         requires ready { (end_len : ℕ) × IsReady self.old end_len }
-        requires fits { self.old.place + length self.old.held.items ≤ 2 ^ 62 }
+        requires fits { self.old.state.place + length self.old.held.items ≤ 2 ^ 62 }
         ensures { LetsGo self.old self.new }
     {
-        let stop = self.scan.stop;
-        self.place += stop as u64;
-        self.line = self.scan.count.line;
+        let stop = self.state.scan.stop;
+        self.state.place += stop as u64;
+        self.state.line = self.state.scan.count.line;
         self.ready = None;
         if stop == self.held.len() {
             self.held.clear();
         } else {
             drop_front(&mut self.held, stop);
         }
-        self.restart();
+        self.state.restart();
     }
 
     /// The line that ends where the text does, or the fault that stands there.
@@ -439,18 +383,17 @@ impl Feed {
         requires scanned { IsScanned None self.old }
         requires not_ready { self.old.ready ≡ None }
         requires some { 0 < length self.old.held.items }
-        requires fits { self.old.place + length self.old.held.items ≤ 2 ^ 62 }
-        requires few_lines { self.old.line ≤ self.old.place + 1 }
+        requires room { HasRoom self.old 0 }
         ensures { EndsHeld self.old result self.new }
     {
-        if self.scan.stop < self.held.len() {
-            let behind = self.scan.stop;
+        if self.state.scan.stop < self.held.len() {
+            let behind = self.state.scan.stop;
             return Err(self.fail(FaultKind::BadUtf8, behind));
         }
-        if self.scan.is_returned() {
+        if self.state.scan.is_returned() {
             return self.close(1);
         }
-        if let Some(flaw) = self.scan.unfinished() {
+        if let Some(flaw) = self.state.scan.unfinished() {
             return Err(self.fail(flaw.kind, flaw.place));
         }
         self.close(0)
@@ -460,8 +403,7 @@ impl Feed {
     fn end_text(&mut self) -> Result<(), LexError>
         requires opens { (read : List ℕ) × (rest : List ℕ) × IsOpen self.old read rest }
         requires not_ready { self.old.ready ≡ None }
-        requires fits { self.old.place + length self.old.held.items ≤ 2 ^ 62 }
-        requires few_lines { self.old.line ≤ self.old.place + 1 }
+        requires room { HasRoom self.old 0 }
         ensures { EndsText self.old result self.new }
     {
         self.scan_held()?;
@@ -478,7 +420,7 @@ impl Feed {
         ensures finishes { Finishes (scanning_of self.old) result (scanning_of self.new) }
         ensures sound { IsSoundFeed self.new }
     {
-        if let Some(fault) = self.fault {
+        if let Some(fault) = self.state.fault {
             return Err(LexError::Fault(fault));
         }
         self.end_text()?;
@@ -495,15 +437,7 @@ impl Feed {
     {
         let end_len = self.ready?;
         // The scan read it as characters.
-        let text = unsafe { std::str::from_utf8_unchecked(&self.held[..self.scan.stop]) };
-        Some(Unit {
-            kind: self.scan.kind,
-            text,
-            tokens: self.scan.tokens.as_slice(),
-            offset: self.place,
-            line: self.scan.line,
-            indent: self.scan.indent,
-            end_len,
-        })
+        let text = unsafe { std::str::from_utf8_unchecked(&self.held[..self.state.scan.stop]) };
+        Some(self.state.unit(text, self.state.place, end_len))
     }
 }

@@ -7,6 +7,7 @@ mod count;
 mod fault;
 mod feed;
 pub mod laws;
+mod line_state;
 mod lines;
 mod mode;
 mod run;

@@ -62,14 +62,14 @@ impl<'t> Lines<'t> {
     pub fn offset(&self) -> u64
         ensures { result ≡ self.now.place }
     {
-        self.source.place as u64
+        self.source.state.place
     }
 
     /// The line of that byte, from 1.
     pub fn line(&self) -> u64
         ensures { result ≡ self.now.line }
     {
-        self.source.line
+        self.source.state.line
     }
 
     /// The next logical line (2.1.1), lent out of the text and this reader; `None` after the last one, for good.

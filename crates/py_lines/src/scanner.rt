@@ -37,7 +37,7 @@ impl Scanner {
         ensures memory { IfErr result (λ e. e ≡ LexError.Memory) }
     {
         Ok(Scanner {
-            feed: Feed::new(alloc),
+            feed: Feed::at(alloc, 0, 1),
         })
     }
 
@@ -106,14 +106,14 @@ impl Scanner {
     pub fn offset(&self) -> u64
         ensures { result ≡ self.now.place }
     {
-        self.feed.place
+        self.feed.state.place
     }
 
     /// The line of that byte, from 1.
     pub fn line(&self) -> u64
         ensures { result ≡ self.now.line }
     {
-        self.feed.line
+        self.feed.state.line
     }
 
     /// The text fed since the line that was released last.
@@ -127,6 +127,6 @@ impl Scanner {
     pub fn fed(&self) -> u64
         ensures { result ≡ fed_of self.now }
     {
-        self.feed.place + self.feed.held.len() as u64
+        self.feed.state.place + self.feed.held.len() as u64
     }
 }

@@ -2,12 +2,10 @@
 
 ghost use Rattle.std.specs.Prelude.{◌≡◌, ℕ, ◌+◌, ◌<◌, ◌≤◌, List, length, take, drop, true, None, Some, Ok, Err, IsTrue, IsUtf8};
 ghost use Rattle.std.specs.Str.{IsCharBoundary, StartsWithNoChar};
-ghost use Rattle.py_lines.specs.declared.fault.Fault.{Fault};
 
-use crate::count::line_behind;
-use crate::fault::{Fault, FaultKind, LexError};
-use crate::mode::Mode;
-use crate::scan::{Scan, Stop};
+use crate::fault::{FaultKind, LexError};
+use crate::line_state::LineState;
+use crate::scan::Stop;
 use crate::unit::Unit;
 use crate::utf8::utf8_front;
 use std::alloc::Global;
@@ -18,27 +16,24 @@ pub struct Source<'t> {
     pub bytes: &'t [u8],
     /// The bytes up to the first that begin no character.
     pub characters: &'t str,
-    /// Where the line read last begins, and where the next one does.
+    /// Where the line read last begins, and how many bytes its line end has.
     pub start: usize,
-    pub place: usize,
-    /// The line of `place`, from 1.
-    pub line: u64,
     pub end_len: usize,
-    pub fault: Option<Fault>,
-    pub scan: Scan,
+    /// Where the next line begins.
+    pub state: LineState,
     ghost text: { ∥ IsUtf8 characters.now ∥₁ },
     ghost front: { characters.now ≡ take (length characters.now) bytes.now },
     ghost bad: { StartsWithNoChar (drop (length characters.now) bytes.now) },
-    ghost ordered: { start ≤ place },
-    ghost within: { place ≤ length characters.now },
-    ghost boundary: { IsCharBoundary characters.now place },
+    ghost ordered: { start ≤ state.place },
+    ghost within: { state.place ≤ length characters.now },
+    ghost boundary: { IsCharBoundary characters.now state.place },
     ghost start_boundary: { IsCharBoundary characters.now start },
-    ghost few_lines: { line ≤ place + 1 },
+    ghost few_lines: { state.line ≤ state.place + 1 },
 }
 
 impl<'t> Source<'t> {
     ghost use Rattle.py_lines.specs.Reader.View.{reader_of};
-    ghost use Rattle.py_lines.specs.Private.Source.{line_of_source, PassesLine, KeepsFault, HasScanned, Advances, first_mode};
+    ghost use Rattle.py_lines.specs.Private.Source.{line_of_source, PassesLine, FailsAfter, HasScanned, Advances};
     ghost use Rattle.py_lines.specs.Reader.{HasGiven, at_start, standing_at};
     ghost use Rattle.py_lines.specs.LogicalLine.{LogicalLine};
     ghost use Rattle.py_lines.specs.Token.{EachLiesIn};
@@ -52,11 +47,8 @@ impl<'t> Source<'t> {
             bytes,
             characters: utf8_front(bytes),
             start: 0,
-            place: 0,
-            line: 1,
             end_len: 0,
-            fault: None,
-            scan: Scan::new(alloc),
+            state: LineState::at(alloc, 0, 1),
         }
     }
 
@@ -68,8 +60,8 @@ impl<'t> Source<'t> {
         let mut source = Source::new(alloc, bytes);
         let (place, line) = source.place_or_end(offset, line);
         source.start = place;
-        source.place = place;
-        source.line = line;
+        source.state.place = place as u64;
+        source.state.line = line;
         source
     }
 
@@ -89,31 +81,26 @@ impl<'t> Source<'t> {
 
     /// The line that was read last reaches to where the scan stopped, with `end_len` bytes of line end.
     fn give(&mut self, end_len: usize)
-        requires within { self.old.place + self.old.scan.stop ≤ length self.old.characters.now }
-        requires boundary { IsCharBoundary self.old.characters.now (self.old.place + self.old.scan.stop) }
-        requires lines { self.old.scan.count.line ≤ self.old.place + self.old.scan.stop + 1 }
+        requires within { self.old.state.place + self.old.state.scan.stop ≤ length self.old.characters.now }
+        requires boundary { IsCharBoundary self.old.characters.now (self.old.state.place + self.old.state.scan.stop) }
+        requires lines { self.old.state.scan.count.line ≤ self.old.state.place + self.old.state.scan.stop + 1 }
         ensures { PassesLine self.old end_len self.new }
     {
-        self.start = self.place;
-        self.place += self.scan.stop;
-        self.line = self.scan.count.line;
+        self.start = self.state.place as usize;
+        self.state.place += self.state.scan.stop as u64;
+        self.state.line = self.state.scan.count.line;
         self.end_len = end_len;
     }
 
     /// The text has this fault, from now on. It stands so many bytes after the lines that were read.
     fn fail(&mut self, kind: FaultKind, behind: usize) -> LexError
-        requires within { self.old.place + behind ≤ length self.old.characters.now }
-        requires boundary { IsCharBoundary self.old.characters.now (self.old.place + behind) }
-        ensures { KeepsFault self.old kind behind result self.new }
+        requires within { self.old.state.place + behind ≤ length self.old.characters.now }
+        requires boundary { IsCharBoundary self.old.characters.now (self.old.state.place + behind) }
+        ensures { FailsAfter self.old kind behind result self.new }
     {
-        let offset = self.place + behind;
-        let fault = Fault {
-            kind,
-            offset: offset as u64,
-            line: line_behind(self.line, &self.characters[self.place..offset]),
-        };
-        self.fault = Some(fault);
-        LexError::Fault(fault)
+        let place = self.state.place as usize;
+        let front = &self.characters[place..place + behind];
+        self.state.fail(kind, front)
     }
 
     /// The fault of a text whose next character is refused.
@@ -121,7 +108,7 @@ impl<'t> Source<'t> {
         requires { HasScanned self.old (Stop.Refused c) }
         ensures { Advances self.old (Err result) self.new }
     {
-        let flaw = self.scan.refusal(c);
+        let flaw = self.state.scan.refusal(c);
         self.fail(flaw.kind, flaw.place)
     }
 
@@ -139,40 +126,32 @@ impl<'t> Source<'t> {
         ensures { Advances self.old result self.new }
     {
         if self.characters.len() < self.bytes.len() {
-            return Err(self.fail(FaultKind::BadUtf8, self.scan.stop));
+            return Err(self.fail(FaultKind::BadUtf8, self.state.scan.stop));
         }
-        if let Some(flaw) = self.scan.unfinished() {
+        if let Some(flaw) = self.state.scan.unfinished() {
             return Err(self.fail(flaw.kind, flaw.place));
         }
-        self.scan.close()?;
+        self.state.scan.close()?;
         self.give(0);
         Ok(true)
-    }
-
-    /// What is open where a line begins: a mark may stand at the text's start.
-    fn first_mode(&self) -> Mode
-        ensures { result ≡ first_mode self.now.place }
-    {
-        if self.place == 0 {
-            Mode::Start
-        } else {
-            Mode::Free
-        }
     }
 
     /// Reads the next logical line: whether there is one.
     pub fn advance(&mut self) -> Result<bool, LexError>
         ensures { Advances self.old result self.new }
     {
-        if let Some(fault) = self.fault {
+        if let Some(fault) = self.state.fault {
             return Err(LexError::Fault(fault));
         }
-        if self.place == self.bytes.len() {
+        if self.state.place == self.bytes.len() as u64 {
             return Ok(false);
         }
-        let mode = self.first_mode();
-        self.scan.restart(mode, self.line);
-        match self.scan.run(&self.characters[self.place..])? {
+        self.state.restart();
+        match self
+            .state
+            .scan
+            .run(&self.characters[self.state.place as usize..])?
+        {
             Stop::LineEnd(len) => {
                 self.end_line(len);
                 Ok(true)
@@ -184,17 +163,10 @@ impl<'t> Source<'t> {
 
     /// The line that was read last.
     pub fn unit(&self) -> Unit<'_>
-        requires { EachLiesIn (line_of_source self.now).text self.now.scan.tokens.items }
+        requires { EachLiesIn (line_of_source self.now).text self.now.state.scan.tokens.items }
         ensures { line_in result ≡ line_of_source self.now }
     {
-        Unit {
-            kind: self.scan.kind,
-            text: &self.characters[self.start..self.place],
-            tokens: self.scan.tokens.as_slice(),
-            offset: self.start as u64,
-            line: self.scan.line,
-            indent: self.scan.indent,
-            end_len: self.end_len,
-        }
+        let text = &self.characters[self.start..self.state.place as usize];
+        self.state.unit(text, self.start as u64, self.end_len)
     }
 }

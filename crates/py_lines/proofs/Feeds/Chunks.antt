@@ -8,9 +8,8 @@ use Rattle.py_lines.specs.declared.feed.Feed.{Feed}
 use Rattle.py_lines.specs.declared.fault.LexError.{LexError}
 use Rattle.py_lines.specs.declared.fault.LexError.TheVariants as lex
 use Rattle.py_lines.specs.declared.scan.Scan.{Scan}
-use Rattle.py_lines.specs.Private.Scan.{Tallies, IsStacked, line_start}
-use Rattle.py_lines.specs.Private.Source.{first_mode}
-use Rattle.py_lines.specs.Private.Feed.{Restarts, IsOpen, EndsAfter, HoldsMore, IsScanned, IsHeldSo, IsUnchanged, TakesChunk, ScansHeld, FailsWith, FailsPiece, IsLastChunk, StopsTaking, TakesSome, FeedsSo}
+use Rattle.py_lines.specs.Private.Feed.{Restarts, EndsAfter, HoldsMore, IsScanned, IsHeldSo, IsUnchanged, TakesChunk, ScansHeld, FailsWith, FailsPiece, IsLastChunk, StopsTaking, TakesSome, FeedsSo}
+use Rattle.py_lines.proofs.Feeds.Loops.{restarts_keep, restarts_ready, restarts_fault, restarts_open}
 
 pub none_is : (r : Option ℕ) → is_some r ≡ false → r ≡ None
 none_is None h = refl
@@ -19,31 +18,18 @@ none_is (Some n) h = absurd (cc)
 pub holds_none : (f : Feed) → HoldsMore f [] f
 holds_none f = record { held = sym (append-nil f.held.items); place = refl; line = refl; ended = refl }
 
--- a scan that was begun anew is that of a line of which nothing was read
-pub restarts_open : (old new : Feed) → Restarts old new → IsOpen new [] new.held.items
-restarts_open old new r = record {
-  scalars = refl;
-  spell = refl;
-  way = record {
-    state = line_start (first_mode new.place);
-    runs = refl;
-    tallies = subst (λ (n : ℕ). Tallies new.scan (line_start (first_mode n))) (sym r.text.place) r.tallies;
-    stacked = subst (λ (n : ℕ). IsStacked new.scan (line_start (first_mode n))) (sym r.text.place) r.stacked;
-    one_line = tt;
-  };
-  number = r.number ∙ sym r.text.line;
-}
-
 pub restarts_unchanged : (old new : Feed) → old.ready ≡ None → Restarts old new → IsUnchanged old new
-restarts_unchanged old new ready r = record {
-  same = record { held = ap (λ (v : Vec ℕ). v.items) r.text.held ∙ sym (append-nil old.held.items); place = r.text.place; line = r.text.line; ended = r.text.ended };
-  ready = r.ready;
-  fault = r.fault;
-  state = subst (λ o. IsHeldSo o new) (sym (r.ready ∙ ready)) ([], new.held.items, restarts_open old new r);
-}
+restarts_unchanged old new ready r =
+    let keeps = restarts_keep old new r in
+    record {
+      same = record { held = ap (λ (v : Vec ℕ). v.items) keeps.held ∙ sym (append-nil old.held.items); place = keeps.place; line = keeps.line; ended = keeps.ended };
+      ready = restarts_ready old new r;
+      fault = restarts_fault old new r;
+      state = subst (λ o. IsHeldSo o new) (sym (restarts_ready old new r ∙ ready)) ([], new.held.items, restarts_open old new r);
+    }
 
 -- no bytes are fed
-pub none_taken : (old new : Feed) (piece : List ℕ) (error : LexError) → old.ready ≡ None → old.fault ≡ None → ScansHeld old (Err error) new → FeedsSo old piece (Err error) new
+pub none_taken : (old new : Feed) (piece : List ℕ) (error : LexError) → old.ready ≡ None → old.state.fault ≡ None → ScansHeld old (Err error) new → FeedsSo old piece (Err error) new
 none_taken old new piece (lex.Fault f) ready fault fails = inr (fault, record { not_ready = ready; n = 0; within = omega arith; mid = old; more = holds_none old; fails = fails })
 none_taken old new piece lex.Memory ready fault r = (fault, ready, restarts_unchanged old new ready r)
 
@@ -97,7 +83,7 @@ chunk_fails old mid new piece chunk taken len error ready within more is w = rec
 }
 
 -- where a growth was refused after the first bytes
-pub stops_short : (old mid new : Feed) (piece : List ℕ) (taken : ℕ) → old.ready ≡ None → taken ≤ length piece → (taken ≡ 0 → ⊥) → HoldsMore old (take taken piece) mid → mid.fault ≡ old.fault → mid.ready ≡ None → ((taken ≡ 0 → piece ≡ []) → IsScanned mid.ready mid) → IsUnchanged mid new → TakesSome old piece taken new
+pub stops_short : (old mid new : Feed) (piece : List ℕ) (taken : ℕ) → old.ready ≡ None → taken ≤ length piece → (taken ≡ 0 → ⊥) → HoldsMore old (take taken piece) mid → mid.state.fault ≡ old.state.fault → mid.ready ≡ None → ((taken ≡ 0 → piece ≡ []) → IsScanned mid.ready mid) → IsUnchanged mid new → TakesSome old piece taken new
 stops_short old mid new piece taken ready within some more fault mid_ready scanned u =
     let s = u.same in
     let is_ready : new.ready ≡ None = u.ready ∙ mid_ready in
@@ -116,7 +102,7 @@ stops_taking old new piece taken None s last = (new, holds_none new, s, (s.0, s.
 stops_taking old new piece taken (Some n) s last = (s, λ some. last n some refl)
 
 -- what a call took, where the bytes had been scanned before it
-pub rescanned_taken : (old new : Feed) (scan : Scan) (chunk : List ℕ) (r : Result ℕ LexError) → TakesChunk (record old { scan = scan }) chunk r new → TakesChunk old chunk r new
+pub rescanned_taken : (old new : Feed) (scan : Scan) (chunk : List ℕ) (r : Result ℕ LexError) → TakesChunk (record old { state = record old.state { scan = scan } }) chunk r new → TakesChunk old chunk r new
 rescanned_taken old new scan chunk (Ok n) t = record { some = t.some; within = t.within; more = record { held = t.more.held; place = t.more.place; line = t.more.line; ended = t.more.ended }; fault = t.fault; stops = t.stops }
 rescanned_taken old new scan chunk (Err (lex.Fault f)) t = record { mid = t.mid; more = record { held = t.more.held; place = t.more.place; line = t.more.line; ended = t.more.ended }; fails = t.fails }
 rescanned_taken old new scan chunk (Err lex.Memory) t = record { same = record { held = t.same.held; place = t.same.place; line = t.same.line; ended = t.same.ended }; ready = t.ready; fault = t.fault; state = t.state }

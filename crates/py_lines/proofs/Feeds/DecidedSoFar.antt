@@ -14,7 +14,7 @@ use Rattle.py_lines.specs.declared.fault.FaultKind.TheVariants as faults
 use Rattle.py_lines.specs.declared.mode.Mode.TheVariants as modes
 use Rattle.py_lines.specs.Private.Machine.{Scanned, step, in_short, is_behind_slash, character_kind, character_place, Bracket}
 use Rattle.py_lines.specs.Private.Scan.{EndsNoLine, line_start, none_open, is_return_mode, stack_if}
-use Rattle.py_lines.specs.Private.Source.{first_mode}
+use Rattle.py_lines.specs.Private.LineState.{first_mode}
 use Rattle.py_lines.proofs.Text.Utf8Prefixes.{nothing_bad}
 use Rattle.py_lines.proofs.Machine.PieceRuns.{pieces_at}
 use Rattle.py_lines.proofs.Machine.Advance.{GoesTo}

@@ -16,11 +16,12 @@ use Rattle.py_lines.specs.declared.fault.FaultKind.TheVariants.{BadUtf8}
 use Rattle.py_lines.specs.declared.fault.LexError.{LexError}
 use Rattle.py_lines.specs.declared.fault.LexError.TheVariants as lex
 use Rattle.py_lines.specs.declared.feed.Feed.{Feed}
+use Rattle.py_lines.specs.declared.line_state.LineState.{LineState}
 use Rattle.py_lines.specs.declared.mode.Mode.{Mode}
 use Rattle.py_lines.specs.declared.mode.Mode.TheVariants as modes
 use Rattle.py_lines.specs.Private.Machine.{Bracket, is_final, end_kind, top_place, fresh}
 use Rattle.py_lines.specs.Private.Scan.{Closes, Tallies, is_returned, is_return_mode, none_open, stack_of, line_start, IsOpenFrom, IsUnfinished}
-use Rattle.py_lines.specs.Private.Source.{first_mode}
+use Rattle.py_lines.specs.Private.LineState.{first_mode}
 use Rattle.py_lines.specs.Private.Feed.{KeepsText, IsOpen, IsPart, FailsAt, ClosesLine, EndsWith, IsLastLine, IsEndFault, EndsHeld}
 use Rattle.py_lines.proofs.Machine.PieceRuns.{pieces_at}
 use Rattle.py_lines.proofs.Machine.Advance.{GoesTo}
@@ -30,85 +31,86 @@ use Rattle.py_lines.proofs.Readers.LineAnswers.{IsLine, Within}
 use Rattle.py_lines.proofs.Readers.EndAnswers.{end_return, within_open, line_at_text_end, line_at_return}
 use Rattle.py_lines.proofs.Feeds.Known.{IsKnown, is_known}
 use Rattle.py_lines.proofs.Feeds.Ended.{open_behind, ended_bytes, ended_unfinished, ended_line}
+use Rattle.py_lines.proofs.Feeds.Loops.{fails_keep}
 use Rattle.py_lines.proofs.Feeds.Steps.{open_sound, open_stop, open_size, within_held}
 use Rattle.py_lines.proofs.Feeds.ReadyLines.{line_of_ready, ready_line}
 
 module _ (f : Feed) (read rest : List ℕ) (o : IsOpen f read rest) where
   -- what is known where the text ends
-  known_at : (text : List ℕ) (lines : List LogicalLine) → EndsWith f text lines → 0 < length f.held.items → IsKnown text f.place f.line lines read rest
-  known_at text lines ends some = is_known text f.place f.line lines read rest ends.first o.scalars (subst (GoesOnWith text f.place) (sym o.spell) ends.held) (omega (arith, some, ap length o.spell))
+  known_at : (text : List ℕ) (lines : List LogicalLine) → EndsWith f text lines → 0 < length f.held.items → IsKnown text f.state.place f.state.line lines read rest
+  known_at text lines ends some = is_known text f.state.place f.state.line lines read rest ends.first o.scalars (subst (GoesOnWith text f.state.place) (sym o.spell) ends.held) (omega (arith, some, ap length o.spell))
 
-  whole_at : (text : List ℕ) (lines : List LogicalLine) → EndsWith f text lines → length text ≡ f.place + length (encode_utf8_all read ++ rest)
-  whole_at text lines ends = ends.whole ∙ ap (λ l. f.place + length l) (sym o.spell)
+  whole_at : (text : List ℕ) (lines : List LogicalLine) → EndsWith f text lines → length text ≡ f.state.place + length (encode_utf8_all read ++ rest)
+  whole_at text lines ends = ends.whole ∙ ap (λ l. f.state.place + length l) (sym o.spell)
 
-  open_yet : is_returned f.scan ≡ false → o.way.state.mode ≡ modes.Return → none_open (stack_of f.scan.brackets) ≡ false
-  open_yet not_yet = end_return o.way.state.mode (stack_of f.scan.brackets) (ap (λ (m : Mode). is_return_mode m && none_open (stack_of f.scan.brackets)) (sym o.way.tallies.mode) ∙ not_yet)
+  open_yet : is_returned f.state.scan ≡ false → o.way.state.mode ≡ modes.Return → none_open (stack_of f.state.scan.brackets) ≡ false
+  open_yet not_yet = end_return o.way.state.mode (stack_of f.state.scan.brackets) (ap (λ (m : Mode). is_return_mode m && none_open (stack_of f.state.scan.brackets)) (sym o.way.tallies.mode) ∙ not_yet)
 
   -- bytes that begin no character are left
-  pub ends_in_bytes : (new : Feed) (fault : Fault) → StartsWithNoChar rest → 0 < length rest → is_returned f.scan ≡ false → FailsAt f BadUtf8 f.scan.stop (lex.Fault fault) new → f.ready ≡ None → IsEndFault f fault new
+  pub ends_in_bytes : (new : Feed) (fault : Fault) → StartsWithNoChar rest → 0 < length rest → is_returned f.state.scan ≡ false → FailsAt f BadUtf8 f.state.scan.stop (lex.Fault fault) new → f.ready ≡ None → IsEndFault f fault new
   ends_in_bytes new fault bad some not_yet fails not_ready = record {
-    text = fails.text;
-    none_ready = fails.ready ∙ not_ready;
-    kept = fails.kept ∙ ap Some (sym same);
+    text = fails_keep f new _ _ _ fails;
+    none_ready = ap (λ (g : Feed). g.ready) fails.same ∙ not_ready;
+    kept = ap (λ (s : LineState). s.fault) fails.keeps.same ∙ ap Some (sym same);
     lexed = λ text lines ends. go text lines ends rest refl;
   }
     where
-      same : fault ≡ fails.fault
-      same = (let x = fails.error_is in cc)
+      same : fault ≡ fails.keeps.fault
+      same = (let x = fails.keeps.error_is in cc)
 
       go : (text : List ℕ) (lines : List LogicalLine) → EndsWith f text lines → (ds : List ℕ) → rest ≡ ds → IsLexed text lines (Some fault)
       go text lines ends [] is = absurd (omega (arith, some, ap length is))
       go text lines ends (d ∷ ds) is =
           let k = known_at text lines ends (omega (arith, some, open_size f read rest o)) in
           let stop = open_stop f read rest o in
-          let w : Within read f.scan.stop = record { front = read; later = []; split = append-nil read; size = stop } in
-          let taken : take f.scan.stop f.held.items ≡ encode_utf8_all read = (within_held f read rest o f.scan.stop w).1 in
-          ended_bytes text f.place f.line lines read rest k (whole_at text lines ends) o.way.state (stack_of f.scan.brackets) (way_goes o.way) o.way.one_line (open_yet not_yet) d ds is bad fault
-          (ap (λ (x : Fault). x.kind) same ∙ fails.is)
-          (ap (λ (x : Fault). x.offset) same ∙ fails.at ∙ ap (λ (n : ℕ). f.place + n) stop)
-          (ap (λ (x : Fault). x.line) same ∙ fails.number read (sym taken))
+          let w : Within read f.state.scan.stop = record { front = read; later = []; split = append-nil read; size = stop } in
+          let taken : take f.state.scan.stop f.held.items ≡ encode_utf8_all read = (within_held f read rest o f.state.scan.stop w).1 in
+          ended_bytes text f.state.place f.state.line lines read rest k (whole_at text lines ends) o.way.state (stack_of f.state.scan.brackets) (way_goes o.way) o.way.one_line (open_yet not_yet) d ds is bad fault
+          (ap (λ (x : Fault). x.kind) same ∙ fails.keeps.at.is)
+          (ap (λ (x : Fault). x.offset) same ∙ fails.keeps.at.place ∙ ap (λ (n : ℕ). f.state.place + n) stop)
+          (ap (λ (x : Fault). x.line) same ∙ fails.keeps.at.line read (sym taken))
 
   -- where something is open
-  open_place : (behind : ℕ) → IsOpenFrom f.scan behind → behind ≡ open_behind o.way.state (stack_of f.scan.brackets)
+  open_place : (behind : ℕ) → IsOpenFrom f.state.scan behind → behind ≡ open_behind o.way.state (stack_of f.state.scan.brackets)
   open_place behind (inl (unfinal, is)) =
-      is ∙ o.way.tallies.start ∙ ap (λ (b : Bool). if b then top_place (stack_of f.scan.brackets) else byte_len (spelled o.way.state.done)) (sym unfinal ∙ ap is_final o.way.tallies.mode)
+      is ∙ o.way.tallies.start ∙ ap (λ (b : Bool). if b then top_place (stack_of f.state.scan.brackets) else byte_len (spelled o.way.state.done)) (sym unfinal ∙ ap is_final o.way.tallies.mode)
   open_place behind (inr (final, (b, others, top, is))) =
-      is ∙ ap (λ l. top_place l) (sym top) ∙ ap (λ (x : Bool). if x then top_place (stack_of f.scan.brackets) else byte_len (spelled o.way.state.done)) (sym final ∙ ap is_final o.way.tallies.mode)
+      is ∙ ap (λ l. top_place l) (sym top) ∙ ap (λ (x : Bool). if x then top_place (stack_of f.state.scan.brackets) else byte_len (spelled o.way.state.done)) (sym final ∙ ap is_final o.way.tallies.mode)
 
-  open_so : (behind : ℕ) → IsOpenFrom f.scan behind → (is_final o.way.state.mode ≡ false) ⊎ ((b : Bracket) × (others : List Bracket) × (stack_of f.scan.brackets ≡ b ∷ others))
+  open_so : (behind : ℕ) → IsOpenFrom f.state.scan behind → (is_final o.way.state.mode ≡ false) ⊎ ((b : Bracket) × (others : List Bracket) × (stack_of f.state.scan.brackets ≡ b ∷ others))
   open_so behind (inl (unfinal, is)) = inl (ap is_final (sym o.way.tallies.mode) ∙ unfinal)
   open_so behind (inr (final, (b, others, top, is))) = inr (b, others, top)
 
-  pub unfinished_within : (behind : ℕ) → IsOpenFrom f.scan behind → Within read behind
-  unfinished_within behind is = within_open f.scan read o.way.state (open_sound f read rest o) o.way.tallies o.way.stacked behind is
+  pub unfinished_within : (behind : ℕ) → IsOpenFrom f.state.scan behind → Within read behind
+  unfinished_within behind is = within_open f.state.scan read o.way.state (open_sound f read rest o) o.way.tallies o.way.stacked behind is
 
   -- something is open
-  pub ends_open : (new : Feed) (fault : Fault) (behind : ℕ) → rest ≡ [] → 0 < length f.held.items → is_returned f.scan ≡ false → IsOpenFrom f.scan behind → FailsAt f (end_kind f.scan.piece.mode) behind (lex.Fault fault) new → f.ready ≡ None → IsEndFault f fault new
+  pub ends_open : (new : Feed) (fault : Fault) (behind : ℕ) → rest ≡ [] → 0 < length f.held.items → is_returned f.state.scan ≡ false → IsOpenFrom f.state.scan behind → FailsAt f (end_kind f.state.scan.piece.mode) behind (lex.Fault fault) new → f.ready ≡ None → IsEndFault f fault new
   ends_open new fault behind none some not_yet unfinished fails not_ready =
-      let same : fault ≡ fails.fault = (let x = fails.error_is in cc) in
+      let same : fault ≡ fails.keeps.fault = (let x = fails.keeps.error_is in cc) in
       let place_is = open_place behind unfinished in
       record {
-        text = fails.text;
-        none_ready = fails.ready ∙ not_ready;
-        kept = fails.kept ∙ ap Some (sym same);
+        text = fails_keep f new _ _ _ fails;
+        none_ready = ap (λ (g : Feed). g.ready) fails.same ∙ not_ready;
+        kept = ap (λ (s : LineState). s.fault) fails.keeps.same ∙ ap Some (sym same);
         lexed = λ text lines ends.
             let k = known_at text lines ends some in
-            let w : Within read (open_behind o.way.state (stack_of f.scan.brackets)) = subst (Within read) place_is (unfinished_within behind unfinished) in
-            let taken : take behind f.held.items ≡ encode_utf8_all w.front = ap (λ (n : ℕ). take n f.held.items) place_is ∙ (within_held f read rest o (open_behind o.way.state (stack_of f.scan.brackets)) w).1 in
-            ended_unfinished text f.place f.line lines read rest k (whole_at text lines ends) none o.way.state (stack_of f.scan.brackets) (way_goes o.way) o.way.one_line (open_yet not_yet) (omega (arith, some, open_size f read rest o, ap length none)) (open_so behind unfinished) fault
-            (ap (λ (x : Fault). x.kind) same ∙ fails.is ∙ ap end_kind o.way.tallies.mode)
-            (ap (λ (x : Fault). x.offset) same ∙ fails.at ∙ ap (λ (n : ℕ). f.place + n) place_is)
+            let w : Within read (open_behind o.way.state (stack_of f.state.scan.brackets)) = subst (Within read) place_is (unfinished_within behind unfinished) in
+            let taken : take behind f.held.items ≡ encode_utf8_all w.front = ap (λ (n : ℕ). take n f.held.items) place_is ∙ (within_held f read rest o (open_behind o.way.state (stack_of f.state.scan.brackets)) w).1 in
+            ended_unfinished text f.state.place f.state.line lines read rest k (whole_at text lines ends) none o.way.state (stack_of f.state.scan.brackets) (way_goes o.way) o.way.one_line (open_yet not_yet) (omega (arith, some, open_size f read rest o, ap length none)) (open_so behind unfinished) fault
+            (ap (λ (x : Fault). x.kind) same ∙ fails.keeps.at.is ∙ ap end_kind o.way.tallies.mode)
+            (ap (λ (x : Fault). x.offset) same ∙ fails.keeps.at.place ∙ ap (λ (n : ℕ). f.state.place + n) place_is)
             w
-            (ap (λ (x : Fault). x.line) same ∙ fails.number w.front (sym taken));
+            (ap (λ (x : Fault). x.line) same ∙ fails.keeps.at.line w.front (sym taken));
       }
 
   -- the last line
-  last_line : (new : Feed) (end_len : ℕ) → rest ≡ [] → 0 < length f.held.items → KeepsText f new → new.fault ≡ f.fault → new.ready ≡ Some end_len → new.scan.line ≡ f.scan.line → is_final f.scan.piece.mode ≡ true → stack_of f.scan.brackets ≡ [] → IsLine (line_start (first_mode f.place)) new.scan read end_len (pieces_at o.way.state) → IsLastLine f new
+  last_line : (new : Feed) (end_len : ℕ) → rest ≡ [] → 0 < length f.held.items → KeepsText f new → new.state.fault ≡ f.state.fault → new.ready ≡ Some end_len → new.state.scan.line ≡ f.state.scan.line → is_final f.state.scan.piece.mode ≡ true → stack_of f.state.scan.brackets ≡ [] → IsLine (line_start (first_mode f.state.place)) new.state.scan read end_len (pieces_at o.way.state) → IsLastLine f new
   last_line new end_len none some keeps fault ready number final empty line =
       let held : encode_utf8_all read ++ rest ≡ new.held.items = o.spell ∙ ap (λ (v : Vec ℕ). v.items) (sym keeps.held) in
-      let same : new.scan.line ≡ new.line = number ∙ o.number ∙ sym keeps.line in
-      let line_new : IsLine (line_start (first_mode new.place)) new.scan read end_len (pieces_at o.way.state) = subst (λ (n : ℕ). IsLine (line_start (first_mode n)) new.scan read end_len (pieces_at o.way.state)) (sym keeps.place) line in
-      let is : line_of_feed new end_len ≡ line_of f.place f.line (pieces_at o.way.state) = line_of_ready new end_len read rest (pieces_at o.way.state) held same line_new ∙ ap (λ (n : ℕ). line_of n new.line (pieces_at o.way.state)) keeps.place ∙ ap (λ (n : ℕ). line_of f.place n (pieces_at o.way.state)) keeps.line in
+      let same : new.state.scan.line ≡ new.state.line = number ∙ o.number ∙ sym keeps.line in
+      let line_new : IsLine (line_start (first_mode new.state.place)) new.state.scan read end_len (pieces_at o.way.state) = subst (λ (n : ℕ). IsLine (line_start (first_mode n)) new.state.scan read end_len (pieces_at o.way.state)) (sym keeps.place) line in
+      let is : line_of_feed new end_len ≡ line_of f.state.place f.state.line (pieces_at o.way.state) = line_of_ready new end_len read rest (pieces_at o.way.state) held same line_new ∙ ap (λ (n : ℕ). line_of n new.state.line (pieces_at o.way.state)) keeps.place ∙ ap (λ (n : ℕ). line_of f.state.place n (pieces_at o.way.state)) keeps.line in
       record {
         text = keeps;
         fault = fault;
@@ -119,28 +121,28 @@ module _ (f : Feed) (read rest : List ℕ) (o : IsOpen f read rest) where
         lexed = λ text lines ends.
             let k = known_at text lines ends some in
             subst (λ (l : LogicalLine). IsLexed text (lines ++ l ∷ []) None) (sym is)
-            (ended_line text f.place f.line lines read rest k (whole_at text lines ends) none o.way.state (subst (GoesTo (line_start (first_mode f.place)) read o.way.state) empty (way_goes o.way)) (ap is_final (sym o.way.tallies.mode) ∙ final) line.some line.whole);
+            (ended_line text f.state.place f.state.line lines read rest k (whole_at text lines ends) none o.way.state (subst (GoesTo (line_start (first_mode f.state.place)) read o.way.state) empty (way_goes o.way)) (ap is_final (sym o.way.tallies.mode) ∙ final) line.some line.whole);
       }
 
   read_some : rest ≡ [] → 0 < length f.held.items → 0 < byte_len read
   read_some none some = omega (arith, some, open_size f read rest o, ap length none)
 
-  closed_tallies : (new : Feed) → Closes f.scan new.scan → Tallies new.scan (fresh (pieces_at o.way.state))
-  closed_tallies new closes = closes_shut f.scan new.scan o.way.state.done o.way.state.mode o.way.state.held read closes (open_sound f read rest o) o.way.tallies
+  closed_tallies : (new : Feed) → Closes f.state.scan new.state.scan → Tallies new.state.scan (fresh (pieces_at o.way.state))
+  closed_tallies new closes = closes_shut f.state.scan new.state.scan o.way.state.done o.way.state.mode o.way.state.held read closes (open_sound f read rest o) o.way.tallies
 
   -- the last line, which no line end closes
-  pub ends_plain : (new : Feed) → rest ≡ [] → 0 < length f.held.items → is_returned f.scan ≡ false → IsUnfinished f.scan None → KeepsText f new → new.fault ≡ f.fault → new.ready ≡ Some 0 → Closes f.scan new.scan → IsLastLine f new
+  pub ends_plain : (new : Feed) → rest ≡ [] → 0 < length f.held.items → is_returned f.state.scan ≡ false → IsUnfinished f.state.scan None → KeepsText f new → new.state.fault ≡ f.state.fault → new.ready ≡ Some 0 → Closes f.state.scan new.state.scan → IsLastLine f new
   ends_plain new none some not_yet (final, empty) keeps fault ready closes =
       last_line new 0 none some keeps fault ready closes.line final empty
-      (line_at_text_end (first_mode f.place) f.scan new.scan read o.way (open_sound f read rest o) (open_yet not_yet) (closed_tallies new closes) empty (read_some none some))
+      (line_at_text_end (first_mode f.state.place) f.state.scan new.state.scan read o.way (open_sound f read rest o) (open_yet not_yet) (closed_tallies new closes) empty (read_some none some))
 
   -- the last line, which CR closes
-  pub ends_returned_line : (new : Feed) → rest ≡ [] → 0 < length f.held.items → is_returned f.scan ≡ true → KeepsText f new → new.fault ≡ f.fault → new.ready ≡ Some 1 → Closes f.scan new.scan → IsLastLine f new
+  pub ends_returned_line : (new : Feed) → rest ≡ [] → 0 < length f.held.items → is_returned f.state.scan ≡ true → KeepsText f new → new.state.fault ≡ f.state.fault → new.ready ≡ Some 1 → Closes f.state.scan new.state.scan → IsLastLine f new
   ends_returned_line new none some returned keeps fault ready closes =
-      let parts = and_parts (is_return_mode f.scan.piece.mode) (none_open (stack_of f.scan.brackets)) returned in
-      let empty = open_nothing (stack_of f.scan.brackets) parts.1 in
-      last_line new 1 none some keeps fault ready closes.line (final_return f.scan.piece.mode parts.0) empty
-      (line_at_return (first_mode f.place) f.scan new.scan read o.way (open_sound f read rest o) parts.0 (closed_tallies new closes) empty (read_some none some))
+      let parts = and_parts (is_return_mode f.state.scan.piece.mode) (none_open (stack_of f.state.scan.brackets)) returned in
+      let empty = open_nothing (stack_of f.state.scan.brackets) parts.1 in
+      last_line new 1 none some keeps fault ready closes.line (final_return f.state.scan.piece.mode parts.0) empty
+      (line_at_return (first_mode f.state.place) f.state.scan new.state.scan read o.way (open_sound f read rest o) parts.0 (closed_tallies new closes) empty (read_some none some))
     where
       open_nothing : (st : List Bracket) → none_open st ≡ true → st ≡ []
       open_nothing [] is = refl
@@ -151,30 +153,30 @@ module _ (f : Feed) (read rest : List ℕ) (o : IsOpen f read rest) where
       final_return m is = absurd (both_ways _ refl is)
 
   -- what these come to
-  pub stop_utf8 : IsUtf8 (take f.scan.stop f.held.items)
+  pub stop_utf8 : IsUtf8 (take f.state.scan.stop f.held.items)
   stop_utf8 =
-      let w : Within read f.scan.stop = record { front = read; later = []; split = append-nil read; size = open_stop f read rest o } in
-      (within_held f read rest o f.scan.stop w).2
+      let w : Within read f.state.scan.stop = record { front = read; later = []; split = append-nil read; size = open_stop f read rest o } in
+      (within_held f read rest o f.state.scan.stop w).2
 
-  pub all_scanned : length f.held.items ≤ f.scan.stop → rest ≡ []
+  pub all_scanned : length f.held.items ≤ f.state.scan.stop → rest ≡ []
   all_scanned full = nil_from_length rest (omega (arith, full, open_stop f read rest o, open_size f read rest o))
 
-  pub ends_so_bytes : (new : Feed) (error : LexError) → IsPart f rest → 0 < length rest → FailsAt f BadUtf8 f.scan.stop error new → f.ready ≡ None → EndsHeld f (Err error) new
+  pub ends_so_bytes : (new : Feed) (error : LexError) → IsPart f rest → 0 < length rest → FailsAt f BadUtf8 f.state.scan.stop error new → f.ready ≡ None → EndsHeld f (Err error) new
   ends_so_bytes new error part some fails not_ready =
-      subst (λ (e : LexError). EndsHeld f (Err e) new) (sym fails.error_is)
-      (ends_in_bytes new fails.fault part.none some (false_from_ne_true _ (λ returned. omega (arith, some, ap length (part.last returned)))) (subst (λ (e : LexError). FailsAt f BadUtf8 f.scan.stop e new) fails.error_is fails) not_ready)
+      subst (λ (e : LexError). EndsHeld f (Err e) new) (sym fails.keeps.error_is)
+      (ends_in_bytes new fails.keeps.fault part.none some (false_from_ne_true _ (λ returned. omega (arith, some, ap length (part.last returned)))) (subst (λ (e : LexError). FailsAt f BadUtf8 f.state.scan.stop e new) fails.keeps.error_is fails) not_ready)
 
-  pub ends_so_open : (new : Feed) (error : LexError) (kind : FaultKind) (behind : ℕ) → kind ≡ end_kind f.scan.piece.mode → rest ≡ [] → 0 < length f.held.items → is_returned f.scan ≡ false → IsOpenFrom f.scan behind → FailsAt f kind behind error new → f.ready ≡ None → EndsHeld f (Err error) new
+  pub ends_so_open : (new : Feed) (error : LexError) (kind : FaultKind) (behind : ℕ) → kind ≡ end_kind f.state.scan.piece.mode → rest ≡ [] → 0 < length f.held.items → is_returned f.state.scan ≡ false → IsOpenFrom f.state.scan behind → FailsAt f kind behind error new → f.ready ≡ None → EndsHeld f (Err error) new
   ends_so_open new error kind behind kind_is none some not_yet unfinished fails not_ready =
-      subst (λ (e : LexError). EndsHeld f (Err e) new) (sym fails.error_is)
-      (ends_open new fails.fault behind none some not_yet unfinished (subst (λ (k : FaultKind). FailsAt f k behind (lex.Fault fails.fault) new) kind_is (subst (λ (e : LexError). FailsAt f kind behind e new) fails.error_is fails)) not_ready)
+      subst (λ (e : LexError). EndsHeld f (Err e) new) (sym fails.keeps.error_is)
+      (ends_open new fails.keeps.fault behind none some not_yet unfinished (subst (λ (k : FaultKind). FailsAt f k behind (lex.Fault fails.keeps.fault) new) kind_is (subst (λ (e : LexError). FailsAt f kind behind e new) fails.keeps.error_is fails)) not_ready)
 
-  pub ends_so_plain : (new : Feed) (result : Result (Unit {0}) LexError) → rest ≡ [] → 0 < length f.held.items → is_returned f.scan ≡ false → IsUnfinished f.scan None → ClosesLine f 0 result new → EndsHeld f result new
+  pub ends_so_plain : (new : Feed) (result : Result (Unit {0}) LexError) → rest ≡ [] → 0 < length f.held.items → is_returned f.state.scan ≡ false → IsUnfinished f.state.scan None → ClosesLine f 0 result new → EndsHeld f result new
   ends_so_plain new (Ok done) none some not_yet unfinished (keeps, ready, fault, closes) = ends_plain new none some not_yet unfinished keeps fault ready closes
   ends_so_plain new (Err (lex.Fault x)) none some not_yet unfinished closes = absurd closes
   ends_so_plain new (Err lex.Memory) none some not_yet unfinished closes = closes
 
-  pub ends_so_returned : (new : Feed) (result : Result (Unit {0}) LexError) → rest ≡ [] → 0 < length f.held.items → is_returned f.scan ≡ true → ClosesLine f 1 result new → EndsHeld f result new
+  pub ends_so_returned : (new : Feed) (result : Result (Unit {0}) LexError) → rest ≡ [] → 0 < length f.held.items → is_returned f.state.scan ≡ true → ClosesLine f 1 result new → EndsHeld f result new
   ends_so_returned new (Ok done) none some returned (keeps, ready, fault, closes) = ends_returned_line new none some returned keeps fault ready closes
   ends_so_returned new (Err (lex.Fault x)) none some returned closes = absurd closes
   ends_so_returned new (Err lex.Memory) none some returned closes = closes

@@ -19,7 +19,7 @@ use Rattle.py_lines.specs.declared.mode.Mode.{Mode}
 use Rattle.py_lines.specs.declared.mode.Mode.TheVariants as modes
 use Rattle.py_lines.specs.Private.Machine.{Bracket}
 use Rattle.py_lines.specs.Private.Scan.{line_start, is_return_mode, none_open, stack_of, EndsWhole}
-use Rattle.py_lines.specs.Private.Source.{first_mode}
+use Rattle.py_lines.specs.Private.LineState.{first_mode}
 use Rattle.py_lines.specs.Private.Feed.{IsEnded, IsScanned, EndsLineHeld, EndsExactly, HadEnded}
 use Rattle.py_lines.proofs.Text.Utf8Prefixes.{nothing_bad}
 use Rattle.py_lines.proofs.Text.Incomplete.{part_none}
@@ -48,62 +48,62 @@ may_get modes.Return (b ∷ bs) rest last = tt
 may_get m st rest last = tt
 
 -- no line has ended in what is held, which was scanned
-module _ (text : List ℕ) (f : Feed) (lines : List LogicalLine) (first : AreFirstLines text f.place f.line lines) (goes : GoesOnWith text f.place f.held.items) (s : IsScanned None f) where
-  pub settled_scanned : 0 < length f.held.items → IsSettled (take (f.place + length f.held.items) text) lines
+module _ (text : List ℕ) (f : Feed) (lines : List LogicalLine) (first : AreFirstLines text f.state.place f.state.line lines) (goes : GoesOnWith text f.state.place f.held.items) (s : IsScanned None f) where
+  pub settled_scanned : 0 < length f.held.items → IsSettled (take (f.state.place + length f.held.items) text) lines
   settled_scanned some =
       let o = s.2 in
       let part = s.3 in
-      let k = is_known text f.place f.line lines s.0 s.1 first o.scalars (subst (GoesOnWith text f.place) (sym o.spell) goes) (omega (arith, some, ap length o.spell)) in
-      let last : MayGetFeed o.way.state.mode (stack_of f.scan.brackets) s.1 = may_get o.way.state.mode (stack_of f.scan.brackets) s.1 (λ h. part.last (ap (λ (m : Mode). is_return_mode m && none_open (stack_of f.scan.brackets)) o.way.tallies.mode ∙ h)) in
-      subst (λ l. IsSettled (take (f.place + length l) text) lines) o.spell (settled_open text f.place f.line lines s.0 s.1 k o.way.state (stack_of f.scan.brackets) (way_goes o.way) o.way.one_line part.none (omega (arith, some, ap length o.spell)) last)
+      let k = is_known text f.state.place f.state.line lines s.0 s.1 first o.scalars (subst (GoesOnWith text f.state.place) (sym o.spell) goes) (omega (arith, some, ap length o.spell)) in
+      let last : MayGetFeed o.way.state.mode (stack_of f.state.scan.brackets) s.1 = may_get o.way.state.mode (stack_of f.state.scan.brackets) s.1 (λ h. part.last (ap (λ (m : Mode). is_return_mode m && none_open (stack_of f.state.scan.brackets)) o.way.tallies.mode ∙ h)) in
+      subst (λ l. IsSettled (take (f.state.place + length l) text) lines) o.spell (settled_open text f.state.place f.state.line lines s.0 s.1 k o.way.state (stack_of f.state.scan.brackets) (way_goes o.way) o.way.one_line part.none (omega (arith, some, ap length o.spell)) last)
 
-  pub undecided_scanned : 0 < length f.held.items → (fault : Fault) → ¬ (Decides (take (f.place + length f.held.items) text) fault)
+  pub undecided_scanned : 0 < length f.held.items → (fault : Fault) → ¬ (Decides (take (f.state.place + length f.held.items) text) fault)
   undecided_scanned some fault =
       let o = s.2 in
       let part = s.3 in
-      let k = is_known text f.place f.line lines s.0 s.1 first o.scalars (subst (GoesOnWith text f.place) (sym o.spell) goes) (omega (arith, some, ap length o.spell)) in
-      subst (λ l. ¬ (Decides (take (f.place + length l) text) fault)) o.spell (undecided text f.place f.line lines s.0 s.1 k o.way.state (stack_of f.scan.brackets) (way_goes o.way) part.none part.more fault)
+      let k = is_known text f.state.place f.state.line lines s.0 s.1 first o.scalars (subst (GoesOnWith text f.state.place) (sym o.spell) goes) (omega (arith, some, ap length o.spell)) in
+      subst (λ l. ¬ (Decides (take (f.state.place + length l) text) fault)) o.spell (undecided text f.state.place f.state.line lines s.0 s.1 k o.way.state (stack_of f.state.scan.brackets) (way_goes o.way) part.none part.more fault)
 
 -- where a line has ended for good in what was held, the lines given aren't all that is settled
-pub never_before : (text : List ℕ) (new mid : Feed) (lines : List LogicalLine) (n : ℕ) (all after r : List ℕ) → IsEnded new n all after → encode_utf8_all all ++ r ≡ mid.held.items → EndsWhole all r → AreFirstLines text new.place new.line lines → GoesOnWith text new.place mid.held.items → (0 < length mid.held.items → IsSettled (take (new.place + length mid.held.items) text) lines) → ⊥
+pub never_before : (text : List ℕ) (new mid : Feed) (lines : List LogicalLine) (n : ℕ) (all after r : List ℕ) → IsEnded new n all after → encode_utf8_all all ++ r ≡ mid.held.items → EndsWhole all r → AreFirstLines text new.state.place new.state.line lines → GoesOnWith text new.state.place mid.held.items → (0 < length mid.held.items → IsSettled (take (new.state.place + length mid.held.items) text) lines) → ⊥
 never_before text new mid lines n all after r e spell whole first goes settled =
     let f : Feed = record new { held = mid.held } in
     let ended : IsEnded f n all r = record { scalars = e.scalars; spell = spell; at = e.at; number = e.number } in
     let some : 0 < length (encode_utf8_all all) = (line_of_ended f n all r ended [] (λ returned. refl)).0.some in
     let size = length-append (encode_utf8_all all) r in
-    let k = is_known text new.place new.line lines all r first e.scalars (subst (GoesOnWith text new.place) (sym spell) goes) (omega (arith, some, size)) in
+    let k = is_known text new.state.place new.state.line lines all r first e.scalars (subst (GoesOnWith text new.state.place) (sym spell) goes) (omega (arith, some, size)) in
     let next = next_line text f lines n all r ended whole k in
     let good : r ≡ [] → ends is_return (spelled (next_pieces text f lines n all r ended whole k)) ≡ false = λ none. ap (ends is_return) next.spell ∙ by_whole whole none in
-    ended_before text new.place new.line lines all r k (next_pieces text f lines n all r ended whole k) next (subst (λ l. IsSettled (take (new.place + length l) text) lines) (sym spell) (settled (omega (arith, some, size, ap length spell)))) good (next_some text f lines n all r ended whole k)
+    ended_before text new.state.place new.state.line lines all r k (next_pieces text f lines n all r ended whole k) next (subst (λ l. IsSettled (take (new.state.place + length l) text) lines) (sym spell) (settled (omega (arith, some, size, ap length spell)))) good (next_some text f lines n all r ended whole k)
   where
     by_whole : EndsWhole all r → r ≡ [] → ends is_return all ≡ false
     by_whole (inl feed) none = feed
     by_whole (inr (b, more, is, other)) none = absurd (omega (arith, ap length (sym is ∙ none)))
 
 -- the line that has ended with the bytes taken last is settled, and what is held is it, with at most one byte more
-module _ (text : List ℕ) (new mid : Feed) (lines : List LogicalLine) (n : ℕ) (e : EndsLineHeld n new) (last : EndsExactly e.all e.after ⊎ HadEnded mid.held.items e.all) (first : AreFirstLines text new.place new.line lines) (goes : GoesOnWith text new.place new.held.items) (before : GoesOnWith text new.place mid.held.items) (settled : 0 < length mid.held.items → IsSettled (take (new.place + length mid.held.items) text) lines) where
+module _ (text : List ℕ) (new mid : Feed) (lines : List LogicalLine) (n : ℕ) (e : EndsLineHeld n new) (last : EndsExactly e.all e.after ⊎ HadEnded mid.held.items e.all) (first : AreFirstLines text new.state.place new.state.line lines) (goes : GoesOnWith text new.state.place new.held.items) (before : GoesOnWith text new.state.place mid.held.items) (settled : 0 < length mid.held.items → IsSettled (take (new.state.place + length mid.held.items) text) lines) where
   fed_some : 0 < length (encode_utf8_all e.all)
   fed_some = (line_of_ended new n e.all e.after e.ended [] (λ returned. refl)).0.some
 
-  fed_known : IsKnown text new.place new.line lines e.all e.after
-  fed_known = is_known text new.place new.line lines e.all e.after first e.ended.scalars (subst (GoesOnWith text new.place) (sym e.ended.spell) goes) (omega (arith, fed_some, length-append (encode_utf8_all e.all) e.after))
+  fed_known : IsKnown text new.state.place new.state.line lines e.all e.after
+  fed_known = is_known text new.state.place new.state.line lines e.all e.after first e.ended.scalars (subst (GoesOnWith text new.state.place) (sym e.ended.spell) goes) (omega (arith, fed_some, length-append (encode_utf8_all e.all) e.after))
 
   follows : EndsExactly e.all e.after
   follows = ⊎_elim (λ exact. exact) (λ had. absurd (never_before text new mid lines n e.all e.after had.rest e.ended had.spell had.whole first before settled)) last
 
-  pub settled_fed : IsSettled (take (new.place + length new.held.items) text) (lines ++ line_of_feed new n ∷ [])
+  pub settled_fed : IsSettled (take (new.state.place + length new.held.items) text) (lines ++ line_of_feed new n ∷ [])
   settled_fed =
       let u = next_pieces text new lines n e.all e.after e.ended e.whole fed_known in
       let next = next_line text new lines n e.all e.after e.ended e.whole fed_known in
       let follow : Follow u e.after = ⊎_elim (λ done. Follow.by_feed done.0 (ap (ends is_return) next.spell ∙ done.1)) (λ one. Follow.by_byte one.0 one.1 one.2) follows in
-      subst (λ l. IsSettled (take (new.place + length l) text) (lines ++ line_of_feed new n ∷ [])) e.ended.spell
-      (subst (λ x. IsSettled (take (new.place + length (encode_utf8_all e.all ++ e.after)) text) (lines ++ x ∷ [])) (sym (next_is text new lines n e.all e.after e.ended e.whole fed_known))
-      (settled_ready text new.place new.line lines e.all e.after fed_known u next follow))
+      subst (λ l. IsSettled (take (new.state.place + length l) text) (lines ++ line_of_feed new n ∷ [])) e.ended.spell
+      (subst (λ x. IsSettled (take (new.state.place + length (encode_utf8_all e.all ++ e.after)) text) (lines ++ x ∷ [])) (sym (next_is text new lines n e.all e.after e.ended e.whole fed_known))
+      (settled_ready text new.state.place new.state.line lines e.all e.after fed_known u next follow))
 
   pub whole_fed : HoldsReady new.held.items (Some (line_of_feed new n))
   whole_fed =
       let stop = (line_of_ended new n e.all e.after e.ended [] (λ returned. refl)).0.stop in
-      let text_is : take new.scan.stop new.held.items ≡ encode_utf8_all e.all = ap (λ (m : ℕ). take m new.held.items) stop ∙ ap (take (length (encode_utf8_all e.all))) (sym e.ended.spell) ∙ take-append_seam (encode_utf8_all e.all) e.after in
+      let text_is : take new.state.scan.stop new.held.items ≡ encode_utf8_all e.all = ap (λ (m : ℕ). take m new.held.items) stop ∙ ap (take (length (encode_utf8_all e.all))) (sym e.ended.spell) ∙ take-append_seam (encode_utf8_all e.all) e.after in
       (e.after, sym e.ended.spell ∙ ap (λ t. t ++ e.after) (sym text_is), ⊎_elim (λ done. omega (arith, ap length done.0)) (λ one. omega (arith, ap length one.1)) follows)
 
 -- nothing is decided where the lines given end
@@ -134,8 +134,8 @@ module _ (text : List ℕ) (place line : ℕ) (lines : List LogicalLine) (first 
   undecided_first d = ⊎_elim (λ good. after_line good.0 d) (λ nothing. after_text nothing d) first.ended
 
 -- nor where what is held was scanned, and no line has ended in it
-pub undecided_fed : (text : List ℕ) (f : Feed) (lines : List LogicalLine) → AreFirstLines text f.place f.line lines → GoesOnWith text f.place f.held.items → IsScanned None f → (fault : Fault) → ¬ (Decides (take (f.place + length f.held.items) text) fault)
+pub undecided_fed : (text : List ℕ) (f : Feed) (lines : List LogicalLine) → AreFirstLines text f.state.place f.state.line lines → GoesOnWith text f.state.place f.held.items → IsScanned None f → (fault : Fault) → ¬ (Decides (take (f.state.place + length f.held.items) text) fault)
 undecided_fed text f lines first goes s fault d = ⊎_elim
     (λ some. undecided_scanned text f lines first goes s some fault d)
-    (λ none. undecided_first text f.place f.line lines first fault (subst (λ (n : ℕ). Decides (take (f.place + n) text) fault) (omega (arith, none)) d))
+    (λ none. undecided_first text f.state.place f.state.line lines first fault (subst (λ (n : ℕ). Decides (take (f.state.place + n) text) fault) (omega (arith, none)) d))
     (cases_lt 0 (length f.held.items))

@@ -1,6 +1,6 @@
 -- The text's end, as a caller of the scanner sees it.
-use Rattle.std.proofs.Common.{◌≡◌, ℕ, ◌+◌, ◌<◌, ◌≤◌, true, false, Option, None, Some, Result, Ok, Err, List, [], ◌++◌, length, take, drop, refl, sym, ap, ◌∙◌, subst, inl, inr, append-nil, arith, length-append, length-drop}
-use Rattle.std.specs.Prelude.{encode_utf8_all, is_some, ◌^◌}
+use Rattle.std.proofs.Common.{◌≡◌, ℕ, ◌+◌, ◌<◌, true, false, Option, None, Some, Result, Ok, Err, List, [], ◌++◌, length, take, drop, refl, sym, ap, ◌∙◌, subst, inl, inr, append-nil, arith, length-append, length-drop}
+use Rattle.std.specs.Prelude.{encode_utf8_all, is_some}
 use Rattle.std.specs.Global.{Vec}
 use Rattle.std.proofs.lemmas.Bool.{both_ways}
 use Rattle.std.proofs.lemmas.List.{take_all}
@@ -16,39 +16,29 @@ use Rattle.py_lines.specs.declared.fault.Fault.{Fault}
 use Rattle.py_lines.specs.declared.fault.LexError.{LexError}
 use Rattle.py_lines.specs.declared.fault.LexError.TheVariants as lex
 use Rattle.py_lines.specs.declared.feed.Feed.{Feed}
-use Rattle.py_lines.specs.Private.Scan.{EndsWhole, IsUnderWay, line_start}
-use Rattle.py_lines.specs.Private.Source.{first_mode}
-use Rattle.py_lines.specs.Private.Feed.{KeepsText, Restarts, IsOpen, IsScanned, ScansHeld, EndsLineHeld, IsReady, StandsSo, IsSoundFeed, EndsWith, EndsHeld, HasEndedText, EndsText}
+use Rattle.py_lines.specs.Private.Scan.{EndsWhole}
+use Rattle.py_lines.specs.Private.Feed.{KeepsText, IsScanned, ScansHeld, EndsLineHeld, IsReady, StandsSo, IsSoundFeed, EndsWith, EndsHeld, HasEndedText, EndsText}
 use Rattle.py_lines.proofs.Feeds.Known.{is_known}
 use Rattle.py_lines.proofs.Feeds.SettledSoFar.{ended_before}
 use Rattle.py_lines.proofs.Feeds.Ended.{ended_empty}
-use Rattle.py_lines.proofs.Feeds.Loops.{keeps_on, restarts_on}
+use Rattle.py_lines.proofs.Feeds.Loops.{keeps_on, restarts_on, restarts_keep, restarts_ready, restarts_fault, restarts_open}
 use Rattle.py_lines.proofs.Feeds.ReadyLines.{ended_ready, scanned_stands}
 use Rattle.py_lines.proofs.Feeds.NextHeld.{next_pieces, next_line, next_some}
 use Rattle.py_lines.proofs.Feeds.FailedHeld.{failed_held, failed_keeps}
-
--- the state of a scan that was begun anew
-pub restarts_open : (old new : Feed) → Restarts old new → IsOpen new [] new.held.items
-restarts_open old new r = record {
-  scalars = refl;
-  spell = refl;
-  way = subst (λ (n : ℕ). IsUnderWay (first_mode n) new.scan []) (sym r.text.place) (record { state = line_start (first_mode old.place); runs = refl; tallies = r.tallies; stacked = r.stacked; one_line = tt });
-  number = r.number ∙ sym r.text.line;
-}
 
 items_kept : (old new : Feed) → KeepsText old new → new.held.items ≡ old.held.items
 items_kept old new keeps = ap (λ (v : Vec ℕ). v.items) keeps.held
 
 -- the lines released are the text's first, and so they were before a scan
-first_kept : (old mid : Feed) (text : List ℕ) (lines : List LogicalLine) → KeepsText old mid → AreFirstLines text old.place old.line lines → AreFirstLines text mid.place mid.line lines
-first_kept old mid text lines keeps first = subst (λ (n : ℕ). AreFirstLines text n mid.line lines) (sym keeps.place) (subst (λ (n : ℕ). AreFirstLines text old.place n lines) (sym keeps.line) first)
+first_kept : (old mid : Feed) (text : List ℕ) (lines : List LogicalLine) → KeepsText old mid → AreFirstLines text old.state.place old.state.line lines → AreFirstLines text mid.state.place mid.state.line lines
+first_kept old mid text lines keeps first = subst (λ (n : ℕ). AreFirstLines text n mid.state.line lines) (sym keeps.place) (subst (λ (n : ℕ). AreFirstLines text old.state.place n lines) (sym keeps.line) first)
 
 -- the text ends with what is held, and so it did before a scan
 pub ends_as : (old mid : Feed) (text : List ℕ) (lines : List LogicalLine) → KeepsText old mid → EndsWith old text lines → EndsWith mid text lines
 ends_as old mid text lines keeps ends = record {
   first = first_kept old mid text lines keeps ends.first;
-  held = subst (λ (n : ℕ). GoesOnWith text n mid.held.items) (sym keeps.place) (subst (GoesOnWith text old.place) (sym (items_kept old mid keeps)) ends.held);
-  whole = ends.whole ∙ ap (λ (n : ℕ). n + length old.held.items) (sym keeps.place) ∙ ap (λ l. mid.place + length l) (sym (items_kept old mid keeps));
+  held = subst (λ (n : ℕ). GoesOnWith text n mid.held.items) (sym keeps.place) (subst (GoesOnWith text old.state.place) (sym (items_kept old mid keeps)) ends.held);
+  whole = ends.whole ∙ ap (λ (n : ℕ). n + length old.held.items) (sym keeps.place) ∙ ap (λ l. mid.state.place + length l) (sym (items_kept old mid keeps));
 }
 
 ends_with : (f : Feed) (text : List ℕ) (lines : List LogicalLine) → IsScanning (scanning_of f) text lines → length text ≡ fed_of (scanning_of f) → EndsWith f text lines
@@ -75,19 +65,19 @@ none_ended old mid end_len text lines keeps not_ready scanning e =
     let bytes = encode_utf8_all e.all ++ e.after in
     let held : bytes ≡ old.held.items = e.ended.spell ∙ items_kept old mid keeps in
     let some : 0 < length bytes = omega (arith, ready_size mid end_len (ended_ready mid end_len e.all e.after e.ended), ap length e.ended.spell) in
-    let first_mid : AreFirstLines text mid.place mid.line lines = first_kept old mid text lines keeps scanning.first in
-    let goes : GoesOnWith text mid.place bytes = subst (λ (n : ℕ). GoesOnWith text n bytes) (sym keeps.place) (subst (GoesOnWith text old.place) (sym held) scanning.held) in
-    let k = is_known text mid.place mid.line lines e.all e.after first_mid e.ended.scalars goes some in
-    let known : take (mid.place + length bytes) text ≡ take (old.place + length old.held.items) text = ap (λ (n : ℕ). take (n + length bytes) text) keeps.place ∙ ap (λ l. take (old.place + length l) text) held in
-    let settled : IsSettled (take (old.place + length old.held.items) text) lines = subst (IsSettled (take (old.place + length old.held.items) text)) (append-nil lines) (subst (λ r. IsSettled (take (old.place + length old.held.items) text) (lines ++ ready_lines (ready_of old r))) not_ready (scanning.settled (omega (arith, some, ap length held)))) in
+    let first_mid : AreFirstLines text mid.state.place mid.state.line lines = first_kept old mid text lines keeps scanning.first in
+    let goes : GoesOnWith text mid.state.place bytes = subst (λ (n : ℕ). GoesOnWith text n bytes) (sym keeps.place) (subst (GoesOnWith text old.state.place) (sym held) scanning.held) in
+    let k = is_known text mid.state.place mid.state.line lines e.all e.after first_mid e.ended.scalars goes some in
+    let known : take (mid.state.place + length bytes) text ≡ take (old.state.place + length old.held.items) text = ap (λ (n : ℕ). take (n + length bytes) text) keeps.place ∙ ap (λ l. take (old.state.place + length l) text) held in
+    let settled : IsSettled (take (old.state.place + length old.held.items) text) lines = subst (IsSettled (take (old.state.place + length old.held.items) text)) (append-nil lines) (subst (λ r. IsSettled (take (old.state.place + length old.held.items) text) (lines ++ ready_lines (ready_of old r))) not_ready (scanning.settled (omega (arith, some, ap length held)))) in
     let next = next_line text mid lines end_len e.all e.after e.ended e.whole k in
-    ended_before text mid.place mid.line lines e.all e.after k (next_pieces text mid lines end_len e.all e.after e.ended e.whole k) next
+    ended_before text mid.state.place mid.state.line lines e.all e.after k (next_pieces text mid lines end_len e.all e.after e.ended e.whole k) next
     (subst (λ t. IsSettled t lines) (sym known) settled)
     (no_return e.all e.after _ next.spell e.whole)
     (next_some text mid lines end_len e.all e.after e.ended e.whole k)
 
 -- the scan has left no line open: none had ended, so nothing is held
-pub text_ready : (old mid : Feed) (end_len : ℕ) → old.ready ≡ None → mid.ready ≡ Some end_len → KeepsText old mid → mid.fault ≡ old.fault → IsScanned mid.ready mid → EndsText old (Ok tt) mid
+pub text_ready : (old mid : Feed) (end_len : ℕ) → old.ready ≡ None → mid.ready ≡ Some end_len → KeepsText old mid → mid.state.fault ≡ old.state.fault → IsScanned mid.ready mid → EndsText old (Ok tt) mid
 text_ready old mid end_len not_ready ready keeps fault scanned = record {
   text = keeps;
   fault = fault;
@@ -95,18 +85,18 @@ text_ready old mid end_len not_ready ready keeps fault scanned = record {
   lexed = λ text lines scanning whole. absurd (none_ended old mid end_len text lines keeps not_ready scanning (subst (λ r. IsScanned r mid) ready scanned));
 }
 
-pub text_empty : (old mid : Feed) → mid.held.items ≡ [] → mid.ready ≡ None → KeepsText old mid → mid.fault ≡ old.fault → IsScanned mid.ready mid → EndsText old (Ok tt) mid
+pub text_empty : (old mid : Feed) → mid.held.items ≡ [] → mid.ready ≡ None → KeepsText old mid → mid.state.fault ≡ old.state.fault → IsScanned mid.ready mid → EndsText old (Ok tt) mid
 text_empty old mid none not_ready keeps fault scanned = record {
   text = keeps;
   fault = fault;
   state = scanned_stands mid.ready mid scanned;
   lexed = λ text lines scanning whole.
       let empty : length old.held.items ≡ 0 = ap length (sym (items_kept old mid keeps) ∙ none) in
-      let lexed : IsLexed text lines None = ended_empty text old.place old.line lines scanning.first (omega (arith, whole, empty)) in
+      let lexed : IsLexed text lines None = ended_empty text old.state.place old.state.line lines scanning.first (omega (arith, whole, empty)) in
       subst (λ r. IsLexed text (lines ++ ready_lines (ready_of mid r)) None × HoldsReady mid.held.items (ready_of mid r)) (sym not_ready) (subst (λ l. IsLexed text l None) (sym (append-nil lines)) lexed, tt);
 }
 
-pub text_left : (old mid : Feed) → is_some mid.ready ≡ true → old.ready ≡ None → KeepsText old mid → mid.fault ≡ old.fault → IsScanned mid.ready mid → EndsText old (Ok tt) mid
+pub text_left : (old mid : Feed) → is_some mid.ready ≡ true → old.ready ≡ None → KeepsText old mid → mid.state.fault ≡ old.state.fault → IsScanned mid.ready mid → EndsText old (Ok tt) mid
 text_left old mid some not_ready keeps fault scanned = go mid.ready refl
   where
     go : (ready : Option ℕ) → mid.ready ≡ ready → EndsText old (Ok tt) mid
@@ -118,14 +108,14 @@ none_from None is = refl
 none_from (Some n) is = absurd (both_ways _ is refl)
 
 -- the last line, or the fault at the text's end
-pub text_line : (old mid new : Feed) (result : Result (Unit {0}) LexError) → mid.ready ≡ None → KeepsText old mid → mid.fault ≡ old.fault → old.ready ≡ None → EndsHeld mid result new → EndsText old result new
+pub text_line : (old mid new : Feed) (result : Result (Unit {0}) LexError) → mid.ready ≡ None → KeepsText old mid → mid.state.fault ≡ old.state.fault → old.ready ≡ None → EndsHeld mid result new → EndsText old result new
 text_line old mid new (Ok done) not_ready keeps fault first e = record {
   text = keeps_on old mid new keeps e.text;
   fault = e.fault ∙ fault;
   state = subst (λ r. StandsSo r new) (sym e.is_ready) e.ready;
   lexed = λ text lines scanning whole.
       subst (λ r. IsLexed text (lines ++ ready_lines (ready_of new r)) None × HoldsReady new.held.items (ready_of new r)) (sym e.is_ready)
-      (e.lexed text lines (ends_as old mid text lines keeps (ends_with old text lines scanning whole)), ([], sym (append-nil (take new.scan.stop new.held.items) ∙ take_all new.scan.stop new.held.items (omega (arith, e.all))), omega arith));
+      (e.lexed text lines (ends_as old mid text lines keeps (ends_with old text lines scanning whole)), ([], sym (append-nil (take new.state.scan.stop new.held.items) ∙ take_all new.state.scan.stop new.held.items (omega (arith, e.all))), omega arith));
 }
 text_line old mid new (Err (lex.Fault f)) not_ready keeps fault first e = record {
   text = keeps_on old mid new keeps e.text;
@@ -136,7 +126,7 @@ text_line old mid new (Err (lex.Fault f)) not_ready keeps fault first e = record
 text_line old mid new (Err lex.Memory) not_ready keeps fault first r = restarts_on old mid new keeps (not_ready ∙ sym first) fault r
 
 -- what a caller sees of a fault
-pub finish_again : (f : Feed) (fault : Fault) → f.fault ≡ Some fault → EndsFaulty (scanning_of f) fault (scanning_of f)
+pub finish_again : (f : Feed) (fault : Fault) → f.state.fault ≡ Some fault → EndsFaulty (scanning_of f) fault (scanning_of f)
 finish_again f fault is = record {
   all = λ text lines scanning whole. absurd (let none = scanning.no_fault in let h = sym is ∙ none in cc);
   again = λ first was. (let h = sym is ∙ was in cc);
@@ -149,7 +139,7 @@ finish_again f fault is = record {
   kept = is;
 }
 
-same_scanning : (old new : Feed) → KeepsText old new → old.ready ≡ None → new.ready ≡ None → new.fault ≡ old.fault → scanning_of new ≡ scanning_of old
+same_scanning : (old new : Feed) → KeepsText old new → old.ready ≡ None → new.ready ≡ None → new.state.fault ≡ old.state.fault → scanning_of new ≡ scanning_of old
 same_scanning old new keeps first ready fault =
     let place = keeps.place in
     let line = keeps.line in
@@ -160,12 +150,14 @@ same_scanning old new keeps first ready fault =
 
 sound_again : (old new : Feed) → IsSoundFeed old → KeepsText old new → StandsSo new.ready new → IsSoundFeed new
 sound_again old new sound keeps state = record {
-  fits = subst (λ (n : ℕ). n + length new.held.items ≤ 2 ^ 62) (sym keeps.place) (subst (λ l. old.place + length l ≤ 2 ^ 62) (sym (items_kept old new keeps)) sound.fits);
-  few_lines = omega (arith, keeps.place, keeps.line, sound.few_lines);
+  room = record {
+    fits = omega (arith, keeps.place, ap length (items_kept old new keeps), sound.room.fits);
+    few_lines = omega (arith, keeps.place, keeps.line, sound.room.few_lines);
+  };
   state = state;
 }
 
-pub finish_error : (old new : Feed) (error : LexError) → old.fault ≡ None → old.ready ≡ None → EndsText old (Err error) new → Finishes (scanning_of old) (Err error) (scanning_of new)
+pub finish_error : (old new : Feed) (error : LexError) → old.state.fault ≡ None → old.ready ≡ None → EndsText old (Err error) new → Finishes (scanning_of old) (Err error) (scanning_of new)
 finish_error old new (lex.Fault f) no_fault first e = record {
   all = λ text lines scanning whole. e.lexed text lines (ends_with old text lines scanning whole);
   again = λ other was. absurd (let h = sym no_fault ∙ was in cc);
@@ -178,14 +170,14 @@ finish_error old new (lex.Fault f) no_fault first e = record {
   kept = e.kept;
 }
 finish_error old new lex.Memory no_fault first r = record {
-  same = same_scanning old new r.text first (r.ready ∙ first) r.fault;
+  same = same_scanning old new (restarts_keep old new r) first (restarts_ready old new r ∙ first) (restarts_fault old new r);
   none_ready = ap (ready_of old) first;
   no_fault = no_fault;
 }
 
 pub sound_error : (old new : Feed) (error : LexError) → IsSoundFeed old → old.ready ≡ None → EndsText old (Err error) new → IsSoundFeed new
 sound_error old new (lex.Fault f) sound first e = sound_again old new sound e.text (subst (λ r. StandsSo r new) (sym e.none_ready) (λ no_fault. absurd (let h = sym no_fault ∙ e.kept in cc)))
-sound_error old new lex.Memory sound first r = sound_again old new sound r.text (subst (λ r. StandsSo r new) (sym (r.ready ∙ first)) (λ no_fault. ([], new.held.items, restarts_open old new r)))
+sound_error old new lex.Memory sound first r = sound_again old new sound (restarts_keep old new r) (subst (λ r. StandsSo r new) (sym (restarts_ready old new r ∙ first)) (λ no_fault. ([], new.held.items, restarts_open old new r)))
 
 -- the text has ended
 abbrev pub ended_now : Feed → Feed
@@ -201,19 +193,19 @@ stands_now (Some n) f ready = ready_now f n ready
 pub sound_now : (old f : Feed) → IsSoundFeed old → HasEndedText old f → IsSoundFeed (ended_now f)
 sound_now old f sound e =
     let s = sound_again old f sound e.text e.state in
-    record { fits = s.fits; few_lines = s.few_lines; state = stands_now f.ready f e.state }
+    record { room = record { fits = s.room.fits; few_lines = s.room.few_lines }; state = stands_now f.ready f e.state }
 
 same_ready : (ready : Option ℕ) (f : Feed) → ready_of f ready ≡ ready_of (ended_now f) ready
 same_ready None f = refl
 same_ready (Some n) f = refl
 
-pub finish_now : (old f : Feed) → old.fault ≡ None → HasEndedText old f → EndsScan (scanning_of old) (scanning_of (ended_now f))
+pub finish_now : (old f : Feed) → old.state.fault ≡ None → HasEndedText old f → EndsScan (scanning_of old) (scanning_of (ended_now f))
 finish_now old f no_fault e =
     let held = items_kept old f e.text in
     record {
       scans = λ text lines scanning whole.
           let lexed = subst (λ r. IsLexed text (lines ++ ready_lines r) None × HoldsReady f.held.items r) (same_ready f.ready f) (e.lexed text lines scanning whole) in
-          let behind : drop old.place text ≡ old.held.items = sym (take_all (length old.held.items) (drop old.place text) (omega (arith, whole, length-drop old.place text))) ∙ scanning.held in
+          let behind : drop old.state.place text ≡ old.held.items = sym (take_all (length old.held.items) (drop old.state.place text) (omega (arith, whole, length-drop old.state.place text))) ∙ scanning.held in
           record {
             first = first_kept old f text lines e.text scanning.first;
             lexed = lexed.0;

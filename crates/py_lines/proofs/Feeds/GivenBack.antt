@@ -12,7 +12,7 @@ use Rattle.py_lines.specs.LogicalLine.{byte_len}
 use Rattle.py_lines.specs.declared.feed.Feed.{Feed}
 use Rattle.py_lines.specs.declared.mode.Mode.{Mode}
 use Rattle.py_lines.specs.declared.scan.Scan.{Scan}
-use Rattle.py_lines.specs.Private.Source.{first_mode}
+use Rattle.py_lines.specs.Private.LineState.{first_mode}
 use Rattle.py_lines.specs.Private.Scan.{EndsWhole, IsLineBefore, line_start}
 use Rattle.py_lines.specs.declared.scan.Stop.TheVariants as stops
 use Rattle.py_lines.specs.Private.Feed.{HasScannedNext, IsScanned, EndsLineHeld, EndsExactly, HadEnded, EndsAfter, whole_end, GivesBack, TakesOf}
@@ -76,49 +76,49 @@ module _ (m : Mode) (scan : Scan) (bytes all after : List ℕ) (end_len : ℕ) (
   pub end_some : 0 < whole_end scan
   end_some = ⊎_elim (λ a. omega (arith, a.0, line_ended.some)) (λ b. omega (arith, b.0)) end_is
 
-module _ (f : Feed) (end_len : ℕ) (e : EndsLineHeld end_len f) (v : Vec ℕ) (before kept : ℕ) (held : v.items ≡ take kept f.held.items) (within : whole_end f.scan ≤ kept) (which : (kept ≡ whole_end f.scan) ⊎ (whole_end f.scan ≤ before)) where
+module _ (f : Feed) (end_len : ℕ) (e : EndsLineHeld end_len f) (v : Vec ℕ) (before kept : ℕ) (held : v.items ≡ take kept f.held.items) (within : whole_end f.state.scan ≤ kept) (which : (kept ≡ whole_end f.state.scan) ⊎ (whole_end f.state.scan ≤ before)) where
   kept_line : EndsLineHeld end_len (record f { held = v })
   kept_line = record {
     all = e.all;
     after = take (kept - byte_len e.all) e.after;
-    ended = record { scalars = e.ended.scalars; spell = taken_spell (first_mode f.place) f.scan f.held.items e.all e.after end_len e.ended.spell e.ended.at e.whole kept within ∙ sym held; at = e.ended.at; number = e.ended.number };
-    whole = taken_whole (first_mode f.place) f.scan f.held.items e.all e.after end_len e.ended.spell e.ended.at e.whole kept within;
+    ended = record { scalars = e.ended.scalars; spell = taken_spell (first_mode f.state.place) f.state.scan f.held.items e.all e.after end_len e.ended.spell e.ended.at e.whole kept within ∙ sym held; at = e.ended.at; number = e.ended.number };
+    whole = taken_whole (first_mode f.state.place) f.state.scan f.held.items e.all e.after end_len e.ended.spell e.ended.at e.whole kept within;
   }
 
-  had_ended : whole_end f.scan ≤ before → HadEnded (take before f.held.items) e.all
+  had_ended : whole_end f.state.scan ≤ before → HadEnded (take before f.held.items) e.all
   had_ended past = record {
     rest = take (before - byte_len e.all) e.after;
-    spell = taken_spell (first_mode f.place) f.scan f.held.items e.all e.after end_len e.ended.spell e.ended.at e.whole before past;
-    whole = taken_whole (first_mode f.place) f.scan f.held.items e.all e.after end_len e.ended.spell e.ended.at e.whole before past;
+    spell = taken_spell (first_mode f.state.place) f.state.scan f.held.items e.all e.after end_len e.ended.spell e.ended.at e.whole before past;
+    whole = taken_whole (first_mode f.state.place) f.state.scan f.held.items e.all e.after end_len e.ended.spell e.ended.at e.whole before past;
   }
 
   pub kept_stops : EndsAfter (take before f.held.items) (Some end_len) (record f { held = v })
   unfolding kept_line
-  kept_stops = (kept_line, ⊎_elim (λ is. inl (taken_exactly (first_mode f.place) f.scan f.held.items e.all e.after end_len e.ended.spell e.ended.at e.whole kept is)) (λ past. inr (had_ended past)) which)
+  kept_stops = (kept_line, ⊎_elim (λ is. inl (taken_exactly (first_mode f.state.place) f.state.scan f.held.items e.all e.after end_len e.ended.spell e.ended.at e.whole kept is)) (λ past. inr (had_ended past)) which)
 
 pub some_is : (r : Option ℕ) → is_some r ≡ true → (n : ℕ) × (r ≡ Some n)
 some_is None h = absurd (cc)
 some_is (Some n) h = (n, refl)
 
 -- the scan stops within what is held
-pub stop_small : (f : Feed) → IsScanned f.ready f → is_some f.ready ≡ true → f.scan.stop ≤ length f.held.items
+pub stop_small : (f : Feed) → IsScanned f.ready f → is_some f.ready ≡ true → f.state.scan.stop ≤ length f.held.items
 stop_small f scanned some =
     let r = some_is f.ready some in
     let e : EndsLineHeld r.0 f = subst (λ o. IsScanned o f) r.1 scanned in
-    omega (arith, (line_ended (first_mode f.place) f.scan f.held.items e.all e.after r.0 e.ended.spell e.ended.at e.whole).stop, ap length e.ended.spell, length-append (encode_utf8_all e.all) e.after)
+    omega (arith, (line_ended (first_mode f.state.place) f.state.scan f.held.items e.all e.after r.0 e.ended.spell e.ended.at e.whole).stop, ap length e.ended.spell, length-append (encode_utf8_all e.all) e.after)
 
 max_le : (a b c : ℕ) → a ≤ c → b ≤ c → max a b ≤ c
 max_le a b c one two = omega (arith, one, two)
 
 -- a line is ready
-pub gives_line : (f : Feed) (v : Vec ℕ) (before kept : ℕ) → IsScanned f.ready f → is_some f.ready ≡ true → v.items ≡ take kept f.held.items → kept ≡ max (whole_end f.scan) (before + 1) → before < length f.held.items → GivesBack f before (record f { held = v })
+pub gives_line : (f : Feed) (v : Vec ℕ) (before kept : ℕ) → IsScanned f.ready f → is_some f.ready ≡ true → v.items ≡ take kept f.held.items → kept ≡ max (whole_end f.state.scan) (before + 1) → before < length f.held.items → GivesBack f before (record f { held = v })
 gives_line f v before kept scanned some held is more =
     let r = some_is f.ready some in
     let e : EndsLineHeld r.0 f = subst (λ o. IsScanned o f) r.1 scanned in
-    let left : whole_end f.scan ≤ kept = omega (arith, is, le-max_left (whole_end f.scan) (before + 1)) in
-    let right : before + 1 ≤ kept = omega (arith, is, le-max_right (whole_end f.scan) (before + 1)) in
-    let within : kept ≤ length f.held.items = omega (arith, is, max_le (whole_end f.scan) (before + 1) (length f.held.items) (end_within (first_mode f.place) f.scan f.held.items e.all e.after r.0 e.ended.spell e.ended.at e.whole) (omega (arith, more))) in
-    let which : (kept ≡ whole_end f.scan) ⊎ (whole_end f.scan ≤ before) = ⊎_elim (λ less. inl (omega (arith, is, less))) (λ past. inr past) (cases_lt before (whole_end f.scan)) in
+    let left : whole_end f.state.scan ≤ kept = omega (arith, is, le-max_left (whole_end f.state.scan) (before + 1)) in
+    let right : before + 1 ≤ kept = omega (arith, is, le-max_right (whole_end f.state.scan) (before + 1)) in
+    let within : kept ≤ length f.held.items = omega (arith, is, max_le (whole_end f.state.scan) (before + 1) (length f.held.items) (end_within (first_mode f.state.place) f.state.scan f.held.items e.all e.after r.0 e.ended.spell e.ended.at e.whole) (omega (arith, more))) in
+    let which : (kept ≡ whole_end f.state.scan) ⊎ (whole_end f.state.scan ≤ before) = ⊎_elim (λ less. inl (omega (arith, is, less))) (λ past. inr past) (cases_lt before (whole_end f.state.scan)) in
     record {
       kept = kept;
       more = omega (arith, right);
@@ -146,7 +146,7 @@ gives_none f before scanned none more = record {
 }
 
 -- bytes of a chunk were taken
-pub takes_of : (old mid new : Feed) (chunk held : List ℕ) (n : ℕ) → held ≡ old.held.items ++ chunk → mid.held.items ≡ held → mid.place ≡ old.place → mid.line ≡ old.line → mid.ended ≡ old.ended → mid.fault ≡ old.fault → n ≡ length new.held.items - length old.held.items → GivesBack mid (length old.held.items) new → TakesOf old chunk n new
+pub takes_of : (old mid new : Feed) (chunk held : List ℕ) (n : ℕ) → held ≡ old.held.items ++ chunk → mid.held.items ≡ held → mid.state.place ≡ old.state.place → mid.state.line ≡ old.state.line → mid.ended ≡ old.ended → mid.state.fault ≡ old.state.fault → n ≡ length new.held.items - length old.held.items → GivesBack mid (length old.held.items) new → TakesOf old chunk n new
 takes_of old mid new chunk held n is mid_held place line ended fault size g =
     let all : mid.held.items ≡ old.held.items ++ chunk = mid_held ∙ is in
     let whole : length mid.held.items ≡ length old.held.items + length chunk = ap length all ∙ length-append old.held.items chunk in
@@ -162,26 +162,26 @@ takes_of old mid new chunk held n is mid_held place line ended fault size g =
     }
 
 -- the line that has ended in these bytes was taken, where nothing was held
-pub line_taken : (old new : Feed) (chunk : List ℕ) (end_len n : ℕ) → HasScannedNext old chunk (stops.LineEnd end_len) → n ≡ whole_end old.scan → new.held.items ≡ old.held.items ++ take n chunk → new.place ≡ old.place → new.line ≡ old.line → new.ended ≡ old.ended → new.fault ≡ old.fault → new.ready ≡ Some end_len → new.scan ≡ old.scan → TakesOf old chunk n new
+pub line_taken : (old new : Feed) (chunk : List ℕ) (end_len n : ℕ) → HasScannedNext old chunk (stops.LineEnd end_len) → n ≡ whole_end old.state.scan → new.held.items ≡ old.held.items ++ take n chunk → new.state.place ≡ old.state.place → new.state.line ≡ old.state.line → new.ended ≡ old.ended → new.state.fault ≡ old.state.fault → new.ready ≡ Some end_len → new.state.scan ≡ old.state.scan → TakesOf old chunk n new
 line_taken old new chunk end_len n s is held place line ended fault ready scan =
     let t = s.stops in
-    let mode = first_mode old.place in
-    let spell = taken_spell mode old.scan chunk t.read t.rest end_len t.spell t.stops.0 t.stops.1 n (omega (arith, is)) in
+    let mode = first_mode old.state.place in
+    let spell = taken_spell mode old.state.scan chunk t.read t.rest end_len t.spell t.stops.0 t.stops.1 n (omega (arith, is)) in
     let ends : EndsLineHeld end_len new = record {
       all = t.read;
       after = take (n - byte_len t.read) t.rest;
       ended = record {
         scalars = t.scalars;
         spell = spell ∙ ap (λ l. l ++ take n chunk) (sym s.none_held) ∙ sym held;
-        at = subst (λ (k : ℕ). IsLineBefore (first_mode k) new.scan t.read end_len) (sym place) (subst (λ (c : Scan). IsLineBefore mode c t.read end_len) (sym scan) t.stops.0);
+        at = subst (λ (k : ℕ). IsLineBefore (first_mode k) new.state.scan t.read end_len) (sym place) (subst (λ (c : Scan). IsLineBefore mode c t.read end_len) (sym scan) t.stops.0);
         number = ap (λ (c : Scan). c.line) scan ∙ t.number ∙ sym line;
       };
-      whole = taken_whole mode old.scan chunk t.read t.rest end_len t.spell t.stops.0 t.stops.1 n (omega (arith, is));
+      whole = taken_whole mode old.state.scan chunk t.read t.rest end_len t.spell t.stops.0 t.stops.1 n (omega (arith, is));
     } in
     record {
-      some = omega (arith, is, end_some mode old.scan chunk t.read t.rest end_len t.spell t.stops.0 t.stops.1);
-      within = omega (arith, is, end_within mode old.scan chunk t.read t.rest end_len t.spell t.stops.0 t.stops.1);
+      some = omega (arith, is, end_some mode old.state.scan chunk t.read t.rest end_len t.spell t.stops.0 t.stops.1);
+      within = omega (arith, is, end_within mode old.state.scan chunk t.read t.rest end_len t.spell t.stops.0 t.stops.1);
       more = record { held = held; place = place; line = line; ended = ended };
       fault = fault;
-      stops = subst (λ o. EndsAfter old.held.items o new) (sym ready) (ends, inl (taken_exactly mode old.scan chunk t.read t.rest end_len t.spell t.stops.0 t.stops.1 n is));
+      stops = subst (λ o. EndsAfter old.held.items o new) (sym ready) (ends, inl (taken_exactly mode old.state.scan chunk t.read t.rest end_len t.spell t.stops.0 t.stops.1 n is));
     }

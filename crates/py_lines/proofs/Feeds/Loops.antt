@@ -1,5 +1,5 @@
 -- What a scan of what is held comes to.
-use Rattle.std.proofs.Common.{◌≡◌, ℕ, ◌<◌, false, true, None, Ok, Err, List, [], length, refl, sym, ◌∙◌, subst, arith}
+use Rattle.std.proofs.Common.{◌≡◌, ℕ, ◌<◌, false, true, None, Ok, Err, List, [], length, refl, sym, ap, ◌∙◌, subst, arith}
 use Rattle.std.specs.Str.{StartsWithNoChar}
 use Rattle.std.proofs.lemmas.Bool.{both_ways}
 use Rattle.std.proofs.lemmas.List.{nil_from_length}
@@ -9,10 +9,11 @@ use Rattle.py_lines.specs.declared.fault.FaultKind.TheVariants.{BadUtf8}
 use Rattle.py_lines.specs.declared.fault.LexError.{LexError}
 use Rattle.py_lines.specs.declared.fault.LexError.TheVariants as lex
 use Rattle.py_lines.specs.declared.feed.Feed.{Feed}
+use Rattle.py_lines.specs.declared.line_state.LineState.{LineState}
 use Rattle.py_lines.specs.declared.scan.Stop.TheVariants as stops
 use Rattle.py_lines.specs.Private.Machine.{character_kind}
-use Rattle.py_lines.specs.Private.Scan.{Tallies, IsStacked, line_start, is_returned, refused_place}
-use Rattle.py_lines.specs.Private.Source.{first_mode}
+use Rattle.py_lines.specs.Private.Scan.{Tallies, IsStacked, IsUnderWay, line_start, is_returned, refused_place}
+use Rattle.py_lines.specs.Private.LineState.{first_mode}
 use Rattle.py_lines.specs.Private.Feed.{KeepsText, Restarts, IsOpen, IsPart, FailsAt, FailsNext, StopsHeld, ClosesLine, IsScanned, ScansHeld}
 use Rattle.py_lines.proofs.Text.Utf8Prefixes.{nothing_bad}
 use Rattle.py_lines.proofs.Text.Incomplete.{part_none}
@@ -24,51 +25,92 @@ keeps_on old mid new a b = record { held = b.held ∙ a.held; place = b.place �
 pub keeps_self : (f : Feed) → KeepsText f f
 keeps_self f = record { held = refl; place = refl; line = refl; ended = refl }
 
--- a scan that was begun anew at the same place
-pub restarts_on : (old mid new : Feed) → KeepsText old mid → mid.ready ≡ old.ready → mid.fault ≡ old.fault → Restarts mid new → Restarts old new
-restarts_on old mid new keeps ready fault r = record {
-  text = keeps_on old mid new keeps r.text;
-  ready = r.ready ∙ ready;
-  fault = r.fault ∙ fault;
-  tallies = subst (λ (n : ℕ). Tallies new.scan (line_start (first_mode n))) keeps.place r.tallies;
-  stacked = subst (λ (n : ℕ). IsStacked new.scan (line_start (first_mode n))) keeps.place r.stacked;
-  number = r.number ∙ keeps.line;
+-- a fault keeps all that is held
+pub fails_keep : (old new : Feed) (kind : FaultKind) (behind : ℕ) (error : LexError) → FailsAt old kind behind error new → KeepsText old new
+fails_keep old new kind behind error fails = record {
+  held = ap (λ (f : Feed). f.held) fails.same;
+  place = ap (λ (s : LineState). s.place) fails.keeps.same;
+  line = ap (λ (s : LineState). s.line) fails.keeps.same;
+  ended = ap (λ (f : Feed). f.ended) fails.same;
 }
 
+-- and so does a scan that was begun anew
+pub restarts_keep : (old new : Feed) → Restarts old new → KeepsText old new
+restarts_keep old new r = record {
+  held = ap (λ (f : Feed). f.held) r.same;
+  place = ap (λ (s : LineState). s.place) r.begins.same;
+  line = ap (λ (s : LineState). s.line) r.begins.same;
+  ended = ap (λ (f : Feed). f.ended) r.same;
+}
+
+pub restarts_fault : (old new : Feed) → Restarts old new → new.state.fault ≡ old.state.fault
+restarts_fault old new r = ap (λ (s : LineState). s.fault) r.begins.same
+
+pub restarts_ready : (old new : Feed) → Restarts old new → new.ready ≡ old.ready
+restarts_ready old new r = ap (λ (f : Feed). f.ready) r.same
+
+-- it is that of a line of which nothing was read
+pub restarts_open : (old new : Feed) → Restarts old new → IsOpen new [] new.held.items
+restarts_open old new r =
+    let keeps = restarts_keep old new r in
+    record {
+      scalars = refl;
+      spell = refl;
+      way = subst (λ (n : ℕ). IsUnderWay (first_mode n) new.state.scan []) (sym keeps.place) (record { state = line_start (first_mode old.state.place); runs = refl; tallies = r.begins.tallies; stacked = r.begins.stacked; one_line = tt });
+      number = r.begins.number ∙ sym keeps.line;
+    }
+
+-- a scan that was begun anew at the same place
+pub restarts_on : (old mid new : Feed) → KeepsText old mid → mid.ready ≡ old.ready → mid.state.fault ≡ old.state.fault → Restarts mid new → Restarts old new
+restarts_on old mid new keeps ready fault r =
+    let held = keeps.held in
+    let place = keeps.place in
+    let line = keeps.line in
+    let ended = keeps.ended in
+    record {
+      same = r.same ∙ (λ i. record { held = held i; state = new.state; ready = ready i; ended = ended i });
+      begins = record {
+        same = r.begins.same ∙ (λ i. record { place = place i; line = line i; fault = fault i; scan = new.state.scan });
+        tallies = subst (λ (n : ℕ). Tallies new.state.scan (line_start (first_mode n))) place r.begins.tallies;
+        stacked = subst (λ (n : ℕ). IsStacked new.state.scan (line_start (first_mode n))) place r.begins.stacked;
+        number = r.begins.number ∙ line;
+      };
+    }
+
 -- all was scanned
-pub part_all : (f : Feed) (read rest : List ℕ) → IsOpen f read rest → f.ready ≡ None → f.scan.stop ≡ length f.held.items → IsScanned f.ready f
+pub part_all : (f : Feed) (read rest : List ℕ) → IsOpen f read rest → f.ready ≡ None → f.state.scan.stop ≡ length f.held.items → IsScanned f.ready f
 part_all f read rest o ready done =
     let none : rest ≡ [] = nil_from_length rest (omega (arith, open_stop f read rest o, open_size f read rest o, done)) in
     let part : IsPart f [] = record { none = nothing_bad; more = part_none; last = λ returned. refl } in
     subst (λ r. IsScanned r f) (sym ready) (read, [], subst (IsOpen f read) none o, part)
 
 -- all except a part of a character
-pub part_left : (f : Feed) (read rest : List ℕ) → IsOpen f read rest → f.ready ≡ None → StartsWithNoChar rest → ¬ (IsHopeless rest) → is_returned f.scan ≡ false → IsScanned f.ready f
+pub part_left : (f : Feed) (read rest : List ℕ) → IsOpen f read rest → f.ready ≡ None → StartsWithNoChar rest → ¬ (IsHopeless rest) → is_returned f.state.scan ≡ false → IsScanned f.ready f
 part_left f read rest o ready none more open_yet = subst (λ r. IsScanned r f) (sym ready) (read, rest, o, record { none = none; more = more; last = λ returned. absurd (both_ways _ open_yet returned) })
 
 -- what is left shows that the line has ended in CR
-pub closes_held : (old new : Feed) (r : _) (read rest : List ℕ) → IsOpen old read rest → 0 < length rest → StartsWithNoChar rest → is_returned old.scan ≡ true → ClosesLine old 1 r new → ScansHeld old r new
+pub closes_held : (old new : Feed) (r : _) (read rest : List ℕ) → IsOpen old read rest → 0 < length rest → StartsWithNoChar rest → is_returned old.state.scan ≡ true → ClosesLine old 1 r new → ScansHeld old r new
 closes_held old new (Ok done) read rest o some none is closes = (closes.0, closes.2, subst (λ r. IsScanned r new) (sym closes.1) (ends_returned old new read rest o some none is closes.0 closes.3))
 closes_held old new (Err (lex.Fault f)) read rest o some none is closes = absurd closes
 closes_held old new (Err lex.Memory) read rest o some none is restarts = restarts
 
 -- what is left begins no character, whatever follows
-pub part_fails : (f new : Feed) (read rest : List ℕ) (error : LexError) → IsOpen f read rest → f.ready ≡ None → IsHopeless rest → is_returned f.scan ≡ false → FailsAt f BadUtf8 f.scan.stop error new → ScansHeld f (Err error) new
-part_fails f new read rest error o ready hopeless open_yet fails = subst (λ (e : LexError). ScansHeld f (Err e) new) (sym fails.error_is) (record {
+pub part_fails : (f new : Feed) (read rest : List ℕ) (error : LexError) → IsOpen f read rest → f.ready ≡ None → IsHopeless rest → is_returned f.state.scan ≡ false → FailsAt f BadUtf8 f.state.scan.stop error new → ScansHeld f (Err error) new
+part_fails f new read rest error o ready hopeless open_yet fails = subst (λ (e : LexError). ScansHeld f (Err e) new) (sym fails.keeps.error_is) (record {
   mid = f;
   text = keeps_self f;
   not_ready = ready;
   read = read;
   rest = rest;
   opens = o;
-  fails = FailsNext.at_bytes o.way hopeless open_yet (subst (λ (e : LexError). FailsAt f BadUtf8 f.scan.stop e new) fails.error_is fails);
+  fails = FailsNext.at_bytes o.way hopeless open_yet (subst (λ (e : LexError). FailsAt f BadUtf8 f.state.scan.stop e new) fails.keeps.error_is fails);
 })
 
 -- the next character is refused
-pub held_refused : (old mid new : Feed) (read rest : List ℕ) (c : ℕ) (kind : FaultKind) (behind : ℕ) (error : LexError) → KeepsText old mid → mid.ready ≡ None → StopsHeld mid (stops.Refused c) read rest → kind ≡ character_kind mid.scan.piece.mode c → behind ≡ refused_place mid.scan → FailsAt mid kind behind error new → ScansHeld old (Err error) new
+pub held_refused : (old mid new : Feed) (read rest : List ℕ) (c : ℕ) (kind : FaultKind) (behind : ℕ) (error : LexError) → KeepsText old mid → mid.ready ≡ None → StopsHeld mid (stops.Refused c) read rest → kind ≡ character_kind mid.state.scan.piece.mode c → behind ≡ refused_place mid.state.scan → FailsAt mid kind behind error new → ScansHeld old (Err error) new
 held_refused old mid new read rest c kind behind error keeps ready s kind_is behind_is fails =
-    let moved : FailsAt mid (character_kind mid.scan.piece.mode c) (refused_place mid.scan) error new = subst (λ (n : ℕ). FailsAt mid (character_kind mid.scan.piece.mode c) n error new) behind_is (subst (λ (k : FaultKind). FailsAt mid k behind error new) kind_is fails) in
-    subst (λ (e : LexError). ScansHeld old (Err e) new) (sym moved.error_is) (record {
+    let moved : FailsAt mid (character_kind mid.state.scan.piece.mode c) (refused_place mid.state.scan) error new = subst (λ (n : ℕ). FailsAt mid (character_kind mid.state.scan.piece.mode c) n error new) behind_is (subst (λ (k : FaultKind). FailsAt mid k behind error new) kind_is fails) in
+    subst (λ (e : LexError). ScansHeld old (Err e) new) (sym moved.keeps.error_is) (record {
       mid = mid;
       text = keeps;
       not_ready = ready;
@@ -79,12 +121,12 @@ held_refused old mid new read rest c kind behind error keeps ready s kind_is beh
         way = s.0.way;
         refuses = s.4;
         not_yet = s.5;
-        fails = subst (λ (e : LexError). FailsAt mid (character_kind mid.scan.piece.mode c) (refused_place mid.scan) e new) moved.error_is moved;
+        fails = subst (λ (e : LexError). FailsAt mid (character_kind mid.state.scan.piece.mode c) (refused_place mid.state.scan) e new) moved.keeps.error_is moved;
       });
     })
 
 -- the same, from where a scan of the characters came to
-pub held_from : (old mid new : Feed) (r : _) → KeepsText old mid → mid.ready ≡ old.ready → mid.fault ≡ old.fault → ScansHeld mid r new → ScansHeld old r new
+pub held_from : (old mid new : Feed) (r : _) → KeepsText old mid → mid.ready ≡ old.ready → mid.state.fault ≡ old.state.fault → ScansHeld mid r new → ScansHeld old r new
 held_from old mid new (Ok done) keeps ready fault s = (keeps_on old mid new keeps s.0, s.1 ∙ fault, s.2)
 held_from old mid new (Err (lex.Fault f)) keeps ready fault s = record { mid = s.mid; text = keeps_on old mid s.mid keeps s.text; not_ready = s.not_ready; read = s.read; rest = s.rest; opens = s.opens; fails = s.fails }
 held_from old mid new (Err lex.Memory) keeps ready fault r = restarts_on old mid new keeps ready fault r

@@ -24,7 +24,7 @@ no_feed_first (c ∷ cs) tail rest b spell other =
     let bytes : 10 ∷ (encode_utf8_all cs ++ tail) ≡ b ∷ rest = ap (λ t. (t ++ encode_utf8_all cs) ++ tail) (sym (encode_ascii 10 (omega arith))) ∙ ap (λ (n : ℕ). encode_utf8_all (n ∷ cs) ++ tail) (sym is) ∙ spell in
     other (let h = bytes in cc))
 
-module _ (text : List ℕ) (f : Feed) (lines : List LogicalLine) (end_len : ℕ) (read rest : List ℕ) (e : IsEnded f end_len read rest) (whole : EndsWhole read rest) (k : IsKnown text f.place f.line lines read rest) where
+module _ (text : List ℕ) (f : Feed) (lines : List LogicalLine) (end_len : ℕ) (read rest : List ℕ) (e : IsEnded f end_len read rest) (whole : EndsWhole read rest) (k : IsKnown text f.state.place f.state.line lines read rest) where
   -- after CR comes no LF
   pub no_feed_next : ends is_return read ≡ true → begins is_line_feed k.more ≡ false
   no_feed_next returned = go whole
@@ -36,7 +36,7 @@ module _ (text : List ℕ) (f : Feed) (lines : List LogicalLine) (end_len : ℕ)
   abbrev pub next_pieces : List Piece
   next_pieces = (e.at k.more no_feed_next).body ++ (e.at k.more no_feed_next).last ∷ []
 
-  pub next_line : IsNextLine f.place read k.more next_pieces
+  pub next_line : IsNextLine f.state.place read k.more next_pieces
   next_line =
       let at = e.at k.more no_feed_next in
       let line = (line_of_ended f end_len read rest e k.more no_feed_next).0 in
@@ -54,7 +54,7 @@ module _ (text : List ℕ) (f : Feed) (lines : List LogicalLine) (end_len : ℕ)
         runs = line.runs;
       }
 
-  pub next_is : line_of_feed f end_len ≡ line_of f.place f.line next_pieces
+  pub next_is : line_of_feed f end_len ≡ line_of f.state.place f.state.line next_pieces
   next_is = (line_of_ended f end_len read rest e k.more no_feed_next).1
 
   pub next_some : 0 < length read

@@ -10,23 +10,23 @@ use Rattle.py_lines.specs.Token.{EachLiesIn}
 use Rattle.py_lines.specs.Scanning.View.{line_of_feed}
 use Rattle.py_lines.specs.declared.feed.Feed.{Feed}
 use Rattle.py_lines.specs.Private.Scan.{line_start}
-use Rattle.py_lines.specs.Private.Source.{first_mode}
+use Rattle.py_lines.specs.Private.LineState.{first_mode}
 use Rattle.py_lines.specs.Private.Feed.{IsEnded, IsScanned, IsHeldSo, IsReady, StandsSo}
 use Rattle.py_lines.proofs.LogicalLines.TokenPlaces.{tokens_lie}
 use Rattle.py_lines.proofs.Readers.LineAnswers.{IsLine, line_at_end}
 
 -- the logical line of a line that was scanned whole
-pub line_of_ready : (f : Feed) (end_len : ℕ) (read rest : List ℕ) (u : List Piece) → encode_utf8_all read ++ rest ≡ f.held.items → f.scan.line ≡ f.line → IsLine (line_start (first_mode f.place)) f.scan read end_len u → line_of_feed f end_len ≡ line_of f.place f.line u
+pub line_of_ready : (f : Feed) (end_len : ℕ) (read rest : List ℕ) (u : List Piece) → encode_utf8_all read ++ rest ≡ f.held.items → f.state.scan.line ≡ f.state.line → IsLine (line_start (first_mode f.state.place)) f.state.scan read end_len u → line_of_feed f end_len ≡ line_of f.state.place f.state.line u
 line_of_ready f end_len read rest u held number line =
-    let text : take f.scan.stop f.held.items ≡ encode_utf8_all (spelled u) = ap (λ (n : ℕ). take n f.held.items) line.stop ∙ ap (take (byte_len read)) (sym held) ∙ take-append_seam (encode_utf8_all read) rest ∙ ap encode_utf8_all (sym line.spell) in
+    let text : take f.state.scan.stop f.held.items ≡ encode_utf8_all (spelled u) = ap (λ (n : ℕ). take n f.held.items) line.stop ∙ ap (take (byte_len read)) (sym held) ∙ take-append_seam (encode_utf8_all read) rest ∙ ap encode_utf8_all (sym line.spell) in
     let tokens = line.tokens ∙ ap (λ (n : ℕ). tokens_from 0 n u) number in
     let kind = line.kind in
     let indent = line.indent in
     let ends = line.ends in
-    λ i. record { kind = kind i; text = text i; tokens = tokens i; offset = f.place; line = number i; indent = indent i; end_len = ends i }
+    λ i. record { kind = kind i; text = text i; tokens = tokens i; offset = f.state.place; line = number i; indent = indent i; end_len = ends i }
 
 -- such a line is ready
-pub ready_line : (f : Feed) (end_len : ℕ) (read rest : List ℕ) (u : List Piece) → all_scalars read ≡ true → encode_utf8_all read ++ rest ≡ f.held.items → f.scan.line ≡ f.line → IsLine (line_start (first_mode f.place)) f.scan read end_len u → IsReady f end_len
+pub ready_line : (f : Feed) (end_len : ℕ) (read rest : List ℕ) (u : List Piece) → all_scalars read ≡ true → encode_utf8_all read ++ rest ≡ f.held.items → f.state.scan.line ≡ f.state.line → IsLine (line_start (first_mode f.state.place)) f.state.scan read end_len u → IsReady f end_len
 ready_line f end_len read rest u scalars held number line = record {
   read = read;
   rest = rest;
@@ -41,10 +41,10 @@ ready_line f end_len read rest u scalars held number line = record {
 }
 
 -- the line that its line end has closed, as a logical line
-pub line_of_ended : (f : Feed) (end_len : ℕ) (read rest : List ℕ) (e : IsEnded f end_len read rest) (after : List ℕ) (h : ends is_return read ≡ true → begins is_line_feed after ≡ false) → IsLine (line_start (first_mode f.place)) f.scan read end_len ((e.at after h).body ++ (e.at after h).last ∷ []) × (line_of_feed f end_len ≡ line_of f.place f.line ((e.at after h).body ++ (e.at after h).last ∷ []))
+pub line_of_ended : (f : Feed) (end_len : ℕ) (read rest : List ℕ) (e : IsEnded f end_len read rest) (after : List ℕ) (h : ends is_return read ≡ true → begins is_line_feed after ≡ false) → IsLine (line_start (first_mode f.state.place)) f.state.scan read end_len ((e.at after h).body ++ (e.at after h).last ∷ []) × (line_of_feed f end_len ≡ line_of f.state.place f.state.line ((e.at after h).body ++ (e.at after h).last ∷ []))
 line_of_ended f end_len read rest e after h =
     let at = e.at after h in
-    let line = line_at_end (first_mode f.place) f.scan read (encode_utf8_all after) end_len at after refl in
+    let line = line_at_end (first_mode f.state.place) f.state.scan read (encode_utf8_all after) end_len at after refl in
     (line, line_of_ready f end_len read rest (at.body ++ at.last ∷ []) e.spell e.number line)
 
 -- a line that its line end has closed is ready
@@ -63,11 +63,11 @@ held_stands None f opens = λ no_fault. opens
 held_stands (Some end_len) f e = ended_ready f end_len e.all e.after e.ended
 
 -- the text of the line that is ready is characters
-pub ready_utf8 : (f : Feed) (end_len : ℕ) → IsReady f end_len → IsUtf8 (take f.scan.stop f.held.items)
+pub ready_utf8 : (f : Feed) (end_len : ℕ) → IsReady f end_len → IsUtf8 (take f.state.scan.stop f.held.items)
 ready_utf8 f end_len r =
-    let text : encode_utf8_all r.read ≡ take f.scan.stop f.held.items = sym (take-append_seam (encode_utf8_all r.read) r.rest) ∙ ap (take (byte_len r.read)) r.spell ∙ ap (λ (n : ℕ). take n f.held.items) (sym r.stop) in
+    let text : encode_utf8_all r.read ≡ take f.state.scan.stop f.held.items = sym (take-append_seam (encode_utf8_all r.read) r.rest) ∙ ap (take (byte_len r.read)) r.spell ∙ ap (λ (n : ℕ). take n f.held.items) (sym r.stop) in
     (r.read, (r.scalars, text))
 
 -- the tokens of the line that is ready lie in it
-pub ready_lies : (f : Feed) (end_len : ℕ) → IsReady f end_len → EachLiesIn (take f.scan.stop f.held.items) f.scan.tokens.items
-ready_lies f end_len r = subst (λ (l : LogicalLine). EachLiesIn l.text l.tokens) (sym r.line_is) (tokens_lie f.line r.pieces (ap all_scalars r.spells ∙ r.scalars))
+pub ready_lies : (f : Feed) (end_len : ℕ) → IsReady f end_len → EachLiesIn (take f.state.scan.stop f.held.items) f.state.scan.tokens.items
+ready_lies f end_len r = subst (λ (l : LogicalLine). EachLiesIn l.text l.tokens) (sym r.line_is) (tokens_lie f.state.line r.pieces (ap all_scalars r.spells ∙ r.scalars))

@@ -33,7 +33,7 @@ goes_after text place first later goes =
 
 module _ (old new : Feed) (n : ℕ) (ready : old.ready ≡ Some n) (r : IsReady old n) (go : LetsGo old new) where
   -- the line and what comes after it
-  text_is : take old.scan.stop old.held.items ≡ encode_utf8_all r.read
+  text_is : take old.state.scan.stop old.held.items ≡ encode_utf8_all r.read
   text_is = ap (λ (l : LogicalLine). l.text) r.line_is ∙ ap encode_utf8_all r.spells
 
   rest_is : new.held.items ≡ r.rest
@@ -49,23 +49,23 @@ module _ (old new : Feed) (n : ℕ) (ready : old.ready ≡ Some n) (r : IsReady 
   none_ready = ap (ready_of new) go.ready
 
   -- the lines that reach to the end of this line reach to where the scanner stands now
-  first_here : (text : List ℕ) (lines : List LogicalLine) → AreFirstLines text (old.place + byte_len r.read) (old.line + line_ends r.read) lines → AreFirstLines text new.place new.line lines
+  first_here : (text : List ℕ) (lines : List LogicalLine) → AreFirstLines text (old.state.place + byte_len r.read) (old.state.line + line_ends r.read) lines → AreFirstLines text new.state.place new.state.line lines
   first_here text lines first =
-      let place : new.place ≡ old.place + byte_len r.read = go.place ∙ ap (λ (m : ℕ). old.place + m) r.stop in
-      let line : new.line ≡ old.line + line_ends r.read = go.line ∙ r.here in
-      subst (λ (m : ℕ). AreFirstLines text m new.line lines) (sym place) (subst (λ (m : ℕ). AreFirstLines text (old.place + byte_len r.read) m lines) (sym line) first)
+      let place : new.state.place ≡ old.state.place + byte_len r.read = go.place ∙ ap (λ (m : ℕ). old.state.place + m) r.stop in
+      let line : new.state.line ≡ old.state.line + line_ends r.read = go.line ∙ r.here in
+      subst (λ (m : ℕ). AreFirstLines text m new.state.line lines) (sym place) (subst (λ (m : ℕ). AreFirstLines text (old.state.place + byte_len r.read) m lines) (sym line) first)
 
   scans_on : (text : List ℕ) (lines : List LogicalLine) → IsScanning (scanning_of old) text lines → IsScanning (scanning_of new) text (lines ++ line_of_feed old n ∷ []) × IsSettled (take (fed_of (scanning_of new)) text) (lines ++ line_of_feed old n ∷ [])
   scans_on text lines scanning =
-      let goes : GoesOnWith text old.place (encode_utf8_all r.read ++ r.rest) = subst (GoesOnWith text old.place) (sym r.spell) scanning.held in
+      let goes : GoesOnWith text old.state.place (encode_utf8_all r.read ++ r.rest) = subst (GoesOnWith text old.state.place) (sym r.spell) scanning.held in
       let some : 0 < length (encode_utf8_all r.read ++ r.rest) = omega (arith, r.some, length-append (encode_utf8_all r.read) r.rest) in
-      let k = is_known text old.place old.line lines r.read r.rest scanning.first r.scalars goes some in
-      let settled_old : IsSettled (take (old.place + length old.held.items) text) (lines ++ line_of_feed old n ∷ []) = subst (λ x. IsSettled (take (old.place + length old.held.items) text) (lines ++ ready_lines (ready_of old x))) ready (scanning.settled (omega (arith, some, ap length r.spell))) in
-      let settled_known : IsSettled (take (old.place + length (encode_utf8_all r.read ++ r.rest)) text) (lines ++ line_of_feed old n ∷ []) = subst (λ l. IsSettled (take (old.place + length l) text) (lines ++ line_of_feed old n ∷ [])) (sym r.spell) settled_old in
+      let k = is_known text old.state.place old.state.line lines r.read r.rest scanning.first r.scalars goes some in
+      let settled_old : IsSettled (take (old.state.place + length old.held.items) text) (lines ++ line_of_feed old n ∷ []) = subst (λ x. IsSettled (take (old.state.place + length old.held.items) text) (lines ++ ready_lines (ready_of old x))) ready (scanning.settled (omega (arith, some, ap length r.spell))) in
+      let settled_known : IsSettled (take (old.state.place + length (encode_utf8_all r.read ++ r.rest)) text) (lines ++ line_of_feed old n ∷ []) = subst (λ l. IsSettled (take (old.state.place + length l) text) (lines ++ line_of_feed old n ∷ [])) (sym r.spell) settled_old in
       let settled_new : IsSettled (take (fed_of (scanning_of new)) text) (lines ++ line_of_feed old n ∷ []) = subst (λ (m : ℕ). IsSettled (take m text) (lines ++ line_of_feed old n ∷ [])) (sym fed_is) settled_old in
-      let first : AreFirstLines text (old.place + byte_len r.read) (old.line + line_ends r.read) (lines ++ line_of_feed old n ∷ []) = released text old.place old.line lines r.read r.rest k (line_of_feed old n) text_is settled_known in
-      let place : new.place ≡ old.place + byte_len r.read = go.place ∙ ap (λ (m : ℕ). old.place + m) r.stop in
-      let held : GoesOnWith text new.place new.held.items = subst (λ (m : ℕ). GoesOnWith text m new.held.items) (sym place) (subst (GoesOnWith text (old.place + byte_len r.read)) (sym rest_is) (goes_after text old.place (encode_utf8_all r.read) r.rest goes)) in (
+      let first : AreFirstLines text (old.state.place + byte_len r.read) (old.state.line + line_ends r.read) (lines ++ line_of_feed old n ∷ []) = released text old.state.place old.state.line lines r.read r.rest k (line_of_feed old n) text_is settled_known in
+      let place : new.state.place ≡ old.state.place + byte_len r.read = go.place ∙ ap (λ (m : ℕ). old.state.place + m) r.stop in
+      let held : GoesOnWith text new.state.place new.held.items = subst (λ (m : ℕ). GoesOnWith text m new.held.items) (sym place) (subst (GoesOnWith text (old.state.place + byte_len r.read)) (sym rest_is) (goes_after text old.state.place (encode_utf8_all r.read) r.rest goes)) in (
         record {
           first = first_here text (lines ++ line_of_feed old n ∷ []) first;
           held = held;
@@ -81,9 +81,9 @@ module _ (old new : Feed) (n : ℕ) (ready : old.ready ≡ Some n) (r : IsReady 
   ends_on text lines ended =
       let all : IsLexedWhole text (lines ++ line_of_feed old n ∷ []) = subst (λ x. IsLexed text (lines ++ ready_lines (ready_of old x)) None) ready ended.lexed in
       record {
-        first = first_here text (lines ++ line_of_feed old n ∷ []) (last_released text old.place old.line lines r.read (line_of_feed old n) text_is ended.first all);
+        first = first_here text (lines ++ line_of_feed old n ∷ []) (last_released text old.state.place old.state.line lines r.read (line_of_feed old n) text_is ended.first all);
         lexed = subst (λ x. IsLexed text ((lines ++ line_of_feed old n ∷ []) ++ ready_lines x) None) (sym none_ready) (subst (λ l. IsLexed text l None) (sym (append-nil (lines ++ line_of_feed old n ∷ []))) all);
-        held = go.held ∙ ap (drop old.scan.stop) ended.held ∙ drop-drop old.scan.stop old.place text ∙ ap (λ (m : ℕ). drop m text) (sym go.place);
+        held = go.held ∙ ap (drop old.state.scan.stop) ended.held ∙ drop-drop old.state.scan.stop old.state.place text ∙ ap (λ (m : ℕ). drop m text) (sym go.place);
         whole = subst (HoldsReady new.held.items) (sym none_ready) tt;
         ended = go.ended ∙ ended.ended;
         no_fault = go.fault ∙ ended.no_fault;
@@ -95,8 +95,8 @@ module _ (old new : Feed) (n : ℕ) (ready : old.ready ≡ Some n) (r : IsReady 
     was = ap (ready_of old) ready;
     scans = scans_on;
     ends = ends_on;
-    place = go.place ∙ ap (λ (m : ℕ). old.place + m) (r.stop ∙ ap length (sym text_is));
-    held = sym (take-append-drop old.scan.stop old.held.items) ∙ ap (λ t. take old.scan.stop old.held.items ++ t) (sym go.held);
+    place = go.place ∙ ap (λ (m : ℕ). old.state.place + m) (r.stop ∙ ap length (sym text_is));
+    held = sym (take-append-drop old.state.scan.stop old.held.items) ∙ ap (λ t. take old.state.scan.stop old.held.items ++ t) (sym go.held);
     none_ready = none_ready;
     ended = go.ended;
     fault = go.fault;
@@ -105,8 +105,10 @@ module _ (old new : Feed) (n : ℕ) (ready : old.ready ≡ Some n) (r : IsReady 
   -- the state after it
   pub released_sound : IsSoundFeed old → IsSoundFeed new
   released_sound sound = record {
-    fits = omega (arith, fed_is, sound.fits);
-    few_lines = omega (arith, go.place, go.line, r.stop, r.here, line_ends-bytes r.read, sound.few_lines);
+    room = record {
+      fits = omega (arith, fed_is, sound.room.fits);
+      few_lines = omega (arith, go.place, go.line, r.stop, r.here, line_ends-bytes r.read, sound.room.few_lines);
+    };
     state = subst (λ x. StandsSo x new) (sym go.ready) (λ no_fault. ([], new.held.items, go.opens));
   }
 

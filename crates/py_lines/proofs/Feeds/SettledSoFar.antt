@@ -13,7 +13,7 @@ use Rattle.py_lines.specs.Lexed.{Decodes, IsBalancedReading, EndsLine}
 use Rattle.py_lines.specs.Settled.{EndsForGood, IsSettled}
 use Rattle.py_lines.specs.Private.Machine.{Scanned, run_from, Bracket, brackets_of, IsSound}
 use Rattle.py_lines.specs.Private.Scan.{EndsNoLine, line_start}
-use Rattle.py_lines.specs.Private.Source.{first_mode}
+use Rattle.py_lines.specs.Private.LineState.{first_mode}
 use Rattle.py_lines.specs.declared.mode.Mode.{Mode}
 use Rattle.py_lines.specs.declared.mode.Mode.TheVariants as modes
 use Rattle.std.proofs.Math.Utf8.{low_scalar}

@@ -13,7 +13,7 @@ use Rattle.py_lines.specs.declared.feed.Feed.{Feed}
 use Rattle.py_lines.specs.Private.Machine.{in_short, is_behind_slash, IsSound}
 use Rattle.std.specs.Global.{Vec}
 use Rattle.py_lines.specs.Private.Scan.{Closes, is_return_mode, IsAtLineEnd, is_returned, refused_place}
-use Rattle.py_lines.specs.Private.Source.{first_mode}
+use Rattle.py_lines.specs.Private.LineState.{first_mode}
 use Rattle.py_lines.specs.Private.Feed.{KeepsText, IsOpen, EndsLineHeld}
 use Rattle.py_lines.proofs.Text.Utf8Prefixes.{all_scalars-parts}
 use Rattle.py_lines.proofs.LogicalLines.Cuts.{byte_len-append}
@@ -25,16 +25,16 @@ use Rattle.py_lines.proofs.Readers.LineAnswers.{Within, all_within}
 
 module _ (f : Feed) (read rest : List ℕ) (o : IsOpen f read rest) where
   pub open_sound : IsSound o.way.state read
-  open_sound = sound_run (first_mode f.place) read o.way.state (begun_sound f.place) o.way.runs
+  open_sound = sound_run (first_mode f.state.place) read o.way.state (begun_sound f.state.place) o.way.runs
 
-  pub open_order : f.scan.piece.start ≤ f.scan.stop
-  open_order = way_order f.scan o.way.state o.way.tallies
+  pub open_order : f.state.scan.piece.start ≤ f.state.scan.stop
+  open_order = way_order f.state.scan o.way.state o.way.tallies
 
-  pub open_stop : f.scan.stop ≡ byte_len read
-  open_stop = way_stop (first_mode f.place) f.scan read o.way (begun_sound f.place)
+  pub open_stop : f.state.scan.stop ≡ byte_len read
+  open_stop = way_stop (first_mode f.state.place) f.state.scan read o.way (begun_sound f.state.place)
 
-  pub open_here : f.scan.count.line ≡ f.line + line_ends read
-  open_here = way_here (first_mode f.place) f.scan read o.way (begun_sound f.place) ∙ ap (λ (n : ℕ). n + line_ends read) o.number
+  pub open_here : f.state.scan.count.line ≡ f.state.line + line_ends read
+  open_here = way_here (first_mode f.state.place) f.state.scan read o.way (begun_sound f.state.place) ∙ ap (λ (n : ℕ). n + line_ends read) o.number
 
   pub open_size : length f.held.items ≡ byte_len read + length rest
   open_size = ap length (sym o.spell) ∙ length-append (encode_utf8_all read) rest
@@ -51,26 +51,26 @@ module _ (f : Feed) (read rest : List ℕ) (o : IsOpen f read rest) where
       let scalars = (all_scalars-parts w.front w.later (ap all_scalars w.split ∙ o.scalars)).0 in
       (omega (arith, size, w.size), taken, (w.front, (scalars, sym taken)))
 
-  pub refused_held : Within read (refused_place f.scan)
+  pub refused_held : Within read (refused_place f.state.scan)
   refused_held =
-      cond_both (in_short f.scan.piece.mode || is_behind_slash f.scan.piece.mode) f.scan.piece.start f.scan.stop (Within read)
+      cond_both (in_short f.state.scan.piece.mode || is_behind_slash f.state.scan.piece.mode) f.state.scan.piece.start f.state.scan.stop (Within read)
       (λ h. record { front = spelled o.way.state.done; later = o.way.state.held; split = open_sound.spell; size = o.way.tallies.start })
-      (λ h. all_within read f.scan.stop open_stop)
+      (λ h. all_within read f.state.scan.stop open_stop)
 
 -- what is held next
-pub held_next : (f : Feed) (read rest : List ℕ) → IsOpen f read rest → drop f.scan.stop f.held.items ≡ rest
+pub held_next : (f : Feed) (read rest : List ℕ) → IsOpen f read rest → drop f.state.scan.stop f.held.items ≡ rest
 held_next f read rest o = ap (λ (n : ℕ). drop n f.held.items) (open_stop f read rest o) ∙ ap (drop (byte_len read)) (sym o.spell) ∙ drop-append_seam (encode_utf8_all read) rest
 
 -- the bytes after the place where the scan stands
-pub next_is : (f : Feed) (read rest held : List ℕ) → IsOpen f read rest → held ≡ f.held.items → take (length held - f.scan.stop) (drop f.scan.stop held) ≡ rest
-next_is f read rest held o same = take_all (length held - f.scan.stop) (drop f.scan.stop held) (omega (arith, length-drop f.scan.stop held)) ∙ ap (drop f.scan.stop) same ∙ held_next f read rest o
+pub next_is : (f : Feed) (read rest held : List ℕ) → IsOpen f read rest → held ≡ f.held.items → take (length held - f.state.scan.stop) (drop f.state.scan.stop held) ≡ rest
+next_is f read rest held o same = take_all (length held - f.state.scan.stop) (drop f.state.scan.stop held) (omega (arith, length-drop f.state.scan.stop held)) ∙ ap (drop f.state.scan.stop) same ∙ held_next f read rest o
 
 -- bytes that begin no character don't begin with LF
 no_feed : (b : ℕ) (more : List ℕ) → StartsWithNoChar (b ∷ more) → b ≡ 10 → ⊥
 no_feed b more none ten = none 10 more refl (ap (λ (n : ℕ). n ∷ more) ten ∙ ap (λ t. t ++ more) (sym (encode_ascii 10 (omega arith))))
 
 -- a line that such bytes show to have ended in CR
-pub ends_returned : (old new : Feed) (read rest : List ℕ) (o : IsOpen old read rest) → 0 < length rest → StartsWithNoChar rest → is_returned old.scan ≡ true → KeepsText old new → Closes old.scan new.scan → EndsLineHeld 1 new
+pub ends_returned : (old new : Feed) (read rest : List ℕ) (o : IsOpen old read rest) → 0 < length rest → StartsWithNoChar rest → is_returned old.state.scan ≡ true → KeepsText old new → Closes old.state.scan new.state.scan → EndsLineHeld 1 new
 ends_returned old new read [] o some none is keeps closes = absurd (omega arith)
 ends_returned old new read (b ∷ more) o some none is keeps closes =
     let parts = and_parts _ _ is in
@@ -80,7 +80,7 @@ ends_returned old new read (b ∷ more) o some none is keeps closes =
       ended = record {
         scalars = o.scalars;
         spell = o.spell ∙ ap (λ (v : Vec ℕ). v.items) (sym keeps.held);
-        at = λ after h. subst (λ (n : ℕ). IsAtLineEnd (first_mode n) new.scan read (encode_utf8_all after) 1) (sym keeps.place) (returned (first_mode old.place) old.scan new.scan read (encode_utf8_all after) o.way (begun_sound old.place) parts.0 parts.1 closes (λ a spells. ap (begins is_line_feed) (encodes_same a after spells) ∙ h (return_ends o.way.state read (open_sound old read (b ∷ more) o) (ap is_return_mode (sym o.way.tallies.mode) ∙ parts.0))));
+        at = λ after h. subst (λ (n : ℕ). IsAtLineEnd (first_mode n) new.state.scan read (encode_utf8_all after) 1) (sym keeps.place) (returned (first_mode old.state.place) old.state.scan new.state.scan read (encode_utf8_all after) o.way (begun_sound old.state.place) parts.0 parts.1 closes (λ a spells. ap (begins is_line_feed) (encodes_same a after spells) ∙ h (return_ends o.way.state read (open_sound old read (b ∷ more) o) (ap is_return_mode (sym o.way.tallies.mode) ∙ parts.0))));
         number = closes.line ∙ o.number ∙ sym keeps.line;
       };
       whole = inr (b, more, refl, no_feed b more none);

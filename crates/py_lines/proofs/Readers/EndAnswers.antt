@@ -23,7 +23,8 @@ use Rattle.py_lines.specs.declared.source.Source.{Source}
 use Rattle.py_lines.specs.Private.Machine.{Scanned, closed, fresh, is_final, end_kind, end_place, top_place, Bracket, brackets_of, IsSound}
 use Rattle.py_lines.specs.Private.Scan.{IsStacked, IsUnderWay, line_start, EndsNoLine, Tallies, Closes, none_open, is_return_mode, stack_of, IsOpenFrom}
 use Rattle.py_lines.specs.Reader.View.{reader_of}
-use Rattle.py_lines.specs.Private.Source.{line_of_source, first_mode, HasScanned, PassesLine, KeepsFault}
+use Rattle.py_lines.specs.Private.LineState.{first_mode}
+use Rattle.py_lines.specs.Private.Source.{line_of_source, HasScanned, PassesLine, FailsAfter}
 use Rattle.py_lines.proofs.Pieces.PieceLists.{piece, AreReadBefore-second, spelled-append}
 use Rattle.py_lines.proofs.Machine.PieceRuns.{scanned, pieces_at}
 use Rattle.py_lines.proofs.Pieces.OpenBrackets.{stands, StandsAt, level, inside}
@@ -130,14 +131,14 @@ module _ (old : Source) (has : HasScanned old stops.TextEnd) where
   stop : Stop
   stop = stops.TextEnd
 
-  open_yet : has.scans.stops.0.state.mode ≡ modes.Return → none_open (stack_of old.scan.brackets) ≡ false
-  open_yet = end_return has.scans.stops.0.state.mode (stack_of old.scan.brackets) (ap (λ (m : Mode). is_return_mode m && none_open (stack_of old.scan.brackets)) (sym has.scans.stops.0.tallies.mode) ∙ has.scans.stops.2)
+  open_yet : has.scans.stops.0.state.mode ≡ modes.Return → none_open (stack_of old.state.scan.brackets) ≡ false
+  open_yet = end_return has.scans.stops.0.state.mode (stack_of old.state.scan.brackets) (ap (λ (m : Mode). is_return_mode m && none_open (stack_of old.state.scan.brackets)) (sym has.scans.stops.0.tallies.mode) ∙ has.scans.stops.2)
 
-  pub stop_size : old.scan.stop ≡ byte_len has.scans.read
-  stop_size = way_stop (first_mode old.place) old.scan has.scans.read has.scans.stops.0 (start_sound old stops.TextEnd has)
+  pub stop_size : old.state.scan.stop ≡ byte_len has.scans.read
+  stop_size = way_stop (first_mode old.state.place) old.state.scan has.scans.read has.scans.stops.0 (start_sound old stops.TextEnd has)
 
   some_text : length old.bytes.now ≤ length old.characters.now → 0 < byte_len has.scans.read
-  some_text full = omega (arith, ap length has.scans.spell, length-append (encode_utf8_all has.scans.read) has.scans.rest, ap length has.scans.stops.1, length-drop old.place old.characters.now, has.more, full)
+  some_text full = omega (arith, ap length has.scans.spell, length-append (encode_utf8_all has.scans.read) has.scans.rest, ap length has.scans.stops.1, length-drop old.state.place old.characters.now, has.more, full)
 
   nothing_after : (lines : List LogicalLine) (given : HasGiven (reader_of old) lines) → (here old stops.TextEnd has lines given).after ≡ []
   nothing_after lines given = all_taken (here old stops.TextEnd has lines given).after has.scans.rest (here old stops.TextEnd has lines given).follow has.scans.stops.1
@@ -153,32 +154,32 @@ module _ (old : Source) (has : HasScanned old stops.TextEnd) where
       subst (λ t. RunsTo t j.state j.st) (all_read lines given) j.runs
 
   -- bytes that begin no character
-  pub fails_at_bytes : (new : Source) (error : LexError) (at : KeepsFault old BadUtf8 old.scan.stop error new) → length old.characters.now < length old.bytes.now → Fails (reader_of old) at.fault (reader_of new)
+  pub fails_at_bytes : (new : Source) (error : LexError) (at : FailsAfter old BadUtf8 old.state.scan.stop error new) → length old.characters.now < length old.bytes.now → Fails (reader_of old) at.keeps.fault (reader_of new)
   fails_at_bytes new error at more =
-      fails old new BadUtf8 old.scan.stop error at has.no_fault has.more (λ lines given. go lines given (here old stops.TextEnd has lines given).given.first.tail refl)
+      fails old new BadUtf8 old.state.scan.stop error at has.no_fault has.more (λ lines given. go lines given (here old stops.TextEnd has lines given).given.first.tail refl)
     where
-      go : (lines : List LogicalLine) (given : HasGiven (reader_of old) lines) (t : List ℕ) → (here old stops.TextEnd has lines given).given.first.tail ≡ t → IsLexedToFault old.bytes.now lines at.fault
+      go : (lines : List LogicalLine) (given : HasGiven (reader_of old) lines) (t : List ℕ) → (here old stops.TextEnd has lines given).given.first.tail ≡ t → IsLexedToFault old.bytes.now lines at.keeps.fault
       go lines given [] none = absurd (omega (arith, ap length (sym (here old stops.TextEnd has lines given).tail_is ∙ none), length-drop (length old.characters.now) old.bytes.now, more))
       go lines given (d ∷ ds) is =
           let s = here old stops.TextEnd has lines given in
           let way = has.scans.stops.0 in
           let j = joins old stops.TextEnd has lines given way in
-          subst (λ l. IsLexedToFault old.bytes.now l at.fault) (sym s.given.first.cut)
-          (refused_at_bytes old.bytes.now s.given.first.characters d ds j.state j.st s.given.first.pieces at.fault (subst (λ t. Decodes old.bytes.now s.given.first.characters t) is s.given.first.decodes) (runs_all lines given)
-          (has_front old stops.TextEnd has lines given way open_yet) at.at.is
-          (omega (arith, at.at.place, s.given.first.here, stop_size, ap byte_len (all_read lines given), byte_len-append (spelled s.given.first.pieces) has.scans.read))
-          (line_of_fault old stops.TextEnd has lines given BadUtf8 old.scan.stop at.fault at.at (all_within has.scans.read old.scan.stop stop_size)))
+          subst (λ l. IsLexedToFault old.bytes.now l at.keeps.fault) (sym s.given.first.cut)
+          (refused_at_bytes old.bytes.now s.given.first.characters d ds j.state j.st s.given.first.pieces at.keeps.fault (subst (λ t. Decodes old.bytes.now s.given.first.characters t) is s.given.first.decodes) (runs_all lines given)
+          (has_front old stops.TextEnd has lines given way open_yet) at.keeps.at.is
+          (omega (arith, at.keeps.at.place, s.given.first.here, stop_size, ap byte_len (all_read lines given), byte_len-append (spelled s.given.first.pieces) has.scans.read))
+          (line_of_fault old stops.TextEnd has lines given BadUtf8 old.state.scan.stop at.keeps.fault at.keeps.at (all_within has.scans.read old.state.scan.stop stop_size)))
 
-  pub unfinished_within : (behind : ℕ) → IsOpenFrom old.scan behind → Within has.scans.read behind
+  pub unfinished_within : (behind : ℕ) → IsOpenFrom old.state.scan behind → Within has.scans.read behind
   unfinished_within behind is =
       let way = has.scans.stops.0 in
-      within_open old.scan has.scans.read way.state (sound_run (first_mode old.place) has.scans.read way.state (start_sound old stops.TextEnd has) way.runs) way.tallies way.stacked behind is
+      within_open old.state.scan has.scans.read way.state (sound_run (first_mode old.state.place) has.scans.read way.state (start_sound old stops.TextEnd has) way.runs) way.tallies way.stacked behind is
 
   no_tail : (lines : List LogicalLine) (given : HasGiven (reader_of old) lines) → length old.bytes.now ≤ length old.characters.now → (here old stops.TextEnd has lines given).given.first.tail ≡ []
   no_tail lines given full = (here old stops.TextEnd has lines given).tail_is ∙ drop_all (length old.characters.now) old.bytes.now full
 
   -- the machine's state is that of the line, after the lines given
-  unread : (lines : List LogicalLine) (given : HasGiven (reader_of old) lines) (behind : ℕ) → 0 < byte_len has.scans.read → IsOpenFrom old.scan behind → (pieces : List Piece) → ¬ (IsBalancedReading pieces (here old stops.TextEnd has lines given).given.first.characters)
+  unread : (lines : List LogicalLine) (given : HasGiven (reader_of old) lines) (behind : ℕ) → 0 < byte_len has.scans.read → IsOpenFrom old.state.scan behind → (pieces : List Piece) → ¬ (IsBalancedReading pieces (here old stops.TextEnd has lines given).given.first.characters)
   unread lines given at full (inl (unfinal, is)) =
       let j = joins old stops.TextEnd has lines given has.scans.stops.0 in
       unread_at (here old stops.TextEnd has lines given).given.first.characters j.state (runs_all lines given).run (ap (λ (s : Scanned). is_final s.mode) (j.same full).0 ∙ ap is_final (sym has.scans.stops.0.tallies.mode) ∙ unfinal)
@@ -189,58 +190,58 @@ module _ (old : Source) (has : HasScanned old stops.TextEnd) where
       let none : shift (byte_len (spelled s.given.first.pieces)) (b ∷ others) ≡ [] = ap (shift (byte_len (spelled s.given.first.pieces))) (sym top) ∙ sym (j.same full).1 ∙ (goes_once (runs_all lines given) ran.runs).1 in
       cc
 
-  end_offset : (lines : List LogicalLine) (given : HasGiven (reader_of old) lines) (behind' : ℕ) → 0 < byte_len has.scans.read → IsOpenFrom old.scan behind' → old.place + behind' ≡ end_place (joins old stops.TextEnd has lines given has.scans.stops.0).state (joins old stops.TextEnd has lines given has.scans.stops.0).st
+  end_offset : (lines : List LogicalLine) (given : HasGiven (reader_of old) lines) (behind' : ℕ) → 0 < byte_len has.scans.read → IsOpenFrom old.state.scan behind' → old.state.place + behind' ≡ end_place (joins old stops.TextEnd has lines given has.scans.stops.0).state (joins old stops.TextEnd has lines given has.scans.stops.0).st
   end_offset lines given behind' full unfinished =
       let j = joins old stops.TextEnd has lines given has.scans.stops.0 in
       let s = here old stops.TextEnd has lines given in
       let base = s.given.first.pieces in
       let way = has.scans.stops.0 in
       let k = byte_len (spelled base) in
-      go unfinished ∙ ap (λ (t : Scanned). end_place t (shift k (stack_of old.scan.brackets))) (sym (j.same full).0) ∙ ap (end_place j.state) (sym (j.same full).1)
+      go unfinished ∙ ap (λ (t : Scanned). end_place t (shift k (stack_of old.state.scan.brackets))) (sym (j.same full).0) ∙ ap (end_place j.state) (sym (j.same full).1)
     where
-      go : IsOpenFrom old.scan behind' → old.place + behind' ≡ end_place (behind (here old stops.TextEnd has lines given).given.first.pieces has.scans.stops.0.state) (shift (byte_len (spelled (here old stops.TextEnd has lines given).given.first.pieces)) (stack_of old.scan.brackets))
+      go : IsOpenFrom old.state.scan behind' → old.state.place + behind' ≡ end_place (behind (here old stops.TextEnd has lines given).given.first.pieces has.scans.stops.0.state) (shift (byte_len (spelled (here old stops.TextEnd has lines given).given.first.pieces)) (stack_of old.state.scan.brackets))
       go (inl (unfinal, is)) =
           let base = (here old stops.TextEnd has lines given).given.first.pieces in
           let way = has.scans.stops.0 in
           let k = byte_len (spelled base) in
-          let sum : old.place + behind' ≡ byte_len (spelled (base ++ way.state.done)) = omega (arith, (here old stops.TextEnd has lines given).given.first.here, is, way.tallies.start, ap byte_len (spelled-append base way.state.done), byte_len-append (spelled base) (spelled way.state.done)) in
-          sum ∙ sym (ap (λ (b : Bool). if b then top_place (shift k (stack_of old.scan.brackets)) else byte_len (spelled (base ++ way.state.done))) (ap is_final (sym way.tallies.mode) ∙ unfinal))
+          let sum : old.state.place + behind' ≡ byte_len (spelled (base ++ way.state.done)) = omega (arith, (here old stops.TextEnd has lines given).given.first.here, is, way.tallies.start, ap byte_len (spelled-append base way.state.done), byte_len-append (spelled base) (spelled way.state.done)) in
+          sum ∙ sym (ap (λ (b : Bool). if b then top_place (shift k (stack_of old.state.scan.brackets)) else byte_len (spelled (base ++ way.state.done))) (ap is_final (sym way.tallies.mode) ∙ unfinal))
       go (inr (final, (b, others, top, place))) =
           let base = (here old stops.TextEnd has lines given).given.first.pieces in
           let way = has.scans.stops.0 in
           let k = byte_len (spelled base) in
-          let sum : old.place + behind' ≡ k + b.place = omega (arith, (here old stops.TextEnd has lines given).given.first.here, place) in
-          sum ∙ ap (λ l. top_place (shift k l)) (sym top) ∙ sym (ap (λ (x : Bool). if x then top_place (shift k (stack_of old.scan.brackets)) else byte_len (spelled (base ++ way.state.done))) (ap is_final (sym way.tallies.mode) ∙ final))
+          let sum : old.state.place + behind' ≡ k + b.place = omega (arith, (here old stops.TextEnd has lines given).given.first.here, place) in
+          sum ∙ ap (λ l. top_place (shift k l)) (sym top) ∙ sym (ap (λ (x : Bool). if x then top_place (shift k (stack_of old.state.scan.brackets)) else byte_len (spelled (base ++ way.state.done))) (ap is_final (sym way.tallies.mode) ∙ final))
 
   -- the text's end where it may not end
-  pub fails_at_end : (new : Source) (kind : FaultKind) (behind' : ℕ) (error : LexError) (at : KeepsFault old kind behind' error new) → kind ≡ end_kind old.scan.piece.mode → IsOpenFrom old.scan behind' → length old.bytes.now ≤ length old.characters.now → Fails (reader_of old) at.fault (reader_of new)
+  pub fails_at_end : (new : Source) (kind : FaultKind) (behind' : ℕ) (error : LexError) (at : FailsAfter old kind behind' error new) → kind ≡ end_kind old.state.scan.piece.mode → IsOpenFrom old.state.scan behind' → length old.bytes.now ≤ length old.characters.now → Fails (reader_of old) at.keeps.fault (reader_of new)
   fails_at_end new kind behind' error at kind_is unfinished full =
       fails old new kind behind' error at has.no_fault has.more (λ lines given.
       let s = here old stops.TextEnd has lines given in
       let way = has.scans.stops.0 in
       let j = joins old stops.TextEnd has lines given way in
       let some = some_text full in
-      subst (λ l. IsLexedToFault old.bytes.now l at.fault) (sym s.given.first.cut)
-      (refused_at_end old.bytes.now s.given.first.characters j.state j.st s.given.first.pieces at.fault (subst (λ t. Decodes old.bytes.now s.given.first.characters t) (no_tail lines given full) s.given.first.decodes) (runs_all lines given) (unread lines given behind' some unfinished)
+      subst (λ l. IsLexedToFault old.bytes.now l at.keeps.fault) (sym s.given.first.cut)
+      (refused_at_end old.bytes.now s.given.first.characters j.state j.st s.given.first.pieces at.keeps.fault (subst (λ t. Decodes old.bytes.now s.given.first.characters t) (no_tail lines given full) s.given.first.decodes) (runs_all lines given) (unread lines given behind' some unfinished)
       (has_front old stops.TextEnd has lines given way open_yet)
-      (at.at.is ∙ kind_is ∙ ap end_kind way.tallies.mode ∙ ap (λ (t : Scanned). end_kind t.mode) (sym (j.same some).0))
-      (at.at.place ∙ end_offset lines given behind' some unfinished)
-      (line_of_fault old stops.TextEnd has lines given kind behind' at.fault at.at (unfinished_within behind' unfinished))))
+      (at.keeps.at.is ∙ kind_is ∙ ap end_kind way.tallies.mode ∙ ap (λ (t : Scanned). end_kind t.mode) (sym (j.same some).0))
+      (at.keeps.at.place ∙ end_offset lines given behind' some unfinished)
+      (line_of_fault old stops.TextEnd has lines given kind behind' at.keeps.fault at.keeps.at (unfinished_within behind' unfinished))))
 
   -- the last line
-  last_line : (mid : Scan) → Tallies mid (fresh (pieces_at has.scans.stops.0.state)) → stack_of old.scan.brackets ≡ [] → 0 < byte_len has.scans.read → IsLine (line_start (first_mode old.place)) mid has.scans.read 0 (pieces_at has.scans.stops.0.state)
+  last_line : (mid : Scan) → Tallies mid (fresh (pieces_at has.scans.stops.0.state)) → stack_of old.state.scan.brackets ≡ [] → 0 < byte_len has.scans.read → IsLine (line_start (first_mode old.state.place)) mid has.scans.read 0 (pieces_at has.scans.stops.0.state)
   last_line mid t empty some =
       let way = has.scans.stops.0 in
-      line_at_text_end (first_mode old.place) old.scan mid has.scans.read way (sound_run (first_mode old.place) has.scans.read way.state (start_sound old stops.TextEnd has) way.runs) open_yet t empty some
+      line_at_text_end (first_mode old.state.place) old.state.scan mid has.scans.read way (sound_run (first_mode old.state.place) has.scans.read way.state (start_sound old stops.TextEnd has) way.runs) open_yet t empty some
 
-  pub continues_text : (mid new : Source) → is_final has.scans.stops.0.state.mode ≡ true → stack_of old.scan.brackets ≡ [] → Closes old.scan mid.scan → mid.bytes ≡ old.bytes → mid.place ≡ old.place → mid.fault ≡ old.fault → mid.characters ≡ old.characters → length old.bytes.now ≤ length old.characters.now → PassesLine mid 0 new → Continues (reader_of old) (line_of_source new) (reader_of new) × EachLiesIn (line_of_source new).text new.scan.tokens.items
+  pub continues_text : (mid new : Source) → is_final has.scans.stops.0.state.mode ≡ true → stack_of old.state.scan.brackets ≡ [] → Closes old.state.scan mid.state.scan → mid.bytes ≡ old.bytes → mid.state.place ≡ old.state.place → mid.state.fault ≡ old.state.fault → mid.characters ≡ old.characters → length old.bytes.now ≤ length old.characters.now → PassesLine mid 0 new → Continues (reader_of old) (line_of_source new) (reader_of new) × EachLiesIn (line_of_source new).text new.state.scan.tokens.items
   continues_text mid new final empty closes bytes place fault characters full gives =
       let way = has.scans.stops.0 in
       let s = way.state in
       let some = some_text full in
-      let sound = sound_run (first_mode old.place) has.scans.read s (start_sound old stops.TextEnd has) way.runs in
-      let tallies = closes_shut old.scan mid.scan s.done s.mode s.held has.scans.read closes sound way.tallies in
-      continues old mid new stops.TextEnd has 0 (pieces_at s) (last_line mid.scan tallies empty some) bytes place fault characters closes.line gives
+      let sound = sound_run (first_mode old.state.place) has.scans.read s (start_sound old stops.TextEnd has) way.runs in
+      let tallies = closes_shut old.state.scan mid.state.scan s.done s.mode s.held has.scans.read closes sound way.tallies in
+      continues old mid new stops.TextEnd has 0 (pieces_at s) (last_line mid.state.scan tallies empty some) bytes place fault characters closes.line gives
       (λ lines sit.
       let j = joins old stops.TextEnd has lines sit.given way in
       let ended = ends_sound (spelled (here old stops.TextEnd has lines sit.given).given.first.pieces ++ has.scans.read) j.state j.runs.run (ap (λ (t : Scanned). is_final t.mode) (j.same some).0 ∙ final) in
@@ -248,8 +249,8 @@ module _ (old : Source) (has : HasScanned old stops.TextEnd) where
       subst (AreReadBefore (pieces_at s)) (sym (all_taken sit.after has.scans.rest sit.follow has.scans.stops.1)) fit)
       (λ lines sit. IsEnded.by_text (λ i. all_taken sit.after has.scans.rest sit.follow has.scans.stops.1 i ++ (sit.tail_is ∙ drop_all (length old.characters.now) old.bytes.now full) i))
 
-  pub few_lines_text : (mid : Scan) → Closes old.scan mid → mid.count.line ≤ old.place + mid.stop + 1
+  pub few_lines_text : (mid : Scan) → Closes old.state.scan mid → mid.count.line ≤ old.state.place + mid.stop + 1
   few_lines_text mid closes =
       let way = has.scans.stops.0 in
-      let sound = sound_run (first_mode old.place) has.scans.read way.state (start_sound old stops.TextEnd has) way.runs in
+      let sound = sound_run (first_mode old.state.place) has.scans.read way.state (start_sound old stops.TextEnd has) way.runs in
       omega (arith, ap (λ k. k.line) closes.count, closes.stop, stop_size, way.tallies.here, ap line_ends sound.spell, line_ends-bytes has.scans.read, has.line, old.few_lines)

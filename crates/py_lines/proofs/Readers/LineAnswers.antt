@@ -13,6 +13,7 @@ use Rattle.py_lines.specs.Balance.{depth_after}
 use Rattle.py_lines.specs.Balance as brackets
 use Rattle.py_lines.specs.Reader.{HasGiven, Continues, standing_at}
 use Rattle.py_lines.specs.Private.Machine.{Scanned, run_from, brackets_of}
+use Rattle.py_lines.specs.declared.line_state.LineState.{LineState}
 use Rattle.py_lines.specs.declared.mode.Mode.{Mode}
 use Rattle.py_lines.specs.declared.scan.Scan.{Scan}
 use Rattle.py_lines.specs.declared.scan.Stop.{Stop}
@@ -20,7 +21,8 @@ use Rattle.py_lines.specs.declared.scan.Stop.TheVariants as stops
 use Rattle.py_lines.specs.declared.source.Source.{Source}
 use Rattle.py_lines.specs.Private.Scan.{IsAtLineEnd, line_start}
 use Rattle.py_lines.specs.Reader.View.{reader_of}
-use Rattle.py_lines.specs.Private.Source.{line_of_source, first_mode, PassesLine, HasScanned}
+use Rattle.py_lines.specs.Private.LineState.{first_mode}
+use Rattle.py_lines.specs.Private.Source.{line_of_source, PassesLine, HasScanned}
 use Rattle.py_lines.specs.Token.{EachLiesIn}
 use Rattle.py_lines.proofs.Text.Utf8Prefixes.{front_chars, all_scalars-parts, one_decoding}
 use Rattle.py_lines.proofs.Pieces.PieceLists.{spelled-append, AreReadBefore-second}
@@ -60,73 +62,73 @@ pub record Within (read : List ℕ) (behind : ℕ) : Type 0 where
   pub size : behind ≡ byte_len front
 
 -- what follows a place in the scanned line is text, and the place is a boundary
-pub front_spells : (s : Source) (stop : Stop) (has : HasScanned s stop) (behind : ℕ) (w : Within has.scans.read behind) → encode_utf8_all w.front ++ (encode_utf8_all w.later ++ has.scans.rest) ≡ drop s.place s.characters.now
+pub front_spells : (s : Source) (stop : Stop) (has : HasScanned s stop) (behind : ℕ) (w : Within has.scans.read behind) → encode_utf8_all w.front ++ (encode_utf8_all w.later ++ has.scans.rest) ≡ drop s.state.place s.characters.now
 front_spells s stop has behind w = sym (append_assoc (encode_utf8_all w.front) (encode_utf8_all w.later) has.scans.rest) ∙ ap (λ t. t ++ has.scans.rest) (sym (encodes-append w.front w.later) ∙ ap encode_utf8_all w.split) ∙ has.scans.spell
 
 rest_text : (s : Source) (stop : Stop) (has : HasScanned s stop) (behind : ℕ) (w : Within has.scans.read behind) → IsUtf8 (encode_utf8_all w.later ++ has.scans.rest)
 rest_text s stop has behind w =
-    let utf8 = IsUtf8-drop s.characters.now s.place (IsUtf8-had _ s.text) s.boundary in
+    let utf8 = IsUtf8-drop s.characters.now s.state.place (IsUtf8-had _ s.text) s.boundary in
     let next = front_chars w.front utf8.0 (encode_utf8_all w.later ++ has.scans.rest) (utf8.1.1 ∙ sym (front_spells s stop has behind w)) in
     (next.0, ((all_scalars-parts w.front next.0 (ap all_scalars (sym next.1) ∙ utf8.1.0)).1, next.2))
 
-pub place_boundary : (s : Source) (stop : Stop) (has : HasScanned s stop) (behind : ℕ) → Within has.scans.read behind → IsCharBoundary s.characters.now (s.place + behind)
+pub place_boundary : (s : Source) (stop : Stop) (has : HasScanned s stop) (behind : ℕ) → Within has.scans.read behind → IsCharBoundary s.characters.now (s.state.place + behind)
 place_boundary s stop has behind w =
-    subst (λ (n : ℕ). IsCharBoundary s.characters.now (s.place + n)) (sym w.size) (IsCharBoundary-from_rest s.characters.now s.place (byte_len w.front) s.within (IsCharBoundary-at_seam (drop s.place s.characters.now) (encode_utf8_all w.front) (encode_utf8_all w.later ++ has.scans.rest) (sym (front_spells s stop has behind w)) (rest_text s stop has behind w)))
+    subst (λ (n : ℕ). IsCharBoundary s.characters.now (s.state.place + n)) (sym w.size) (IsCharBoundary-from_rest s.characters.now s.state.place (byte_len w.front) s.within (IsCharBoundary-at_seam (drop s.state.place s.characters.now) (encode_utf8_all w.front) (encode_utf8_all w.later ++ has.scans.rest) (sym (front_spells s stop has behind w)) (rest_text s stop has behind w)))
 
-pub place_room : (s : Source) (stop : Stop) (has : HasScanned s stop) (behind : ℕ) → Within has.scans.read behind → s.place + behind ≤ length s.characters.now
-place_room s stop has behind w = omega (arith, w.size, ap length (front_spells s stop has behind w), length-append (encode_utf8_all w.front) (encode_utf8_all w.later ++ has.scans.rest), length-drop s.place s.characters.now, s.within)
+pub place_room : (s : Source) (stop : Stop) (has : HasScanned s stop) (behind : ℕ) → Within has.scans.read behind → s.state.place + behind ≤ length s.characters.now
+place_room s stop has behind w = omega (arith, w.size, ap length (front_spells s stop has behind w), length-append (encode_utf8_all w.front) (encode_utf8_all w.later ++ has.scans.rest), length-drop s.state.place s.characters.now, s.within)
 
 pub all_within : (read : List ℕ) (n : ℕ) → n ≡ byte_len read → Within read n
 all_within read n size = record { front = read; later = []; split = append-nil read; size = size }
 
 -- the logical line that was scanned
-given_line : (old mid new : Source) (stop : Stop) (has : HasScanned old stop) (end_len : ℕ) (u : List Piece) → IsLine (line_start (first_mode old.place)) mid.scan has.scans.read end_len u → mid.place ≡ old.place → mid.characters ≡ old.characters → mid.scan.line ≡ old.scan.line → PassesLine mid end_len new → line_of_source new ≡ line_of old.place old.line u
+given_line : (old mid new : Source) (stop : Stop) (has : HasScanned old stop) (end_len : ℕ) (u : List Piece) → IsLine (line_start (first_mode old.state.place)) mid.state.scan has.scans.read end_len u → mid.state.place ≡ old.state.place → mid.characters ≡ old.characters → mid.state.scan.line ≡ old.state.scan.line → PassesLine mid end_len new → line_of_source new ≡ line_of old.state.place old.state.line u
 given_line old mid new stop has end_len u line place characters same gives =
-    let start : new.start ≡ old.place = gives.start ∙ place in
-    let number : new.scan.line ≡ old.line = ap (λ (s : Scan). s.line) gives.scan ∙ same ∙ has.line in
-    let size : new.place - new.start ≡ byte_len has.scans.read = omega (arith, gives.place, gives.start, line.stop, place) in
-    let text : take (new.place - new.start) (drop new.start new.characters.now) ≡ encode_utf8_all (spelled u)
-    = ap (λ (n : ℕ). take n (drop new.start new.characters.now)) size ∙ ap (λ (n : ℕ). take (byte_len has.scans.read) (drop n new.characters.now)) start ∙ ap (λ (b : Bor (List ℕ)). take (byte_len has.scans.read) (drop old.place b.now)) (gives.characters ∙ characters)
+    let start : new.start ≡ old.state.place = gives.start ∙ place in
+    let number : new.state.scan.line ≡ old.state.line = ap (λ (s : LineState). s.scan.line) gives.state ∙ same ∙ has.line in
+    let size : new.state.place - new.start ≡ byte_len has.scans.read = omega (arith, ap (λ (s : LineState). s.place) gives.state, gives.start, line.stop, place) in
+    let text : take (new.state.place - new.start) (drop new.start new.characters.now) ≡ encode_utf8_all (spelled u)
+    = ap (λ (n : ℕ). take n (drop new.start new.characters.now)) size ∙ ap (λ (n : ℕ). take (byte_len has.scans.read) (drop n new.characters.now)) start ∙ ap (λ (b : Bor (List ℕ)). take (byte_len has.scans.read) (drop old.state.place b.now)) (gives.characters ∙ characters)
     ∙ ap (take (byte_len has.scans.read)) (sym has.scans.spell) ∙ take-append_seam (encode_utf8_all has.scans.read) has.scans.rest ∙ ap encode_utf8_all (sym line.spell) in
-    let kind = ap (λ (s : Scan). s.kind) gives.scan ∙ line.kind in
-    let tokens = ap (λ (s : Scan). s.tokens.items) gives.scan ∙ line.tokens ∙ ap (λ (n : ℕ). tokens_from 0 n u) (same ∙ has.line) in
-    let indent = ap (λ (s : Scan). s.indent) gives.scan ∙ line.indent in
+    let kind = ap (λ (s : LineState). s.scan.kind) gives.state ∙ line.kind in
+    let tokens = ap (λ (s : LineState). s.scan.tokens.items) gives.state ∙ line.tokens ∙ ap (λ (n : ℕ). tokens_from 0 n u) (same ∙ has.line) in
+    let indent = ap (λ (s : LineState). s.scan.indent) gives.state ∙ line.indent in
     let ends = gives.ends ∙ line.ends in
     λ i. record { kind = kind i; text = text i; tokens = tokens i; offset = start i; line = number i; indent = indent i; end_len = ends i }
 
 -- its tokens lie in it
-lie_in_line : (new : Source) (offset number : ℕ) (u : List Piece) → line_of_source new ≡ line_of offset number u → all_scalars (spelled u) ≡ true → EachLiesIn (line_of_source new).text new.scan.tokens.items
+lie_in_line : (new : Source) (offset number : ℕ) (u : List Piece) → line_of_source new ≡ line_of offset number u → all_scalars (spelled u) ≡ true → EachLiesIn (line_of_source new).text new.state.scan.tokens.items
 lie_in_line new offset number u is scalars = subst (λ (l : LogicalLine). EachLiesIn l.text l.tokens) (sym is) (tokens_lie number u scalars)
 
 -- one more line was given
-pub continues : (old mid new : Source) (stop : Stop) (has : HasScanned old stop) (end_len : ℕ) (u : List Piece) → IsLine (line_start (first_mode old.place)) mid.scan has.scans.read end_len u → mid.bytes ≡ old.bytes → mid.place ≡ old.place → mid.fault ≡ old.fault → mid.characters ≡ old.characters → mid.scan.line ≡ old.scan.line → PassesLine mid end_len new
+pub continues : (old mid new : Source) (stop : Stop) (has : HasScanned old stop) (end_len : ℕ) (u : List Piece) → IsLine (line_start (first_mode old.state.place)) mid.state.scan has.scans.read end_len u → mid.bytes ≡ old.bytes → mid.state.place ≡ old.state.place → mid.state.fault ≡ old.state.fault → mid.characters ≡ old.characters → mid.state.scan.line ≡ old.state.scan.line → PassesLine mid end_len new
     → ((lines : List LogicalLine) (s : Situation (reader_of old) old.characters.now lines has.scans.read has.scans.rest) → AreReadBefore u s.after)
     → ((lines : List LogicalLine) (s : Situation (reader_of old) old.characters.now lines has.scans.read has.scans.rest) → IsEnded u (s.after ++ s.given.first.tail ≡ []))
-    → Continues (reader_of old) (line_of_source new) (reader_of new) × EachLiesIn (line_of_source new).text new.scan.tokens.items
+    → Continues (reader_of old) (line_of_source new) (reader_of new) × EachLiesIn (line_of_source new).text new.state.scan.tokens.items
 continues old mid new stop has end_len u line bytes place fault characters same gives fit ended =
     let is = given_line old mid new stop has end_len u line place characters same gives in
     let size : length (line_of_source new).text ≡ byte_len has.scans.read = ap (λ (l : LogicalLine). length l.text) is ∙ ap byte_len line.spell in
     let text : new.bytes.now ≡ old.bytes.now = ap (λ (b : Bor (List ℕ)). b.now) (gives.bytes ∙ bytes) in
-    let here : new.place ≡ old.place + byte_len has.scans.read = gives.place ∙ ap (λ (n : ℕ). n + mid.scan.stop) place ∙ ap (λ (n : ℕ). old.place + n) line.stop in
-    let no_fault : new.fault ≡ None = gives.fault ∙ fault ∙ has.no_fault in
-    let reached : new.line ≡ old.line + line_ends has.scans.read = gives.line ∙ line.here ∙ ap (λ (n : ℕ). n + line_ends has.scans.read) (same ∙ has.line) in
+    let here : new.state.place ≡ old.state.place + byte_len has.scans.read = ap (λ (s : LineState). s.place) gives.state ∙ ap (λ (n : ℕ). n + mid.state.scan.stop) place ∙ ap (λ (n : ℕ). old.state.place + n) line.stop in
+    let no_fault : new.state.fault ≡ None = ap (λ (s : LineState). s.fault) gives.state ∙ fault ∙ has.no_fault in
+    let reached : new.state.line ≡ old.state.line + line_ends has.scans.read = ap (λ (s : LineState). s.line) gives.state ∙ line.here ∙ ap (λ (n : ℕ). n + line_ends has.scans.read) (same ∙ has.line) in
     let more : (lines : List LogicalLine) → HasGiven (reader_of old) lines → HasGiven (reader_of new) (lines ++ line_of_source new ∷ [])
     = λ lines given.
     let s = situation old stop lines has given in
     let base_fit = subst (AreReadBefore s.given.first.pieces) s.split s.given.first.fit in
-    let base = base_of old.place s.given.first.pieces (has.scans.read ++ s.after) base_fit s.ends s.given.first.here in
-    subst (λ (l : LogicalLine). HasGiven (reader_of new) (lines ++ l ∷ [])) (sym is) (one_more (reader_of old) (reader_of new) old.characters.now lines has.scans.read has.scans.rest u s line.spell (fit lines s) (follows_base old.place s.given.first.pieces u has.scans.read s.after line.to base line.spell (fit lines s) line.runs) line.stacked line.whole (ended lines s) text here reached no_fault) in (
+    let base = base_of old.state.place s.given.first.pieces (has.scans.read ++ s.after) base_fit s.ends s.given.first.here in
+    subst (λ (l : LogicalLine). HasGiven (reader_of new) (lines ++ l ∷ [])) (sym is) (one_more (reader_of old) (reader_of new) old.characters.now lines has.scans.read has.scans.rest u s line.spell (fit lines s) (follows_base old.state.place s.given.first.pieces u has.scans.read s.after line.to base line.spell (fit lines s) line.runs) line.stacked line.whole (ended lines s) text here reached no_fault) in (
       record {
         given = more;
         begins = λ lines given. given_begin (reader_of new) (lines ++ line_of_source new ∷ []) (more lines given);
         text = text;
-        place = here ∙ ap (λ (n : ℕ). old.place + n) (sym size);
+        place = here ∙ ap (λ (n : ℕ). old.state.place + n) (sym size);
         some_text = omega (arith, size, line.some);
         within = omega (arith, new.within, ap length new.front, length-take (length new.characters.now) new.bytes.now);
         fault = has.no_fault;
         no_fault = no_fault;
       },
-      lie_in_line new old.place old.line u is (ap all_scalars line.spell ∙ has.scans.scalars),
+      lie_in_line new old.state.place old.state.line u is (ap all_scalars line.spell ∙ has.scans.scalars),
     )
 
 -- the bytes of the line end after pieces
@@ -169,22 +171,22 @@ line_at_end m scan read rest len at after is =
       some = omega (arith, ap byte_len (sym at.spell ∙ spelled-append at.body (at.last ∷ [])), byte_len-append (spelled at.body) (at.last.text ++ []), ap byte_len (append-nil at.last.text), first_bytes at.last at.are.class (AreReadBefore-second at.body (at.last ∷ []) after (at.fit after is)).0);
     }
 
-pub line_ended : (old : Source) (len : ℕ) (has : HasScanned old (stops.LineEnd len)) → IsLine (line_start (first_mode old.place)) old.scan has.scans.read len (has.scans.stops.body ++ has.scans.stops.last ∷ [])
-line_ended old len has = line_at_end (first_mode old.place) old.scan has.scans.read has.scans.rest len has.scans.stops (has_after old len has) (after_is old len has)
+pub line_ended : (old : Source) (len : ℕ) (has : HasScanned old (stops.LineEnd len)) → IsLine (line_start (first_mode old.state.place)) old.state.scan has.scans.read len (has.scans.stops.body ++ has.scans.stops.last ∷ [])
+line_ended old len has = line_at_end (first_mode old.state.place) old.state.scan has.scans.read has.scans.rest len has.scans.stops (has_after old len has) (after_is old len has)
 
 -- a line that its line end closed
-pub continues_line : (old new : Source) (len : ℕ) (has : HasScanned old (stops.LineEnd len)) → PassesLine old len new → Continues (reader_of old) (line_of_source new) (reader_of new) × EachLiesIn (line_of_source new).text new.scan.tokens.items
+pub continues_line : (old new : Source) (len : ℕ) (has : HasScanned old (stops.LineEnd len)) → PassesLine old len new → Continues (reader_of old) (line_of_source new) (reader_of new) × EachLiesIn (line_of_source new).text new.state.scan.tokens.items
 continues_line old new len has gives =
     let at = has.scans.stops in
     continues old old new (stops.LineEnd len) has len (at.body ++ at.last ∷ []) (line_ended old len has) refl refl refl refl refl gives (λ lines s. at.fit s.after s.follow) (λ lines s. IsEnded.by_line at.body at.last refl at.are.class at.are.level)
 
-pub few_lines_line : (old : Source) (len : ℕ) (has : HasScanned old (stops.LineEnd len)) → old.scan.count.line ≤ old.place + old.scan.stop + 1
+pub few_lines_line : (old : Source) (len : ℕ) (has : HasScanned old (stops.LineEnd len)) → old.state.scan.count.line ≤ old.state.place + old.state.scan.stop + 1
 few_lines_line old len has =
     let line = line_ended old len has in
     omega (arith, line.here, line.stop, line_ends-bytes has.scans.read, has.line, old.few_lines)
 
 -- a reader at the text's start has given no line
-pub start_given : (s : Source) → s.place ≡ 0 → s.line ≡ 1 → s.fault ≡ None → HasGiven (reader_of s) []
+pub start_given : (s : Source) → s.state.place ≡ 0 → s.state.line ≡ 1 → s.state.fault ≡ None → HasGiven (reader_of s) []
 start_given s place line fault =
     let utf8 = IsUtf8-had _ s.text in
     record {

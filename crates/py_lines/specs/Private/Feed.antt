@@ -11,8 +11,8 @@ use Rattle.py_lines.specs.Given.{AreFirstLines}
 use Rattle.py_lines.specs.Scanning.{GoesOnWith, IsScanning, HoldsReady, fed_of, ready_lines}
 use Rattle.py_lines.specs.Scanning.View.{line_of_feed, ready_of, scanning_of}
 use Rattle.py_lines.specs.Private.Machine.{step, character_kind}
-use Rattle.py_lines.specs.Private.Scan.{ScansIn, Tallies, IsStacked, Closes, IsUnderWay, IsAtLineEnd, line_start, stack_if, is_returned, refused_place, EndsWhole}
-use Rattle.py_lines.specs.Private.Source.{first_mode}
+use Rattle.py_lines.specs.Private.Scan.{ScansIn, Closes, IsUnderWay, IsAtLineEnd, stack_if, is_returned, refused_place, EndsWhole}
+use Rattle.py_lines.specs.Private.LineState.{BeginsAnew, KeepsFault, first_mode}
 use Rattle.py_lines.specs.declared.fault.Fault.{Fault}
 use Rattle.py_lines.specs.declared.fault.FaultKind.{FaultKind}
 use Rattle.py_lines.specs.declared.fault.FaultKind.TheVariants.{BadUtf8}
@@ -31,57 +31,52 @@ TellsHopeless bytes false = ¬ (IsHopeless bytes)
 -- all but the scan and the fault is as it was
 pub record KeepsText (old new : Feed) : Type 0 where
   pub held : new.held ≡ old.held
-  pub place : new.place ≡ old.place
-  pub line : new.line ≡ old.line
+  pub place : new.state.place ≡ old.state.place
+  pub line : new.state.line ≡ old.state.line
   pub ended : new.ended ≡ old.ended
 
 -- the scan of the line is begun anew
 pub record Restarts (old new : Feed) : Type 0 where
-  pub text : KeepsText old new
-  pub ready : new.ready ≡ old.ready
-  pub fault : new.fault ≡ old.fault
-  pub tallies : Tallies new.scan (line_start (first_mode old.place))
-  pub stacked : IsStacked new.scan (line_start (first_mode old.place))
-  pub number : new.scan.line ≡ old.line
+  pub same : new ≡ record old { state = new.state }
+  pub begins : BeginsAnew old.state new.state
+
+-- so many bytes more can be held, and no place and no line leaves its integer type
+pub record HasRoom (f : Feed) (more : ℕ) : Type 0 where
+  pub fits : f.state.place + length f.held.items + more ≤ 2 ^ 62
+  pub few_lines : f.state.line ≤ f.state.place + 1
 
 -- what is held begins with these characters of a line that is open, and then come these bytes
 pub record IsOpen (f : Feed) (read rest : List ℕ) : Type 0 where
   pub scalars : all_scalars read ≡ true
   pub spell : encode_utf8_all read ++ rest ≡ f.held.items
-  pub way : IsUnderWay (first_mode f.place) f.scan read
-  pub number : f.scan.line ≡ f.line
+  pub way : IsUnderWay (first_mode f.state.place) f.state.scan read
+  pub number : f.state.scan.line ≡ f.state.line
 
 -- What is held begins with these characters of a line that its line end has closed, whatever follows except LF after
 -- CR, and then come these bytes.
 pub record IsEnded (f : Feed) (end_len : ℕ) (read rest : List ℕ) : Type 0 where
   pub scalars : all_scalars read ≡ true
   pub spell : encode_utf8_all read ++ rest ≡ f.held.items
-  pub at : (after : List ℕ) → (ends is_return read ≡ true → begins is_line_feed after ≡ false) → IsAtLineEnd (first_mode f.place) f.scan read (encode_utf8_all after) end_len
-  pub number : f.scan.line ≡ f.line
+  pub at : (after : List ℕ) → (ends is_return read ≡ true → begins is_line_feed after ≡ false) → IsAtLineEnd (first_mode f.state.place) f.state.scan read (encode_utf8_all after) end_len
+  pub number : f.state.scan.line ≡ f.state.line
 
 -- the text has this fault from now on: so many bytes after the lines released
 pub record FailsAt (old : Feed) (kind : FaultKind) (behind : ℕ) (error : LexError) (new : Feed) : Type 0 where
-  pub fault : Fault
-  pub error_is : error ≡ lex.Fault fault
-  pub is : fault.kind ≡ kind
-  pub at : fault.offset ≡ old.place + behind
-  pub number : (front : List ℕ) → encode_utf8_all front ≡ take behind old.held.items → fault.line ≡ old.line + line_ends front
-  pub text : KeepsText old new
-  pub ready : new.ready ≡ old.ready
-  pub kept : new.fault ≡ Some fault
+  pub same : new ≡ record old { state = new.state }
+  pub keeps : KeepsFault old.state kind behind (take behind old.held.items) error new.state
 
 -- what closing the open piece, and with it the line, comes to
 abbrev pub ClosesLine : Feed → ℕ → Result (Unit {0}) LexError → Feed → Type 0
-ClosesLine old end_len (Ok done) new = KeepsText old new × (new.ready ≡ Some end_len) × (new.fault ≡ old.fault) × Closes old.scan new.scan
+ClosesLine old end_len (Ok done) new = KeepsText old new × (new.ready ≡ Some end_len) × (new.state.fault ≡ old.state.fault) × Closes old.state.scan new.state.scan
 ClosesLine old end_len (Err (lex.Fault f)) new = ⊥
 ClosesLine old end_len (Err lex.Memory) new = Restarts old new
 
 -- the line that is open in what is held may not go on with this character
 pub record Refuses (old : Feed) (read : List ℕ) (c : ℕ) (error : LexError) (new : Feed) : Type 0 where
-  pub way : IsUnderWay (first_mode old.place) old.scan read
+  pub way : IsUnderWay (first_mode old.state.place) old.state.scan read
   pub refuses : stack_if (step way.state c) ≡ None
-  pub not_yet : is_returned old.scan && not (is_line_feed c) ≡ false
-  pub fails : FailsAt old (character_kind old.scan.piece.mode c) (refused_place old.scan) error new
+  pub not_yet : is_returned old.state.scan && not (is_line_feed c) ≡ false
+  pub fails : FailsAt old (character_kind old.state.scan.piece.mode c) (refused_place old.state.scan) error new
 
 -- a line has ended in what is held
 pub record EndsLineHeld (end_len : ℕ) (new : Feed) : Type 0 where
@@ -94,27 +89,27 @@ pub record EndsLineHeld (end_len : ℕ) (new : Feed) : Type 0 where
 pub record IsPart (f : Feed) (rest : List ℕ) : Type 0 where
   pub none : StartsWithNoChar rest
   pub more : ¬ (IsHopeless rest)
-  pub last : is_returned f.scan ≡ true → rest ≡ []
+  pub last : is_returned f.state.scan ≡ true → rest ≡ []
 
 -- the fault of what is held next: a character that is refused, or bytes that begin none
 pub data FailsNext (old : Feed) (read rest : List ℕ) (error : LexError) (new : Feed) : Type 0 where
   at_character : (c : ℕ) (after : List ℕ) → IsScalar c → rest ≡ encode_utf8 c ++ after → Refuses old read c error new → FailsNext old read rest error new
-  at_bytes : IsUnderWay (first_mode old.place) old.scan read → IsHopeless rest → is_returned old.scan ≡ false → FailsAt old BadUtf8 old.scan.stop error new → FailsNext old read rest error new
+  at_bytes : IsUnderWay (first_mode old.state.place) old.state.scan read → IsHopeless rest → is_returned old.state.scan ≡ false → FailsAt old BadUtf8 old.state.scan.stop error new → FailsNext old read rest error new
 
 -- where the scan of what is held stops, and what is left there
 abbrev pub StopsHeld : Feed → Stop → List ℕ → List ℕ → Type 0
 StopsHeld f stops.TextEnd read rest = IsOpen f read rest × StartsWithNoChar rest
 StopsHeld f (stops.LineEnd len) read rest = IsEnded f len read rest × EndsWhole read rest
-StopsHeld f (stops.Refused c) read rest = (opens : IsOpen f read rest) × (after : List ℕ) × IsScalar c × (rest ≡ encode_utf8 c ++ after) × (stack_if (step opens.way.state c) ≡ None) × (is_returned f.scan && not (is_line_feed c) ≡ false)
+StopsHeld f (stops.Refused c) read rest = (opens : IsOpen f read rest) × (after : List ℕ) × IsScalar c × (rest ≡ encode_utf8 c ++ after) × (stack_if (step opens.way.state c) ≡ None) × (is_returned f.state.scan && not (is_line_feed c) ≡ false)
 
 -- nothing is held, and the scan of these bytes, which come next, has stopped so
 pub record HasScannedNext (f : Feed) (chunk : List ℕ) (stop : Stop) : Type 0 where
   pub none_held : f.held.items ≡ []
-  pub stops : ScansIn (first_mode f.place) f.line chunk f.scan stop
+  pub stops : ScansIn (first_mode f.state.place) f.state.line chunk f.state.scan stop
 
 -- what a scan of the characters that are held answers and leaves
 abbrev pub ScansCharacters : Feed → Result Stop LexError → Feed → Type 0
-ScansCharacters old (Ok stop) new = KeepsText old new × (new.ready ≡ old.ready) × (new.fault ≡ old.fault) × ((read : List ℕ) × (rest : List ℕ) × StopsHeld new stop read rest)
+ScansCharacters old (Ok stop) new = KeepsText old new × (new.ready ≡ old.ready) × (new.state.fault ≡ old.state.fault) × ((read : List ℕ) × (rest : List ℕ) × StopsHeld new stop read rest)
 ScansCharacters old (Err (lex.Fault f)) new = ⊥
 ScansCharacters old (Err lex.Memory) new = Restarts old new
 
@@ -135,7 +130,7 @@ pub record FailsHeld (old : Feed) (error : LexError) (new : Feed) : Type 0 where
 
 -- what a scan of what is held answers and leaves
 abbrev pub ScansHeld : Feed → Result (Unit {0}) LexError → Feed → Type 0
-ScansHeld old (Ok done) new = KeepsText old new × (new.fault ≡ old.fault) × IsScanned new.ready new
+ScansHeld old (Ok done) new = KeepsText old new × (new.state.fault ≡ old.state.fault) × IsScanned new.ready new
 ScansHeld old (Err (lex.Fault f)) new = FailsHeld old (lex.Fault f) new
 ScansHeld old (Err lex.Memory) new = Restarts old new
 
@@ -147,15 +142,15 @@ IsHeldSo (Some end_len) f = EndsLineHeld end_len f
 -- these bytes more are held, and nothing else is said of the scan
 pub record HoldsMore (old : Feed) (bytes : List ℕ) (new : Feed) : Type 0 where
   pub held : new.held.items ≡ old.held.items ++ bytes
-  pub place : new.place ≡ old.place
-  pub line : new.line ≡ old.line
+  pub place : new.state.place ≡ old.state.place
+  pub line : new.state.line ≡ old.state.line
   pub ended : new.ended ≡ old.ended
 
 -- nothing that contracts see has changed, and the scan may go on
 pub record IsUnchanged (old new : Feed) : Type 0 where
   pub same : HoldsMore old [] new
   pub ready : new.ready ≡ old.ready
-  pub fault : new.fault ≡ old.fault
+  pub fault : new.state.fault ≡ old.state.fault
   pub state : IsHeldSo new.ready new
 
 -- after a line's end nothing is held, or after CR one byte, which is no LF
@@ -184,10 +179,10 @@ pub record GivesBack (old : Feed) (before : ℕ) (new : Feed) : Type 0 where
   pub more : before < kept
   pub within : kept ≤ length old.held.items
   pub held : new.held.items ≡ take kept old.held.items
-  pub place : new.place ≡ old.place
-  pub line : new.line ≡ old.line
+  pub place : new.state.place ≡ old.state.place
+  pub line : new.state.line ≡ old.state.line
   pub ended : new.ended ≡ old.ended
-  pub fault : new.fault ≡ old.fault
+  pub fault : new.state.fault ≡ old.state.fault
   pub stops : EndsAfter (take before old.held.items) new.ready new
 
 -- some of these bytes were taken
@@ -195,7 +190,7 @@ pub record TakesOf (old : Feed) (chunk : List ℕ) (n : ℕ) (new : Feed) : Type
   pub some : 0 < n
   pub within : n ≤ length chunk
   pub more : HoldsMore old (take n chunk) new
-  pub fault : new.fault ≡ old.fault
+  pub fault : new.state.fault ≡ old.state.fault
   pub stops : EndsAfter old.held.items new.ready new
 
 -- with these bytes the scan of what is held meets a fault
@@ -219,20 +214,19 @@ pub record IsReady (f : Feed) (end_len : ℕ) : Type 0 where
   pub scalars : all_scalars read ≡ true
   pub spell : encode_utf8_all read ++ rest ≡ f.held.items
   pub spells : spelled pieces ≡ read
-  pub line_is : line_of_feed f end_len ≡ line_of f.place f.line pieces
-  pub stop : f.scan.stop ≡ byte_len read
-  pub here : f.scan.count.line ≡ f.line + line_ends read
+  pub line_is : line_of_feed f end_len ≡ line_of f.state.place f.state.line pieces
+  pub stop : f.state.scan.stop ≡ byte_len read
+  pub here : f.state.scan.count.line ≡ f.state.line + line_ends read
   pub some : 0 < byte_len read
 
 -- a line is ready, or else one is open in what is held, unless the text has a fault
 abbrev pub StandsSo : Option ℕ → Feed → Type 0
-StandsSo None f = f.fault ≡ None → IsHeldSo None f
+StandsSo None f = f.state.fault ≡ None → IsHeldSo None f
 StandsSo (Some end_len) f = IsReady f end_len
 
 -- the state between two calls
 pub record IsSoundFeed (f : Feed) : Type 0 where
-  pub fits : f.place + length f.held.items ≤ 2 ^ 62
-  pub few_lines : f.line ≤ f.place + 1
+  pub room : HasRoom f 0
   pub state : StandsSo f.ready f
 
 -- The bytes of a piece that were taken last, up to the first n, with which a line has got ready. Before them, either
@@ -258,7 +252,7 @@ pub record TakesSome (old : Feed) (piece : List ℕ) (n : ℕ) (new : Feed) : Ty
   pub within : n ≤ length piece
   pub some : n ≡ 0 → piece ≡ []
   pub more : HoldsMore old (take n piece) new
-  pub fault : new.fault ≡ old.fault
+  pub fault : new.state.fault ≡ old.state.fault
   pub stops : StopsTaking old piece n new.ready new
 
 -- a line is ready: no byte was taken
@@ -279,31 +273,31 @@ pub record FailsPiece (old : Feed) (piece : List ℕ) (error : LexError) (new : 
 
 -- what a call that is fed a piece answers and leaves
 abbrev pub FeedsSo : Feed → List ℕ → Result ℕ LexError → Feed → Type 0
-FeedsSo old piece (Ok n) new = (old.fault ≡ None) × (Waits old n new ⊎ TakesSome old piece n new)
-FeedsSo old piece (Err (lex.Fault f)) new = ((old.fault ≡ Some f) × (new ≡ old)) ⊎ ((old.fault ≡ None) × FailsPiece old piece (lex.Fault f) new)
-FeedsSo old piece (Err lex.Memory) new = (old.fault ≡ None) × (old.ready ≡ None) × IsUnchanged old new
+FeedsSo old piece (Ok n) new = (old.state.fault ≡ None) × (Waits old n new ⊎ TakesSome old piece n new)
+FeedsSo old piece (Err (lex.Fault f)) new = ((old.state.fault ≡ Some f) × (new ≡ old)) ⊎ ((old.state.fault ≡ None) × FailsPiece old piece (lex.Fault f) new)
+FeedsSo old piece (Err lex.Memory) new = (old.state.fault ≡ None) × (old.ready ≡ None) × IsUnchanged old new
 
 -- the text ends with what is held, after the lines released
 pub record EndsWith (f : Feed) (text : List ℕ) (lines : List LogicalLine) : Type 0 where
-  pub first : AreFirstLines text f.place f.line lines
-  pub held : GoesOnWith text f.place f.held.items
-  pub whole : length text ≡ f.place + length f.held.items
+  pub first : AreFirstLines text f.state.place f.state.line lines
+  pub held : GoesOnWith text f.state.place f.held.items
+  pub whole : length text ≡ f.state.place + length f.held.items
 
 -- what is held is the text's last line, which is ready now
 pub record IsLastLine (old new : Feed) : Type 0 where
   pub text : KeepsText old new
-  pub fault : new.fault ≡ old.fault
+  pub fault : new.state.fault ≡ old.state.fault
   pub end_len : ℕ
   pub is_ready : new.ready ≡ Some end_len
   pub ready : IsReady new end_len
-  pub all : new.scan.stop ≡ length new.held.items
+  pub all : new.state.scan.stop ≡ length new.held.items
   pub lexed : (text : List ℕ) (lines : List LogicalLine) → EndsWith old text lines → IsLexed text (lines ++ line_of_feed new end_len ∷ []) None
 
 -- the text that ends with what is held has this fault, which is kept
 pub record IsEndFault (old : Feed) (fault : Fault) (new : Feed) : Type 0 where
   pub text : KeepsText old new
   pub none_ready : new.ready ≡ None
-  pub kept : new.fault ≡ Some fault
+  pub kept : new.state.fault ≡ Some fault
   pub lexed : (text : List ℕ) (lines : List LogicalLine) → EndsWith old text lines → IsLexed text lines (Some fault)
 
 -- what a call that ends the text after what is held answers and leaves
@@ -315,7 +309,7 @@ EndsHeld old (Err lex.Memory) new = Restarts old new
 -- the text ends with what is held, and has no fault there: the line that is ready now, if one is, is its last
 pub record HasEndedText (old new : Feed) : Type 0 where
   pub text : KeepsText old new
-  pub fault : new.fault ≡ old.fault
+  pub fault : new.state.fault ≡ old.state.fault
   pub state : StandsSo new.ready new
   pub lexed : (text : List ℕ) (lines : List LogicalLine) → IsScanning (scanning_of old) text lines → length text ≡ fed_of (scanning_of old) → IsLexed text (lines ++ ready_lines (ready_of new new.ready)) None × HoldsReady new.held.items (ready_of new new.ready)
 
@@ -327,10 +321,10 @@ EndsText old (Err lex.Memory) new = Restarts old new
 
 -- the line that was ready is let go: what is held begins after it, and so does the scan of the next line
 pub record LetsGo (old new : Feed) : Type 0 where
-  pub place : new.place ≡ old.place + old.scan.stop
-  pub line : new.line ≡ old.scan.count.line
-  pub held : new.held.items ≡ drop old.scan.stop old.held.items
+  pub place : new.state.place ≡ old.state.place + old.state.scan.stop
+  pub line : new.state.line ≡ old.state.scan.count.line
+  pub held : new.held.items ≡ drop old.state.scan.stop old.held.items
   pub ready : new.ready ≡ None
   pub ended : new.ended ≡ old.ended
-  pub fault : new.fault ≡ old.fault
+  pub fault : new.state.fault ≡ old.state.fault
   pub opens : IsOpen new [] new.held.items

@@ -4,4 +4,4 @@ use Rattle.py_lines.specs.declared.source.Source.{Source}
 
 -- the text, the byte and line up to which lines were given, and the fault that was met
 abbrev pub reader_of : Source → Reader
-reader_of s = record { text = s.bytes.now; place = s.place; line = s.line; fault = s.fault }
+reader_of s = record { text = s.bytes.now; place = s.state.place; line = s.state.line; fault = s.state.fault }

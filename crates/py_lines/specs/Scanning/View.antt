@@ -2,19 +2,12 @@
 use Rattle.std.specs.Prelude.{ℕ, Option, None, Some, take}
 use Rattle.py_lines.specs.LogicalLine.{LogicalLine}
 use Rattle.py_lines.specs.Scanning.{Scanning}
+use Rattle.py_lines.specs.Private.LineState.{scanned_line}
 use Rattle.py_lines.specs.declared.feed.Feed.{Feed}
 
 -- the line that a scan has closed, with so many bytes of line end
 abbrev pub line_of_feed : Feed → ℕ → LogicalLine
-line_of_feed f end_len = record {
-  kind = f.scan.kind;
-  text = take f.scan.stop f.held.items;
-  tokens = f.scan.tokens.items;
-  offset = f.place;
-  line = f.scan.line;
-  indent = f.scan.indent;
-  end_len = end_len;
-}
+line_of_feed f end_len = scanned_line f.state.scan (take f.state.scan.stop f.held.items) f.state.place end_len
 
 -- the same, where a line is ready
 abbrev pub ready_of : Feed → Option ℕ → Option LogicalLine
@@ -23,4 +16,4 @@ ready_of f (Some end_len) = Some (line_of_feed f end_len)
 
 -- the byte and line up to which lines were released, the text since, the line that is ready, and the fault
 abbrev pub scanning_of : Feed → Scanning
-scanning_of f = record { place = f.place; line = f.line; held = f.held.items; ready = ready_of f f.ready; ended = f.ended; fault = f.fault }
+scanning_of f = record { place = f.state.place; line = f.state.line; held = f.held.items; ready = ready_of f f.ready; ended = f.ended; fault = f.state.fault }

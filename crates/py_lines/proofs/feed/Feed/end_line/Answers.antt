@@ -40,20 +40,6 @@ fail-requires-in-Some-clause-text c =
     let f = c.args.self.now in
     (within_held f o.0 o.1 o.2 c.in-Some.flaw.place (unfinished_within f o.0 o.1 o.2 c.in-Some.flaw.place c.in-Some.ensures.1)).2
 
-pub fail-requires-in-Some-clause-bytes : goal.fail-requires-in-Some-clause-bytes
-fail-requires-in-Some-clause-bytes c =
-    let o = c.requires.scanned in
-    let f = c.args.self.now in
-    let w = within_held f o.0 o.1 o.2 c.in-Some.flaw.place (unfinished_within f o.0 o.1 o.2 c.in-Some.flaw.place c.in-Some.ensures.1) in
-    omega (arith, w.0, open_size f o.0 o.1 o.2, c.requires.fits)
-
-pub fail-requires-in-Some-clause-lines : goal.fail-requires-in-Some-clause-lines
-fail-requires-in-Some-clause-lines c =
-    let o = c.requires.scanned in
-    let f = c.args.self.now in
-    let w = within_held f o.0 o.1 o.2 c.in-Some.flaw.place (unfinished_within f o.0 o.1 o.2 c.in-Some.flaw.place c.in-Some.ensures.1) in
-    omega (arith, w.0, open_size f o.0 o.1 o.2, c.requires.fits, c.requires.few_lines)
-
 pub returns-in-Some : goal.returns-in-Some
 returns-in-Some c =
     let o = c.requires.scanned in

@@ -6,7 +6,7 @@ abbrev pub invariant-loop-taken : goal.invariant-loop-taken
 invariant-loop-taken l = record {
   within : l.taken ≤ length l.piece;
   more : HoldsMore l.fn.self (take l.taken l.piece) l.self;
-  fault : l.self.fault ≡ l.fn.self.fault;
+  fault : l.self.state.fault ≡ l.fn.self.state.fault;
   begun : l.taken ≡ 0 → 0 < length l.piece → l.self ≡ l.fn.self;
   scanned : (l.taken ≡ 0 → l.piece ≡ []) → IsScanned l.self.ready l.self;
   last : (end_len : ℕ) → 0 < l.taken → l.self.ready ≡ Some end_len → IsLastChunk l.fn.self l.piece l.taken end_len l.self;

@@ -12,7 +12,7 @@ fail-requires-clause-within c =
     let f = c.args.self.now in
     let s = subst (λ (t : Stop). (read : List ℕ) × (rest : List ℕ) × StopsHeld f t read rest) c.in-Refused.is c.requires.stops in
     let o = s.2.0 in
-    let w = within_held f s.0 s.1 o (refused_place f.scan) (refused_held f s.0 s.1 o) in
+    let w = within_held f s.0 s.1 o (refused_place f.state.scan) (refused_held f s.0 s.1 o) in
     omega (arith, w.0, open_size f s.0 s.1 o, c.refusal-flaw.ensures.place)
 
 pub fail-requires-clause-text : goal.fail-requires-clause-text
@@ -20,24 +20,8 @@ fail-requires-clause-text c =
     let f = c.args.self.now in
     let s = subst (λ (t : Stop). (read : List ℕ) × (rest : List ℕ) × StopsHeld f t read rest) c.in-Refused.is c.requires.stops in
     let o = s.2.0 in
-    let w = within_held f s.0 s.1 o (refused_place f.scan) (refused_held f s.0 s.1 o) in
+    let w = within_held f s.0 s.1 o (refused_place f.state.scan) (refused_held f s.0 s.1 o) in
     subst (λ (n : ℕ). IsUtf8 (take n f.held.items)) (sym c.refusal-flaw.ensures.place) w.2
-
-pub fail-requires-clause-bytes : goal.fail-requires-clause-bytes
-fail-requires-clause-bytes c =
-    let f = c.args.self.now in
-    let s = subst (λ (t : Stop). (read : List ℕ) × (rest : List ℕ) × StopsHeld f t read rest) c.in-Refused.is c.requires.stops in
-    let o = s.2.0 in
-    let w = within_held f s.0 s.1 o (refused_place f.scan) (refused_held f s.0 s.1 o) in
-    omega (arith, w.0, open_size f s.0 s.1 o, c.refusal-flaw.ensures.place, c.requires.fits)
-
-pub fail-requires-clause-lines : goal.fail-requires-clause-lines
-fail-requires-clause-lines c =
-    let f = c.args.self.now in
-    let s = subst (λ (t : Stop). (read : List ℕ) × (rest : List ℕ) × StopsHeld f t read rest) c.in-Refused.is c.requires.stops in
-    let o = s.2.0 in
-    let w = within_held f s.0 s.1 o (refused_place f.scan) (refused_held f s.0 s.1 o) in
-    omega (arith, w.0, open_size f s.0 s.1 o, c.refusal-flaw.ensures.place, c.requires.fits, c.requires.few_lines)
 
 pub returns-in-Refused : goal.returns-in-Refused
 returns-in-Refused c =

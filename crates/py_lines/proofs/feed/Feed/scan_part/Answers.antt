@@ -23,7 +23,7 @@ returns-then-is_returned c =
     let size : 0 < length o.1 = ⊎_elim
     (λ less. omega (arith, open_stop f o.0 o.1 o.2, open_size f o.0 o.1 o.2, c.len.ensures, less))
     (λ past. absurd (c.if-self-len.false (omega (arith, open_stop f o.0 o.1 o.2, open_size f o.0 o.1 o.2, c.len.ensures, past))))
-    (cases_lt f.scan.stop c.len.result) in
+    (cases_lt f.state.scan.stop c.len.result) in
     closes_held f c.close.new.self c.close.result o.0 o.1 o.2 size o.3 (sym c.is_returned.ensures ∙ c.if-is_returned.true) c.close.ensures
 
 pub slice_bounds-is_hopeless-count : goal.slice_bounds-is_hopeless-count
@@ -50,17 +50,7 @@ pub fail-requires-clause-text : goal.fail-requires-clause-text
 fail-requires-clause-text c =
     let o = c.requires.opens in
     let f = c.args.self.now in
-    (within_held f o.0 o.1 o.2 f.scan.stop (all_within o.0 f.scan.stop (open_stop f o.0 o.1 o.2))).2
-
-pub fail-requires-clause-bytes : goal.fail-requires-clause-bytes
-fail-requires-clause-bytes c =
-    let o = c.requires.opens in
-    omega (arith, open_stop c.args.self.now o.0 o.1 o.2, open_size c.args.self.now o.0 o.1 o.2, c.requires.fits)
-
-pub fail-requires-clause-lines : goal.fail-requires-clause-lines
-fail-requires-clause-lines c =
-    let o = c.requires.opens in
-    omega (arith, open_stop c.args.self.now o.0 o.1 o.2, open_size c.args.self.now o.0 o.1 o.2, c.requires.fits, c.requires.few_lines)
+    (within_held f o.0 o.1 o.2 f.state.scan.stop (all_within o.0 f.state.scan.stop (open_stop f o.0 o.1 o.2))).2
 
 pub returns-then-is_hopeless : goal.returns-then-is_hopeless
 returns-then-is_hopeless c =

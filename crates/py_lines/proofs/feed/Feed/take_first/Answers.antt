@@ -1,5 +1,5 @@
 use Rattle.std.proofs.Common.{length, ap, arith}
-use Rattle.py_lines.specs.Private.Source.{first_mode}
+use Rattle.py_lines.specs.Private.LineState.{first_mode}
 use Rattle.py_lines.proofs.LineScan.TextRun.{begun_sound}
 use Rattle.py_lines.proofs.Feeds.Steps.{open_stop, open_size}
 use Rattle.py_lines.proofs.Feeds.Characters.{reached_next}
@@ -10,25 +10,25 @@ pub extend-requires-clause-way : goal.extend-requires-clause-way
 extend-requires-clause-way c =
     let o = c.requires.opens in
     let f = c.args.self.now in
-    (first_mode f.place, f.line, c.args.chunk.now, begun_sound f.place, reached_next f o.0 o.1 c.args.chunk.now o.2 c.requires.none_held)
+    (first_mode f.state.place, f.state.line, c.args.chunk.now, begun_sound f.state.place, reached_next f o.0 o.1 c.args.chunk.now o.2 c.requires.none_held)
 
 pub extend-requires-clause-bytes : goal.extend-requires-clause-bytes
 extend-requires-clause-bytes c =
     let o = c.requires.opens in
     let f = c.args.self.now in
-    omega (arith, open_stop f o.0 o.1 o.2, open_size f o.0 o.1 o.2, ap length c.requires.none_held, c.requires.fits)
+    omega (arith, open_stop f o.0 o.1 o.2, open_size f o.0 o.1 o.2, ap length c.requires.none_held, c.requires.room.fits)
 
 pub extend-requires-clause-lines : goal.extend-requires-clause-lines
 extend-requires-clause-lines c =
     let o = c.requires.opens in
     let f = c.args.self.now in
-    omega (arith, open_stop f o.0 o.1 o.2, open_size f o.0 o.1 o.2, o.2.number, ap length c.requires.none_held, c.requires.fits, c.requires.few_lines)
+    omega (arith, open_stop f o.0 o.1 o.2, open_size f o.0 o.1 o.2, o.2.number, ap length c.requires.none_held, c.requires.room.fits, c.requires.room.few_lines)
 
 pub take_scanned-requires-clause-scanned : goal.take_scanned-requires-clause-scanned
 take_scanned-requires-clause-scanned c =
     let o = c.requires.opens in
     let f = c.args.self.now in
-    record { none_held = c.requires.none_held; stops = c.in-Ok.ensures.stops (first_mode f.place) f.line c.args.chunk.now (begun_sound f.place) (reached_next f o.0 o.1 c.args.chunk.now o.2 c.requires.none_held) }
+    record { none_held = c.requires.none_held; stops = c.in-Ok.ensures.stops (first_mode f.state.place) f.state.line c.args.chunk.now (begun_sound f.state.place) (reached_next f o.0 o.1 c.args.chunk.now o.2 c.requires.none_held) }
 
 pub returns-in-Ok : goal.returns-in-Ok
 returns-in-Ok c = rescanned_taken c.args.self.now c.take_scanned.new.self c.extend.new.self c.args.chunk.now c.take_scanned.result c.take_scanned.ensures

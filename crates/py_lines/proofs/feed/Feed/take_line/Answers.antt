@@ -1,6 +1,6 @@
 use Rattle.std.proofs.Common.{Some, length, refl, sym, ap, ◌∙◌, arith, length-append}
 use Rattle.std.specs.Prelude.{encode_utf8_all}
-use Rattle.py_lines.specs.Private.Source.{first_mode}
+use Rattle.py_lines.specs.Private.LineState.{first_mode}
 use Rattle.py_lines.proofs.Feeds.GivenBack.{end_within, line_ended, line_taken}
 use Rattle.py_lines.proofs.feed.Feed.take_line.Goals as goal
 
@@ -9,13 +9,13 @@ whole_end-len-requires c =
     let f = c.args.self.now in
     let s = c.requires.scanned.stops in
     let size = ap length (sym s.spell) ∙ length-append (encode_utf8_all s.read) s.rest in
-    omega (arith, c.requires.fits, (line_ended (first_mode f.place) f.scan c.args.chunk.now s.read s.rest c.args.end_len s.spell s.stops.0 s.stops.1).stop, size)
+    omega (arith, c.requires.fits, (line_ended (first_mode f.state.place) f.state.scan c.args.chunk.now s.read s.rest c.args.end_len s.spell s.stops.0 s.stops.1).stop, size)
 
 pub hold_first-requires : goal.hold_first-requires
 hold_first-requires c =
     let f = c.args.self.now in
     let s = c.requires.scanned.stops in
-    omega (arith, c.whole_end-len.ensures, end_within (first_mode f.place) f.scan c.args.chunk.now s.read s.rest c.args.end_len s.spell s.stops.0 s.stops.1)
+    omega (arith, c.whole_end-len.ensures, end_within (first_mode f.state.place) f.state.scan c.args.chunk.now s.read s.rest c.args.end_len s.spell s.stops.0 s.stops.1)
 
 pub returns : goal.returns
 returns c =

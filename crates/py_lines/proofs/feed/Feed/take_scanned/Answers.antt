@@ -2,7 +2,7 @@ use Rattle.std.proofs.Common.{ℕ, Err, List, length, ◌++◌, refl, sym, ap, �
 use Rattle.py_lines.specs.declared.feed.Feed.{Feed}
 use Rattle.py_lines.specs.declared.fault.LexError.{LexError}
 use Rattle.py_lines.specs.Private.Scan.{ScansIn}
-use Rattle.py_lines.specs.Private.Source.{first_mode}
+use Rattle.py_lines.specs.Private.LineState.{first_mode}
 use Rattle.py_lines.specs.Private.Feed.{KeepsText, ScansHeld}
 use Rattle.py_lines.proofs.Feeds.Characters.{stops_held}
 use Rattle.py_lines.proofs.feed.Feed.take_scanned.Goals as goal
@@ -15,10 +15,9 @@ meet-requires c =
     let keeps : KeepsText held held = record { held = refl; place = refl; line = refl; ended = refl } in
     let items = c.in_default-extend_from_slice.ensures.items ∙ ap (λ l. l ++ c.args.chunk.now) s.none_held in
     record {
-      stops = stops_held held held c.args.stop keeps (subst (λ (l : List ℕ). ScansIn (first_mode f.place) f.line l f.scan c.args.stop) (sym items) s.stops);
+      stops = stops_held held held c.args.stop keeps (subst (λ (l : List ℕ). ScansIn (first_mode f.state.place) f.state.line l f.state.scan c.args.stop) (sym items) s.stops);
       not_ready = c.requires.not_ready;
-      fits = omega (arith, c.requires.fits, ap length items);
-      few_lines = c.requires.few_lines;
+      room = record { fits = omega (arith, c.requires.room.fits, ap length items); few_lines = c.requires.room.few_lines };
     }
 
 pub returns-in-Err-Fault : goal.returns-in-Err-Fault

@@ -1,7 +1,6 @@
 use Rattle.std.proofs.Common.{◌≡◌, ℕ, List, length, take, sym, ap, ◌∙◌, subst, arith, length-take}
 use Rattle.std.specs.Prelude.{IsUtf8}
 use Rattle.py_lines.specs.Token.{EachLiesIn}
-use Rattle.py_lines.specs.declared.token.Token.{Token}
 use Rattle.py_lines.specs.Private.Feed.{IsReady, StandsSo}
 use Rattle.py_lines.proofs.Feeds.ReadyLines.{ready_lies, ready_utf8}
 use Rattle.py_lines.proofs.feed.Feed.unit.Goals as goal
@@ -10,14 +9,17 @@ pub from_utf8_unchecked-text-requires : goal.from_utf8_unchecked-text-requires
 from_utf8_unchecked-text-requires c =
     let f = c.args.self.now in
     let r : IsReady f c.in_ok-end_len.end_len = subst (λ r. StandsSo r f) c.in_ok-end_len.was c.requires.state in
-    subst (λ (t : List ℕ). IsUtf8 (take f.scan.stop t)) (sym c.deref.ensures.value) (ready_utf8 f c.in_ok-end_len.end_len r)
+    subst (λ (t : List ℕ). IsUtf8 (take f.state.scan.stop t)) (sym c.deref.ensures.value) (ready_utf8 f c.in_ok-end_len.end_len r)
 
-pub invariant_of-result : goal.invariant_of-result
-invariant_of-result c =
+pub unit-requires-clause-tokens : goal.unit-requires-clause-tokens
+unit-requires-clause-tokens c =
     let f = c.args.self.now in
     let r : IsReady f c.in_ok-end_len.end_len = subst (λ r. StandsSo r f) c.in_ok-end_len.was c.requires.state in
-    let text : c.from_utf8_unchecked-text.result.now ≡ take f.scan.stop f.held.items = c.from_utf8_unchecked-text.ensures ∙ ap (take f.scan.stop) c.deref.ensures.value in
-    record {
-      tokens_lie_in = subst (λ (t : List ℕ). EachLiesIn t c.as_slice.result.now) (sym text) (subst (λ (ts : List Token). EachLiesIn (take f.scan.stop f.held.items) ts) (sym c.as_slice.ensures.value) (ready_lies f c.in_ok-end_len.end_len r));
-      places_fit = omega (arith, ap length text, length-take f.scan.stop f.held.items, c.requires.fits);
-    }
+    let text : c.from_utf8_unchecked-text.result.now ≡ take f.state.scan.stop f.held.items = c.from_utf8_unchecked-text.ensures ∙ ap (take f.state.scan.stop) c.deref.ensures.value in
+    subst (λ (t : List ℕ). EachLiesIn t f.state.scan.tokens.items) (sym text) (ready_lies f c.in_ok-end_len.end_len r)
+
+pub unit-requires-clause-fits : goal.unit-requires-clause-fits
+unit-requires-clause-fits c =
+    let f = c.args.self.now in
+    let text : c.from_utf8_unchecked-text.result.now ≡ take f.state.scan.stop f.held.items = c.from_utf8_unchecked-text.ensures ∙ ap (take f.state.scan.stop) c.deref.ensures.value in
+    omega (arith, ap length text, length-take f.state.scan.stop f.held.items, c.requires.room.fits)

@@ -13,18 +13,18 @@ use Rattle.py_lines.proofs.source.Source.end_text.Goals as goal
 pub fail-requires-clause-within : goal.fail-requires-clause-within
 fail-requires-clause-within c =
     let s = c.args.self.now in
-    place_room s TextEnd c.requires s.scan.stop (all_within c.requires.scans.read s.scan.stop (stop_size s c.requires))
+    place_room s TextEnd c.requires s.state.scan.stop (all_within c.requires.scans.read s.state.scan.stop (stop_size s c.requires))
 
 pub fail-requires-clause-boundary : goal.fail-requires-clause-boundary
 fail-requires-clause-boundary c =
     let s = c.args.self.now in
-    place_boundary s TextEnd c.requires s.scan.stop (all_within c.requires.scans.read s.scan.stop (stop_size s c.requires))
+    place_boundary s TextEnd c.requires s.state.scan.stop (all_within c.requires.scans.read s.state.scan.stop (stop_size s c.requires))
 
 pub returns-then-self : goal.returns-then-self
 returns-then-self c =
     let s = c.args.self.now in
     let at = c.fail.ensures in
-    subst (λ (e : LexError). Advances s (Err e) c.fail.new.self) (sym at.error_is) (fails_at_bytes s c.requires c.fail.new.self c.fail.result at c.if-self.true)
+    subst (λ (e : LexError). Advances s (Err e) c.fail.new.self) (sym at.keeps.error_is) (fails_at_bytes s c.requires c.fail.new.self c.fail.result at c.if-self.true)
 
 pub fail-requires-in-Some-clause-within : goal.fail-requires-in-Some-clause-within
 fail-requires-in-Some-clause-within c =
@@ -40,20 +40,20 @@ pub returns-in-Some : goal.returns-in-Some
 returns-in-Some c =
     let s = c.args.self.now in
     let at = c.fail-in-Some.ensures in
-    subst (λ (e : LexError). Advances s (Err e) c.fail-in-Some.new.self) (sym at.error_is) (fails_at_end s c.requires c.fail-in-Some.new.self c.in-Some.flaw.kind c.in-Some.flaw.place c.fail-in-Some.result at c.in-Some.ensures.0 c.in-Some.ensures.1 c.if-self.false)
+    subst (λ (e : LexError). Advances s (Err e) c.fail-in-Some.new.self) (sym at.keeps.error_is) (fails_at_end s c.requires c.fail-in-Some.new.self c.in-Some.flaw.kind c.in-Some.flaw.place c.fail-in-Some.result at c.in-Some.ensures.0 c.in-Some.ensures.1 c.if-self.false)
 
 pub close-requires : goal.close-requires
-close-requires c = way_order c.args.self.now.scan c.requires.scans.stops.0.state c.requires.scans.stops.0.tallies
+close-requires c = way_order c.args.self.now.state.scan c.requires.scans.stops.0.state c.requires.scans.stops.0.tallies
 
 pub give-requires-clause-within : goal.give-requires-clause-within
 give-requires-clause-within c =
     let s = c.args.self.now in
-    omega (arith, place_room s TextEnd c.requires s.scan.stop (all_within c.requires.scans.read s.scan.stop (stop_size s c.requires)), c.in_ok-close.ensures.stop)
+    omega (arith, place_room s TextEnd c.requires s.state.scan.stop (all_within c.requires.scans.read s.state.scan.stop (stop_size s c.requires)), c.in_ok-close.ensures.stop)
 
 pub give-requires-clause-boundary : goal.give-requires-clause-boundary
 give-requires-clause-boundary c =
     let s = c.args.self.now in
-    subst (λ (n : ℕ). IsCharBoundary s.characters.now (s.place + n)) (sym c.in_ok-close.ensures.stop) (place_boundary s TextEnd c.requires s.scan.stop (all_within c.requires.scans.read s.scan.stop (stop_size s c.requires)))
+    subst (λ (n : ℕ). IsCharBoundary s.characters.now (s.state.place + n)) (sym c.in_ok-close.ensures.stop) (place_boundary s TextEnd c.requires s.state.scan.stop (all_within c.requires.scans.read s.state.scan.stop (stop_size s c.requires)))
 
 pub give-requires-clause-lines : goal.give-requires-clause-lines
 give-requires-clause-lines c = few_lines_text c.args.self.now c.requires c.close.new.self c.in_ok-close.ensures

@@ -1,4 +1,5 @@
-use Rattle.std.proofs.Common.{arith}
+use Rattle.std.proofs.Common.{ℕ, sym, subst, arith}
+use Rattle.std.specs.Str.{IsCharBoundary}
 use Rattle.std.proofs.lemmas.Str.{IsCharBoundary-start}
 use Rattle.py_lines.proofs.source.Source.new.Goals as goal
 
@@ -8,8 +9,8 @@ invariant_of-result c = record {
   front = c.utf8_front.ensures.front;
   bad = c.utf8_front.ensures.bad;
   ordered = omega arith;
-  within = omega arith;
-  boundary = IsCharBoundary-start _ c.utf8_front.utf8;
+  within = omega (arith, c.at.ensures.place_is);
+  boundary = subst (λ (n : ℕ). IsCharBoundary c.utf8_front.result.now n) (sym c.at.ensures.place_is) (IsCharBoundary-start _ c.utf8_front.utf8);
   start_boundary = IsCharBoundary-start _ c.utf8_front.utf8;
-  few_lines = omega arith;
+  few_lines = omega (arith, c.at.ensures.place_is, c.at.ensures.line_is);
 }

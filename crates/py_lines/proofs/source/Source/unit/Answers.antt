@@ -1,11 +1,15 @@
-use Rattle.std.proofs.Common.{ℕ, List, sym, subst, arith}
+use Rattle.std.proofs.Common.{ℕ, List, sym, ap, ◌∙◌, subst, arith}
 use Rattle.py_lines.specs.Token.{EachLiesIn}
-use Rattle.py_lines.specs.Private.Source.{line_of_source}
-use Rattle.py_lines.specs.declared.token.Token.{Token}
+use Rattle.py_lines.specs.Private.LineState.{scanned_line}
 use Rattle.py_lines.proofs.source.Source.unit.Goals as goal
 
-pub invariant_of-result : goal.invariant_of-result
-invariant_of-result c = record {
-  tokens_lie_in = subst (λ (t : List ℕ). EachLiesIn t c.as_slice.result.now) (sym c.range.ensures.value) (subst (λ (ts : List Token). EachLiesIn (line_of_source c.args.self.now).text ts) (sym c.as_slice.ensures.value) c.requires);
-  places_fit = omega (arith, c.range.ensures.len);
-}
+pub unit-requires-clause-tokens : goal.unit-requires-clause-tokens
+unit-requires-clause-tokens c = subst (λ (t : List ℕ). EachLiesIn t c.args.self.now.state.scan.tokens.items) (sym c.range-text.ensures.value) c.requires
+
+pub unit-requires-clause-fits : goal.unit-requires-clause-fits
+unit-requires-clause-fits c = omega (arith, c.range-text.ensures.len)
+
+pub returns : goal.returns
+returns c =
+    let s = c.args.self.now in
+    c.unit.ensures.line ∙ ap (λ (t : List ℕ). scanned_line s.state.scan t s.start s.end_len) c.range-text.ensures.value

@@ -1,0 +1,59 @@
+-- What the reader inside a `Lines` and the one inside a `Scanner` have in common: where the next line begins, what the
+-- scan knows of that line, and the text's fault.
+use Rattle.std.specs.Prelude.{◌≡◌, ℕ, zero, suc, ◌+◌, None, Some, List, encode_utf8_all}
+use Rattle.py_lines.specs.LogicalLine.{LogicalLine, line_ends}
+use Rattle.py_lines.specs.Private.Scan.{Tallies, IsStacked, line_start}
+use Rattle.py_lines.specs.declared.fault.Fault.{Fault}
+use Rattle.py_lines.specs.declared.fault.FaultKind.{FaultKind}
+use Rattle.py_lines.specs.declared.fault.LexError.{LexError}
+use Rattle.py_lines.specs.declared.fault.LexError.TheVariants as lex
+use Rattle.py_lines.specs.declared.line_state.LineState.{LineState}
+use Rattle.py_lines.specs.declared.mode.Mode.{Mode}
+use Rattle.py_lines.specs.declared.mode.Mode.TheVariants as modes
+use Rattle.py_lines.specs.declared.scan.Scan.{Scan}
+
+-- what is open where a line begins: a mark may stand at the text's start
+abbrev pub first_mode : ℕ → Mode
+first_mode zero = modes.Start
+first_mode (suc n) = modes.Free
+
+-- the logical line that a scan has closed: this text at this byte, with so many bytes of line end
+abbrev pub scanned_line : Scan → List ℕ → ℕ → ℕ → LogicalLine
+scanned_line scan text offset end_len = record {
+  kind = scan.kind;
+  text = text;
+  tokens = scan.tokens.items;
+  offset = offset;
+  line = scan.line;
+  indent = scan.indent;
+  end_len = end_len;
+}
+
+-- the scan of the next line is begun anew
+pub record BeginsAnew (old new : LineState) : Type 0 where
+  pub same : new ≡ record old { scan = new.scan }
+  pub tallies : Tallies new.scan (line_start (first_mode old.place))
+  pub stacked : IsStacked new.scan (line_start (first_mode old.place))
+  pub number : new.scan.line ≡ old.line
+
+-- the next line begins at this byte, on this line, and nothing of it is read
+pub record StandsAt (place line : ℕ) (s : LineState) : Type 0 where
+  pub place_is : s.place ≡ place
+  pub line_is : s.line ≡ line
+  pub no_fault : s.fault ≡ None
+  pub tallies : Tallies s.scan (line_start (first_mode place))
+  pub stacked : IsStacked s.scan (line_start (first_mode place))
+  pub number : s.scan.line ≡ line
+
+-- a fault so many bytes after the lines that were read: it stands after these bytes
+pub record IsFaultAfter (old : LineState) (kind : FaultKind) (behind : ℕ) (bytes : List ℕ) (fault : Fault) : Type 0 where
+  pub is : fault.kind ≡ kind
+  pub place : fault.offset ≡ old.place + behind
+  pub line : (front : List ℕ) → encode_utf8_all front ≡ bytes → fault.line ≡ old.line + line_ends front
+
+-- the text has this fault from now on
+pub record KeepsFault (old : LineState) (kind : FaultKind) (behind : ℕ) (bytes : List ℕ) (error : LexError) (new : LineState) : Type 0 where
+  pub fault : Fault
+  pub error_is : error ≡ lex.Fault fault
+  pub at : IsFaultAfter old kind behind bytes fault
+  pub same : new ≡ record old { fault = Some fault }

@@ -1,0 +1,94 @@
+//! Where a reader of logical lines stands. `Lines` and `Scanner` have it in common.
+
+ghost use Rattle.std.specs.Prelude.{◌≡◌, ℕ, ◌+◌, ◌<◌, ◌^◌, length};
+
+use crate::count::line_behind;
+use crate::fault::{Fault, FaultKind, LexError};
+use crate::mode::Mode;
+use crate::scan::Scan;
+use crate::unit::Unit;
+use std::alloc::Global;
+
+/// Where the next line begins, what the scan knows of that line, and the text's fault once it was met.
+#[derive(Drop)]
+pub struct LineState {
+    /// The byte up to which lines were read, and its line, from 1.
+    pub place: u64,
+    pub line: u64,
+    pub fault: Option<Fault>,
+    /// The scan of the next line, or of the one that was read last.
+    pub scan: Scan,
+}
+
+impl LineState {
+    ghost use Rattle.py_lines.specs.Token.{EachLiesIn};
+    ghost use Rattle.py_lines.specs.UnitLine.{line_in};
+    ghost use Rattle.py_lines.specs.Private.LineState.{BeginsAnew, KeepsFault, StandsAt, first_mode, scanned_line};
+
+    /// At this byte of a text, which is on this line. Nothing of the next line is read.
+    pub fn at(alloc: Global, place: u64, line: u64) -> LineState
+        ensures { StandsAt place line result }
+    {
+        let mut state = LineState {
+            place,
+            line,
+            fault: None,
+            scan: Scan::new(alloc),
+        };
+        state.restart();
+        state
+    }
+
+    /// What is open where a line begins: a mark may stand at the text's start.
+    fn first_mode(&self) -> Mode
+        ensures { result ≡ first_mode self.now.place }
+    {
+        if self.place == 0 {
+            Mode::Start
+        } else {
+            Mode::Free
+        }
+    }
+
+    /// Begins the scan of the next line anew.
+    pub fn restart(&mut self)
+        ensures { BeginsAnew self.old self.new }
+    {
+        let mode = self.first_mode();
+        self.scan.restart(mode, self.line);
+    }
+
+    /// The text has this fault, from now on. It stands after these characters, with which the next line begins.
+    pub fn fail(&mut self, kind: FaultKind, front: &str) -> LexError
+        requires bytes { self.old.place + length front.now < 2 ^ 64 }
+        requires lines { self.old.line + length front.now + 1 < 2 ^ 64 }
+        ensures { KeepsFault self.old kind (length front.now) front.now result self.new }
+    {
+        let fault = Fault {
+            kind,
+            offset: self.place + front.len() as u64,
+            line: line_behind(self.line, front),
+        };
+        self.fault = Some(fault);
+        LexError::Fault(fault)
+    }
+
+    /// The line that the scan has closed: this text at this byte, with so many bytes of line end.
+    #[inline(always)]
+    pub fn unit<'s>(&'s self, text: &'s str, offset: u64, end_len: usize) -> Unit<'s>
+        requires tokens { EachLiesIn text.now self.now.scan.tokens.items }
+        requires fits { offset + length text.now < 2 ^ 64 }
+        ensures line { line_in result ≡ scanned_line self.now.scan text.now offset end_len }
+        ensures text { result.text.now ≡ text.now }
+    {
+        Unit {
+            kind: self.scan.kind,
+            text,
+            tokens: self.scan.tokens.as_slice(),
+            offset,
+            line: self.scan.line,
+            indent: self.scan.indent,
+            end_len,
+        }
+    }
+}
