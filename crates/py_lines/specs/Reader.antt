@@ -26,6 +26,11 @@ pub record HasGiven (reader : Reader) (lines : List LogicalLine) : Type 0 where
   pub first : AreFirstLines reader.text reader.place reader.line lines
   pub no_fault : reader.fault ≡ None
 
+-- where the text's first logical lines reach to this byte, which is on this line, the reader stands after them
+abbrev pub GoesOnAt : List ℕ → ℕ → ℕ → Reader → Type 0
+GoesOnAt text offset line reader =
+    (lines : List LogicalLine) → HasGiven (standing_at text offset line) lines → reader ≡ standing_at text offset line
+
 -- one more logical line is given, and the lines still begin the lexing of the whole text
 pub record Continues (old : Reader) (line : LogicalLine) (new : Reader) : Type 0 where
   pub given : (lines : List LogicalLine) → HasGiven old lines → HasGiven new (lines ++ line ∷ [])

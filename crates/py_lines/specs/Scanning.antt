@@ -50,6 +50,11 @@ pub record IsScanning (s : Scanning) (text : List ℕ) (lines : List LogicalLine
   pub open_yet : s.ended ≡ false
   pub no_fault : s.fault ≡ None
 
+-- where a text's first logical lines reach to this byte, which is on this line, the scanner scans it from there on
+abbrev pub ScansFrom : ℕ → ℕ → Scanning → Type 0
+ScansFrom offset line s =
+    (text : List ℕ) (lines : List LogicalLine) → AreFirstLines text offset line lines → IsScanning s text lines
+
 -- The text was fed whole, and has no fault. The lines released are its first, and with the one that is ready they are
 -- all its lines.
 pub record HasEnded (s : Scanning) (text : List ℕ) (lines : List LogicalLine) : Type 0 where

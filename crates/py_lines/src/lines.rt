@@ -1,8 +1,7 @@
 //! The logical lines of a whole text, one after another.
-ghost use Rattle.std.specs.Prelude.{◌≡◌, ℕ, List, [], IfOk, IfErr};
+ghost use Rattle.std.specs.Prelude.{◌≡◌, [], IfOk, IfErr};
 ghost use Rattle.std.specs.Borrow.{sem};
-ghost use Rattle.py_lines.specs.LogicalLine.{LogicalLine};
-ghost use Rattle.py_lines.specs.Reader.{Reader, HasGiven, at_start, standing_at};
+ghost use Rattle.py_lines.specs.Reader.{Reader, GoesOnAt, HasGiven, at_start};
 ghost use Rattle.py_lines.specs.Reader.View.{reader_of};
 
 use crate::fault::LexError;
@@ -49,7 +48,7 @@ impl<'t> Lines<'t> {
         offset: usize,
         line: u64,
     ) -> Result<Lines<'t>, LexError>
-        ensures goes_on { IfOk result (λ l. (lines : List LogicalLine) → HasGiven (standing_at text.now offset line) lines → l ≡ standing_at text.now offset line) }
+        ensures goes_on { IfOk result (GoesOnAt text.now offset line) }
         ensures text { IfOk result (λ l. l.text ≡ text.now) }
         ensures memory { IfErr result (λ e. e ≡ LexError.Memory) }
     {

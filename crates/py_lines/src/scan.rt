@@ -4,9 +4,9 @@ ghost use Rattle.std.specs.Prelude.{◌≡◌, ℕ, ◌+◌, ◌<◌, ◌≤◌,
 ghost use Rattle.std.specs.Char.{len_utf8};
 ghost use Rattle.py_lines.specs.Character.{is_hash, is_line_feed, is_operator, is_quote, is_return, is_space};
 ghost use Rattle.py_lines.specs.Piece.{begins};
-ghost use Rattle.py_lines.specs.Private.Machine.{Scanned, IsSound, start_of, character_kind};
-ghost use Rattle.py_lines.specs.Private.Scan.{AddsTo, Emits, Closes, ReadsCharacter, Begins, Tallies, IsStacked, Takes, Scans, ScansIn, EndsNoLine, line_start, is_returned, is_return_mode, none_open, stack_of, line_end_progress, ClosesAndAdds, refused_place, IsUnfinished};
-ghost use Rattle.py_lines.specs.Private.Run.{is_free, Holds, HasAsciiQuote, opened, AddsToken, TakesRun, TakesText, TakesBracket, TakesLineFeed, TakesReturn, TakesPiece, TakesRemark, line_ended, word_mode, space_mode, Reached, IsNoLonger, LeavesOff, is_word_byte, follows, may_begin};
+ghost use Rattle.py_lines.specs.Private.Machine.{IsSound, start_of, character_kind};
+ghost use Rattle.py_lines.specs.Private.Scan.{TakesNext, AddsTo, Emits, Closes, ReadsCharacter, Begins, Tallies, IsStacked, Takes, Scans, ScansIn, line_start, is_returned, is_return_mode, none_open, stack_of, line_end_progress, ClosesAndAdds, refused_place, IsUnfinished};
+ghost use Rattle.py_lines.specs.Private.Run.{WhereverReached, is_free, Holds, HasAsciiQuote, opened, AddsToken, TakesRun, TakesText, TakesBracket, TakesLineFeed, TakesReturn, TakesPiece, TakesRemark, line_ended, word_mode, space_mode, Reached, IsNoLonger, LeavesOff, is_word_byte, follows, may_begin};
 ghost use Rattle.py_lines.specs.Token.{is_comment};
 ghost use Rattle.py_lines.specs.declared.token.TokKind.TheVariants.{Op};
 ghost use Rattle.py_lines.specs.declared.mode.Mode.{Mode};
@@ -276,7 +276,7 @@ impl Scan {
         requires order { self.old.piece.start ≤ self.old.stop }
         requires bytes { self.old.stop + len_utf8 c < 2 ^ 64 }
         requires lines { self.old.count.line + 1 < 2 ^ 64 }
-        ensures { (s : Scanned) (read : List ℕ) → IsSound s read → EndsNoLine 0 s.done → is_returned self.old && not (is_line_feed c) ≡ false → Tallies self.old s → IsStacked self.old s → Takes self.old s c result self.new }
+        ensures { TakesNext self.old c result self.new }
     {
         match self.piece.mode.meet(c) {
             Move::Grows(mode) => {
@@ -305,7 +305,7 @@ impl Scan {
         requires bytes { self.old.stop + len_utf8 c < 2 ^ 64 }
         requires lines { self.old.count.line + 1 < 2 ^ 64 }
         ensures begins { is_free self.old.piece.mode ≡ true → OnOk result (Begins self.old c (start_of c) result self.new) }
-        ensures takes { (s : Scanned) (read : List ℕ) → is_free self.old.piece.mode ≡ false → IsSound s read → EndsNoLine 0 s.done → is_returned self.old && not (is_line_feed c) ≡ false → Tallies self.old s → IsStacked self.old s → Takes self.old s c result self.new }
+        ensures takes { is_free self.old.piece.mode ≡ false → TakesNext self.old c result self.new }
     {
         if self.piece.mode.is_free() {
             self.begin_free(c)
@@ -726,7 +726,7 @@ impl Scan {
         requires bytes { self.old.stop + length bytes.now < 2 ^ 64 }
         requires lines { self.old.count.line + length bytes.now < 2 ^ 64 }
         ensures shorter { IfOk result (IsNoLonger bytes.now) }
-        ensures reached { (m : Mode) (line : ℕ) (whole : List ℕ) → IsSound (line_start m) [] → Reached m line whole self.old bytes.now → IfOk result (LeavesOff m line whole self.new) }
+        ensures reached { WhereverReached self.old bytes.now (λ m line whole. IfOk result (LeavesOff m line whole self.new)) }
     {
         let mut rest = bytes;
         'pieces: while self.piece.mode.is_free() {
@@ -745,7 +745,7 @@ impl Scan {
         requires way { (m : Mode) × (line : ℕ) × (whole : List ℕ) × IsSound (line_start m) [] × Reached m line whole self.old bytes.now }
         requires bytes { self.old.stop + length bytes.now < 2 ^ 64 }
         requires lines { self.old.line + self.old.stop + length bytes.now + 1 < 2 ^ 64 }
-        ensures stops { (m : Mode) (line : ℕ) (whole : List ℕ) → IsSound (line_start m) [] → Reached m line whole self.old bytes.now → IfOk result (ScansIn m line whole self.new) }
+        ensures stops { WhereverReached self.old bytes.now (λ m line whole. IfOk result (ScansIn m line whole self.new)) }
     {
         let mut rest = bytes;
         'characters: loop {

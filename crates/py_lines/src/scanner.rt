@@ -1,8 +1,6 @@
 //! The logical lines of a text that comes in pieces.
 ghost use Rattle.std.specs.Prelude.{◌≡◌, ℕ, ◌+◌, ◌<◌, ◌≤◌, ◌^◌, false, None, Some, IsSome, List, [], length, IfOk, IfErr};
-ghost use Rattle.py_lines.specs.LogicalLine.{LogicalLine};
-ghost use Rattle.py_lines.specs.Given.{AreFirstLines};
-ghost use Rattle.py_lines.specs.Scanning.{Scanning, IsScanning, begun_at, fed_of, Feeds, Releases, Finishes};
+ghost use Rattle.py_lines.specs.Scanning.{Scanning, IsScanning, ScansFrom, begun_at, fed_of, Feeds, Releases, Finishes};
 ghost use Rattle.py_lines.specs.Scanning.View.{scanning_of};
 ghost use Rattle.py_lines.specs.UnitLine.{line_in};
 ghost use Rattle.py_lines.specs.Private.Feed.{IsSoundFeed};
@@ -50,7 +48,7 @@ impl Scanner {
         requires first { 1 ≤ line }
         requires line { line ≤ offset + 1 }
         ensures start { IfOk result (λ s. s ≡ begun_at offset line) }
-        ensures scans { IfOk result (λ s. (text : List ℕ) (lines : List LogicalLine) → AreFirstLines text offset line lines → IsScanning s text lines) }
+        ensures scans { IfOk result (ScansFrom offset line) }
         ensures memory { IfErr result (λ e. e ≡ LexError.Memory) }
     {
         Ok(Scanner {

@@ -1,6 +1,6 @@
 //! The reader inside a `Lines`: one logical line at a time, with its tokens or the text's fault.
 
-ghost use Rattle.std.specs.Prelude.{◌≡◌, ℕ, ◌+◌, ◌<◌, ◌≤◌, List, length, take, drop, true, None, Some, Ok, Err, IsTrue, IsUtf8};
+ghost use Rattle.std.specs.Prelude.{◌≡◌, ◌+◌, ◌<◌, ◌≤◌, length, take, drop, true, Some, Ok, Err, IsUtf8};
 ghost use Rattle.std.specs.Str.{IsCharBoundary, StartsWithNoChar};
 
 use crate::fault::{FaultKind, LexError};
@@ -34,8 +34,7 @@ pub struct Source<'t> {
 impl<'t> Source<'t> {
     ghost use Rattle.py_lines.specs.Reader.View.{reader_of};
     ghost use Rattle.py_lines.specs.Private.Source.{line_of_source, PassesLine, FailsAfter, HasScanned, Advances};
-    ghost use Rattle.py_lines.specs.Reader.{HasGiven, at_start, standing_at};
-    ghost use Rattle.py_lines.specs.LogicalLine.{LogicalLine};
+    ghost use Rattle.py_lines.specs.Reader.{GoesOnAt, at_start};
     ghost use Rattle.py_lines.specs.Token.{EachLiesIn};
     ghost use Rattle.py_lines.specs.UnitLine.{line_in};
 
@@ -54,7 +53,7 @@ impl<'t> Source<'t> {
 
     /// The text from this byte on, which is on this line. If that cannot be, only what comes after its characters is left.
     pub fn at(alloc: Global, bytes: &'t [u8], offset: usize, line: u64) -> Source<'t>
-        ensures goes_on { (lines : List LogicalLine) → HasGiven (standing_at bytes.now offset line) lines → reader_of result ≡ standing_at bytes.now offset line }
+        ensures goes_on { GoesOnAt bytes.now offset line (reader_of result) }
         ensures text { result.bytes.now ≡ bytes.now }
     {
         let mut source = Source::new(alloc, bytes);

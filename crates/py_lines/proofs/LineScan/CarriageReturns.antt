@@ -66,7 +66,7 @@ return_begins old free =
 return_takes : (old : Scan) → is_free old.piece.mode ≡ true → TakesTo old 13 progress.Going (with_end old 1)
 return_takes old free = record {
   begun = λ is. subst (λ (s : Start). Begins old 13 s (Ok progress.Going) (with_end old 1)) (sym (start-return 13 (return_counts false).1)) (return_begins old free);
-  taken = λ s read other. absurd (both_ways _ other free);
+  taken = λ other. absurd (both_ways _ other free);
 }
 
 -- LF closes it
@@ -109,7 +109,7 @@ feed_move = rw (feed_from 10 refl) refl
 feed_takes : (old : Scan) (p : Progress) → p ≡ line_end_progress (none_open (stack_of old.brackets)) 2 → TakesTo (with_end old 1) 10 p (line_ended old 2)
 feed_takes old p is = record {
   begun = λ is. absurd (both_ways _ refl is);
-  taken = λ s read other sound none not_yet tallies stacked.
+  taken = λ other s read sound none not_yet tallies stacked.
       takes_returned (with_end old 1) (with_end old 2) (line_ended old 2) s.done s.mode s.held read 10 p (ap is_return_mode (sym tallies.mode)) (ap (λ m. move_of m 10) (sym tallies.mode) ∙ feed_move) sound tallies stacked none (feed_reads old) (end_closes old 2) is;
 }
 

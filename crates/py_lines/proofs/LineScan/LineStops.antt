@@ -17,7 +17,7 @@ use Rattle.py_lines.specs.declared.scan.Left.TheVariants as lefts
 use Rattle.py_lines.specs.declared.scan.Stop.{Stop}
 use Rattle.py_lines.specs.declared.scan.Stop.TheVariants as stops
 use Rattle.py_lines.specs.Private.Machine.{Scanned, IsSound, start_of}
-use Rattle.py_lines.specs.Private.Scan.{Tallies, IsStacked, Takes, Begins, Closes, line_start, stack_of, none_open, is_returned, is_return_mode, EndsNoLine, IsAtLineEnd, EndsWhole, ScansIn, Scans}
+use Rattle.py_lines.specs.Private.Scan.{Tallies, IsStacked, Takes, TakesNext, Begins, Closes, line_start, stack_of, none_open, is_returned, is_return_mode, EndsNoLine, IsAtLineEnd, EndsWhole, ScansIn, Scans}
 use Rattle.py_lines.specs.Private.Run.{Holds, HasAsciiQuote, Reached, ReachedShut, IsNoLonger, LeavesOff, is_free}
 use Rattle.py_lines.proofs.LineScan.EarlyEnds.{TakesFrom, taken_free, taken_open, stands_reached, stands_shut, shut_none}
 use Rattle.py_lines.proofs.LineScan.ShortPieces.{free_is, open_reached}
@@ -51,8 +51,8 @@ abbrev pub Leaves : Scan → List ℕ → Scan → Left → Type 0
 Leaves old before new left = (m : Mode) (line : ℕ) (whole : List ℕ) → IsSound (line_start m) [] → Reached m line whole old before → LeavesOff m line whole new left
 
 -- the text that is left after them
-pub left_shuts : (first : Scan) (text : List ℕ) (old : Scan) (before : List ℕ) (new : Scan) (left : Left) (rest : Bor (List ℕ)) → left ≡ lefts.Bytes rest → GoesTo first text old before → Leaves old before new left → ShutsTo first text new rest.now
-left_shuts first text old before new left rest is goes leaves m line whole start r = subst (LeavesOff m line whole new) is (leaves m line whole start (goes m line whole start r))
+pub left_shuts : {first : Scan} {text : List ℕ} {old : Scan} {before : List ℕ} {new : Scan} {left : Left} {rest : Bor (List ℕ)} → left ≡ lefts.Bytes rest → GoesTo first text old before → Leaves old before new left → ShutsTo first text new rest.now
+left_shuts {new = new} is goes leaves m line whole start r = subst (LeavesOff m line whole new) is (leaves m line whole start (goes m line whole start r))
 
 pub left_length : (text : List ℕ) (left : Left) (rest : Bor (List ℕ)) → left ≡ lefts.Bytes rest → IsNoLonger text left → length rest.now ≤ length text
 left_length text left rest is shorter = subst (IsNoLonger text) is shorter
@@ -64,7 +64,7 @@ left_ends first text old before new left len is goes leaves m line whole start r
 -- what a character comes to, wherever the machine is
 pub record TakesTo (old : Scan) (c : ℕ) (p : Progress) (new : Scan) : Type 0 where
   pub begun : is_free old.piece.mode ≡ true → Begins old c (start_of c) (Ok p) new
-  pub taken : (s : Scanned) (read : List ℕ) → is_free old.piece.mode ≡ false → IsSound s read → EndsNoLine 0 s.done → is_returned old && not (is_line_feed c) ≡ false → Tallies old s → IsStacked old s → Takes old s c (Ok p) new
+  pub taken : is_free old.piece.mode ≡ false → TakesNext old c (Ok p) new
 
 -- what standing in a line tells
 pub goes_room : (old : Scan) (text : List ℕ) (new : Scan) (rest : List ℕ) → StandsBefore old text → GoesTo old text new rest → new.stop + length rest ≡ old.stop + length text
@@ -157,7 +157,7 @@ module _ (first : Scan) (text : List ℕ) (old : Scan) (before : List ℕ) (shut
       where
         go : (b : Bool) → is_free old.piece.mode ≡ b → TakesFrom m line whole before c p new
         go true free = taken_free m line whole before c p new start old rest o is (free_is old.piece.mode free) (takes.begun free)
-        go false other = taken_open m line whole before c p new start old o other not_yet (λ s read. takes.taken s read other)
+        go false other = taken_open m line whole before c p new start old o other not_yet (takes.taken other)
 
     -- a character was taken
     pub goes_character : is_returned old && not (is_line_feed c) ≡ false → TakesTo old c progress.Going new → GoesTo first text new rest

@@ -37,7 +37,7 @@ no_wait scan = and_right (is_returned scan) _ (ap not (feed_from 10 refl))
 feed_takes : (old new : Scan) (p : Progress) → is_free old.piece.mode ≡ true → Begins old 10 starts.LineEnd (Ok p) new → TakesTo old 10 p new
 feed_takes old new p free begun = record {
   begun = λ is. subst (λ (s : Start). Begins old 10 s (Ok p) new) (sym (start-feed 10 (feed_from 10 refl))) begun;
-  taken = λ s read other. absurd (both_ways _ other free);
+  taken = λ other. absurd (both_ways _ other free);
 }
 
 module _ (first : Scan) (text : List ℕ) (old new : Scan) (bytes : List ℕ) (free : is_free old.piece.mode ≡ true) (shuts : ShutsTo first text old bytes) where

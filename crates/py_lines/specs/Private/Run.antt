@@ -8,8 +8,8 @@ use Rattle.py_lines.specs.Balance.{is_opening, is_closing}
 use Rattle.py_lines.specs.LogicalLine.{byte_len}
 use Rattle.std.specs.declared.alloc.AllocError.{AllocError}
 use Rattle.py_lines.specs.Piece.{operator, begins}
-use Rattle.py_lines.specs.Private.Machine.{Bracket, brackets_behind, IsFull, first_spelling, spelling_on, move_of}
-use Rattle.py_lines.specs.Private.Scan.{Begins, Closes, IsUnderWay, ScansIn, stack_of, none_open, with_brackets, is_return_mode}
+use Rattle.py_lines.specs.Private.Machine.{Bracket, IsSound, brackets_behind, IsFull, first_spelling, spelling_on, move_of}
+use Rattle.py_lines.specs.Private.Scan.{Begins, Closes, IsUnderWay, ScansIn, line_start, stack_of, none_open, with_brackets, is_return_mode}
 use Rattle.py_lines.specs.declared.brackets.Brackets.{Brackets}
 use Rattle.py_lines.specs.declared.token.TokKind.{TokKind}
 use Rattle.py_lines.specs.declared.token.TokKind.TheVariants as kind
@@ -112,6 +112,11 @@ pub record Reached (m : Mode) (at : ℕ) (text : List ℕ) (scan : Scan) (rest :
   pub spell : encode_utf8_all read ++ rest ≡ text
   pub scalars : all_scalars read ≡ true
   pub line : scan.line ≡ at
+
+-- this holds of each line and each text of which the scan has come to these bytes
+abbrev pub WhereverReached : Scan → List ℕ → (Mode → ℕ → List ℕ → Type 0) → Type 0
+WhereverReached scan rest holds =
+    (m : Mode) (line : ℕ) (whole : List ℕ) → IsSound (line_start m) [] → Reached m line whole scan rest → holds m line whole
 
 -- what a line end, a comment or a join of lines begins with
 abbrev pub is_apart : ℕ → Bool

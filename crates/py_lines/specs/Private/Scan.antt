@@ -8,7 +8,7 @@ use Rattle.py_lines.specs.Piece.{operator, line_end, Piece, ends, is_mark_class,
 use Rattle.py_lines.specs.PieceGrammar.{AreReadBefore}
 use Rattle.py_lines.specs.Balance.{depth_after, depth_through}
 use Rattle.py_lines.specs.LogicalLine.{byte_len, line_ends, tokens_from, indent_of, kind_of, is_line_end_class}
-use Rattle.py_lines.specs.Private.Machine.{Scanned, fresh, step, run_from, token_of, Bracket, brackets_behind, brackets_of, in_short, is_behind_slash, is_final, end_kind}
+use Rattle.py_lines.specs.Private.Machine.{Scanned, IsSound, fresh, step, run_from, token_of, Bracket, brackets_behind, brackets_of, in_short, is_behind_slash, is_final, end_kind}
 use Rattle.py_lines.specs.declared.token.Token.{Token}
 use Rattle.py_lines.specs.declared.mode.Mode.{Mode}
 use Rattle.py_lines.specs.declared.mode.Mode.TheVariants as modes
@@ -295,6 +295,12 @@ pub record IsAtLineEnd (m : Mode) (scan : Scan) (read rest : List ℕ) (len : �
 -- whether the CR of a line end was read last, outside brackets
 abbrev pub is_returned : Scan → Bool
 is_returned scan = is_return_mode scan.piece.mode && none_open (stack_of scan.brackets)
+
+-- what one more character comes to, wherever the machine stands that the scan keeps count of
+abbrev pub TakesNext : Scan → ℕ → Result Progress AllocError → Scan → Type 0
+TakesNext old c result new =
+    (s : Scanned) (read : List ℕ) → IsSound s read → EndsNoLine 0 s.done → is_returned old && not (is_line_feed c) ≡ false
+    → Tallies old s → IsStacked old s → Takes old s c result new
 
 -- the scan of a line's characters stops after these, with `rest` after them
 abbrev pub StopsSo : Mode → Scan → Stop → List ℕ → List ℕ → Type 0

@@ -19,7 +19,7 @@ returns-in-LineEnd c = record { stops = left_ends c.args.self.now c.args.bytes.n
 
 pub returns-in_default : goal.returns-in_default
 returns-in_default c =
-    let shuts = left_shuts c.args.self.now c.args.bytes.now c.characters.self c.characters.rest.now c.pieces.new.self c.in_ok-left.field-0 c.in-Bytes.left c.in-Bytes.is c.characters.invariant.goes c.in_ok-left.ensures.reached in
+    let shuts = left_shuts c.in-Bytes.is c.characters.invariant.goes c.in_ok-left.ensures.reached in
     record { stops = stops_text c.args.self.now c.args.bytes.now c.pieces.new.self c.in-Bytes.left.now shuts c.in_default.ensures }
 
 pub end_return-requires : goal.end_return-requires
@@ -28,25 +28,25 @@ end_return-requires c = (and_parts _ _ (and_parts _ _ (sym c.ends_before.ensures
 pub returns-then-ends_before : goal.returns-then-ends_before
 returns-then-ends_before c =
     let before = c.in-Bytes.left.now in
-    let shuts = left_shuts c.args.self.now c.args.bytes.now c.characters.self c.characters.rest.now c.pieces.new.self c.in_ok-left.field-0 c.in-Bytes.left c.in-Bytes.is c.characters.invariant.goes c.in_ok-left.ensures.reached in
+    let shuts = left_shuts c.in-Bytes.is c.characters.invariant.goes c.in_ok-left.ensures.reached in
     let b = c.in-Some.ensures in
     record { stops = stops_returned c.args.self.now c.args.bytes.now c.pieces.new.self before shuts c.in-Some.c b.scalar (drop (len_utf8 c.in-Some.c) before) (sym b.spell) c.end_return.new.self (sym c.ends_before.ensures ∙ c.if-ends_before.true) c.end_return.ensures }
 
 pub take-requires-clause-order : goal.take-requires-clause-order
 take-requires-clause-order c =
-    let shuts = left_shuts c.args.self.now c.args.bytes.now c.characters.self c.characters.rest.now c.pieces.new.self c.in_ok-left.field-0 c.in-Bytes.left c.in-Bytes.is c.characters.invariant.goes c.in_ok-left.ensures.reached in
+    let shuts = left_shuts c.in-Bytes.is c.characters.invariant.goes c.in_ok-left.ensures.reached in
     shuts_order c.args.self.now c.args.bytes.now c.pieces.new.self c.in-Bytes.left.now c.requires.way shuts
 
 pub take-requires-clause-bytes : goal.take-requires-clause-bytes
 take-requires-clause-bytes c =
     let before = c.in-Bytes.left.now in
-    let shuts = left_shuts c.args.self.now c.args.bytes.now c.characters.self c.characters.rest.now c.pieces.new.self c.in_ok-left.field-0 c.in-Bytes.left c.in-Bytes.is c.characters.invariant.goes c.in_ok-left.ensures.reached in
+    let shuts = left_shuts c.in-Bytes.is c.characters.invariant.goes c.in_ok-left.ensures.reached in
     omega (arith, c.requires.bytes, shuts_room c.args.self.now c.args.bytes.now c.pieces.new.self before c.requires.way shuts, ap length c.in-Some.ensures.spell, length-append (encode_utf8 c.in-Some.c) (drop (len_utf8 c.in-Some.c) before), length-encode c.in-Some.c)
 
 pub take-requires-clause-lines : goal.take-requires-clause-lines
 take-requires-clause-lines c =
     let before = c.in-Bytes.left.now in
-    let shuts = left_shuts c.args.self.now c.args.bytes.now c.characters.self c.characters.rest.now c.pieces.new.self c.in_ok-left.field-0 c.in-Bytes.left c.in-Bytes.is c.characters.invariant.goes c.in_ok-left.ensures.reached in
+    let shuts = left_shuts c.in-Bytes.is c.characters.invariant.goes c.in_ok-left.ensures.reached in
     omega (arith, c.requires.lines, shuts_room c.args.self.now c.args.bytes.now c.pieces.new.self before c.requires.way shuts, shuts_lines c.args.self.now c.args.bytes.now c.pieces.new.self before c.requires.way shuts)
 
 -- the bytes after the character
@@ -58,7 +58,7 @@ hold-rest-requires-clause-bytes c =
     let before = c.in-Bytes.left.now in
     let b = c.in-Some.ensures in
     let rest = drop (len_utf8 c.in-Some.c) before in
-    let shuts = left_shuts c.args.self.now c.args.bytes.now c.characters.self c.characters.rest.now c.pieces.new.self c.in_ok-left.field-0 c.in-Bytes.left c.in-Bytes.is c.characters.invariant.goes c.in_ok-left.ensures.reached in
+    let shuts = left_shuts c.in-Bytes.is c.characters.invariant.goes c.in_ok-left.ensures.reached in
     let takes = subst (λ (p : Progress). TakesTo c.pieces.new.self c.in-Some.c p c.take.new.self) c.in-Going.is (record { begun = c.in_ok-take.ensures.begins; taken = c.in_ok-take.ensures.takes }) in
     let goes = goes_character c.args.self.now c.args.bytes.now c.pieces.new.self before shuts c.in-Some.c b.scalar rest (sym b.spell) c.take.new.self (sym c.ends_before.ensures ∙ c.if-ends_before.false) takes in
     omega (arith, c.requires.bytes, goes_room c.args.self.now c.args.bytes.now c.take.new.self rest c.requires.way goes, ap length (after_is before c.in-Some.c c.len_utf8-len.result c.len_utf8-len.ensures.value))
@@ -68,7 +68,7 @@ hold-rest-requires-clause-quote c =
     let before = c.in-Bytes.left.now in
     let b = c.in-Some.ensures in
     let rest = drop (len_utf8 c.in-Some.c) before in
-    let shuts = left_shuts c.args.self.now c.args.bytes.now c.characters.self c.characters.rest.now c.pieces.new.self c.in_ok-left.field-0 c.in-Bytes.left c.in-Bytes.is c.characters.invariant.goes c.in_ok-left.ensures.reached in
+    let shuts = left_shuts c.in-Bytes.is c.characters.invariant.goes c.in_ok-left.ensures.reached in
     let takes = subst (λ (p : Progress). TakesTo c.pieces.new.self c.in-Some.c p c.take.new.self) c.in-Going.is (record { begun = c.in_ok-take.ensures.begins; taken = c.in_ok-take.ensures.takes }) in
     let goes = goes_character c.args.self.now c.args.bytes.now c.pieces.new.self before shuts c.in-Some.c b.scalar rest (sym b.spell) c.take.new.self (sym c.ends_before.ensures ∙ c.if-ends_before.false) takes in
     goes_quote c.args.self.now c.args.bytes.now c.take.new.self rest c.requires.way goes
@@ -78,7 +78,7 @@ characters-preserved c =
     let before = c.in-Bytes.left.now in
     let b = c.in-Some.ensures in
     let rest = drop (len_utf8 c.in-Some.c) before in
-    let shuts = left_shuts c.args.self.now c.args.bytes.now c.characters.self c.characters.rest.now c.pieces.new.self c.in_ok-left.field-0 c.in-Bytes.left c.in-Bytes.is c.characters.invariant.goes c.in_ok-left.ensures.reached in
+    let shuts = left_shuts c.in-Bytes.is c.characters.invariant.goes c.in_ok-left.ensures.reached in
     let takes = subst (λ (p : Progress). TakesTo c.pieces.new.self c.in-Some.c p c.take.new.self) c.in-Going.is (record { begun = c.in_ok-take.ensures.begins; taken = c.in_ok-take.ensures.takes }) in
     let goes = goes_character c.args.self.now c.args.bytes.now c.pieces.new.self before shuts c.in-Some.c b.scalar rest (sym b.spell) c.take.new.self (sym c.ends_before.ensures ∙ c.if-ends_before.false) takes in
     record { goes = goes_run c.args.self.now c.args.bytes.now c.take.new.self c.hold-rest.new.self rest c.hold-rest.result.now goes (subst (λ (t : List ℕ). Holds c.take.new.self t c.hold-rest.result.now c.hold-rest.new.self) (after_is before c.in-Some.c c.len_utf8-len.result c.len_utf8-len.ensures.value) c.hold-rest.ensures) }
@@ -90,7 +90,7 @@ pub returns-in-LineEnded : goal.returns-in-LineEnded
 returns-in-LineEnded c =
     let before = c.in-Bytes.left.now in
     let b = c.in-Some.ensures in
-    let shuts = left_shuts c.args.self.now c.args.bytes.now c.characters.self c.characters.rest.now c.pieces.new.self c.in_ok-left.field-0 c.in-Bytes.left c.in-Bytes.is c.characters.invariant.goes c.in_ok-left.ensures.reached in
+    let shuts = left_shuts c.in-Bytes.is c.characters.invariant.goes c.in_ok-left.ensures.reached in
     let takes = subst (λ (p : Progress). TakesTo c.pieces.new.self c.in-Some.c p c.take.new.self) c.in-LineEnded.is (record { begun = c.in_ok-take.ensures.begins; taken = c.in_ok-take.ensures.takes }) in
     record { stops = stops_line c.args.self.now c.args.bytes.now c.pieces.new.self before shuts c.in-Some.c b.scalar (drop (len_utf8 c.in-Some.c) before) (sym b.spell) c.take.new.self c.in-LineEnded.len (sym c.ends_before.ensures ∙ c.if-ends_before.false) takes }
 
@@ -98,6 +98,6 @@ pub returns-in-Refused : goal.returns-in-Refused
 returns-in-Refused c =
     let before = c.in-Bytes.left.now in
     let b = c.in-Some.ensures in
-    let shuts = left_shuts c.args.self.now c.args.bytes.now c.characters.self c.characters.rest.now c.pieces.new.self c.in_ok-left.field-0 c.in-Bytes.left c.in-Bytes.is c.characters.invariant.goes c.in_ok-left.ensures.reached in
+    let shuts = left_shuts c.in-Bytes.is c.characters.invariant.goes c.in_ok-left.ensures.reached in
     let takes = subst (λ (p : Progress). TakesTo c.pieces.new.self c.in-Some.c p c.take.new.self) c.in-Refused.is (record { begun = c.in_ok-take.ensures.begins; taken = c.in_ok-take.ensures.takes }) in
     record { stops = stops_refused c.args.self.now c.args.bytes.now c.pieces.new.self before shuts c.in-Some.c b.scalar (drop (len_utf8 c.in-Some.c) before) (sym b.spell) c.take.new.self (sym c.ends_before.ensures ∙ c.if-ends_before.false) takes }
