@@ -1,9 +1,9 @@
 -- What a listing leaves of the whole text of a reader.
-use Rattle.std.proofs.Common.{◌≡◌, ℕ, ◌∙◌, refl, sym, ap, subst, inl, inr, false, Option, None, Some, IfSome, List, [], ◌++◌, length, take, drop, append_assoc, append-nil, take-append-drop, length-append, arith}
+use Rattle.std.proofs.Common.{◌≡◌, ℕ, ◌≤◌, ◌∙◌, refl, sym, ap, subst, inl, inr, false, Option, None, Some, IfSome, Result, Ok, Err, OnOk, IfErr, List, [], ◌++◌, length, take, drop, append_assoc, append-nil, take-append-drop, length-append, arith}
 use Rattle.std.proofs.Math.Seq.{take-length}
 use Rattle.std.proofs.lemmas.List.{nil_from_length}
-use Rattle.std.proofs.KnownBytes.{Appends-nil}
-use Rattle.std.specs.Io.KnownBytes.{IsAtEnd}
+use Rattle.std.proofs.KnownBytes.{Appends-nil, Consumes-whole}
+use Rattle.std.specs.Io.KnownBytes.{Consumes, IsAtEnd}
 use Rattle.py_lines.specs.declared.fault.Fault.{Fault}
 use Rattle.py_imports.specs.Bound.{Bound}
 use Rattle.isort_find.specs.Found.{IsFound, BeginsFound}
@@ -13,13 +13,17 @@ use Rattle.isort_find.specs.declared.options.FindOptions.{FindOptions}
 use Rattle.isort_find.specs.declared.finder.Outcome.{Outcome}
 use Rattle.isort_find.specs.declared.finder.Outcome.TheVariants as outcome
 use Rattle.isort_cmd.specs.Printed.{printed}
-use Rattle.isort_cmd.specs.RunError.{IsUnread}
-use Rattle.isort_cmd.specs.Steps.{HasListed, ListsRead, LeavesKnown, LeavesRead}
-use Rattle.isort_cmd.specs.Written.{AreFed, Lists, ListsFront, ListsSettled, ListsToFault, LeavesAtError}
+use Rattle.isort_sort.specs.declared.metered.Last.{Last}
+use Rattle.isort_sort.specs.declared.metered.Last.TheVariants as last
+use Rattle.isort_cmd.specs.RunError.{EndsReading, EndsWriting, IsUnread, LeavesReader}
+use Rattle.isort_cmd.specs.Stages.{Stage, StopsInput, TakesInput, ListsEnd}
+use Rattle.isort_cmd.specs.Steps.{IsOutputError, HasListed, LeavesKnown, LeavesRead}
+use Rattle.isort_cmd.specs.Written.{AreFed, Lists, ListsFront, ListsSettled, ListsInput, ListsUnread, ListsFaulty, LeavesAtError, LeavesInput}
 use Rattle.isort_cmd.specs.declared.error.RunError.{RunError}
 use Rattle.isort_cmd.specs.declared.error.RunError.TheVariants as run
+use Rattle.isort_cmd.proofs.ListingLemmas.{SomeFound, lists_nothing}
 use Rattle.isort_cmd.proofs.PrintedLemmas.{printed-append}
-use Rattle.isort_cmd.proofs.ReadLemmas.{fed_whole}
+use Rattle.isort_cmd.proofs.ReadLemmas.{fed_whole, no_output_is_too_long, read_well, stopped_writer}
 
 -- the laws `some`, `bad` and `bindings` of `isort_find::laws::settled_found_is_final`
 abbrev pub SomeSettled : Type 0
@@ -121,52 +125,131 @@ of_fed P max known (Some text) None fed h = absurd fed.consumed
 of_fed P max known (Some text) (Some rest) fed h = subst P (sym (begins_with_fed max text known fed.read rest fed.consumed fed.first)) (h (drop max fed.read ++ rest))
 
 -- what an error leaves of the reader's text
-pub leaves_read : SomeSettled → BadDecided → SettledBegin → (path : List ℕ) (options : FindOptions) (max : ℕ) (finder : PieceFinding) (e : RunError) (old left start now : Option (List ℕ)) → LeavesRead path options max finder e old left start now → IfSome old (λ text. LeavesAtError path text options e start now)
+leaves_read : SomeSettled → BadDecided → SettledBegin → (path : List ℕ) (options : FindOptions) (max : ℕ) (finder : PieceFinding) (e : RunError) (old left start now : Option (List ℕ)) → LeavesRead path options max finder e old left start now → IfSome old (λ text. LeavesAtError path text options e start now)
 leaves_read some_settled bad_decided settled_begin path options max finder e old left start now h = of_fed (λ text. LeavesAtError path text options e start now) max h.known old left h.fed (λ more. leaves_text some_settled bad_decided settled_begin path h.known more options finder e start now h.leaves)
 
--- the options are those of the finder
-pub with_options : (path : List ℕ) (options other : FindOptions) (max : ℕ) (finder : PieceFinding) (e : RunError) (old left start now : Option (List ℕ)) → other ≡ options → LeavesRead path other max finder e old left start now → LeavesRead path options max finder e old left start now
-with_options path options other max finder e old left start now same h = subst (λ o. LeavesRead path o max finder e old left start now) same h
+-- ---- what `identify` promises
+
+abbrev pub Identified : List ℕ → FindOptions → ℕ → Result (Unit {0}) RunError → Option (List ℕ) → Option (List ℕ) → Option (List ℕ) → Option (List ℕ) → Last → Last → Type 0
+Identified path options max r given left old new reader writer = record {
+  ok : OnOk r (ListsInput path options max given left old new);
+  err : IfErr r (λ e. LeavesInput path options max e given old new);
+  unread : IfErr r (λ e. IsUnread e → ListsUnread path options max given left old new);
+  fault : IfErr r (λ e. (f : Fault) → e ≡ run.Fault f → ListsFaulty path options max f given left old new);
+  reader : EndsReading r reader;
+  writer : EndsWriting r writer;
+}
+
+nothing_known : SomeFound → (path : List ℕ) (options : FindOptions) (known start : Option (List ℕ)) → IfSome known (λ text. LeavesAtError path text options run.Memory start start)
+nothing_known some path options None start = tt
+nothing_known some path options (Some text) start = lists_nothing some path text options start
+
+-- memory ran out before the first read
+pub identified_nothing : SomeFound → (path : List ℕ) (options : FindOptions) (max : ℕ) (given start : Option (List ℕ)) (reader writer : Last) → reader ≡ last.Fine → writer ≡ last.Fine → Identified path options max (Err run.Memory) given given start start reader writer
+identified_nothing some path options max given start reader writer reader_fine writer_fine = record {
+  ok = tt;
+  err = record { leaves = nothing_known some path options given start; too_long = λ is. absurd (memory_is_not_too_long is) };
+  unread = λ h. absurd h;
+  fault = λ f is. absurd (memory_is_no_fault f is);
+  reader = reader_fine;
+  writer = writer_fine;
+}
+  where
+    memory_is_not_too_long : run.Memory ≡ run.TooLong → ⊥
+    memory_is_not_too_long is = cc
+
+    memory_is_no_fault : (f : Fault) → run.Memory ≡ run.Fault f → ⊥
+    memory_is_no_fault f is = cc
+
+-- ---- reading or listing failed
 
 -- what an error of reading leaves
-pub leaves_unread : SomeSettled → BadDecided → (path : List ℕ) (options : FindOptions) (max : ℕ) (finder : PieceFinding) (e : RunError) (old left start now : Option (List ℕ)) → LeavesRead path options max finder e old left start now → IsUnread e → (known : List ℕ) × AreFed max known old left × ListsSettled path known options start now
-leaves_unread some_settled bad_decided path options max finder (run.Fault f) old left start now h unread = absurd unread
-leaves_unread some_settled bad_decided path options max finder run.Write old left start now h unread = absurd unread
-leaves_unread some_settled bad_decided path options max finder run.Memory old left start now h unread = absurd unread
-leaves_unread some_settled bad_decided path options max finder run.Read old left start now h unread = (h.known, h.fed, lists_settled some_settled bad_decided path h.known options finder start now h.leaves)
-leaves_unread some_settled bad_decided path options max finder run.TooLong old left start now h unread = (h.known, h.fed, lists_settled some_settled bad_decided path h.known options finder start now h.leaves)
-leaves_unread some_settled bad_decided path options max finder run.NeverEnds old left start now h unread = (h.known, h.fed, lists_settled some_settled bad_decided path h.known options finder start now h.leaves)
+leaves_unread : SomeSettled → BadDecided → (path : List ℕ) (options : FindOptions) (max : ℕ) (finder : PieceFinding) (e : RunError) (given left old new : Option (List ℕ)) → LeavesRead path options max finder e given left old new → IsUnread e → ListsUnread path options max given left old new
+leaves_unread some_settled bad_decided path options max finder (run.Fault f) given left old new h unread = absurd unread
+leaves_unread some_settled bad_decided path options max finder run.Write given left old new h unread = absurd unread
+leaves_unread some_settled bad_decided path options max finder run.Memory given left old new h unread = absurd unread
+leaves_unread some_settled bad_decided path options max finder run.Read given left old new h unread = record { known = h.known; fed = h.fed; lists = lists_settled some_settled bad_decided path h.known options finder old new h.leaves }
+leaves_unread some_settled bad_decided path options max finder run.TooLong given left old new h unread = record { known = h.known; fed = h.fed; lists = lists_settled some_settled bad_decided path h.known options finder old new h.leaves }
+leaves_unread some_settled bad_decided path options max finder run.NeverEnds given left old new h unread = record { known = h.known; fed = h.fed; lists = lists_settled some_settled bad_decided path h.known options finder old new h.leaves }
 
 -- what a fault leaves that the bytes fed decide
-fault_decided : (path : List ℕ) (options : FindOptions) (max : ℕ) (finder : PieceFinding) (fault : Fault) (old left start now : Option (List ℕ)) → LeavesRead path options max finder (run.Fault fault) old left start now → (known : List ℕ) × AreFed max known old left × ListsToFault path known options fault left start now
-fault_decided path options max finder fault old left start now h =
-    let meets = h.leaves in (
-      h.known,
-      h.fed,
-      record {
+fault_decided : (path : List ℕ) (options : FindOptions) (max : ℕ) (finder : PieceFinding) (fault : Fault) (given left old new : Option (List ℕ)) → LeavesRead path options max finder (run.Fault fault) given left old new → ListsFaulty path options max fault given left old new
+fault_decided path options max finder fault given left old new h =
+    let meets = h.leaves in
+    record {
+      known = h.known;
+      fed = h.fed;
+      lists = record {
         bounds = meets.bounds;
         found = subst (λ x. IsFound x options meets.bounds (Some fault)) (append-nil h.known) (meets.found []);
         stays = inr meets.found;
         written = meets.written;
-      },
-    )
+      };
+    }
 
-pub leaves_fault : (path : List ℕ) (options : FindOptions) (max : ℕ) (finder : PieceFinding) (e : RunError) (fault : Fault) (old left start now : Option (List ℕ)) → e ≡ run.Fault fault → LeavesRead path options max finder e old left start now → (known : List ℕ) × AreFed max known old left × ListsToFault path known options fault left start now
-leaves_fault path options max finder e fault old left start now is h = fault_decided path options max finder fault old left start now (subst (λ x. LeavesRead path options max finder x old left start now) is h)
+pub identified_stopped : SomeSettled → BadDecided → SettledBegin → (old new : Stage) (options : FindOptions) (max : ℕ) (given left : Option (List ℕ)) (e : RunError) (reader : Last) → options_for old.finder ≡ options → StopsInput old max given e left new → LeavesReader e reader → Identified old.path options max (Err e) given left old.written new.written reader new.last
+identified_stopped some_settled bad_decided settled_begin old new options max given left e reader same stops ends =
+    let leaves = subst (λ o. LeavesRead old.path o max new.finder e given left old.written new.written) same stops.leaves in
+    record {
+      ok = tt;
+      err = record { leaves = leaves_read some_settled bad_decided settled_begin old.path options max new.finder e given left old.written new.written leaves; too_long = stops.too_long };
+      unread = leaves_unread some_settled bad_decided old.path options max new.finder e given left old.written new.written leaves;
+      fault = λ f is. fault_decided old.path options max new.finder f given left old.written new.written (subst (λ x. LeavesRead old.path options max new.finder x given left old.written new.written) is leaves);
+      reader = ends;
+      writer = stops.writer;
+    }
 
--- the options are those of the finder
-pub lists_with : (path : List ℕ) (options other : FindOptions) (max : ℕ) (finder : PieceFinding) (old left start now : Option (List ℕ)) → other ≡ options → ListsRead path other max finder old left start now → ListsRead path options max finder old left start now
-lists_with path options other max finder old left start now same h = subst (λ o. ListsRead path o max finder old left start now) same h
+-- ---- the text ended
 
--- what a fault leaves that the end decides
-pub leaves_end_fault : (path : List ℕ) (options : FindOptions) (max : ℕ) (finder : PieceFinding) (fault : Fault) (old left start mid now : Option (List ℕ)) → (lists : ListsRead path options max finder old left start mid) → IsAtEnd left → Lists path lists.known options (Some fault) start now → (known : List ℕ) × AreFed max known old left × ListsToFault path known options fault left start now
-leaves_end_fault path options max finder fault old left start mid now lists ended h = (
-  lists.known,
-  fed_whole max lists.known old left lists.within lists.consumed,
-  record {
-    bounds = h.bounds;
-    found = h.found;
-    stays = inl ended;
-    written = h.written;
-  },
-)
+-- what was listed before it did
+listed_before : (old now : Stage) (options : FindOptions) (max : ℕ) (given left : Option (List ℕ)) → options_for old.finder ≡ options → (takes : TakesInput old max given left now) → HasListed now.path takes.lists.known options now.finder old.written now.written
+listed_before old now options max given left same takes = subst (λ (p : List ℕ). HasListed p takes.lists.known options now.finder old.written now.written) (sym takes.same_path) (subst (λ o. HasListed old.path takes.lists.known o now.finder old.written now.written) same takes.lists.listed)
+
+-- a fault that the end decides
+fault_at_end : (old : Stage) (options : FindOptions) (max : ℕ) (given left : Option (List ℕ)) (known : List ℕ) (f : Fault) (new : Option (List ℕ)) → length known ≤ max → Consumes given left known → IsAtEnd left → Lists old.path known options (Some f) old.written new → ListsFaulty old.path options max f given left old.written new
+fault_at_end old options max given left known f new within consumed ended h = record {
+  known = known;
+  fed = fed_whole max known given left within consumed;
+  lists = record { bounds = h.bounds; found = h.found; stays = inl ended; written = h.written };
+}
+
+no_output_is_unread : (e : RunError) (l : Last) → IsOutputError e l → IsUnread e → ⊥
+no_output_is_unread (run.Fault f) l h unread = unread
+no_output_is_unread run.Write l h unread = unread
+no_output_is_unread run.Memory l h unread = unread
+no_output_is_unread run.Read l h unread = h
+no_output_is_unread run.TooLong l h unread = h
+no_output_is_unread run.NeverEnds l h unread = h
+
+pub identified_ended : (old now new : Stage) (options : FindOptions) (max : ℕ) (given left : Option (List ℕ)) (r : Result (Unit {0}) RunError) (reader : Last) → options_for old.finder ≡ options → TakesInput old max given left now → IsAtEnd left → reader ≡ last.Fine → ListsEnd now r new → Identified old.path options max r given left old.written new.written reader new.last
+identified_ended old now new options max given left (Ok done) reader same takes ended fine ends =
+    let lists = takes.lists in
+    let whole = ends.whole lists.known options old.written (listed_before old now options max given left same takes) in
+    let at_path = subst (λ (p : List ℕ). Lists p lists.known options None old.written new.written) takes.same_path whole in
+    record {
+      ok = record {
+        lists = Consumes-whole given left lists.known (λ text. Lists old.path text options None old.written new.written) lists.consumed ended at_path;
+        within = Consumes-whole given left lists.known (λ text. length text ≤ max) lists.consumed ended lists.within;
+        end = ended;
+      };
+      err = tt;
+      unread = tt;
+      fault = tt;
+      reader = fine;
+      writer = ends.fine;
+    }
+identified_ended old now new options max given left (Err e) reader same takes ended fine stops =
+    let lists = takes.lists in
+    let left_there = stops.leaves lists.known options old.written (listed_before old now options max given left same takes) in
+    let leaves = subst (λ (p : List ℕ). LeavesAtError p lists.known options e old.written new.written) takes.same_path left_there in
+    record {
+      ok = tt;
+      err = record {
+        leaves = Consumes-whole given left lists.known (λ text. LeavesAtError old.path text options e old.written new.written) lists.consumed ended leaves;
+        too_long = λ is. absurd (no_output_is_too_long e new.last stops.error is);
+      };
+      unread = λ h. absurd (no_output_is_unread e new.last stops.error h);
+      fault = λ f is. fault_at_end old options max given left lists.known f new.written lists.within lists.consumed ended (subst (λ x. LeavesAtError old.path lists.known options x old.written new.written) is leaves);
+      reader = read_well e reader new.last stops.error fine;
+      writer = stopped_writer e new.last stops.error;
+    }

@@ -1,8 +1,11 @@
 pub mod PrintedLemmas
 pub mod ListingLemmas
 pub mod PieceLemmas
+pub mod InputLemmas
 pub mod ReadLemmas
 pub mod EndLemmas
+pub mod StageLemmas
+pub mod AmidLemmas
 pub mod IdentifyLemmas
 pub mod MatchLemmas
 pub mod OptionLemmas

@@ -19,7 +19,7 @@ use Rattle.isort_find.specs.declared.finder.Outcome.{Outcome}
 use Rattle.isort_find.specs.declared.finder.Outcome.TheVariants as outcome
 use Rattle.isort_cmd.specs.Printed.{printed}
 use Rattle.isort_cmd.specs.RunError.{run_error_of}
-use Rattle.isort_cmd.specs.Steps.{IsListed, HasListed, HasListedTo, LeavesReady, LeavesPiece, MeetsFaultAfter}
+use Rattle.isort_cmd.specs.Steps.{IsListed, HasListed, HasListedTo, HasNoFault, LeavesReady, LeavesPiece, MeetsFaultAfter}
 use Rattle.isort_cmd.specs.Written.{Lists, ListsFront}
 use Rattle.isort_cmd.specs.declared.error.RunError.{RunError}
 use Rattle.isort_cmd.specs.declared.error.RunError.TheVariants as run
@@ -194,78 +194,10 @@ has_listed_kept path known options finder start mid now kept listed = record {
       };
 }
 
--- ---- inside a piece
-
--- These bytes of a piece are left. Of the others all that is ready was listed.
-pub record IsAmid (path piece rest : List ℕ) (old finder : PieceFinding) (start now : Option (List ℕ)) : Type 0 where
-  pub front : List ℕ
-  pub split : front ++ rest ≡ piece
-  pub fed : fed_by finder ≡ fed_by old + length front
-  pub open_yet : finder.scanning.ended ≡ false
-  pub none_ready : has_ready finder ≡ false
-  pub listed : (known : List ℕ) (options : FindOptions) (first : Option (List ℕ)) → HasListed path known options old first start → HasListedTo path (known ++ front) options finder first now
-
-pub amid_first : (path piece : List ℕ) (finder : PieceFinding) (now : Option (List ℕ)) → finder.scanning.ended ≡ false → has_ready finder ≡ false → IsAmid path piece piece finder finder now now
-amid_first path piece finder now open_yet none = record {
-  front = [];
-  split = refl;
-  fed = omega arith;
-  open_yet = open_yet;
-  none_ready = none;
-  listed = λ known options first listed. subst (λ (k : List ℕ). HasListedTo path k options finder first now) (sym (append-nil known)) (record {
-    fed = listed.fed;
-    no_fault = listed.no_fault;
-    listed = λ text goes. (listed.listed text goes).listed;
-  });
-}
-
 -- what is listed of each text stays so where each text's is, and as much was fed
-to_next : (path known : List ℕ) (options : FindOptions) (mid new : PieceFinding) (first before now : Option (List ℕ)) → fed_by new ≡ fed_by mid → (((f : Fault) → mid.outcome ≡ outcome.Fault f → ⊥) → (f : Fault) → new.outcome ≡ outcome.Fault f → ⊥) → ((text : List ℕ) → IsListed path text options mid first before → IsListed path text options new first now) → HasListedTo path known options mid first before → HasListedTo path known options new first now
+pub to_next : (path known : List ℕ) (options : FindOptions) (mid new : PieceFinding) (first before now : Option (List ℕ)) → fed_by new ≡ fed_by mid → (HasNoFault mid → HasNoFault new) → ((text : List ℕ) → IsListed path text options mid first before → IsListed path text options new first now) → HasListedTo path known options mid first before → HasListedTo path known options new first now
 to_next path known options mid new first before now fed no_fault listed to = record {
   fed = fed ∙ to.fed;
   no_fault = no_fault to.no_fault;
   listed = λ text goes. listed text (to.listed text goes);
 }
-
--- more bytes of the piece were taken, and what got ready was listed
-pub amid_next : FoundLaws → (path piece rest left : List ℕ) (old finder : PieceFinding) (n : ℕ) (mid new : PieceFinding) (start before now : Option (List ℕ)) → take n rest ++ left ≡ rest → IsAmid path piece rest old finder start before → TakesPiece finder rest n mid → fed_by new ≡ fed_by mid → new.scanning.ended ≡ mid.scanning.ended → has_ready new ≡ false → (((f : Fault) → mid.outcome ≡ outcome.Fault f → ⊥) → (f : Fault) → new.outcome ≡ outcome.Fault f → ⊥) → ((text : List ℕ) (options : FindOptions) (first : Option (List ℕ)) → IsListed path text options mid first before → IsListed path text options new first now) → IsAmid path piece left old new start now
-amid_next laws path piece rest left old finder n mid new start before now parts amid takes fed ended none no_fault listed =
-    let size = length-take-le n rest takes.within in
-    let joined = length-append amid.front (take n rest) in
-    let was = amid.fed in
-    let is = takes.fed in
-    record {
-      front = amid.front ++ take n rest;
-      split = append_assoc amid.front (take n rest) left ∙ ap (λ x. amid.front ++ x) parts ∙ amid.split;
-      fed = omega arith;
-      open_yet = ended ∙ takes.open_yet ∙ amid.open_yet;
-      none_ready = none;
-      listed = λ known options first so_far.
-          let to = taken_listed laws path (known ++ amid.front) rest options finder n mid first before amid.open_yet takes (amid.listed known options first so_far) in
-          subst (λ (k : List ℕ). HasListedTo path k options new first now) (append_assoc known amid.front (take n rest)) (to_next path ((known ++ amid.front) ++ take n rest) options mid new first before now fed no_fault (λ text. listed text options first) to);
-    }
-
--- feeding more of the piece failed
-pub amid_fed : FoundLaws → (path piece rest : List ℕ) (old finder : PieceFinding) (e : FindError) (new : PieceFinding) (start now : Option (List ℕ)) → IsAmid path piece rest old finder start now → FeedsPiece finder rest (Err e) new → (known : List ℕ) (options : FindOptions) (first : Option (List ℕ)) → HasListed path known options old first start → LeavesPiece path (known ++ piece) options (run_error_of e) first now
-amid_fed laws path piece rest old finder e new start now amid feeds known options first so_far =
-    let whole : (known ++ amid.front) ++ rest ≡ known ++ piece = append_assoc known amid.front rest ∙ ap (λ x. known ++ x) amid.split in
-    subst (λ (k : List ℕ). LeavesPiece path k options (run_error_of e) first now) whole (leaves_fed laws path (known ++ amid.front) rest options finder e new first now feeds (amid.listed known options first so_far))
-
--- more of the piece was taken, and listing what got ready failed
-pub amid_ready : FoundLaws → (path piece rest : List ℕ) (old finder : PieceFinding) (n : ℕ) (mid : PieceFinding) (e : RunError) (start before now : Option (List ℕ)) → IsAmid path piece rest old finder start before → TakesPiece finder rest n mid → ((text : List ℕ) (options : FindOptions) (first : Option (List ℕ)) → IsListed path text options mid first before → LeavesReady path text options mid e first now) → (known : List ℕ) (options : FindOptions) (first : Option (List ℕ)) → HasListed path known options old first start → LeavesPiece path (known ++ piece) options e first now
-amid_ready laws path piece rest old finder n mid e start before now amid takes leaves known options first so_far =
-    let to = taken_listed laws path (known ++ amid.front) rest options finder n mid first before amid.open_yet takes (amid.listed known options first so_far) in
-    let whole : ((known ++ amid.front) ++ take n rest) ++ drop n rest ≡ known ++ piece = append_assoc (known ++ amid.front) (take n rest) (drop n rest) ∙ ap (λ x. (known ++ amid.front) ++ x) (take-append-drop n rest) ∙ append_assoc known amid.front rest ∙ ap (λ x. known ++ x) amid.split in
-    subst (λ (k : List ℕ). LeavesPiece path k options e first now) whole (leaves_each laws path ((known ++ amid.front) ++ take n rest) (drop n rest) options mid e first now to.fed (takes.open_yet ∙ amid.open_yet) (λ text goes. leaves text options first (to.listed text goes)))
-
--- the piece was taken whole
-pub amid_whole : (path piece rest : List ℕ) (old finder : PieceFinding) (start now : Option (List ℕ)) → IsAmid path piece rest old finder start now → rest ≡ [] → (fed_by finder ≡ fed_by old + length piece) × ((known : List ℕ) (options : FindOptions) (first : Option (List ℕ)) → HasListed path known options old first start → HasListedTo path (known ++ piece) options finder first now)
-amid_whole path piece rest old finder start now amid none =
-    let whole : amid.front ≡ piece = sym (append-nil amid.front) ∙ ap (λ x. amid.front ++ x) (sym none) ∙ amid.split in (
-      amid.fed ∙ ap (λ (x : List ℕ). fed_by old + length x) whole,
-      λ known options first so_far. subst (λ (k : List ℕ). HasListedTo path (known ++ k) options finder first now) whole (amid.listed known options first so_far),
-    )
-
--- the first bytes, and the others as a slice of them
-pub parts_of : (n : ℕ) (bytes : List ℕ) → n ≤ length bytes → take n bytes ++ take (length bytes - n) (drop n bytes) ≡ bytes
-parts_of n bytes within = grind (arith, common_steps)

@@ -1,15 +1,17 @@
 -- What is listed of pieces that are read and fed, one after the other.
-use Rattle.std.proofs.Common.{◌≡◌, ℕ, ◌+◌, ◌-◌, ◌<◌, ◌≤◌, ◌∙◌, sym, ap, subst, Option, List, ◌++◌, length, take, arith}
+use Rattle.std.proofs.Common.{◌≡◌, ℕ, ◌+◌, ◌-◌, ◌<◌, ◌≤◌, ◌∙◌, refl, sym, ap, subst, Bool, true, false, Option, None, Some, IfSome, Result, Ok, Err, List, [], ◌++◌, length, min, take, length-append, arith, nat_lt, ltb-true, ltb-false}
 use Rattle.std.proofs.Math.Seq.{take-append-add}
-use Rattle.std.proofs.lemmas.List.{take-take, take_all}
-use Rattle.std.proofs.lemmas.Grind.{common_steps}
+use Rattle.std.proofs.lemmas.List.{append-nil, length-take-le, take-take, take_all}
 use Rattle.std.proofs.KnownBytes.{Consumes-trans, Consumes-kept}
-use Rattle.std.specs.Io.KnownBytes.{Consumes, Keeps}
-use Rattle.isort_find.specs.Pieces.{PieceFinding, fed_by}
+use Rattle.std.specs.Io.KnownBytes.{Consumes, IsAtEnd, Keeps}
+use Rattle.isort_find.specs.Pieces.{PieceFinding, fed_by, options_for}
 use Rattle.isort_find.specs.declared.options.FindOptions.{FindOptions}
-use Rattle.isort_cmd.specs.Steps.{IsReadError, HasListed, LeavesPiece, ListsRead, LeavesKnown, LeavesRead}
-use Rattle.isort_cmd.specs.Written.{AreFed}
 use Rattle.isort_sort.specs.declared.metered.Last.{Last}
+use Rattle.isort_sort.specs.declared.metered.Last.TheVariants as last
+use Rattle.isort_cmd.specs.RunError.{LeavesReader, LeavesWriter}
+use Rattle.isort_cmd.specs.Stages.{Stage, ListsPiece, StopsInPiece, StopsInput, TakesAll, TakesInput}
+use Rattle.isort_cmd.specs.Steps.{IsOutputError, IsReadError, HasListed, LeavesPiece, ListsRead, LeavesKnown}
+use Rattle.isort_cmd.specs.Written.{AreFed}
 use Rattle.isort_cmd.specs.declared.error.RunError.{RunError}
 use Rattle.isort_cmd.specs.declared.error.RunError.TheVariants as run
 
@@ -17,14 +19,26 @@ use Rattle.isort_cmd.specs.declared.error.RunError.TheVariants as run
 pub fed_whole : (max : ℕ) (known : List ℕ) (old left : Option (List ℕ)) → length known ≤ max → Consumes old left known → AreFed max known old left
 fed_whole max known old left within consumed = record { read = known; consumed = consumed; first = sym (take_all max known within) }
 
-within_room : (max n : ℕ) (known buffer : List ℕ) → length known ≤ max → n ≤ max - length known → length (known ++ take n buffer) ≤ max
-within_room max n known buffer within room = grind (arith, common_steps)
-
 -- of the bytes that came, those that fit
 take_room : (max n : ℕ) (known buffer : List ℕ) → length known ≤ max → max - length known ≤ n → known ++ take (max - length known) buffer ≡ take max (known ++ take n buffer)
 take_room max n known buffer within room =
     let whole : length known + (max - length known) ≡ max = omega (arith, within) in
     sym (ap (λ m. take m (known ++ take n buffer)) (sym whole) ∙ take-append-add known (take n buffer) (max - length known) ∙ ap (λ l. known ++ l) (take-take (max - length known) n buffer room))
+
+-- those are the first `max` of all
+take_fitting : (max n fitting : ℕ) (known buffer : List ℕ) → length known ≤ max → n ≤ length buffer → fitting ≡ min (max - length known) n → known ++ take fitting buffer ≡ take max (known ++ take n buffer)
+take_fitting max n fitting known buffer within there is = go (nat_lt n (max - length known)) refl
+  where
+    go : (fits : Bool) → nat_lt n (max - length known) ≡ fits → known ++ take fitting buffer ≡ take max (known ++ take n buffer)
+    go true t =
+        let less = ltb-true _ _ t in
+        let all : fitting ≡ n = omega (arith, less, is) in
+        let size = length-append known (take n buffer) ∙ ap (λ m. length known + m) (length-take-le n buffer there) in
+        ap (λ m. known ++ take m buffer) all ∙ sym (take_all max (known ++ take n buffer) (omega (arith, size, less, within)))
+    go false t =
+        let over = ltb-false _ _ t in
+        let some : fitting ≡ max - length known = omega (arith, over, is) in
+        ap (λ m. known ++ take m buffer) some ∙ take_room max n known buffer within (omega (arith, over))
 
 leaves_read_error : (path known : List ℕ) (options : FindOptions) (finder : PieceFinding) (e : RunError) (l : Last) (start now : Option (List ℕ)) → IsReadError e l → HasListed path known options finder start now → LeavesKnown path known options finder e start now
 leaves_read_error path known options finder (run.Fault f) l start now h listed = absurd h
@@ -42,63 +56,158 @@ leaves_piece_error path known options finder run.Read start now h = absurd h
 leaves_piece_error path known options finder run.TooLong start now h = absurd h
 leaves_piece_error path known options finder run.NeverEnds start now h = absurd h
 
--- a read failed
-pub read_fails : (path : List ℕ) (options : FindOptions) (max : ℕ) (finder : PieceFinding) (e : RunError) (l : Last) (old mid left start now : Option (List ℕ)) → ListsRead path options max finder old mid start now → Keeps mid left → IsReadError e l → LeavesRead path options max finder e old left start now
-read_fails path options max finder e l old mid left start now lists kept h = record {
-  known = lists.known;
-  fed = fed_whole max lists.known old left lists.within (Consumes-kept old mid left lists.known lists.consumed kept);
-  leaves = leaves_read_error path lists.known options finder e l start now h lists.listed;
+-- ---- a read failed
+
+-- what the reader's last call then was
+pub ends_reading : (e : RunError) (l : Last) → IsReadError e l → LeavesReader e l
+ends_reading (run.Fault f) l h = absurd h
+ends_reading run.Write l h = absurd h
+ends_reading run.Memory l h = absurd h
+ends_reading run.Read l h = h
+ends_reading run.TooLong l h = absurd h
+ends_reading run.NeverEnds l h = h
+
+unread_writer : (e : RunError) (l writer : Last) → IsReadError e l → writer ≡ last.Fine → LeavesWriter e writer
+unread_writer (run.Fault f) l writer h fine = absurd h
+unread_writer run.Write l writer h fine = absurd h
+unread_writer run.Memory l writer h fine = absurd h
+unread_writer run.Read l writer h fine = fine
+unread_writer run.TooLong l writer h fine = absurd h
+unread_writer run.NeverEnds l writer h fine = fine
+
+no_read_is_too_long : (e : RunError) (l : Last) → IsReadError e l → e ≡ run.TooLong → ⊥
+no_read_is_too_long e l h is = subst (λ x. IsReadError x l) is h
+
+pub read_stops : (old now : Stage) (max : ℕ) (given mid left : Option (List ℕ)) (e : RunError) (l : Last) → TakesInput old max given mid now → Keeps mid left → IsReadError e l → StopsInput old max given e left now
+read_stops old now max given mid left e l takes kept h = record {
+  writer = unread_writer e l now.last h takes.fine;
+  leaves = record {
+    known = takes.lists.known;
+    fed = fed_whole max takes.lists.known given left takes.lists.within (Consumes-kept given mid left takes.lists.known takes.lists.consumed kept);
+    leaves = leaves_read_error old.path takes.lists.known (options_for old.finder) now.finder e l old.written now.written h takes.lists.listed;
+  };
+  too_long = λ is. absurd (no_read_is_too_long e l h is);
 }
 
--- what was fed is as long as what was read
-room_of : (max fed : ℕ) (finder : PieceFinding) (known : List ℕ) → fed ≡ fed_by finder → fed_by finder ≡ length known → max - fed ≡ max - length known
-room_of max fed finder known same is = ap (λ x. max - x) (same ∙ is)
+-- ---- a piece was read
 
--- a piece was read that may come
-pub reads_on : (path : List ℕ) (options : FindOptions) (max n fed : ℕ) (buffer : List ℕ) (finder next : PieceFinding) (old mid left start now last : Option (List ℕ)) → (lists : ListsRead path options max finder old mid start now) → Consumes mid left (take n buffer) → fed ≡ fed_by finder → n ≤ max - fed → HasListed path (lists.known ++ take n buffer) options next start last → ListsRead path options max next old left start last
-reads_on path options max n fed buffer finder next old mid left start now last lists read same room listed = record {
-  known = lists.known ++ take n buffer;
-  within = within_room max n lists.known buffer lists.within (subst (λ x. n ≤ x) (room_of max fed finder lists.known same lists.listed.fed) room);
-  consumed = Consumes-trans old mid left lists.known (take n buffer) lists.consumed read;
-  listed = listed;
+-- nothing was read yet
+pub takes_nothing : (s : Stage) (max : ℕ) (given : Option (List ℕ)) → s.last ≡ last.Fine → Consumes given given [] → HasListed s.path [] (options_for s.finder) s.finder s.written s.written → TakesInput s max given given s
+takes_nothing s max given fine none fresh = record {
+  same_path = refl;
+  fine = fine;
+  lists = record { known = []; within = omega arith; consumed = none; listed = fresh };
 }
 
--- listing a piece that may come failed
-pub piece_fails : (path : List ℕ) (options : FindOptions) (max n fed : ℕ) (buffer : List ℕ) (finder next : PieceFinding) (e : RunError) (old mid left start now last : Option (List ℕ)) → (lists : ListsRead path options max finder old mid start now) → Consumes mid left (take n buffer) → fed ≡ fed_by finder → n ≤ max - fed → LeavesPiece path (lists.known ++ take n buffer) options e start last → LeavesRead path options max next e old left start last
-piece_fails path options max n fed buffer finder next e old mid left start now last lists read same room leaves =
-    let known = lists.known ++ take n buffer in
-    let within = within_room max n lists.known buffer lists.within (subst (λ x. n ≤ x) (room_of max fed finder lists.known same lists.listed.fed) room) in
+-- no byte came
+pub takes_no_more : (old now : Stage) (max n : ℕ) (buffer : List ℕ) (given mid left : Option (List ℕ)) → TakesInput old max given mid now → n ≡ 0 → Consumes mid left (take n buffer) → TakesInput old max given left now
+takes_no_more old now max n buffer given mid left takes none read = record {
+  same_path = takes.same_path;
+  fine = takes.fine;
+  lists = record {
+    known = takes.lists.known;
+    within = takes.lists.within;
+    consumed = subst (λ (bytes : List ℕ). Consumes given left bytes) (ap (λ m. takes.lists.known ++ take m buffer) none ∙ append-nil takes.lists.known) (Consumes-trans given mid left takes.lists.known (take n buffer) takes.lists.consumed read);
+    listed = takes.lists.listed;
+  };
+}
+
+-- how many of them fit
+room_of : (old now : Stage) (max n fed fitting : ℕ) (given mid : Option (List ℕ)) → (takes : TakesInput old max given mid now) → fed ≡ fed_by now.finder → fitting ≡ min (max - fed) n → fitting ≡ min (max - length takes.lists.known) n
+room_of old now max n fed fitting given mid takes same is = is ∙ ap (λ m. min (max - m) n) (same ∙ takes.lists.listed.fed)
+
+-- the bytes that are fed of what was read
+fed_fitting : (old now : Stage) (max n fed fitting : ℕ) (buffer : List ℕ) (given mid left : Option (List ℕ)) → (takes : TakesInput old max given mid now) → n ≤ length buffer → Consumes mid left (take n buffer) → fed ≡ fed_by now.finder → fitting ≡ min (max - fed) n → AreFed max (takes.lists.known ++ take fitting buffer) given left
+fed_fitting old now max n fed fitting buffer given mid left takes there read same is = record {
+  read = takes.lists.known ++ take n buffer;
+  consumed = Consumes-trans given mid left takes.lists.known (take n buffer) takes.lists.consumed read;
+  first = take_fitting max n fitting takes.lists.known buffer takes.lists.within there (room_of old now max n fed fitting given mid takes same is);
+}
+
+-- the writer, after listing failed
+pub stopped_writer : (e : RunError) (l : Last) → IsOutputError e l → LeavesWriter e l
+stopped_writer (run.Fault f) l h = h
+stopped_writer run.Write l h = h
+stopped_writer run.Memory l h = h
+stopped_writer run.Read l h = absurd h
+stopped_writer run.TooLong l h = absurd h
+stopped_writer run.NeverEnds l h = absurd h
+
+-- the reader, whose last call was fine
+pub read_well : (e : RunError) (l writer : Last) → IsOutputError e writer → l ≡ last.Fine → LeavesReader e l
+read_well (run.Fault f) l writer h fine = fine
+read_well run.Write l writer h fine = fine
+read_well run.Memory l writer h fine = fine
+read_well run.Read l writer h fine = absurd h
+read_well run.TooLong l writer h fine = fine
+read_well run.NeverEnds l writer h fine = absurd h
+
+pub no_output_is_too_long : (e : RunError) (l : Last) → IsOutputError e l → e ≡ run.TooLong → ⊥
+no_output_is_too_long e l h is = subst (λ x. IsOutputError x l) is h
+
+-- listing what fits failed
+pub piece_stops : (old now new : Stage) (max n fed fitting : ℕ) (buffer : List ℕ) (given mid left : Option (List ℕ)) (e : RunError) → TakesInput old max given mid now → n ≤ length buffer → Consumes mid left (take n buffer) → fed ≡ fed_by now.finder → fitting ≡ min (max - fed) n → StopsInPiece now (take fitting buffer) e new → StopsInput old max given e left new
+piece_stops old now new max n fed fitting buffer given mid left e takes there read same is stops =
+    let lists = takes.lists in
+    let known = lists.known ++ take fitting buffer in
+    let options = options_for old.finder in
+    let listed = subst (λ (p : List ℕ). HasListed p lists.known options now.finder old.written now.written) (sym takes.same_path) lists.listed in
+    let leaves = subst (λ (p : List ℕ). LeavesPiece p known options e old.written new.written) takes.same_path (stops.leaves lists.known options old.written listed) in
     record {
-      known = known;
-      fed = fed_whole max known old left within (Consumes-trans old mid left lists.known (take n buffer) lists.consumed read);
-      leaves = leaves_piece_error path known options next e start last leaves;
+      writer = stopped_writer e new.last stops.error;
+      leaves = record {
+        known = known;
+        fed = fed_fitting old now max n fed fitting buffer given mid left takes there read same is;
+        leaves = leaves_piece_error old.path known options new.finder e old.written new.written leaves;
+      };
+      too_long = λ long. absurd (no_output_is_too_long e new.last stops.error long);
     }
 
--- more bytes came than may: the first of them are fed
-first_fed : (path : List ℕ) (options : FindOptions) (max n fed : ℕ) (buffer : List ℕ) (finder : PieceFinding) (old mid left start now : Option (List ℕ)) → (lists : ListsRead path options max finder old mid start now) → Consumes mid left (take n buffer) → fed ≡ fed_by finder → max - fed < n → AreFed max (lists.known ++ take (max - fed) buffer) old left
-first_fed path options max n fed buffer finder old mid left start now lists read same room =
-    let is = room_of max fed finder lists.known same lists.listed.fed in
-    let over : max - length lists.known < n = subst (λ x. x < n) is room in
+-- what fits was listed
+listed_fitting : (old now new : Stage) (max : ℕ) (piece : List ℕ) (given mid : Option (List ℕ)) → (takes : TakesInput old max given mid now) → TakesAll now piece new → HasListed old.path (takes.lists.known ++ piece) (options_for old.finder) new.finder old.written new.written
+listed_fitting old now new max piece given mid takes all =
+    let lists = takes.lists in
+    let options = options_for old.finder in
+    let listed = subst (λ (p : List ℕ). HasListed p lists.known options now.finder old.written now.written) (sym takes.same_path) lists.listed in
+    subst (λ (p : List ℕ). HasListed p (lists.known ++ piece) options new.finder old.written new.written) takes.same_path (all.listed lists.known options old.written listed)
+
+consumed_long : (max : ℕ) (given left : Option (List ℕ)) (bytes : List ℕ) → Consumes given left bytes → max < length bytes → IfSome given (λ text. max < length text)
+consumed_long max None left bytes consumed long = tt
+consumed_long max (Some text) None bytes consumed long = absurd consumed
+consumed_long max (Some text) (Some rest) bytes consumed long =
+    let size = ap length consumed ∙ length-append bytes rest in
+    omega (arith, size, long)
+
+-- and more came
+pub more_came : (old now new : Stage) (max n fed fitting : ℕ) (buffer : List ℕ) (given mid left : Option (List ℕ)) → TakesInput old max given mid now → n ≤ length buffer → Consumes mid left (take n buffer) → fed ≡ fed_by now.finder → fitting ≡ min (max - fed) n → fitting < n → TakesAll now (take fitting buffer) new → StopsInput old max given run.TooLong left new
+more_came old now new max n fed fitting buffer given mid left takes there read same is less all =
+    let lists = takes.lists in
+    let room = room_of old now max n fed fitting given mid takes same is in
+    let size = length-append lists.known (take n buffer) ∙ ap (λ m. length lists.known + m) (length-take-le n buffer there) in
     record {
-      read = lists.known ++ take n buffer;
-      consumed = Consumes-trans old mid left lists.known (take n buffer) lists.consumed read;
-      first = ap (λ x. lists.known ++ take x buffer) is ∙ take_room max n lists.known buffer lists.within (omega (arith, over));
+      writer = all.fine;
+      leaves = record {
+        known = lists.known ++ take fitting buffer;
+        fed = fed_fitting old now max n fed fitting buffer given mid left takes there read same is;
+        leaves = listed_fitting old now new max (take fitting buffer) given mid takes all;
+      };
+      too_long = λ _. consumed_long max given left (lists.known ++ take n buffer) (Consumes-trans given mid left lists.known (take n buffer) lists.consumed read) (omega (arith, size, room, less));
     }
 
--- and they are listed
-pub first_listed : (path : List ℕ) (options : FindOptions) (max n fed : ℕ) (buffer : List ℕ) (finder next : PieceFinding) (old mid left start now last : Option (List ℕ)) → (lists : ListsRead path options max finder old mid start now) → Consumes mid left (take n buffer) → fed ≡ fed_by finder → max - fed < n → HasListed path (lists.known ++ take (max - fed) buffer) options next start last → LeavesRead path options max next run.TooLong old left start last
-first_listed path options max n fed buffer finder next old mid left start now last lists read same room listed = record {
-  known = lists.known ++ take (max - fed) buffer;
-  fed = first_fed path options max n fed buffer finder old mid left start now lists read same room;
-  leaves = listed;
-}
-
--- or listing them failed
-pub first_fail : (path : List ℕ) (options : FindOptions) (max n fed : ℕ) (buffer : List ℕ) (finder next : PieceFinding) (e : RunError) (old mid left start now last : Option (List ℕ)) → (lists : ListsRead path options max finder old mid start now) → Consumes mid left (take n buffer) → fed ≡ fed_by finder → max - fed < n → LeavesPiece path (lists.known ++ take (max - fed) buffer) options e start last → LeavesRead path options max next e old left start last
-first_fail path options max n fed buffer finder next e old mid left start now last lists read same room leaves =
-    let known = lists.known ++ take (max - fed) buffer in
+-- all of the piece did fit
+pub takes_more : (old now new : Stage) (max n fed fitting : ℕ) (buffer : List ℕ) (given mid left : Option (List ℕ)) → TakesInput old max given mid now → n ≤ length buffer → Consumes mid left (take n buffer) → fed ≡ fed_by now.finder → fitting ≡ min (max - fed) n → n ≤ fitting → TakesAll now (take fitting buffer) new → TakesInput old max given left new
+takes_more old now new max n fed fitting buffer given mid left takes there read same is whole all =
+    let lists = takes.lists in
+    let room = room_of old now max n fed fitting given mid takes same is in
+    let every : fitting ≡ n = omega (arith, room, whole) in
+    let size = length-append lists.known (take fitting buffer) ∙ ap (λ m. length lists.known + m) (length-take-le fitting buffer (omega (arith, every, there))) in
     record {
-      known = known;
-      fed = first_fed path options max n fed buffer finder old mid left start now lists read same room;
-      leaves = leaves_piece_error path known options next e start last leaves;
+      same_path = all.same_path ∙ takes.same_path;
+      fine = all.fine;
+      lists = record {
+        known = lists.known ++ take fitting buffer;
+        within = omega (arith, size, room, lists.within);
+        consumed = subst (λ (m : ℕ). Consumes given left (lists.known ++ take m buffer)) (sym every) (Consumes-trans given mid left lists.known (take n buffer) lists.consumed read);
+        listed = listed_fitting old now new max (take fitting buffer) given mid takes all;
+      };
     }

@@ -1,5 +1,5 @@
 -- What the steps of a run promise one another. Contracts of private functions alone cite these.
-use Rattle.std.specs.Prelude.{◌≡◌, ◌≤◌, ⊤, ℕ, false, Option, Some, List, ◌++◌, length, take}
+use Rattle.std.specs.Prelude.{◌≡◌, ◌≤◌, ◌⊎◌, ℕ, true, false, Option, Some, Result, Ok, Err, List, ◌++◌, length, take}
 use Rattle.std.specs.Io.KnownBytes.{Appends, Consumes}
 use Rattle.py_lines.specs.Scanning.{GoesOnWith}
 use Rattle.py_lines.specs.declared.fault.Fault.{Fault}
@@ -11,6 +11,7 @@ use Rattle.isort_find.specs.declared.options.FindOptions.{FindOptions}
 use Rattle.isort_find.specs.declared.finder.Outcome.TheVariants as outcome
 use Rattle.isort_cmd.specs.Printed.{printed}
 use Rattle.isort_cmd.specs.Written.{AreFed, Lists, ListsFront}
+use Rattle.isort_sort.specs.Metered.{IsGivenUp}
 use Rattle.isort_sort.specs.declared.metered.Last.{Last}
 use Rattle.isort_sort.specs.declared.metered.Last.TheVariants as last
 use Rattle.isort_cmd.specs.declared.error.RunError.{RunError}
@@ -22,12 +23,20 @@ IsReadError run.Read l = l ≡ last.Failed
 IsReadError run.NeverEnds l = l ≡ last.Interrupted 1000
 IsReadError _ l = ⊥
 
--- the errors of listing what was read
-abbrev pub IsOutputError : RunError → Type 0
-IsOutputError (run.Fault f) = ⊤
-IsOutputError run.Write = ⊤
-IsOutputError run.Memory = ⊤
-IsOutputError _ = ⊥
+-- the errors of listing what was read, and how the writer's last call then ended
+abbrev pub IsOutputError : RunError → Last → Type 0
+IsOutputError (run.Fault f) l = l ≡ last.Fine
+IsOutputError run.Write l = IsGivenUp l
+IsOutputError run.Memory l = l ≡ last.Fine
+IsOutputError _ l = ⊥
+
+-- the finder met no fault
+abbrev pub HasNoFault : PieceFinding → Type 0
+HasNoFault finder = (fault : Fault) → finder.outcome ≡ outcome.Fault fault → ⊥
+
+-- the text has ended, or the top
+abbrev pub IsOver : PieceFinding → Type 0
+IsOver finder = (finder.scanning.ended ≡ true) ⊎ (finder.outcome ≡ outcome.End)
 
 -- What a finder over pieces gave of this text was listed, and before the text's end the bytes fed settle it.
 pub record IsListed (path text : List ℕ) (options : FindOptions) (finder : PieceFinding) (start now : Option (List ℕ)) : Type 0 where
@@ -47,7 +56,7 @@ pub record IsListedSoFar (path text : List ℕ) (options : FindOptions) (finder 
 -- was listed.
 pub record HasListedTo (path known : List ℕ) (options : FindOptions) (finder : PieceFinding) (start now : Option (List ℕ)) : Type 0 where
   pub fed : fed_by finder ≡ length known
-  pub no_fault : (fault : Fault) → finder.outcome ≡ outcome.Fault fault → ⊥
+  pub no_fault : HasNoFault finder
   pub listed : (text : List ℕ) → GoesOnWith text 0 known → IsListed path text options finder start now
 
 -- A finder that was fed just these bytes of a text has nothing ready, and for each text that begins with them what they
@@ -56,7 +65,7 @@ pub record HasListed (path known : List ℕ) (options : FindOptions) (finder : P
   pub fed : fed_by finder ≡ length known
   pub none_ready : has_ready finder ≡ false
   pub open_yet : finder.scanning.ended ≡ false
-  pub no_fault : (fault : Fault) → finder.outcome ≡ outcome.Fault fault → ⊥
+  pub no_fault : HasNoFault finder
   pub listed : (text : List ℕ) → GoesOnWith text 0 known → IsListedSoFar path text options finder start now
 
 -- what an error leaves of what was ready in one text; a fault before the text's end is decided
@@ -78,6 +87,19 @@ LeavesPiece path known options (run.Fault f) start now = MeetsFaultAfter path kn
 LeavesPiece path known options run.Write start now = (more : List ℕ) → ListsFront path (known ++ more) options start now
 LeavesPiece path known options run.Memory start now = (more : List ℕ) → ListsFront path (known ++ more) options start now
 LeavesPiece path known options _ start now = ⊥
+
+-- all that the bytes fed have ready was listed, and they decide no fault
+pub record HoldsNone (old new : PieceFinding) : Type 0 where
+  pub fed : fed_by new ≡ fed_by old
+  pub open_yet : new.scanning.ended ≡ false
+  pub none_ready : has_ready new ≡ false
+  pub listed : (path known : List ℕ) (options : FindOptions) (start now : Option (List ℕ)) → HasListedTo path known options old start now → HasListed path known options new start now
+
+-- what a look at the byte that is held answers
+abbrev pub LooksAtHeld : PieceFinding → Result (Unit {0}) RunError → PieceFinding → Type 0
+LooksAtHeld old (Ok done) new = HoldsNone old new
+LooksAtHeld old (Err e) new = IsOutputError e last.Fine
+    × ((path known : List ℕ) (options : FindOptions) (start now : Option (List ℕ)) → HasListedTo path known options old start now → LeavesPiece path known options e start now)
 
 -- All that was read, at most `max` bytes, was fed, and what it settles was listed.
 pub record ListsRead (path : List ℕ) (options : FindOptions) (max : ℕ) (finder : PieceFinding) (old left start now : Option (List ℕ)) : Type 0 where

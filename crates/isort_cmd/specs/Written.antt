@@ -1,5 +1,5 @@
 -- What a listing leaves in its writer.
-use Rattle.std.specs.Prelude.{◌≡◌, ◌⊎◌, List, ℕ, Option, None, Some, ◌++◌, take}
+use Rattle.std.specs.Prelude.{◌≡◌, ◌⊎◌, ◌<◌, ◌≤◌, List, ℕ, Option, None, Some, IfSome, ◌++◌, length, take}
 use Rattle.std.specs.Io.KnownBytes.{Appends, Consumes, IsAtEnd}
 use Rattle.py_lines.specs.declared.fault.Fault.{Fault}
 use Rattle.py_imports.specs.Bound.{Bound}
@@ -53,3 +53,26 @@ LeavesAtError path text options run.Memory old new = ListsFront path text option
 LeavesAtError path text options run.Read old new = ListsFront path text options old new
 LeavesAtError path text options run.TooLong old new = ListsFront path text options old new
 LeavesAtError path text options run.NeverEnds old new = ListsFront path text options old new
+
+-- What a reader had, at most `max` bytes, was read to its end, and the lines of all imports that are found in it were written.
+pub record ListsInput (path : List ℕ) (options : FindOptions) (max : ℕ) (given left old new : Option (List ℕ)) : Type 0 where
+  pub lists : IfSome given (λ text. Lists path text options None old new)
+  pub within : IfSome given (λ text. length text ≤ max)
+  pub end : IsAtEnd left
+
+-- what an error leaves of the listing of what a reader had, which is too long only beyond `max` bytes
+pub record LeavesInput (path : List ℕ) (options : FindOptions) (max : ℕ) (e : RunError) (given old new : Option (List ℕ)) : Type 0 where
+  pub leaves : IfSome given (λ text. LeavesAtError path text options e old new)
+  pub too_long : e ≡ run.TooLong → IfSome given (λ text. max < length text)
+
+-- of the bytes fed the lines of what they settle were written, and they decide no fault
+pub record ListsUnread (path : List ℕ) (options : FindOptions) (max : ℕ) (given left old new : Option (List ℕ)) : Type 0 where
+  pub known : List ℕ
+  pub fed : AreFed max known given left
+  pub lists : ListsSettled path known options old new
+
+-- of the bytes fed, which have this fault, the lines before it were written
+pub record ListsFaulty (path : List ℕ) (options : FindOptions) (max : ℕ) (fault : Fault) (given left old new : Option (List ℕ)) : Type 0 where
+  pub known : List ℕ
+  pub fed : AreFed max known given left
+  pub lists : ListsToFault path known options fault left old new

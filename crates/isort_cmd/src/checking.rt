@@ -1,11 +1,10 @@
 //! Checking whether a text is sorted.
-ghost use Rattle.std.specs.Prelude.{◌≡◌, ◌≢◌, ◌≤◌, ◌<◌, ◌^◌, Ok, length, OnOk, IfOk, IfSome};
-ghost use Rattle.std.specs.Io.KnownBytes.{IsAtEnd};
-ghost use Rattle.py_lines.specs.declared.fault.Fault.{Fault};
+ghost use Rattle.std.specs.Prelude.{◌≡◌, ◌≢◌, ◌≤◌, ◌^◌, IfOk, IfErr, IfSome};
 ghost use Rattle.isort_settings.specs.Values.{values};
-ghost use Rattle.isort_sort.specs.Answers.{Checks};
-ghost use Rattle.isort_sort.specs.Sorted.{HasFault};
 ghost use Rattle.isort_sort.specs.Metered.{inner_of, last_of};
+ghost use Rattle.isort_cmd.specs.Reading.{TellsLength};
+ghost use Rattle.isort_cmd.specs.RunError.{EndsReading};
+ghost use Rattle.isort_cmd.specs.Sorting.{ChecksInput, TellsFault};
 
 use crate::error::RunError;
 use crate::read::read_text;
@@ -34,18 +33,14 @@ pub fn check_run<R: Read>(
     requires small { max ≤ 2 ^ 62 }
 
     // Where the reader tells its bytes.
-    ensures ok { IfOk result (λ same. IfSome (R.remaining (inner_of reader.old)) (λ text. Checks text (values settings.now) (Ok same))) }
-    ensures end { OnOk result (IsAtEnd (R.remaining (inner_of reader.new))) }
-    ensures within { OnOk result (IfSome (R.remaining (inner_of reader.old)) (λ text. length text ≤ max)) }
-    ensures fault { (f : Fault) → result ≡ Err (RunError.Fault f) → IfSome (R.remaining (inner_of reader.old)) (λ text. HasFault text f) }
-    ensures fault_within { (f : Fault) → result ≡ Err (RunError.Fault f) → IfSome (R.remaining (inner_of reader.old)) (λ text. length text ≤ max) }
-    ensures too_long { result ≡ Err RunError.TooLong → IfSome (R.remaining (inner_of reader.old)) (λ text. max < length text) }
+    ensures ok { IfOk result (λ same. ChecksInput (values settings.now) max same (R.remaining (inner_of reader.old))
+        (R.remaining (inner_of reader.new))) }
+    ensures fault { IfErr result (λ e. IfSome (R.remaining (inner_of reader.old)) (λ text. TellsFault text e)) }
+    ensures length { IfErr result (λ e. TellsLength max e (R.remaining (inner_of reader.old))) }
 
     // At any reader.
-    ensures read { result ≡ Err RunError.Read → last_of reader.new ≡ Last.Failed }
-    ensures never_ends { result ≡ Err RunError.NeverEnds → last_of reader.new ≡ Last.Interrupted 1000 }
     ensures never_written { result ≢ Err RunError.Write }
-    ensures fine { result ≢ Err RunError.Read → result ≢ Err RunError.NeverEnds → last_of reader.new ≡ Last.Fine }
+    ensures reader { EndsReading result (last_of reader.new) }
 {
     let text = read_text(alloc, reader, max)?;
     Ok(check_code(alloc, text.as_slice(), settings)?)

@@ -1,9 +1,10 @@
 //! Reading, piece by piece and to the end.
-ghost use Rattle.std.specs.Prelude.{◌≡◌, ◌≢◌, ◌<◌, ◌≤◌, ◌^◌, IfOk, OnOk, IfErr, IfSome, length};
+ghost use Rattle.std.specs.Prelude.{◌≡◌, ◌≤◌, ◌^◌, IfOk, OnOk, IfErr};
 ghost use Rattle.std.specs.Io.{ReadsAtMost};
-ghost use Rattle.std.specs.Io.KnownBytes.{IsAtEnd, ReadConsumes};
+ghost use Rattle.std.specs.Io.KnownBytes.{ReadConsumes};
 ghost use Rattle.isort_sort.specs.Metered.{inner_of, last_of};
-ghost use Rattle.isort_cmd.specs.RunError.{IsInputError};
+ghost use Rattle.isort_cmd.specs.Reading.{IsReadWhole, TellsLength};
+ghost use Rattle.isort_cmd.specs.RunError.{EndsReading, IsInputError};
 ghost use Rattle.isort_cmd.specs.Steps.{IsReadError};
 
 use crate::error::RunError;
@@ -52,14 +53,11 @@ pub fn read_text<R: Read>(
 ) -> Result<Vec<u8>, RunError>
     requires fine { last_of reader.old ≡ Last.Fine }
     requires small { max ≤ 2 ^ 62 }
-    ensures within { IfOk result (λ text. length text.items ≤ max) }
-    ensures whole { IfOk result (λ text. IfSome (R.remaining (inner_of reader.old)) (λ all. all ≡ text.items)) }
-    ensures end { OnOk result (IsAtEnd (R.remaining (inner_of reader.new))) }
+    ensures ok { IfOk result (λ text. IsReadWhole max text.items (R.remaining (inner_of reader.old))
+        (R.remaining (inner_of reader.new))) }
     ensures errors { IfErr result IsInputError }
-    ensures read { result ≡ Err RunError.Read → last_of reader.new ≡ Last.Failed }
-    ensures never_ends { result ≡ Err RunError.NeverEnds → last_of reader.new ≡ Last.Interrupted 1000 }
-    ensures fine { result ≢ Err RunError.Read → result ≢ Err RunError.NeverEnds → last_of reader.new ≡ Last.Fine }
-    ensures too_long { result ≡ Err RunError.TooLong → IfSome (R.remaining (inner_of reader.old)) (λ all. max < length all) }
+    ensures length { IfErr result (λ e. TellsLength max e (R.remaining (inner_of reader.old))) }
+    ensures reader { EndsReading result (last_of reader.new) }
 {
     let mut text = Vec::new(alloc);
     let mut piece = [0u8; PIECE];

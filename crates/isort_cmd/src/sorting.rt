@@ -1,11 +1,11 @@
 //! Sorting a text that is read to its end.
-ghost use Rattle.std.specs.Prelude.{◌≡◌, ◌≢◌, ◌≤◌, ◌<◌, ◌^◌, length, OnOk, IfOk, IfErr, IfSome};
-ghost use Rattle.std.specs.Io.KnownBytes.{IsAtEnd, Keeps};
-ghost use Rattle.py_lines.specs.declared.fault.Fault.{Fault};
+ghost use Rattle.std.specs.Prelude.{◌≡◌, ◌≤◌, ◌^◌, IfOk, IfErr, IfSome};
+ghost use Rattle.std.specs.Io.KnownBytes.{Keeps};
 ghost use Rattle.isort_settings.specs.Values.{values};
-ghost use Rattle.isort_sort.specs.Metered.{inner_of, last_of, IsGivenUp};
-ghost use Rattle.isort_sort.specs.Written.{WritesSorted};
-ghost use Rattle.isort_cmd.specs.Sorting.{IsUnwritten, LeavesUnsorted};
+ghost use Rattle.isort_sort.specs.Metered.{inner_of, last_of};
+ghost use Rattle.isort_cmd.specs.Reading.{TellsLength};
+ghost use Rattle.isort_cmd.specs.RunError.{EndsReading, EndsWriting};
+ghost use Rattle.isort_cmd.specs.Sorting.{IsUnwritten, LeavesUnsorted, SortsInput};
 
 use crate::error::RunError;
 use crate::read::read_text;
@@ -42,20 +42,17 @@ pub fn sort_run<R: Read, W: Write>(
     requires small { max ≤ 2 ^ 62 }
 
     // Where the reader and the writer tell their bytes.
-    ensures ok { IfOk result (λ outcome. IfSome (R.remaining (inner_of reader.old)) (λ text. WritesSorted text (values settings.now) outcome (W.contents (inner_of writer.old)) (W.contents (inner_of writer.new)))) }
-    ensures end { OnOk result (IsAtEnd (R.remaining (inner_of reader.new))) }
-    ensures within { OnOk result (IfSome (R.remaining (inner_of reader.old)) (λ text. length text ≤ max)) }
-    ensures err { IfErr result (λ e. IfSome (R.remaining (inner_of reader.old)) (λ text. LeavesUnsorted text (values settings.now) e (W.contents (inner_of writer.old)) (W.contents (inner_of writer.new)))) }
-    ensures too_long { result ≡ Err RunError.TooLong → IfSome (R.remaining (inner_of reader.old)) (λ text. max < length text) }
-    ensures fault_within { (f : Fault) → result ≡ Err (RunError.Fault f) → IfSome (R.remaining (inner_of reader.old)) (λ text. length text ≤ max) }
+    ensures ok { IfOk result (λ outcome. SortsInput (values settings.now) max outcome (R.remaining (inner_of reader.old))
+        (R.remaining (inner_of reader.new)) (W.contents (inner_of writer.old)) (W.contents (inner_of writer.new))) }
+    ensures err { IfErr result (λ e. IfSome (R.remaining (inner_of reader.old)) (λ text. LeavesUnsorted text
+        (values settings.now) e (W.contents (inner_of writer.old)) (W.contents (inner_of writer.new)))) }
+    ensures length { IfErr result (λ e. TellsLength max e (R.remaining (inner_of reader.old))) }
 
     // At any reader and writer.
-    ensures unwritten { IfErr result (λ e. IsUnwritten e → Keeps (W.contents (inner_of writer.old)) (W.contents (inner_of writer.new))) }
-    ensures read { result ≡ Err RunError.Read → last_of reader.new ≡ Last.Failed }
-    ensures never_ends { result ≡ Err RunError.NeverEnds → last_of reader.new ≡ Last.Interrupted 1000 }
-    ensures write { result ≡ Err RunError.Write → IsGivenUp (last_of writer.new) }
-    ensures reader_fine { result ≢ Err RunError.Read → result ≢ Err RunError.NeverEnds → last_of reader.new ≡ Last.Fine }
-    ensures writer_fine { result ≢ Err RunError.Write → last_of writer.new ≡ Last.Fine }
+    ensures unwritten { IfErr result (λ e. IsUnwritten e → Keeps (W.contents (inner_of writer.old))
+        (W.contents (inner_of writer.new))) }
+    ensures reader { EndsReading result (last_of reader.new) }
+    ensures writer { EndsWriting result (last_of writer.new) }
 {
     let text = read_text(alloc, reader, max)?;
     Ok(sort_to(alloc, text.as_slice(), settings, writer)?)

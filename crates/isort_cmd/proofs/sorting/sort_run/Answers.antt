@@ -1,24 +1,23 @@
-use Rattle.std.proofs.Common.{◌≡◌, ℕ, ◌≤◌, ◌∙◌, sym, ap, subst, Option, None, Some, IfSome, Result, Ok, Err, List, length}
+use Rattle.std.proofs.Common.{None}
 use Rattle.std.proofs.lemmas.Result.{err_from_is_err_and}
-use Rattle.isort_sort.specs.declared.answer.Outcome.{Outcome}
-use Rattle.isort_cmd.specs.declared.error.RunError.{RunError}
+use Rattle.isort_settings.specs.Values.{values}
+use Rattle.isort_cmd.proofs.InputLemmas.{sorted_failed, sorted_unread, sorted_well}
 use Rattle.isort_cmd.proofs.sorting.sort_run.Goals as goal
 
--- what the reader had is as long as what was read
-within_known : (known : Option (List ℕ)) (items : List ℕ) (max : ℕ) → IfSome known (λ all. all ≡ items) → length items ≤ max → IfSome known (λ text. length text ≤ max)
-within_known None items max whole h = tt
-within_known (Some all) items max whole h = subst (λ n. n ≤ max) (sym (ap length whole)) h
-
-same_error : (r : Result Outcome RunError) (e d : RunError) → r ≡ Err e → r ≡ Err d → e ≡ d
-same_error r e d h k = cc
-
-pub returns-clause-within : goal.returns-clause-within
-returns-clause-within g c = within_known _ c.in_ok-text.text.items c.args.max c.in_ok-text.ensures.whole c.in_ok-text.ensures.within
-
-pub returns-clause-fault_within : goal.returns-clause-fault_within
-returns-clause-fault_within g c = λ f e. within_known _ c.in_ok-text.text.items c.args.max c.in_ok-text.ensures.whole c.in_ok-text.ensures.within
-
-pub returns-in_err-text-clause-too_long : goal.returns-in_err-text-clause-too_long
-returns-in_err-text-clause-too_long g c = λ e.
+pub returns-in_err-text : goal.returns-in_err-text
+returns-in_err-text g c =
     let p = err_from_is_err_and c.from_residual.result c.from_residual.ensures.1 in
-    c.read_text.ensures.too_long (c.in_err-text.was ∙ ap Err (sym p.2 ∙ same_error c.from_residual.result _ _ p.1 e))
+    let failed = c.in_err-text.ensures in
+    rw (p.1, p.2) (sorted_unread (values c.args.settings.now) c.args.max c.in_err-text.field-0.0 _ None _ _ _ failed.errors failed.length failed.reader c.requires.writer_fine)
+
+pub returns-in_err-sort_to : goal.returns-in_err-sort_to
+returns-in_err-sort_to g c =
+    let p = err_from_is_err_and c.from_residual-in_err-sort_to.result c.from_residual-in_err-sort_to.ensures.1 in
+    let read = c.in_ok-text.ensures in
+    let sorted = c.sort_to.ensures in
+    rw (p.1, p.2) (sorted_failed (values c.args.settings.now) c.args.max c.sort_to.result c.in_err-sort_to.field-0.0 _ _ _ _ c.as_slice.result.now c.in_ok-text.text.items _ _ c.in_err-sort_to.was read.ok c.as_slice.ensures.value c.in_err-sort_to.ensures.err read.reader sorted.stopped sorted.fine)
+
+pub returns : goal.returns
+returns g c =
+    let read = c.in_ok-text.ensures in
+    sorted_well (values c.args.settings.now) c.args.max c.in_ok-sort_to.field-0 _ _ _ _ c.as_slice.result.now c.in_ok-text.text.items _ _ read.ok c.as_slice.ensures.value c.in_ok-sort_to.ensures.ok read.reader (c.in_ok-sort_to.ensures.fine (λ other. cc))

@@ -1,0 +1,167 @@
+-- What listing a piece leaves.
+use Rattle.std.proofs.Common.{◌≡◌, ℕ, ◌+◌, ◌-◌, ◌≤◌, false, Option, Result, Ok, Err, List, [], ◌++◌, length, take, drop, refl, sym, ap, ◌∙◌, subst, append_assoc, length-append, arith}
+use Rattle.std.proofs.lemmas.Grind.{common_steps}
+use Rattle.std.proofs.lemmas.List.{append-nil, length-take-le, take-append-drop}
+use Rattle.std.specs.Io.KnownBytes.{Keeps}
+use Rattle.isort_find.specs.Pieces.{PieceFinding, TakesPiece, FeedsPiece, fed_by, has_ready}
+use Rattle.isort_find.specs.declared.options.FindOptions.{FindOptions}
+use Rattle.isort_find.specs.declared.error.FindError.{FindError}
+use Rattle.isort_sort.specs.Metered.{IsGivenUp}
+use Rattle.isort_sort.specs.declared.metered.Last.{Last}
+use Rattle.isort_sort.specs.declared.metered.Last.TheVariants as last
+use Rattle.isort_cmd.specs.RunError.{run_error_of}
+use Rattle.isort_cmd.specs.Stages.{Stage, ListsAll, StopsReady, StopsInPiece, TakesAll}
+use Rattle.isort_cmd.specs.Steps.{IsOutputError, HasListed, HasListedTo, HoldsNone, LeavesPiece, LooksAtHeld}
+use Rattle.isort_cmd.specs.declared.error.RunError.{RunError}
+use Rattle.isort_cmd.specs.declared.error.RunError.TheVariants as run
+use Rattle.isort_cmd.proofs.ListingLemmas.{GivenBegin}
+use Rattle.isort_cmd.proofs.PieceLemmas.{FoundLaws, front_each, has_listed_kept, leaves_each, leaves_fed, looked_listed, taken_listed, to_next}
+use Rattle.isort_cmd.proofs.StageLemmas.{error_of_find, goes_at, stops_at}
+
+-- ---- the byte that is held
+
+-- a look at it decides a fault
+pub looks_at_fault : FoundLaws → (old : PieceFinding) (e : FindError) (new : PieceFinding) → FeedsPiece old [] (Err e) new → LooksAtHeld old (Err (run_error_of e)) new
+looks_at_fault laws old e new feeds = (
+  error_of_find e last.Fine refl,
+  λ path known options start now to. subst (λ (k : List ℕ). LeavesPiece path k options (run_error_of e) start now) (append-nil known) (leaves_fed laws path known [] options old e new start now feeds to),
+)
+
+-- memory ran out
+pub looks_at_memory : GivenBegin → (old new : PieceFinding) → LooksAtHeld old (Err run.Memory) new
+looks_at_memory begin old new = (refl, λ path known options start now to. front_each begin path known options old start now to.listed)
+
+-- all is well
+pub looks_at_none : FoundLaws → (old : PieceFinding) (n : ℕ) (new : PieceFinding) → old.scanning.ended ≡ false → TakesPiece old [] n new → has_ready new ≡ false → HoldsNone old new
+looks_at_none laws old n new open_yet takes none =
+    let no_byte : n ≡ 0 = takes.whole none in
+    record {
+      fed = takes.fed ∙ ap (λ (m : ℕ). fed_by old + m) no_byte ∙ omega arith;
+      open_yet = takes.open_yet ∙ open_yet;
+      none_ready = none;
+      listed = λ path known options start now to. looked_listed laws path known options old n new start now open_yet takes none to;
+    }
+
+-- ---- inside a piece
+
+-- These bytes of a piece are left. Of the others all that is ready was listed.
+pub record IsAmid (piece rest : List ℕ) (old now : Stage) : Type 0 where
+  pub same_path : now.path ≡ old.path
+  pub fine : now.last ≡ last.Fine
+  pub front : List ℕ
+  pub split : front ++ rest ≡ piece
+  pub fed : fed_by now.finder ≡ fed_by old.finder + length front
+  pub open_yet : now.finder.scanning.ended ≡ false
+  pub none_ready : has_ready now.finder ≡ false
+  pub listed : (known : List ℕ) (options : FindOptions) (start : Option (List ℕ)) → HasListed old.path known options old.finder start old.written → HasListedTo old.path (known ++ front) options now.finder start now.written
+
+pub amid_first : (piece : List ℕ) (s : Stage) → s.last ≡ last.Fine → s.finder.scanning.ended ≡ false → has_ready s.finder ≡ false → IsAmid piece piece s s
+amid_first piece s fine open_yet none = record {
+  same_path = refl;
+  fine = fine;
+  front = [];
+  split = refl;
+  fed = omega arith;
+  open_yet = open_yet;
+  none_ready = none;
+  listed = λ known options start listed. subst (λ (k : List ℕ). HasListedTo s.path k options s.finder start s.written) (sym (append-nil known)) (record {
+    fed = listed.fed;
+    no_fault = listed.no_fault;
+    listed = λ text goes. (listed.listed text goes).listed;
+  });
+}
+
+-- the first bytes, and the others as a slice of them
+parts_of : (n : ℕ) (bytes : List ℕ) → n ≤ length bytes → take n bytes ++ take (length bytes - n) (drop n bytes) ≡ bytes
+parts_of n bytes within = grind (arith, common_steps)
+
+-- more bytes of the piece were taken, and what got ready was listed
+pub amid_next : FoundLaws → (piece rest : List ℕ) (old now : Stage) (n : ℕ) (mid : PieceFinding) (new : Stage) → IsAmid piece rest old now → TakesPiece now.finder rest n mid → ListsAll (record now { finder = mid }) new → IsAmid piece (take (length rest - n) (drop n rest)) old new
+amid_next laws piece rest old now n mid new amid takes all =
+    let goes = all.goes_on in
+    let size = length-take-le n rest takes.within in
+    let joined = length-append amid.front (take n rest) in
+    let was = amid.fed in
+    let is = takes.fed in
+    let same = goes.fed in
+    let left = take (length rest - n) (drop n rest) in
+    record {
+      same_path = goes.same_path ∙ amid.same_path;
+      fine = goes.fine;
+      front = amid.front ++ take n rest;
+      split = append_assoc amid.front (take n rest) left ∙ ap (λ x. amid.front ++ x) (parts_of n rest takes.within) ∙ amid.split;
+      fed = omega arith;
+      open_yet = goes.open_yet ∙ takes.open_yet ∙ amid.open_yet;
+      none_ready = all.none_ready;
+      listed = λ known options start so_far.
+          let to = taken_listed laws old.path (known ++ amid.front) rest options now.finder n mid start now.written amid.open_yet takes (amid.listed known options start so_far) in
+          subst (λ (k : List ℕ). HasListedTo old.path k options new.finder start new.written) (append_assoc known amid.front (take n rest)) (to_next old.path ((known ++ amid.front) ++ take n rest) options mid new.finder start now.written new.written goes.fed goes.no_fault (λ text. goes_at old.path (record now { finder = mid }) new amid.same_path goes text options start) to);
+    }
+
+-- feeding more of the piece failed
+pub amid_fed : FoundLaws → (piece rest : List ℕ) (old now : Stage) (e : FindError) (mid : PieceFinding) → IsAmid piece rest old now → FeedsPiece now.finder rest (Err e) mid → StopsInPiece old piece (run_error_of e) (record now { finder = mid })
+amid_fed laws piece rest old now e mid amid feeds = record {
+  error = error_of_find e now.last amid.fine;
+  leaves = λ known options start so_far.
+      let whole : (known ++ amid.front) ++ rest ≡ known ++ piece = append_assoc known amid.front rest ∙ ap (λ x. known ++ x) amid.split in
+      subst (λ (k : List ℕ). LeavesPiece old.path k options (run_error_of e) start now.written) whole (leaves_fed laws old.path (known ++ amid.front) rest options now.finder e mid start now.written feeds (amid.listed known options start so_far));
+}
+
+-- more of the piece was taken, and listing what got ready failed
+pub amid_ready : FoundLaws → (piece rest : List ℕ) (old now : Stage) (n : ℕ) (mid : PieceFinding) (e : RunError) (new : Stage) → IsAmid piece rest old now → TakesPiece now.finder rest n mid → StopsReady (record now { finder = mid }) e new → StopsInPiece old piece e new
+amid_ready laws piece rest old now n mid e new amid takes stops = record {
+  error = stops.error;
+  leaves = λ known options start so_far.
+      let to = taken_listed laws old.path (known ++ amid.front) rest options now.finder n mid start now.written amid.open_yet takes (amid.listed known options start so_far) in
+      let whole : ((known ++ amid.front) ++ take n rest) ++ drop n rest ≡ known ++ piece = append_assoc (known ++ amid.front) (take n rest) (drop n rest) ∙ ap (λ x. (known ++ amid.front) ++ x) (take-append-drop n rest) ∙ append_assoc known amid.front rest ∙ ap (λ x. known ++ x) amid.split in
+      subst (λ (k : List ℕ). LeavesPiece old.path k options e start new.written) whole (leaves_each laws old.path ((known ++ amid.front) ++ take n rest) (drop n rest) options mid e start new.written to.fed (takes.open_yet ∙ amid.open_yet) (λ text goes. stops_at old.path (record now { finder = mid }) new e amid.same_path stops text options start (to.listed text goes)));
+}
+
+-- ---- where the piece was taken whole
+
+-- what was listed of it
+listed_whole : (piece rest : List ℕ) (old now : Stage) → (amid : IsAmid piece rest old now) → rest ≡ [] → (known : List ℕ) (options : FindOptions) (start : Option (List ℕ)) → HasListed old.path known options old.finder start old.written → HasListedTo old.path (known ++ piece) options now.finder start now.written
+listed_whole piece rest old now amid none known options start so_far = subst (λ (k : List ℕ). HasListedTo old.path (known ++ k) options now.finder start now.written) (front_whole amid none) (amid.listed known options start so_far)
+  where
+    front_whole : (a : IsAmid piece rest old now) → rest ≡ [] → a.front ≡ piece
+    front_whole a empty = sym (append-nil a.front) ∙ ap (λ x. a.front ++ x) (sym empty) ∙ a.split
+
+-- the byte that is held decides a fault
+pub amid_looked : (piece rest : List ℕ) (old now : Stage) (e : RunError) (mid : PieceFinding) → IsAmid piece rest old now → rest ≡ [] → LooksAtHeld now.finder (Err e) mid → StopsInPiece old piece e (record now { finder = mid })
+amid_looked piece rest old now e mid amid none looks = record {
+  error = subst (λ (l : Last). IsOutputError e l) (sym amid.fine) looks.0;
+  leaves = λ known options start so_far. looks.1 old.path (known ++ piece) options start now.written (listed_whole piece rest old now amid none known options start so_far);
+}
+
+-- all is well
+pub amid_whole : (piece rest : List ℕ) (old now : Stage) (mid : PieceFinding) → IsAmid piece rest old now → rest ≡ [] → HoldsNone now.finder mid → TakesAll old piece (record now { finder = mid })
+amid_whole piece rest old now mid amid none holds =
+    let whole : amid.front ≡ piece = sym (append-nil amid.front) ∙ ap (λ x. amid.front ++ x) (sym none) ∙ amid.split in
+    record {
+      same_path = amid.same_path;
+      fine = amid.fine;
+      fed = holds.fed ∙ amid.fed ∙ ap (λ (x : List ℕ). fed_by old.finder + length x) whole;
+      open_yet = holds.open_yet;
+      none_ready = holds.none_ready;
+      listed = λ known options start so_far. holds.listed old.path (known ++ piece) options start now.written (listed_whole piece rest old now amid none known options start so_far);
+    }
+
+-- the writer was flushed
+pub flushed : (piece : List ℕ) (old now : Stage) (written : Option (List ℕ)) (l : Last) → TakesAll old piece now → Keeps now.written written → l ≡ last.Fine → TakesAll old piece (record now { written = written; last = l })
+flushed piece old now written l takes kept fine = record {
+  same_path = takes.same_path;
+  fine = fine;
+  fed = takes.fed;
+  open_yet = takes.open_yet;
+  none_ready = takes.none_ready;
+  listed = λ known options start so_far. has_listed_kept old.path (known ++ piece) options now.finder start now.written written kept (takes.listed known options start so_far);
+}
+
+-- flushing failed
+pub stops_at_flush : GivenBegin → (piece : List ℕ) (old now : Stage) (written : Option (List ℕ)) (l : Last) → TakesAll old piece now → Keeps now.written written → IsGivenUp l → StopsInPiece old piece run.Write (record now { written = written; last = l })
+stops_at_flush begin piece old now written l takes kept given_up = record {
+  error = given_up;
+  leaves = λ known options start so_far.
+      let all = has_listed_kept old.path (known ++ piece) options now.finder start now.written written kept (takes.listed known options start so_far) in
+      front_each begin old.path (known ++ piece) options now.finder start written (λ text goes. (all.listed text goes).listed);
+}

@@ -1,0 +1,60 @@
+use Rattle.std.proofs.Common.{◌≡◌, [], sym, ◌∙◌}
+use Rattle.std.proofs.lemmas.Bool.{eqb-true}
+use Rattle.std.proofs.lemmas.List.{nil_from_length}
+use Rattle.std.proofs.lemmas.Result.{err_from_is_err_and}
+use Rattle.isort_cmd.proofs.AmidLemmas.{amid_first, amid_next, amid_fed, amid_ready, amid_looked, amid_whole, flushed, stops_at_flush}
+use Rattle.isort_cmd.proofs.PieceLemmas.{FoundLaws, feeds_error, feeds_some}
+use Rattle.isort_cmd.proofs.listing.Listing.list_piece.Goals as goal
+
+pub lines-init : goal.lines-init
+lines-init g c = amid_first c.args.piece.now _ c.requires.fine c.requires.open_yet c.requires.none_ready
+
+pub returns-in_err-taken : goal.returns-in_err-taken
+returns-in_err-taken g c =
+    let laws : FoundLaws = record { begin = c.given_begin_the_found.ensures.stopped; one_list = c.one_found.ensures.one_list; some = c.settled_found_is_final.ensures.some; grow = c.settled_found_is_final.ensures.grow; all = c.settled_found_is_final.ensures.all } in
+    let p = err_from_is_err_and c.from_residual.result c.from_residual.ensures.1 in
+    let feeds = feeds_error c.lines.self.finder c.lines.rest.now c.feed.result c.in_err-taken.field-0.0 c.feed.new.self c.feed.ensures.feeds c.in_err-taken.was in
+    rw (p.1, p.2) (amid_fed laws c.args.piece.now c.lines.rest.now _ _ c.in_err-taken.field-0.0 c.feed.new.self c.lines.invariant feeds)
+
+pub returns-in_err-list_ready : goal.returns-in_err-list_ready
+returns-in_err-list_ready g c =
+    let laws : FoundLaws = record { begin = c.given_begin_the_found.ensures.stopped; one_list = c.one_found.ensures.one_list; some = c.settled_found_is_final.ensures.some; grow = c.settled_found_is_final.ensures.grow; all = c.settled_found_is_final.ensures.all } in
+    let p = err_from_is_err_and c.from_residual-in_err-list_ready.result c.from_residual-in_err-list_ready.ensures.1 in
+    let takes = feeds_some c.lines.self.finder c.lines.rest.now c.feed.result c.in_ok-taken.taken c.feed.new.self c.feed.ensures.feeds c.in_ok-taken.was in
+    rw (p.1, p.2) (amid_ready laws c.args.piece.now c.lines.rest.now _ _ c.in_ok-taken.taken c.feed.new.self c.in_err-list_ready.field-0.0 _ c.lines.invariant takes c.in_err-list_ready.ensures)
+
+pub lines-preserved-then-branch : goal.lines-preserved-then-branch
+lines-preserved-then-branch g c =
+    let laws : FoundLaws = record { begin = c.given_begin_the_found.ensures.stopped; one_list = c.one_found.ensures.one_list; some = c.settled_found_is_final.ensures.some; grow = c.settled_found_is_final.ensures.grow; all = c.settled_found_is_final.ensures.all } in
+    let takes = feeds_some c.lines.self.finder c.lines.rest.now c.feed.result c.in_ok-taken.taken c.feed.new.self c.feed.ensures.feeds c.in_ok-taken.was in
+    amid_next laws c.args.piece.now c.lines.rest.now _ _ c.in_ok-taken.taken c.feed.new.self _ c.lines.invariant takes c.in_ok-list_ready.ensures
+
+pub lines-preserved : goal.lines-preserved
+lines-preserved g c =
+    let laws : FoundLaws = record { begin = c.given_begin_the_found.ensures.stopped; one_list = c.one_found.ensures.one_list; some = c.settled_found_is_final.ensures.some; grow = c.settled_found_is_final.ensures.grow; all = c.settled_found_is_final.ensures.all } in
+    let takes = feeds_some c.lines.self.finder c.lines.rest.now c.feed.result c.in_ok-taken.taken c.feed.new.self c.feed.ensures.feeds c.in_ok-taken.was in
+    amid_next laws c.args.piece.now c.lines.rest.now _ _ c.in_ok-taken.taken c.feed.new.self _ c.lines.invariant takes c.in_ok-list_ready.ensures
+
+pub returns-in_err-look_at_held : goal.returns-in_err-look_at_held
+returns-in_err-look_at_held g c =
+    let p = err_from_is_err_and c.from_residual-in_err-look_at_held.result c.from_residual-in_err-look_at_held.ensures.1 in
+    let none : c.lines.rest.now ≡ [] = nil_from_length c.lines.rest.now (eqb-true _ _ (sym c.is_empty.ensures ∙ c.lines-test.false)) in
+    rw (p.1, p.2) (amid_looked c.args.piece.now c.lines.rest.now _ _ c.in_err-look_at_held.field-0.0 c.look_at_held.new.finder c.lines.invariant none c.in_err-look_at_held.ensures)
+
+pub returns-in_err-flush_whole : goal.returns-in_err-flush_whole
+returns-in_err-flush_whole g c =
+    let p = err_from_is_err_and c.from_residual-in_err-flush_whole.result c.from_residual-in_err-flush_whole.ensures.1 in
+    let none : c.lines.rest.now ≡ [] = nil_from_length c.lines.rest.now (eqb-true _ _ (sym c.is_empty.ensures ∙ c.lines-test.false)) in
+    let whole = amid_whole c.args.piece.now c.lines.rest.now _ _ c.look_at_held.new.finder c.lines.invariant none c.in_ok-look_at_held.ensures in
+    rw (p.1, p.2, c.in_err-flush_whole.ensures.err) (stops_at_flush c.given_begin_the_found.ensures.stopped c.args.piece.now _ _ _ _ whole c.flush_whole.ensures.kept c.in_err-flush_whole.ensures.stopped)
+
+pub returns-in_ok-flush_whole : goal.returns-in_ok-flush_whole
+returns-in_ok-flush_whole g c =
+    let none : c.lines.rest.now ≡ [] = nil_from_length c.lines.rest.now (eqb-true _ _ (sym c.is_empty.ensures ∙ c.lines-test.false)) in
+    let whole = amid_whole c.args.piece.now c.lines.rest.now _ _ c.look_at_held.new.finder c.lines.invariant none c.in_ok-look_at_held.ensures in
+    flushed c.args.piece.now _ _ _ _ whole c.flush_whole.ensures.kept c.in_ok-flush_whole.ensures.fine
+
+pub returns-else-listed : goal.returns-else-listed
+returns-else-listed g c =
+    let none : c.lines.rest.now ≡ [] = nil_from_length c.lines.rest.now (eqb-true _ _ (sym c.is_empty.ensures ∙ c.lines-test.false)) in
+    amid_whole c.args.piece.now c.lines.rest.now _ _ c.look_at_held.new.finder c.lines.invariant none c.in_ok-look_at_held.ensures
