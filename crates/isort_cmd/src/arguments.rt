@@ -2,7 +2,7 @@
 ghost use Rattle.std.specs.Prelude.{◌≡◌, IfOk, false};
 ghost use Rattle.clap.specs.Words.{app_of, rule_of};
 ghost use Rattle.isort_cmd.specs.Options.{isort_app};
-ghost use Rattle.isort_cmd.specs.ParserSteps.{rule_of_option, with_letter_of, with_rules_of, with_value_of};
+ghost use Rattle.isort_cmd.specs.ParserSteps.{rule_of_option, with_rules_of};
 
 use clap::{Arg, ArgAction, Command, value_parser};
 use std::alloc::{AllocError, Global};
@@ -190,27 +190,12 @@ fn argument<'a>(alloc: Global, option: &CommandOption) -> Arg<'a>
     let argument = Arg::new(alloc, option.name)
         .long(option.name)
         .help(option.help);
-    with_letter(with_value(argument, &option.value), option.letter)
-}
-
-/// The argument with its value, if it takes one.
-fn with_value<'a>(argument: Arg<'a>, value: &OptionValue) -> Arg<'a>
-    ensures rule { rule_of result ≡ with_value_of value.now (rule_of argument.entry) }
-    ensures local { result.global ≡ argument.entry.global }
-{
-    match *value {
+    let argument = match option.value {
         OptionValue::Flag => argument.action(ArgAction::SetTrue),
         OptionValue::Text(name) => argument.value_name(name),
         OptionValue::Number => argument.value_name("N").value_parser(value_parser!(u32)),
-    }
-}
-
-/// The argument by one letter too, if it has one.
-fn with_letter<'a>(argument: Arg<'a>, letter: Option<char>) -> Arg<'a>
-    ensures rule { rule_of result ≡ with_letter_of letter (rule_of argument.entry) }
-    ensures local { result.global ≡ argument.entry.global }
-{
-    match letter {
+    };
+    match option.letter {
         Some(letter) => argument.short(letter),
         None => argument,
     }
