@@ -6,31 +6,35 @@ use py_imports::Binding;
 use py_lines::Fault;
 use std::alloc::Global;
 use std::marker::Model;
-use std::test::Fail;
 
 /// More bytes than a text of these tests has.
 const MOST: u64 = 1_000_000;
 
+/// Adds this. Where memory is refused, it is missing from what is told.
+pub(crate) fn tell(what: &str, out: &mut String) {
+    let _ = out.push_str(what);
+}
+
 /// An import: its line, and its statement.
-pub(crate) fn tell_binding(alloc: Global, binding: &Binding, out: &mut String) -> Result<(), Fail> {
-    let line = binding.line;
-    let indented = if binding.indented { "indented " } else { "" };
-    let statement = binding.statement(alloc)?;
-    writeln!(out, "{line} {indented}{statement}")?;
-    Ok(())
+pub(crate) fn tell_binding(alloc: Global, binding: &Binding, out: &mut String) {
+    if let Ok(statement) = binding.statement(alloc) {
+        let line = binding.line;
+        let indented = if binding.indented { "indented " } else { "" };
+        let _ = writeln!(out, "{line} {indented}{statement}");
+    }
 }
 
 /// A fault: what is printed of it, its byte, and its line.
-pub(crate) fn tell_fault(fault: Fault, out: &mut String) -> Result<(), Fail> {
+fn tell_fault(fault: Fault, out: &mut String) {
     let Fault { kind, offset, line } = fault;
-    writeln!(out, "{kind}, {offset}, {line}")?;
-    Ok(())
+    let _ = writeln!(out, "{kind}, {offset}, {line}");
 }
 
-fn tell_error(error: FindError, out: &mut String) -> Result<(), Fail> {
+/// A fault, or that memory is refused.
+pub(crate) fn tell_error(error: FindError, out: &mut String) {
     match error {
         FindError::Fault(fault) => tell_fault(fault, out),
-        FindError::Memory => Err(Fail::from(error)),
+        FindError::Memory => tell("out of memory\n", out),
     }
 }
 
@@ -63,22 +67,22 @@ impl Fed {
         })
     }
 
-    // One that goes on from a cursor of a short text.
-    fn resume(alloc: Global, cursor: Cursor) -> Result<Fed, Fail> {
+    /// One that goes on from a cursor of a short text.
+    fn resume(alloc: Global, cursor: Cursor) -> Option<Fed> {
         if cursor.offset() > MOST {
-            return Err(Fail::from("the text is too long"));
+            return None;
         }
         match PieceFinder::resume(alloc, cursor) {
-            Ok(finder) => Ok(Fed {
+            Ok(finder) => Some(Fed {
                 finder,
                 ended: false,
                 faulty: false,
             }),
-            Err((_, error)) => Err(Fail::from(error)),
+            Err(_) => None,
         }
     }
 
-    // Feeds a short piece once.
+    /// Feeds a short piece once.
     fn feed(&mut self, piece: &[u8]) -> Result<usize, FindError>
         ensures { IfOk result (λ taken. taken ≤ length piece.now) }
     {
@@ -140,126 +144,118 @@ impl Fed {
     }
 }
 
-// All imports that are ready.
-fn tell_ready(alloc: Global, finder: &mut Fed, out: &mut String) -> Result<(), Fail> {
-    for _ in 0..100 {
-        match finder.next_ready()? {
-            Some(binding) => tell_binding(alloc, &binding, out)?,
-            None => return Ok(()),
+/// The next import that is ready, if one is: whether one is.
+fn tell_next(alloc: Global, finder: &mut Fed, none: &str, out: &mut String) -> bool {
+    match finder.next_ready() {
+        Ok(Some(binding)) => {
+            tell_binding(alloc, &binding, out);
+            return true;
         }
+        Ok(None) => tell(none, out),
+        Err(error) => tell_error(error, out),
     }
-    Err(Fail::from("there are too many imports"))
+    false
 }
 
-// A short piece fed whole, with the imports that get ready: whether it meets no fault.
-fn tell_piece(
-    alloc: Global,
-    finder: &mut Fed,
-    piece: &[u8],
-    out: &mut String,
-) -> Result<bool, Fail> {
+/// All imports that are ready, but at most a hundred.
+fn tell_ready(alloc: Global, finder: &mut Fed, out: &mut String) {
+    for _ in 0..100 {
+        if !tell_next(alloc, finder, "", out) {
+            return;
+        }
+    }
+}
+
+/// A short piece fed whole, with the imports that get ready: whether it meets no fault.
+fn tell_piece(alloc: Global, finder: &mut Fed, piece: &[u8], out: &mut String) -> bool {
     let mut rest = piece;
     for _ in 0..=piece.len() {
         match finder.feed(rest) {
             Ok(taken) => rest = &rest[taken..],
             Err(error) => {
-                tell_error(error, out)?;
-                return Ok(false);
+                tell_error(error, out);
+                return false;
             }
         }
-        tell_ready(alloc, finder, out)?;
+        tell_ready(alloc, finder, out);
         if rest.is_empty() {
-            return Ok(true);
+            return true;
         }
     }
-    Err(Fail::from("a piece isn't taken"))
+    tell("a piece isn't taken\n", out);
+    false
 }
 
-// The imports of the last line, and the end.
-fn tell_end(alloc: Global, finder: &mut Fed, out: &mut String) -> Result<(), Fail> {
-    if let Err(error) = finder.finish() {
-        return tell_error(error, out);
+/// The imports of the last line, and the end.
+fn tell_end(alloc: Global, finder: &mut Fed, out: &mut String) {
+    match finder.finish() {
+        Ok(()) => {
+            tell_ready(alloc, finder, out);
+            tell("end\n", out);
+        }
+        Err(error) => tell_error(error, out),
     }
-    tell_ready(alloc, finder, out)?;
-    out.push_str("end\n")?;
-    Ok(())
 }
 
-// Whether an import is ready, up to which byte the text was fed, and how many bytes are held.
-fn tell_state(finder: &Fed, out: &mut String) -> Result<(), Fail> {
+/// Whether an import is ready, up to which byte the text was fed, and how many bytes are held.
+fn tell_state(finder: &Fed, out: &mut String) {
     let ready = if finder.has_ready() { "ready" } else { "none" };
-    let fed = finder.fed();
-    let held = finder.held().len();
-    writeln!(out, "{ready}, {fed}, {held}")?;
-    Ok(())
+    let _ = writeln!(out, "{ready}, {}, {}", finder.fed(), finder.held().len());
 }
 
-// A piece fed once: how many bytes were taken, or the fault. Then the state, the imports that are ready, and the state
-// after them.
-fn tell_step(alloc: Global, finder: &mut Fed, piece: &[u8], out: &mut String) -> Result<(), Fail> {
+/// A piece fed once: how many bytes were taken, or the fault. Whether it has none.
+fn tell_feed(finder: &mut Fed, piece: &[u8], out: &mut String) -> bool {
     match finder.feed(piece) {
-        Ok(taken) => writeln!(out, "took {taken}")?,
-        Err(error) => return tell_error(error, out),
+        Ok(taken) => {
+            let _ = writeln!(out, "took {taken}");
+            true
+        }
+        Err(error) => {
+            tell_error(error, out);
+            false
+        }
     }
-    tell_state(finder, out)?;
-    tell_ready(alloc, finder, out)?;
-    tell_state(finder, out)
+}
+
+/// A piece fed once, the state, the imports that are ready, and the state after them; or the fault.
+fn tell_step(alloc: Global, finder: &mut Fed, piece: &[u8], out: &mut String) {
+    if tell_feed(finder, piece, out) {
+        tell_state(finder, out);
+        tell_ready(alloc, finder, out);
+        tell_state(finder, out);
+    }
 }
 
 /// Where a finder stands, and how many imports it has given.
-pub(crate) fn tell_place(cursor: &Cursor, out: &mut String) -> Result<(), Fail> {
-    let offset = cursor.offset();
-    let given = cursor.given();
-    writeln!(out, "at {offset}, {given}")?;
-    Ok(())
+pub(crate) fn tell_place(cursor: &Cursor, out: &mut String) {
+    let _ = writeln!(out, "at {}, {}", cursor.offset(), cursor.given());
 }
 
-// What a finder tells that is fed two pieces up to a fault, and their end.
-fn tell_text(
-    alloc: Global,
-    finder: &mut Fed,
-    first: &[u8],
-    second: &[u8],
-    out: &mut String,
-) -> Result<(), Fail> {
-    if !tell_piece(alloc, finder, first, out)? {
-        return Ok(());
+/// What a finder tells that is fed two pieces up to a fault, and their end.
+fn tell_text(alloc: Global, finder: &mut Fed, first: &[u8], second: &[u8], out: &mut String) {
+    if tell_piece(alloc, finder, first, out) && tell_piece(alloc, finder, second, out) {
+        tell_end(alloc, finder, out);
     }
-    if !tell_piece(alloc, finder, second, out)? {
-        return Ok(());
+}
+
+/// A text up to a byte, from where a finder stands: whether it meets no fault.
+fn tell_up_to(alloc: Global, finder: &mut Fed, text: &[u8], upto: usize, out: &mut String) -> bool {
+    match text.get(finder.fed() as usize..upto) {
+        Some(piece) => tell_piece(alloc, finder, piece, out),
+        None => true,
     }
-    tell_end(alloc, finder, out)
 }
 
-// A finder that stops, goes on from its cursor, and is fed this text up to a byte: whether it meets no fault.
-fn go_up_to(
-    alloc: Global,
-    finder: Fed,
-    text: &[u8],
-    upto: usize,
-    out: &mut String,
-) -> Result<(Fed, bool), Fail> {
-    let cursor = finder.stop();
-    let from = cursor.offset() as usize;
-    let mut finder = Fed::resume(alloc, cursor)?;
-    let Some(piece) = text.get(from..upto) else {
-        return Ok((finder, true));
-    };
-    let goes = tell_piece(alloc, &mut finder, piece, out)?;
-    Ok((finder, goes))
-}
-
-// A finder that is fed one byte after another up to a fault, stops after each, and goes on from its cursor.
-fn go_by_bytes(alloc: Global, mut finder: Fed, text: &[u8], out: &mut String) -> Result<Fed, Fail> {
+/// A finder that is fed one byte after another up to a fault, stops before each, and goes on from its cursor.
+fn go_by_bytes(alloc: Global, mut finder: Fed, text: &[u8], out: &mut String) -> Option<Fed> {
     for upto in 1..=text.len() {
-        let (next, goes) = go_up_to(alloc, finder, text, upto, out)?;
-        finder = next;
-        if !goes {
-            return Ok(finder);
+        finder = Fed::resume(alloc, finder.stop())?;
+        if !tell_up_to(alloc, &mut finder, text, upto, out) {
+            return Some(finder);
         }
     }
-    tell_end(alloc, &mut finder, out)?;
-    Ok(finder)
+    tell_end(alloc, &mut finder, out);
+    Some(finder)
 }
 
 /// What is done with a finder.
@@ -293,231 +289,180 @@ pub(crate) enum Act<'t> {
     Found(&'t [u8]),
 }
 
-fn tell_next(alloc: Global, finder: &mut Fed, out: &mut String) -> Result<(), Fail> {
-    match finder.next_ready()? {
-        Some(binding) => tell_binding(alloc, &binding, out),
-        None => {
-            out.push_str("no import\n")?;
-            Ok(())
-        }
-    }
-}
-
-fn tell_feed(finder: &mut Fed, piece: &[u8], out: &mut String) -> Result<(), Fail> {
-    match finder.feed(piece) {
-        Ok(taken) => {
-            writeln!(out, "took {taken}")?;
-            Ok(())
-        }
-        Err(error) => tell_error(error, out),
-    }
-}
-
-fn tell_finish(finder: &mut Fed, out: &mut String) -> Result<(), Fail> {
+fn tell_finish(finder: &mut Fed, out: &mut String) {
     match finder.finish() {
-        Ok(()) => {
-            out.push_str("end\n")?;
-            Ok(())
-        }
+        Ok(()) => tell("end\n", out),
         Err(error) => tell_error(error, out),
     }
 }
 
-fn tell_held(finder: &Fed, out: &mut String) -> Result<(), Fail> {
-    let fed = finder.fed();
+fn tell_held(finder: &Fed, out: &mut String) {
     match str::from_utf8(finder.held()) {
         Ok(held) => {
-            writeln!(out, "{fed}, {held}")?;
-            Ok(())
+            let _ = writeln!(out, "{}, {held}", finder.fed());
         }
-        Err(_) => Err(Fail::from("other bytes are held")),
+        Err(_) => tell("other bytes are held\n", out),
     }
 }
 
-fn tell_whether(finder: &Fed, out: &mut String) -> Result<(), Fail> {
-    out.push_str(if finder.has_ready() {
-        "ready\n"
-    } else {
-        "none\n"
-    })?;
-    Ok(())
+fn tell_whether(finder: &Fed, out: &mut String) {
+    tell(
+        if finder.has_ready() {
+            "ready\n"
+        } else {
+            "none\n"
+        },
+        out,
+    );
 }
 
-// The next import of a whole text, or that there is none: whether there is one.
-fn tell_import(alloc: Global, finder: &mut Finder, out: &mut String) -> Result<bool, Fail> {
-    match finder.next_import()? {
-        Some(binding) => {
-            tell_binding(alloc, &binding, out)?;
-            Ok(true)
-        }
-        None => {
-            out.push_str("no import\n")?;
-            Ok(false)
-        }
-    }
-}
-
-// The imports of a whole text up to the last, but at most so many.
-fn tell_imports(
+/// The next import of a whole text, that there is none, or the fault: whether there is one.
+pub(crate) fn tell_import(
     alloc: Global,
-    finder: &mut Finder,
-    most: usize,
+    finder: &mut Finder<'_>,
+    none: &str,
     out: &mut String,
-) -> Result<(), Fail> {
+) -> bool {
+    match finder.next_import() {
+        Ok(Some(binding)) => {
+            tell_binding(alloc, &binding, out);
+            return true;
+        }
+        Ok(None) => tell(none, out),
+        Err(error) => tell_error(error, out),
+    }
+    false
+}
+
+/// The imports of a whole text up to the last, and what comes after it, but at most so many.
+fn tell_imports(alloc: Global, finder: &mut Finder<'_>, most: usize, none: &str, out: &mut String) {
     for _ in 0..most {
-        if !tell_import(alloc, finder, out)? {
-            return Ok(());
+        if !tell_import(alloc, finder, none, out) {
+            return;
         }
     }
-    Ok(())
 }
 
-// The same, and where the finder stops.
-fn tell_whole(
-    alloc: Global,
-    mut finder: Finder,
-    most: usize,
-    out: &mut String,
-) -> Result<Cursor, Fail> {
-    tell_imports(alloc, &mut finder, most, out)?;
-    let cursor = finder.stop();
-    tell_place(&cursor, out)?;
-    Ok(cursor)
-}
-
-// A finder that goes on from where this one stops.
-fn go_on(alloc: Global, finder: Fed, out: &mut String) -> Result<Fed, Fail> {
-    let cursor = finder.stop();
-    tell_place(&cursor, out)?;
+/// A finder that goes on from where one of a whole text stops, which gives at most so many imports and tells the place.
+fn go_after(alloc: Global, mut whole: Finder<'_>, most: usize, out: &mut String) -> Option<Fed> {
+    tell_imports(alloc, &mut whole, most, "no import\n", out);
+    let cursor = whole.stop();
+    tell_place(&cursor, out);
     Fed::resume(alloc, cursor)
 }
 
-// A finder that goes on from where one of this whole text stops, which goes on from where this one stops.
-fn go_whole(alloc: Global, finder: Fed, text: &[u8], out: &mut String) -> Result<Fed, Fail> {
+/// A finder that goes on from where this one stops.
+fn go_on(alloc: Global, finder: Fed, out: &mut String) -> Option<Fed> {
     let cursor = finder.stop();
-    tell_place(&cursor, out)?;
+    tell_place(&cursor, out);
+    Fed::resume(alloc, cursor)
+}
+
+/// A finder that goes on from where one of this whole text stops, which goes on from where this one stops.
+fn go_whole(alloc: Global, finder: Fed, text: &[u8], out: &mut String) -> Option<Fed> {
+    let cursor = finder.stop();
+    tell_place(&cursor, out);
     match Finder::resume(alloc, text, cursor) {
-        Ok(whole) => Fed::resume(alloc, tell_whole(alloc, whole, 100, out)?),
-        Err(_) => Err(Fail::from("there is no finder")),
+        Ok(whole) => go_after(alloc, whole, 100, out),
+        Err(_) => None,
     }
 }
 
-// A finder that goes on from where one of this whole text stops, which gives so many imports.
+/// A finder that goes on from where one of this whole text stops, which gives so many imports.
 fn go_first(
     alloc: Global,
     text: &[u8],
     options: FindOptions,
     most: usize,
     out: &mut String,
-) -> Result<Fed, Fail> {
-    let whole = Finder::new(alloc, text, options)?;
-    let cursor = tell_whole(alloc, whole, most, out)?;
-    Fed::resume(alloc, cursor)
-}
-
-// All imports of a whole text, and its end or fault.
-fn tell_found(alloc: Global, finder: &mut Finder, out: &mut String) -> Result<(), Fail> {
-    for _ in 0..100 {
-        match finder.next_import() {
-            Ok(Some(binding)) => tell_binding(alloc, &binding, out)?,
-            Ok(None) => {
-                out.push_str("end\n")?;
-                return Ok(());
-            }
-            Err(error) => return tell_error(error, out),
-        }
+) -> Option<Fed> {
+    match Finder::new(alloc, text, options) {
+        Ok(whole) => go_after(alloc, whole, most, out),
+        Err(_) => None,
     }
-    Err(Fail::from("there are too many imports"))
 }
 
-// A finder that goes on from where one of this whole text stops, which tells all of it.
-fn go_found(
-    alloc: Global,
-    text: &[u8],
-    options: FindOptions,
-    out: &mut String,
-) -> Result<Fed, Fail> {
-    let mut whole = Finder::new(alloc, text, options)?;
-    tell_found(alloc, &mut whole, out)?;
-    Fed::resume(alloc, whole.stop())
+/// A finder that goes on from where one of this whole text stops, which tells all of it.
+fn go_found(alloc: Global, text: &[u8], options: FindOptions, out: &mut String) -> Option<Fed> {
+    match Finder::new(alloc, text, options) {
+        Ok(mut whole) => {
+            tell_imports(alloc, &mut whole, 100, "end\n", out);
+            Fed::resume(alloc, whole.stop())
+        }
+        Err(_) => None,
+    }
 }
 
-// Feeds a piece, or two.
-fn tell_fed(alloc: Global, finder: &mut Fed, act: Act<'_>, out: &mut String) -> Result<(), Fail> {
+/// Does what makes no other finder.
+fn tell_act(alloc: Global, finder: &mut Fed, act: Act<'_>, out: &mut String) {
     match act {
-        Act::Feed(piece) => tell_feed(finder, piece, out),
+        Act::Feed(piece) => {
+            tell_feed(finder, piece, out);
+        }
         Act::Piece(piece) => {
-            tell_piece(alloc, finder, piece, out)?;
-            Ok(())
+            tell_piece(alloc, finder, piece, out);
         }
         Act::Step(piece) => tell_step(alloc, finder, piece, out),
         Act::Text(first, second) => tell_text(alloc, finder, first, second, out),
-        _ => Ok(()),
-    }
-}
-
-// Does what feeds nothing, and leaves a finder where it is.
-fn tell_call(alloc: Global, finder: &mut Fed, act: Act<'_>, out: &mut String) -> Result<(), Fail> {
-    match act {
-        Act::Next => tell_next(alloc, finder, out),
+        Act::Next => {
+            tell_next(alloc, finder, "no import\n", out);
+        }
         Act::Ready => tell_whether(finder, out),
         Act::Held => tell_held(finder, out),
         Act::Finish => tell_finish(finder, out),
-        _ => tell_fed(alloc, finder, act, out),
+        _ => {}
     }
 }
 
-// Does what makes another finder.
+/// Does this with a finder.
 fn go(
     alloc: Global,
-    finder: Fed,
+    mut finder: Fed,
     options: FindOptions,
     act: Act<'_>,
     out: &mut String,
-) -> Result<Fed, Fail> {
+) -> Option<Fed> {
     match act {
         Act::Bytes(text) => go_by_bytes(alloc, finder, text, out),
         Act::Stop => go_on(alloc, finder, out),
         Act::Whole(text) => go_whole(alloc, finder, text, out),
         Act::First(text, most) => go_first(alloc, text, options, most, out),
         Act::Found(text) => go_found(alloc, text, options, out),
-        _ => Ok(finder),
+        _ => {
+            tell_act(alloc, &mut finder, act, out);
+            Some(finder)
+        }
     }
 }
 
-// Does this with a finder.
-fn tell_act(
+/// Does all this with one finder, in order, or up to where none can go on.
+fn go_through(
     alloc: Global,
     mut finder: Fed,
     options: FindOptions,
-    act: Act<'_>,
-    out: &mut String,
-) -> Result<Fed, Fail> {
-    tell_call(alloc, &mut finder, act, out)?;
-    go(alloc, finder, options, act, out)
-}
-
-// Does all this with one finder, in order.
-fn tell_all(
-    alloc: Global,
-    options: FindOptions,
     acts: &[Act<'_>],
     out: &mut String,
-) -> Result<(), Fail> {
-    let mut finder = Fed::new(alloc, options)?;
+) -> Option<Fed> {
     for act in acts {
-        finder = tell_act(alloc, finder, options, *act, out)?;
+        finder = go(alloc, finder, options, *act, out)?;
     }
-    Ok(())
+    Some(finder)
 }
 
 /// What a finder tells with which all this is done, in order.
-pub(crate) fn tell_acts(
-    alloc: Global,
-    options: FindOptions,
-    acts: &[Act<'_>],
-) -> Result<String, Fail> {
+pub(crate) fn tell_acts(alloc: Global, options: FindOptions, acts: &[Act<'_>]) -> String {
     let mut out = String::new(alloc);
-    tell_all(alloc, options, acts, &mut out)?;
-    Ok(out)
+    let is_done = match Fed::new(alloc, options) {
+        Ok(finder) => go_through(alloc, finder, options, acts, &mut out).is_some(),
+        Err(_) => false,
+    };
+    if !is_done {
+        tell("no finder\n", &mut out);
+    }
+    out
+}
+
+/// Whether a finder tells this with which all this is done, in order.
+pub(crate) fn tells(alloc: Global, options: FindOptions, acts: &[Act<'_>], want: &str) -> bool {
+    tell_acts(alloc, options, acts).as_str() == want
 }

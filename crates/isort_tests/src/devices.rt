@@ -1,55 +1,102 @@
 //! Runs over readers and writers that are interrupted, fail at some call, or never end.
+ghost use Rattle.std.specs.Prelude.{◌≡◌};
+ghost use Rattle.isort_sort.specs.Metered.{last_of};
+
+use crate::cases::{Case, each_holds};
 use crate::runs::{ALL, FIRST, FIRST_LINES};
 use crate::sorting_runs::{SORTED, UNSORTED};
-use isort_cmd::{Metered, RunError, identify, sort_run};
+use isort_cmd::{Last, Metered, RunError, identify, sort_run};
 use isort_settings::Settings;
 use std::alloc::Global;
 use std::io;
 use std::io::{ErrorKind, Read, Write};
 use std::test::Fail;
 
-/// A reader of `left`, and a writer into `taken`, of at most `most` bytes a call. It is interrupted `waits` times before
-/// each call. `sound` calls go well; all that come then end in `kind`.
+/// What goes wrong with a device.
+#[derive(Clone, Copy)]
+pub(crate) enum Trouble {
+    /// Nothing.
+    None,
+    /// It is interrupted so often before each call.
+    Waits(u16),
+    /// After so many calls that go well, each ends in this error.
+    After(u32, ErrorKind),
+    /// Its first call ends in this error.
+    First(ErrorKind),
+    /// Each read after the last byte ends in this error.
+    End(ErrorKind),
+    /// Each write after so many bytes fails.
+    Full(usize),
+    /// It can't be flushed.
+    Flush,
+}
+
+/// A reader of `left`, and a writer into `taken`, of at most `most` bytes a call.
 #[derive(Drop)]
-struct Device<'t> {
+pub(crate) struct Device<'t> {
     left: &'t [u8],
-    taken: Vec<u8>,
+    pub(crate) taken: Vec<u8>,
     most: usize,
-    waits: u16,
+    trouble: Trouble,
+    /// How often it was interrupted since a call went well.
     waited: u16,
-    sound: u32,
-    kind: ErrorKind,
-    /// Whether a call ended in `kind`.
-    failed: bool,
+    /// How many calls were made.
+    pub(crate) calls: u32,
 }
 
 impl<'t> Device<'t> {
-    /// One of which every call goes well, at once.
-    fn new(alloc: Global, left: &'t str, most: usize) -> Device<'t> {
-        Device {
-            left: left.as_bytes(),
+    pub(crate) fn new(
+        alloc: Global,
+        left: &'t [u8],
+        most: usize,
+        trouble: Trouble,
+    ) -> Metered<Device<'t>>
+        ensures { last_of result ≡ Last.Fine }
+    {
+        Metered::new(Device {
+            left,
             taken: Vec::new(alloc),
             most,
-            waits: 0,
+            trouble,
             waited: 0,
-            sound: u32::MAX,
-            kind: ErrorKind::Other,
-            failed: false,
+            calls: 0,
+        })
+    }
+
+    /// Whether a call came after those that go well.
+    fn has_failed(&self) -> bool {
+        match self.trouble {
+            Trouble::After(sound, _) => sound < self.calls,
+            _ => false,
         }
     }
 
-    fn pass(&mut self) -> io::Result<()> {
-        if self.waited < self.waits {
+    /// How many bytes it takes yet.
+    fn room(&self) -> usize {
+        match self.trouble {
+            Trouble::Full(room) => room.saturating_sub(self.taken.len()),
+            _ => usize::MAX,
+        }
+    }
+
+    fn wait(&mut self, times: u16) -> io::Result<()> {
+        if self.waited < times {
             self.waited += 1;
             return Err(io::Error::from(ErrorKind::Interrupted));
         }
         self.waited = 0;
-        if self.sound == 0 {
-            self.failed = true;
-            return Err(io::Error::from(self.kind));
-        }
-        self.sound -= 1;
         Ok(())
+    }
+
+    /// Counts a call, which fails where it has to.
+    fn pass(&mut self) -> io::Result<()> {
+        self.calls = self.calls.saturating_add(1);
+        match self.trouble {
+            Trouble::Waits(times) => self.wait(times),
+            Trouble::After(sound, kind) if sound < self.calls => Err(io::Error::from(kind)),
+            Trouble::First(kind) if self.calls == 1 => Err(io::Error::from(kind)),
+            _ => Ok(()),
+        }
     }
 }
 
@@ -57,20 +104,29 @@ impl Read for Device<'_> {
     fn read(&mut self, buf: &mut [u8]) -> io::Result<usize> {
         self.pass()?;
         let count = buf.len().min(self.most);
-        self.left.read(&mut buf[..count])
+        match self.trouble {
+            Trouble::End(kind) if self.left.is_empty() => Err(io::Error::from(kind)),
+            _ => self.left.read(&mut buf[..count]),
+        }
     }
 }
 
 impl Write for Device<'_> {
     fn write(&mut self, buf: &[u8]) -> io::Result<usize> {
         self.pass()?;
-        let count = buf.len().min(self.most);
+        let count = buf.len().min(self.most).min(self.room());
+        if count == 0 {
+            return Err(io::Error::from(ErrorKind::Other));
+        }
         self.taken.extend_from_slice(&buf[..count])?;
         Ok(count)
     }
 
     fn flush(&mut self) -> io::Result<()> {
-        self.pass()
+        match self.trouble {
+            Trouble::Flush => Err(io::Error::from(ErrorKind::Other)),
+            _ => self.pass(),
+        }
     }
 }
 
@@ -81,55 +137,25 @@ enum Task {
     Sort,
 }
 
-/// How a run ended, and the reader and the writer after it.
-#[derive(Drop)]
-struct Ended<R> {
-    answer: Result<(), RunError>,
-    reader: R,
-    writer: Device<'static>,
-}
-
 /// Runs this over a text of at most 1000 bytes.
-fn run<R: Read + Drop>(
+fn run<R: Read>(
     alloc: Global,
+    settings: &Settings,
     task: Task,
-    reader: R,
-    writer: Device<'static>,
-) -> Result<Ended<R>, Fail> {
-    let settings = Settings::plain(alloc)?;
-    let mut reader = Metered::new(reader);
-    let mut writer = Metered::new(writer);
-    let answer = match task {
-        Task::Identify => identify(alloc, &mut reader, &mut writer, "-", ALL, 1000),
-        Task::Sort => match sort_run(alloc, &mut reader, &mut writer, &settings, 1000) {
+    reader: &mut Metered<R>,
+    writer: &mut Metered<Device<'_>>,
+) -> Result<(), RunError>
+    requires reader_fine { last_of reader.old ≡ Last.Fine }
+    requires writer_fine { last_of writer.old ≡ Last.Fine }
+{
+    match task {
+        Task::Identify => identify(alloc, reader, writer, "-", ALL, 1000),
+        Task::Sort => match sort_run(alloc, reader, writer, settings, 1000) {
             Ok(_) => Ok(()),
             Err(error) => Err(error),
         },
-    };
-    Ok(Ended {
-        answer,
-        reader: reader.into_inner(),
-        writer: writer.into_inner(),
-    })
+    }
 }
-
-/// What is run, over which text, and what it writes.
-type Row = (Task, &'static str, &'static str);
-
-const ROWS: &[Row] = &[
-    (Task::Identify, FIRST, FIRST_LINES),
-    (
-        Task::Identify,
-        "\"\"\"a \\\" import a\nimport b\n\"\"\"\ny = \"\"\nimport c\n",
-        "-:5 import c\n",
-    ),
-    (
-        Task::Identify,
-        "import é\r\nx = \"\"\"\"\"\"\nimport b",
-        "-:1 import é\n-:3 import b\n",
-    ),
-    (Task::Sort, UNSORTED, SORTED),
-];
 
 /// Which device fails.
 #[derive(Clone, Copy)]
@@ -139,81 +165,36 @@ enum Side {
 }
 
 /// Which device fails, how, and what a run answers then.
-type Failure = (Side, ErrorKind, RunError);
+#[derive(Clone, Copy)]
+struct Failure(Side, ErrorKind, RunError);
 
 const FAILURES: &[Failure] = &[
-    (Side::Reader, ErrorKind::Other, RunError::Read),
-    (Side::Reader, ErrorKind::Interrupted, RunError::NeverEnds),
-    (Side::Writer, ErrorKind::Other, RunError::Write),
-    (Side::Writer, ErrorKind::Interrupted, RunError::Write),
+    Failure(Side::Reader, ErrorKind::Other, RunError::Read),
+    Failure(Side::Reader, ErrorKind::Interrupted, RunError::NeverEnds),
+    Failure(Side::Writer, ErrorKind::Other, RunError::Write),
+    Failure(Side::Writer, ErrorKind::Interrupted, RunError::Write),
 ];
 
-/// Whether the run meets a failure after so many calls that go well, if it then answers as it has to: that failure, after
-/// a part of its output, and none of it where a text to sort can't be read; or all of its output.
-fn meets_failure(
-    alloc: Global,
-    row: Row,
-    failure: Failure,
-    most: usize,
-    sound: u32,
-) -> Result<Option<bool>, Fail> {
-    let (task, text, output) = row;
-    let (side, kind, error) = failure;
-    let mut reader = Device::new(alloc, text, most);
-    let mut writer = Device::new(alloc, "", most);
-    reader.kind = kind;
-    writer.kind = kind;
-    match side {
-        Side::Reader => reader.sound = sound,
-        Side::Writer => writer.sound = sound,
-    }
-    let ended = run(alloc, task, reader, writer)?;
-    let written = ended.writer.taken.as_slice();
-    let failed = ended.reader.failed || ended.writer.failed;
-    let right = if failed {
-        let unread = task == Task::Sort && ended.reader.failed;
-        ended.answer == Err(error)
-            && output.as_bytes().starts_with(written)
-            && (!unread || written.is_empty())
-    } else {
-        ended.answer == Ok(()) && written == output.as_bytes()
-    };
-    Ok(if right { Some(failed) } else { None })
-}
-
-/// Whether the run answers as it has to, whichever call is the first that fails, up to the first that isn't reached.
-fn meets_each_failure(
-    alloc: Global,
-    row: Row,
-    failure: Failure,
-    most: usize,
-) -> Result<bool, Fail> {
-    for sound in 0..1000 {
-        match meets_failure(alloc, row, failure, most, sound)? {
-            Some(true) => {}
-            Some(false) => return Ok(0 < sound),
-            None => return Ok(false),
+impl Failure {
+    /// What goes wrong with the reader and the writer, after so many calls.
+    fn troubles(self, sound: u32) -> (Trouble, Trouble) {
+        let trouble = Trouble::After(sound, self.1);
+        match self.0 {
+            Side::Reader => (trouble, Trouble::None),
+            Side::Writer => (Trouble::None, trouble),
         }
     }
-    Ok(false)
 }
 
-#[test]
-fn answers_each_failure(rt: HostRuntime) -> Result<(), Fail> {
-    for row in ROWS {
-        for failure in FAILURES {
-            for most in [1, 7, 1000] {
-                assert!(rt;
-                    meets_each_failure(rt.alloc(), *row, *failure, most)?,
-                    "{} a call, {}: {}",
-                    most,
-                    failure.2,
-                    row.2
-                );
-            }
-        }
-    }
-    Ok(())
+/// What a run comes to.
+#[derive(Clone, Copy)]
+enum Met {
+    /// It meets the failure, and answers as it has to.
+    Failure,
+    /// It ends before, and has written all of its output.
+    End,
+    /// It answers otherwise.
+    Else,
 }
 
 /// How often a reader and a writer are interrupted before each call, and what a run answers.
@@ -223,45 +204,170 @@ const WAITS: &[(u16, u16, Result<(), RunError>)] = &[
     (0, 1000, Err(RunError::Write)),
 ];
 
-/// Whether a run a byte a call over such devices has this answer, and all of its output, or none of it.
-fn waits_so(
-    alloc: Global,
-    row: Row,
-    waits: (u16, u16),
-    answer: Result<(), RunError>,
-) -> Result<bool, Fail> {
-    let (task, text, output) = row;
-    let mut reader = Device::new(alloc, text, 1);
-    let mut writer = Device::new(alloc, "", 1);
-    (reader.waits, writer.waits) = waits;
-    let ended = run(alloc, task, reader, writer)?;
-    let output = if answer.is_ok() { output } else { "" };
-    Ok(ended.answer == answer && ended.writer.taken.as_slice() == output.as_bytes())
+/// What is run, over which text, and what it writes.
+struct Ran(Task, &'static str, &'static str);
+
+impl Ran {
+    /// Whether the answer to a failure is right: that failure, after a part of the output, and none of it where a text to
+    /// sort can't be read.
+    fn is_failure(
+        &self,
+        failure: Failure,
+        answer: Result<(), RunError>,
+        unread: bool,
+        written: &[u8],
+    ) -> bool {
+        answer == Err(failure.2)
+            && self.2.as_bytes().starts_with(written)
+            && (!unread || self.0 == Task::Identify || written.is_empty())
+    }
+
+    /// What a run with this answer comes to, after which these are the devices.
+    fn met(
+        &self,
+        failure: Failure,
+        answer: Result<(), RunError>,
+        reader: &Device<'_>,
+        writer: &Device<'_>,
+    ) -> Met {
+        let written = writer.taken.as_slice();
+        if reader.has_failed() || writer.has_failed() {
+            if self.is_failure(failure, answer, reader.has_failed(), written) {
+                return Met::Failure;
+            }
+        } else if answer == Ok(()) && written == self.2.as_bytes() {
+            return Met::End;
+        }
+        Met::Else
+    }
+
+    /// What a run comes to of which so many calls go well.
+    fn meets(
+        &self,
+        alloc: Global,
+        settings: &Settings,
+        failure: Failure,
+        most: usize,
+        sound: u32,
+    ) -> Met {
+        let (reads, writes) = failure.troubles(sound);
+        let mut reader = Device::new(alloc, self.1.as_bytes(), most, reads);
+        let mut writer = Device::new(alloc, b"", most, writes);
+        let answer = run(alloc, settings, self.0, &mut reader, &mut writer);
+        self.met(failure, answer, &reader.into_inner(), &writer.into_inner())
+    }
+
+    /// Whether the run answers as it has to, whichever call is the first that fails, up to the first that isn't reached.
+    fn meets_each(
+        &self,
+        alloc: Global,
+        settings: &Settings,
+        failure: Failure,
+        most: usize,
+    ) -> bool {
+        for sound in 0..1000 {
+            match self.meets(alloc, settings, failure, most, sound) {
+                Met::Failure => {}
+                Met::End => return 0 < sound,
+                Met::Else => return false,
+            }
+        }
+        false
+    }
+
+    fn meets_failures(&self, alloc: Global, settings: &Settings, most: usize) -> bool {
+        for failure in FAILURES {
+            if !self.meets_each(alloc, settings, *failure, most) {
+                return false;
+            }
+        }
+        true
+    }
+
+    /// Whether a run a byte a call over devices that are interrupted so often has this answer, and all of its output, or
+    /// none of it.
+    fn waits_so(
+        &self,
+        alloc: Global,
+        settings: &Settings,
+        waits: (u16, u16),
+        answer: Result<(), RunError>,
+    ) -> bool {
+        let mut reader = Device::new(alloc, self.1.as_bytes(), 1, Trouble::Waits(waits.0));
+        let mut writer = Device::new(alloc, b"", 1, Trouble::Waits(waits.1));
+        let got = run(alloc, settings, self.0, &mut reader, &mut writer);
+        let output = if answer.is_ok() { self.2 } else { "" };
+        got == answer && writer.into_inner().taken.as_slice() == output.as_bytes()
+    }
+
+    fn waits(&self, alloc: Global, settings: &Settings) -> bool {
+        for (reads, writes, answer) in WAITS {
+            if !self.waits_so(alloc, settings, (*reads, *writes), *answer) {
+                return false;
+            }
+        }
+        true
+    }
 }
 
-#[test]
-fn waits_for_interrupted_calls(rt: HostRuntime) -> Result<(), Fail> {
-    for row in ROWS {
-        for (reads, writes, answer) in WAITS {
-            assert!(rt;
-                waits_so(rt.alloc(), *row, (*reads, *writes), *answer)?,
-                "{}, {}: {}",
-                reads,
-                writes,
-                row.2
-            );
+impl Case for Ran {
+    fn holds(&self, alloc: Global) -> bool {
+        match Settings::plain(alloc) {
+            Ok(settings) => {
+                self.meets_failures(alloc, &settings, 1)
+                    && self.meets_failures(alloc, &settings, 7)
+                    && self.meets_failures(alloc, &settings, 1000)
+                    && self.waits(alloc, &settings)
+            }
+            Err(_) => false,
         }
     }
-    Ok(())
 }
+
+const ROWS: &[Ran] = &[
+    Ran(Task::Identify, FIRST, FIRST_LINES),
+    Ran(
+        Task::Identify,
+        "\"\"\"a \\\" import a\nimport b\n\"\"\"\ny = \"\"\nimport c\n",
+        "-:5 import c\n",
+    ),
+    Ran(
+        Task::Identify,
+        "import é\r\nx = \"\"\"\"\"\"\nimport b",
+        "-:1 import é\n-:3 import b\n",
+    ),
+    Ran(Task::Sort, UNSORTED, SORTED),
+];
+
+#[test]
+fn answers_each_failure_and_waits_for_interrupted_calls(rt: HostRuntime) -> Result<(), Fail> {
+    each_holds(rt.alloc(), ROWS)
+}
+
+/// What is run over a reader without end, which is too long.
+struct Endless(Task);
+
+impl Endless {
+    fn is_too_long(&self, alloc: Global, settings: &Settings) -> bool {
+        let mut reader = Metered::new(io::repeat(b'#'));
+        let mut writer = Device::new(alloc, b"", 1000, Trouble::None);
+        let answer = run(alloc, settings, self.0, &mut reader, &mut writer);
+        answer == Err(RunError::TooLong) && writer.into_inner().taken.is_empty()
+    }
+}
+
+impl Case for Endless {
+    fn holds(&self, alloc: Global) -> bool {
+        match Settings::plain(alloc) {
+            Ok(settings) => self.is_too_long(alloc, &settings),
+            Err(_) => false,
+        }
+    }
+}
+
+const TASKS: &[Endless] = &[Endless(Task::Identify), Endless(Task::Sort)];
 
 #[test]
 fn leaves_a_reader_without_end(rt: HostRuntime) -> Result<(), Fail> {
-    for task in [Task::Identify, Task::Sort] {
-        let writer = Device::new(rt.alloc(), "", 1000);
-        let ended = run(rt.alloc(), task, io::repeat(b'#'), writer)?;
-        assert_eq!(rt; ended.answer, Err(RunError::TooLong));
-        assert!(rt; ended.writer.taken.is_empty());
-    }
-    Ok(())
+    each_holds(rt.alloc(), TASKS)
 }

@@ -1,3 +1,5 @@
+use crate::cases::{Case, each_holds};
+use isort_cmd::{RunError, fault_text, settings_text};
 use isort_find::{FindError, ResumeError};
 use isort_settings::{SettingKey, SettingsError};
 use isort_sort::SortError;
@@ -5,23 +7,33 @@ use py_imports::ImportError;
 use py_lines::{Fault, FaultKind, LexError};
 use std::alloc::Global;
 use std::fmt::Display;
-use std::process::Abort;
 use std::test::Fail;
 
-/// Each kind of fault, and its text.
-const KINDS: &[(FaultKind, &str)] = &[
-    (FaultKind::BadUtf8, "F1 not UTF-8"),
-    (FaultKind::BadChar, "F2 unexpected character"),
-    (FaultKind::OpenString, "F3 string not closed"),
-    (FaultKind::OpenTriple, "F4 triple-quoted string not closed"),
-    (
+/// An error, and its text.
+struct Shown<E>(E, &'static str);
+
+impl<E: Display> Case for Shown<E> {
+    fn holds(&self, alloc: Global) -> bool {
+        match format!(in alloc; "{}", self.0) {
+            Ok(text) => text.as_str() == self.1,
+            Err(_) => false,
+        }
+    }
+}
+
+const KINDS: &[Shown<FaultKind>] = &[
+    Shown(FaultKind::BadUtf8, "F1 not UTF-8"),
+    Shown(FaultKind::BadChar, "F2 unexpected character"),
+    Shown(FaultKind::OpenString, "F3 string not closed"),
+    Shown(FaultKind::OpenTriple, "F4 triple-quoted string not closed"),
+    Shown(
         FaultKind::WrongClose,
         "F5 closing bracket without its opening",
     ),
-    (FaultKind::OpenBracket, "F6 bracket not closed"),
-    (FaultKind::BadJoin, "F7 backslash not before a line end"),
-    (FaultKind::TooDeep, "F8 more than 200 brackets open"),
-    (FaultKind::BadImport, "F9 import statement not understood"),
+    Shown(FaultKind::OpenBracket, "F6 bracket not closed"),
+    Shown(FaultKind::BadJoin, "F7 backslash not before a line end"),
+    Shown(FaultKind::TooDeep, "F8 more than 200 brackets open"),
+    Shown(FaultKind::BadImport, "F9 import statement not understood"),
 ];
 
 /// A fault, and its text in each error that has it.
@@ -35,70 +47,152 @@ const FAULT_TEXT: &str = "line 3: F2 unexpected character";
 
 const NO_MEMORY: &str = "out of memory";
 
-const LEXING: &[(LexError, &str)] = &[
-    (LexError::Memory, NO_MEMORY),
-    (LexError::Fault(FAULT), FAULT_TEXT),
+const LEXING: &[Shown<LexError>] = &[
+    Shown(LexError::Memory, NO_MEMORY),
+    Shown(LexError::Fault(FAULT), FAULT_TEXT),
 ];
 
-const IMPORTS: &[(ImportError, &str)] = &[
-    (ImportError::Memory, NO_MEMORY),
-    (ImportError::Fault(FAULT), FAULT_TEXT),
+const IMPORTS: &[Shown<ImportError>] = &[
+    Shown(ImportError::Memory, NO_MEMORY),
+    Shown(ImportError::Fault(FAULT), FAULT_TEXT),
 ];
 
-const FINDING: &[(FindError, &str)] = &[
-    (FindError::Memory, NO_MEMORY),
-    (FindError::Fault(FAULT), FAULT_TEXT),
+const FINDING: &[Shown<FindError>] = &[
+    Shown(FindError::Memory, NO_MEMORY),
+    Shown(FindError::Fault(FAULT), FAULT_TEXT),
 ];
 
-const RESUMING: &[(ResumeError, &str)] = &[
-    (ResumeError::Memory, NO_MEMORY),
-    (
+const RESUMING: &[Shown<ResumeError>] = &[
+    Shown(ResumeError::Memory, NO_MEMORY),
+    Shown(
         ResumeError::TextTooShort,
         "C1 text is shorter than the cursor's offset",
     ),
 ];
 
-const SETTINGS: &[(SettingsError, &str)] = &[
-    (SettingsError::Memory, NO_MEMORY),
-    (SettingsError::BadToml, "the settings are not TOML"),
-    (
+const SETTINGS: &[Shown<SettingsError>] = &[
+    Shown(SettingsError::Memory, NO_MEMORY),
+    Shown(SettingsError::BadToml, "the settings are not TOML"),
+    Shown(
         SettingsError::BadValue(SettingKey::LineLength),
         "bad value for line_length",
     ),
-    (
+    Shown(
         SettingsError::BadValue(SettingKey::ToolIsort),
         "bad value for tool.isort",
     ),
-    (SettingsError::UnknownProfile, "unknown profile"),
-    (SettingsError::UnsupportedMode, "unsupported wrap mode"),
+    Shown(SettingsError::UnknownProfile, "unknown profile"),
+    Shown(SettingsError::UnsupportedMode, "unsupported wrap mode"),
 ];
 
-const SORTING: &[(SortError, &str)] = &[
-    (SortError::Memory, NO_MEMORY),
-    (SortError::Fault(FAULT), FAULT_TEXT),
-    (SortError::Write, "cannot be written"),
+const SORTING: &[Shown<SortError>] = &[
+    Shown(SortError::Memory, NO_MEMORY),
+    Shown(SortError::Fault(FAULT), FAULT_TEXT),
+    Shown(SortError::Write, "cannot be written"),
 ];
-
-// Whether each of these is displayed as the text beside it.
-fn are_displayed<E: Display>(
-    rt: &impl Abort,
-    alloc: Global,
-    rows: &[(E, &str)],
-) -> Result<(), Fail> {
-    for (error, want) in rows {
-        let text = format!(in alloc; "{error}")?;
-        assert_eq!(rt; text.as_str(), *want);
-    }
-    Ok(())
-}
 
 #[test]
 fn displays_errors(rt: HostRuntime) -> Result<(), Fail> {
-    are_displayed(&rt, rt.alloc(), KINDS)?;
-    are_displayed(&rt, rt.alloc(), LEXING)?;
-    are_displayed(&rt, rt.alloc(), IMPORTS)?;
-    are_displayed(&rt, rt.alloc(), FINDING)?;
-    are_displayed(&rt, rt.alloc(), RESUMING)?;
-    are_displayed(&rt, rt.alloc(), SETTINGS)?;
-    are_displayed(&rt, rt.alloc(), SORTING)
+    each_holds(rt.alloc(), KINDS)?;
+    each_holds(rt.alloc(), LEXING)?;
+    each_holds(rt.alloc(), IMPORTS)?;
+    each_holds(rt.alloc(), FINDING)?;
+    each_holds(rt.alloc(), RESUMING)?;
+    each_holds(rt.alloc(), SETTINGS)?;
+    each_holds(rt.alloc(), SORTING)
+}
+
+/// An error of a run, and the line that tells of it.
+struct ErrorLine(RunError, &'static str);
+
+impl Case for ErrorLine {
+    fn holds(&self, alloc: Global) -> bool {
+        match fault_text(alloc, "-", &self.0) {
+            Ok(text) => text.as_str() == self.1,
+            Err(_) => false,
+        }
+    }
+}
+
+const RUN_ERRORS: &[ErrorLine] = &[
+    ErrorLine(
+        RunError::Fault(Fault {
+            kind: FaultKind::BadUtf8,
+            offset: 1,
+            line: 1,
+        }),
+        "-:1: F1 not UTF-8\n",
+    ),
+    ErrorLine(
+        RunError::Fault(Fault {
+            kind: FaultKind::BadChar,
+            offset: 13,
+            line: 2,
+        }),
+        "-:2: F2 unexpected character\n",
+    ),
+    ErrorLine(
+        RunError::Fault(Fault {
+            kind: FaultKind::OpenString,
+            offset: 4,
+            line: 1,
+        }),
+        "-:1: F3 string not closed\n",
+    ),
+    ErrorLine(
+        RunError::Fault(Fault {
+            kind: FaultKind::BadImport,
+            offset: 9,
+            line: 2,
+        }),
+        "-:2: F9 import statement not understood\n",
+    ),
+    ErrorLine(RunError::Read, "isort: -: R1 cannot be read\n"),
+    ErrorLine(RunError::TooLong, "isort: -: R2 is too long\n"),
+    ErrorLine(RunError::Write, "isort: -: R3 cannot be written\n"),
+    ErrorLine(RunError::Memory, "isort: -: R5 out of memory\n"),
+    ErrorLine(RunError::NeverEnds, "isort: -: R6 reader never ends\n"),
+];
+
+#[test]
+fn tells_errors(rt: HostRuntime) -> Result<(), Fail> {
+    each_holds(rt.alloc(), RUN_ERRORS)
+}
+
+/// Why settings are refused, and the line that tells of it.
+struct SettingsLine(SettingsError, &'static str);
+
+impl Case for SettingsLine {
+    fn holds(&self, alloc: Global) -> bool {
+        match settings_text(alloc, &self.0) {
+            Ok(text) => text.as_str() == self.1,
+            Err(_) => false,
+        }
+    }
+}
+
+const REFUSALS: &[SettingsLine] = &[
+    SettingsLine(SettingsError::BadToml, "isort: settings: S1 not TOML\n"),
+    SettingsLine(
+        SettingsError::BadValue(SettingKey::LineLength),
+        "isort: settings: S2 bad value for line_length\n",
+    ),
+    SettingsLine(
+        SettingsError::BadValue(SettingKey::ToolIsort),
+        "isort: settings: S2 bad value for tool.isort\n",
+    ),
+    SettingsLine(
+        SettingsError::UnknownProfile,
+        "isort: settings: S3 unknown profile\n",
+    ),
+    SettingsLine(
+        SettingsError::UnsupportedMode,
+        "isort: settings: S4 unsupported multi_line_output\n",
+    ),
+    SettingsLine(SettingsError::Memory, "isort: R5 out of memory\n"),
+];
+
+#[test]
+fn tells_of_settings(rt: HostRuntime) -> Result<(), Fail> {
+    each_holds(rt.alloc(), REFUSALS)
 }

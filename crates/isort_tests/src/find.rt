@@ -1,4 +1,5 @@
-use crate::acts::{tell_binding, tell_fault, tell_place};
+use crate::acts::{tell, tell_error, tell_import, tell_place};
+use crate::cases::{Case, all_are_so, each_holds};
 use isort_find::laws::equal_keys;
 use isort_find::{Cursor, FindError, FindOptions, Finder, ImportKey, KeyText, ResumeError, key_of};
 use py_imports::{Binding, ImportError};
@@ -6,106 +7,84 @@ use py_lines::{Fault, FaultKind};
 use std::alloc::Global;
 use std::test::Fail;
 
-const fn options(unique: Option<ImportKey>, top_only: bool) -> FindOptions {
-    FindOptions { unique, top_only }
-}
-
-// What the next call answers goes after `out`, on a line of its own.
-fn tell(alloc: Global, finder: &mut Finder<'_>, out: &mut String) -> Result<(), Fail> {
-    match finder.next_import() {
-        Ok(Some(binding)) => tell_binding(alloc, &binding, out),
-        Ok(None) => {
-            out.push_str("end\n")?;
-            Ok(())
-        }
-        Err(FindError::Fault(fault)) => tell_fault(fault, out),
-        Err(error) => Err(Fail::from(error)),
-    }
-}
-
-fn tell_answers(
-    alloc: Global,
-    finder: &mut Finder<'_>,
-    answers: usize,
-    out: &mut String,
-) -> Result<(), Fail> {
+/// So many answers, each on a line of its own, and where the finder stops after them.
+fn tell_some(alloc: Global, mut finder: Finder<'_>, answers: usize, out: &mut String) -> Cursor {
     for _ in 0..answers {
-        tell(alloc, finder, out)?;
+        tell_import(alloc, &mut finder, "end\n", out);
     }
-    Ok(())
-}
-
-// Tells so many answers, and where the finder stops after them.
-fn tell_some(
-    alloc: Global,
-    mut finder: Finder<'_>,
-    answers: usize,
-    out: &mut String,
-) -> Result<Cursor, Fail> {
-    tell_answers(alloc, &mut finder, answers, out)?;
     let cursor = finder.stop();
-    tell_place(&cursor, out)?;
-    Ok(cursor)
-}
-
-fn begun<'t>(alloc: Global, text: &'t str, options: FindOptions) -> Result<Finder<'t>, Fail> {
-    Ok(Finder::new(alloc, text.as_bytes(), options)?)
-}
-
-fn resumed<'t>(alloc: Global, text: &'t str, cursor: Cursor) -> Result<Finder<'t>, Fail> {
-    match Finder::resume(alloc, text.as_bytes(), cursor) {
-        Ok(finder) => Ok(finder),
-        Err((_, error)) => Err(Fail::from(error)),
-    }
-}
-
-// So many answers, then a stop, and then so many more.
-fn story(
-    alloc: Global,
-    text: &str,
-    options: FindOptions,
-    answers: usize,
-    more: usize,
-) -> Result<String, Fail> {
-    let mut out = String::new(alloc);
-    let cursor = tell_some(alloc, begun(alloc, text, options)?, answers, &mut out)?;
-    let _ = tell_some(alloc, resumed(alloc, text, cursor)?, more, &mut out)?;
-    Ok(out)
+    tell_place(&cursor, out);
+    cursor
 }
 
 const ALIKE: &str = "import a.b\nfrom a import c\nfrom .a import d\nfrom a import c as e\n";
 
 const DECLARED: &str = "import a\nif a:\n    def f(): pass\n    import b\n@d\nx = (\n";
 
-// A text, the options, how many answers are told before a stop and how many after it, and what is told.
-type Story = (
+/// A text, the options, how many answers are told before a stop and how many after it, and what is told.
+struct Story(
     &'static str,
     (Option<ImportKey>, bool),
     (usize, usize),
     &'static str,
 );
 
+impl Story {
+    fn begin(&self, alloc: Global) -> Result<Finder<'static>, FindError> {
+        let (unique, top_only) = self.1;
+        let options = FindOptions { unique, top_only };
+        Finder::new(alloc, self.0.as_bytes(), options)
+    }
+
+    fn go_on(&self, alloc: Global, cursor: Cursor, out: &mut String) {
+        match Finder::resume(alloc, self.0.as_bytes(), cursor) {
+            Ok(finder) => {
+                tell_some(alloc, finder, self.2.1, out);
+            }
+            Err(_) => tell("no finder\n", out),
+        }
+    }
+
+    fn tell(&self, alloc: Global, out: &mut String) {
+        match self.begin(alloc) {
+            Ok(finder) => {
+                let cursor = tell_some(alloc, finder, self.2.0, out);
+                self.go_on(alloc, cursor, out);
+            }
+            Err(error) => tell_error(error, out),
+        }
+    }
+}
+
+impl Case for Story {
+    fn holds(&self, alloc: Global) -> bool {
+        let mut out = String::new(alloc);
+        self.tell(alloc, &mut out);
+        out.as_str() == self.3
+    }
+}
+
 // The first import of each key is given.
 const FIRST: &[Story] = &[
-    (
+    Story(
         ALIKE,
         (Some(ImportKey::Package), false),
         (1, 2),
         "1 import a.b\nat 0, 1\n3 from .a import d\nend\nat 65, 2\n",
     ),
-    (
+    Story(
         ALIKE,
         (Some(ImportKey::Module), false),
         (2, 2),
         "1 import a.b\n2 from a import c\nat 11, 2\n3 from .a import d\nend\nat 65, 3\n",
     ),
-    (
+    Story(
         ALIKE,
         (Some(ImportKey::Attribute), false),
         (2, 2),
         "1 import a.b\n2 from a import c\nat 11, 2\n3 from .a import d\nend\nat 65, 3\n",
     ),
-    (
+    Story(
         ALIKE,
         (Some(ImportKey::Alias), false),
         (3, 2),
@@ -115,31 +94,31 @@ const FIRST: &[Story] = &[
 
 // Later imports of a key are dropped.
 const LATER: &[Story] = &[
-    (
+    Story(
         "import a, b, a as c\nimport b.c\n",
         (Some(ImportKey::Module), false),
         (2, 2),
         "1 import a\n1 import b\nat 0, 2\n2 import b.c\nend\nat 31, 3\n",
     ),
-    (
+    Story(
         "import a\nimport a, b\nimport b\n",
         (Some(ImportKey::Module), false),
         (1, 2),
         "1 import a\nat 0, 1\n2 import b\nend\nat 30, 2\n",
     ),
-    (
+    Story(
         "import a\nimport b, a, c, b, d\nimport a, e\n",
         (Some(ImportKey::Module), false),
         (3, 3),
         "1 import a\n2 import b\n2 import c\nat 9, 3\n2 import d\n3 import e\nend\nat 42, 5\n",
     ),
-    (
+    Story(
         "",
         (Some(ImportKey::Module), false),
         (2, 1),
         "end\nend\nat 0, 0\nend\nat 0, 0\n",
     ),
-    (
+    Story(
         "\u{feff}",
         (Some(ImportKey::Module), false),
         (2, 1),
@@ -149,13 +128,13 @@ const LATER: &[Story] = &[
 
 // The finder stops at the top if it is asked to.
 const TOP: &[Story] = &[
-    (
+    Story(
         DECLARED,
         (None, true),
         (4, 1),
         "1 import a\n4 indented import b\nend\nend\nat 46, 2\nend\nat 46, 2\n",
     ),
-    (
+    Story(
         DECLARED,
         (None, false),
         (4, 1),
@@ -165,25 +144,25 @@ const TOP: &[Story] = &[
 
 // A fault is told again and again.
 const FAULTS: &[Story] = &[
-    (
+    Story(
         "import a\nimport b\nx = (1,",
         (None, true),
         (3, 1),
         "1 import a\n2 import b\nF6 bracket not closed, 22, 3\nat 18, 2\nF6 bracket not closed, 22, 3\nat 18, 2\n",
     ),
-    (
+    Story(
         "import a\nfrom b import c,\n",
         (None, true),
         (3, 1),
         "1 import a\nF9 import statement not understood, 9, 2\nF9 import statement not understood, 9, 2\nat 9, 1\nF9 import statement not understood, 9, 2\nat 9, 1\n",
     ),
-    (
+    Story(
         "import a\n\u{feff}",
         (None, true),
         (3, 1),
         "1 import a\nF2 unexpected character, 9, 2\nF2 unexpected character, 9, 2\nat 9, 1\nF2 unexpected character, 9, 2\nat 9, 1\n",
     ),
-    (
+    Story(
         "import a\ndef f(): x = )\n",
         (None, true),
         (3, 1),
@@ -192,58 +171,71 @@ const FAULTS: &[Story] = &[
 ];
 
 // The finder goes on inside a line.
-const INSIDE: &[Story] = &[(
+const INSIDE: &[Story] = &[Story(
     "import a, b, c",
     (None, false),
     (2, 2),
     "1 import a\n1 import b\nat 0, 2\n1 import c\nend\nat 14, 3\n",
 )];
 
-const STORIES: &[&[Story]] = &[FIRST, LATER, TOP, FAULTS, INSIDE];
-
-// Whether a story is told so.
-fn is_told(alloc: Global, told: &Story) -> Result<bool, Fail> {
-    let (text, (unique, top_only), (answers, more), want) = *told;
-    Ok(story(alloc, text, options(unique, top_only), answers, more)?.as_str() == want)
-}
-
 #[test]
 fn tells_stories(rt: HostRuntime) -> Result<(), Fail> {
-    for stories in STORIES {
-        for told in *stories {
-            assert!(rt; is_told(rt.alloc(), told)?, "{}", told.3);
+    each_holds(rt.alloc(), FIRST)?;
+    each_holds(rt.alloc(), LATER)?;
+    each_holds(rt.alloc(), TOP)?;
+    each_holds(rt.alloc(), FAULTS)?;
+    each_holds(rt.alloc(), INSIDE)
+}
+
+/// A text, how many answers of it are told, a shorter text, which its cursor is refused for, and what is told.
+struct Short(&'static str, usize, &'static str, &'static str);
+
+impl Short {
+    /// The cursor that comes back.
+    fn tell_refused(&self, alloc: Global, cursor: Cursor, out: &mut String) {
+        match Finder::resume(alloc, self.2.as_bytes(), cursor) {
+            Err((cursor, ResumeError::TextTooShort)) => tell_place(&cursor, out),
+            _ => tell("not refused\n", out),
         }
     }
-    Ok(())
-}
 
-// The cursor that comes back where a text ends before it.
-fn refused(alloc: Global, text: &str, cursor: Cursor) -> Result<Cursor, Fail> {
-    match Finder::resume(alloc, text.as_bytes(), cursor) {
-        Err((cursor, ResumeError::TextTooShort)) => Ok(cursor),
-        _ => Err(Fail::from("the text is too short")),
+    fn tell(&self, alloc: Global, out: &mut String) {
+        match Finder::new(alloc, self.0.as_bytes(), ALL) {
+            Ok(finder) => {
+                let cursor = tell_some(alloc, finder, self.1, out);
+                self.tell_refused(alloc, cursor, out);
+            }
+            Err(error) => tell_error(error, out),
+        }
     }
 }
 
-// What is told where a cursor after 14 bytes is refused.
-fn tell_refused(alloc: Global, out: &mut String) -> Result<(), Fail> {
-    let finder = begun(alloc, "import a, b, c", options(None, false))?;
-    let cursor = tell_some(alloc, finder, 4, out)?;
-    tell_place(&refused(alloc, "import a", cursor)?, out)
+impl Case for Short {
+    fn holds(&self, alloc: Global) -> bool {
+        let mut out = String::new(alloc);
+        self.tell(alloc, &mut out);
+        out.as_str() == self.3
+    }
 }
+
+const ALL: FindOptions = FindOptions {
+    unique: None,
+    top_only: false,
+};
+
+const SHORT: &[Short] = &[Short(
+    "import a, b, c",
+    4,
+    "import a",
+    "1 import a\n1 import b\n1 import c\nend\nat 14, 3\nat 14, 3\n",
+)];
 
 #[test]
 fn refuses_short_texts(rt: HostRuntime) -> Result<(), Fail> {
-    let mut told = String::new(rt.alloc());
-    tell_refused(rt.alloc(), &mut told)?;
-    assert_eq!(rt;
-        told.as_str(),
-        "1 import a\n1 import b\n1 import c\nend\nat 14, 3\nat 14, 3\n"
-    );
-    Ok(())
+    each_holds(rt.alloc(), SHORT)
 }
 
-// What makes a call again where memory is refused, or not.
+/// What makes a call again where memory is refused, or not.
 #[derive(Clone, Copy)]
 struct Patience {
     alloc: Global,
@@ -252,7 +244,10 @@ struct Patience {
 
 impl Patience {
     fn finder<'t>(self, text: &'t str) -> Result<Finder<'t>, FindError> {
-        let asked = options(Some(ImportKey::Attribute), false);
+        let asked = FindOptions {
+            unique: Some(ImportKey::Attribute),
+            top_only: false,
+        };
         match Finder::new(self.alloc, text.as_bytes(), asked) {
             Err(_) if self.is_patient => Finder::new(self.alloc, text.as_bytes(), asked),
             finder => finder,
@@ -266,11 +261,13 @@ impl Patience {
         }
     }
 
-    fn resumed<'t>(self, text: &'t str, cursor: Cursor) -> Result<Finder<'t>, Fail> {
+    fn resumed<'t>(self, text: &'t str, cursor: Cursor) -> Option<Finder<'t>> {
         match Finder::resume(self.alloc, text.as_bytes(), cursor) {
-            Ok(finder) => Ok(finder),
-            Err((cursor, _)) if self.is_patient => resumed(self.alloc, text, cursor),
-            Err((_, error)) => Err(Fail::from(error)),
+            Ok(finder) => Some(finder),
+            Err((cursor, _)) if self.is_patient => {
+                Finder::resume(self.alloc, text.as_bytes(), cursor).ok()
+            }
+            Err(_) => None,
         }
     }
 
@@ -281,212 +278,244 @@ impl Patience {
         }
     }
 
-    // Whether the binding is that of the statement on the line.
-    fn tells(self, binding: &Binding, line: u64, statement: &str) -> Result<bool, Fail> {
-        let spelled = self.statement(binding)?;
-        Ok(binding.line == line && spelled.as_str() == statement)
-    }
-
-    // Asks the finder for this import.
-    fn hears(self, finder: &mut Finder<'_>, line: u64, statement: &str) -> Result<(), Fail> {
-        match self.next(finder)? {
-            Some(binding) if self.tells(&binding, line, statement)? => Ok(()),
-            _ => Err(Fail::from("another import was told")),
+    /// Whether the binding is that of the statement on the line.
+    fn tells(self, binding: &Binding, line: u64, statement: &str) -> bool {
+        match self.statement(binding) {
+            Ok(spelled) => binding.line == line && spelled.as_str() == statement,
+            Err(_) => false,
         }
     }
 
-    // Asks a finder that goes on from the cursor for this import, and stops it again.
-    fn passes(
-        self,
-        text: &str,
-        cursor: Cursor,
-        line: u64,
-        statement: &str,
-    ) -> Result<Cursor, Fail> {
-        let mut finder = self.resumed(text, cursor)?;
-        self.hears(&mut finder, line, statement)?;
-        Ok(finder.stop())
-    }
-
-    // What the finder tells after the last import.
-    fn end(self, finder: &mut Finder<'_>) -> Result<Option<Fault>, Fail> {
+    /// Whether the finder's next import is this.
+    fn hears(self, finder: &mut Finder<'_>, line: u64, statement: &str) -> bool {
         match self.next(finder) {
-            Ok(None) => Ok(None),
-            Err(FindError::Fault(fault)) => Ok(Some(fault)),
-            _ => Err(Fail::from("another import was told")),
+            Ok(Some(binding)) => self.tells(&binding, line, statement),
+            _ => false,
         }
     }
 
-    // What a finder tells then that goes on from the cursor.
-    fn end_after(self, text: &str, cursor: Cursor) -> Result<Option<Fault>, Fail> {
+    /// Where a finder stops again that goes on from the cursor, if its next import is this.
+    fn passes(self, text: &str, cursor: Cursor, line: u64, statement: &str) -> Option<Cursor> {
         let mut finder = self.resumed(text, cursor)?;
-        self.end(&mut finder)
+        if self.hears(&mut finder, line, statement) {
+            Some(finder.stop())
+        } else {
+            None
+        }
+    }
+
+    /// Whether the finder tells of this fault, or else of the end, after the last import.
+    fn ends(self, finder: &mut Finder<'_>, end: Option<Fault>) -> bool {
+        match self.next(finder) {
+            Ok(None) => end.is_none(),
+            Err(FindError::Fault(fault)) => end == Some(fault),
+            _ => false,
+        }
+    }
+
+    /// Whether a finder tells so that goes on from the cursor.
+    fn ends_after(self, text: &str, cursor: Cursor, end: Option<Fault>) -> bool {
+        match self.resumed(text, cursor) {
+            Some(mut finder) => self.ends(&mut finder, end),
+            None => false,
+        }
     }
 }
 
-// Asks for these imports one by one, and for what comes after them.
-fn ask(
-    patience: Patience,
-    text: &str,
-    told: &[(u64, &str)],
-    end: Option<Fault>,
-) -> Result<(), Fail> {
-    let mut cursor = patience.finder(text)?.stop();
-    for (line, statement) in told.iter() {
-        cursor = patience.passes(text, cursor, *line, statement)?;
+/// A text, its imports, which are asked for one by one, and the fault that comes after them, or else the end.
+struct Asked(&'static str, &'static [(u64, &'static str)], Option<Fault>);
+
+impl Asked {
+    /// Where a finder stops after these imports.
+    fn passed(&self, patience: Patience, mut cursor: Cursor) -> Option<Cursor> {
+        for (line, statement) in self.1 {
+            cursor = patience.passes(self.0, cursor, *line, statement)?;
+        }
+        Some(cursor)
     }
-    if patience.end_after(text, cursor)? == end {
-        return Ok(());
+
+    fn is_answered_from(&self, patience: Patience, cursor: Cursor) -> bool {
+        match self.passed(patience, cursor) {
+            Some(cursor) => patience.ends_after(self.0, cursor, self.2),
+            None => false,
+        }
     }
-    Err(Fail::from("another end was told"))
+
+    fn is_answered(&self, patience: Patience) -> bool {
+        match patience.finder(self.0) {
+            Ok(finder) => self.is_answered_from(patience, finder.stop()),
+            Err(_) => false,
+        }
+    }
 }
 
-fn ask_all(patience: Patience) -> Result<(), Fail> {
-    ask(
-        patience,
+const ASKED: &[Asked] = &[
+    Asked(
         "import a, b, c",
         &[(1, "import a"), (1, "import b"), (1, "import c")],
         None,
-    )?;
-    ask(
-        patience,
-        "import a.b\nfrom a import c\nfrom .a import d\nfrom a import c as e\n",
+    ),
+    Asked(
+        ALIKE,
         &[
             (1, "import a.b"),
             (2, "from a import c"),
             (3, "from .a import d"),
         ],
         None,
-    )?;
-    let fault = Fault {
-        kind: FaultKind::OpenBracket,
-        offset: 22,
-        line: 3,
-    };
-    ask(
-        patience,
+    ),
+    Asked(
         "import a\nimport b\nx = (1,",
         &[(1, "import a"), (2, "import b")],
-        Some(fault),
-    )
+        Some(Fault {
+            kind: FaultKind::OpenBracket,
+            offset: 22,
+            line: 3,
+        }),
+    ),
+];
+
+fn are_answered(patience: Patience) -> bool {
+    for asked in ASKED {
+        if !asked.is_answered(patience) {
+            return false;
+        }
+    }
+    true
 }
 
 // checks/refuse_memory.py runs this with each growth refused in turn. Each call that is refused is made again, and
 // answers what it would have answered.
 #[test]
 fn answers_the_same_after_refused_memory(rt: HostRuntime) -> Result<(), Fail> {
-    ask_all(Patience {
+    all_are_so(&[are_answered(Patience {
         alloc: rt.alloc(),
         is_patient: true,
-    })
+    })])
 }
 
 // The same growths, where none is refused: that script is done when this passes.
 #[test]
 fn answers_at_once_with_ample_memory(rt: HostRuntime) -> Result<(), Fail> {
-    ask_all(Patience {
+    all_are_so(&[are_answered(Patience {
         alloc: rt.alloc(),
         is_patient: false,
-    })
+    })])
 }
 
-// The options of a cursor that stopped at once.
-fn stopped(alloc: Global, asked: FindOptions) -> Result<FindOptions, Fail> {
-    Ok(begun(alloc, "import a", asked)?.stop().options())
-}
-
-#[test]
-fn keeps_its_options(rt: HostRuntime) -> Result<(), Fail> {
-    let asked = options(Some(ImportKey::Alias), true);
-    assert_eq!(rt; stopped(rt.alloc(), asked)?, asked);
-    Ok(())
-}
-
-// The finder's next import.
-fn next_of(finder: &mut Finder<'_>) -> Result<Binding, Fail> {
-    match finder.next_import()? {
-        Some(binding) => Ok(binding),
-        None => Err(Fail::from("an import is missing")),
+/// Whether a cursor that stopped at once has its finder's options.
+fn keeps(alloc: Global, asked: FindOptions) -> bool {
+    match Finder::new(alloc, b"import a", asked) {
+        Ok(finder) => finder.stop().options() == asked,
+        Err(_) => false,
     }
 }
 
-// The first import of a text.
-fn first_of(alloc: Global, text: &str) -> Result<Binding, Fail> {
-    let mut finder = begun(alloc, text, options(None, false))?;
-    next_of(&mut finder)
+const ASKED_FOR: FindOptions = FindOptions {
+    unique: Some(ImportKey::Alias),
+    top_only: true,
+};
+
+#[test]
+fn keeps_its_options(rt: HostRuntime) -> Result<(), Fail> {
+    all_are_so(&[keeps(rt.alloc(), ASKED_FOR)])
 }
 
-// The key of the first import of a text.
-fn first_key(alloc: Global, text: &str, key: ImportKey) -> Result<KeyText, Fail> {
-    let binding = first_of(alloc, text)?;
-    Ok(key_of(alloc, &binding, key)?)
+/// The first import of a text.
+fn first_of(alloc: Global, text: &str) -> Option<Binding> {
+    match Finder::new(alloc, text.as_bytes(), ALL) {
+        Ok(mut finder) => next_of(&mut finder),
+        Err(_) => None,
+    }
 }
 
-// Whether the first imports of two texts have one key.
-fn is_one(alloc: Global, one: &str, other: &str, key: ImportKey) -> Result<bool, Fail> {
-    let one = first_key(alloc, one, key)?;
-    let other = first_key(alloc, other, key)?;
-    Ok(equal_keys(&one, &other))
+/// The finder's next import.
+fn next_of(finder: &mut Finder<'_>) -> Option<Binding> {
+    match finder.next_import() {
+        Ok(answer) => answer,
+        Err(_) => None,
+    }
 }
 
-// Two statements, a key, and whether their imports have one such key.
-const KEYS: &[(&str, &str, ImportKey, bool)] = &[
-    (
+/// The key of the first import of a text.
+fn first_key(alloc: Global, text: &str, key: ImportKey) -> Option<KeyText> {
+    match first_of(alloc, text) {
+        Some(binding) => key_of(alloc, &binding, key).ok(),
+        None => None,
+    }
+}
+
+/// Two statements, a key, and whether their imports have one such key.
+struct Keys(&'static str, &'static str, ImportKey, bool);
+
+impl Keys {
+    fn holds_beside(&self, alloc: Global, one: &KeyText) -> bool {
+        match first_key(alloc, self.1, self.2) {
+            Some(other) => equal_keys(one, &other) == self.3,
+            None => false,
+        }
+    }
+}
+
+impl Case for Keys {
+    fn holds(&self, alloc: Global) -> bool {
+        match first_key(alloc, self.0, self.2) {
+            Some(one) => self.holds_beside(alloc, &one),
+            None => false,
+        }
+    }
+}
+
+const KEYS: &[Keys] = &[
+    Keys(
         "from ..x.y import z",
         "from ..x import w",
         ImportKey::Package,
         true,
     ),
-    (
+    Keys(
         "from ..x import w",
         "from .x import w",
         ImportKey::Package,
         false,
     ),
-    (
+    Keys(
         "from . import z",
         "from .z import z",
         ImportKey::Package,
         false,
     ),
-    (
+    Keys(
         "from . import z",
         "from . import y",
         ImportKey::Package,
         true,
     ),
-    ("import a.b", "import a", ImportKey::Package, true),
-    ("import a.b", "import a", ImportKey::Module, false),
-    ("import a as b", "from a import b", ImportKey::Module, true),
-    (
+    Keys("import a.b", "import a", ImportKey::Package, true),
+    Keys("import a.b", "import a", ImportKey::Module, false),
+    Keys("import a as b", "from a import b", ImportKey::Module, true),
+    Keys(
         "import a as b",
         "from a import b",
         ImportKey::Attribute,
         false,
     ),
-    (
+    Keys(
         "from . import z",
         "from . import z as y",
         ImportKey::Attribute,
         true,
     ),
-    (
+    Keys(
         "from . import z",
         "from . import z as y",
         ImportKey::Alias,
         false,
     ),
-    ("import a as b", "import a as b", ImportKey::Alias, true),
+    Keys("import a as b", "import a as b", ImportKey::Alias, true),
 ];
 
 #[test]
 fn makes_keys(rt: HostRuntime) -> Result<(), Fail> {
-    for (one, other, key, same) in KEYS {
-        assert_eq!(rt;
-            is_one(rt.alloc(), one, other, *key)?,
-            *same,
-            "{one}, {other}"
-        );
-    }
-    Ok(())
+    each_holds(rt.alloc(), KEYS)
 }

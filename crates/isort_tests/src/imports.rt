@@ -1,3 +1,4 @@
+use crate::cases::{Case, each_holds};
 use py_imports::{
     Action, Binding, ImportError, Shape, bindings_of, is_declaration, says, shape_of,
 };
@@ -5,106 +6,158 @@ use py_lines::{Fault, FaultKind, Lines, Unit};
 use std::alloc::Global;
 use std::test::Fail;
 
-// The statement of a binding on a line of its own, after its line number.
-fn list_binding(alloc: Global, binding: &Binding, out: &mut String) -> Result<(), Fail> {
-    let line = binding.line;
-    let indented = if binding.indented { "indented " } else { "" };
-    let statement = binding.statement(alloc)?;
-    writeln!(out, "{line} {indented}{statement}")?;
-    Ok(())
+/// The statement of a binding on a line of its own, after its line number. Where memory is refused, it is missing.
+fn list_binding(alloc: Global, binding: &Binding, out: &mut String) {
+    if let Ok(statement) = binding.statement(alloc) {
+        let line = binding.line;
+        let indented = if binding.indented { "indented " } else { "" };
+        let _ = writeln!(out, "{line} {indented}{statement}");
+    }
 }
 
-// Whether a copy of the binding is equal to it.
-fn is_copied(alloc: Global, binding: &Binding) -> Result<bool, Fail> {
-    Ok(binding.copy(alloc)? == *binding)
+/// Whether a copy of the binding is equal to it.
+fn is_copied(alloc: Global, binding: &Binding) -> bool {
+    match binding.copy(alloc) {
+        Ok(copy) => copy == *binding,
+        Err(_) => false,
+    }
 }
 
-// What a logical line binds, so listed; each binding is copied.
-fn list_unit(alloc: Global, unit: &Unit<'_>, out: &mut String) -> Result<(), Fail> {
-    for binding in &bindings_of(alloc, unit)? {
-        if !is_copied(alloc, binding)? {
-            return Err(Fail::from("a copy differs"));
+/// Lists bindings: whether each has a copy that is equal to it.
+fn list_bindings(alloc: Global, bindings: &[Binding], out: &mut String) -> bool {
+    for binding in bindings {
+        if !is_copied(alloc, binding) {
+            return false;
         }
-        list_binding(alloc, binding, out)?;
+        list_binding(alloc, binding, out);
     }
-    Ok(())
+    true
 }
 
-// What a text's logical lines bind, so listed.
-fn listing(alloc: Global, text: &str) -> Result<String, Fail> {
-    let mut lines = Lines::new(alloc, text.as_bytes())?;
+/// Lists what a logical line binds: whether it has no fault, and its bindings have copies.
+fn list_unit(alloc: Global, unit: &Unit<'_>, out: &mut String) -> bool {
+    match bindings_of(alloc, unit) {
+        Ok(bindings) => list_bindings(alloc, bindings.as_slice(), out),
+        Err(_) => false,
+    }
+}
+
+/// Lists what the next logical line binds, if there is one: whether it has no fault.
+fn list_next(alloc: Global, lines: &mut Lines<'_>, out: &mut String) -> bool {
+    match lines.next_unit() {
+        Ok(Some(unit)) => list_unit(alloc, &unit, out),
+        Ok(None) => true,
+        Err(_) => false,
+    }
+}
+
+/// Whether the next logical lines, so many, bind this, listed.
+fn list_so(alloc: Global, lines: &mut Lines<'_>, most: usize, want: &str) -> bool {
     let mut out = String::new(alloc);
-    for _ in 0..text.len() {
-        let Some(unit) = lines.next_unit()? else {
-            break;
-        };
-        list_unit(alloc, &unit, &mut out)?;
+    for _ in 0..most {
+        if !list_next(alloc, lines, &mut out) {
+            return false;
+        }
     }
-    Ok(out)
+    out.as_str() == want
 }
 
-// Whether this is what the text's logical lines bind.
-fn is_listed(alloc: Global, text: &str, statements: &str) -> Result<bool, Fail> {
-    Ok(listing(alloc, text)?.as_str() == statements)
+/// A text, and what its logical lines bind, listed.
+struct Listed(&'static str, &'static str);
+
+impl Case for Listed {
+    fn holds(&self, alloc: Global) -> bool {
+        match Lines::new(alloc, self.0.as_bytes()) {
+            Ok(mut lines) => list_so(alloc, &mut lines, self.0.len(), self.1),
+            Err(_) => false,
+        }
+    }
 }
 
-// Whether the text's first logical line is refused with F9 at this byte.
-fn is_refused(alloc: Global, text: &str, offset: u64) -> Result<bool, Fail> {
-    let mut lines = Lines::new(alloc, text.as_bytes())?;
-    let unit = lines.next_unit()?.ok_or("a unit is missing")?;
+/// What is said of a text's first logical line.
+#[derive(Clone, Copy)]
+enum Said {
+    /// Its bindings are refused with F9 at this byte.
+    Refused(u64),
+    /// It is a declaration, or not.
+    Declaration(bool),
+    /// It has this shape.
+    Shaped(Shape),
+}
+
+/// Whether a logical line is refused with F9 at this byte.
+fn is_refused(alloc: Global, unit: &Unit<'_>, offset: u64) -> bool {
     let fault = Fault {
         kind: FaultKind::BadImport,
         offset,
         line: 1,
     };
-    match bindings_of(alloc, &unit) {
-        Err(error) => Ok(error == ImportError::Fault(fault)),
-        Ok(_) => Ok(false),
+    bindings_of(alloc, unit).err() == Some(ImportError::Fault(fault))
+}
+
+impl Said {
+    fn is_so(self, alloc: Global, unit: &Unit<'_>) -> bool {
+        match self {
+            Said::Refused(offset) => is_refused(alloc, unit, offset),
+            Said::Declaration(is_declared) => is_declaration(unit) == is_declared,
+            Said::Shaped(shape) => shape_of(unit) == shape,
+        }
+    }
+
+    fn is_so_of_next(self, alloc: Global, lines: &mut Lines<'_>) -> bool {
+        match lines.next_unit() {
+            Ok(Some(unit)) => self.is_so(alloc, &unit),
+            _ => false,
+        }
     }
 }
 
-// The shape of the text's first logical line, and whether it is a declaration.
-fn first_line(alloc: Global, text: &str) -> Result<(Shape, bool), Fail> {
-    let mut lines = Lines::new(alloc, text.as_bytes())?;
-    let unit = lines.next_unit()?.ok_or("a unit is missing")?;
-    Ok((shape_of(&unit), is_declaration(&unit)))
+/// A text, and what is said of its first logical line.
+struct First(&'static str, Said);
+
+impl Case for First {
+    fn holds(&self, alloc: Global) -> bool {
+        match Lines::new(alloc, self.0.as_bytes()) {
+            Ok(mut lines) => self.1.is_so_of_next(alloc, &mut lines),
+            Err(_) => false,
+        }
+    }
 }
 
-// Texts, and what they bind, listed.
-const BINDINGS: &[(&str, &str)] = &[
-    (
+const BINDINGS: &[Listed] = &[
+    Listed(
         "from ... import x, y as z",
         "1 from ... import x\n1 from ... import y as z\n",
     ),
-    ("class C: from a import b as c", "1 from a import b as c\n"),
-    (
+    Listed("class C: from a import b as c", "1 from a import b as c\n"),
+    Listed(
         "from a import (b); import c.d",
         "1 from a import b\n1 import c.d\n",
     ),
-    ("x = {1: import_, 2: [a, b]}", ""),
-    ("import os, sys as s", "1 import os\n1 import sys as s\n"),
-    (
+    Listed("x = {1: import_, 2: [a, b]}", ""),
+    Listed("import os, sys as s", "1 import os\n1 import sys as s\n"),
+    Listed(
         "from a import (  # k\n    b as x,  # l\n    c,\n)\n",
         "1 from a import b as x\n1 from a import c\n",
     ),
-    (
+    Listed(
         "x = 1 + \\\r\n  2\r\nfrom . .x import y\r\n",
         "3 from ..x import y\n",
     ),
-    (
+    Listed(
         "if a: import b; from c import *\nraise X from Y\nz = yield from w\n",
         "1 import b\n1 from c import *\n",
     ),
-    ("if a:\n    import b\n", "2 indented import b\n"),
-    (
+    Listed("if a:\n    import b\n", "2 indented import b\n"),
+    Listed(
         "import a.b\nfrom a import c\nfrom .a import d\nfrom a import c as e\n",
         "1 import a.b\n2 from a import c\n3 from .a import d\n4 from a import c as e\n",
     ),
-    ("x[1:import_]; y = {a: 1}; import b", "1 import b\n"),
-    ("(\n# c\n); import b", "3 import b\n"),
-    (";import a", "1 import a\n"),
-    ("import match, type", "1 import match\n1 import type\n"),
-    (
+    Listed("x[1:import_]; y = {a: 1}; import b", "1 import b\n"),
+    Listed("(\n# c\n); import b", "3 import b\n"),
+    Listed(";import a", "1 import a\n"),
+    Listed("import match, type", "1 import match\n1 import type\n"),
+    Listed(
         "import os, sys as s\nfrom . import a, b as c\n",
         "1 import os\n1 import sys as s\n2 from . import a\n2 from . import b as c\n",
     ),
@@ -112,134 +165,136 @@ const BINDINGS: &[(&str, &str)] = &[
 
 #[test]
 fn gives_bindings(rt: HostRuntime) -> Result<(), Fail> {
-    for (text, statements) in BINDINGS {
-        assert!(rt; is_listed(rt.alloc(), text, statements)?, "{text}");
-    }
-    Ok(())
+    each_holds(rt.alloc(), BINDINGS)
 }
 
-// Texts, and the byte of their fault.
-const REFUSED: &[(&str, u64)] = &[
-    ("from a import ()", 0),
-    ("from a import (*)", 0),
-    ("from a import b,", 0),
-    ("import .a", 0),
-    ("import a as b.c", 0),
-    ("import a,", 0),
-    ("from a import if", 0),
-    ("import a; import\n", 10),
-    ("from b import c,\n", 0),
-    ("from import a", 0),
-    ("from a b", 0),
-    ("from a. import b", 0),
-    ("from .a. import b", 0),
-    ("from a import b c", 0),
-    ("from a import b.c", 0),
-    ("from a import (b; c)", 0),
-    ("from a import (b,,)", 0),
-    ("from a import (b) c", 0),
-    ("from a import *, b", 0),
-    ("from a import b as", 0),
-    ("from a import b as 1", 0),
-    ("import a: b", 0),
-    ("import 1", 0),
-    ("import", 0),
-    ("import as", 0),
-    ("if a: import b; from c", 16),
+const REFUSED: &[First] = &[
+    First("from a import ()", Said::Refused(0)),
+    First("from a import (*)", Said::Refused(0)),
+    First("from a import b,", Said::Refused(0)),
+    First("import .a", Said::Refused(0)),
+    First("import a as b.c", Said::Refused(0)),
+    First("import a,", Said::Refused(0)),
+    First("from a import if", Said::Refused(0)),
+    First("import a; import\n", Said::Refused(10)),
+    First("from b import c,\n", Said::Refused(0)),
+    First("from import a", Said::Refused(0)),
+    First("from a b", Said::Refused(0)),
+    First("from a. import b", Said::Refused(0)),
+    First("from .a. import b", Said::Refused(0)),
+    First("from a import b c", Said::Refused(0)),
+    First("from a import b.c", Said::Refused(0)),
+    First("from a import (b; c)", Said::Refused(0)),
+    First("from a import (b,,)", Said::Refused(0)),
+    First("from a import (b) c", Said::Refused(0)),
+    First("from a import *, b", Said::Refused(0)),
+    First("from a import b as", Said::Refused(0)),
+    First("from a import b as 1", Said::Refused(0)),
+    First("import a: b", Said::Refused(0)),
+    First("import 1", Said::Refused(0)),
+    First("import", Said::Refused(0)),
+    First("import as", Said::Refused(0)),
+    First("if a: import b; from c", Said::Refused(16)),
 ];
 
 #[test]
 fn refuses_bad_statements(rt: HostRuntime) -> Result<(), Fail> {
-    for (text, offset) in REFUSED {
-        assert!(rt; is_refused(rt.alloc(), text, *offset)?, "{text}");
-    }
-    Ok(())
+    each_holds(rt.alloc(), REFUSED)
 }
 
-// Texts, and whether the first logical line is a declaration.
-const DECLARATIONS: &[(&str, bool)] = &[
-    ("def f(): pass", true),
-    ("class C: pass", true),
-    ("@d", true),
-    ("async def f(): pass", true),
-    ("async with a: pass", false),
-    ("async", false),
-    ("  def f(): pass", false),
-    ("\u{c}def f(): pass", false),
-    ("define", false),
-    ("x = def_", false),
-    ("# def", false),
-    ("\n", false),
-    ("if a: def_", false),
+const DECLARATIONS: &[First] = &[
+    First("def f(): pass", Said::Declaration(true)),
+    First("class C: pass", Said::Declaration(true)),
+    First("@d", Said::Declaration(true)),
+    First("async def f(): pass", Said::Declaration(true)),
+    First("async with a: pass", Said::Declaration(false)),
+    First("async", Said::Declaration(false)),
+    First("  def f(): pass", Said::Declaration(false)),
+    First("\u{c}def f(): pass", Said::Declaration(false)),
+    First("define", Said::Declaration(false)),
+    First("x = def_", Said::Declaration(false)),
+    First("# def", Said::Declaration(false)),
+    First("\n", Said::Declaration(false)),
+    First("if a: def_", Said::Declaration(false)),
 ];
 
 #[test]
 fn knows_declarations(rt: HostRuntime) -> Result<(), Fail> {
-    for (text, is_declared) in DECLARATIONS {
-        assert_eq!(rt; first_line(rt.alloc(), text)?.1, *is_declared, "{text}");
-    }
-    Ok(())
+    each_holds(rt.alloc(), DECLARATIONS)
 }
 
-// Texts, and the shape of the first logical line.
-const SHAPES: &[(&str, Shape)] = &[
-    ("import a", Shape::Sortable),
-    ("  import a\n", Shape::Sortable),
-    ("\u{feff}import a", Shape::Sortable),
-    ("\u{feff}  import a", Shape::Sortable),
-    ("from a import (  # k\n    b,\n)\n", Shape::Sortable),
-    ("import a  # isort: skip_file", Shape::Sortable),
-    ("import a  # isort:  skip", Shape::Sortable),
-    ("import a, \\\n b", Shape::Sortable),
-    ("from . import *", Shape::Sortable),
-    ("from a import (b)  # k", Shape::Sortable),
-    ("from a import (b)  # skip", Shape::Sortable),
-    (
-        "from a import (  # k\n    b as x,  # l\n    c,\n)\n",
-        Shape::Pinned,
+const SHAPES: &[First] = &[
+    First("import a", Said::Shaped(Shape::Sortable)),
+    First("  import a\n", Said::Shaped(Shape::Sortable)),
+    First("\u{feff}import a", Said::Shaped(Shape::Sortable)),
+    First("\u{feff}  import a", Said::Shaped(Shape::Sortable)),
+    First(
+        "from a import (  # k\n    b,\n)\n",
+        Said::Shaped(Shape::Sortable),
     ),
-    ("from a import (\n    # k\n    # l\n    b)\n", Shape::Pinned),
-    ("import a; import b", Shape::Pinned),
-    ("import a;", Shape::Pinned),
-    ("import a  # isort: skip", Shape::Pinned),
-    ("import a  # isort:skip", Shape::Pinned),
-    ("from a import (  # isort: skip\n    b,\n)\n", Shape::Pinned),
-    ("\\\nimport a", Shape::Pinned),
-    ("from a import b,", Shape::Pinned),
-    ("x = 1", Shape::Other),
-    ("if a: import b", Shape::Other),
-    ("# import a", Shape::Other),
-    ("\n", Shape::Other),
+    First(
+        "import a  # isort: skip_file",
+        Said::Shaped(Shape::Sortable),
+    ),
+    First("import a  # isort:  skip", Said::Shaped(Shape::Sortable)),
+    First("import a, \\\n b", Said::Shaped(Shape::Sortable)),
+    First("from . import *", Said::Shaped(Shape::Sortable)),
+    First("from a import (b)  # k", Said::Shaped(Shape::Sortable)),
+    First("from a import (b)  # skip", Said::Shaped(Shape::Sortable)),
+    First(
+        "from a import (  # k\n    b as x,  # l\n    c,\n)\n",
+        Said::Shaped(Shape::Pinned),
+    ),
+    First(
+        "from a import (\n    # k\n    # l\n    b)\n",
+        Said::Shaped(Shape::Pinned),
+    ),
+    First("import a; import b", Said::Shaped(Shape::Pinned)),
+    First("import a;", Said::Shaped(Shape::Pinned)),
+    First("import a  # isort: skip", Said::Shaped(Shape::Pinned)),
+    First("import a  # isort:skip", Said::Shaped(Shape::Pinned)),
+    First(
+        "from a import (  # isort: skip\n    b,\n)\n",
+        Said::Shaped(Shape::Pinned),
+    ),
+    First("\\\nimport a", Said::Shaped(Shape::Pinned)),
+    First("from a import b,", Said::Shaped(Shape::Pinned)),
+    First("x = 1", Said::Shaped(Shape::Other)),
+    First("if a: import b", Said::Shaped(Shape::Other)),
+    First("# import a", Said::Shaped(Shape::Other)),
+    First("\n", Said::Shaped(Shape::Other)),
 ];
 
 #[test]
 fn knows_shapes(rt: HostRuntime) -> Result<(), Fail> {
-    for (text, shape) in SHAPES {
-        assert_eq!(rt; first_line(rt.alloc(), text)?.0, *shape, "{text}");
-    }
-    Ok(())
+    each_holds(rt.alloc(), SHAPES)
 }
 
-// Comments, an action, and whether they say it.
-const ACTIONS: &[(&str, Action, bool)] = &[
-    ("# isort: skip_file", Action::SkipFile, true),
-    ("# isort: skip_file", Action::Skip, false),
-    ("# isort:skip", Action::Skip, true),
-    ("# isort:  skip", Action::Skip, false),
-    ("# isort: skip!", Action::Skip, true),
-    ("# isort: skips isort: skip", Action::Skip, true),
-    ("# isort: off", Action::Off, true),
-    ("# isort: on", Action::On, true),
-    ("# isort: one", Action::On, false),
-    ("# isort:split\u{e9}", Action::Split, true),
-    ("# Isort: on", Action::On, false),
-    ("", Action::On, false),
+/// A comment, an action, and whether the comment says it.
+struct Saying(&'static str, Action, bool);
+
+impl Case for Saying {
+    fn holds(&self, _alloc: Global) -> bool {
+        says(self.0, self.1) == self.2
+    }
+}
+
+const ACTIONS: &[Saying] = &[
+    Saying("# isort: skip_file", Action::SkipFile, true),
+    Saying("# isort: skip_file", Action::Skip, false),
+    Saying("# isort:skip", Action::Skip, true),
+    Saying("# isort:  skip", Action::Skip, false),
+    Saying("# isort: skip!", Action::Skip, true),
+    Saying("# isort: skips isort: skip", Action::Skip, true),
+    Saying("# isort: off", Action::Off, true),
+    Saying("# isort: on", Action::On, true),
+    Saying("# isort: one", Action::On, false),
+    Saying("# isort:split\u{e9}", Action::Split, true),
+    Saying("# Isort: on", Action::On, false),
+    Saying("", Action::On, false),
 ];
 
 #[test]
 fn knows_actions(rt: HostRuntime) -> Result<(), Fail> {
-    for (text, action, is_said) in ACTIONS {
-        assert_eq!(rt; says(text, *action), *is_said, "{text}");
-    }
-    Ok(())
+    each_holds(rt.alloc(), ACTIONS)
 }

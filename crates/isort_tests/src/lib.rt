@@ -5,6 +5,10 @@
 #[cfg(test)]
 mod acts;
 #[cfg(test)]
+mod blocks;
+#[cfg(test)]
+mod cases;
+#[cfg(test)]
 mod command_line;
 #[cfg(test)]
 mod devices;
@@ -16,6 +20,8 @@ mod find;
 mod imports;
 #[cfg(test)]
 mod lines;
+#[cfg(test)]
+mod metered;
 #[cfg(test)]
 mod pieces;
 #[cfg(test)]

@@ -1,7 +1,9 @@
+use crate::cases::{Case, each_holds};
 use isort_cmd::{Action, RunError, report};
 use isort_find::FindOptions;
 use isort_sort::Outcome;
 use std::alloc::Global;
+use std::test::Fail;
 
 const UNSORTED: &str = "ERROR: b.py Imports are incorrectly sorted and/or formatted.\n";
 
@@ -47,8 +49,8 @@ const CHECK: Option<(bool, bool)> = Some((true, false));
 
 const CHECK_TO_STDOUT: Option<(bool, bool)> = Some((true, true));
 
-// A path, an action, its answer, and what is told: the two texts and the status.
-type Row = (
+/// A path, an action, its answer, and what is told: the two texts and the status.
+struct Told(
     &'static str,
     Option<(bool, bool)>,
     Result<Outcome, RunError>,
@@ -57,36 +59,36 @@ type Row = (
     u8,
 );
 
-const ROWS: &[Row] = &[
-    ("b.py", SORT, CHANGED, "Fixing b.py\n", "", 0),
-    ("-", SORT, CHANGED, "", "", 0),
-    ("b.py", TO_STDOUT, CHANGED, "", "", 0),
-    ("b.py", CHECK, CHANGED, "", UNSORTED, 1),
-    ("b.py", CHECK_TO_STDOUT, CHANGED, "", UNSORTED, 1),
-    ("b.py", LIST, CHANGED, "", "", 0),
-    ("b.py", SORT, SAME, "", "", 0),
-    ("b.py", CHECK, SAME, "", "", 0),
-    ("b.py", LIST, SAME, "", "", 0),
-    ("b.py", SORT, SKIPPED, "", "", 0),
-    ("b.py", CHECK, SKIPPED, "", "", 0),
-    ("b.py", LIST, SKIPPED, "", "", 0),
-    ("b.py", SORT, FAILED, "", UNREAD, 1),
-    ("b.py", CHECK, FAILED, "", UNREAD, 1),
-    ("b.py", LIST, FAILED, "", UNREAD, 1),
-];
-
-// Whether this is told of a file.
-fn is_told(alloc: Global, row: &Row) -> bool {
-    let (path, flags, answer, out, err, status) = *row;
-    match report(alloc, path, &action(flags), &answer) {
-        Ok(told) => told.out.as_str() == out && told.err.as_str() == err && told.status == status,
-        Err(_) => false,
+impl Case for Told {
+    fn holds(&self, alloc: Global) -> bool {
+        match report(alloc, self.0, &action(self.1), &self.2) {
+            Ok(told) => {
+                told.out.as_str() == self.3 && told.err.as_str() == self.4 && told.status == self.5
+            }
+            Err(_) => false,
+        }
     }
 }
 
+const ROWS: &[Told] = &[
+    Told("b.py", SORT, CHANGED, "Fixing b.py\n", "", 0),
+    Told("-", SORT, CHANGED, "", "", 0),
+    Told("b.py", TO_STDOUT, CHANGED, "", "", 0),
+    Told("b.py", CHECK, CHANGED, "", UNSORTED, 1),
+    Told("b.py", CHECK_TO_STDOUT, CHANGED, "", UNSORTED, 1),
+    Told("b.py", LIST, CHANGED, "", "", 0),
+    Told("b.py", SORT, SAME, "", "", 0),
+    Told("b.py", CHECK, SAME, "", "", 0),
+    Told("b.py", LIST, SAME, "", "", 0),
+    Told("b.py", SORT, SKIPPED, "", "", 0),
+    Told("b.py", CHECK, SKIPPED, "", "", 0),
+    Told("b.py", LIST, SKIPPED, "", "", 0),
+    Told("b.py", SORT, FAILED, "", UNREAD, 1),
+    Told("b.py", CHECK, FAILED, "", UNREAD, 1),
+    Told("b.py", LIST, FAILED, "", UNREAD, 1),
+];
+
 #[test]
-fn tells_of_files(rt: HostRuntime) {
-    for (i, row) in ROWS.iter().enumerate() {
-        assert!(rt; is_told(rt.alloc(), row), "row {i}");
-    }
+fn tells_of_files(rt: HostRuntime) -> Result<(), Fail> {
+    each_holds(rt.alloc(), ROWS)
 }

@@ -1,6 +1,7 @@
-ghost use Rattle.std.specs.Prelude.{◌≡◌, ◌≤◌, true, false, None, OnOk, IfOk};
+ghost use Rattle.std.specs.Prelude.{◌≡◌, ◌≤◌, true, false, None, IfOk, length};
 
-use crate::lines::{tell_fault, tell_unit};
+use crate::cases::{Case, each_holds};
+use crate::lines::{tell, tell_fault, tell_unit};
 use py_lines::*;
 use std::alloc::Global;
 use std::fmt::Write;
@@ -9,152 +10,203 @@ use std::test::Fail;
 /// More bytes than a text of these tests has.
 const MOST: u64 = 1000;
 
-// The line that is ready, which is then released, if one is.
-fn tell_ready(told: &mut String, scanner: &mut Scanner) -> Result<(), Fail>
-    ensures ready { OnOk result (scanner.new.ready ≡ None) }
-    ensures ended { OnOk result (scanner.new.ended ≡ scanner.old.ended) }
+/// Feeds a short piece.
+fn feed(scanner: &mut Scanner, piece: &[u8]) -> Result<usize, LexError>
+    requires { scanner.old.ended ≡ false }
+    ensures taken { IfOk result (λ n. n ≤ length piece.now) }
+    ensures ended { scanner.new.ended ≡ scanner.old.ended }
 {
-    let Some(unit) = scanner.ready() else {
-        return Ok(());
-    };
-    tell_unit(told, &unit)?;
-    told.push_str("; ")?;
-    scanner.release();
-    Ok(())
+    if scanner.fed() > MOST || piece.len() as u64 > MOST {
+        return Err(LexError::Memory);
+    }
+    scanner.feed(piece)
 }
 
-// Whether a short piece, fed up to its end, meets no fault; and the lines that get ready with it.
-fn tell_piece(told: &mut String, scanner: &mut Scanner, piece: &[u8]) -> Result<bool, Fail>
-    requires { scanner.old.ended ≡ false }
-    ensures { IfOk result (λ goes. goes ≡ true → scanner.new.ended ≡ false) }
+/// The line that is ready, which is then released, if one is.
+fn tell_ready(told: &mut String, scanner: &mut Scanner)
+    ensures ready { scanner.new.ready ≡ None }
+    ensures ended { scanner.new.ended ≡ scanner.old.ended }
 {
-    let mut taken = 0;
+    if let Some(unit) = scanner.ready() {
+        tell_unit(told, &unit);
+        tell(told, "; ");
+        scanner.release();
+    }
+}
+
+/// Whether a piece is fed up to its end, with no fault; and the lines that get ready with it.
+fn tell_piece(told: &mut String, scanner: &mut Scanner, piece: &[u8]) -> bool
+    requires { scanner.old.ended ≡ false }
+    ensures { scanner.new.ended ≡ false }
+{
+    let mut rest = piece;
     for _ in 0..=piece.len() {
-        let rest = &piece[piece.len().min(taken)..];
-        if scanner.fed() > MOST || rest.len() as u64 > MOST {
-            return Ok(false);
-        }
-        match scanner.feed(rest) {
-            Ok(n) => taken += n,
+        match feed(scanner, rest) {
+            Ok(taken) => rest = &rest[taken..],
             Err(error) => {
-                tell_fault(told, error)?;
-                return Ok(false);
+                tell_fault(told, error);
+                return false;
             }
         }
-        tell_ready(told, scanner)?;
+        tell_ready(told, scanner);
     }
-    Ok(true)
+    true
 }
 
-// The text's last line and its end, or its fault.
-fn tell_end(told: &mut String, scanner: &mut Scanner) -> Result<(), Fail>
+/// The text's last line and its end, or its fault.
+fn tell_end(told: &mut String, scanner: &mut Scanner)
     requires { scanner.old.ended ≡ false }
 {
-    tell_ready(told, scanner)?;
-    if let Err(error) = scanner.finish() {
-        return tell_fault(told, error);
+    tell_ready(told, scanner);
+    match scanner.finish() {
+        Ok(()) => {
+            tell_ready(told, scanner);
+            tell(told, "end");
+        }
+        Err(error) => tell_fault(told, error),
     }
-    tell_ready(told, scanner)?;
-    told.push_str("end")?;
-    Ok(())
 }
 
-// What a scanner gives of two pieces.
-fn tell_cut(told: &mut String, alloc: Global, first: &[u8], second: &[u8]) -> Result<(), Fail> {
-    let mut scanner = Scanner::new(alloc)?;
-    if tell_piece(told, &mut scanner, first)? && tell_piece(told, &mut scanner, second)? {
-        tell_end(told, &mut scanner)?;
-    }
-    Ok(())
-}
-
-// What a scanner gives of pieces of so many bytes each.
-fn tell_pieces(told: &mut String, alloc: Global, text: &[u8], size: usize) -> Result<(), Fail>
-    requires { 1 ≤ size }
+/// What a scanner gives of two pieces.
+fn tell_cut(told: &mut String, mut scanner: Scanner, first: &[u8], second: &[u8])
+    requires { scanner.ended ≡ false }
 {
-    let mut scanner = Scanner::new(alloc)?;
+    if tell_piece(told, &mut scanner, first) && tell_piece(told, &mut scanner, second) {
+        tell_end(told, &mut scanner);
+    }
+}
+
+/// What a scanner gives of pieces of so many bytes each.
+fn tell_pieces(told: &mut String, mut scanner: Scanner, text: &[u8], size: usize)
+    requires positive { 1 ≤ size }
+    requires open_yet { scanner.ended ≡ false }
+{
     for piece in text.chunks(size) {
-        if !tell_piece(told, &mut scanner, piece)? {
-            return Ok(());
+        if !tell_piece(told, &mut scanner, piece) {
+            return;
         }
     }
-    tell_end(told, &mut scanner)
+    tell_end(told, &mut scanner);
 }
 
-// A text, and its lines and its end or fault.
-const ROWS: [(&[u8], &str); 24] = [
-    (
+/// A text, and its lines and its end or fault.
+struct Scanned(&'static [u8], &'static str);
+
+impl Scanned {
+    fn is_told_in_cut(&self, alloc: Global, cut: usize) -> bool
+        requires { cut ≤ length (self.now.0).now }
+    {
+        let mut told = String::new(alloc);
+        if let Ok(scanner) = Scanner::new(alloc) {
+            tell_cut(&mut told, scanner, &self.0[..cut], &self.0[cut..]);
+        }
+        told.as_str() == self.1
+    }
+
+    fn is_told_in_cuts(&self, alloc: Global) -> bool {
+        for cut in 0..=self.0.len() {
+            if !self.is_told_in_cut(alloc, cut) {
+                return false;
+            }
+        }
+        true
+    }
+
+    fn is_told_in_pieces(&self, alloc: Global, size: usize) -> bool
+        requires { 1 ≤ size }
+    {
+        let mut told = String::new(alloc);
+        if let Ok(scanner) = Scanner::new(alloc) {
+            tell_pieces(&mut told, scanner, self.0, size);
+        }
+        told.as_str() == self.1
+    }
+}
+
+impl Case for Scanned {
+    fn holds(&self, alloc: Global) -> bool {
+        for size in 1..8 {
+            if !self.is_told_in_pieces(alloc, size) {
+                return false;
+            }
+        }
+        self.is_told_in_cuts(alloc)
+    }
+}
+
+const ROWS: &[Scanned] = &[
+    Scanned(
         b"import \xc3\xa9\r\nx = \"\"\"\"\"\"\nimport b",
         "(Code, 0, 1, 0, 2) (Name, \"import\", 1) (Name, \"é\", 1); (Code, 11, 2, 0, 1) (Name, \"x\", 2) (Op(61), \"=\", 2) (Str, \"\\\"\\\"\\\"\\\"\\\"\\\"\", 2); (Code, 22, 3, 0, 0) (Name, \"import\", 3) (Name, \"b\", 3); end",
     ),
-    (
+    Scanned(
         b"a = [\n1]\n\n# c\n",
         "(Code, 0, 1, 0, 1) (Name, \"a\", 1) (Op(61), \"=\", 1) (Op(91), \"[\", 1) (Number, \"1\", 2) (Op(93), \"]\", 2); (Blank, 9, 3, 0, 1); (Comment, 10, 4, 0, 1) (Remark, \"# c\", 4); end",
     ),
-    (
+    Scanned(
         b"'''a\r\nb'''\rx",
         "(Code, 0, 1, 0, 1) (Str, \"'''a\\r\\nb'''\", 1); (Code, 11, 3, 0, 0) (Name, \"x\", 3); end",
     ),
-    (
+    Scanned(
         b"rb'x' u\"y\" ab'x' 1if",
         "(Code, 0, 1, 0, 0) (Str, \"rb'x'\", 1) (Str, \"u\\\"y\\\"\", 1) (Name, \"ab\", 1) (Str, \"'x'\", 1) (Number, \"1if\", 1); end",
     ),
-    (b"\\\n", "(Code, 0, 1, 0, 0); end"),
-    (b"", "end"),
-    (
+    Scanned(b"\\\n", "(Code, 0, 1, 0, 0); end"),
+    Scanned(b"", "end"),
+    Scanned(
         b"\xef\xbb\xbf  a\r\rb\n",
         "(Code, 0, 1, 2, 1) (Name, \"a\", 1); (Blank, 7, 2, 0, 1); (Code, 8, 3, 0, 1) (Name, \"b\", 3); end",
     ),
-    (
+    Scanned(
         b"(\r\n\r'\\\r\n' \\\r\na)\r\n\n",
         "(Code, 0, 1, 0, 2) (Op(40), \"(\", 1) (Str, \"'\\\\\\r\\n'\", 3) (Name, \"a\", 5) (Op(41), \")\", 5); (Blank, 17, 6, 0, 1); end",
     ),
-    (
+    Scanned(
         b"x = \"import a\"  # import b\nimport c",
         "(Code, 0, 1, 0, 1) (Name, \"x\", 1) (Op(61), \"=\", 1) (Str, \"\\\"import a\\\"\", 1) (Remark, \"# import b\", 1); (Code, 27, 2, 0, 0) (Name, \"import\", 2) (Name, \"c\", 2); end",
     ),
-    (
+    Scanned(
         b"\"\"\"\nimport a\n\"\"\"\nimport b\n",
         "(Code, 0, 1, 0, 1) (Str, \"\\\"\\\"\\\"\\nimport a\\n\\\"\\\"\\\"\", 1); (Code, 17, 4, 0, 1) (Name, \"import\", 4) (Name, \"b\", 4); end",
     ),
-    (b"(a\r\xff", "3 line 2: F1 not UTF-8"),
-    (b"$", "0 line 1: F2 unexpected character"),
-    (b"x = 'abc\n", "4 line 1: F3 string not closed"),
-    (
+    Scanned(b"(a\r\xff", "3 line 2: F1 not UTF-8"),
+    Scanned(b"$", "0 line 1: F2 unexpected character"),
+    Scanned(b"x = 'abc\n", "4 line 1: F3 string not closed"),
+    Scanned(
         b"(\r\r'''a\n[",
         "3 line 3: F4 triple-quoted string not closed",
     ),
-    (
+    Scanned(
         b"x = (\r\n]",
         "7 line 2: F5 closing bracket without its opening",
     ),
-    (b"(\n[\n", "2 line 2: F6 bracket not closed"),
-    (
+    Scanned(b"(\n[\n", "2 line 2: F6 bracket not closed"),
+    Scanned(
         b"x = \\ 1\n",
         "4 line 1: F7 backslash not before a line end",
     ),
-    (
+    Scanned(
         b"a\n\\",
         "(Code, 0, 1, 0, 1) (Name, \"a\", 1); 2 line 2: F7 backslash not before a line end",
     ),
-    (
+    Scanned(
         b"a\r\xff",
         "(Code, 0, 1, 0, 1) (Name, \"a\", 1); 2 line 2: F1 not UTF-8",
     ),
-    (
+    Scanned(
         b"a\r)",
         "(Code, 0, 1, 0, 1) (Name, \"a\", 1); 2 line 2: F5 closing bracket without its opening",
     ),
-    (
+    Scanned(
         b"x \\\xc3\xa9",
         "2 line 1: F7 backslash not before a line end",
     ),
-    (b"x \\\xc3", "3 line 1: F1 not UTF-8"),
-    (
+    Scanned(b"x \\\xc3", "3 line 1: F1 not UTF-8"),
+    Scanned(
         b"'''\xf0\x9f\x98\x80'''\r\r\n\xf0\x9f\x98",
         "(Code, 0, 1, 0, 1) (Str, \"'''😀'''\", 1); (Blank, 11, 2, 0, 2); 13 line 3: F1 not UTF-8",
     ),
-    (
+    Scanned(
         b"\n\xef\xbb\xbf",
         "(Blank, 0, 1, 0, 1); 1 line 2: F2 unexpected character",
     ),
@@ -162,22 +214,27 @@ const ROWS: [(&[u8], &str); 24] = [
 
 #[test]
 fn gives_the_same_in_every_cut(rt: HostRuntime) -> Result<(), Fail> {
-    for (text, expected) in ROWS.iter() {
-        for cut in 0..=text.len() {
-            let mut told = String::new(rt.alloc());
-            tell_cut(&mut told, rt.alloc(), &text[..cut], &text[cut..])?;
-            assert!(rt; told.as_str() == *expected, "{cut}: {told}");
-        }
-        for size in 1..8 {
-            let mut told = String::new(rt.alloc());
-            tell_pieces(&mut told, rt.alloc(), *text, size)?;
-            assert!(rt; told.as_str() == *expected, "{size}: {told}");
-        }
-    }
-    Ok(())
+    each_holds(rt.alloc(), ROWS)
 }
 
-// The text of the line that is ready, or a dash.
+/// A call of a scanner, and what it answers.
+#[derive(Clone, Copy)]
+enum Step {
+    /// Feeds this.
+    Feed(&'static [u8], Result<usize, LexError>),
+    /// How many bytes were fed.
+    Fed(u64),
+    /// The byte and the line where it stands.
+    Place(u64, u64),
+    /// The text of the line that is ready, or a dash.
+    Ready(&'static str),
+    /// The bytes that are held.
+    Held(&'static [u8]),
+    /// Releases the line that is ready.
+    Release,
+}
+
+/// The text of the line that is ready, or a dash.
 fn ready_text(scanner: &Scanner) -> &str {
     match scanner.ready() {
         Some(unit) => unit.text,
@@ -185,109 +242,230 @@ fn ready_text(scanner: &Scanner) -> &str {
     }
 }
 
-// Releases the line that is ready, if one is.
-fn let_go(scanner: &mut Scanner)
+/// Releases the line that is ready: whether one is.
+fn let_go(scanner: &mut Scanner) -> bool
     ensures { scanner.new.ended ≡ scanner.old.ended }
 {
-    if scanner.ready().is_some() {
+    let is_ready = scanner.ready().is_some();
+    if is_ready {
         scanner.release();
     }
+    is_ready
 }
+
+impl Step {
+    fn is_so(self, scanner: &mut Scanner) -> bool
+        requires { scanner.old.ended ≡ false }
+        ensures { scanner.new.ended ≡ scanner.old.ended }
+    {
+        match self {
+            Step::Feed(piece, answer) => feed(scanner, piece) == answer,
+            Step::Fed(fed) => scanner.fed() == fed,
+            Step::Place(offset, line) => scanner.offset() == offset && scanner.line() == line,
+            Step::Ready(text) => ready_text(scanner) == text,
+            Step::Held(bytes) => scanner.held() == bytes,
+            Step::Release => let_go(scanner),
+        }
+    }
+}
+
+/// Whether each step is so, one after another.
+fn are_so(scanner: &mut Scanner, steps: &[Step]) -> bool
+    requires { scanner.old.ended ≡ false }
+    ensures { scanner.new.ended ≡ false }
+{
+    for step in steps {
+        if !step.is_so(scanner) {
+            return false;
+        }
+    }
+    true
+}
+
+/// How the text of a script ends.
+#[derive(Clone, Copy)]
+enum End {
+    /// It goes on.
+    Open,
+    /// With this line.
+    Line(&'static str),
+    /// With this fault.
+    Fault(Fault),
+}
+
+/// Ends a text.
+fn finish(scanner: &mut Scanner) -> Result<(), LexError>
+    requires { scanner.old.ended ≡ false }
+{
+    if scanner.ready().is_some() {
+        return Err(LexError::Memory);
+    }
+    scanner.finish()
+}
+
+impl End {
+    fn is_so(self, scanner: &mut Scanner) -> bool
+        requires { scanner.old.ended ≡ false }
+    {
+        match self {
+            End::Open => true,
+            End::Line(text) => finish(scanner).is_ok() && ready_text(scanner) == text,
+            End::Fault(fault) => finish(scanner) == Err(LexError::Fault(fault)),
+        }
+    }
+}
+
+/// What a scanner answers, call by call.
+struct Script(&'static [Step], End);
+
+impl Case for Script {
+    fn holds(&self, alloc: Global) -> bool {
+        match Scanner::new(alloc) {
+            Ok(mut scanner) => are_so(&mut scanner, self.0) && self.1.is_so(&mut scanner),
+            Err(_) => false,
+        }
+    }
+}
+
+const WAITING: &[Script] = &[Script(
+    &[
+        Step::Feed(b"import a\n", Ok(9)),
+        Step::Ready("import a\n"),
+        Step::Feed(b"x", Ok(0)),
+        Step::Feed(b"", Ok(0)),
+        Step::Fed(9),
+        Step::Place(0, 1),
+        Step::Release,
+        Step::Held(b""),
+        Step::Fed(9),
+        Step::Place(9, 2),
+        Step::Feed(b"x", Ok(1)),
+        Step::Fed(10),
+    ],
+    End::Open,
+)];
 
 #[test]
 fn waits_while_a_line_is_ready(rt: HostRuntime) -> Result<(), Fail> {
-    let mut scanner = Scanner::new(rt.alloc())?;
-    assert!(rt; scanner.feed(b"import a\n") == Ok(9));
-    assert!(rt; ready_text(&scanner) == "import a\n");
-    assert!(rt; scanner.feed(b"x") == Ok(0));
-    assert!(rt; scanner.feed(b"") == Ok(0));
-    assert!(rt; scanner.fed() == 9);
-    assert!(rt; (scanner.offset(), scanner.line()) == (0, 1));
-    let_go(&mut scanner);
-    assert!(rt; scanner.held() == b"".as_slice());
-    assert!(rt; scanner.fed() == 9);
-    assert!(rt; (scanner.offset(), scanner.line()) == (9, 2));
-    assert!(rt; scanner.feed(b"x") == Ok(1));
-    assert!(rt; scanner.fed() == 10);
-    Ok(())
+    each_holds(rt.alloc(), WAITING)
 }
+
+const RETURNS: &[Script] = &[
+    Script(
+        &[Step::Feed(b"x\r\ny", Ok(3)), Step::Ready("x\r\n")],
+        End::Open,
+    ),
+    Script(
+        &[
+            Step::Feed(b"x\ry", Ok(3)),
+            Step::Ready("x\r"),
+            Step::Held(b"x\ry"),
+            Step::Release,
+            Step::Held(b"y"),
+        ],
+        End::Open,
+    ),
+];
 
 #[test]
 fn takes_the_byte_after_a_return(rt: HostRuntime) -> Result<(), Fail> {
-    let mut scanner = Scanner::new(rt.alloc())?;
-    assert!(rt; scanner.feed(b"x\r\ny") == Ok(3));
-    assert!(rt; ready_text(&scanner) == "x\r\n");
-    let mut scanner = Scanner::new(rt.alloc())?;
-    assert!(rt; scanner.feed(b"x\ry") == Ok(3));
-    assert!(rt; ready_text(&scanner) == "x\r");
-    assert!(rt; scanner.held() == b"x\ry".as_slice());
-    let_go(&mut scanner);
-    assert!(rt; scanner.held() == b"y".as_slice());
-    Ok(())
+    each_holds(rt.alloc(), RETURNS)
 }
+
+const CUT_RETURNS: &[Script] = &[Script(
+    &[
+        Step::Feed(b"import a\r", Ok(9)),
+        Step::Ready("-"),
+        Step::Held(b"import a\r"),
+        Step::Feed(b"x", Ok(1)),
+        Step::Ready("import a\r"),
+        Step::Fed(10),
+        Step::Release,
+        Step::Held(b"x"),
+    ],
+    End::Open,
+)];
 
 #[test]
 fn waits_after_a_return(rt: HostRuntime) -> Result<(), Fail> {
-    let mut scanner = Scanner::new(rt.alloc())?;
-    assert!(rt; scanner.feed(b"import a\r") == Ok(9));
-    assert!(rt; ready_text(&scanner) == "-");
-    assert!(rt; scanner.held().len() == 9);
-    assert!(rt; scanner.feed(b"x") == Ok(1));
-    assert!(rt; ready_text(&scanner) == "import a\r");
-    assert!(rt; scanner.fed() == 10);
-    let_go(&mut scanner);
-    assert!(rt; scanner.held() == b"x".as_slice());
-    Ok(())
+    each_holds(rt.alloc(), CUT_RETURNS)
 }
 
-// The line that is ready once these two pieces are fed: how its tokens begin and stop, and its text.
-fn tell_two(told: &mut String, alloc: Global, first: &[u8], second: &[u8]) -> Result<(), Fail> {
-    if first.len() as u64 > MOST || second.len() as u64 > MOST {
-        return Ok(());
+/// How many bytes are taken of a piece.
+fn tell_taken(told: &mut String, scanner: &mut Scanner, piece: &[u8])
+    requires { scanner.old.ended ≡ false }
+    ensures { scanner.new.ended ≡ false }
+{
+    if let Ok(taken) = feed(scanner, piece) {
+        let _ = write!(told, "{taken}");
     }
-    let mut scanner = Scanner::new(alloc)?;
-    let one = scanner.feed(first)?;
-    let none = ready_text(&scanner) == "-";
-    if scanner.fed() > MOST {
-        return Ok(());
+}
+
+/// A line: how its tokens begin and stop, and its text.
+fn tell_spans(told: &mut String, unit: &Unit<'_>) {
+    for token in unit.tokens.iter() {
+        let _ = write!(told, " {:?} {} {}", token.kind, token.start, token.stop);
     }
-    let two = scanner.feed(second)?;
-    write!(told, "{one} {none} {two}:")?;
-    if let Some(unit) = scanner.ready() {
-        for token in unit.tokens.iter() {
-            let (kind, start, stop) = (token.kind, token.start, token.stop);
-            write!(told, " {kind:?} {start} {stop}")?;
+    let _ = write!(told, " {:?} {}", unit.text, unit.end_len);
+}
+
+/// Two pieces, and what they come to: bytes taken of the first, whether no line was ready, bytes taken of the second,
+/// and the line that is ready then.
+struct Cut(&'static [u8], &'static [u8], &'static str);
+
+impl Cut {
+    fn tell(&self, told: &mut String, scanner: &mut Scanner)
+        requires { scanner.old.ended ≡ false }
+    {
+        tell_taken(told, scanner, self.0);
+        tell(
+            told,
+            if scanner.ready().is_none() {
+                " true "
+            } else {
+                " false "
+            },
+        );
+        tell_taken(told, scanner, self.1);
+        tell(told, ":");
+        if let Some(unit) = scanner.ready() {
+            tell_spans(told, &unit);
         }
-        let (text, end_len) = (unit.text, unit.end_len);
-        write!(told, " {text:?} {end_len}")?;
     }
-    Ok(())
 }
 
-// Two pieces, and what they come to: bytes taken of the first, whether no line was ready, bytes taken of the second,
-// and the line.
-const CUTS: [(&[u8], &[u8], &str); 9] = [
-    (b"r", b"b'a'\n", "1 true 5: Str 0 5 \"rb'a'\\n\" 1"),
-    (b"rb", b"'a'\n", "2 true 4: Str 0 5 \"rb'a'\\n\" 1"),
-    (b"x\xc3", b"\xa9\n", "2 true 2: Name 0 3 \"xé\\n\" 1"),
-    (
+impl Case for Cut {
+    fn holds(&self, alloc: Global) -> bool {
+        let mut told = String::new(alloc);
+        if let Ok(mut scanner) = Scanner::new(alloc) {
+            self.tell(&mut told, &mut scanner);
+        }
+        told.as_str() == self.2
+    }
+}
+
+const CUTS: &[Cut] = &[
+    Cut(b"r", b"b'a'\n", "1 true 5: Str 0 5 \"rb'a'\\n\" 1"),
+    Cut(b"rb", b"'a'\n", "2 true 4: Str 0 5 \"rb'a'\\n\" 1"),
+    Cut(b"x\xc3", b"\xa9\n", "2 true 2: Name 0 3 \"xé\\n\" 1"),
+    Cut(
         b"'\xf0\x9f",
         b"\x98\x80'\n",
         "3 true 4: Str 0 6 \"'😀'\\n\" 1",
     ),
-    (
+    Cut(
         b"\"\"",
         b"\"a\n\"\"\"\n",
         "2 true 7: Str 0 8 \"\\\"\\\"\\\"a\\n\\\"\\\"\\\"\\n\" 1",
     ),
-    (b"a\r", b"\nb", "2 true 1: Name 0 1 \"a\\r\\n\" 2"),
-    (b"a\r", b"b\n", "2 true 1: Name 0 1 \"a\\r\" 1"),
-    (
+    Cut(b"a\r", b"\nb", "2 true 1: Name 0 1 \"a\\r\\n\" 2"),
+    Cut(b"a\r", b"b\n", "2 true 1: Name 0 1 \"a\\r\" 1"),
+    Cut(
         b"(\r",
         b"\r)\rb",
         "2 true 4: Op(40) 0 1 Op(41) 3 4 \"(\\r\\r)\\r\" 1",
     ),
-    (
+    Cut(
         b"1",
         b"2 #\n\n",
         "1 true 4: Number 0 2 Remark 3 4 \"12 #\\n\" 1",
@@ -296,45 +474,69 @@ const CUTS: [(&[u8], &[u8], &str); 9] = [
 
 #[test]
 fn goes_on_after_a_cut(rt: HostRuntime) -> Result<(), Fail> {
-    for (first, second, expected) in CUTS.iter() {
-        let mut told = String::new(rt.alloc());
-        tell_two(&mut told, rt.alloc(), *first, *second)?;
-        assert!(rt; told.as_str() == *expected, "{told}");
-    }
-    Ok(())
+    each_holds(rt.alloc(), CUTS)
 }
+
+const LAST: &[Script] = &[Script(
+    &[Step::Feed(b"import a\r", Ok(9)), Step::Ready("-")],
+    End::Line("import a\r"),
+)];
 
 #[test]
 fn finish_closes_a_line_after_a_return(rt: HostRuntime) -> Result<(), Fail> {
-    let mut scanner = Scanner::new(rt.alloc())?;
-    assert!(rt; scanner.feed(b"import a\r") == Ok(9));
-    assert!(rt; scanner.ready().is_none());
-    assert!(rt; scanner.finish() == Ok(()));
-    assert!(rt; ready_text(&scanner) == "import a\r");
-    Ok(())
+    each_holds(rt.alloc(), LAST)
 }
+
+/// A piece from byte 2 of a text on, in line 2, and what is told of it.
+struct MidText(&'static [u8], &'static str);
+
+impl Case for MidText {
+    fn holds(&self, alloc: Global) -> bool {
+        let mut told = String::new(alloc);
+        if let Ok(mut scanner) = Scanner::at(alloc, 2, 2) {
+            let _ = tell_piece(&mut told, &mut scanner, self.0);
+        }
+        told.as_str() == self.1
+    }
+}
+
+const MID_TEXT: &[MidText] = &[MidText(
+    b"b\n\xef\xbb\xbf",
+    "(Code, 2, 2, 0, 1) (Name, \"b\", 2); 4 line 3: F2 unexpected character",
+)];
 
 #[test]
 fn begins_in_mid_text(rt: HostRuntime) -> Result<(), Fail> {
-    let mut told = String::new(rt.alloc());
-    let mut scanner = Scanner::at(rt.alloc(), 2, 2)?;
-    tell_piece(&mut told, &mut scanner, b"b\n\xef\xbb\xbf")?;
-    assert!(rt;
-        told.as_str() == "(Code, 2, 2, 0, 1) (Name, \"b\", 2); 4 line 3: F2 unexpected character"
-    );
-    Ok(())
+    each_holds(rt.alloc(), MID_TEXT)
 }
+
+/// What a scanner answers, call by call, that begins at byte 9 of a text, in line 2.
+struct MidScript(&'static [Step], End);
+
+impl Case for MidScript {
+    fn holds(&self, alloc: Global) -> bool {
+        match Scanner::at(alloc, 9, 2) {
+            Ok(mut scanner) => are_so(&mut scanner, self.0) && self.1.is_so(&mut scanner),
+            Err(_) => false,
+        }
+    }
+}
+
+const NO_MARK: Fault = Fault {
+    kind: FaultKind::BadChar,
+    offset: 9,
+    line: 2,
+};
+
+const MARKED: &[MidScript] = &[MidScript(
+    &[
+        Step::Feed(b"\xef\xbb\xbf", Err(LexError::Fault(NO_MARK))),
+        Step::Feed(b"a", Err(LexError::Fault(NO_MARK))),
+    ],
+    End::Fault(NO_MARK),
+)];
 
 #[test]
 fn meets_no_mark_in_mid_text(rt: HostRuntime) -> Result<(), Fail> {
-    let mut scanner = Scanner::at(rt.alloc(), 9, 2)?;
-    let fault = Fault {
-        kind: FaultKind::BadChar,
-        offset: 9,
-        line: 2,
-    };
-    assert!(rt; scanner.feed(b"\xef\xbb\xbf") == Err(LexError::Fault(fault)));
-    assert!(rt; scanner.feed(b"a") == Err(LexError::Fault(fault)));
-    assert!(rt; scanner.finish() == Err(LexError::Fault(fault)));
-    Ok(())
+    each_holds(rt.alloc(), MARKED)
 }

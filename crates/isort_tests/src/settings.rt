@@ -1,19 +1,21 @@
+use crate::cases::{Case, all_are_so, are_texts, each_holds};
 use isort_settings::{Profile, Section, SettingKey, Settings, SettingsError, laws};
 use std::alloc::Global;
 use std::cmp::Ordering;
 use std::cmp::Ordering::{Equal, Greater, Less};
 use std::test::Fail;
 
-/// The section of the module under the settings of the text.
-fn section(alloc: Global, text: &str, module: &str) -> Result<Section, SettingsError> {
-    let (settings, _) = Settings::from_pyproject(alloc, text.as_bytes(), None)?;
-    Ok(settings.section_of(module))
+/// Whether the second name comes after the first, and the first is equal to itself.
+fn is_before(settings: &Settings, a: &str, b: &str) -> bool {
+    settings.order_names(a, b) == Less
+        && settings.order_names(b, a) == Greater
+        && settings.order_names(a, a) == Equal
 }
 
 /// Whether each name comes after the one before it.
 fn ascend(settings: &Settings, names: &[&str]) -> bool {
-    for (a, b) in names.iter().zip(names.iter().skip(1)) {
-        if settings.order_names(a, b) != Less || settings.order_names(b, a) != Greater {
+    for i in 1..names.len() {
+        if !is_before(settings, names[i - 1], names[i]) {
             return false;
         }
     }
@@ -23,121 +25,122 @@ fn ascend(settings: &Settings, names: &[&str]) -> bool {
 const BLACK: Option<Profile> = Some(Profile::Black);
 
 /// A text, the profile that is handed in, and how the text is refused.
-const REFUSED: &[(&[u8], Option<Profile>, SettingsError)] = &[
-    (
+struct Refused(&'static [u8], Option<Profile>, SettingsError);
+
+impl Case for Refused {
+    fn holds(&self, alloc: Global) -> bool {
+        Settings::from_pyproject(alloc, self.0, self.1).err() == Some(self.2)
+    }
+}
+
+const REFUSED: &[Refused] = &[
+    Refused(
         b"[tool.isort]\nline_length = \"x\"",
         None,
         SettingsError::BadValue(SettingKey::LineLength),
     ),
-    (
+    Refused(
         b"[tool.isort]\nline_length = 0",
         None,
         SettingsError::BadValue(SettingKey::LineLength),
     ),
-    (
+    Refused(
         b"[tool.isort]\nline_length = 10001",
         None,
         SettingsError::BadValue(SettingKey::LineLength),
     ),
-    (
+    Refused(
         b"[tool.isort]\nline_length = 0\ncombine_as_imports = 3",
         None,
         SettingsError::BadValue(SettingKey::CombineAsImports),
     ),
-    (
+    Refused(
         b"[tool.isort]\ncase_sensitive = 1\nprofile = \"google\"",
         None,
         SettingsError::UnknownProfile,
     ),
-    (
+    Refused(
         b"[tool.isort]\nprofile = \"google\"",
         None,
         SettingsError::UnknownProfile,
     ),
-    (
+    Refused(
         b"[tool.isort]\nprofile = 1",
         None,
         SettingsError::BadValue(SettingKey::Profile),
     ),
-    (
+    Refused(
         b"[tool.isort]\nmulti_line_output = 7",
         None,
         SettingsError::UnsupportedMode,
     ),
-    (
+    Refused(
         b"[tool.isort]\nmulti_line_output = -1",
         None,
         SettingsError::UnsupportedMode,
     ),
-    (
+    Refused(
         b"[tool.isort]\nmulti_line_output = \"3\"",
         None,
         SettingsError::BadValue(SettingKey::MultiLineOutput),
     ),
-    (
+    Refused(
         b"[tool.isort]\nknown_first_party = [\"a*\"]",
         None,
         SettingsError::BadValue(SettingKey::KnownFirstParty),
     ),
-    (
+    Refused(
         b"[tool.isort]\nknown_third_party = [\"a\", \"b?\"]",
         None,
         SettingsError::BadValue(SettingKey::KnownThirdParty),
     ),
-    (
+    Refused(
         b"[tool.isort]\nknown_third_party = \"a,b\"",
         None,
         SettingsError::BadValue(SettingKey::KnownThirdParty),
     ),
-    (
+    Refused(
         b"[tool.isort]\ndefault_section = \"future\"",
         None,
         SettingsError::BadValue(SettingKey::DefaultSection),
     ),
-    (
+    Refused(
         b"[tool.isort]\nlines_after_imports = -2",
         None,
         SettingsError::BadValue(SettingKey::LinesAfterImports),
     ),
-    (
+    Refused(
         b"[tool.isort]\nlines_between_types = 101",
         None,
         SettingsError::BadValue(SettingKey::LinesBetweenTypes),
     ),
-    (
+    Refused(
         b"[tool.isort]\nforce_grid_wrap = 1.0",
         None,
         SettingsError::BadValue(SettingKey::ForceGridWrap),
     ),
-    (b"[tool", BLACK, SettingsError::BadToml),
-    (b"# \xff\n", BLACK, SettingsError::BadToml),
-    (
+    Refused(b"[tool", BLACK, SettingsError::BadToml),
+    Refused(b"# \xff\n", BLACK, SettingsError::BadToml),
+    Refused(
         b"tool = 1",
         BLACK,
         SettingsError::BadValue(SettingKey::Tool),
     ),
-    (
+    Refused(
         b"[tool]\nisort = 1",
         BLACK,
         SettingsError::BadValue(SettingKey::ToolIsort),
     ),
-    (
+    Refused(
         b"[[tool.isort]]\n",
         BLACK,
         SettingsError::BadValue(SettingKey::ToolIsort),
     ),
 ];
 
-/// Whether the text is refused so.
-fn is_refused(alloc: Global, text: &[u8], profile: Option<Profile>, want: SettingsError) -> bool {
-    Settings::from_pyproject(alloc, text, profile).err() == Some(want)
-}
-
 #[test]
-fn refusals(rt: HostRuntime) {
-    for (text, profile, want) in REFUSED {
-        assert!(rt; is_refused(rt.alloc(), text, *profile, *want), "{want:?}");
-    }
+fn refusals(rt: HostRuntime) -> Result<(), Fail> {
+    each_holds(rt.alloc(), REFUSED)
 }
 
 /// Whether these are the settings without a profile.
@@ -152,66 +155,16 @@ fn are_black(settings: &Settings) -> bool {
     (settings.line_length, settings.multi_line_output) == (88, 3) && settings.force_grid_wrap == 0
 }
 
-#[test]
-fn profiles(rt: HostRuntime) -> Result<(), Fail> {
-    assert!(rt; are_plain(&Settings::plain(rt.alloc())?));
-    assert!(rt; are_black(&Settings::black(rt.alloc())?));
-    Ok(())
+/// Settings that a text stands for.
+#[derive(Clone, Copy)]
+enum Known {
+    /// Those without a profile.
+    Plain,
+    /// Those of the profile `black`.
+    Black,
+    /// The same with lines of 100 characters.
+    Wide,
 }
-
-/// Whether the text stands for these settings, and has these unknown keys.
-fn reads(
-    alloc: Global,
-    text: &[u8],
-    profile: Option<Profile>,
-    want: &Settings,
-    names: &[&str],
-) -> Result<bool, SettingsError> {
-    let (settings, unknown) = Settings::from_pyproject(alloc, text, profile)?;
-    Ok(settings == *want && are_named(unknown.as_slice(), names))
-}
-
-/// Whether these are the names.
-fn are_named(names: &[String], wanted: &[&str]) -> bool {
-    for (name, want) in names.iter().zip(wanted) {
-        if name.as_str() != *want {
-            return false;
-        }
-    }
-    names.len() == wanted.len()
-}
-
-/// Texts of the settings without a profile, and their unknown keys.
-const PLAIN_TEXTS: &[(&[u8], &[&str])] = &[
-    (b"", &[]),
-    (
-        b"[tool.isort]\ncolour = 1\nFirst = 1\n[tool.isort.sub]\nline_length = 0",
-        &["First", "colour", "sub"],
-    ),
-];
-
-#[test]
-fn texts_without_a_profile(rt: HostRuntime) -> Result<(), Fail> {
-    let plain = Settings::plain(rt.alloc())?;
-    for (text, names) in PLAIN_TEXTS {
-        assert!(rt; reads(rt.alloc(), text, None, &plain, names)?, "{text:?}");
-    }
-    Ok(())
-}
-
-/// Texts for which the profile `black` is handed in.
-const BLACK_TEXTS: &[&[u8]] = &[b"[tool]\n", b"[tool.isort]\nprofile = \"google\""];
-
-#[test]
-fn profile_handed_in(rt: HostRuntime) -> Result<(), Fail> {
-    let black = Settings::black(rt.alloc())?;
-    for text in BLACK_TEXTS {
-        assert!(rt; reads(rt.alloc(), text, BLACK, &black, &[])?, "{text:?}");
-    }
-    Ok(())
-}
-
-const WIDE: &[u8] = b"[tool.isort]\nline_length = 100\nprofile = \"black\"";
 
 /// The profile `black` with lines of 100 characters.
 fn wide(alloc: Global) -> Result<Settings, SettingsError> {
@@ -220,10 +173,106 @@ fn wide(alloc: Global) -> Result<Settings, SettingsError> {
     Ok(wide)
 }
 
+impl Known {
+    fn settings(self, alloc: Global) -> Result<Settings, SettingsError> {
+        match self {
+            Known::Plain => Settings::plain(alloc),
+            Known::Black => Settings::black(alloc),
+            Known::Wide => wide(alloc),
+        }
+    }
+
+    fn are_these(self, settings: &Settings) -> bool {
+        match self {
+            Known::Plain => are_plain(settings),
+            Known::Black => are_black(settings),
+            Known::Wide => settings.line_length == 100,
+        }
+    }
+}
+
+impl Case for Known {
+    fn holds(&self, alloc: Global) -> bool {
+        match self.settings(alloc) {
+            Ok(settings) => self.are_these(&settings),
+            Err(_) => false,
+        }
+    }
+}
+
+const PROFILES: &[Known] = &[Known::Plain, Known::Black];
+
+#[test]
+fn profiles(rt: HostRuntime) -> Result<(), Fail> {
+    each_holds(rt.alloc(), PROFILES)
+}
+
+/// A text, the profile that is handed in, the settings that the text stands for, and its unknown keys.
+struct Stands(
+    &'static [u8],
+    Option<Profile>,
+    Known,
+    &'static [&'static str],
+);
+
+impl Stands {
+    fn is_for(&self, alloc: Global, want: &Settings) -> bool {
+        match Settings::from_pyproject(alloc, self.0, self.1) {
+            Ok((settings, unknown)) => settings == *want && are_texts(unknown.as_slice(), self.3),
+            Err(_) => false,
+        }
+    }
+}
+
+impl Case for Stands {
+    fn holds(&self, alloc: Global) -> bool {
+        match self.2.settings(alloc) {
+            Ok(want) => self.is_for(alloc, &want),
+            Err(_) => false,
+        }
+    }
+}
+
+const PLAIN_TEXTS: &[Stands] = &[
+    Stands(b"", None, Known::Plain, &[]),
+    Stands(
+        b"[tool.isort]\ncolour = 1\nFirst = 1\n[tool.isort.sub]\nline_length = 0",
+        None,
+        Known::Plain,
+        &["First", "colour", "sub"],
+    ),
+];
+
+#[test]
+fn texts_without_a_profile(rt: HostRuntime) -> Result<(), Fail> {
+    each_holds(rt.alloc(), PLAIN_TEXTS)
+}
+
+const BLACK_TEXTS: &[Stands] = &[
+    Stands(b"[tool]\n", BLACK, Known::Black, &[]),
+    Stands(
+        b"[tool.isort]\nprofile = \"google\"",
+        BLACK,
+        Known::Black,
+        &[],
+    ),
+];
+
+#[test]
+fn profile_handed_in(rt: HostRuntime) -> Result<(), Fail> {
+    each_holds(rt.alloc(), BLACK_TEXTS)
+}
+
+const WIDE_TEXTS: &[Stands] = &[Stands(
+    b"[tool.isort]\nline_length = 100\nprofile = \"black\"",
+    None,
+    Known::Wide,
+    &[],
+)];
+
 #[test]
 fn key_beside_profile(rt: HostRuntime) -> Result<(), Fail> {
-    assert!(rt; reads(rt.alloc(), WIDE, None, &wide(rt.alloc())?, &[])?);
-    Ok(())
+    each_holds(rt.alloc(), WIDE_TEXTS)
 }
 
 const OUT_OF_RANGE: Result<(), SettingsError> = Err(SettingsError::BadValue(
@@ -239,7 +288,7 @@ const LENGTHS: &[(u32, Result<(), SettingsError>, u32)] = &[
 ];
 
 /// Whether each length is set so, one after another.
-fn sets_lengths(mut settings: Settings) -> bool {
+fn sets_lengths(settings: &mut Settings) -> bool {
     for (length, want, kept) in LENGTHS {
         if settings.set_line_length(*length) != *want || settings.line_length != *kept {
             return false;
@@ -255,7 +304,7 @@ const MODES: &[(u32, Result<(), SettingsError>)] = &[
 ];
 
 /// Whether each mode is set so, one after another.
-fn sets_modes(mut settings: Settings) -> bool {
+fn sets_modes(settings: &mut Settings) -> bool {
     for (mode, want) in MODES {
         if settings.set_mode(*mode) != *want || settings.multi_line_output != 3 {
             return false;
@@ -264,56 +313,73 @@ fn sets_modes(mut settings: Settings) -> bool {
     true
 }
 
+/// Whether plain settings are set so.
+fn sets(alloc: Global) -> bool {
+    match Settings::plain(alloc) {
+        Ok(mut settings) => sets_lengths(&mut settings) && sets_modes(&mut settings),
+        Err(_) => false,
+    }
+}
+
 #[test]
 fn setters(rt: HostRuntime) -> Result<(), Fail> {
-    assert!(rt; sets_lengths(Settings::plain(rt.alloc())?));
-    assert!(rt; sets_modes(Settings::plain(rt.alloc())?));
-    Ok(())
+    all_are_so(&[sets(rt.alloc())])
 }
 
 /// A text, a module, and its section under the settings of the text.
-const SECTIONS: &[(&str, &str, Section)] = &[
-    ("", "os.path", Section::Stdlib),
-    ("", "requests", Section::ThirdParty),
-    ("", "..a", Section::LocalFolder),
-    ("", ".", Section::LocalFolder),
-    ("", "__future__", Section::Future),
-    (
+struct Sectioned(&'static str, &'static str, Section);
+
+impl Case for Sectioned {
+    fn holds(&self, alloc: Global) -> bool {
+        match Settings::from_pyproject(alloc, self.0.as_bytes(), None) {
+            Ok((settings, _)) => settings.section_of(self.1) == self.2,
+            Err(_) => false,
+        }
+    }
+}
+
+const SECTIONS: &[Sectioned] = &[
+    Sectioned("", "os.path", Section::Stdlib),
+    Sectioned("", "requests", Section::ThirdParty),
+    Sectioned("", "..a", Section::LocalFolder),
+    Sectioned("", ".", Section::LocalFolder),
+    Sectioned("", "__future__", Section::Future),
+    Sectioned(
         "[tool.isort]\nknown_third_party = [\"os\"]",
         "os.path",
         Section::ThirdParty,
     ),
-    (
+    Sectioned(
         "[tool.isort]\nknown_first_party = [\"a\"]\nknown_third_party = [\"a\"]",
         "a",
         Section::FirstParty,
     ),
-    (
+    Sectioned(
         "[tool.isort]\nextra_standard_library = [\"six\"]",
         "six.moves",
         Section::Stdlib,
     ),
-    (
+    Sectioned(
         "[tool.isort]\nknown_standard_library = []",
         "os",
         Section::ThirdParty,
     ),
-    (
+    Sectioned(
         "[tool.isort]\ndefault_section = \"FIRSTPARTY\"",
         "requests",
         Section::FirstParty,
     ),
-    (
+    Sectioned(
         "[tool.isort]\nknown_first_party = [\"a\"]",
         "ab",
         Section::ThirdParty,
     ),
-    (
+    Sectioned(
         "[tool.isort]\nknown_first_party = [\"a\"]\nknown_third_party = [\"a.b\"]",
         "a.b.c",
         Section::ThirdParty,
     ),
-    (
+    Sectioned(
         "[tool.isort]\nknown_first_party = [\"a\"]\nknown_third_party = [\"a.b\"]",
         "a.c",
         Section::FirstParty,
@@ -322,80 +388,81 @@ const SECTIONS: &[(&str, &str, Section)] = &[
 
 #[test]
 fn sections(rt: HostRuntime) -> Result<(), Fail> {
-    for (text, module, want) in SECTIONS {
-        assert!(rt; section(rt.alloc(), text, module)? == *want, "{module}");
-    }
-    Ok(())
+    each_holds(rt.alloc(), SECTIONS)
 }
 
 /// Whether names are ordered by their classes, whether their case counts, and names in their order.
-const ORDERS: &[(bool, bool, &[&str])] = &[
-    (true, false, &["CONST", "A", "Klass", "b9", "b10", "func"]),
-    (true, false, &["a", "a01", "a1", "ab"]),
-    (
+struct Ordered(bool, bool, &'static [&'static str]);
+
+impl Case for Ordered {
+    fn holds(&self, alloc: Global) -> bool {
+        match Settings::plain(alloc) {
+            Ok(mut settings) => {
+                settings.order_by_type = self.0;
+                settings.case_sensitive = self.1;
+                ascend(&settings, self.2)
+            }
+            Err(_) => false,
+        }
+    }
+}
+
+const ORDERS: &[Ordered] = &[
+    Ordered(true, false, &["CONST", "A", "Klass", "b9", "b10", "func"]),
+    Ordered(true, false, &["a", "a01", "a1", "ab"]),
+    Ordered(
         true,
         false,
         &["a99999999999999999999999", "a100000000000000000000000"],
     ),
-    (false, false, &["A", "b9", "b10", "CONST", "func", "Klass"]),
-    (false, false, &["A", "a", "A0", "B"]),
-    (false, true, &["B", "a"]),
+    Ordered(false, false, &["A", "b9", "b10", "CONST", "func", "Klass"]),
+    Ordered(false, false, &["A", "a", "A0", "B"]),
+    Ordered(false, true, &["B", "a"]),
 ];
-
-/// Whether each name comes after the one before it in such an order.
-fn ascend_so(
-    alloc: Global,
-    order_by_type: bool,
-    case_sensitive: bool,
-    names: &[&str],
-) -> Result<bool, SettingsError> {
-    let mut settings = Settings::plain(alloc)?;
-    settings.order_by_type = order_by_type;
-    settings.case_sensitive = case_sensitive;
-    Ok(ascend(&settings, names))
-}
 
 #[test]
 fn orders_of_names(rt: HostRuntime) -> Result<(), Fail> {
-    for (by_type, case_sensitive, names) in ORDERS {
-        assert!(rt;
-            ascend_so(rt.alloc(), *by_type, *case_sensitive, names)?,
-            "{names:?}"
-        );
-    }
-    Ok(())
+    laws::names_are_totally_ordered();
+    each_holds(rt.alloc(), ORDERS)
 }
 
 /// Two modules and their order.
-const MODULES: &[(&str, &str, Ordering)] = &[
-    ("..a", ".b", Less),
-    (".b", "a", Less),
-    (".", ".a", Less),
-    ("a.b10", "a.b9", Greater),
-    ("a.b", "a.b", Equal),
-    ("CONST", "b", Greater),
+struct Compared(&'static str, &'static str, Ordering);
+
+impl Case for Compared {
+    fn holds(&self, alloc: Global) -> bool {
+        match Settings::plain(alloc) {
+            Ok(settings) => settings.order_modules(self.0, self.1) == self.2,
+            Err(_) => false,
+        }
+    }
+}
+
+const MODULES: &[Compared] = &[
+    Compared("..a", ".b", Less),
+    Compared(".b", "a", Less),
+    Compared(".", ".a", Less),
+    Compared("a.b10", "a.b9", Greater),
+    Compared("a.b", "a.b", Equal),
+    Compared("CONST", "b", Greater),
 ];
 
 #[test]
 fn orders_of_modules(rt: HostRuntime) -> Result<(), Fail> {
-    let settings = Settings::plain(rt.alloc())?;
-    for (a, b, want) in MODULES {
-        assert!(rt; settings.order_modules(a, b) == *want, "{a}, {b}");
-    }
-    assert!(rt; settings.order_names("a1", "a1") == Equal);
     laws::modules_are_totally_ordered();
-    laws::names_are_totally_ordered();
-    Ok(())
+    each_holds(rt.alloc(), MODULES)
 }
 
 #[test]
-fn names(rt: HostRuntime) {
-    assert!(rt; Profile::read("black") == Ok(Profile::Black));
-    assert!(rt; Profile::read("Black") == Err(SettingsError::UnknownProfile));
-    assert!(rt; SettingKey::LineLength.name() == "line_length");
-    assert!(rt; SettingKey::Tool.name() == "tool");
-    assert!(rt; SettingKey::ToolIsort.name() == "tool.isort");
-    assert!(rt; laws::sections_are_in_order(Section::Future, Section::Stdlib) == Less);
+fn names() -> Result<(), Fail> {
     laws::every_key_has_its_place(SettingKey::Profile);
     laws::keys_are_in_byte_order();
+    all_are_so(&[
+        Profile::read("black") == Ok(Profile::Black),
+        Profile::read("Black") == Err(SettingsError::UnknownProfile),
+        SettingKey::LineLength.name() == "line_length",
+        SettingKey::Tool.name() == "tool",
+        SettingKey::ToolIsort.name() == "tool.isort",
+        laws::sections_are_in_order(Section::Future, Section::Stdlib) == Less,
+    ])
 }

@@ -1,6 +1,5 @@
-ghost use Rattle.std.specs.Prelude.{◌≤◌, ◌^◌};
-
-use crate::writing::Slow;
+use crate::cases::{Case, each_holds};
+use crate::devices::{Device, Trouble};
 use isort_cmd::{Metered, RunError, check_run, sort_run};
 use isort_settings::Settings;
 use isort_sort::Outcome;
@@ -24,79 +23,90 @@ const WRONG_CLOSE: RunError = RunError::Fault(Fault {
     line: 3,
 });
 
-// Whether the text is sorted with this answer, and this is written.
-fn sorts(
-    alloc: Global,
-    settings: &Settings,
-    text: &str,
-    max: u64,
-    want: Result<Outcome, RunError>,
-    written: &str,
-) -> bool
-    requires { max ≤ 2 ^ 62 }
-{
-    let mut reader = Metered::new(text.as_bytes());
-    let mut writer = Metered::new(Vec::new(alloc));
-    let got = sort_run(alloc, &mut reader, &mut writer, settings, max);
-    got == want && writer.into_inner().as_slice() == written.as_bytes()
+/// A text, how many bytes are taken, how it is sorted, and what is written.
+struct Run(&'static str, u16, Result<Outcome, RunError>, &'static str);
+
+impl Run {
+    fn is_so(&self, alloc: Global, settings: &Settings) -> bool {
+        let mut reader = Metered::new(self.0.as_bytes());
+        let mut writer = Metered::new(Vec::new(alloc));
+        let got = sort_run(alloc, &mut reader, &mut writer, settings, u64::from(self.1));
+        got == self.2 && writer.into_inner().as_slice() == self.3.as_bytes()
+    }
 }
 
-// Texts, how many bytes are taken, how each is sorted, and what is written.
-const SORTS: &[(&str, u16, Result<Outcome, RunError>, &str)] = &[
-    (UNSORTED, 1000, Ok(Outcome::Changed), SORTED),
-    (SORTED, 1000, Ok(Outcome::Same), SORTED),
-    (SKIPPED, 1000, Ok(Outcome::Skipped), SKIPPED),
-    ("", 0, Ok(Outcome::Same), ""),
-    (BROKEN, 1000, Err(WRONG_CLOSE), ""),
-    (BROKEN, 22, Err(RunError::TooLong), ""),
+impl Case for Run {
+    fn holds(&self, alloc: Global) -> bool {
+        match Settings::plain(alloc) {
+            Ok(settings) => self.is_so(alloc, &settings),
+            Err(_) => false,
+        }
+    }
+}
+
+const SORTS: &[Run] = &[
+    Run(UNSORTED, 1000, Ok(Outcome::Changed), SORTED),
+    Run(SORTED, 1000, Ok(Outcome::Same), SORTED),
+    Run(SKIPPED, 1000, Ok(Outcome::Skipped), SKIPPED),
+    Run("", 0, Ok(Outcome::Same), ""),
+    Run(BROKEN, 1000, Err(WRONG_CLOSE), ""),
+    Run(BROKEN, 22, Err(RunError::TooLong), ""),
 ];
 
 #[test]
 fn sorts_texts(rt: HostRuntime) -> Result<(), Fail> {
-    let settings = Settings::plain(rt.alloc())?;
-    for (text, max, want, written) in SORTS {
-        let max = u64::from(*max);
-        assert!(rt;
-            sorts(rt.alloc(), &settings, text, max, *want, written),
-            "{text}"
-        );
+    each_holds(rt.alloc(), SORTS)
+}
+
+/// A text, how many bytes are taken, and what a check answers.
+struct Check(&'static str, u16, Result<bool, RunError>);
+
+impl Case for Check {
+    fn holds(&self, alloc: Global) -> bool {
+        let mut reader = Metered::new(self.0.as_bytes());
+        match Settings::plain(alloc) {
+            Ok(settings) => {
+                check_run(alloc, &mut reader, &settings, u64::from(self.1)) == self.2
+            }
+            Err(_) => false,
+        }
     }
-    Ok(())
 }
 
-// What a check of the text answers.
-fn checked(alloc: Global, settings: &Settings, text: &str, max: u64) -> Result<bool, RunError>
-    requires { max ≤ 2 ^ 62 }
-{
-    check_run(alloc, &mut Metered::new(text.as_bytes()), settings, max)
-}
-
-// Texts, how many bytes are taken, and what a check answers.
-const CHECKS: &[(&str, u16, Result<bool, RunError>)] = &[
-    (UNSORTED, 1000, Ok(false)),
-    (SORTED, 1000, Ok(true)),
-    (SKIPPED, 1000, Ok(true)),
-    (BROKEN, 1000, Err(WRONG_CLOSE)),
-    (BROKEN, 22, Err(RunError::TooLong)),
+const CHECKS: &[Check] = &[
+    Check(UNSORTED, 1000, Ok(false)),
+    Check(SORTED, 1000, Ok(true)),
+    Check(SKIPPED, 1000, Ok(true)),
+    Check(BROKEN, 1000, Err(WRONG_CLOSE)),
+    Check(BROKEN, 22, Err(RunError::TooLong)),
 ];
 
 #[test]
 fn checks_texts(rt: HostRuntime) -> Result<(), Fail> {
-    let settings = Settings::plain(rt.alloc())?;
-    for (text, max, want) in CHECKS {
-        let max = u64::from(*max);
-        assert_eq!(rt; checked(rt.alloc(), &settings, text, max), *want, "{text}");
+    each_holds(rt.alloc(), CHECKS)
+}
+
+/// Whether `UNSORTED` is sorted to a writer with room for five bytes.
+fn writes_five_bytes(alloc: Global, settings: &Settings) -> bool {
+    let mut reader = Metered::new(UNSORTED.as_bytes());
+    let mut writer = Device::new(alloc, b"", 1000, Trouble::Full(5));
+    let got = sort_run(alloc, &mut reader, &mut writer, settings, 1000);
+    got == Err(RunError::Write) && writer.into_inner().taken.as_slice() == b"from ".as_slice()
+}
+
+/// The first bytes that are written where the writer has no more room.
+struct Prefix;
+
+impl Case for Prefix {
+    fn holds(&self, alloc: Global) -> bool {
+        match Settings::plain(alloc) {
+            Ok(settings) => writes_five_bytes(alloc, &settings),
+            Err(_) => false,
+        }
     }
-    Ok(())
 }
 
 #[test]
 fn writes_a_prefix(rt: HostRuntime) -> Result<(), Fail> {
-    let settings = Settings::plain(rt.alloc())?;
-    let mut reader = Metered::new(UNSORTED.as_bytes());
-    let mut writer = Metered::new(Slow::new(rt.alloc(), 5, 1000));
-    let got = sort_run(rt.alloc(), &mut reader, &mut writer, &settings, 1000);
-    assert_eq!(rt; got, Err(RunError::Write));
-    assert_eq!(rt; writer.into_inner().taken.as_slice(), b"from ".as_slice());
-    Ok(())
+    each_holds(rt.alloc(), &[Prefix])
 }

@@ -1,73 +1,27 @@
 //! Sorting to writers: those that take all, little or nothing, and those that are interrupted.
+ghost use Rattle.std.specs.Prelude.{◌≡◌, ◌≤◌, length};
+ghost use Rattle.isort_sort.specs.Metered.{last_of};
+
+use crate::cases::{Case, each_holds};
+use crate::devices::{Device, Trouble};
 use crate::sorting_runs::{BROKEN, SKIPPED, SORTED, UNSORTED};
 use isort_settings::Settings;
-use isort_sort::{Metered, Outcome, SortError, sort_to};
+use isort_sort::{Last, Metered, Outcome, SortError, sort_to};
 use py_lines::{Fault, FaultKind};
 use std::alloc::Global;
-use std::io;
-use std::io::{ErrorKind, Write};
 use std::test::Fail;
-
-/// A writer that takes at most `most` bytes a call, is interrupted `times` times before each, and fails where it has taken
-/// `room` bytes.
-#[derive(Drop)]
-pub(crate) struct Slow {
-    pub(crate) taken: Vec<u8>,
-    room: usize,
-    most: usize,
-    times: u16,
-    interrupted: u16,
-}
-
-impl Slow {
-    /// A writer with so much room, which is never interrupted.
-    pub(crate) fn new(alloc: Global, room: usize, most: usize) -> Slow {
-        Slow::interrupted(alloc, room, most, 0)
-    }
-
-    /// A writer with so much room, which is interrupted so often before each write.
-    fn interrupted(alloc: Global, room: usize, most: usize, times: u16) -> Slow {
-        Slow {
-            taken: Vec::new(alloc),
-            room,
-            most,
-            times,
-            interrupted: 0,
-        }
-    }
-}
-
-impl Write for Slow {
-    fn write(&mut self, buf: &[u8]) -> io::Result<usize> {
-        if self.interrupted < self.times {
-            self.interrupted += 1;
-            return Err(io::Error::from(ErrorKind::Interrupted));
-        }
-        self.interrupted = 0;
-        let count = buf.len().min(self.most).min(self.room);
-        if count == 0 {
-            return Err(io::Error::from(ErrorKind::Other));
-        }
-        self.taken.extend_from_slice(&buf[..count])?;
-        self.room -= count;
-        Ok(count)
-    }
-
-    fn flush(&mut self) -> io::Result<()> {
-        Ok(())
-    }
-}
 
 /// Whether sorting the text to the writer gives this answer, and leaves these bytes in it.
 fn leaves(
     alloc: Global,
     settings: &Settings,
     text: &str,
-    writer: Slow,
+    mut writer: Metered<Device<'_>>,
     want: Result<Outcome, SortError>,
     bytes: &[u8],
-) -> bool {
-    let mut writer = Metered::new(writer);
+) -> bool
+    requires { last_of writer ≡ Last.Fine }
+{
     let got = sort_to(alloc, text.as_bytes(), settings, &mut writer);
     got == want && writer.into_inner().taken.as_slice() == bytes
 }
@@ -80,14 +34,8 @@ pub(crate) fn is_written(
     want: Result<Outcome, SortError>,
     bytes: &[u8],
 ) -> bool {
-    leaves(
-        alloc,
-        settings,
-        text,
-        Slow::new(alloc, usize::MAX, usize::MAX),
-        want,
-        bytes,
-    )
+    let writer = Device::new(alloc, b"", usize::MAX, Trouble::None);
+    leaves(alloc, settings, text, writer, want, bytes)
 }
 
 /// The fault of `BROKEN`.
@@ -104,96 +52,88 @@ const BAD_IMPORT: SortError = SortError::Fault(Fault {
     line: 1,
 });
 
-const WRITTEN: &[(&str, Result<Outcome, SortError>, &str)] = &[
-    (UNSORTED, Ok(Outcome::Changed), SORTED),
-    (SORTED, Ok(Outcome::Same), SORTED),
-    (SKIPPED, Ok(Outcome::Skipped), SKIPPED),
-    ("", Ok(Outcome::Same), ""),
-    (BROKEN, Err(WRONG_CLOSE), ""),
-    ("from b import c,\n", Err(BAD_IMPORT), ""),
+/// A text, the answer, and what is written.
+struct Written(&'static str, Result<Outcome, SortError>, &'static str);
+
+impl Case for Written {
+    fn holds(&self, alloc: Global) -> bool {
+        match Settings::plain(alloc) {
+            Ok(settings) => is_written(alloc, &settings, self.0, self.1, self.2.as_bytes()),
+            Err(_) => false,
+        }
+    }
+}
+
+const WRITTEN: &[Written] = &[
+    Written(UNSORTED, Ok(Outcome::Changed), SORTED),
+    Written(SORTED, Ok(Outcome::Same), SORTED),
+    Written(SKIPPED, Ok(Outcome::Skipped), SKIPPED),
+    Written("", Ok(Outcome::Same), ""),
+    Written(BROKEN, Err(WRONG_CLOSE), ""),
+    Written("from b import c,\n", Err(BAD_IMPORT), ""),
 ];
 
 #[test]
 fn writes_the_sorted_text(rt: HostRuntime) -> Result<(), Fail> {
-    let settings = Settings::plain(rt.alloc())?;
-    for (text, want, written) in WRITTEN {
-        assert!(rt;
-            is_written(rt.alloc(), &settings, text, *want, written.as_bytes()),
-            "{text}"
-        );
+    each_holds(rt.alloc(), WRITTEN)
+}
+
+/// A text, what sorting it comes to, and the sorted text.
+struct Sorting(&'static str, Outcome, &'static str);
+
+impl Sorting {
+    /// Whether the text is written whole to writers that take one byte a call, and that are interrupted 999 times before
+    /// each; and whether one that is interrupted 1000 times is given up.
+    fn is_written_slowly(&self, alloc: Global, settings: &Settings) -> bool {
+        let bytes = self.2.as_bytes();
+        let one = Device::new(alloc, b"", 1, Trouble::Full(bytes.len()));
+        let patient = Device::new(alloc, b"", 7, Trouble::Waits(999));
+        let stuck = Device::new(alloc, b"", 7, Trouble::Waits(1000));
+        leaves(alloc, settings, self.0, one, Ok(self.1), bytes)
+            && leaves(alloc, settings, self.0, patient, Ok(self.1), bytes)
+            && leaves(alloc, settings, self.0, stuck, Err(SortError::Write), b"")
     }
-    Ok(())
+
+    /// Whether a writer with less room than the sorted text has bytes gets just those that it has room for, however much
+    /// it takes a call.
+    fn is_cut_short(&self, alloc: Global, settings: &Settings, room: usize) -> bool
+        requires { room ≤ length self.now.2.now }
+    {
+        let bytes = &self.2.as_bytes()[..room];
+        let one = Device::new(alloc, b"", 1, Trouble::Full(room));
+        let all = Device::new(alloc, b"", 1000, Trouble::Full(room));
+        leaves(alloc, settings, self.0, one, Err(SortError::Write), bytes)
+            && leaves(alloc, settings, self.0, all, Err(SortError::Write), bytes)
+    }
+
+    fn is_cut_everywhere(&self, alloc: Global, settings: &Settings) -> bool {
+        for room in 0..self.2.len() {
+            if !self.is_cut_short(alloc, settings, room) {
+                return false;
+            }
+        }
+        true
+    }
 }
 
-/// Whether the text is written whole to writers that take one byte a call, and that are interrupted 999 times before each;
-/// and whether one that is interrupted 1000 times is given up.
-fn is_written_slowly(
-    alloc: Global,
-    settings: &Settings,
-    text: &str,
-    want: Outcome,
-    bytes: &[u8],
-) -> bool {
-    let one = Slow::new(alloc, bytes.len(), 1);
-    let patient = Slow::interrupted(alloc, bytes.len(), 7, 999);
-    let stuck = Slow::interrupted(alloc, bytes.len(), 7, 1000);
-    leaves(alloc, settings, text, one, Ok(want), bytes)
-        && leaves(alloc, settings, text, patient, Ok(want), bytes)
-        && leaves(alloc, settings, text, stuck, Err(SortError::Write), b"")
+impl Case for Sorting {
+    fn holds(&self, alloc: Global) -> bool {
+        match Settings::plain(alloc) {
+            Ok(settings) => {
+                self.is_written_slowly(alloc, &settings) && self.is_cut_everywhere(alloc, &settings)
+            }
+            Err(_) => false,
+        }
+    }
 }
 
-/// Whether a writer with less room than the sorted text has bytes gets just those that it has room for, however much it
-/// takes a call.
-fn is_cut_short(
-    alloc: Global,
-    settings: &Settings,
-    text: &str,
-    bytes: &[u8],
-    room: usize,
-    most: usize,
-) -> bool {
-    let narrow = Slow::new(alloc, room, most);
-    room < bytes.len()
-        && leaves(
-            alloc,
-            settings,
-            text,
-            narrow,
-            Err(SortError::Write),
-            &bytes[..room],
-        )
-}
-
-const SLOWLY: &[(&str, Outcome, &str)] = &[
-    (UNSORTED, Outcome::Changed, SORTED),
-    (SORTED, Outcome::Same, SORTED),
-    (SKIPPED, Outcome::Skipped, SKIPPED),
+const SORTINGS: &[Sorting] = &[
+    Sorting(UNSORTED, Outcome::Changed, SORTED),
+    Sorting(SORTED, Outcome::Same, SORTED),
+    Sorting(SKIPPED, Outcome::Skipped, SKIPPED),
 ];
 
 #[test]
-fn writes_to_slow_writers(rt: HostRuntime) -> Result<(), Fail> {
-    let settings = Settings::plain(rt.alloc())?;
-    for (text, want, written) in SLOWLY {
-        assert!(rt;
-            is_written_slowly(rt.alloc(), &settings, text, *want, written.as_bytes()),
-            "{text}"
-        );
-    }
-    Ok(())
-}
-
-#[test]
-fn writes_a_prefix_of_every_length(rt: HostRuntime) -> Result<(), Fail> {
-    let settings = Settings::plain(rt.alloc())?;
-    for (text, _, written) in SLOWLY {
-        let bytes = written.as_bytes();
-        for room in 0..bytes.len() {
-            assert!(rt;
-                is_cut_short(rt.alloc(), &settings, text, bytes, room, 1)
-                    && is_cut_short(rt.alloc(), &settings, text, bytes, room, 1000),
-                "{room} of {text}"
-            );
-        }
-    }
-    Ok(())
+fn writes_whole_texts_slowly_and_prefixes_of_every_length(rt: HostRuntime) -> Result<(), Fail> {
+    each_holds(rt.alloc(), SORTINGS)
 }

@@ -1,0 +1,42 @@
+//! Tables of cases. What such a test costs lies in the one function that tries a row, and not in the test.
+use std::alloc::Global;
+use std::test::Fail;
+
+/// A row of a test's table.
+pub(crate) trait Case {
+    /// Whether what the row says is so. Where a call fails that has to go well, it isn't.
+    fn holds(&self, alloc: Global) -> bool;
+}
+
+/// Every row holds.
+pub(crate) fn each_holds<C: Case>(alloc: Global, cases: &[C]) -> Result<(), Fail> {
+    for (i, case) in cases.iter().enumerate() {
+        if !case.holds(alloc) {
+            return Err(Fail::new(format_args!("row {i} does not hold")));
+        }
+    }
+    Ok(())
+}
+
+/// Each of these is so.
+pub(crate) fn all_are_so(facts: &[bool]) -> Result<(), Fail> {
+    for (i, is_so) in facts.iter().enumerate() {
+        if !*is_so {
+            return Err(Fail::new(format_args!("fact {i} is not so")));
+        }
+    }
+    Ok(())
+}
+
+/// Whether these are the texts.
+pub(crate) fn are_texts(texts: &[String], wanted: &[&str]) -> bool {
+    if texts.len() != wanted.len() {
+        return false;
+    }
+    for i in 0..wanted.len() {
+        if texts[i].as_str() != wanted[i] {
+            return false;
+        }
+    }
+    true
+}
