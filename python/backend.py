@@ -1,0 +1,189 @@
+"""Builds the wheel of the package fihroste, with nothing but the standard library. pip calls it, and so does `build`.
+
+The extension is linked with the static library that rt builds of crates/isort_c, and the wheel carries the program. Both
+are proved before they are built, which takes some minutes where rt has kept nothing."""
+
+import base64
+import hashlib
+import os
+import shutil
+import subprocess
+import sys
+import sysconfig
+import tempfile
+import zipfile
+from pathlib import Path
+from typing import Dict, Iterator, List, Mapping, NoReturn, Optional, Tuple
+
+HERE = Path(__file__).resolve().parent
+TOP = HERE.parent
+CRATE = TOP / "crates" / "isort_c"
+HEADER_FOLDER = TOP / "c"
+LIBRARY = CRATE / "out" / "libisort_c.a"
+PROGRAM = TOP / "crates" / "isort" / "out" / "isort"
+
+NAME = "fihroste"
+VERSION = "0.1.0"
+TAG = "cp38-abi3-linux_x86_64"
+METADATA = f"""Metadata-Version: 2.1
+Name: {NAME}
+Version: {VERSION}
+Summary: Sorts, checks and lists the import statements of Python texts, by proved code
+License: MIT
+Requires-Python: >=3.8
+"""
+WHEEL = f"Wheel-Version: 1.0\nGenerator: {NAME}\nRoot-Is-Purelib: false\nTag: {TAG}\n"
+FLAGS = ["-O2", "-Wall", "-Wextra", "-fPIC", "-shared"]
+# A zip file has no times before this one. With a fixed one, equal contents make equal wheels.
+TIME = (1980, 1, 1, 0, 0, 0)
+
+
+def fail(words: str) -> NoReturn:
+    sys.exit(f"{NAME}: {words}")
+
+
+def get_requires_for_build_wheel(config_settings: Optional[Mapping[str, str]] = None) -> List[str]:
+    """A hook of pip's: nothing has to be installed first."""
+    return []
+
+
+def build_sdist(sdist_directory: str, config_settings: Optional[Mapping[str, str]] = None) -> NoReturn:
+    """A hook of pip's: the sources are the whole repository, so there is none."""
+    fail("there is no source distribution: install from the repository")
+
+
+def build_wheel(
+    wheel_directory: str,
+    config_settings: Optional[Mapping[str, str]] = None,
+    metadata_directory: Optional[str] = None,
+) -> str:
+    """A hook of pip's: builds the wheel into a folder, and answers its name.
+
+    The settings `library` and `program` name files other than those that are built here."""
+    settings = config_settings or {}
+    expect_tools()
+    library = settings.get("library") or built_library()
+    program = settings.get("program") or built_program()
+    with tempfile.TemporaryDirectory() as work:
+        extension = os.path.join(work, "_fihroste.abi3.so")
+        compile_extension(extension, library)
+        return write_wheel(wheel_directory, extension, program)
+
+
+def expect_tools() -> None:
+    """Ends with a line that says what is missing."""
+    if not (TOP / "crates.txt").is_file():
+        fail("build it where it stands, in the repository: pip does so since 21.3")
+    if not shutil.which(compiler()[0]):
+        fail(f"no C compiler: {compiler()[0]} is not on the PATH")
+    if not any((Path(folder) / "Python.h").is_file() for folder in include_folders()):
+        fail(f"no Python.h in {include_folders()[0]}: install Python's headers (Debian: python3-dev)")
+    if not shutil.which("rt"):
+        fail("no rt on the PATH: README.md names the toolchain to install")
+
+
+def compiler() -> List[str]:
+    return os.environ.get("CC", "cc").split() or ["cc"]
+
+
+def include_folders() -> List[str]:
+    paths = sysconfig.get_paths()
+    return list(dict.fromkeys((paths["include"], paths["platinclude"])))
+
+
+def kit() -> Path:
+    """The folder of the toolchain."""
+    return Path(os.path.realpath(shutil.which("rt") or "rt")).parents[1]
+
+
+def crates_below(crate: str) -> Iterator[str]:
+    """The crate, and those of this repository that it calls, as crates.txt has them."""
+    yield crate
+    for line in (TOP / "crates.txt").read_text().splitlines():
+        name, _, called = line.partition(":")
+        if name.split()[:1] == [crate]:
+            for below in called.split():
+                if (TOP / "crates" / below).is_dir():
+                    yield from crates_below(below)
+
+
+def is_current(built: Path, crate: str) -> bool:
+    """Whether no source of the crate is newer than what was built."""
+    if not built.is_file():
+        return False
+    folders = [TOP / "crates" / name / part for name in crates_below(crate) for part in ("src", "specs", "proofs")]
+    sources = [TOP / "crates.txt", *(path for folder in folders for path in folder.rglob("*"))]
+    return all(path.stat().st_mtime <= built.stat().st_mtime for path in sources)
+
+
+def built_library() -> str:
+    if not is_current(LIBRARY, CRATE.name):
+        print(f"{NAME}: building the library: its proofs are checked first, which takes some minutes", flush=True)
+        if subprocess.run(["rt", "lib"], cwd=CRATE, stdin=subprocess.DEVNULL).returncode != 0:
+            fail("the library was not built: the lines above say why")
+    return str(LIBRARY)
+
+
+def built_program() -> str:
+    """The program, which the script at the top builds where it isn't current."""
+    if subprocess.run([TOP / "isort", "--help"], stdin=subprocess.DEVNULL, stdout=subprocess.DEVNULL).returncode != 0:
+        fail("the program was not built: the lines above say why")
+    return str(PROGRAM)
+
+
+def compile_extension(extension: str, library: str) -> None:
+    """Compiles and links the extension. CC and CFLAGS are heeded."""
+    exports = f"{extension}.map"
+    with open(exports, "w") as words:
+        words.write("{ global: PyInit__fihroste; local: *; };\n")
+    # A library from elsewhere may have its own header beside it.
+    folders = (os.path.dirname(library), str(HEADER_FOLDER), *include_folders())
+    includes = [f"-I{folder}" for folder in folders]
+    heap = str(kit() / "c" / "liblibc_c.a")
+    flags = [*FLAGS, *os.environ.get("CFLAGS", "").split()]
+    link = [library, heap, f"-Wl,--version-script={exports}"]
+    command = [*compiler(), *flags, *includes, "-o", extension, str(HERE / "_fihroste.c"), *link]
+    if subprocess.run(command).returncode != 0:
+        fail("the extension was not built: the lines above say why")
+
+
+def wheel_files(extension: str, program: str) -> Iterator[Tuple[str, bytes, int]]:
+    """The name, the contents and the permissions of each file of the wheel, but for its list."""
+    for path in sorted((HERE / NAME).iterdir()):
+        if path.suffix in (".py", ".pyi", ".typed"):
+            yield f"{NAME}/{path.name}", path.read_bytes(), 0o644
+    yield f"{NAME}/{os.path.basename(extension)}", Path(extension).read_bytes(), 0o755
+    yield f"{NAME}/isort", Path(program).read_bytes(), 0o755
+    info = f"{NAME}-{VERSION}.dist-info"
+    yield f"{info}/LICENSE", (TOP / "LICENSE").read_bytes(), 0o644
+    yield f"{info}/METADATA", METADATA.encode(), 0o644
+    yield f"{info}/WHEEL", WHEEL.encode(), 0o644
+
+
+def write_wheel(folder: str, extension: str, program: str) -> str:
+    """Writes the wheel, and answers its name."""
+    name = f"{NAME}-{VERSION}-{TAG}.whl"
+    record = f"{NAME}-{VERSION}.dist-info/RECORD"
+    rows: List[str] = []
+    with zipfile.ZipFile(os.path.join(folder, name), "w", zipfile.ZIP_DEFLATED) as wheel:
+        for path, contents, mode in wheel_files(extension, program):
+            digest = base64.urlsafe_b64encode(hashlib.sha256(contents).digest()).rstrip(b"=").decode()
+            rows.append(f"{path},sha256={digest},{len(contents)}\n")
+            add(wheel, path, contents, mode)
+        add(wheel, record, "".join([*rows, f"{record},,\n"]).encode(), 0o644)
+    return name
+
+
+def add(wheel: zipfile.ZipFile, path: str, contents: bytes, mode: int) -> None:
+    entry = zipfile.ZipInfo(path, TIME)
+    entry.external_attr = (0o100000 | mode) << 16
+    entry.compress_type = zipfile.ZIP_DEFLATED
+    wheel.writestr(entry, contents)
+
+
+def main(words: List[str]) -> None:
+    """Builds the wheel into the folder dist beside this file, and prints its path: build [NAME=FILE..]."""
+    settings: Dict[str, str] = dict(word.split("=", 1) for word in words)
+    dist = HERE / "dist"
+    dist.mkdir(exist_ok=True)
+    print(dist / build_wheel(str(dist), settings))

@@ -1,0 +1,36 @@
+"""Sorts, checks and lists the import statements of Python texts, with the calls of isort 5."""
+
+from . import exceptions, settings
+from .api import (
+    check_code,
+    check_file,
+    check_stream,
+    code,
+    file,
+    find_imports_in_code,
+    find_imports_in_file,
+    find_imports_in_stream,
+    place_module,
+    stream,
+)
+from .identify import Import, ImportKey
+from .settings import Config
+
+__all__ = [
+    "Config",
+    "Import",
+    "ImportKey",
+    "check_code",
+    "check_file",
+    "check_stream",
+    "code",
+    "exceptions",
+    "file",
+    "find_imports_in_code",
+    "find_imports_in_file",
+    "find_imports_in_stream",
+    "place_module",
+    "settings",
+    "stream",
+]
+__version__ = "0.1.0"

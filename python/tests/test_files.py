@@ -1,0 +1,121 @@
+"""Sorting and checking of files, and the program."""
+
+import contextlib
+import io
+import os
+import subprocess
+import sys
+import tempfile
+import unittest
+
+import fihroste
+from fihroste.exceptions import ExistingSyntaxErrors, FileSkipComment, UnsupportedSettings
+
+from texts import SHOP, SHOP_SORTED, SKIPPED
+
+
+class Files(unittest.TestCase):
+    def setUp(self):
+        folder = tempfile.TemporaryDirectory()
+        self.addCleanup(folder.cleanup)
+        self.path = os.path.join(folder.name, "-shop \u00e4.py")
+        self.write(SHOP.encode())
+
+    def write(self, text):
+        with open(self.path, "wb") as file:
+            file.write(text)
+
+    def read(self):
+        with open(self.path, "rb") as file:
+            return file.read()
+
+    def test_a_file_is_sorted_where_it_stands(self):
+        os.chmod(self.path, 0o640)
+        self.assertFalse(fihroste.check_file(self.path))
+        self.assertTrue(fihroste.file(self.path))
+        self.assertEqual(self.read(), SHOP_SORTED.encode())
+        self.assertEqual(os.stat(self.path).st_mode & 0o777, 0o640)
+        self.assertTrue(fihroste.check_file(self.path))
+        self.assertFalse(fihroste.file(self.path))
+        self.assertEqual(os.listdir(os.path.dirname(self.path)), [os.path.basename(self.path)])
+
+    def test_settings_hold_for_files(self):
+        self.write(b"from m import a, b\n")
+        self.assertTrue(fihroste.file(self.path, force_single_line=True))
+        self.assertEqual(self.read(), b"from m import a\nfrom m import b\n")
+        with open(os.path.join(os.path.dirname(self.path), "pyproject.toml"), "w") as file:
+            file.write("[tool.isort]\nprofile = 'black'\nline_length = 20\n")
+        self.write(b"from m import aaaaaaa, bbbbbbb\n")
+        self.assertTrue(fihroste.file(self.path))
+        self.assertEqual(self.read(), b"from m import (\n    aaaaaaa,\n    bbbbbbb,\n)\n")
+        self.assertTrue(fihroste.file(self.path, config=fihroste.Config(line_length=100)))
+        self.assertEqual(self.read(), b"from m import aaaaaaa, bbbbbbb\n")
+
+    def test_a_link_stays(self):
+        link = self.path + ".link"
+        os.symlink(self.path, link)
+        self.assertTrue(fihroste.file(link))
+        self.assertTrue(os.path.islink(link))
+        self.assertEqual(self.read(), SHOP_SORTED.encode())
+
+    def test_a_file_may_go_elsewhere(self):
+        output = io.StringIO()
+        self.assertTrue(fihroste.file(self.path, output=output))
+        with contextlib.redirect_stdout(io.StringIO()) as printed:
+            self.assertTrue(fihroste.file(self.path, write_to_stdout=True))
+        self.assertEqual((output.getvalue(), printed.getvalue()), (SHOP_SORTED, SHOP_SORTED))
+        self.assertEqual(self.read(), SHOP.encode())
+
+    def test_files_that_stay_as_they_are(self):
+        for text, exception in (
+            (SKIPPED.encode(), FileSkipComment),
+            (b"import b\nimport a\nx = (\n", ExistingSyntaxErrors),
+            (b"import b\nimport a\n# \xe4\n", ExistingSyntaxErrors),
+        ):
+            self.write(text)
+            for call in (fihroste.file, fihroste.check_file):
+                with self.assertRaises(exception) as raised:
+                    call(self.path)
+                self.assertEqual(raised.exception.file_path, self.path)
+            self.assertEqual(self.read(), text)
+
+    def test_files_that_cannot_be_read(self):
+        for path in (self.path + ".not", os.path.dirname(self.path)):
+            for call in (fihroste.file, fihroste.check_file, fihroste.find_imports_in_file):
+                with self.subTest(path=path, call=call), self.assertRaises(OSError):
+                    call(path)
+
+    @unittest.skipIf(os.geteuid() == 0, "root may write each file")
+    def test_files_that_cannot_be_written(self):
+        os.chmod(self.path, 0o444)
+        with self.assertRaisesRegex(OSError, "R3 cannot be written"):
+            fihroste.file(self.path)
+        self.assertEqual(self.read(), SHOP.encode())
+
+    def test_parameters_that_are_missing_are_named(self):
+        for words in ({"ask_to_apply": True}, {"show_diff": True}, {"disregard_skip": False}, {"extension": "pyi"}):
+            with self.subTest(words=words), self.assertRaises(UnsupportedSettings) as raised:
+                fihroste.file(self.path, **words)
+            self.assertEqual([raised.exception.key], list(words))
+        self.assertEqual(self.read(), SHOP.encode())
+
+    def test_the_program_runs(self):
+        command = [sys.executable, "-m", "fihroste"]
+        run = subprocess.run([*command, "-"], input=SHOP.encode(), stdout=subprocess.PIPE)
+        self.assertEqual((run.returncode, run.stdout), (0, SHOP_SORTED.encode()))
+        run = subprocess.run([*command, "-c", "--", self.path], stdout=subprocess.PIPE, stderr=subprocess.PIPE)
+        self.assertEqual(run.returncode, 1)
+        self.assertIn(b"incorrectly sorted", run.stderr)
+
+
+class Limits(unittest.TestCase):
+    def test_texts_that_are_too_long(self):
+        text = "#" * (2**30 + 1)
+        for call in (fihroste.code, fihroste.check_code, fihroste.find_imports_in_code, fihroste.place_module):
+            with self.subTest(call=call), self.assertRaises(fihroste.exceptions.TextTooLong):
+                call(text)
+        self.assertEqual(fihroste.code("import b\nimport a\n"), "import a\nimport b\n")
+
+
+if __name__ == "__main__":
+    unittest.main()
