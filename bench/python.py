@@ -6,11 +6,12 @@
 WHEEL is the package's, which `python/build` makes. The Python that runs this has isort 5: /usr/bin/python3 of Debian, with
 its package `isort`. The texts are the `*.py` files of 8,000 to 12,000 bytes below FOLDER that both take, 60 at most and
 evenly drawn, and one of two lines. `code`, `check_code` and `find_imports_in_code` are called on each text, the package and
-isort 5 in turn, ROUNDS times (5), and the least time of each counts. Both have their default settings. If isort 5 has no
+isort 5 in turn, ROUNDS times (5), and the least CPU time of each counts. Both have their default settings. If isort 5 has no
 `find_imports_in_code`, as 5.6, then `ast.parse` and a walk over the tree stand in its place. The other rows are sorting with
 settings as keywords, eight threads at once, and starting Python with an import of the package.
 
-Prints a Markdown table, with the time of a text and how many times as long isort 5 takes, and the load."""
+Prints a Markdown table, with the time of a text and how many times as long isort 5 takes, and the load. The rows of threads
+and of starting are by the clock."""
 
 import ast
 import io
@@ -57,10 +58,11 @@ def texts_below(folder, calls):
 
 
 def seconds(call, text, repeats):
-    begun = time.perf_counter()
+    """The CPU time of a call, which other work on the machine hurts less than the time by the clock."""
+    begun = time.thread_time()
     for _ in range(repeats):
         call(text)
-    return (time.perf_counter() - begun) / repeats
+    return (time.thread_time() - begun) / repeats
 
 
 def beside(ours, theirs, texts, rounds, repeats):

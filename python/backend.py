@@ -1,7 +1,7 @@
 """Builds the wheel of the package fihroste, with nothing but the standard library. pip calls it, and so does `build`.
 
-The extension is linked with the static library that rt builds of crates/isort_c, and the wheel carries the program. Both
-are proved before they are built, which takes some minutes where rt has kept nothing."""
+The extension is linked with the static library of crates/isort_c, and the wheel carries the program. Both are proved before
+they are built, which takes some minutes."""
 
 import base64
 import hashlib
@@ -15,12 +15,10 @@ import zipfile
 from pathlib import Path
 from typing import Dict, Iterator, List, Mapping, NoReturn, Optional, Tuple
 
+import proved
+
 HERE = Path(__file__).resolve().parent
-TOP = HERE.parent
-CRATE = TOP / "crates" / "isort_c"
-HEADER_FOLDER = TOP / "c"
-LIBRARY = CRATE / "out" / "libisort_c.a"
-PROGRAM = TOP / "crates" / "isort" / "out" / "isort"
+HEADER_FOLDER = proved.TOP / "c"
 
 NAME = "fihroste"
 VERSION = "0.1.0"
@@ -62,8 +60,12 @@ def build_wheel(
     The settings `library` and `program` name files other than those that are built here."""
     settings = config_settings or {}
     expect_tools()
-    library = settings.get("library") or built_library()
-    program = settings.get("program") or built_program()
+    library, program = settings.get("library", ""), settings.get("program", "")
+    try:
+        proved.build(library=not library, program=not program)
+    except proved.NotProved as refusal:
+        fail(str(refusal))
+    library, program = library or str(proved.LIBRARY), program or str(proved.PROGRAM)
     with tempfile.TemporaryDirectory() as work:
         extension = os.path.join(work, "_fihroste.abi3.so")
         compile_extension(extension, library)
@@ -72,7 +74,7 @@ def build_wheel(
 
 def expect_tools() -> None:
     """Ends with a line that says what is missing."""
-    if not (TOP / "crates.txt").is_file():
+    if not (proved.TOP / "crates.txt").is_file():
         fail("build it where it stands, in the repository: pip does so since 21.3")
     if not shutil.which(compiler()[0]):
         fail(f"no C compiler: {compiler()[0]} is not on the PATH")
@@ -91,46 +93,6 @@ def include_folders() -> List[str]:
     return list(dict.fromkeys((paths["include"], paths["platinclude"])))
 
 
-def kit() -> Path:
-    """The folder of the toolchain."""
-    return Path(os.path.realpath(shutil.which("rt") or "rt")).parents[1]
-
-
-def crates_below(crate: str) -> Iterator[str]:
-    """The crate, and those of this repository that it calls, as crates.txt has them."""
-    yield crate
-    for line in (TOP / "crates.txt").read_text().splitlines():
-        name, _, called = line.partition(":")
-        if name.split()[:1] == [crate]:
-            for below in called.split():
-                if (TOP / "crates" / below).is_dir():
-                    yield from crates_below(below)
-
-
-def is_current(built: Path, crate: str) -> bool:
-    """Whether no source of the crate is newer than what was built."""
-    if not built.is_file():
-        return False
-    folders = [TOP / "crates" / name / part for name in crates_below(crate) for part in ("src", "specs", "proofs")]
-    sources = [TOP / "crates.txt", *(path for folder in folders for path in folder.rglob("*"))]
-    return all(path.stat().st_mtime <= built.stat().st_mtime for path in sources)
-
-
-def built_library() -> str:
-    if not is_current(LIBRARY, CRATE.name):
-        print(f"{NAME}: building the library: its proofs are checked first, which takes some minutes", flush=True)
-        if subprocess.run(["rt", "lib"], cwd=CRATE, stdin=subprocess.DEVNULL).returncode != 0:
-            fail("the library was not built: the lines above say why")
-    return str(LIBRARY)
-
-
-def built_program() -> str:
-    """The program, which the script at the top builds where it isn't current."""
-    if subprocess.run([TOP / "isort", "--help"], stdin=subprocess.DEVNULL, stdout=subprocess.DEVNULL).returncode != 0:
-        fail("the program was not built: the lines above say why")
-    return str(PROGRAM)
-
-
 def compile_extension(extension: str, library: str) -> None:
     """Compiles and links the extension. CC and CFLAGS are heeded."""
     exports = f"{extension}.map"
@@ -139,7 +101,7 @@ def compile_extension(extension: str, library: str) -> None:
     # A library from elsewhere may have its own header beside it.
     folders = (os.path.dirname(library), str(HEADER_FOLDER), *include_folders())
     includes = [f"-I{folder}" for folder in folders]
-    heap = str(kit() / "c" / "liblibc_c.a")
+    heap = str(proved.kit() / "c" / "liblibc_c.a")
     flags = [*FLAGS, *os.environ.get("CFLAGS", "").split()]
     link = [library, heap, f"-Wl,--version-script={exports}"]
     command = [*compiler(), *flags, *includes, "-o", extension, str(HERE / "_fihroste.c"), *link]
@@ -155,7 +117,7 @@ def wheel_files(extension: str, program: str) -> Iterator[Tuple[str, bytes, int]
     yield f"{NAME}/{os.path.basename(extension)}", Path(extension).read_bytes(), 0o755
     yield f"{NAME}/isort", Path(program).read_bytes(), 0o755
     info = f"{NAME}-{VERSION}.dist-info"
-    yield f"{info}/LICENSE", (TOP / "LICENSE").read_bytes(), 0o644
+    yield f"{info}/LICENSE", (proved.TOP / "LICENSE").read_bytes(), 0o644
     yield f"{info}/METADATA", METADATA.encode(), 0o644
     yield f"{info}/WHEEL", WHEEL.encode(), 0o644
 

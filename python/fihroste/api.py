@@ -290,5 +290,6 @@ def _each(answer: _Answer, file_path: Optional[Path]) -> Iterator[Import]:
 
 
 def _read(path: _Path) -> bytes:
-    with open(path, "rb") as source_file:
+    # A number would be a file that is open already.
+    with open(Path(path), "rb") as source_file:
         return source_file.read(_MOST_BYTES)

@@ -72,12 +72,11 @@ class Config:
             raise ValueError("give only one of settings_file, settings_path and config")
         if config is not None and not isinstance(config, Config):
             raise TypeError(f"config has to be a Config, not {type(config).__name__}")
-        _expect_known(config_overrides)
         path = os.fspath(settings_file or "") or _search(settings_path)
         self._text: bytes = _read(path) if path else config._text if config else b""
-        self._keywords: Dict[str, Any] = {**(config._keywords if config else {}), **config_overrides}
-        self._toml, self._profile = _whole(self._text, self._keywords)
-        unknown = _expect_accepted(self._toml, self._profile, self._keywords)
+        self._keywords: Dict[str, Any] = {**(config._keywords if config else {}), **_known(config_overrides)}
+        self._toml, self._profile, unknown = _whole(self._text, self._keywords)
+        unknown += _expect_accepted(self._toml, self._profile, self._keywords)
         for key in unknown if path else ():
             warnings.warn(f"{path}: settings: {key} ignored", stacklevel=2)
 
@@ -86,8 +85,9 @@ class Config:
         return f"Config({', '.join((['...'] if self._text else []) + words)})"
 
 
-def _expect_known(keywords: Mapping[str, Any]) -> None:
-    """Refuses keywords that are no keys, or whose values have another type."""
+def _known(keywords: Mapping[str, Any]) -> Dict[str, Any]:
+    """The keywords, with collections as tuples. Refuses those that are no keys, or whose values have another type."""
+    known: Dict[str, Any] = {}
     for key, value in keywords.items():
         kind = _KINDS.get(key)
         if kind is None:
@@ -99,31 +99,36 @@ def _expect_known(keywords: Mapping[str, Any]) -> None:
         if not is_right:
             wanted = "list of str" if kind is list else kind.__name__
             raise TypeError(f"{key} has to be a {wanted}, not {value!r}")
+        known[key] = tuple(value) if kind is list else value
+    return known
 
 
-def _whole(text: bytes, keywords: Mapping[str, Any]) -> Tuple[bytes, int]:
-    """The text of settings that stands for a text under keywords, and the number of the profile that wins over it."""
+def _whole(text: bytes, keywords: Mapping[str, Any]) -> Tuple[bytes, int, List[str]]:
+    """The text of settings that stands for a text under keywords, the number of the profile that wins over it, and the
+    unknown keys that this text has lost."""
     profile = _PROFILES.get(keywords.get("profile", ""), _NO_PROFILE)
     lines = {key: value for key, value in keywords.items() if key != "profile" or not profile}
     if not lines:
-        return text, profile
-    if text:
-        lines = {**_table(text, next(iter(lines))), **lines}
-    return _toml(lines), profile
+        return text, profile, []
+    table = _table(text, next(iter(lines))) if text else {}
+    unknown = sorted(table.keys() - _KINDS.keys())
+    known = {key: value for key, value in table.items() if key in _KINDS}
+    return _toml({**known, **lines}), profile, unknown
 
 
 def _table(text: bytes, key: str) -> Dict[str, Any]:
-    """The table [tool.isort] of a text, without its unknown keys. It goes under a keyword."""
+    """The table [tool.isort] of a text, which goes under a keyword."""
     reader = _toml_reader(key)
     try:
-        table = reader.loads(text.decode("utf-8-sig"))["tool"]["isort"]
-        return {name: value for name, value in table.items() if name in _KINDS}
-    except KeyError:
-        return {}
-    except (ValueError, TypeError, AttributeError):
-        # What is no TOML, or no table, is refused by the same rules as without keywords.
-        _expect_accepted(text, _NO_PROFILE, {})
-        raise UnsupportedSettings("the settings are not TOML", None, f"S{_NOT_TOML}") from None
+        tool = reader.loads(text.decode("utf-8-sig")).get("tool", {})
+    except ValueError:
+        tool = None
+    table = tool.get("isort", {}) if isinstance(tool, dict) else None
+    if isinstance(table, dict):
+        return table
+    # What is no TOML, or no table, is refused by the same rules as without keywords.
+    _expect_accepted(text, _NO_PROFILE, {})
+    raise UnsupportedSettings("the settings are not TOML", None, f"S{_NOT_TOML}")
 
 
 def _toml_reader(key: str) -> Any:

@@ -85,6 +85,12 @@ class Files(unittest.TestCase):
                 with self.subTest(path=path, call=call), self.assertRaises(OSError):
                     call(path)
 
+    def test_names_of_other_types(self):
+        for name in (0, b"a.py", None, ["a.py"]):
+            for call in (fihroste.file, fihroste.check_file, fihroste.find_imports_in_file):
+                with self.subTest(name=name, call=call), self.assertRaises(TypeError):
+                    call(name)
+
     @unittest.skipIf(os.geteuid() == 0, "root may write each file")
     def test_files_that_cannot_be_written(self):
         os.chmod(self.path, 0o444)

@@ -55,6 +55,12 @@ class Keywords(unittest.TestCase):
         for collection in (["mine"], ("mine",), {"mine"}, frozenset(["mine"])):
             self.assertEqual(fihroste.place_module("mine", known_first_party=collection), "FIRSTPARTY")
 
+    def test_a_config_never_changes(self):
+        names = ["mine"]
+        config = Config(known_first_party=names)
+        names.append("other")
+        self.assertEqual(fihroste.place_module("other", Config(config=config, line_length=100)), "THIRDPARTY")
+
     def test_texts_need_no_escapes(self):
         for name in ('"', "\\", "\n", "\x7f", "\0", "\u00e4", "'''", "\U0001d400"):
             self.assertEqual(fihroste.place_module(name, known_first_party=[name]), "FIRSTPARTY", name)
@@ -193,10 +199,12 @@ class Files(unittest.TestCase):
 
     def test_unknown_keys_are_told(self):
         path = self.write("[tool.isort]\nskip = ['a']\nb = 1\n", "settings.toml")
-        with warnings.catch_warnings(record=True) as told:
-            warnings.simplefilter("always")
-            Config(path)
-        self.assertEqual([str(one.message) for one in told], [f"{path}: settings: {key} ignored" for key in ("b", "skip")])
+        for keywords in ({}, {"profile": "black"}, {"case_sensitive": True}) if HAS_READER else ({},):
+            with warnings.catch_warnings(record=True) as told:
+                warnings.simplefilter("always")
+                Config(path, **keywords)
+            wanted = [f"{path}: settings: {key} ignored" for key in ("b", "skip")]
+            self.assertEqual([str(one.message) for one in told], wanted)
 
     def test_files_that_are_refused(self):
         for text, exception, key, label in (
@@ -204,6 +212,7 @@ class Files(unittest.TestCase):
             ("[tool.isort]\nline_length = 'x'\n", UnsupportedSettings, "line_length", "S2"),
             ("tool = 1\n", UnsupportedSettings, "tool", "S2"),
             ("[tool]\nisort = 1\n", UnsupportedSettings, "tool.isort", "S2"),
+            ("[tool]\nisort = []\n", UnsupportedSettings, "tool.isort", "S2"),
             ("[tool.isort]\nmulti_line_output = 9\n", UnsupportedSettings, "multi_line_output", "S4"),
         ):
             path = self.write(text, "settings.toml")
