@@ -114,7 +114,28 @@ class Files(unittest.TestCase):
         self.assertIn(b"incorrectly sorted", run.stderr)
 
 
+# Makes calls over a text for which there is too little memory, and then over a short one.
+SHORT_OF_MEMORY = """
+import fihroste, resource
+text = "import os\\nimport abc\\n\\n" + "x = 1\\n" * 5_000_000
+fihroste.check_code("import os\\nimport abc\\n")
+pages = int(open("/proc/self/statm").read().split()[0])
+limit = pages * resource.getpagesize() + 16 * 2**20
+resource.setrlimit(resource.RLIMIT_AS, (limit, limit))
+for call in (fihroste.code, fihroste.find_imports_in_code):
+    try:
+        call(text)
+    except MemoryError:
+        print(fihroste.code("import os\\nimport abc\\n"), end="")
+"""
+
+
 class Limits(unittest.TestCase):
+    @unittest.skipIf("LD_PRELOAD" in os.environ, "a sanitizer takes memory of its own")
+    def test_memory_that_runs_out(self):
+        run = subprocess.run([sys.executable, "-c", SHORT_OF_MEMORY], stdout=subprocess.PIPE, stderr=subprocess.PIPE)
+        self.assertEqual((run.stdout, run.stderr), (b"import abc\nimport os\n" * 2, b""))
+
     def test_texts_that_are_too_long(self):
         text = "#" * (2**30 + 1)
         for call in (fihroste.code, fihroste.check_code, fihroste.find_imports_in_code, fihroste.place_module):
