@@ -1,10 +1,10 @@
 -- Texts that begin with an action.
-use Rattle.std.proofs.Common.{◌≡◌, ℕ, ◌+◌, ◌-◌, ◌<◌, Bool, true, false, nat_eq, ◌||◌, List, [], ◌∷◌, ◌++◌, codes, length, take, drop, length-drop, arith, refl, sym, ap, ◌∙◌}
+use Rattle.std.proofs.Common.{◌≡◌, ℕ, ◌+◌, ◌-◌, ◌<◌, ◌≤◌, Bool, true, false, nat_eq, ◌||◌, List, [], ◌∷◌, ◌++◌, codes, length, take, drop, length-drop, arith, refl, sym, ap, ◌∙◌}
 use Rattle.std.proofs.lemmas.Bool.{ne_eqb}
-use Rattle.std.proofs.lemmas.List.{take-append-drop, take_all, drop_more}
+use Rattle.std.proofs.lemmas.List.{take-append-drop, take_all, drop_all, drop_more}
 use Rattle.std.specs.Cmp.Lexicographic.{pointwise, same_text}
 use Rattle.std.specs.List.{list_any}
-use Rattle.py_imports.specs.Action.{action_word, begins_with_phrase, begins_with_action, tails}
+use Rattle.py_imports.specs.Action.{action_word, begins_with_phrase, begins_with_action, tails, says}
 use Rattle.py_imports.specs.declared.action.Action.{Action}
 use Rattle.py_imports.specs.declared.action.Action.TheVariants as action
 
@@ -55,3 +55,22 @@ passes_place a text i within e h =
     let here = drop_more text i 0 within in
     let differs = h ∙ ap (begins_with_action a) (from_place text i) in
     e ∙ ap (λ x. list_any (begins_with_action a) (tails x)) here ∙ ap (λ x. begins_with_action a x || list_any (begins_with_action a) (tails (drop (i + 1) text))) (sym here) ∙ ap (λ b. b || list_any (begins_with_action a) (tails (drop (i + 1) text))) (sym differs)
+
+-- the action begins at this place
+pub says_here : (a : Action) (text bytes : List ℕ) (i : ℕ) → bytes ≡ text → i < length bytes → list_any (begins_with_action a) (tails bytes) ≡ list_any (begins_with_action a) (tails (drop i bytes)) → true ≡ begins_with_action a (take (length bytes - i) (drop i bytes)) → true ≡ says a text
+says_here a text bytes i same within e h =
+    let here = drop_more bytes i 0 within in
+    let begins = h ∙ ap (begins_with_action a) (from_place bytes i ∙ here) in
+    sym (ap (says a) (sym same) ∙ e ∙ ap (λ x. list_any (begins_with_action a) (tails x)) here ∙ ap (λ b. b || list_any (begins_with_action a) (tails (drop (i + 1) bytes))) (sym begins))
+
+not_in_nothing : (a : Action) → list_any (begins_with_action a) (tails []) ≡ false
+not_in_nothing action.SkipFile = refl
+not_in_nothing action.Skip = refl
+not_in_nothing action.Off = refl
+not_in_nothing action.On = refl
+not_in_nothing action.Split = refl
+
+-- the action begins nowhere
+pub says_nowhere : (a : Action) (text bytes : List ℕ) (i : ℕ) → bytes ≡ text → length bytes ≤ i → list_any (begins_with_action a) (tails bytes) ≡ list_any (begins_with_action a) (tails (drop i bytes)) → false ≡ says a text
+says_nowhere a text bytes i same end e =
+    sym (ap (says a) (sym same) ∙ e ∙ ap (λ x. list_any (begins_with_action a) (tails x)) (drop_all i bytes end) ∙ not_in_nothing a)

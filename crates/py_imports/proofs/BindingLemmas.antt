@@ -1,13 +1,13 @@
 -- What the program has bound of a logical line so far.
-use Rattle.std.proofs.Common.{◌≡◌, ℕ, ◌+◌, ◌<◌, Bool, true, false, ◌==◌, ◌&&◌, List, [], ◌∷◌, ◌++◌, length, map, filter, drop, get_or, refl, sym, ap, ◌∙◌, subst, append_assoc, add-one, drop-cons}
+use Rattle.std.proofs.Common.{◌≡◌, ℕ, ◌+◌, ◌<◌, ◌≤◌, Bool, true, false, ◌==◌, ◌&&◌, List, [], ◌∷◌, ◌++◌, length, map, filter, drop, get_or, refl, sym, ap, ◌∙◌, subst, append_assoc, add-one, drop-cons}
 use Rattle.std.proofs.lemmas.Option.{slice_get-get_or}
-use Rattle.std.proofs.lemmas.List.{append-nil, map-append}
+use Rattle.std.proofs.lemmas.List.{append-nil, drop_all, map-append}
 use Rattle.py_lines.specs.LogicalLine.{LogicalLine}
 use Rattle.py_lines.specs.declared.token.Token.{Token}
 use Rattle.py_imports.specs.Statement.{is_comment, significant, is_divider, depth_past, depth_behind, ends_in_divider, may_start_behind, Place, places_from, starts}
 use Rattle.py_imports.specs.Bound.{Bound, bound_at, bound_of}
 use Rattle.py_imports.specs.Grammar.{Imported}
-use Rattle.py_imports.specs.Binds.{BindsAt, BindEach, Refuses}
+use Rattle.py_imports.specs.Binds.{BindsAt, BindEach, Binds, Refuses}
 use Rattle.py_imports.specs.Reading.Items.{StartWith}
 use Rattle.py_imports.specs.Reading.Bindings.{BindsMore, RefusesAt, IsPlaceAt}
 use Rattle.py_imports.specs.declared.binding.Binding.{Binding}
@@ -90,6 +90,26 @@ passes_token line i depth bindings t s within code =
       start = start_behind s.before depth u s.level;
       binds = s.binds;
     }
+
+-- a comment is passed
+pub passes_comment : (line : LogicalLine) (i depth : ℕ) (here : Bool) (bindings : List Binding) (t : Token) → BindsSoFar line i depth here bindings → i < length line.tokens → is_comment (get_or line.tokens i t).kind ≡ true → BindsSoFar line (i + 1) depth here bindings
+passes_comment line i depth here bindings t s within comment =
+    let passed : significant (get_or line.tokens i t ∷ drop (i + 1) line.tokens) ≡ significant (drop (i + 1) line.tokens) = rw comment in
+    record {
+      before = s.before;
+      done = s.done;
+      split = s.split ∙ ap (λ ts. s.done ++ starts_among (places_from s.before ts)) (ap significant (from_token line.tokens i t within) ∙ passed);
+      level = s.level;
+      start = s.start;
+      binds = s.binds;
+    }
+
+-- all tokens were passed
+pub binds_all : (line : LogicalLine) (i depth : ℕ) (here : Bool) (bindings : List Binding) → BindsSoFar line i depth here bindings → length line.tokens ≤ i → Binds line (map bound_of bindings)
+binds_all line i depth here bindings s end =
+    let all = s.split ∙ ap (λ ts. s.done ++ starts_among (places_from s.before (significant ts))) (drop_all i line.tokens end) ∙ append-nil s.done in
+    let Each : List Place → Type 0 = λ ps. BindEach line ps (map bound_of bindings) in
+    subst Each (sym all) s.binds
 
 -- a statement starts at a token, and was bound
 pub passes_start : (line : LogicalLine) (i depth : ℕ) (old new : List Binding) (t : Token) → BindsSoFar line i depth true old → i < length line.tokens → is_comment (get_or line.tokens i t).kind ≡ false → ((p : Place) → IsPlaceAt line.tokens i p → BindsMore line p old new) → BindsSoFar line (i + 1) (depth_past depth (get_or line.tokens i t).kind) (is_divider (get_or line.tokens i t).kind && (depth == 0)) new

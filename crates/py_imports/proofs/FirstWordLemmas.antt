@@ -3,7 +3,6 @@ use Rattle.std.proofs.Common.{◌≡◌, ℕ, Bool, true, false, ◌||◌, Optio
 use Rattle.std.specs.List.{list_any}
 use Rattle.std.specs.Option.{is_some}
 use Rattle.std.specs.Str.{byte, bytes_eq}
-use Rattle.std.specs.Prelude.{MatchOption}
 use Rattle.py_lines.specs.LogicalLine.{LogicalLine}
 use Rattle.py_lines.specs.declared.token.TokKind.{TokKind}
 use Rattle.py_lines.specs.declared.token.TokKind.TheVariants as kind
@@ -12,7 +11,7 @@ use Rattle.py_imports.specs.Statement.{is_comment, significant, may_start_behind
 use Rattle.py_imports.specs.Grammar.{Terminal, import_word, from_word, as_word, name, dot, comma, star, opening, closing, other, terminal_of, begins_import, is_keyword}
 use Rattle.py_imports.specs.Binds.{terminal_in, nothing, BindEach, Binds}
 use Rattle.py_imports.specs.Reading.Bindings.{is_first_word}
-use Rattle.py_imports.specs.Reading.Items.{with_first_word}
+use Rattle.py_imports.specs.Reading.Items.{BeginsForm}
 use Rattle.py_imports.specs.declared.items.Form.{Form}
 use Rattle.py_imports.specs.declared.items.Form.TheVariants as form
 use Rattle.py_imports.proofs.StatementLemmas.{no_import}
@@ -31,7 +30,7 @@ begins_by_first closing ts us = refl
 begins_by_first other ts us = refl
 
 -- whether a token begins an import statement, by the statement that was found
-pub found_word : (kind : TokKind) (word : List ℕ) (form : Option Form) (found : Bool) → found ≡ is_some form → MatchOption form ((ts : List Terminal) → begins_import (terminal_of kind word ∷ ts) ≡ false) (λ f. (ts : List Terminal) → terminal_of kind word ∷ ts ≡ with_first_word f ts) → found ≡ begins_import (terminal_of kind word ∷ [])
+pub found_word : (kind : TokKind) (word : List ℕ) (form : Option Form) (found : Bool) → found ≡ is_some form → BeginsForm (terminal_of kind word) form → found ≡ begins_import (terminal_of kind word ∷ [])
 found_word kind word None found e h = e ∙ sym (h [])
 found_word kind word (Some form.Import) found e h = e ∙ sym (ap begins_import (h []))
 found_word kind word (Some form.From) found e h = e ∙ sym (ap begins_import (h []))

@@ -15,3 +15,4 @@ pub mod ReaderLemmas
 pub mod ActionLemmas
 pub mod ShapeLemmas
 pub mod ShapeRows
+pub mod SortableLemmas

@@ -9,7 +9,7 @@ use Rattle.py_imports.specs.Statement.{significant}
 use Rattle.py_imports.specs.Reading.Lexemes.{followed_by, rest_of, Follows}
 use Rattle.py_imports.specs.declared.lexemes.Lexemes.{Lexemes}
 use Rattle.py_imports.specs.Reading.Parsing.{at_module, at_relative, ItemRead, alias_behind, at_item}
-use Rattle.py_imports.specs.Reading.Items.{imported_of, ListsOf, AreLeftAt, AreLeft, most_left_at, AreSameLists, StartWith, IsFirst, FollowsItem, begins_closing, IsClosing, by_bracket, by_comma, IsOutOfBrackets, FollowsBracketed}
+use Rattle.py_imports.specs.Reading.Items.{imported_of, ListsOf, AreLeftAt, AreLeft, most_left_at, AreSameLists, StartWith, IsFirst, FollowsItem, begins_closing, IsClosing, by_bracket, by_comma, IsOutOfBrackets, FollowsBracketed, ReadsStar, ListsFrom, path_of}
 use Rattle.py_imports.specs.declared.items.ImportItem.{ImportItem}
 use Rattle.py_imports.specs.declared.items.ImportItems.{ImportItems}
 use Rattle.py_imports.specs.declared.items.ModulePath.{ModulePath}
@@ -170,11 +170,11 @@ star_first import ts rest e n = lists_end (AreNames ts) import all (record { is 
     one us w is all_names = refl
 
 -- and no list where something comes after it
-pub star_by : (w : List ℕ) (ts rest : List Terminal) (o : Option ImportItem) (after : ImportItems) → ts ≡ star ∷ rest → MatchOption o (rest ≢ []) (λ i. (rest ≡ []) × (imported_of i ≡ attribute_of w (record { path = codes "*"; alias = None })) × (after.stage ≡ stage.End)) → IsFirst (ListsOf (attribute_of w) (AreNames ts)) o (AreLeft after)
-star_by w ts rest None after e h = no_lists (AreNames ts) (attribute_of w) (star_bad ts rest e h)
-star_by w ts rest (Some i) after e (n, same, end) =
-    let first = star_first (attribute_of w) ts rest e n in
-    subst (λ j. StartWith (ListsOf (attribute_of w) (AreNames ts)) j (AreLeft after)) (sym same) (record { puts = λ is a. first.puts is (subst (λ s. AreLeftAt s (rest_of after.tokens) is) end a); takes = λ is a. let t = first.takes is a in (t.0, t.1, subst (λ s. AreLeftAt s (rest_of after.tokens) t.0) (sym end) t.2) })
+pub star_by : (m : ModulePath) (ts rest : List Terminal) (o : Option ImportItem) (after : ImportItems) → ts ≡ star ∷ rest → ReadsStar m rest o after.stage → IsFirst (ListsFrom m (AreNames ts)) o (AreLeft after)
+star_by m ts rest None after e h = no_lists (AreNames ts) (attribute_of (path_of m)) (star_bad ts rest e h)
+star_by m ts rest (Some i) after e all =
+    let first = star_first (attribute_of (path_of m)) ts rest e all.nothing in
+    subst (λ j. StartWith (ListsFrom m (AreNames ts)) j (AreLeft after)) (sym all.star) (record { puts = λ is a. first.puts is (subst (λ s. AreLeftAt s (rest_of after.tokens) is) all.ended a); takes = λ is a. let t = first.takes is a in (t.0, t.1, subst (λ s. AreLeftAt s (rest_of after.tokens) t.0) (sym all.ended) t.2) })
 
 -- what the names after `from .. import` import, the statement does
 pub same_from : (before behind : List Terminal) (w : List ℕ) → at_relative false before ≡ Some (record { spelled = w; rest = behind }) → AreSameLists (IsImport (from_word ∷ before)) (ListsOf (attribute_of w) (AreNames behind))

@@ -21,15 +21,15 @@ impl Action {
     ghost use Rattle.py_imports.specs.Action.{action_word};
 
     /// The word that asks for the action.
-    fn spelling(self) -> &'static [u8]
+    fn spelling(self) -> &'static str
         ensures { result.now ≡ action_word self }
     {
         match self {
-            Action::SkipFile => b"skip_file",
-            Action::Skip => b"skip",
-            Action::Off => b"off",
-            Action::On => b"on",
-            Action::Split => b"split",
+            Action::SkipFile => "skip_file",
+            Action::Skip => "skip",
+            Action::Off => "off",
+            Action::On => "on",
+            Action::Split => "split",
         }
     }
 }
@@ -52,10 +52,10 @@ fn begins_with_word_byte(text: &[u8]) -> bool
 }
 
 /// Whether the text begins with the phrase, and no byte of a word follows.
-fn begins_with_phrase(text: &[u8], phrase: &[u8]) -> bool
+fn begins_with_phrase(text: &[u8], phrase: &str) -> bool
     ensures { result ≡ begins_with_phrase phrase.now text.now }
 {
-    match text.strip_prefix(phrase) {
+    match text.strip_prefix(phrase.as_bytes()) {
         Some(rest) => !begins_with_word_byte(rest),
         None => false,
     }

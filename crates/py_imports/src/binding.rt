@@ -1,5 +1,5 @@
 //! One name that an import statement binds.
-ghost use Rattle.std.specs.Prelude.{◌≡◌, IfOk, IfErr, string_bytes};
+ghost use Rattle.std.specs.Prelude.{◌≡◌, ◌++◌, codes, OnOk, IfOk, IfErr, string_bytes};
 ghost use Rattle.std.specs.Option.{option_map};
 
 use crate::error::ImportError;
@@ -30,6 +30,14 @@ fn copy_of(text: &Option<String>) -> Result<Option<String>, AllocError>
     }
 }
 
+/// Puts ` as ` and an alias after the text.
+fn push_alias(text: &mut String, alias: &str) -> Result<(), AllocError>
+    ensures { OnOk result (string_bytes text.new ≡ string_bytes text.old ++ (codes " as " ++ alias.now)) }
+{
+    text.push_str(" as ")?;
+    text.push_str(alias)
+}
+
 impl Binding {
     ghost use Rattle.py_imports.specs.Bound.{bound_of};
     ghost use Rattle.py_imports.specs.Spelled.{statement_text};
@@ -40,22 +48,13 @@ impl Binding {
         ensures ok { IfOk result (λ s. string_bytes s ≡ statement_text (bound_of self.now)) }
         ensures err { IfErr result (λ e. e ≡ ImportError.Memory) }
     {
-        let mut text = String::new(alloc);
-        match &self.attribute_name {
-            None => {
-                text.push_str("import ")?;
-                text.push_str(self.module_name.as_str())?;
-            }
-            Some(attribute) => {
-                text.push_str("from ")?;
-                text.push_str(self.module_name.as_str())?;
-                text.push_str(" import ")?;
-                text.push_str(attribute.as_str())?;
-            }
-        }
+        let module = self.module_name.as_str();
+        let mut text = match &self.attribute_name {
+            None => ["import ", module].concat(alloc)?,
+            Some(attribute) => ["from ", module, " import ", attribute.as_str()].concat(alloc)?,
+        };
         if let Some(alias) = &self.alias_name {
-            text.push_str(" as ")?;
-            text.push_str(alias.as_str())?;
+            push_alias(&mut text, alias.as_str())?;
         }
         Ok(text)
     }

@@ -11,7 +11,7 @@ ghost use Rattle.py_imports.specs.Statement.{Place};
 ghost use Rattle.py_imports.specs.Binds.{terminal_in, Binds, Refuses};
 ghost use Rattle.py_imports.specs.Bound.{bound_of, bound_at};
 ghost use Rattle.py_imports.specs.Reading.Items.{imported_of, AreLeft};
-ghost use Rattle.py_imports.specs.Reading.Bindings.{is_first_word, BindsOne, RefusesItems, BindsMore, RefusesAt, IsPlaceAt};
+ghost use Rattle.py_imports.specs.Reading.Bindings.{is_first_word, fault_of, BindsOne, RefusesItems, BindsMoreAt, RefusesAt, IsPlaceAt};
 
 use crate::binding::Binding;
 use crate::error::ImportError;
@@ -75,7 +75,7 @@ fn bind_items(
 /// The fault of a bad statement that starts at `place`.
 fn fault_at(unit: &Unit<'_>, place: usize) -> Fault
     requires { place < length unit.now.tokens.now }
-    ensures { (t : Token) → slice_get unit.now.tokens.now place ≡ Some t → result ≡ record { kind = BadImport; offset = unit.now.offset + t.start; line = t.line } }
+    ensures { (t : Token) → slice_get unit.now.tokens.now place ≡ Some t → result ≡ fault_of unit.now.offset t }
 {
     let token = unit.tokens[place];
     Fault {
@@ -93,7 +93,7 @@ fn bind_statement(
     bindings: &mut Vec<Binding>,
 ) -> Result<(), ImportError>
     requires { place < length unit.now.tokens.now }
-    ensures ok { OnOk result ((p : Place) → IsPlaceAt unit.now.tokens.now place p → BindsMore (line_in unit.now) p bindings.old.items bindings.new.items) }
+    ensures ok { OnOk result (BindsMoreAt (line_in unit.now) place bindings.old.items bindings.new.items) }
     ensures err { IfErr result (λ e. (p : Place) → IsPlaceAt unit.now.tokens.now place p → RefusesAt (line_in unit.now) p e) }
 {
     let token = unit.tokens[place];

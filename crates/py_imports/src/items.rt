@@ -2,8 +2,8 @@
 ghost use Rattle.std.specs.Prelude.{◌≡◌, ◌≢◌, ◌≤◌, ◌-◌, ◌++◌, List, [], ◌∷◌, false, None, length, map, take, drop, codes, string_bytes, OnOk, IfSome, MatchOption};
 ghost use Rattle.py_imports.specs.Statement.{significant};
 ghost use Rattle.py_imports.specs.Binds.{terminal_in};
-ghost use Rattle.py_imports.specs.Reading.Lexemes.{rest_of};
-ghost use Rattle.py_imports.specs.Reading.Items.{with_first_word};
+ghost use Rattle.py_imports.specs.Reading.Lexemes.{rest_of, terminals_between};
+ghost use Rattle.py_imports.specs.Reading.Items.{with_first_word, BeginsForm};
 ghost use Rattle.py_imports.specs.Grammar.{Terminal, from_word, terminal_of, begins_import, modules, identifiers, AreItems, AreBracketed, AreNames, whole_module, attribute_of, IsImport};
 
 use crate::lexeme::Lexeme;
@@ -20,7 +20,7 @@ pub(crate) enum Form {
 
 /// The import statement that a token begins, if it does.
 pub(crate) fn form_of(kind: TokKind, word: &str) -> Option<Form>
-    ensures form { MatchOption result ((ts : List Terminal) → begins_import (terminal_of kind word.now ∷ ts) ≡ false) (λ form. (ts : List Terminal) → terminal_of kind word.now ∷ ts ≡ with_first_word form ts) }
+    ensures form { BeginsForm (terminal_of kind word.now) result }
     ensures name { IfSome result (λ form. kind ≡ TokKind.Name) }
 {
     match kind {
@@ -45,12 +45,13 @@ impl ModulePath<'_> {
     {
         let mut names = self.names;
         'names: loop {
-            match names.next() {
-                Lexeme::Name(name) => text.push_str(name)?,
-                Lexeme::Dot => text.push_str(".")?,
+            let piece = match names.next() {
+                Lexeme::Name(name) => name,
+                Lexeme::Dot => ".",
                 Lexeme::End => return Ok(()),
-                _ => {}
-            }
+                _ => continue,
+            };
+            text.push_str(piece)?;
         }
     }
 }
@@ -92,7 +93,7 @@ fn end_at<'u>(tokens: Lexemes<'u>) -> Option<Stage<'u>>
 }
 
 /// The statement isn't in the import grammar.
-#[derive(Clone, Copy, Debug)]
+#[derive(Clone, Copy)]
 pub(crate) struct BadStatement;
 
 /// The items of an import statement, which are read from left to right. Reading them takes no memory.
@@ -103,14 +104,14 @@ pub(crate) struct ImportItems<'u> {
 }
 
 impl<'u> ImportItems<'u> {
-    ghost use Rattle.py_imports.specs.Reading.Items.{path_of, imported_of, ListsOf, AreLeft, most_left, AreSameLists, IsFirst, IsNext, GetFewer, FollowsItem, FollowsBracketed, TellsWhether};
+    ghost use Rattle.py_imports.specs.Reading.Items.{ReadsStar, ListsFrom, ListsOf, AreLeft, most_left, AreSameLists, IsFirst, IsNext, GetFewer, FollowsItem, FollowsBracketed, TellsWhether};
 
     /// The items of the statement whose first word stands directly before the token at `place`, and which ends before
     /// the token at `end`.
     pub(crate) fn new(unit: &'u Unit<'u>, form: Form, place: usize, end: usize) -> ImportItems<'u>
         requires ordered { place ≤ end }
         requires within { end ≤ length unit.now.tokens.now }
-        ensures { AreSameLists (IsImport (with_first_word form (map (terminal_in unit.now.text.now) (significant (take (end - place) (drop place unit.now.tokens.now)))))) (AreLeft result) }
+        ensures { AreSameLists (IsImport (with_first_word form (terminals_between unit.now place end))) (AreLeft result) }
     {
         let tokens = Lexemes::new(unit, place, end);
         match form {
@@ -182,7 +183,7 @@ impl<'u> ImportItems<'u> {
 
     /// `*` alone, NAME [as NAME], or the same in brackets
     fn first_item(&mut self, from: ModulePath<'u>) -> Option<ImportItem<'u>>
-        ensures item { IsFirst (ListsOf (attribute_of (path_of from.entry)) (AreNames (rest_of self.old.tokens))) result (AreLeft self.new) }
+        ensures item { IsFirst (ListsFrom from.entry (AreNames (rest_of self.old.tokens))) result (AreLeft self.new) }
         ensures fewer { IfSome result (λ _. most_left self.new ≤ length (rest_of self.old.tokens)) }
     {
         let mut after = self.tokens;
@@ -198,7 +199,7 @@ impl<'u> ImportItems<'u> {
 
     /// `*`, where nothing comes after it
     fn star_item(&mut self, from: ModulePath<'u>, after: Lexemes<'u>) -> Option<ImportItem<'u>>
-        ensures item { MatchOption result (rest_of after.entry ≢ []) (λ i. (rest_of after.entry ≡ []) × (imported_of i ≡ attribute_of (path_of from.entry) (record { path = codes "*"; alias = None })) × (self.new.stage ≡ Stage.End)) }
+        ensures item { ReadsStar from.entry (rest_of after.entry) result self.new.stage }
     {
         if !after.is_at_end() {
             return None;
@@ -213,7 +214,7 @@ impl<'u> ImportItems<'u> {
 
     /// NAME [as NAME], and the comma after it, if there is one
     fn name_item(&mut self, from: ModulePath<'u>) -> Option<ImportItem<'u>>
-        ensures item { IsFirst (ListsOf (attribute_of (path_of from.entry)) (AreItems identifiers (rest_of self.old.tokens))) result (AreLeft self.new) }
+        ensures item { IsFirst (ListsFrom from.entry (AreItems identifiers (rest_of self.old.tokens))) result (AreLeft self.new) }
         ensures fewer { IfSome result (λ _. most_left self.new ≤ length (rest_of self.old.tokens)) }
     {
         let (name, alias) = self.tokens.name_with_alias()?;
@@ -227,7 +228,7 @@ impl<'u> ImportItems<'u> {
 
     /// NAME [as NAME] in brackets, and the comma or the closing bracket after it
     fn bracketed_item(&mut self, from: ModulePath<'u>) -> Option<ImportItem<'u>>
-        ensures item { IsFirst (ListsOf (attribute_of (path_of from.entry)) (AreBracketed (rest_of self.old.tokens))) result (AreLeft self.new) }
+        ensures item { IsFirst (ListsFrom from.entry (AreBracketed (rest_of self.old.tokens))) result (AreLeft self.new) }
         ensures fewer { IfSome result (λ _. most_left self.new ≤ length (rest_of self.old.tokens)) }
     {
         let (name, alias) = self.tokens.name_with_alias()?;

@@ -20,13 +20,13 @@ pub(crate) struct Lexemes<'u> {
 }
 
 impl<'u> Lexemes<'u> {
-    ghost use Rattle.py_imports.specs.Reading.Lexemes.{followed_by, rest_of, Follows, names_text, begins_import_word, PassesDots};
+    ghost use Rattle.py_imports.specs.Reading.Lexemes.{followed_by, rest_of, terminals_between, Follows, ReadsPath, ReadsAlias, ReadsName, begins_import_word, PassesDots};
 
     /// The tokens from `place` up to `end`, of which none was read.
     pub(crate) fn new(unit: &'u Unit<'u>, place: usize, end: usize) -> Lexemes<'u>
         requires ordered { place ≤ end }
         requires within { end ≤ length unit.now.tokens.now }
-        ensures { rest_of result ≡ map (terminal_in unit.now.text.now) (significant (take (end - place) (drop place unit.now.tokens.now))) }
+        ensures { rest_of result ≡ terminals_between unit.now place end }
     {
         Lexemes { unit, place, end }
     }
@@ -75,7 +75,7 @@ impl<'u> Lexemes<'u> {
 
     /// Reads a module, and answers its names and dots.
     pub(crate) fn module(&mut self) -> Option<Lexemes<'u>>
-        ensures path { MatchOption result (at_module (rest_of self.old) ≡ None) (λ path. at_module (rest_of self.old) ≡ Some (record { spelled = names_text path; rest = rest_of self.new })) }
+        ensures path { ReadsPath (at_module (rest_of self.old)) result (rest_of self.new) }
         ensures further { Follows self.old self.new }
     {
         let start = *self;
@@ -107,7 +107,7 @@ impl<'u> Lexemes<'u> {
 
     /// Reads a relative module and the word `import` after it, and answers the module's names and dots.
     pub(crate) fn relative_module(&mut self) -> Option<Lexemes<'u>>
-        ensures { MatchOption result (at_relative false (rest_of self.old) ≡ None) (λ path. at_relative false (rest_of self.old) ≡ Some (record { spelled = names_text path; rest = rest_of self.new })) }
+        ensures { ReadsPath (at_relative false (rest_of self.old)) result (rest_of self.new) }
     {
         let start = *self;
         let dotted = self.pass_dots();
@@ -123,7 +123,7 @@ impl<'u> Lexemes<'u> {
 
     /// Reads the name after `as`, if that is what follows. There is no answer where no name comes after it.
     pub(crate) fn alias(&mut self) -> Option<Option<&'u str>>
-        ensures { MatchOption result ((path : List ℕ) → alias_behind path (rest_of self.old) ≡ None) (λ alias. (path : List ℕ) → alias_behind path (rest_of self.old) ≡ Some (record { item = record { path = path; alias = option_map (λ a. a.now) alias }; rest = rest_of self.new })) }
+        ensures { ReadsAlias (rest_of self.old) result (rest_of self.new) }
     {
         let mut after = *self;
         let Lexeme::As = after.next() else {
@@ -138,7 +138,7 @@ impl<'u> Lexemes<'u> {
 
     /// Reads NAME [as NAME].
     pub(crate) fn name_with_alias(&mut self) -> Option<(&'u str, Option<&'u str>)>
-        ensures { MatchOption result (at_item identifiers (rest_of self.old) ≡ None) (λ r. at_item identifiers (rest_of self.old) ≡ Some (record { item = record { path = r.0.now; alias = option_map (λ a. a.now) r.1 }; rest = rest_of self.new })) }
+        ensures { ReadsName (rest_of self.old) result (rest_of self.new) }
     {
         let Lexeme::Name(name) = self.next() else {
             return None;

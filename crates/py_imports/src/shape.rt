@@ -5,7 +5,7 @@ ghost use Rattle.py_lines.specs.Lines.{line_in};
 ghost use Rattle.py_lines.specs.declared.token.Token.{Token};
 ghost use Rattle.py_imports.specs.Statement.{is_comment, significant, places_from, is_end};
 ghost use Rattle.py_imports.specs.Shape.{mark_len, begins_so, is_parenthesis, stands_well, says_skip, IsSortable, HasShape};
-ghost use Rattle.py_imports.specs.Reading.Places.{BeginsAt};
+ghost use Rattle.py_imports.specs.Reading.Places.{BeginsAt, begins_line};
 
 use crate::action::{Action, says};
 use crate::items::{Form, ImportItems, form_of};
@@ -105,7 +105,7 @@ fn says_skip(unit: &Unit<'_>) -> bool
 /// Whether the token at `place` stands directly after mark and indentation.
 fn stands_first(unit: &Unit<'_>, place: usize) -> bool
     requires { place < length unit.now.tokens.now }
-    ensures { (t : Token) → slice_get unit.now.tokens.now place ≡ Some t → result ≡ (t.start == mark_len (line_in unit.now) + unit.now.indent) }
+    ensures { (t : Token) → slice_get unit.now.tokens.now place ≡ Some t → result ≡ begins_line (line_in unit.now) t }
 {
     let start = unit.tokens[place].start;
     let mark = mark_len(unit);

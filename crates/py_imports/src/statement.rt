@@ -3,7 +3,7 @@
 ghost use Rattle.std.specs.Prelude.{◌≡◌, ◌==◌, ◌&&◌, ◌≤◌, ◌<◌, ◌+◌, ◌-◌, ◌^◌, Some, true, length, take, drop, slice_get};
 ghost use Rattle.py_lines.specs.declared.token.Token.{Token};
 ghost use Rattle.py_imports.specs.Statement.{is_semicolon, is_divider, depth_past, significant};
-ghost use Rattle.py_imports.specs.Reading.Parsing.{up_to_semicolon};
+ghost use Rattle.py_imports.specs.Reading.Parsing.{IsStatementBetween};
 
 use py_lines::{TokKind, Token};
 
@@ -40,7 +40,7 @@ pub(crate) fn statement_end(tokens: &[Token], start: usize) -> usize
     requires { start ≤ length tokens.now }
     ensures from { start ≤ result }
     ensures within { result ≤ length tokens.now }
-    ensures tokens { significant (take (result - start) (drop start tokens.now)) ≡ up_to_semicolon 0 (significant (drop start tokens.now)) }
+    ensures tokens { IsStatementBetween tokens.now start result }
     ensures semicolon { (t : Token) → slice_get tokens.now result ≡ Some t → is_semicolon t.kind ≡ true }
 {
     let mut depth: usize = 0;

@@ -28,17 +28,25 @@ abbrev pub RefusesItems : (List Imported → Type 0) → Fault → ImportError �
 RefusesItems Are fault error.Memory = Unit {0}
 RefusesItems Are fault (error.Fault other) = (other ≡ fault) × ((is : List Imported) → ¬ (Are is))
 
+-- the place of a token in a list, up to what stands before it
+abbrev pub IsPlaceAt : List Token → ℕ → Place → Type 0
+IsPlaceAt tokens i p = (slice_get tokens i ≡ Some p.token) × (p.behind ≡ significant (drop (i + 1) tokens))
+
+-- the fault of a bad statement that starts with this token, in a line that begins at this byte of the text
+abbrev pub fault_of : ℕ → Token → Fault
+fault_of offset t = record { kind = BadImport; offset = offset + t.start; line = t.line }
+
 -- what the statement that starts here binds was put after others
 pub record BindsMore (line : LogicalLine) (p : Place) (old new : List Binding) : Type 0 where
   pub bounds : List Bound
   pub binds : BindsAt line p bounds
   pub adds : map bound_of new ≡ map bound_of old ++ bounds
 
+-- the same of the statement that starts with the token at this place
+abbrev pub BindsMoreAt : LogicalLine → ℕ → List Binding → List Binding → Type 0
+BindsMoreAt line i old new = (p : Place) → IsPlaceAt line.tokens i p → BindsMore line p old new
+
 -- why the statement that starts here wasn't bound
 abbrev pub RefusesAt : LogicalLine → Place → ImportError → Type 0
 RefusesAt line p error.Memory = Unit {0}
-RefusesAt line p (error.Fault fault) = IsBadStart line p × (fault ≡ record { kind = BadImport; offset = line.offset + p.token.start; line = p.token.line })
-
--- the place of a token in a list, up to what stands before it
-abbrev pub IsPlaceAt : List Token → ℕ → Place → Type 0
-IsPlaceAt tokens i p = (slice_get tokens i ≡ Some p.token) × (p.behind ≡ significant (drop (i + 1) tokens))
+RefusesAt line p (error.Fault fault) = IsBadStart line p × (fault ≡ fault_of line.offset p.token)

@@ -1,7 +1,7 @@
 -- What is left of the items of an import statement, as its reader goes on.
-use Rattle.std.specs.Prelude.{◌≡◌, ℕ, suc, ◌<◌, Bool, true, false, Option, None, Some, Result, Ok, Err, List, [], ◌∷◌, length, map, ◌⊎◌}
+use Rattle.std.specs.Prelude.{◌≡◌, ◌≢◌, ℕ, suc, ◌<◌, Bool, true, false, Option, None, Some, Result, Ok, Err, List, [], ◌∷◌, length, map, codes, ◌⊎◌}
 use Rattle.std.specs.Option.{option_map}
-use Rattle.py_imports.specs.Grammar.{Terminal, import_word, from_word, comma, closing, modules, identifiers, Item, AreItems, AreBracketed, whole_module, attribute_of, Imported, IsImport}
+use Rattle.py_imports.specs.Grammar.{Terminal, import_word, from_word, comma, closing, begins_import, modules, identifiers, Item, AreItems, AreBracketed, whole_module, attribute_of, Imported, IsImport}
 use Rattle.py_imports.specs.Reading.Lexemes.{rest_of, names_text}
 use Rattle.py_imports.specs.declared.items.BadStatement.{BadStatement}
 use Rattle.py_imports.specs.declared.items.Form.{Form}
@@ -17,6 +17,11 @@ abbrev pub with_first_word : Form → List Terminal → List Terminal
 with_first_word form.Import ts = import_word ∷ ts
 with_first_word form.From ts = from_word ∷ ts
 
+-- the terminal begins an import statement of this form, or none
+abbrev pub BeginsForm : Terminal → Option Form → Type 0
+BeginsForm t None = (ts : List Terminal) → begins_import (t ∷ ts) ≡ false
+BeginsForm t (Some f) = (ts : List Terminal) → t ∷ ts ≡ with_first_word f ts
+
 -- how a module is spelled
 abbrev pub path_of : ModulePath → List ℕ
 path_of m = names_text m.names
@@ -29,12 +34,16 @@ imported_of i = record { module_name = path_of i.module; attribute_name = option
 abbrev pub ListsOf : (Item → Imported) → (List Item → Type 0) → List Imported → Type 0
 ListsOf import Are is = (items : List Item) × Are items × (is ≡ map import items)
 
+-- what is imported from this module by the names of some such list
+abbrev pub ListsFrom : ModulePath → (List Item → Type 0) → List Imported → Type 0
+ListsFrom m Are is = ListsOf (attribute_of (path_of m)) Are is
+
 -- what the terminals that are left import at this stage
 abbrev pub AreLeftAt : Stage → List Terminal → List Imported → Type 0
 AreLeftAt stage.Modules ts is = ListsOf whole_module (AreItems modules ts) is
 AreLeftAt stage.From ts is = IsImport (from_word ∷ ts) is
-AreLeftAt (stage.Names m) ts is = ListsOf (attribute_of (path_of m)) (AreItems identifiers ts) is
-AreLeftAt (stage.Bracketed m) ts is = ListsOf (attribute_of (path_of m)) (AreBracketed ts) is
+AreLeftAt (stage.Names m) ts is = ListsFrom m (AreItems identifiers ts) is
+AreLeftAt (stage.Bracketed m) ts is = ListsFrom m (AreBracketed ts) is
 AreLeftAt stage.End ts is = is ≡ []
 
 -- what is left to be read
@@ -66,6 +75,17 @@ pub record StartWith (Before : List Imported → Type 0) (i : Imported) (After :
 abbrev pub IsFirst : (List Imported → Type 0) → Option ImportItem → (List Imported → Type 0) → Type 0
 IsFirst Before None After = (is : List Imported) → ¬ (Before is)
 IsFirst Before (Some i) After = StartWith Before (imported_of i) After
+
+-- all names of this module are imported by a `*`, behind which nothing is left
+pub record ImportsAll (m : ModulePath) (i : ImportItem) (behind : List Terminal) (next : Stage) : Type 0 where
+  pub nothing : behind ≡ []
+  pub star : imported_of i ≡ attribute_of (path_of m) (record { path = codes "*"; alias = None })
+  pub ended : next ≡ stage.End
+
+-- a `*` was read with what it imports; there is no answer where something is left behind it
+abbrev pub ReadsStar : ModulePath → List Terminal → Option ImportItem → Stage → Type 0
+ReadsStar m behind None next = behind ≢ []
+ReadsStar m behind (Some i) next = ImportsAll m i behind next
 
 -- an item is next, no item is left, or there is no list
 abbrev pub IsNext : (List Imported → Type 0) → Result (Option ImportItem) BadStatement → (List Imported → Type 0) → Type 0

@@ -1,10 +1,12 @@
 -- What a reader of lexemes has before it.
-use Rattle.std.specs.Prelude.{◌≡◌, ℕ, ◌≤◌, ◌-◌, Bool, true, false, List, [], ◌∷◌, map, take, drop}
+use denote.Bor.{Bor}
+use Rattle.std.specs.Prelude.{◌≡◌, ℕ, ◌≤◌, ◌-◌, Bool, true, false, Option, None, Some, List, [], ◌∷◌, map, take, drop}
 use Rattle.std.specs.Option.{option_map}
 use Rattle.py_imports.specs.Binds.{terminal_in}
-use Rattle.py_imports.specs.Grammar.{Terminal, import_word, from_word, as_word, name, dot, comma, star, opening, closing, other, spelling}
-use Rattle.py_imports.specs.Reading.Parsing.{spelled_before, at_relative}
+use Rattle.py_imports.specs.Grammar.{Terminal, import_word, from_word, as_word, name, dot, comma, star, opening, closing, other, spelling, identifiers}
+use Rattle.py_imports.specs.Reading.Parsing.{Read, spelled_before, at_relative, alias_behind, at_item}
 use Rattle.py_imports.specs.Statement.{significant}
+use Rattle.py_lines.specs.declared.unit.Unit.{Unit}
 use Rattle.py_imports.specs.declared.lexeme.Lexeme.{Lexeme}
 use Rattle.py_imports.specs.declared.lexeme.Lexeme.TheVariants as lexeme
 use Rattle.py_imports.specs.declared.lexemes.Lexemes.{Lexemes}
@@ -23,9 +25,13 @@ followed_by lexeme.Closing ts = closing ∷ ts
 followed_by lexeme.Other ts = other ∷ ts
 followed_by lexeme.End ts = []
 
+-- the terminals of a logical line's tokens from one place up to another
+abbrev pub terminals_between : Unit → ℕ → ℕ → List Terminal
+terminals_between unit place end = map (terminal_in unit.text.now) (significant (take (end - place) (drop place unit.tokens.now)))
+
 -- what hasn't been read
 abbrev pub rest_of : Lexemes → List Terminal
-rest_of s = map (terminal_in s.unit.now.text.now) (significant (take (s.end - s.place) (drop s.place s.unit.now.tokens.now)))
+rest_of s = terminals_between s.unit.now s.place s.end
 
 -- the second reads the same tokens as the first, and stands at the same place or further on
 pub record Follows (before after : Lexemes) : Type 0 where
@@ -36,6 +42,23 @@ pub record Follows (before after : Lexemes) : Type 0 where
 -- how the names and dots are spelled that are left
 abbrev pub names_text : Lexemes → List ℕ
 names_text s = spelling (rest_of s)
+
+-- what stands here was read: names and dots, with what follows them; or there are none here, and there is no answer
+abbrev pub ReadsPath : Option Read → Option Lexemes → List Terminal → Type 0
+ReadsPath here None after = here ≡ None
+ReadsPath here (Some path) after = here ≡ Some (record { spelled = names_text path; rest = after })
+
+-- the alias that stands behind a path was read, if there is one; there is no answer where none may be read
+abbrev pub ReadsAlias : List Terminal → Option (Option (Bor (List ℕ))) → List Terminal → Type 0
+ReadsAlias before None after = (path : List ℕ) → alias_behind path before ≡ None
+ReadsAlias before (Some alias) after =
+    (path : List ℕ) → alias_behind path before ≡ Some (record { item = record { path = path; alias = option_map (λ a. a.now) alias }; rest = after })
+
+-- an identifier with its alias was read; there is no answer where none stands here
+abbrev pub ReadsName : List Terminal → Option (Bor (List ℕ) × Option (Bor (List ℕ))) → List Terminal → Type 0
+ReadsName before None after = at_item identifiers before ≡ None
+ReadsName before (Some r) after =
+    at_item identifiers before ≡ Some (record { item = record { path = r.0.now; alias = option_map (λ a. a.now) r.1 }; rest = after })
 
 -- whether a dot is next
 abbrev pub begins_dot : List Terminal → Bool

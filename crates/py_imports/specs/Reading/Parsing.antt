@@ -1,9 +1,9 @@
 -- How an import statement is read from left to right. What these functions compute is shown to be the grammar's.
-use Rattle.std.specs.Prelude.{ℕ, Bool, true, ◌==◌, ◌&&◌, Option, None, Some, option_and_then, List, [], ◌∷◌, ◌++◌, if◌then◌else◌}
+use Rattle.std.specs.Prelude.{◌≡◌, ℕ, ◌-◌, take, drop, Bool, true, ◌==◌, ◌&&◌, Option, None, Some, option_and_then, List, [], ◌∷◌, ◌++◌, if◌then◌else◌}
 use Rattle.std.specs.Option.{option_map}
 use Rattle.std.specs.Str.{byte}
 use Rattle.py_lines.specs.declared.token.Token.{Token}
-use Rattle.py_imports.specs.Statement.{is_semicolon, depth_past}
+use Rattle.py_imports.specs.Statement.{is_semicolon, depth_past, significant}
 use Rattle.py_imports.specs.Grammar.{Terminal, import_word, as_word, name, dot, Listed, modules, identifiers, Item}
 
 -- what was read, and what follows it
@@ -68,3 +68,7 @@ at_item k ts = option_and_then (λ r. alias_behind r.spelled r.rest) (at_path k 
 abbrev pub up_to_semicolon : ℕ → List Token → List Token
 up_to_semicolon depth [] = []
 up_to_semicolon depth (t ∷ ts) = if is_semicolon t.kind && (depth == 0) then [] else t ∷ up_to_semicolon (depth_past depth t.kind) ts
+
+-- the tokens from one place up to another are those up to the next `;` at depth 0, or all
+abbrev pub IsStatementBetween : List Token → ℕ → ℕ → Type 0
+IsStatementBetween tokens start end = significant (take (end - start) (drop start tokens)) ≡ up_to_semicolon 0 (significant (drop start tokens))

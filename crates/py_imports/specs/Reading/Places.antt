@@ -1,11 +1,11 @@
 -- What is known of a line's first token that is no comment.
-use Rattle.std.specs.Prelude.{◌≡◌, ℕ, ◌+◌, Some, List, ◌∷◌, map, drop, slice_get}
+use Rattle.std.specs.Prelude.{◌≡◌, ℕ, ◌+◌, ◌==◌, Bool, Some, List, ◌∷◌, map, drop, slice_get}
 use Rattle.py_lines.specs.LogicalLine.{LogicalLine}
 use Rattle.py_lines.specs.declared.token.Token.{Token}
 use Rattle.py_lines.specs.declared.unit.UnitKind.TheVariants as unit_kind
 use Rattle.py_imports.specs.Binds.{terminal_in}
 use Rattle.py_imports.specs.Reading.Items.{with_first_word}
-use Rattle.py_imports.specs.Shape.{terminals_of}
+use Rattle.py_imports.specs.Shape.{terminals_of, mark_len}
 use Rattle.py_imports.specs.Statement.{significant}
 use Rattle.py_imports.specs.declared.items.Form.{Form}
 
@@ -20,3 +20,7 @@ pub record BeginsAt (line : LogicalLine) (place : ℕ) (form : Form) : Type 0 wh
   pub code : line.kind ≡ unit_kind.Code
   pub first : IsFirstCode line.tokens place
   pub begins : terminals_of line ≡ with_first_word form (map (terminal_in line.text) (significant (drop (place + 1) line.tokens)))
+
+-- whether a token begins directly after mark and indentation
+abbrev pub begins_line : LogicalLine → Token → Bool
+begins_line line t = t.start == mark_len line + line.indent

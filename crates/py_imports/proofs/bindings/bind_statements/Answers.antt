@@ -3,7 +3,7 @@ use Rattle.std.proofs.lemmas.Result.{err_from_is_err_and}
 use Rattle.py_lines.specs.Lines.{line_in}
 use Rattle.py_lines.specs.declared.token.TokKind.TheVariants as kind
 use Rattle.py_imports.proofs.EndLemmas.{shallow_after}
-use Rattle.py_imports.proofs.BindingLemmas.{BindsSoFar, binds_nothing, passes_token, passes_start, refuses_start, same_so_far}
+use Rattle.py_imports.proofs.BindingLemmas.{BindsSoFar, binds_nothing, binds_all, passes_comment, passes_token, passes_start, refuses_start, same_so_far}
 use Rattle.py_imports.proofs.bindings.bind_statements.Goals as goal
 use Rattle.py_imports.proofs.bindings.bind_statements.Goals.{then-starts+in_ok-bind_statement, else-starts}
 
@@ -28,3 +28,12 @@ tokens-preserved c = record {
         same_so_far (line_in c.args.unit.now) (c.tokens.place + 1) _ _ _ _ _ _ (passes_token (line_in c.args.unit.now) c.tokens.place c.tokens.depth c.tokens.bindings.items (record { kind = kind.Name; start = 0; stop = 0; line = 0 }) s c.tokens-test.true (sym c.if-is_comment.ensures)) c.depth_past-depth.ensures c.divides-starts.ensures (ap (λ v. v.items) w.bindings-is)
   ];
 }
+
+pub tokens-preserved-then-is_comment : goal.tokens-preserved-then-is_comment
+tokens-preserved-then-is_comment c = record {
+  shallow = omega arith;
+  so_far = passes_comment (line_in c.args.unit.now) c.tokens.place c.tokens.depth c.tokens.starts c.tokens.bindings.items (record { kind = kind.Name; start = 0; stop = 0; line = 0 }) c.tokens.invariant.so_far c.tokens-test.true (sym c.if-is_comment.ensures);
+}
+
+pub returns-clause-ok : goal.returns-clause-ok
+returns-clause-ok c = binds_all (line_in c.args.unit.now) c.tokens.place c.tokens.depth c.tokens.starts c.tokens.bindings.items c.tokens.invariant.so_far c.tokens-test.false

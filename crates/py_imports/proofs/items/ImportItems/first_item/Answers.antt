@@ -7,7 +7,7 @@ use Rattle.py_imports.proofs.ReaderLemmas.{first_of_same, same_in_brackets, same
 use Rattle.py_imports.proofs.items.ImportItems.first_item.Goals as goal
 
 pub returns-in-Star-clause-item : goal.returns-in-Star-clause-item
-returns-in-Star-clause-item c = star_by (path_of c.args.from) (rest_of c.args.self.now.tokens) (rest_of c.next.new.self) c.star_item.result c.star_item.new.self c.in-Star.ensures.lexeme c.star_item.ensures.item
+returns-in-Star-clause-item c = star_by c.args.from (rest_of c.args.self.now.tokens) (rest_of c.next.new.self) c.star_item.result c.star_item.new.self c.in-Star.ensures.lexeme c.star_item.ensures.item
 
 pub returns-in-Opening-clause-item : goal.returns-in-Opening-clause-item
 returns-in-Opening-clause-item c = first_of_same _ _ _ _ (same_in_brackets (attribute_of (path_of c.args.from)) (rest_of c.args.self.now.tokens) (rest_of c.next.new.self) c.in-Opening.ensures.lexeme) c.bracketed_item.ensures.item
