@@ -1,4 +1,4 @@
-"""The calls have the names, parameters and defaults of isort 5.13, in its order."""
+"""The calls have the names, parameters and defaults of isort 5, in its order."""
 
 import inspect
 import unittest
