@@ -1,5 +1,5 @@
 -- What reading a text whole says, and what a run says that reads one first.
-use Rattle.std.proofs.Common.{◌≡◌, ◌≢◌, ℕ, ◌<◌, ◌≤◌, ◌∙◌, refl, sym, ap, subst, Bool, Option, None, Some, IfSome, Result, Ok, Err, IfOk, IfErr, List, [], ◌++◌, length, take, append-nil}
+use Rattle.std.proofs.Common.{◌≡◌, ◌≢◌, ℕ, ◌≤◌, ◌∙◌, refl, sym, ap, subst, Bool, Option, None, Some, IfSome, Result, Ok, Err, IfOk, IfErr, List, ◌++◌, length, take, append-nil}
 use Rattle.std.proofs.KnownBytes.{Consumes-trans, Keeps-refl}
 use Rattle.std.specs.Io.KnownBytes.{Consumes, IsAtEnd, Keeps}
 use Rattle.py_lines.specs.declared.fault.Fault.{Fault}

@@ -1,16 +1,16 @@
 -- What is listed of pieces that are read and fed, one after the other.
-use Rattle.std.proofs.Common.{◌≡◌, ℕ, ◌+◌, ◌-◌, ◌<◌, ◌≤◌, ◌∙◌, refl, sym, ap, subst, Bool, true, false, Option, None, Some, IfSome, Result, Ok, Err, List, [], ◌++◌, length, min, take, length-append, arith, nat_lt, ltb-true, ltb-false}
+use Rattle.std.proofs.Common.{◌≡◌, ℕ, ◌+◌, ◌-◌, ◌<◌, ◌≤◌, ◌∙◌, refl, sym, ap, subst, Bool, true, false, Option, None, Some, IfSome, Err, List, [], ◌++◌, length, min, take, length-append, arith, nat_lt, ltb-true, ltb-false}
 use Rattle.std.proofs.Math.Seq.{take-append-add}
 use Rattle.std.proofs.lemmas.List.{append-nil, length-take-le, take-take, take_all}
 use Rattle.std.proofs.KnownBytes.{Consumes-trans, Consumes-kept}
-use Rattle.std.specs.Io.KnownBytes.{Consumes, IsAtEnd, Keeps}
+use Rattle.std.specs.Io.KnownBytes.{Consumes, Keeps}
 use Rattle.isort_find.specs.Pieces.{PieceFinding, fed_by, options_for}
 use Rattle.isort_find.specs.declared.options.FindOptions.{FindOptions}
 use Rattle.isort_sort.specs.declared.metered.Last.{Last}
 use Rattle.isort_sort.specs.declared.metered.Last.TheVariants as last
 use Rattle.isort_cmd.specs.RunError.{LeavesReader, LeavesWriter}
-use Rattle.isort_cmd.specs.Stages.{Stage, ListsPiece, StopsInPiece, StopsInput, TakesAll, TakesInput}
-use Rattle.isort_cmd.specs.Steps.{IsOutputError, IsReadError, HasListed, LeavesPiece, ListsRead, LeavesKnown}
+use Rattle.isort_cmd.specs.Stages.{Stage, StopsInPiece, StopsInput, TakesAll, TakesInput}
+use Rattle.isort_cmd.specs.Steps.{IsOutputError, IsReadError, HasListed, LeavesPiece, LeavesKnown}
 use Rattle.isort_cmd.specs.Written.{AreFed}
 use Rattle.isort_cmd.specs.declared.error.RunError.{RunError}
 use Rattle.isort_cmd.specs.declared.error.RunError.TheVariants as run

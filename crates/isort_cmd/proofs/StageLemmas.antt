@@ -1,5 +1,5 @@
 -- What listing all that is ready leaves.
-use Rattle.std.proofs.Common.{◌≡◌, ℕ, Bool, true, false, Option, None, Some, Result, Ok, Err, List, refl, sym, ◌∙◌, subst}
+use Rattle.std.proofs.Common.{◌≡◌, ℕ, Bool, true, false, Option, None, Ok, Err, List, refl, sym, ◌∙◌, subst}
 use Rattle.std.specs.Io.KnownBytes.{Appends}
 use Rattle.py_lines.specs.declared.fault.Fault.{Fault}
 use Rattle.py_imports.specs.Bound.{Bound}
@@ -18,7 +18,7 @@ use Rattle.isort_cmd.specs.Printed.{line_text}
 use Rattle.isort_cmd.specs.RunError.{run_error_of}
 use Rattle.isort_cmd.specs.Stages.{Stage, GoesOn, ListsOne, ListsAll, ListsNext, StopsReady, EndsListing, StopsAtEnd}
 use Rattle.isort_cmd.specs.Steps.{IsListed, IsOutputError, LeavesReady}
-use Rattle.isort_cmd.specs.Written.{Lists, ListsFront}
+use Rattle.isort_cmd.specs.Written.{Lists}
 use Rattle.isort_cmd.specs.declared.error.RunError.{RunError}
 use Rattle.isort_cmd.specs.declared.error.RunError.TheVariants as run
 use Rattle.isort_cmd.proofs.EndLemmas.{ends_listed, leaves_at_end, leaves_ready, still_ended}
