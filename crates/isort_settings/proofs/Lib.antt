@@ -10,3 +10,4 @@ pub mod Prefixes
 pub mod Readings
 pub mod Table
 pub mod Texts
+pub mod Entries

@@ -4,7 +4,10 @@ use Rattle.toml.specs.Data.{Data}
 use Rattle.isort_settings.specs.declared.error.SettingsError.{SettingsError}
 use Rattle.isort_settings.specs.declared.error.SettingsError.TheVariants.{Memory}
 use Rattle.isort_settings.specs.declared.key.SettingKey.{SettingKey}
+use Rattle.isort_settings.specs.declared.limits.TheConstants.{LINE_LENGTH, MODES, GRID_WRAP, SECTION_GAP, TYPE_GAP, END_GAP}
+use Rattle.isort_settings.specs.declared.settings.Settings.{Settings}
 use Rattle.isort_settings.specs.Keys.{Meaning, row_of}
+use Rattle.isort_settings.specs.Limits.{IsWithin, IsWithinSigned}
 use Rattle.isort_settings.specs.Reading.{read_value}
 use Rattle.isort_settings.specs.Values.{Values}
 use Rattle.isort_settings.specs.Values.OneKey.{with_value}
@@ -29,6 +32,27 @@ abbrev pub Takes : SettingKey → Data → Result (Unit {0}) SettingsError → V
 Takes k d answer old new = record {
   ok : OnOk answer (IsOkAnd (read_value (row_of k).kind k d) (λ x. new ≡ with_value k x old));
   refused : IfErr answer (λ e. e ≢ Memory → read_value (row_of k).kind k d ≡ Err e);
+}
+
+-- the numbers of settings are in their ranges
+abbrev pub AreInRanges : Settings → Type 0
+AreInRanges s = record {
+  line_length_in_range : IsWithin LINE_LENGTH s.line_length;
+  mode_in_range : IsWithin MODES s.multi_line_output;
+  grid_wrap_in_range : IsWithin GRID_WRAP s.force_grid_wrap;
+  section_gap_in_range : IsWithin SECTION_GAP s.lines_between_sections;
+  type_gap_in_range : IsWithin TYPE_GAP s.lines_between_types;
+  end_gap_in_range : IsWithinSigned END_GAP s.lines_after_imports;
+}
+
+pub in_ranges : (s : Settings) → AreInRanges s
+in_ranges s = record {
+  line_length_in_range = s.line_length_in_range;
+  mode_in_range = s.mode_in_range;
+  grid_wrap_in_range = s.grid_wrap_in_range;
+  section_gap_in_range = s.section_gap_in_range;
+  type_gap_in_range = s.type_gap_in_range;
+  end_gap_in_range = s.end_gap_in_range;
 }
 
 -- what was put in a field's place is what the key says, or its refusal

@@ -13,7 +13,7 @@ use std::cmp::Ordering;
 
 /// The class of a name, in the order in which classes are sorted.
 #[derive(Clone, Copy, PartialEq, Eq, PartialOrd, Ord)]
-pub enum NameClass {
+enum NameClass {
     Constant,
     Class,
     Other,
@@ -21,7 +21,7 @@ pub enum NameClass {
 
 impl NameClass {
     /// The class of the name.
-    pub fn of(name: &[u8]) -> NameClass
+    fn of(name: &[u8]) -> NameClass
         ensures { place_of result ≡ class_place name.now }
     {
         if is_constant(name) {
@@ -32,6 +32,13 @@ impl NameClass {
             NameClass::Other
         }
     }
+}
+
+/// The order of two names by their classes alone.
+pub fn class_cmp(a: &[u8], b: &[u8]) -> Ordering
+    ensures { result ≡ nat_cmp (class_place a.now) (class_place b.now) }
+{
+    NameClass::of(a).cmp(&NameClass::of(b))
 }
 
 /// Whether the name is a constant: two or more characters, an ASCII capital among them and no small ASCII letter.

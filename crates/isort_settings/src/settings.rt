@@ -7,7 +7,7 @@ ghost use Rattle.isort_settings.specs.declared.limits.TheConstants.{LINE_LENGTH,
 use crate::error::SettingsError;
 use crate::key::SettingKey as Key;
 use crate::limits::{END_GAP, GRID_WRAP, LINE_LENGTH, MODES, SECTION_GAP, TYPE_GAP};
-use crate::order::{NameClass, natural_cmp, split_dots};
+use crate::order::{class_cmp, natural_cmp, split_dots};
 use crate::profile::Profile;
 use crate::section::Section;
 use crate::value::KeyValue;
@@ -146,8 +146,8 @@ impl Settings {
             return Ok((Settings::of_profile(alloc, profile)?, Vec::new(alloc)));
         };
         let profile = pyproject::chosen_profile(profile, table)?;
-        let settings = Settings::from_table(alloc, table, profile)?;
         let unknown = pyproject::unknown_keys(alloc, table)?;
+        let settings = Settings::from_table(alloc, table, profile)?;
         Ok((settings, unknown))
     }
 
@@ -301,12 +301,11 @@ impl Settings {
     {
         let a = a.as_bytes();
         let b = b.as_bytes();
-        let by_class = if self.order_by_type {
-            NameClass::of(a).cmp(&NameClass::of(b))
+        if self.order_by_type {
+            class_cmp(a, b).then_with(|| natural_cmp(a, b, self.case_sensitive))
         } else {
-            Ordering::Equal
-        };
-        by_class.then_with(|| natural_cmp(a, b, self.case_sensitive))
+            natural_cmp(a, b, self.case_sensitive)
+        }
     }
 
     /// The section of the first list that holds the prefix.

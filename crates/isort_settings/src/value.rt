@@ -3,7 +3,7 @@ ghost use Rattle.std.specs.Prelude.{◌≡◌, ◌≢◌, IfOk, IfErr, Ok, Err, 
 ghost use Rattle.std.specs.List.{list_any};
 ghost use Rattle.toml.specs.View.{view};
 ghost use Rattle.isort_settings.specs.Keys.{count, whole, wrap_mode, flag, section, texts};
-ghost use Rattle.isort_settings.specs.Reading.{is_wildcard, entry_of, count_within, read_value};
+ghost use Rattle.isort_settings.specs.Reading.{is_wildcard, entry_of, count_within, whole_within, read_value};
 
 use crate::error::SettingsError;
 use crate::key::SettingKey;
@@ -16,7 +16,20 @@ use toml::Value;
 fn within(n: i64, limits: Limits<u32>) -> Option<u32>
     ensures { result ≡ count_within limits.least limits.most n }
 {
-    u32::try_from(n).ok().filter(|n| limits.contain(*n))
+    match u32::try_from(n) {
+        Ok(n) if limits.contain(n) => Some(n),
+        _ => None,
+    }
+}
+
+/// The whole number of either sign, if it is within the limits.
+fn within_signed(n: i64, limits: Limits<i32>) -> Option<i32>
+    ensures { result ≡ whole_within limits.least limits.most n }
+{
+    match i32::try_from(n) {
+        Ok(n) if limits.contain_signed(n) => Some(n),
+        _ => None,
+    }
 }
 
 /// Whether a text holds `*` or `?`.
@@ -57,10 +70,10 @@ impl KeyValue<'_> {
         ensures { result
             ≡ read_value (whole limits.least limits.most) self.entry.key (view self.entry.value.now) }
     {
-        match self.value.as_integer().map(i32::try_from) {
-            Some(Ok(n)) if limits.contain_signed(n) => Ok(n),
-            _ => Err(SettingsError::BadValue(self.key)),
-        }
+        self.value
+            .as_integer()
+            .and_then(|n| within_signed(n, limits))
+            .ok_or(SettingsError::BadValue(self.key))
     }
 
     /// A wrap mode.

@@ -1,7 +1,7 @@
 -- In each arm the reader of the key's kind has answered, and its answer was put in the key's place.
 use Rattle.std.proofs.Common.{refl, inl, inr, map, string_bytes}
 use Rattle.isort_settings.specs.declared.key.SettingKey.TheVariants as key
-use Rattle.isort_settings.proofs.Readings.{taken, took, took_shown}
+use Rattle.isort_settings.proofs.Readings.{taken, took, took_shown, in_ranges}
 use Rattle.isort_settings.proofs.settings.Settings.take_value.Goals as goal
 
 pub returns-in-CaseSensitive : goal.returns-in-CaseSensitive
@@ -76,3 +76,49 @@ returns-in-Tool c =
         | inr profile ↦ record { ok = taken _ key.Profile _ _ _ tt profile refl refl; refused = tt }
       ]
     ]
+
+-- where no number was changed, the numbers are still in their ranges
+pub invariant_of-self : goal.invariant_of-self
+invariant_of-self c = in_ranges c.args.self.now
+
+pub invariant_of-self-in-CombineAsImports : goal.invariant_of-self-in-CombineAsImports
+invariant_of-self-in-CombineAsImports c = in_ranges c.args.self.now
+
+pub invariant_of-self-in-DefaultSection : goal.invariant_of-self-in-DefaultSection
+invariant_of-self-in-DefaultSection c = in_ranges c.args.self.now
+
+pub invariant_of-self-in-EnsureNewlineBeforeComments : goal.invariant_of-self-in-EnsureNewlineBeforeComments
+invariant_of-self-in-EnsureNewlineBeforeComments c = in_ranges c.args.self.now
+
+pub invariant_of-self-in-ExtraStandardLibrary : goal.invariant_of-self-in-ExtraStandardLibrary
+invariant_of-self-in-ExtraStandardLibrary c = in_ranges c.args.self.now
+
+pub invariant_of-self-in-ForceSingleLine : goal.invariant_of-self-in-ForceSingleLine
+invariant_of-self-in-ForceSingleLine c = in_ranges c.args.self.now
+
+pub invariant_of-self-in-ForceSortWithinSections : goal.invariant_of-self-in-ForceSortWithinSections
+invariant_of-self-in-ForceSortWithinSections c = in_ranges c.args.self.now
+
+pub invariant_of-self-in-IncludeTrailingComma : goal.invariant_of-self-in-IncludeTrailingComma
+invariant_of-self-in-IncludeTrailingComma c = in_ranges c.args.self.now
+
+pub invariant_of-self-in-KnownFirstParty : goal.invariant_of-self-in-KnownFirstParty
+invariant_of-self-in-KnownFirstParty c = in_ranges c.args.self.now
+
+pub invariant_of-self-in-KnownFutureLibrary : goal.invariant_of-self-in-KnownFutureLibrary
+invariant_of-self-in-KnownFutureLibrary c = in_ranges c.args.self.now
+
+pub invariant_of-self-in-KnownLocalFolder : goal.invariant_of-self-in-KnownLocalFolder
+invariant_of-self-in-KnownLocalFolder c = in_ranges c.args.self.now
+
+pub invariant_of-self-in-KnownStandardLibrary : goal.invariant_of-self-in-KnownStandardLibrary
+invariant_of-self-in-KnownStandardLibrary c = in_ranges c.args.self.now
+
+pub invariant_of-self-in-KnownThirdParty : goal.invariant_of-self-in-KnownThirdParty
+invariant_of-self-in-KnownThirdParty c = in_ranges c.args.self.now
+
+pub invariant_of-self-in-OrderByType : goal.invariant_of-self-in-OrderByType
+invariant_of-self-in-OrderByType c = in_ranges c.args.self.now
+
+pub invariant_of-self-in-UseParentheses : goal.invariant_of-self-in-UseParentheses
+invariant_of-self-in-UseParentheses c = in_ranges c.args.self.now
