@@ -5,8 +5,8 @@
 
 PROGRAM is the built isort. The texts are all `*.py` files below the folders, or every N-th, and N small ones (20,000)
 made at random of statements, comments, blank lines and code. Each is sorted under 40 settings: those of a row of
-SETTINGS below, in each of the four wrap modes at the line lengths 30 and 79. Every text is taken with its own line ends
-under each of them, and with LF, CR LF and CR under one of them in turn. A text that isort refuses has to stay as it is.
+SETTINGS below, in each of the four wrap modes at the line lengths 30 and 79. Under each of them a text has its own line
+ends, or LF, CR LF or CR in their place, by chance. A text that isort refuses has to stay as it is.
 
 A line tells each text that is not sorted after it was sorted, with its settings. The last line says how many texts
 passed and how many failed. The status is 1 where one failed."""
