@@ -384,8 +384,8 @@ fn are_answered(patience: Patience) -> bool {
     true
 }
 
-// checks/refuse_memory.py runs this with each growth refused in turn. Each call that is refused is made again, and
-// answers what it would have answered.
+// checks/memory runs this with each growth refused in turn. Each call that is refused is made again, and answers what it
+// would have answered.
 #[test]
 fn answers_the_same_after_refused_memory(rt: HostRuntime) -> Result<(), Fail> {
     all_are_so(&[are_answered(Patience {
@@ -394,7 +394,7 @@ fn answers_the_same_after_refused_memory(rt: HostRuntime) -> Result<(), Fail> {
     })])
 }
 
-// The same growths, where none is refused: that script is done when this passes.
+// The same calls, where no growth is refused: none of them has to be made again.
 #[test]
 fn answers_at_once_with_ample_memory(rt: HostRuntime) -> Result<(), Fail> {
     all_are_so(&[are_answered(Patience {
