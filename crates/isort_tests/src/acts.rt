@@ -1,7 +1,8 @@
 ghost use Rattle.std.specs.Prelude.{◌≡◌, ◌≤◌, false, true, length, IfOk};
 ghost use Rattle.isort_find.specs.Pieces.{IsOpenYet};
 
-use isort_find::{Cursor, FindError, FindOptions, Finder, PieceFinder};
+use crate::cases::page;
+use isort_find::{Cursor, FindError, FindOptions, Finder, PieceFinder, ResumeError};
 use py_imports::Binding;
 use py_lines::Fault;
 use std::alloc::Global;
@@ -15,9 +16,13 @@ pub(crate) fn tell(what: &str, out: &mut String) {
     let _ = out.push_str(what);
 }
 
-/// An import: its line, and its statement.
+/// An import: its line, and its statement, which is asked for once more where memory ran out.
 pub(crate) fn tell_binding(alloc: Global, binding: &Binding, out: &mut String) {
-    if let Ok(statement) = binding.statement(alloc) {
+    let statement = match binding.statement(alloc) {
+        Err(_) => binding.statement(alloc),
+        statement => statement,
+    };
+    if let Ok(statement) = statement {
         let line = binding.line;
         let indented = if binding.indented { "indented " } else { "" };
         let _ = writeln!(out, "{line} {indented}{statement}");
@@ -78,12 +83,36 @@ impl Fed {
                 ended: false,
                 faulty: false,
             }),
+            Err((cursor, _)) => Fed::resume_again(alloc, cursor),
+        }
+    }
+
+    /// The same, where memory ran out: the cursor came back.
+    fn resume_again(alloc: Global, cursor: Cursor) -> Option<Fed> {
+        if cursor.offset() > MOST {
+            return None;
+        }
+        match PieceFinder::resume(alloc, cursor) {
+            Ok(finder) => Some(Fed {
+                finder,
+                ended: false,
+                faulty: false,
+            }),
             Err(_) => None,
         }
     }
 
-    /// Feeds a short piece once.
+    /// Feeds a short piece once; where memory ran out, it is fed again.
     fn feed(&mut self, piece: &[u8]) -> Result<usize, FindError>
+        ensures { IfOk result (λ taken. taken ≤ length piece.now) }
+    {
+        match self.try_feed(piece) {
+            Err(FindError::Memory) => self.try_feed(piece),
+            answer => answer,
+        }
+    }
+
+    fn try_feed(&mut self, piece: &[u8]) -> Result<usize, FindError>
         ensures { IfOk result (λ taken. taken ≤ length piece.now) }
     {
         if self.ended && !self.faulty || self.finder.fed() > MOST || piece.len() as u64 > MOST {
@@ -100,7 +129,15 @@ impl Fed {
         }
     }
 
+    /// The next import that is ready; where memory ran out, it is asked for again.
     fn next_ready(&mut self) -> Result<Option<Binding>, FindError> {
+        match self.try_next() {
+            Err(FindError::Memory) => self.try_next(),
+            answer => answer,
+        }
+    }
+
+    fn try_next(&mut self) -> Result<Option<Binding>, FindError> {
         self.faulty = false;
         match self.finder.next_ready() {
             Ok(Some(binding)) => Ok(Some(binding)),
@@ -110,19 +147,33 @@ impl Fed {
         }
     }
 
+    /// Ends the text; where memory ran out, it is ended again.
     fn finish(&mut self) -> Result<(), FindError> {
+        match self.try_finish() {
+            Err(FindError::Memory) => self.try_finish(),
+            answer => answer,
+        }
+    }
+
+    fn try_finish(&mut self) -> Result<(), FindError> {
         if self.ended && !self.faulty || self.finder.has_ready() {
             return Err(FindError::Memory);
         }
-        self.ended = true;
-        self.faulty = false;
         match self.finder.finish() {
-            Ok(()) => Ok(()),
+            Ok(()) => {
+                self.ended = true;
+                self.faulty = false;
+                Ok(())
+            }
             Err(FindError::Fault(fault)) => {
+                self.ended = true;
                 self.faulty = true;
                 Err(FindError::Fault(fault))
             }
-            Err(FindError::Memory) => Err(FindError::Memory),
+            Err(FindError::Memory) => {
+                self.faulty = false;
+                Err(FindError::Memory)
+            }
         }
     }
 
@@ -316,14 +367,19 @@ fn tell_whether(finder: &Fed, out: &mut String) {
     );
 }
 
-/// The next import of a whole text, that there is none, or the fault: whether there is one.
+/// The next import of a whole text, that there is none, or the fault: whether there is one. It is asked for once more
+/// where memory ran out.
 pub(crate) fn tell_import(
     alloc: Global,
     finder: &mut Finder<'_>,
     none: &str,
     out: &mut String,
 ) -> bool {
-    match finder.next_import() {
+    let answer = match finder.next_import() {
+        Err(FindError::Memory) => finder.next_import(),
+        answer => answer,
+    };
+    match answer {
         Ok(Some(binding)) => {
             tell_binding(alloc, &binding, out);
             return true;
@@ -340,6 +396,38 @@ fn tell_imports(alloc: Global, finder: &mut Finder<'_>, most: usize, none: &str,
         if !tell_import(alloc, finder, none, out) {
             return;
         }
+    }
+}
+
+/// A finder of a whole text; where memory ran out, it is begun again.
+pub(crate) fn begun(
+    alloc: Global,
+    text: &[u8],
+    options: FindOptions,
+) -> Result<Finder<'_>, FindError> {
+    match Finder::new(alloc, text, options) {
+        Err(_) => Finder::new(alloc, text, options),
+        finder => finder,
+    }
+}
+
+/// A finder that goes on from a cursor; where memory ran out, it is made again of the cursor that came back.
+pub(crate) fn resumed(
+    alloc: Global,
+    text: &[u8],
+    cursor: Cursor,
+) -> Result<Finder<'_>, (Cursor, ResumeError)> {
+    match Finder::resume(alloc, text, cursor) {
+        Err((cursor, ResumeError::Memory)) => Finder::resume(alloc, text, cursor),
+        finder => finder,
+    }
+}
+
+/// A finder of pieces; where memory ran out, it is begun again.
+fn begun_in_pieces(alloc: Global, options: FindOptions) -> Result<Fed, FindError> {
+    match Fed::new(alloc, options) {
+        Err(_) => Fed::new(alloc, options),
+        finder => finder,
     }
 }
 
@@ -362,7 +450,7 @@ fn go_on(alloc: Global, finder: Fed, out: &mut String) -> Option<Fed> {
 fn go_whole(alloc: Global, finder: Fed, text: &[u8], out: &mut String) -> Option<Fed> {
     let cursor = finder.stop();
     tell_place(&cursor, out);
-    match Finder::resume(alloc, text, cursor) {
+    match resumed(alloc, text, cursor) {
         Ok(whole) => go_after(alloc, whole, 100, out),
         Err(_) => None,
     }
@@ -376,7 +464,7 @@ fn go_first(
     most: usize,
     out: &mut String,
 ) -> Option<Fed> {
-    match Finder::new(alloc, text, options) {
+    match begun(alloc, text, options) {
         Ok(whole) => go_after(alloc, whole, most, out),
         Err(_) => None,
     }
@@ -384,7 +472,7 @@ fn go_first(
 
 /// A finder that goes on from where one of this whole text stops, which tells all of it.
 fn go_found(alloc: Global, text: &[u8], options: FindOptions, out: &mut String) -> Option<Fed> {
-    match Finder::new(alloc, text, options) {
+    match begun(alloc, text, options) {
         Ok(mut whole) => {
             tell_imports(alloc, &mut whole, 100, "end\n", out);
             Fed::resume(alloc, whole.stop())
@@ -451,8 +539,8 @@ fn go_through(
 
 /// What a finder tells with which all this is done, in order.
 pub(crate) fn tell_acts(alloc: Global, options: FindOptions, acts: &[Act<'_>]) -> String {
-    let mut out = String::new(alloc);
-    let is_done = match Fed::new(alloc, options) {
+    let mut out = page(alloc);
+    let is_done = match begun_in_pieces(alloc, options) {
         Ok(finder) => go_through(alloc, finder, options, acts, &mut out).is_some(),
         Err(_) => false,
     };

@@ -1,4 +1,4 @@
-use crate::cases::{Case, each_holds};
+use crate::cases::{Case, each_holds_again};
 use isort_sort::{Block, blocks};
 use std::alloc::Global;
 use std::test::Fail;
@@ -117,5 +117,5 @@ const SPANS: &[Spans] = &[
 
 #[test]
 fn finds_blocks(rt: HostRuntime) -> Result<(), Fail> {
-    each_holds(rt.alloc(), SPANS)
+    each_holds_again(rt.alloc(), SPANS)
 }

@@ -18,6 +18,31 @@ pub(crate) fn each_holds<C: Case>(alloc: Global, cases: &[C]) -> Result<(), Fail
     Ok(())
 }
 
+/// Every row holds. One that doesn't is tried once more: where a growth was refused, the same calls then have to answer as
+/// with ample memory. checks/memory refuses each growth in turn.
+pub(crate) fn each_holds_again<C: Case>(alloc: Global, cases: &[C]) -> Result<(), Fail> {
+    for (i, case) in cases.iter().enumerate() {
+        if !case.holds(alloc) && !case.holds(alloc) {
+            return Err(Fail::new(format_args!("row {i} does not hold")));
+        }
+    }
+    Ok(())
+}
+
+/// More bytes than a row tells.
+const ROOM: usize = 4096;
+
+/// An empty text that doesn't grow while a row is told. Its one growth is asked for again if it is refused.
+pub(crate) fn page(alloc: Global) -> String {
+    match String::with_capacity(alloc, ROOM) {
+        Ok(page) => page,
+        Err(_) => match String::with_capacity(alloc, ROOM) {
+            Ok(page) => page,
+            Err(_) => String::new(alloc),
+        },
+    }
+}
+
 /// Each of these is so.
 pub(crate) fn all_are_so(facts: &[bool]) -> Result<(), Fail> {
     for (i, is_so) in facts.iter().enumerate() {

@@ -2,7 +2,7 @@
 ghost use Rattle.std.specs.Prelude.{◌≡◌};
 ghost use Rattle.isort_sort.specs.Metered.{last_of};
 
-use crate::cases::{Case, each_holds};
+use crate::cases::{Case, each_holds_again};
 use crate::runs::{ALL, FIRST, FIRST_LINES};
 use crate::sorting_runs::{SORTED, UNSORTED};
 use isort_cmd::{Last, Metered, RunError, identify, sort_run};
@@ -341,7 +341,7 @@ const ROWS: &[Ran] = &[
 
 #[test]
 fn answers_each_failure_and_waits_for_interrupted_calls(rt: HostRuntime) -> Result<(), Fail> {
-    each_holds(rt.alloc(), ROWS)
+    each_holds_again(rt.alloc(), ROWS)
 }
 
 /// What is run over a reader without end, which is too long.
@@ -369,5 +369,5 @@ const TASKS: &[Endless] = &[Endless(Task::Identify), Endless(Task::Sort)];
 
 #[test]
 fn leaves_a_reader_without_end(rt: HostRuntime) -> Result<(), Fail> {
-    each_holds(rt.alloc(), TASKS)
+    each_holds_again(rt.alloc(), TASKS)
 }

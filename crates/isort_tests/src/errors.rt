@@ -1,4 +1,4 @@
-use crate::cases::{Case, each_holds};
+use crate::cases::{Case, each_holds_again};
 use isort_cmd::{RunError, fault_text, settings_text};
 use isort_find::{FindError, ResumeError};
 use isort_settings::{SettingKey, SettingsError};
@@ -93,13 +93,13 @@ const SORTING: &[Shown<SortError>] = &[
 
 #[test]
 fn displays_errors(rt: HostRuntime) -> Result<(), Fail> {
-    each_holds(rt.alloc(), KINDS)?;
-    each_holds(rt.alloc(), LEXING)?;
-    each_holds(rt.alloc(), IMPORTS)?;
-    each_holds(rt.alloc(), FINDING)?;
-    each_holds(rt.alloc(), RESUMING)?;
-    each_holds(rt.alloc(), SETTINGS)?;
-    each_holds(rt.alloc(), SORTING)
+    each_holds_again(rt.alloc(), KINDS)?;
+    each_holds_again(rt.alloc(), LEXING)?;
+    each_holds_again(rt.alloc(), IMPORTS)?;
+    each_holds_again(rt.alloc(), FINDING)?;
+    each_holds_again(rt.alloc(), RESUMING)?;
+    each_holds_again(rt.alloc(), SETTINGS)?;
+    each_holds_again(rt.alloc(), SORTING)
 }
 
 /// An error of a run, and the line that tells of it.
@@ -156,7 +156,7 @@ const RUN_ERRORS: &[ErrorLine] = &[
 
 #[test]
 fn tells_errors(rt: HostRuntime) -> Result<(), Fail> {
-    each_holds(rt.alloc(), RUN_ERRORS)
+    each_holds_again(rt.alloc(), RUN_ERRORS)
 }
 
 /// Why settings are refused, and the line that tells of it.
@@ -194,5 +194,5 @@ const REFUSALS: &[SettingsLine] = &[
 
 #[test]
 fn tells_of_settings(rt: HostRuntime) -> Result<(), Fail> {
-    each_holds(rt.alloc(), REFUSALS)
+    each_holds_again(rt.alloc(), REFUSALS)
 }

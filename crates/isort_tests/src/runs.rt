@@ -1,7 +1,7 @@
 ghost use Rattle.std.specs.Prelude.{◌≡◌};
 ghost use Rattle.isort_sort.specs.Metered.{last_of};
 
-use crate::cases::{Case, each_holds};
+use crate::cases::{Case, each_holds_again};
 use crate::devices::{Device, Trouble};
 use crate::pieces::brackets;
 use isort_cmd::*;
@@ -199,7 +199,7 @@ const LISTED: &[Listed<'static>] = &[
 
 #[test]
 fn lists_texts(rt: HostRuntime) -> Result<(), Fail> {
-    each_holds(rt.alloc(), LISTED)
+    each_holds_again(rt.alloc(), LISTED)
 }
 
 #[test]
@@ -212,7 +212,7 @@ fn counts_brackets(rt: HostRuntime) -> Result<(), Fail> {
         Listed(&text[1..201], ALL, 1000, "", open),
         Listed(&text[..201], ALL, 1000, "", too_deep),
     ];
-    each_holds(rt.alloc(), &rows)
+    each_holds_again(rt.alloc(), &rows)
 }
 
 const PACKAGES: FindOptions = FindOptions {
@@ -281,7 +281,7 @@ const CHOSEN: &[Listed<'static>] = &[
 
 #[test]
 fn lists_what_the_options_ask_for(rt: HostRuntime) -> Result<(), Fail> {
-    each_holds(rt.alloc(), CHOSEN)
+    each_holds_again(rt.alloc(), CHOSEN)
 }
 
 const BOUNDED: &[Listed<'static>] = &[
@@ -291,7 +291,7 @@ const BOUNDED: &[Listed<'static>] = &[
 
 #[test]
 fn takes_at_most_max(rt: HostRuntime) -> Result<(), Fail> {
-    each_holds(rt.alloc(), BOUNDED)
+    each_holds_again(rt.alloc(), BOUNDED)
 }
 
 /// A text, how its listing ends, and the lines of it and of another text, which is listed to the same writer.
@@ -337,7 +337,7 @@ const FOLLOWED: &[Followed] = &[
 
 #[test]
 fn lists_two_texts_to_one_writer(rt: HostRuntime) -> Result<(), Fail> {
-    each_holds(rt.alloc(), FOLLOWED)
+    each_holds_again(rt.alloc(), FOLLOWED)
 }
 
 /// A text, what goes wrong with its reader, the options, how many bytes are taken, and how the listing of `import a`
@@ -480,7 +480,7 @@ const CUT: &[Cut] = &[
 
 #[test]
 fn lists_what_came(rt: HostRuntime) -> Result<(), Fail> {
-    each_holds(rt.alloc(), CUT)
+    each_holds_again(rt.alloc(), CUT)
 }
 
 /// What is seen of a reader and a writer after a listing.
@@ -554,7 +554,7 @@ const WRITERS: &[Troubled] = &[
 
 #[test]
 fn writes_in_pieces(rt: HostRuntime) -> Result<(), Fail> {
-    each_holds(rt.alloc(), WRITERS)
+    each_holds_again(rt.alloc(), WRITERS)
 }
 
 const READERS: &[Troubled] = &[
@@ -578,7 +578,7 @@ const READERS: &[Troubled] = &[
 
 #[test]
 fn gives_up_reading(rt: HostRuntime) -> Result<(), Fail> {
-    each_holds(rt.alloc(), READERS)
+    each_holds_again(rt.alloc(), READERS)
 }
 
 const CLOGGED: &[Troubled] = &[
@@ -602,7 +602,7 @@ const CLOGGED: &[Troubled] = &[
 
 #[test]
 fn flushes_after_lines_alone(rt: HostRuntime) -> Result<(), Fail> {
-    each_holds(rt.alloc(), CLOGGED)
+    each_holds_again(rt.alloc(), CLOGGED)
 }
 
 const INTERRUPTED: &[Troubled] = &[Troubled(
@@ -619,7 +619,7 @@ const INTERRUPTED: &[Troubled] = &[Troubled(
 
 #[test]
 fn goes_on_after_an_interruption(rt: HostRuntime) -> Result<(), Fail> {
-    each_holds(rt.alloc(), INTERRUPTED)
+    each_holds_again(rt.alloc(), INTERRUPTED)
 }
 
 const FAILED: &[Troubled] = &[
@@ -643,5 +643,5 @@ const FAILED: &[Troubled] = &[
 
 #[test]
 fn stops_at_the_first_failure(rt: HostRuntime) -> Result<(), Fail> {
-    each_holds(rt.alloc(), FAILED)
+    each_holds_again(rt.alloc(), FAILED)
 }

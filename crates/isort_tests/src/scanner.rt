@@ -1,6 +1,6 @@
 ghost use Rattle.std.specs.Prelude.{◌≡◌, ◌≤◌, true, false, None, IfOk, length};
 
-use crate::cases::{Case, each_holds};
+use crate::cases::{Case, each_holds, each_holds_again, page};
 use crate::lines::{tell, tell_fault, tell_unit};
 use py_lines::*;
 use std::alloc::Global;
@@ -10,7 +10,7 @@ use std::test::Fail;
 /// More bytes than a text of these tests has.
 const MOST: u64 = 1000;
 
-/// Feeds a short piece.
+/// Feeds a short piece; where memory ran out, it is fed again.
 fn feed(scanner: &mut Scanner, piece: &[u8]) -> Result<usize, LexError>
     requires { scanner.old.ended ≡ false }
     ensures taken { IfOk result (λ n. n ≤ length piece.now) }
@@ -19,7 +19,20 @@ fn feed(scanner: &mut Scanner, piece: &[u8]) -> Result<usize, LexError>
     if scanner.fed() > MOST || piece.len() as u64 > MOST {
         return Err(LexError::Memory);
     }
-    scanner.feed(piece)
+    match scanner.feed(piece) {
+        Err(LexError::Memory) => scanner.feed(piece),
+        answer => answer,
+    }
+}
+
+/// A scanner at the start of a text; where memory ran out, it is begun again.
+fn begun(alloc: Global) -> Result<Scanner, LexError>
+    ensures { IfOk result (λ s. s.ended ≡ false) }
+{
+    match Scanner::new(alloc) {
+        Err(_) => Scanner::new(alloc),
+        scanner => scanner,
+    }
 }
 
 /// The line that is ready, which is then released, if one is.
@@ -58,7 +71,11 @@ fn tell_end(told: &mut String, scanner: &mut Scanner)
     requires { scanner.old.ended ≡ false }
 {
     tell_ready(told, scanner);
-    match scanner.finish() {
+    let answer = match scanner.finish() {
+        Err(LexError::Memory) => scanner.finish(),
+        answer => answer,
+    };
+    match answer {
         Ok(()) => {
             tell_ready(told, scanner);
             tell(told, "end");
@@ -96,8 +113,8 @@ impl Scanned {
     fn is_told_in_cut(&self, alloc: Global, cut: usize) -> bool
         requires { cut ≤ length (self.now.0).now }
     {
-        let mut told = String::new(alloc);
-        if let Ok(scanner) = Scanner::new(alloc) {
+        let mut told = page(alloc);
+        if let Ok(scanner) = begun(alloc) {
             tell_cut(&mut told, scanner, &self.0[..cut], &self.0[cut..]);
         }
         told.as_str() == self.1
@@ -115,8 +132,8 @@ impl Scanned {
     fn is_told_in_pieces(&self, alloc: Global, size: usize) -> bool
         requires { 1 ≤ size }
     {
-        let mut told = String::new(alloc);
-        if let Ok(scanner) = Scanner::new(alloc) {
+        let mut told = page(alloc);
+        if let Ok(scanner) = begun(alloc) {
             tell_pieces(&mut told, scanner, self.0, size);
         }
         told.as_str() == self.1
@@ -347,7 +364,7 @@ const WAITING: &[Script] = &[Script(
 
 #[test]
 fn waits_while_a_line_is_ready(rt: HostRuntime) -> Result<(), Fail> {
-    each_holds(rt.alloc(), WAITING)
+    each_holds_again(rt.alloc(), WAITING)
 }
 
 const RETURNS: &[Script] = &[
@@ -369,7 +386,7 @@ const RETURNS: &[Script] = &[
 
 #[test]
 fn takes_the_byte_after_a_return(rt: HostRuntime) -> Result<(), Fail> {
-    each_holds(rt.alloc(), RETURNS)
+    each_holds_again(rt.alloc(), RETURNS)
 }
 
 const CUT_RETURNS: &[Script] = &[Script(
@@ -388,7 +405,7 @@ const CUT_RETURNS: &[Script] = &[Script(
 
 #[test]
 fn waits_after_a_return(rt: HostRuntime) -> Result<(), Fail> {
-    each_holds(rt.alloc(), CUT_RETURNS)
+    each_holds_again(rt.alloc(), CUT_RETURNS)
 }
 
 /// How many bytes are taken of a piece.
@@ -474,7 +491,7 @@ const CUTS: &[Cut] = &[
 
 #[test]
 fn goes_on_after_a_cut(rt: HostRuntime) -> Result<(), Fail> {
-    each_holds(rt.alloc(), CUTS)
+    each_holds_again(rt.alloc(), CUTS)
 }
 
 const LAST: &[Script] = &[Script(
@@ -484,7 +501,7 @@ const LAST: &[Script] = &[Script(
 
 #[test]
 fn finish_closes_a_line_after_a_return(rt: HostRuntime) -> Result<(), Fail> {
-    each_holds(rt.alloc(), LAST)
+    each_holds_again(rt.alloc(), LAST)
 }
 
 /// A piece from byte 2 of a text on, in line 2, and what is told of it.
@@ -507,7 +524,7 @@ const MID_TEXT: &[MidText] = &[MidText(
 
 #[test]
 fn begins_in_mid_text(rt: HostRuntime) -> Result<(), Fail> {
-    each_holds(rt.alloc(), MID_TEXT)
+    each_holds_again(rt.alloc(), MID_TEXT)
 }
 
 /// What a scanner answers, call by call, that begins at byte 9 of a text, in line 2.
@@ -538,5 +555,5 @@ const MARKED: &[MidScript] = &[MidScript(
 
 #[test]
 fn meets_no_mark_in_mid_text(rt: HostRuntime) -> Result<(), Fail> {
-    each_holds(rt.alloc(), MARKED)
+    each_holds_again(rt.alloc(), MARKED)
 }

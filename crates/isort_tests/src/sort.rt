@@ -1,4 +1,4 @@
-use crate::cases::{Case, all_are_so, each_holds};
+use crate::cases::{Case, all_are_so, each_holds_again};
 use crate::writing::is_written;
 use isort_settings::Settings;
 use isort_sort::{Outcome, SortError, Sorted, blocks, check_code, sort_code};
@@ -109,7 +109,7 @@ const STATEMENTS: &[Under] = &[
 
 #[test]
 fn orders_statements(rt: HostRuntime) -> Result<(), Fail> {
-    each_holds(rt.alloc(), STATEMENTS)
+    each_holds_again(rt.alloc(), STATEMENTS)
 }
 
 const MERGED: &[Under] = &[
@@ -157,7 +157,7 @@ const MERGED: &[Under] = &[
 
 #[test]
 fn merges_statements(rt: HostRuntime) -> Result<(), Fail> {
-    each_holds(rt.alloc(), MERGED)
+    each_holds_again(rt.alloc(), MERGED)
 }
 
 const BETWEEN: &[Under] = &[
@@ -189,7 +189,7 @@ const BETWEEN: &[Under] = &[
 
 #[test]
 fn puts_blank_lines_and_line_ends(rt: HostRuntime) -> Result<(), Fail> {
-    each_holds(rt.alloc(), BETWEEN)
+    each_holds_again(rt.alloc(), BETWEEN)
 }
 
 const NAMES: &str = "from m import dddd, aaaa, cccc, bbbb\n";
@@ -259,7 +259,7 @@ const WRAPPED: &[Under] = &[
 
 #[test]
 fn wraps_in_four_modes(rt: HostRuntime) -> Result<(), Fail> {
-    each_holds(rt.alloc(), WRAPPED)
+    each_holds_again(rt.alloc(), WRAPPED)
 }
 
 const FOUR: &str = "from m import aa, bb, cc, dd\n";
@@ -327,7 +327,7 @@ const PACKED: &[Under] = &[
 
 #[test]
 fn packs_lines(rt: HostRuntime) -> Result<(), Fail> {
-    each_holds(rt.alloc(), PACKED)
+    each_holds_again(rt.alloc(), PACKED)
 }
 
 const FITS: &str =
@@ -347,7 +347,7 @@ const OF_BLACK: &[Under] = &[
 #[test]
 fn wraps_at_the_profile_of_black(rt: HostRuntime) -> Result<(), Fail> {
     all_are_so(&[FITS.len() == 89, LONG.len() == 90])?;
-    each_holds(rt.alloc(), OF_BLACK)
+    each_holds_again(rt.alloc(), OF_BLACK)
 }
 
 const BLOCKS: &[Under] = &[
@@ -420,7 +420,7 @@ const BLOCKS: &[Under] = &[
 
 #[test]
 fn sorts_each_block(rt: HostRuntime) -> Result<(), Fail> {
-    each_holds(rt.alloc(), BLOCKS)
+    each_holds_again(rt.alloc(), BLOCKS)
 }
 
 const COMMENTS: &[Under] = &[
@@ -468,7 +468,7 @@ const COMMENTS: &[Under] = &[
 
 #[test]
 fn moves_comments_with_their_statements(rt: HostRuntime) -> Result<(), Fail> {
-    each_holds(rt.alloc(), COMMENTS)
+    each_holds_again(rt.alloc(), COMMENTS)
 }
 
 const AFTER: &[Under] = &[
@@ -530,7 +530,7 @@ const AFTER: &[Under] = &[
 
 #[test]
 fn puts_blank_lines_after_blocks(rt: HostRuntime) -> Result<(), Fail> {
-    each_holds(rt.alloc(), AFTER)
+    each_holds_again(rt.alloc(), AFTER)
 }
 
 const ACTIONS: &[Under] = &[
@@ -578,7 +578,7 @@ const ACTIONS: &[Under] = &[
 
 #[test]
 fn heeds_action_comments(rt: HostRuntime) -> Result<(), Fail> {
-    each_holds(rt.alloc(), ACTIONS)
+    each_holds_again(rt.alloc(), ACTIONS)
 }
 
 /// A text, and how it is answered: when it is sorted and when it is checked. A text that is skipped has no blocks.
@@ -654,7 +654,7 @@ const ANSWERS: &[Answered] = &[
 
 #[test]
 fn answers_texts(rt: HostRuntime) -> Result<(), Fail> {
-    each_holds(rt.alloc(), ANSWERS)
+    each_holds_again(rt.alloc(), ANSWERS)
 }
 
 /// A text, and the kind, the byte and the line of its fault.
@@ -697,5 +697,5 @@ const FAULTS: &[Faulty] = &[
 
 #[test]
 fn refuses_faults(rt: HostRuntime) -> Result<(), Fail> {
-    each_holds(rt.alloc(), FAULTS)
+    each_holds_again(rt.alloc(), FAULTS)
 }

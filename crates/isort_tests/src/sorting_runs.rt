@@ -1,4 +1,4 @@
-use crate::cases::{Case, each_holds};
+use crate::cases::{Case, each_holds_again};
 use crate::devices::{Device, Trouble};
 use isort_cmd::{Metered, RunError, check_run, sort_run};
 use isort_settings::Settings;
@@ -55,7 +55,7 @@ const SORTS: &[Run] = &[
 
 #[test]
 fn sorts_texts(rt: HostRuntime) -> Result<(), Fail> {
-    each_holds(rt.alloc(), SORTS)
+    each_holds_again(rt.alloc(), SORTS)
 }
 
 /// A text, how many bytes are taken, and what a check answers.
@@ -83,7 +83,7 @@ const CHECKS: &[Check] = &[
 
 #[test]
 fn checks_texts(rt: HostRuntime) -> Result<(), Fail> {
-    each_holds(rt.alloc(), CHECKS)
+    each_holds_again(rt.alloc(), CHECKS)
 }
 
 /// Whether `UNSORTED` is sorted to a writer with room for five bytes.
@@ -108,5 +108,5 @@ impl Case for Prefix {
 
 #[test]
 fn writes_a_prefix(rt: HostRuntime) -> Result<(), Fail> {
-    each_holds(rt.alloc(), &[Prefix])
+    each_holds_again(rt.alloc(), &[Prefix])
 }

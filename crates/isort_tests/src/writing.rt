@@ -2,7 +2,7 @@
 ghost use Rattle.std.specs.Prelude.{◌≡◌, ◌≤◌, length};
 ghost use Rattle.isort_sort.specs.Metered.{last_of};
 
-use crate::cases::{Case, each_holds};
+use crate::cases::{Case, each_holds_again};
 use crate::devices::{Device, Trouble};
 use crate::sorting_runs::{BROKEN, SKIPPED, SORTED, UNSORTED};
 use isort_settings::Settings;
@@ -75,7 +75,7 @@ const WRITTEN: &[Written] = &[
 
 #[test]
 fn writes_the_sorted_text(rt: HostRuntime) -> Result<(), Fail> {
-    each_holds(rt.alloc(), WRITTEN)
+    each_holds_again(rt.alloc(), WRITTEN)
 }
 
 /// A text, what sorting it comes to, and the sorted text.
@@ -135,5 +135,5 @@ const SORTINGS: &[Sorting] = &[
 
 #[test]
 fn writes_whole_texts_slowly_and_prefixes_of_every_length(rt: HostRuntime) -> Result<(), Fail> {
-    each_holds(rt.alloc(), SORTINGS)
+    each_holds_again(rt.alloc(), SORTINGS)
 }
