@@ -208,13 +208,20 @@ fn tell_next(alloc: Global, finder: &mut Fed, none: &str, out: &mut String) -> b
     false
 }
 
-/// All imports that are ready, but at most a hundred.
-fn tell_ready(alloc: Global, finder: &mut Fed, out: &mut String) {
+/// All imports that are ready, but at most a hundred: whether they meet no fault. Where a growth was refused, a fault of the
+/// last line may be met here first.
+fn tell_ready(alloc: Global, finder: &mut Fed, out: &mut String) -> bool {
     for _ in 0..100 {
-        if !tell_next(alloc, finder, "", out) {
-            return;
+        match finder.next_ready() {
+            Ok(Some(binding)) => tell_binding(alloc, &binding, out),
+            Ok(None) => return true,
+            Err(error) => {
+                tell_error(error, out);
+                return false;
+            }
         }
     }
+    true
 }
 
 /// A short piece fed whole, with the imports that get ready: whether it meets no fault.
@@ -228,7 +235,9 @@ fn tell_piece(alloc: Global, finder: &mut Fed, piece: &[u8], out: &mut String) -
                 return false;
             }
         }
-        tell_ready(alloc, finder, out);
+        if !tell_ready(alloc, finder, out) {
+            return false;
+        }
         if rest.is_empty() {
             return true;
         }
@@ -241,8 +250,9 @@ fn tell_piece(alloc: Global, finder: &mut Fed, piece: &[u8], out: &mut String) -
 fn tell_end(alloc: Global, finder: &mut Fed, out: &mut String) {
     match finder.finish() {
         Ok(()) => {
-            tell_ready(alloc, finder, out);
-            tell("end\n", out);
+            if tell_ready(alloc, finder, out) {
+                tell("end\n", out);
+            }
         }
         Err(error) => tell_error(error, out),
     }
