@@ -13,9 +13,9 @@ mod task;
 
 use crate::messages::{tell, tell_no_memory};
 use crate::output::Output;
-use crate::settings::tell_refusal;
-use crate::task::Task;
-use isort_cmd::{Job, UsageError, command};
+use crate::settings::{settings_of, tell_refusal};
+use crate::task::perform;
+use isort_cmd::{Job, Settings, UsageError, command};
 use std::env;
 use std::io::{self, ErrorKind};
 use std::process::ExitCode;
@@ -67,8 +67,8 @@ fn refuse(rt: &HostRuntime, error: &UsageError) -> u8 {
 
 /// Does the job, and answers the process's status.
 fn run(rt: &HostRuntime, job: &Job) -> u8 {
-    match Task::new(rt, &job.action) {
-        Ok(task) => run_over_files(rt, job, &task),
+    match settings_of(rt, &job.action) {
+        Ok(settings) => run_over_files(rt, job, &settings),
         Err(refusal) => {
             tell_refusal(rt, &refusal);
             REFUSED
@@ -77,13 +77,13 @@ fn run(rt: &HostRuntime, job: &Job) -> u8 {
 }
 
 /// Takes the files in the order given. What comes of one says nothing of the next.
-fn run_over_files(rt: &HostRuntime, job: &Job, task: &Task) -> u8 {
+fn run_over_files(rt: &HostRuntime, job: &Job, settings: &Settings) -> u8 {
     let mut output = Output::new();
     let mut status = 0;
     for path in &job.files {
         let path = path.as_str();
-        let result = task.run(rt, path);
-        status = status.max(output.tell_result(rt, path, task, &job.action, &result));
+        let result = perform(rt, job.action.task(path), path, settings);
+        status = status.max(output.tell_result(rt, path, &job.action, &result));
     }
     status
 }

@@ -1,8 +1,7 @@
 //! Standard output, and what is told of each file.
 use crate::FAILED;
 use crate::messages::{tell, tell_error, tell_no_memory};
-use crate::task::Task;
-use isort_cmd::{Action, Outcome, RunError, report};
+use isort_cmd::{Action, Outcome, RunError, Task, report};
 use std::io::Write;
 
 /// What standard output is called where it can't be written.
@@ -37,11 +36,11 @@ impl Output {
         &mut self,
         rt: &HostRuntime,
         path: &str,
-        task: &Task,
         action: &Action,
         answer: &Result<Outcome, RunError>,
     ) -> u8 {
-        if task.is_printing(path) && matches!(answer, Err(RunError::Write)) {
+        let is_printed = matches!(action.task(path), Task::List(_) | Task::Print);
+        if is_printed && matches!(answer, Err(RunError::Write)) {
             return self.tell_broken(rt);
         }
         let Ok(report) = report(rt.alloc(), path, action, answer) else {

@@ -1,25 +1,14 @@
 //! The settings of a run that sorts.
 use crate::MOST_BYTES;
 use crate::messages::{tell, tell_error, tell_no_memory, told_as};
-use isort_cmd::{Metered, Profile, RunError, Settings, SettingsError, read_text, settings_text};
+use isort_cmd::{
+    Action, Metered, Profile, RunError, Settings, SettingsError, read_text, settings_text,
+};
 use std::fs::File;
 use std::io::ErrorKind;
 
 /// The settings file of a folder, where the command line names none.
 const SETTINGS_FILE: &str = "pyproject.toml";
-
-/// What the command line says of the settings.
-#[derive(Drop)]
-pub(crate) struct Wishes<'a> {
-    /// The path of the settings file.
-    pub(crate) file: Option<&'a str>,
-    /// The name of the profile.
-    pub(crate) profile: Option<&'a str>,
-    /// The length of a line.
-    pub(crate) line_length: Option<u32>,
-    /// The wrap mode.
-    pub(crate) multi_line: Option<u32>,
-}
 
 /// Why there are no settings.
 #[derive(Drop)]
@@ -47,20 +36,34 @@ pub(crate) fn tell_refusal(rt: &HostRuntime, refusal: &Refusal<'_>) {
     }
 }
 
-/// The settings: those of the profile, then what the settings file says, then what the command line says.
-pub(crate) fn settings<'a>(rt: &HostRuntime, wishes: &Wishes<'a>) -> Result<Settings, Refusal<'a>> {
-    let profile = match wishes.profile {
-        Some(name) => Some(Profile::read(name)?),
+/// The settings that the action asks for: those of the profile, then what the settings file says, then what the command line
+/// says. Listing needs no settings, and so reads none.
+pub(crate) fn settings_of<'a>(
+    rt: &HostRuntime,
+    action: &'a Action,
+) -> Result<Settings, Refusal<'a>> {
+    let Action::Sort {
+        settings_file,
+        profile,
+        line_length,
+        multi_line,
+        ..
+    } = action
+    else {
+        return Ok(Settings::plain(rt.alloc())?);
+    };
+    let profile = match profile {
+        Some(name) => Some(Profile::read(name.as_str())?),
         None => None,
     };
-    let text = settings_bytes(rt, wishes.file)?;
+    let text = settings_bytes(rt, settings_file.as_deref())?;
     let (mut settings, unknown) = Settings::from_pyproject(rt.alloc(), text.as_slice(), profile)?;
     warn_of_unknown_keys(rt, unknown.as_slice());
-    if let Some(length) = wishes.line_length {
-        settings.set_line_length(length)?;
+    if let Some(length) = line_length {
+        settings.set_line_length(*length)?;
     }
-    if let Some(mode) = wishes.multi_line {
-        settings.set_mode(mode)?;
+    if let Some(mode) = multi_line {
+        settings.set_mode(*mode)?;
     }
     Ok(settings)
 }

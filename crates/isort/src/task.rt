@@ -2,80 +2,27 @@
 use crate::MOST_BYTES;
 use crate::messages::told_as;
 use crate::rewrite::rewrite;
-use crate::settings::{Refusal, Wishes, settings};
 use isort_cmd::{
-    Action, FindOptions, Metered, Outcome, RunError, Settings, check_run, identify, read_text,
-    sort_run,
+    FindOptions, Metered, Outcome, RunError, STANDARD_INPUT, Settings, Task, check_run, identify,
+    read_text, sort_run,
 };
 use isort_sort::{Sorted, sort_code};
 use std::fs::{self, File, Metadata};
 use std::io::{self, BufWriter, Read, Stdin, Stdout, Write};
 
-/// The path that stands for standard input.
-const STANDARD_INPUT: &str = "-";
-
-/// What is done with each file.
-#[derive(Drop)]
-pub(crate) enum Task {
-    /// Its imports are listed on standard output: those that the options ask for.
-    List(FindOptions),
-    /// It is compared with its sorted text.
-    Check(Settings),
-    /// Its sorted text goes to standard output.
-    Print(Settings),
-    /// It is rewritten where its sorted text differs.
-    Rewrite(Settings),
-}
-
-impl Task {
-    /// What the action asks for. Listing needs no settings, and so reads none.
-    pub(crate) fn new<'a>(rt: &HostRuntime, action: &'a Action) -> Result<Task, Refusal<'a>> {
-        match action {
-            Action::Identify(options) => Ok(Task::List(*options)),
-            Action::Sort {
-                check,
-                to_stdout,
-                settings_file,
-                profile,
-                line_length,
-                multi_line,
-            } => {
-                let wishes = Wishes {
-                    file: settings_file.as_deref(),
-                    profile: profile.as_deref(),
-                    line_length: *line_length,
-                    multi_line: *multi_line,
-                };
-                let settings = settings(rt, &wishes)?;
-                Ok(if *check {
-                    Task::Check(settings)
-                } else if *to_stdout {
-                    Task::Print(settings)
-                } else {
-                    Task::Rewrite(settings)
-                })
-            }
-        }
-    }
-
-    /// Whether what it writes of the file at `path` goes to standard output.
-    pub(crate) fn is_printing(&self, path: &str) -> bool {
-        match self {
-            Task::List(_) | Task::Print(_) => true,
-            Task::Check(_) => false,
-            Task::Rewrite(_) => path == STANDARD_INPUT,
-        }
-    }
-
-    /// Does it with the file at `path`. By then no file is open any more, so that what is told of it goes nowhere else,
-    /// even where the process was begun with a closed output.
-    pub(crate) fn run(&self, rt: &HostRuntime, path: &str) -> Result<Outcome, RunError> {
-        match self {
-            Task::List(options) => list(rt, path, *options),
-            Task::Check(settings) => check(rt, path, settings),
-            Task::Rewrite(settings) if path != STANDARD_INPUT => sort_file(rt, path, settings),
-            Task::Print(settings) | Task::Rewrite(settings) => print_sorted(rt, path, settings),
-        }
+/// Does the task with the file at `path`. By then no file is open any more, so that what is told of it goes nowhere else,
+/// even where the process was begun with a closed output.
+pub(crate) fn perform(
+    rt: &HostRuntime,
+    task: Task,
+    path: &str,
+    settings: &Settings,
+) -> Result<Outcome, RunError> {
+    match task {
+        Task::List(options) => list(rt, path, options),
+        Task::Check => check(rt, path, settings),
+        Task::Print => print_sorted(rt, path, settings),
+        Task::Rewrite => sort_file(rt, path, settings),
     }
 }
 

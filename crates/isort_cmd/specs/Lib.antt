@@ -11,4 +11,5 @@ pub mod UsageText
 pub mod ParserSteps
 pub mod Reading
 pub mod Sorting
+pub mod Task
 pub mod Reported

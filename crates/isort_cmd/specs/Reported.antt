@@ -1,5 +1,5 @@
 -- What a run over one file tells, and what refused settings tell.
-use Rattle.std.specs.Prelude.{ℕ, Bool, true, false, List, [], ◌∷◌, ◌++◌, codes, bytes_eq, string_bytes, Result, Ok, Err, if◌then◌else◌}
+use Rattle.std.specs.Prelude.{ℕ, List, [], ◌∷◌, ◌++◌, codes, string_bytes, Result, Ok, Err}
 use Rattle.isort_settings.specs.Keys.{name_of}
 use Rattle.isort_settings.specs.declared.error.SettingsError.{SettingsError}
 use Rattle.isort_settings.specs.declared.error.SettingsError.TheVariants.{Memory, BadToml, BadValue, UnknownProfile, UnsupportedMode}
@@ -8,8 +8,10 @@ use Rattle.isort_sort.specs.declared.answer.Outcome.TheVariants.{Changed}
 use Rattle.isort_cmd.specs.FaultText.{error_line}
 use Rattle.isort_cmd.specs.declared.error.RunError.{RunError}
 use Rattle.isort_cmd.specs.declared.job.Action.{Action}
-use Rattle.isort_cmd.specs.declared.job.Action.TheVariants.{Sort}
+use Rattle.isort_cmd.specs.declared.job.Task.{Task}
+use Rattle.isort_cmd.specs.declared.job.Task.TheVariants.{Check, Rewrite}
 use Rattle.isort_cmd.specs.declared.told.Report.{Report}
+use Rattle.isort_cmd.specs.Task.{task_of}
 
 -- the text for standard output, the text for standard error, and the status
 pub record Reported : Type 0 where
@@ -25,26 +27,24 @@ report_value r = record { out = string_bytes r.out; err = string_bytes r.err; st
 abbrev pub nothing : Reported
 nothing = record { out = []; err = []; status = 0 }
 
--- a file that was rewritten: standard input never is
-abbrev pub fixed : List ℕ → Reported
-fixed path = if bytes_eq path (codes "-") then nothing else record nothing { out = codes "Fixing " ++ (path ++ 10 ∷ []) }
+-- a file that was rewritten
+abbrev pub rewritten : List ℕ → Reported
+rewritten path = record nothing { out = codes "Fixing " ++ (path ++ 10 ∷ []) }
 
 -- a file that a check found unsorted
 abbrev pub unsorted : List ℕ → Reported
 unsorted path = record { out = []; err = codes "ERROR: " ++ (path ++ (codes " Imports are incorrectly sorted and/or formatted." ++ 10 ∷ [])); status = 1 }
 
--- what is told of a file whose sorted text differs, by whether it was only checked, and whether the text went to
--- standard output
-abbrev pub changed : List ℕ → Bool → Bool → Reported
-changed path true to_stdout = unsorted path
-changed path false true = nothing
-changed path false false = fixed path
+-- what is told of the file at a path after a task
+abbrev pub told_of : List ℕ → Task → Result Outcome RunError → Reported
+told_of path task (Err e) = record { out = []; err = error_line path e; status = 1 }
+told_of path Check (Ok Changed) = unsorted path
+told_of path Rewrite (Ok Changed) = rewritten path
+told_of path task (Ok outcome) = nothing
 
 -- what is told of the file at a path after an action on it
 abbrev pub reported : List ℕ → Action → Result Outcome RunError → Reported
-reported path action (Err e) = record { out = []; err = error_line path e; status = 1 }
-reported path (Sort check to_stdout settings_file profile line_length multi_line) (Ok Changed) = changed path check to_stdout
-reported path action (Ok outcome) = nothing
+reported path action answer = told_of path (task_of path action) answer
 
 -- why settings are refused
 abbrev pub settings_line : SettingsError → List ℕ

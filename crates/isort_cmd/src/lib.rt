@@ -23,7 +23,7 @@ pub use error::RunError;
 pub use isort_find::{FindOptions, ImportKey};
 pub use isort_settings::{Profile, Settings, SettingsError};
 pub use isort_sort::{Last, Metered, Outcome};
-pub use job::{Action, Job};
+pub use job::{Action, Job, STANDARD_INPUT, Task};
 pub use listing::identify;
 pub use message::{fault_text, settings_text};
 pub use read::read_text;

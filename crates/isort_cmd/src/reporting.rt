@@ -3,7 +3,7 @@ ghost use Rattle.std.specs.Prelude.{◌≡◌, IfOk, IfErr};
 ghost use Rattle.isort_cmd.specs.Reported.{report_value, reported};
 
 use crate::error::RunError;
-use crate::job::Action;
+use crate::job::{Action, Task};
 use crate::message::fault_text;
 use crate::told::Report;
 use isort_sort::Outcome;
@@ -27,25 +27,18 @@ pub fn report(
         err: String::new(alloc),
         status: 0,
     };
-    match (action, answer) {
+    match (action.task(path), answer) {
         (_, Err(error)) => {
             report.err = fault_text(alloc, path, error)?;
             report.status = 1;
         }
-        (Action::Sort { check: true, .. }, Ok(Outcome::Changed)) => {
+        (Task::Check, Ok(Outcome::Changed)) => {
             report.err = format!(in alloc;
                 "ERROR: {path} Imports are incorrectly sorted and/or formatted.\n"
             )?;
             report.status = 1;
         }
-        (
-            Action::Sort {
-                check: false,
-                to_stdout: false,
-                ..
-            },
-            Ok(Outcome::Changed),
-        ) if path != "-" => {
+        (Task::Rewrite, Ok(Outcome::Changed)) => {
             report.out = format!(in alloc; "Fixing {path}\n")?;
         }
         _ => {}
