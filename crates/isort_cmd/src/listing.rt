@@ -18,8 +18,8 @@ use isort_sort::{Last, Metered, write_whole};
 use std::alloc::Global;
 use std::io::{Read, Write};
 
-/// How many bytes a read asks for.
-const PIECE: usize = 8192;
+/// How many bytes a listing asks a read for: few, so that what has come is listed soon.
+const LIST_PIECE: usize = 8192;
 
 /// Looks at the byte that may be held after the last logical line: it may decide a fault.
 fn look_at_held(finder: &mut PieceFinder) -> Result<(), RunError>
@@ -125,7 +125,7 @@ impl Listing<'_> {
             (R.remaining (inner_of reader.new)) (stage_of W.contents self.new writer.new) }
         ensures reader { EndsReading result (last_of reader.new) }
     {
-        let mut buffer = [0u8; PIECE];
+        let mut buffer = [0u8; LIST_PIECE];
         'pieces: loop {
             let count = read_piece(reader, &mut buffer)?;
             if count == 0 {

@@ -12,8 +12,8 @@ use isort_sort::{Last, MOST_INTERRUPTIONS, Metered};
 use std::alloc::Global;
 use std::io::Read;
 
-/// How many bytes a read asks for.
-const PIECE: usize = 16384;
+/// How many bytes are asked for at once where a text is read whole.
+const READ_PIECE: usize = 16384;
 
 /// One read, tried again where it was interrupted fewer than 1000 times in a row.
 pub(crate) fn read_piece<R: Read>(
@@ -60,7 +60,7 @@ pub fn read_text<R: Read>(
     ensures reader { EndsReading result (last_of reader.new) }
 {
     let mut text = Vec::new(alloc);
-    let mut piece = [0u8; PIECE];
+    let mut piece = [0u8; READ_PIECE];
     'pieces: loop {
         let count = read_piece(reader, &mut piece)?;
         if count == 0 {
