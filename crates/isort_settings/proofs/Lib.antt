@@ -1,3 +1,22 @@
+-- How the proof goes.
+--
+-- The text (proofs/Documents): the contract of `toml` becomes `document_of`.
+--
+-- One key (proofs/Readings, Entries, Table): what a reader of value.rt answers is `read_value`, for a list entry by
+-- entry, and taking it changes the field of this key alone.
+--
+-- All keys (proofs/Table): after each key, those before it have their values, and none of them was refused. So the
+-- loop ends with `values_in`, or with the first refusal.
+--
+-- The list of keys (proofs/KeyLaws): it is complete and ascends.
+--
+-- Sections (proofs/Prefixes): the first of all pairs of a prefix and a list is what prefix by prefix finds.
+--
+-- Orders (proofs/OrderParts, OrderRuns, OrderNumbers): the runs that the code splits off are the first parts of the
+-- cut, and of two numbers without leading zeros the longer one is greater.
+--
+-- Total orders (proofs/OrderLaws, OrderThen): one order and then another is total if both are, and so the orders are
+-- total. proofs/OrderRows has rows worked out by hand.
 pub mod Documents
 pub mod KeyLaws
 pub mod OrderLaws

@@ -1,3 +1,40 @@
+-- How the proof goes.
+--
+-- Definitions look at whole lists. An import statement is a relation by cases between terminals and what they bind:
+-- lists are cut at commas, modules at dots. The starts are a filter over all places of the line, by the tokens before
+-- each, and a statement has the tokens before the first place with a `;` at depth 0. There is no flag, and nothing is
+-- read.
+--
+-- Tokens (proofs/TokenLemmas): the terminals that are left after a place, with comments passed over.
+--
+-- Reading is the grammar (proofs/ModuleLemmas, ItemLemmas): Parsing reads a module or an item as long as can be. What
+-- it reads is one by the grammar, and one by the grammar is read whole if nothing after it belongs to it. So there is
+-- one way to cut.
+--
+-- Loops (proofs/ReadingLemmas, ListLemmas): what was read so far of a module, and how a list goes on after its first
+-- item. If the next item isn't read, or neither a comma nor the end follows it, there is no list at all.
+--
+-- What is imported (proofs/NamesLemmas): names, names in brackets or `*`, by the first terminal.
+--
+-- One statement (proofs/StatementLemmas, ReaderLemmas): the items that `ImportItems` gives, one after another, are
+-- `IsImport`, or no list is.
+--
+-- Its end (proofs/EndLemmas): going on token by token with the depth, one comes to the first place that has a `;` at
+-- depth 0.
+--
+-- Shapes (proofs/ShapeLemmas, ActionLemmas, SortableLemmas): a loop over tokens or bytes has seen all places up to its
+-- own. The tests of a line tell, one after another, whether it can be sorted. proofs/ShapeRows has rows worked out by
+-- hand.
+--
+-- One logical line (proofs/BindingLemmas): after each token, what starts before it was bound, and the depth and the
+-- flag for a start are those of the tokens before.
+--
+-- A line without an import (proofs/FirstWordLemmas): where no token is spelled `import` or `from`, no statement is an
+-- import statement, and the line binds nothing.
+--
+-- Laws (proofs/OneListLemmas, DecidingLemmas, OneFaultLemmas): a statement binds one list. Parsing decides of every
+-- statement whether the grammar has it, so each logical line binds a list or has a fault. Two ways to find a first bad
+-- statement are one, so it has one fault, and then binds nothing.
 pub mod TokenLemmas
 pub mod ModuleLemmas
 pub mod ItemLemmas

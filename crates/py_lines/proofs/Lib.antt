@@ -1,3 +1,48 @@
+-- How the proof goes.
+--
+-- Definitions look at the whole text. A reading is a list of pieces, each in its class and before a rest that it may
+-- precede, with brackets in pairs. There is no mode and no stack.
+--
+-- The machine of specs/Private/Machine.antt goes character by character. It keeps the finished pieces, a mode, and the
+-- characters of the open piece. A character grows the open piece, closes it, follows it, or is refused. The code in
+-- mode.rt equals these steps.
+--
+-- The stack of open brackets is no part of the machine's state: it is a fold over the finished pieces (`brackets_of`).
+-- An operator is finished with its character, so the stack is in step with the text: one step does both (`advance`,
+-- proofs/Machine/Advance), and theorems on whole texts go by it. Brackets are in pairs exactly if the stack is empty
+-- at the end (proofs/Pieces).
+--
+-- The machine is right (proofs/Machine). It is sound: the pieces that it has found spell what it read, and are read
+-- before whatever follows. It is complete: it goes through every list of pieces that is read before what follows, and
+-- finds those pieces. So a text has one reading, with or without pairs of brackets. A text is live exactly if the
+-- machine goes through it and the stack takes its brackets, since what is open then can be closed. The mode says which
+-- string or backslash is open and where it starts, and no other is. The stack says it of brackets.
+--
+-- Faults (proofs/Faults): the kind and place that mode and stack give, at the first character that the machine refuses
+-- or at the end, are those of `IsFaultAt`, and no other kind and place are. So every text is read or has one fault.
+--
+-- The lexing of a text (proofs/Lexings, over LogicalLines): the lines that end before the machine stops are the
+-- longest prefix that ends a line, and with the fault they are `IsLexed`. A text has one reading, and one longest
+-- prefix that ends a line, so its logical lines are one list. Its fault is one too: of one kind, at one byte, which
+-- stands after some characters of the text, and these tell its line. From the end of lines that were given, the
+-- machine goes on to the text's end or to its fault, so the lines of the whole text begin with them. A reader at the
+-- start has given none, so every text has some lexing.
+--
+-- The scan (proofs/LineScan): the code follows the machine through one logical line, and its counts are the line's
+-- fields. Words, spaces, operators, short strings, comments and line ends are taken whole, by runs of bytes, in one
+-- loop; in other pieces the characters that leave the open piece as it is are held in one step. A piece taken whole is
+-- closed early, where the next byte shows its end: the scan is then that of the machine with its open piece closed,
+-- until the next piece begins (`ReachedShut`). After a line end the machine goes on as it does alone, so the next line
+-- is scanned from its own start.
+--
+-- The reader (proofs/Readers) puts these together for one call: a line, a fault or the end.
+--
+-- Pieces (proofs/Feeds, over Lexings): from the state of the scan, the theorems over plain lists say which lines the
+-- bytes fed settle, and whether they decide a fault. Of the bytes fed no more are taken than up to the line's end, so
+-- a line is ready as soon as it is settled.
+--
+-- proofs/Text has characters, the bytes that spell them, and vectors of bytes (Lanes). Files named WorkedRows and
+-- DepthRows are rows worked out by hand, on the definitions alone.
 pub mod Text
 pub mod Pieces
 pub mod Machine
