@@ -5,7 +5,7 @@ ghost use Rattle.std.specs.Char.{len_utf8};
 ghost use Rattle.py_lines.specs.Character.{is_hash, is_line_feed, is_operator, is_quote, is_return, is_space};
 ghost use Rattle.py_lines.specs.Piece.{begins};
 ghost use Rattle.py_lines.specs.Private.Machine.{IsSound, start_of, character_kind};
-ghost use Rattle.py_lines.specs.Private.Scan.{TakesNext, AddsTo, Emits, Closes, ReadsCharacter, Begins, Tallies, IsStacked, Takes, Scans, ScansIn, line_start, is_returned, is_return_mode, none_open, stack_of, line_end_progress, ClosesAndAdds, refused_place, IsUnfinished};
+ghost use Rattle.py_lines.specs.Private.Scan.{TakesNext, AddsTo, Emits, Closes, ReadsCharacter, Begins, Tallies, IsStacked, Takes, Scans, ScansIn, line_start, is_returned, none_open, stack_of, line_end_progress, ClosesAndAdds, freed, refused_place, IsUnfinished};
 ghost use Rattle.py_lines.specs.Private.Run.{WhereverReached, is_free, Holds, HasAsciiQuote, opened, AddsToken, TakesRun, TakesText, TakesBracket, TakesLineFeed, TakesReturn, TakesPiece, TakesRemark, line_ended, word_mode, space_mode, Reached, IsNoLonger, LeavesOff, is_word_byte, follows, may_begin};
 ghost use Rattle.py_lines.specs.Token.{is_comment};
 ghost use Rattle.py_lines.specs.declared.token.TokKind.TheVariants.{Op};
@@ -171,6 +171,18 @@ impl Scan {
         })
     }
 
+    /// No piece is open any longer. The next one begins where the scan has come to.
+    #[inline(always)]
+    fn free(&mut self)
+        ensures { self.new ≡ freed self.old }
+    {
+        self.piece = OpenPiece {
+            mode: Mode::Free,
+            start: self.stop,
+            line: self.count.line,
+        };
+    }
+
     /// Ends the open piece where it stops.
     pub fn close(&mut self) -> Result<(), AllocError>
         requires { self.old.piece.start ≤ self.old.stop }
@@ -184,11 +196,7 @@ impl Scan {
             self.indent = self.stop - self.piece.start;
         }
         self.margin = self.margin && self.piece.mode.holds_nothing();
-        self.piece = OpenPiece {
-            mode: Mode::Free,
-            start: self.stop,
-            line: self.count.line,
-        };
+        self.free();
         Ok(())
     }
 
@@ -222,8 +230,7 @@ impl Scan {
         self.read(c);
         self.emit(TokKind::Op(c as u8))?;
         self.margin = false;
-        self.piece.start = self.stop;
-        self.piece.line = self.count.line;
+        self.free();
         Ok(())
     }
 
@@ -237,8 +244,7 @@ impl Scan {
         self.close()?;
         self.read(c);
         self.margin = false;
-        self.piece.start = self.stop;
-        self.piece.line = self.count.line;
+        self.free();
         Ok(())
     }
 
@@ -308,81 +314,10 @@ impl Scan {
         ensures takes { is_free self.old.piece.mode ≡ false → TakesNext self.old c result self.new }
     {
         if self.piece.mode.is_free() {
-            self.begin_free(c)
+            self.begin(c)
         } else {
             self.push(c)
         }
-    }
-
-    /// Takes a character that begins a piece after closed ones.
-    #[inline(always)]
-    fn begin_free(&mut self, c: char) -> Result<Progress, AllocError>
-        requires free { is_free self.old.piece.mode ≡ true }
-        requires bytes { self.old.stop + len_utf8 c < 2 ^ 64 }
-        requires lines { self.old.count.line + 1 < 2 ^ 64 }
-        ensures { OnOk result (Begins self.old c (start_of c) result self.new) }
-    {
-        if is_line_feed(c) {
-            return Ok(self.feed_free(c));
-        }
-        match Start::of(c) {
-            Start::Open(mode) => {
-                self.piece.start = self.stop;
-                self.piece.line = self.count.line;
-                self.read(c);
-                self.piece.mode = mode;
-                Ok(Progress::Going)
-            }
-            Start::Operator => {
-                if !self.brackets.meet(c, self.stop)? {
-                    return Ok(Progress::Refused);
-                }
-                self.operate(c)?;
-                Ok(Progress::Going)
-            }
-            Start::LineEnd => Ok(self.feed_free(c)),
-            Start::Nothing => Ok(Progress::Refused),
-        }
-    }
-
-    /// Takes a line feed after closed pieces.
-    #[inline(always)]
-    fn feed_free(&mut self, c: char) -> Progress
-        requires free { is_free self.old.piece.mode ≡ true }
-        requires bytes { self.old.stop + len_utf8 c < 2 ^ 64 }
-        requires lines { self.old.count.line + 1 < 2 ^ 64 }
-        ensures ends { result ≡ line_end_progress (none_open (stack_of self.old.brackets)) 1 }
-        ensures adds { ClosesAndAdds self.old c None self.new }
-    {
-        self.read(c);
-        self.margin = false;
-        self.piece.start = self.stop;
-        self.piece.line = self.count.line;
-        self.line_end(1)
-    }
-
-    /// The line ends with the CR just read.
-    #[inline(always)]
-    fn end_return(&mut self)
-        requires { is_return_mode self.old.piece.mode ≡ true }
-        ensures { Closes self.old self.new }
-    {
-        self.margin = false;
-        self.piece = OpenPiece {
-            mode: Mode::Free,
-            start: self.stop,
-            line: self.count.line,
-        };
-    }
-
-    /// Takes an operator, which its brackets have met, after closed pieces.
-    fn operate(&mut self, c: char) -> Result<(), AllocError>
-        requires free { is_free self.old.piece.mode ≡ true }
-        requires bytes { self.old.stop + len_utf8 c < 2 ^ 64 }
-        requires ascii { is_operator c ≡ true }
-        ensures { OnOk result (ClosesAndAdds self.old c (Some (Op c)) self.new) }
-    {
-        self.add(TokKind::Op(c as u8), 1)
     }
 
     /// Whether the line ended with the CR just read, unless LF follows.
@@ -578,12 +513,8 @@ impl Scan {
         }
         self.margin = false;
         self.stop += len;
-        self.piece = OpenPiece {
-            mode: Mode::Free,
-            start: self.stop,
-            line: self.count.line,
-        };
         self.count.after_return = false;
+        self.free();
         len
     }
 
@@ -640,9 +571,14 @@ impl Scan {
         requires lines { self.old.count.line + 1 < 2 ^ 64 }
         ensures { TakesLineFeed self.old result self.new }
     {
-        match self.feed_free('\n') {
-            Progress::LineEnded(len) => Taken::LineEnd(len),
-            Progress::Going | Progress::Refused => Taken::Bytes(1),
+        let ends = self.ends_line();
+        self.read('\n');
+        self.margin = false;
+        self.free();
+        if ends {
+            Taken::LineEnd(1)
+        } else {
+            Taken::Bytes(1)
         }
     }
 
@@ -657,11 +593,7 @@ impl Scan {
         self.count.line += 1;
         self.count.after_return = len == 1;
         self.margin = false;
-        self.piece = OpenPiece {
-            mode: Mode::Free,
-            start: self.stop,
-            line: self.count.line,
-        };
+        self.free();
     }
 
     /// Takes the line end that the bytes begin with, after closed pieces: CR LF, or CR alone where it ends the line before
@@ -757,7 +689,7 @@ impl Scan {
                 return Ok(Stop::TextEnd);
             };
             if self.ends_before(c) {
-                self.end_return();
+                self.close()?;
                 return Ok(Stop::LineEnd(1));
             }
             let len = c.len_utf8();

@@ -17,7 +17,7 @@ use Rattle.py_lines.specs.declared.scan.Left.TheVariants as lefts
 use Rattle.py_lines.specs.declared.scan.Stop.{Stop}
 use Rattle.py_lines.specs.declared.scan.Stop.TheVariants as stops
 use Rattle.py_lines.specs.Private.Machine.{Scanned, IsSound, start_of}
-use Rattle.py_lines.specs.Private.Scan.{Tallies, IsStacked, Takes, TakesNext, Begins, Closes, line_start, stack_of, none_open, is_returned, is_return_mode, EndsNoLine, IsAtLineEnd, EndsWhole, ScansIn, Scans}
+use Rattle.py_lines.specs.Private.Scan.{Tallies, IsStacked, TakesNext, Begins, Closes, line_start, stack_of, none_open, is_returned, is_return_mode, IsAtLineEnd, EndsWhole, ScansIn, Scans}
 use Rattle.py_lines.specs.Private.Run.{Holds, HasAsciiQuote, Reached, ReachedShut, IsNoLonger, LeavesOff, is_free}
 use Rattle.py_lines.proofs.LineScan.EarlyEnds.{TakesFrom, taken_free, taken_open, stands_reached, stands_shut, shut_none}
 use Rattle.py_lines.proofs.LineScan.ShortPieces.{free_is, open_reached}

@@ -126,6 +126,10 @@ pub record Closes (old new : Scan) : Type 0 where
   pub count : new.count ≡ old.count
   pub brackets : new.brackets ≡ old.brackets
 
+-- the scan with no piece open where it stops
+abbrev pub freed : Scan → Scan
+freed old = record old { piece = record { mode = modes.Free; start = old.stop; line = old.count.line } }
+
 -- the count of lines after one more character
 pub record Counts (old : Count) (c : ℕ) (new : Count) : Type 0 where
   pub line : new.line ≡ old.line + counts_behind old.after_return c

@@ -2,7 +2,6 @@ use Rattle.std.proofs.Common.{◌≡◌, ℕ, ◌-◌, List, length, take, drop,
 use Rattle.std.specs.Prelude.{encode_utf8}
 use Rattle.std.specs.Char.{len_utf8}
 use Rattle.std.proofs.lemmas.Str.{length-encode}
-use Rattle.std.proofs.lemmas.Bool.{and_parts}
 use Rattle.py_lines.specs.Private.Run.{Holds}
 use Rattle.py_lines.specs.declared.scan.Progress.{Progress}
 use Rattle.py_lines.proofs.LineScan.LineStops.{TakesTo, goes_room, goes_lines, goes_quote, left_ends, left_shuts, shuts_order, shuts_room, shuts_lines, goes_run, goes_character, stops_line, stops_returned, stops_refused, stops_text}
@@ -22,15 +21,17 @@ returns-in_default c =
     let shuts = left_shuts c.in-Bytes.is c.characters.invariant.goes c.in_ok-left.ensures.reached in
     record { stops = stops_text c.args.self.now c.args.bytes.now c.pieces.new.self c.in-Bytes.left.now shuts c.in_default.ensures }
 
-pub end_return-requires : goal.end_return-requires
-end_return-requires c = (and_parts _ _ (and_parts _ _ (sym c.ends_before.ensures ∙ c.if-ends_before.true)).0).0
+pub close-requires : goal.close-requires
+close-requires c =
+    let shuts = left_shuts c.in-Bytes.is c.characters.invariant.goes c.in_ok-left.ensures.reached in
+    shuts_order c.args.self.now c.args.bytes.now c.pieces.new.self c.in-Bytes.left.now c.requires.way shuts
 
 pub returns-then-ends_before : goal.returns-then-ends_before
 returns-then-ends_before c =
     let before = c.in-Bytes.left.now in
     let shuts = left_shuts c.in-Bytes.is c.characters.invariant.goes c.in_ok-left.ensures.reached in
     let b = c.in-Some.ensures in
-    record { stops = stops_returned c.args.self.now c.args.bytes.now c.pieces.new.self before shuts c.in-Some.c b.scalar (drop (len_utf8 c.in-Some.c) before) (sym b.spell) c.end_return.new.self (sym c.ends_before.ensures ∙ c.if-ends_before.true) c.end_return.ensures }
+    record { stops = stops_returned c.args.self.now c.args.bytes.now c.pieces.new.self before shuts c.in-Some.c b.scalar (drop (len_utf8 c.in-Some.c) before) (sym b.spell) c.close.new.self (sym c.ends_before.ensures ∙ c.if-ends_before.true) c.in_ok-close.ensures }
 
 pub take-requires-clause-order : goal.take-requires-clause-order
 take-requires-clause-order c =

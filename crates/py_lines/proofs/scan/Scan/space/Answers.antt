@@ -2,8 +2,7 @@ use Rattle.std.proofs.Common.{◌≡◌, ◌+◌, inl, inr, sym, ap, subst, Bool
 use Rattle.py_lines.specs.Character.{is_space}
 use Rattle.py_lines.specs.declared.mode.Mode.TheVariants as modes
 use Rattle.py_lines.specs.declared.scan.Scan.{Scan}
-use Rattle.py_lines.specs.Private.Scan.{indent_closed, Closes}
-use Rattle.py_lines.specs.Private.Scan.{stack_of}
+use Rattle.py_lines.specs.Private.Scan.{Closes, freed, indent_closed, stack_of}
 use Rattle.py_lines.specs.Private.Run.{may_begin, opened, space_mode}
 use Rattle.py_lines.proofs.LineScan.ShortPieces.{takes_run, space_closes, followed_by}
 use Rattle.py_lines.proofs.scan.Scan.space.Goals as goal
@@ -13,15 +12,15 @@ pub returns : goal.returns
 returns c =
     let old = c.args.self.now in
     let len = c.space_run-len.result in
-    let P : Scan → Type 0 = λ s. Closes (opened old modes.Space len) (record s { margin = false; stop = s.stop + len; piece = record { mode = modes.Free; start = s.stop + len; line = s.count.line }; count = record { line = s.count.line; after_return = false } }) in
+    let P : Scan → Type 0 = λ s. Closes (opened old modes.Space len) (freed (record s { margin = false; stop = s.stop + len; count = record { line = s.count.line; after_return = false } })) in
     let by : (b : Bool) → old.margin ≡ b → indent_closed old.indent modes.Space b len ≡ indent_closed old.indent modes.Space old.margin len = λ b is. ap (λ (m : Bool). indent_closed old.indent modes.Space m len) (sym is) in
     let next = followed_by may_begin (stack_of old.brackets) c.args.bytes.now len true (sym (c.is_begun.ensures c.if-not-is_begun.false)) in
     takes_run is_space may_begin space_mode old c.args.bytes.now len _ c.space_run-len.ensures c.requires.begins
     (inr (
-      elim c.if-self.branch [
+      subst (Closes (opened old modes.Space len)) (sym c.free.ensures) (elim c.if-self.branch [
         | then-self w ↦ subst P (sym w.self-is) (space_closes old len len (by true w.if-self.true))
         | else-self w ↦ subst P (sym w.self-is) (space_closes old len old.indent (by false w.if-self.false))
-      ],
+      ]),
       next,
     ))
 

@@ -1,6 +1,7 @@
-use Rattle.std.proofs.Common.{◌∙◌, refl, ap, ◌++◌, ◌∷◌, []}
+use Rattle.std.proofs.Common.{Some, ◌∙◌, refl, sym, ap, subst, ◌++◌, ◌∷◌, []}
+use Rattle.py_lines.specs.declared.scan.Scan.{Scan}
 use Rattle.py_lines.specs.declared.token.TokKind.TheVariants.{Op}
-use Rattle.py_lines.specs.Private.Scan.{kind_with}
+use Rattle.py_lines.specs.Private.Scan.{ClosesAndAdds, kind_with}
 use Rattle.py_lines.proofs.LineScan.LineCount.{same_token, counts_from}
 use Rattle.py_lines.proofs.scan.Scan.stand.Goals as goal
 
@@ -9,12 +10,11 @@ returns c =
     let mid = c.close.new.self in
     let reads = c.read.ensures in
     let emits = c.in_ok-emit.ensures in
-    let closes = c.in_ok-close.ensures in
-    record {
+    subst (λ (s : Scan). ClosesAndAdds c.args.self.now c.args.c (Some (Op c.args.c)) s) (sym c.free.ensures) (record {
       mid = mid;
-      closes = closes;
+      closes = c.in_ok-close.ensures;
       stands = record {
-        mode = emits.mode ∙ reads.mode ∙ closes.mode;
+        mode = refl;
         start = emits.stop ∙ reads.stop;
         stop = emits.stop ∙ reads.stop;
         count = counts_from mid.count c.args.c c.read.new.self.count c.emit.new.self.count emits.count reads.count;
@@ -27,4 +27,4 @@ returns c =
             ∙ ap (λ t. mid.tokens.items ++ t ∷ []) (same_token (Op c.args.c) _ _ _ _ _ _ reads.start reads.stop reads.piece_line);
         brackets = emits.brackets ∙ reads.brackets;
       };
-    }
+    })
