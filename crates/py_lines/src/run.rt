@@ -3,7 +3,7 @@
 ghost use Rattle.std.specs.Prelude.{◌≡◌, ◌<◌, ◌==◌, ℕ, Bool, List, length};
 ghost use Rattle.std.specs.List.{prefix_len};
 ghost use Rattle.py_lines.specs.Character.{is_space};
-ghost use Rattle.py_lines.specs.Private.Run.{BeginsSo, IsRunOf, Marks, is_between, is_word_byte, is_comment_byte, is_body_byte, is_text_byte, stays};
+ghost use Rattle.py_lines.specs.Private.Run.{BeginsSo, HasAsciiQuote, IsRunOf, Marks, is_between, is_in_run, is_word_byte, is_comment_byte, is_body_byte, is_text_byte, stays};
 
 use crate::character::is_break;
 use crate::mode::{Mode, Spelling};
@@ -31,11 +31,11 @@ fn is_space_byte(b: u8) -> bool
 
 /// Whether the byte neither closes a string of this quote nor escapes in it, and ends no line.
 #[tactic(auto, unfolding(crate::specs::Private::Run::is_body_byte))]
-fn is_body_byte(quote: char, b: u8) -> bool
+fn is_body_byte(quote: u8, b: u8) -> bool
     ensures { result ≡ is_body_byte quote b }
 {
     // Most bytes are letters, which come after the backslash.
-    b as char != quote && (b > b'\\' || !matches!(b, b'\\' | b'\n' | b'\r'))
+    b != quote && (b > b'\\' || !matches!(b, b'\\' | b'\n' | b'\r'))
 }
 
 /// What a piece begins with, where it is ASCII and closed pieces stand before.
@@ -77,7 +77,7 @@ static FIRST_BYTES: [FirstByte; 256] = [
 ];
 
 /// Whether the byte is ASCII, and neither closes a string of this quote nor escapes in it, and ends no line.
-fn is_text_byte(quote: char, b: u8) -> bool
+fn is_text_byte(quote: u8, b: u8) -> bool
     ensures { result ≡ is_text_byte quote b }
 {
     is_body_byte(quote, b) && b < 128
@@ -111,6 +111,14 @@ fn words(lanes: u8x16) -> u8x16
 {
     let capital = between(lanes, b'0', b'9') | between(lanes, b'A', b'Z');
     capital | between(lanes, b'a', b'z') | equal(lanes, b'_')
+}
+
+/// The lanes that hold bytes of space.
+#[inline(always)]
+fn spaces(lanes: u8x16) -> u8x16
+    ensures { Marks is_space lanes result }
+{
+    equal(lanes, b' ') | (equal(lanes, b'\t') | equal(lanes, b'\x0c'))
 }
 
 /// The lanes of the body of a string.
@@ -147,76 +155,81 @@ fn set_first(mask: u8x16) -> usize
     }
 }
 
-/// How many bytes of words a text begins with.
-#[inline(always)]
-pub fn word_run(bytes: &[u8]) -> usize
-    ensures { IsRunOf is_word_byte bytes.now result }
-{
-    let mut len = 0;
-    while bytes.len() - len >= 16 {
-        let more = set_first(words(u8x16::from_slice(&bytes[len..])));
-        len += more;
-        if more < 16 {
-            return len;
+/// What the bytes of a run are.
+#[derive(Clone, Copy)]
+pub enum Run {
+    /// ASCII letters, digits and underscores.
+    Word,
+    /// Spaces, tabs and form feeds.
+    Space,
+    /// The body of a string of this quote, up to what escapes or ends a line.
+    Body(u8),
+    /// The same, as far as it is ASCII.
+    Text(u8),
+}
+
+impl Run {
+    /// Whether the byte is one of them.
+    fn holds(self, b: u8) -> bool
+        ensures { result ≡ is_in_run self b }
+    {
+        match self {
+            Run::Word => is_word_byte(b),
+            Run::Space => is_space_byte(b),
+            Run::Body(quote) => is_body_byte(quote, b),
+            Run::Text(quote) => is_text_byte(quote, b),
         }
     }
-    len + short_word_run(&bytes[len..])
-}
 
-/// The same, a byte at a time.
-fn short_word_run(bytes: &[u8]) -> usize
-    ensures { IsRunOf is_word_byte bytes.now result }
-{
-    let mut len = 0;
-    while len < bytes.len() && is_word_byte(bytes[len]) {
-        len += 1;
+    /// The lanes that hold such bytes.
+    #[inline(always)]
+    fn mark(self, lanes: u8x16) -> u8x16
+        ensures { Marks (is_in_run self) lanes result }
+    {
+        match self {
+            Run::Word => words(lanes),
+            Run::Space => spaces(lanes),
+            Run::Body(quote) => body(quote, lanes),
+            Run::Text(quote) => text(quote, lanes),
+        }
     }
-    len
+
+    /// How many such bytes a text begins with. They are taken sixteen at a time.
+    #[inline(always)]
+    pub fn len_in(self, bytes: &[u8]) -> usize
+        ensures { IsRunOf (is_in_run self) bytes.now result }
+    {
+        let mut len = 0;
+        while bytes.len() - len >= 16 {
+            let more = set_first(self.mark(u8x16::from_slice(&bytes[len..])));
+            len += more;
+            if more < 16 {
+                return len;
+            }
+        }
+        len + self.short_len_in(&bytes[len..])
+    }
+
+    /// The same, a byte at a time.
+    fn short_len_in(self, bytes: &[u8]) -> usize
+        ensures { IsRunOf (is_in_run self) bytes.now result }
+    {
+        let mut len = 0;
+        while len < bytes.len() && self.holds(bytes[len]) {
+            len += 1;
+        }
+        len
+    }
 }
 
-/// The same, where it mostly begins with none: after a character of another script.
+/// How many bytes of words a text begins with, where it mostly begins with none: after a character of another script.
 fn later_word_run(bytes: &[u8]) -> usize
     ensures { IsRunOf is_word_byte bytes.now result }
 {
     if bytes.is_empty() || !is_word_byte(bytes[0]) {
         return 0;
     }
-    word_run(bytes)
-}
-
-/// The lanes that hold bytes of space.
-#[inline(always)]
-fn spaces(lanes: u8x16) -> u8x16
-    ensures { Marks is_space lanes result }
-{
-    equal(lanes, b' ') | (equal(lanes, b'\t') | equal(lanes, b'\x0c'))
-}
-
-/// How many bytes of space a text begins with.
-#[inline(always)]
-pub fn space_run(bytes: &[u8]) -> usize
-    ensures { IsRunOf is_space bytes.now result }
-{
-    let mut len = 0;
-    while bytes.len() - len >= 16 {
-        let more = set_first(spaces(u8x16::from_slice(&bytes[len..])));
-        len += more;
-        if more < 16 {
-            return len;
-        }
-    }
-    len + short_space_run(&bytes[len..])
-}
-
-/// The same, a byte at a time.
-fn short_space_run(bytes: &[u8]) -> usize
-    ensures { IsRunOf is_space bytes.now result }
-{
-    let mut len = 0;
-    while len < bytes.len() && is_space_byte(bytes[len]) {
-        len += 1;
-    }
-    len
+    Run::Word.len_in(bytes)
 }
 
 /// How many bytes a text begins with that end no line.
@@ -232,79 +245,16 @@ pub fn comment_run(bytes: &[u8]) -> usize
     }
 }
 
-/// How many bytes of the body of a string a text begins with.
-fn body_run(quote: char, bytes: &[u8]) -> usize
-    ensures { IsRunOf (is_body_byte quote) bytes.now result }
-{
-    if quote.is_ascii() {
-        wide_body_run(quote as u8, bytes)
-    } else {
-        short_body_run(quote, bytes)
-    }
-}
-
-/// The same, sixteen bytes at a time.
-fn wide_body_run(quote: u8, bytes: &[u8]) -> usize
-    ensures { IsRunOf (is_body_byte quote) bytes.now result }
-{
-    let mut len = 0;
-    while bytes.len() - len >= 16 {
-        let more = set_first(body(quote, u8x16::from_slice(&bytes[len..])));
-        len += more;
-        if more < 16 {
-            return len;
-        }
-    }
-    len + short_body_run(quote as char, &bytes[len..])
-}
-
-/// The same, a byte at a time.
-fn short_body_run(quote: char, bytes: &[u8]) -> usize
-    ensures { IsRunOf (is_body_byte quote) bytes.now result }
-{
-    let mut len = 0;
-    while len < bytes.len() && is_body_byte(quote, bytes[len]) {
-        len += 1;
-    }
-    len
-}
-
-/// How many bytes of the body of a string a text begins with, where it is ASCII.
-#[inline(always)]
-pub fn text_run(quote: u8, bytes: &[u8]) -> usize
-    ensures { IsRunOf (is_text_byte quote) bytes.now result }
-{
-    let mut len = 0;
-    while bytes.len() - len >= 16 {
-        let more = set_first(text(quote, u8x16::from_slice(&bytes[len..])));
-        len += more;
-        if more < 16 {
-            return len;
-        }
-    }
-    len + short_text_run(quote as char, &bytes[len..])
-}
-
-/// The same, a byte at a time.
-fn short_text_run(quote: char, bytes: &[u8]) -> usize
-    ensures { IsRunOf (is_text_byte quote) bytes.now result }
-{
-    let mut len = 0;
-    while len < bytes.len() && is_text_byte(quote, bytes[len]) {
-        len += 1;
-    }
-    len
-}
-
 /// How many bytes a text begins with that leave the open piece as it is, and end no line.
 pub fn run_in(mode: Mode, bytes: &[u8]) -> usize
+    requires quote { HasAsciiQuote mode }
     ensures { IsRunOf (stays mode) bytes.now result }
 {
     match mode {
-        Mode::Space => space_run(bytes),
+        Mode::Space => Run::Space.len_in(bytes),
         Mode::Word(Spelling::Number | Spelling::Name) => later_word_run(bytes),
         Mode::Comment => comment_run(bytes),
-        Mode::Inside(quote) | Mode::Long(quote) => body_run(quote, bytes),
+        Mode::Inside(quote) | Mode::Long(quote) => Run::Body(quote as u8).len_in(bytes),
         _ => 0,
     }
 }

@@ -16,7 +16,7 @@ use crate::character::{is_closing, is_line_feed, is_opening};
 use crate::count::Count;
 use crate::fault::FaultKind;
 use crate::mode::{Mode, Move, Spelling, Start};
-use crate::run::{FirstByte, comment_run, run_in, space_run, text_run, word_run};
+use crate::run::{FirstByte, Run, comment_run, run_in};
 use crate::token::{TokKind, Token};
 use crate::unit::UnitKind;
 use crate::utf8::{first_character, is_utf8, utf8_front};
@@ -483,7 +483,7 @@ impl Scan {
         requires begins { begins is_word_byte bytes.now ≡ true }
         ensures { IfOk result (λ len. TakesRun is_word_byte follows word_mode self.old bytes.now len self.new) }
     {
-        let len = word_run(bytes);
+        let len = Run::Word.len_in(bytes);
         if !self.is_followed(&bytes[len..]) {
             self.open(Mode::Word(Spelling::of_word(&bytes[..len])), len);
             return Ok(len);
@@ -503,7 +503,7 @@ impl Scan {
         requires begins { begins is_space bytes.now ≡ true }
         ensures { TakesRun is_space may_begin space_mode self.old bytes.now result self.new }
     {
-        let len = space_run(bytes);
+        let len = Run::Space.len_in(bytes);
         if !self.is_begun(&bytes[len..]) {
             self.open(Mode::Space, len);
             return len;
@@ -526,7 +526,7 @@ impl Scan {
     {
         let quote = bytes[0];
         let body = &bytes[1..];
-        let len = text_run(quote, body);
+        let len = Run::Text(quote).len_in(body);
         if len == 0 || len == body.len() || body[len] != quote {
             return Ok(Taken::Nothing);
         }

@@ -22,6 +22,8 @@ use Rattle.py_lines.specs.declared.mode.Move.TheVariants as moves
 use Rattle.py_lines.specs.declared.mode.Start.TheVariants as starts
 use Rattle.py_lines.specs.declared.run.FirstByte.{FirstByte}
 use Rattle.py_lines.specs.declared.run.FirstByte.TheVariants as first
+use Rattle.py_lines.specs.declared.run.Run.{Run}
+use Rattle.py_lines.specs.declared.run.Run.TheVariants as runs
 use Rattle.py_lines.specs.declared.scan.Progress.TheVariants as progress
 use Rattle.py_lines.specs.declared.scan.Scan.{Scan}
 use Rattle.py_lines.specs.declared.scan.Stop.TheVariants as stops
@@ -56,6 +58,13 @@ is_body_byte quote c = not ((c == quote) || is_one_of (codes "\\\n\r") c)
 -- the same, of ASCII
 abbrev pub is_text_byte : ℕ → ℕ → Bool
 is_text_byte quote c = is_body_byte quote c && nat_lt c 128
+
+-- whether a byte is one of a run's
+abbrev pub is_in_run : Run → ℕ → Bool
+is_in_run runs.Word = is_word_byte
+is_in_run runs.Space = is_space
+is_in_run (runs.Body q) = is_body_byte q
+is_in_run (runs.Text q) = is_text_byte q
 
 -- what stands in a comment
 abbrev pub is_comment_byte : ℕ → Bool
