@@ -17,6 +17,7 @@ mod source;
 mod token;
 mod unit;
 mod utf8;
+mod whole_pieces;
 
 pub use fault::{Fault, FaultKind, LexError};
 pub use lines::Lines;

@@ -1,8 +1,9 @@
 //! Runs of bytes that leave the open piece as it is.
 
-ghost use Rattle.std.specs.Prelude.{◌≡◌, ◌<◌, ◌==◌, ℕ, Bool, List, length};
+ghost use Rattle.std.specs.Prelude.{◌≡◌, ◌<◌, ◌==◌, ℕ, Bool, true, List, length};
 ghost use Rattle.std.specs.List.{prefix_len};
 ghost use Rattle.py_lines.specs.Character.{is_space};
+ghost use Rattle.py_lines.specs.Piece.{begins};
 ghost use Rattle.py_lines.specs.Private.Run.{BeginsSo, HasAsciiQuote, IsRunOf, Marks, is_between, is_in_run, is_word_byte, is_comment_byte, is_body_byte, is_text_byte, stays};
 
 use crate::character::is_break;
@@ -219,6 +220,19 @@ impl Run {
             len += 1;
         }
         len
+    }
+}
+
+/// How many bytes of space a text begins with that begins with one. Mostly it stands alone.
+#[inline(always)]
+pub fn space_run(bytes: &[u8]) -> usize
+    requires { begins is_space bytes.now ≡ true }
+    ensures { IsRunOf is_space bytes.now result }
+{
+    if bytes.len() > 1 && !is_space_byte(bytes[1]) {
+        1
+    } else {
+        Run::Space.len_in(bytes)
     }
 }
 

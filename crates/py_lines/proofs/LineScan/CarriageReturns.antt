@@ -13,7 +13,7 @@ use Rattle.py_lines.specs.declared.scan.Progress.{Progress}
 use Rattle.py_lines.specs.declared.scan.Progress.TheVariants as progress
 use Rattle.py_lines.specs.declared.scan.Scan.{Scan}
 use Rattle.py_lines.specs.declared.scan.Stop.TheVariants as stops
-use Rattle.py_lines.specs.declared.scan.Taken.TheVariants as taken
+use Rattle.py_lines.specs.declared.whole_pieces.Taken.TheVariants as taken
 use Rattle.py_lines.specs.Private.Machine.{move_of}
 use Rattle.py_lines.specs.Private.Scan.{Begins, Closes, ReadsCharacter, counts_behind, is_return_mode, is_returned, line_end_progress, none_open, stack_of}
 use Rattle.py_lines.specs.Private.Run.{Reached, TakesReturn, TakesReturnAlone, TakesReturnFeed, is_free, line_ended}

@@ -12,8 +12,8 @@ use Rattle.py_lines.specs.declared.mode.Mode.TheVariants as modes
 use Rattle.py_lines.specs.declared.scan.Progress.{Progress}
 use Rattle.py_lines.specs.declared.scan.Progress.TheVariants as progress
 use Rattle.py_lines.specs.declared.scan.Scan.{Scan}
-use Rattle.py_lines.specs.declared.scan.Left.{Left}
-use Rattle.py_lines.specs.declared.scan.Left.TheVariants as lefts
+use Rattle.py_lines.specs.declared.whole_pieces.Left.{Left}
+use Rattle.py_lines.specs.declared.whole_pieces.Left.TheVariants as lefts
 use Rattle.py_lines.specs.declared.scan.Stop.{Stop}
 use Rattle.py_lines.specs.declared.scan.Stop.TheVariants as stops
 use Rattle.py_lines.specs.Private.Machine.{Scanned, IsSound, start_of}

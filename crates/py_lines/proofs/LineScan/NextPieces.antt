@@ -12,7 +12,7 @@ use Rattle.py_lines.specs.declared.scan.Progress.{Progress}
 use Rattle.py_lines.specs.declared.scan.Progress.TheVariants as progress
 use Rattle.py_lines.specs.declared.scan.Scan.{Scan}
 use Rattle.py_lines.specs.declared.scan.Stop.TheVariants as stops
-use Rattle.py_lines.specs.declared.scan.Taken.TheVariants as taken
+use Rattle.py_lines.specs.declared.whole_pieces.Taken.TheVariants as taken
 use Rattle.py_lines.specs.Private.Scan.{Begins, Counts, counts_behind, is_returned}
 use Rattle.py_lines.specs.Private.Run.{BeginsWithFeed, Reached, TakesLineFeed, TakesPiece, is_free, is_word_byte, follows, may_begin, space_mode, word_mode}
 use Rattle.py_lines.proofs.Machine.Starts.{start-feed}

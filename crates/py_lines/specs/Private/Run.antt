@@ -27,10 +27,10 @@ use Rattle.py_lines.specs.declared.run.Run.TheVariants as runs
 use Rattle.py_lines.specs.declared.scan.Progress.TheVariants as progress
 use Rattle.py_lines.specs.declared.scan.Scan.{Scan}
 use Rattle.py_lines.specs.declared.scan.Stop.TheVariants as stops
-use Rattle.py_lines.specs.declared.scan.Left.{Left}
-use Rattle.py_lines.specs.declared.scan.Left.TheVariants as left
-use Rattle.py_lines.specs.declared.scan.Taken.{Taken}
-use Rattle.py_lines.specs.declared.scan.Taken.TheVariants as taken
+use Rattle.py_lines.specs.declared.whole_pieces.Left.{Left}
+use Rattle.py_lines.specs.declared.whole_pieces.Left.TheVariants as left
+use Rattle.py_lines.specs.declared.whole_pieces.Taken.{Taken}
+use Rattle.py_lines.specs.declared.whole_pieces.Taken.TheVariants as taken
 use Rattle.py_lines.specs.Character.{is_space, is_break, is_operator, is_hash, is_backslash, is_quote, is_line_feed, is_return}
 
 -- as many bytes pass as there are before the first that doesn't

@@ -1,6 +1,6 @@
 use Rattle.std.proofs.Common.{◌-◌, Ok, sym, ap, ◌∙◌, subst, arith, length, take_all, drop, length-drop}
-use Rattle.py_lines.specs.declared.scan.Taken.{Taken}
-use Rattle.py_lines.specs.declared.scan.Taken.TheVariants as taken
+use Rattle.py_lines.specs.declared.whole_pieces.Taken.{Taken}
+use Rattle.py_lines.specs.declared.whole_pieces.Taken.TheVariants as taken
 use Rattle.py_lines.specs.Private.Run.{TakesPiece}
 use Rattle.py_lines.proofs.LineScan.LineStops.{ShutsTo}
 use Rattle.py_lines.proofs.LineScan.NextPieces.{ends_line, none_goes, piece_far, piece_goes}

@@ -1,0 +1,318 @@
+//! Pieces that bytes hold whole. Each is taken at once, after closed ones.
+
+ghost use Rattle.std.specs.Prelude.{◌≡◌, ◌+◌, ◌<◌, ◌^◌, true, false, length, OnOk, IfOk};
+ghost use Rattle.py_lines.specs.Character.{is_hash, is_operator, is_quote, is_return, is_space};
+ghost use Rattle.py_lines.specs.Piece.{begins};
+ghost use Rattle.py_lines.specs.Private.Scan.{stack_of};
+ghost use Rattle.py_lines.specs.Private.Run.{WhereverReached, is_free, opened, AddsToken, TakesRun, TakesText, TakesBracket, TakesLineFeed, TakesReturn, TakesPiece, TakesRemark, line_ended, word_mode, space_mode, IsNoLonger, LeavesOff, is_word_byte, follows, may_begin};
+ghost use Rattle.py_lines.specs.Token.{is_comment};
+
+use crate::character::is_line_feed;
+use crate::mode::{Mode, Spelling};
+use crate::run::{FirstByte, Run, comment_run, space_run};
+use crate::scan::{OpenPiece, Scan};
+use crate::token::{TokKind, Token};
+use crate::utf8::is_utf8;
+use std::alloc::AllocError;
+
+/// What was taken after closed pieces.
+#[derive(Clone, Copy)]
+enum Taken {
+    /// So many bytes, which don't end the line.
+    Bytes(usize),
+    /// The line end, of so many bytes, that ends the line.
+    LineEnd(usize),
+    Nothing,
+}
+
+/// What whole pieces leave.
+#[derive(Clone, Copy)]
+pub enum Left<'s> {
+    /// The bytes after them, which may go on in the line.
+    Bytes(&'s [u8]),
+    /// The line has ended: so many bytes are its line end.
+    LineEnd(usize),
+}
+
+impl Scan {
+    /// Opens a piece of so many bytes, none of which ends a line, after closed ones.
+    fn open(&mut self, mode: Mode, len: usize)
+        requires { self.old.stop + len < 2 ^ 64 }
+        ensures { self.new ≡ opened self.old mode len }
+    {
+        self.piece = OpenPiece {
+            mode,
+            start: self.stop,
+            line: self.count.line,
+        };
+        self.stop += len;
+        self.count.after_return = false;
+    }
+
+    /// A token of so many bytes, none of which ends a line, after closed pieces. It is no comment.
+    fn add(&mut self, kind: TokKind, len: usize) -> Result<(), AllocError>
+        requires bytes { self.old.stop + len < 2 ^ 64 }
+        requires no_comment { is_comment kind ≡ false }
+        ensures { OnOk result (AddsToken self.old kind len self.new) }
+    {
+        let start = self.stop;
+        let stop = start + len;
+        let line = self.count.line;
+        self.push_token(Token {
+            kind,
+            start,
+            stop,
+            line,
+        })?;
+        self.piece = OpenPiece {
+            mode: Mode::Free,
+            start: stop,
+            line,
+        };
+        self.stop = stop;
+        self.count.after_return = false;
+        self.margin = false;
+        Ok(())
+    }
+
+    /// Whether a piece that may stand next begins so, other than a string.
+    #[inline(always)]
+    fn follows(&self, byte: u8) -> bool
+        ensures { result ≡ true → follows (stack_of self.now.brackets) byte ≡ true }
+    {
+        match FirstByte::of(byte) {
+            FirstByte::Word | FirstByte::Space | FirstByte::Operator => true,
+            FirstByte::LineFeed | FirstByte::Return => true,
+            FirstByte::Hash | FirstByte::Backslash => true,
+            FirstByte::Bracket => self.brackets.allows(byte as char),
+            FirstByte::Quote | FirstByte::Other => false,
+        }
+    }
+
+    /// The same, or a string.
+    #[inline(always)]
+    fn may_begin(&self, byte: u8) -> bool
+        ensures { result ≡ true → may_begin (stack_of self.now.brackets) byte ≡ true }
+    {
+        match FirstByte::of(byte) {
+            FirstByte::Quote => true,
+            _ => self.follows(byte),
+        }
+    }
+
+    /// Whether the bytes begin with a piece that may stand next, other than a string.
+    #[inline(always)]
+    fn is_followed(&self, bytes: &[u8]) -> bool
+        ensures { result ≡ true → begins (follows (stack_of self.now.brackets)) bytes.now ≡ true }
+    {
+        match bytes.first().copied() {
+            Some(byte) => self.follows(byte),
+            None => false,
+        }
+    }
+
+    /// The same, or with a string.
+    #[inline(always)]
+    fn is_begun(&self, bytes: &[u8]) -> bool
+        ensures { result ≡ true → begins (may_begin (stack_of self.now.brackets)) bytes.now ≡ true }
+    {
+        match bytes.first().copied() {
+            Some(byte) => self.may_begin(byte),
+            None => false,
+        }
+    }
+
+    /// Takes the word that the bytes begin with, after closed pieces, and answers its length.
+    fn word(&mut self, bytes: &[u8]) -> Result<usize, AllocError>
+        requires bytes { self.old.stop + length bytes.now < 2 ^ 64 }
+        requires begins { begins is_word_byte bytes.now ≡ true }
+        ensures { IfOk result (λ len. TakesRun is_word_byte follows word_mode self.old bytes.now len self.new) }
+    {
+        let len = Run::Word.len_in(bytes);
+        if !self.is_followed(&bytes[len..]) {
+            self.open(Mode::Word(Spelling::of_word(&bytes[..len])), len);
+            return Ok(len);
+        }
+        let kind = if bytes[0].is_ascii_digit() {
+            TokKind::Number
+        } else {
+            TokKind::Name
+        };
+        self.add(kind, len)?;
+        Ok(len)
+    }
+
+    /// Takes the space that the bytes begin with, after closed pieces, and answers its length.
+    fn space(&mut self, bytes: &[u8]) -> usize
+        requires bytes { self.old.stop + length bytes.now < 2 ^ 64 }
+        requires begins { begins is_space bytes.now ≡ true }
+        ensures { TakesRun is_space may_begin space_mode self.old bytes.now result self.new }
+    {
+        let len = space_run(bytes);
+        if !self.is_begun(&bytes[len..]) {
+            self.open(Mode::Space, len);
+            return len;
+        }
+        if self.margin {
+            self.indent = len;
+        }
+        self.margin = false;
+        self.stop += len;
+        self.count.after_return = false;
+        self.free();
+        len
+    }
+
+    /// Takes the string that the bytes begin with, after closed pieces: where it is short, ASCII and has no escape.
+    fn string(&mut self, bytes: &[u8]) -> Result<Taken, AllocError>
+        requires bytes { self.old.stop + length bytes.now < 2 ^ 64 }
+        requires begins { begins is_quote bytes.now ≡ true }
+        ensures { TakesText self.old bytes.now result self.new }
+    {
+        let quote = bytes[0];
+        let body = &bytes[1..];
+        let len = Run::Text(quote).len_in(body);
+        if len == 0 || len == body.len() || body[len] != quote {
+            return Ok(Taken::Nothing);
+        }
+        self.add(TokKind::Str, len + 2)?;
+        Ok(Taken::Bytes(len + 2))
+    }
+
+    /// Takes the bracket that the bytes begin with, after closed pieces, if it may stand there.
+    fn bracket(&mut self, bytes: &[u8]) -> Result<Taken, AllocError>
+        requires bytes { self.old.stop + length bytes.now < 2 ^ 64 }
+        requires begins { begins is_operator bytes.now ≡ true }
+        ensures { TakesBracket self.old bytes.now result self.new }
+    {
+        let bracket = bytes[0];
+        if !self.brackets.meet(bracket as char, self.stop)? {
+            return Ok(Taken::Nothing);
+        }
+        self.add(TokKind::Op(bracket), 1)?;
+        Ok(Taken::Bytes(1))
+    }
+
+    /// Takes the comment that the bytes begin with, after closed pieces, if it is whole characters and a line end follows it.
+    fn comment(&mut self, bytes: &[u8]) -> Result<Taken, AllocError>
+        requires bytes { self.old.stop + length bytes.now < 2 ^ 64 }
+        requires begins { begins is_hash bytes.now ≡ true }
+        ensures { TakesRemark self.old bytes.now result self.new }
+    {
+        let len = comment_run(bytes);
+        if len == bytes.len() || !is_utf8(&bytes[..len]) {
+            return Ok(Taken::Nothing);
+        }
+        self.open(Mode::Comment, len);
+        self.close()?;
+        Ok(Taken::Bytes(len))
+    }
+
+    /// Takes the LF that the bytes begin with, after closed pieces.
+    #[inline(always)]
+    fn line_feed(&mut self) -> Taken
+        requires free { is_free self.old.piece.mode ≡ true }
+        requires bytes { self.old.stop + 1 < 2 ^ 64 }
+        requires lines { self.old.count.line + 1 < 2 ^ 64 }
+        ensures { TakesLineFeed self.old result self.new }
+    {
+        let ends = self.ends_line();
+        self.read('\n');
+        self.margin = false;
+        self.free();
+        if ends {
+            Taken::LineEnd(1)
+        } else {
+            Taken::Bytes(1)
+        }
+    }
+
+    /// Passes a line end of so many bytes, which CR begins, after closed pieces.
+    #[inline(always)]
+    fn pass_return(&mut self, len: usize)
+        requires bytes { self.old.stop + len < 2 ^ 64 }
+        requires lines { self.old.count.line + 1 < 2 ^ 64 }
+        ensures { self.new ≡ line_ended self.old len }
+    {
+        self.stop += len;
+        self.count.line += 1;
+        self.count.after_return = len == 1;
+        self.margin = false;
+        self.free();
+    }
+
+    /// Takes the line end that the bytes begin with, after closed pieces: CR LF, or CR alone where it ends the line before
+    /// another byte.
+    #[inline(always)]
+    fn carriage_return(&mut self, bytes: &[u8]) -> Taken
+        requires bytes { self.old.stop + length bytes.now < 2 ^ 64 }
+        requires lines { self.old.count.line + length bytes.now < 2 ^ 64 }
+        requires begins { begins is_return bytes.now ≡ true }
+        ensures { TakesReturn self.old bytes.now result self.new }
+    {
+        let Some(next) = bytes.get(1).copied() else {
+            return Taken::Nothing;
+        };
+        let ends = self.ends_line();
+        if is_line_feed(next as char) {
+            self.pass_return(2);
+            return if ends {
+                Taken::LineEnd(2)
+            } else {
+                Taken::Bytes(2)
+            };
+        }
+        if !ends {
+            return Taken::Nothing;
+        }
+        self.pass_return(1);
+        Taken::LineEnd(1)
+    }
+
+    /// Takes the piece that the bytes begin with, after closed pieces: a word, space, an operator, a string, a comment or
+    /// a line end.
+    #[inline(always)]
+    fn piece(&mut self, bytes: &[u8]) -> Result<Taken, AllocError>
+        requires free { is_free self.old.piece.mode ≡ true }
+        requires bytes { self.old.stop + length bytes.now < 2 ^ 64 }
+        requires lines { self.old.count.line + length bytes.now < 2 ^ 64 }
+        ensures { TakesPiece self.old bytes.now result self.new }
+    {
+        let Some(first) = bytes.first().copied() else {
+            return Ok(Taken::Nothing);
+        };
+        match FirstByte::of(first) {
+            FirstByte::Word => Ok(Taken::Bytes(self.word(bytes)?)),
+            FirstByte::Space => Ok(Taken::Bytes(self.space(bytes))),
+            FirstByte::Operator => {
+                self.add(TokKind::Op(first), 1)?;
+                Ok(Taken::Bytes(1))
+            }
+            FirstByte::Bracket => self.bracket(bytes),
+            FirstByte::Quote => self.string(bytes),
+            FirstByte::LineFeed => Ok(self.line_feed()),
+            FirstByte::Return => Ok(self.carriage_return(bytes)),
+            FirstByte::Hash => self.comment(bytes),
+            FirstByte::Backslash | FirstByte::Other => Ok(Taken::Nothing),
+        }
+    }
+
+    /// Takes pieces, as long as they follow one another, up to the line's end.
+    #[inline(always)]
+    pub fn pieces<'s>(&mut self, bytes: &'s [u8]) -> Result<Left<'s>, AllocError>
+        requires bytes { self.old.stop + length bytes.now < 2 ^ 64 }
+        requires lines { self.old.count.line + length bytes.now < 2 ^ 64 }
+        ensures shorter { IfOk result (IsNoLonger bytes.now) }
+        ensures reached { WhereverReached self.old bytes.now (λ m line whole. IfOk result (LeavesOff m line whole self.new)) }
+    {
+        let mut rest = bytes;
+        'pieces: while self.piece.mode.is_free() {
+            match self.piece(rest)? {
+                Taken::Bytes(len) => rest = &rest[len..],
+                Taken::LineEnd(len) => return Ok(Left::LineEnd(len)),
+                Taken::Nothing => return Ok(Left::Bytes(rest)),
+            }
+        }
+        Ok(Left::Bytes(rest))
+    }
+}
