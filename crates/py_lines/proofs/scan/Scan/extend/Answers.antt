@@ -4,8 +4,31 @@ use Rattle.std.specs.Char.{len_utf8}
 use Rattle.std.proofs.lemmas.Str.{length-encode}
 use Rattle.py_lines.specs.Private.Run.{Holds}
 use Rattle.py_lines.specs.declared.scan.Progress.{Progress}
-use Rattle.py_lines.proofs.LineScan.LineStops.{TakesTo, goes_room, goes_lines, goes_quote, left_ends, left_shuts, shuts_order, shuts_room, shuts_lines, goes_run, goes_character, stops_line, stops_returned, stops_refused, stops_text}
+use Rattle.py_lines.proofs.LineScan.LineStops.{GoesTo, ShutsTo, TakesTo, goes_room, goes_lines, goes_quote, left_ends, left_shuts, shuts_order, shuts_room, shuts_lines, goes_run, goes_character, stops_line, stops_returned, stops_refused, stops_text}
 use Rattle.py_lines.proofs.scan.Scan.extend.Goals as goal
+use Rattle.py_lines.proofs.scan.Scan.extend.Goals.{In-Bytes, In_ok-take, In-Going}
+
+-- where the pieces have left the scan
+shuts : (c : In-Bytes) → ShutsTo c.args.self.now c.args.bytes.now c.pieces.new.self c.in-Bytes.left.now
+shuts c = left_shuts c.in-Bytes.is c.characters.invariant.goes c.in_ok-left.ensures.reached
+
+-- the bytes after the character
+behind_is : (before : List ℕ) (c len : ℕ) → len ≡ len_utf8 c → take (length before - len) (drop len before) ≡ drop (len_utf8 c) before
+behind_is before c len is = take_all (length before - len) (drop len before) (omega (arith, length-drop len before)) ∙ ap (λ (n : ℕ). drop n before) is
+
+-- what the character came to
+came : (c : In_ok-take) (p : Progress) → c.in_ok-take.field-0 ≡ p → TakesTo c.pieces.new.self c.in-Some.c p c.take.new.self
+came c p is = subst (λ (q : Progress). TakesTo c.pieces.new.self c.in-Some.c q c.take.new.self) is (record { begun = c.in_ok-take.ensures.begins; taken = c.in_ok-take.ensures.takes })
+
+-- where the character has brought the scan, if the line goes on
+goes : (c : In-Going) → GoesTo c.args.self.now c.args.bytes.now c.take.new.self (drop (len_utf8 c.in-Some.c) c.in-Bytes.left.now)
+goes c =
+    let shut = left_shuts c.in-Bytes.is c.characters.invariant.goes c.in_ok-left.ensures.reached in
+    let to = subst (λ (p : Progress). TakesTo c.pieces.new.self c.in-Some.c p c.take.new.self) c.in-Going.is (record { begun = c.in_ok-take.ensures.begins; taken = c.in_ok-take.ensures.takes }) in
+    goes_character c.args.self.now c.args.bytes.now c.pieces.new.self c.in-Bytes.left.now shut c.in-Some.c c.in-Some.ensures.scalar (drop (len_utf8 c.in-Some.c) c.in-Bytes.left.now) (sym c.in-Some.ensures.spell) c.take.new.self (sym c.ends_before.ensures ∙ c.if-ends_before.false) to
+
+pub characters-init : goal.characters-init
+characters-init c = record { goes = λ m line whole start r. r }
 
 pub pieces-requires-clause-bytes : goal.pieces-requires-clause-bytes
 pieces-requires-clause-bytes c = omega (arith, c.requires.bytes, goes_room c.args.self.now c.args.bytes.now c.characters.self c.characters.rest.now c.requires.way c.characters.invariant.goes)
@@ -17,88 +40,51 @@ pub returns-in-LineEnd : goal.returns-in-LineEnd
 returns-in-LineEnd c = record { stops = left_ends c.args.self.now c.args.bytes.now c.characters.self c.characters.rest.now c.pieces.new.self c.in_ok-left.field-0 c.in-LineEnd.len c.in-LineEnd.is c.characters.invariant.goes c.in_ok-left.ensures.reached }
 
 pub returns-in_default : goal.returns-in_default
-returns-in_default c =
-    let shuts = left_shuts c.in-Bytes.is c.characters.invariant.goes c.in_ok-left.ensures.reached in
-    record { stops = stops_text c.args.self.now c.args.bytes.now c.pieces.new.self c.in-Bytes.left.now shuts c.in_default.ensures }
+returns-in_default c = record { stops = stops_text c.args.self.now c.args.bytes.now c.pieces.new.self c.in-Bytes.left.now (shuts (goal.at.returns-in_default c).In-Bytes) c.in_default.ensures }
 
 pub close-requires : goal.close-requires
-close-requires c =
-    let shuts = left_shuts c.in-Bytes.is c.characters.invariant.goes c.in_ok-left.ensures.reached in
-    shuts_order c.args.self.now c.args.bytes.now c.pieces.new.self c.in-Bytes.left.now c.requires.way shuts
+close-requires c = shuts_order c.args.self.now c.args.bytes.now c.pieces.new.self c.in-Bytes.left.now c.requires.way (shuts (goal.at.close-requires c).In-Bytes)
 
 pub returns-then-ends_before : goal.returns-then-ends_before
-returns-then-ends_before c =
-    let before = c.in-Bytes.left.now in
-    let shuts = left_shuts c.in-Bytes.is c.characters.invariant.goes c.in_ok-left.ensures.reached in
-    let b = c.in-Some.ensures in
-    record { stops = stops_returned c.args.self.now c.args.bytes.now c.pieces.new.self before shuts c.in-Some.c b.scalar (drop (len_utf8 c.in-Some.c) before) (sym b.spell) c.close.new.self (sym c.ends_before.ensures ∙ c.if-ends_before.true) c.in_ok-close.ensures }
+returns-then-ends_before c = record {
+  stops = stops_returned c.args.self.now c.args.bytes.now c.pieces.new.self c.in-Bytes.left.now (shuts (goal.at.returns-then-ends_before c).In-Bytes) c.in-Some.c c.in-Some.ensures.scalar _ (sym c.in-Some.ensures.spell) c.close.new.self (sym c.ends_before.ensures ∙ c.if-ends_before.true) c.in_ok-close.ensures;
+}
 
 pub take-requires-clause-order : goal.take-requires-clause-order
-take-requires-clause-order c =
-    let shuts = left_shuts c.in-Bytes.is c.characters.invariant.goes c.in_ok-left.ensures.reached in
-    shuts_order c.args.self.now c.args.bytes.now c.pieces.new.self c.in-Bytes.left.now c.requires.way shuts
+take-requires-clause-order c = shuts_order c.args.self.now c.args.bytes.now c.pieces.new.self c.in-Bytes.left.now c.requires.way (shuts (goal.at.take-requires-clause-order c).In-Bytes)
 
 pub take-requires-clause-bytes : goal.take-requires-clause-bytes
 take-requires-clause-bytes c =
     let before = c.in-Bytes.left.now in
-    let shuts = left_shuts c.in-Bytes.is c.characters.invariant.goes c.in_ok-left.ensures.reached in
-    omega (arith, c.requires.bytes, shuts_room c.args.self.now c.args.bytes.now c.pieces.new.self before c.requires.way shuts, ap length c.in-Some.ensures.spell, length-append (encode_utf8 c.in-Some.c) (drop (len_utf8 c.in-Some.c) before), length-encode c.in-Some.c)
+    let room = shuts_room c.args.self.now c.args.bytes.now c.pieces.new.self before c.requires.way (shuts (goal.at.take-requires-clause-bytes c).In-Bytes) in
+    omega (arith, c.requires.bytes, room, ap length c.in-Some.ensures.spell, length-append (encode_utf8 c.in-Some.c) (drop (len_utf8 c.in-Some.c) before), length-encode c.in-Some.c)
 
 pub take-requires-clause-lines : goal.take-requires-clause-lines
 take-requires-clause-lines c =
     let before = c.in-Bytes.left.now in
-    let shuts = left_shuts c.in-Bytes.is c.characters.invariant.goes c.in_ok-left.ensures.reached in
-    omega (arith, c.requires.lines, shuts_room c.args.self.now c.args.bytes.now c.pieces.new.self before c.requires.way shuts, shuts_lines c.args.self.now c.args.bytes.now c.pieces.new.self before c.requires.way shuts)
-
--- the bytes after the character
-after_is : (before : List ℕ) (c len : ℕ) → len ≡ len_utf8 c → take (length before - len) (drop len before) ≡ drop (len_utf8 c) before
-after_is before c len is = take_all (length before - len) (drop len before) (omega (arith, length-drop len before)) ∙ ap (λ (n : ℕ). drop n before) is
+    let shut = shuts (goal.at.take-requires-clause-lines c).In-Bytes in
+    omega (arith, c.requires.lines, shuts_room c.args.self.now c.args.bytes.now c.pieces.new.self before c.requires.way shut, shuts_lines c.args.self.now c.args.bytes.now c.pieces.new.self before c.requires.way shut)
 
 pub hold-rest-requires-clause-bytes : goal.hold-rest-requires-clause-bytes
 hold-rest-requires-clause-bytes c =
     let before = c.in-Bytes.left.now in
-    let b = c.in-Some.ensures in
-    let rest = drop (len_utf8 c.in-Some.c) before in
-    let shuts = left_shuts c.in-Bytes.is c.characters.invariant.goes c.in_ok-left.ensures.reached in
-    let takes = subst (λ (p : Progress). TakesTo c.pieces.new.self c.in-Some.c p c.take.new.self) c.in-Going.is (record { begun = c.in_ok-take.ensures.begins; taken = c.in_ok-take.ensures.takes }) in
-    let goes = goes_character c.args.self.now c.args.bytes.now c.pieces.new.self before shuts c.in-Some.c b.scalar rest (sym b.spell) c.take.new.self (sym c.ends_before.ensures ∙ c.if-ends_before.false) takes in
-    omega (arith, c.requires.bytes, goes_room c.args.self.now c.args.bytes.now c.take.new.self rest c.requires.way goes, ap length (after_is before c.in-Some.c c.len_utf8-len.result c.len_utf8-len.ensures.value))
+    let gone = goes (goal.at.hold-rest-requires-clause-bytes c).In-Going in
+    omega (arith, c.requires.bytes, goes_room c.args.self.now c.args.bytes.now c.take.new.self _ c.requires.way gone, ap length (behind_is before c.in-Some.c c.len_utf8-len.result c.len_utf8-len.ensures.value))
 
 pub hold-rest-requires-clause-quote : goal.hold-rest-requires-clause-quote
-hold-rest-requires-clause-quote c =
-    let before = c.in-Bytes.left.now in
-    let b = c.in-Some.ensures in
-    let rest = drop (len_utf8 c.in-Some.c) before in
-    let shuts = left_shuts c.in-Bytes.is c.characters.invariant.goes c.in_ok-left.ensures.reached in
-    let takes = subst (λ (p : Progress). TakesTo c.pieces.new.self c.in-Some.c p c.take.new.self) c.in-Going.is (record { begun = c.in_ok-take.ensures.begins; taken = c.in_ok-take.ensures.takes }) in
-    let goes = goes_character c.args.self.now c.args.bytes.now c.pieces.new.self before shuts c.in-Some.c b.scalar rest (sym b.spell) c.take.new.self (sym c.ends_before.ensures ∙ c.if-ends_before.false) takes in
-    goes_quote c.args.self.now c.args.bytes.now c.take.new.self rest c.requires.way goes
+hold-rest-requires-clause-quote c = goes_quote c.args.self.now c.args.bytes.now c.take.new.self _ c.requires.way (goes (goal.at.hold-rest-requires-clause-quote c).In-Going)
 
 pub characters-preserved : goal.characters-preserved
 characters-preserved c =
-    let before = c.in-Bytes.left.now in
-    let b = c.in-Some.ensures in
-    let rest = drop (len_utf8 c.in-Some.c) before in
-    let shuts = left_shuts c.in-Bytes.is c.characters.invariant.goes c.in_ok-left.ensures.reached in
-    let takes = subst (λ (p : Progress). TakesTo c.pieces.new.self c.in-Some.c p c.take.new.self) c.in-Going.is (record { begun = c.in_ok-take.ensures.begins; taken = c.in_ok-take.ensures.takes }) in
-    let goes = goes_character c.args.self.now c.args.bytes.now c.pieces.new.self before shuts c.in-Some.c b.scalar rest (sym b.spell) c.take.new.self (sym c.ends_before.ensures ∙ c.if-ends_before.false) takes in
-    record { goes = goes_run c.args.self.now c.args.bytes.now c.take.new.self c.hold-rest.new.self rest c.hold-rest.result.now goes (subst (λ (t : List ℕ). Holds c.take.new.self t c.hold-rest.result.now c.hold-rest.new.self) (after_is before c.in-Some.c c.len_utf8-len.result c.len_utf8-len.ensures.value) c.hold-rest.ensures) }
-
-pub characters-init : goal.characters-init
-characters-init c = record { goes = λ m line whole start r. r }
+    let held = subst (λ (t : List ℕ). Holds c.take.new.self t c.hold-rest.result.now c.hold-rest.new.self) (behind_is c.in-Bytes.left.now c.in-Some.c c.len_utf8-len.result c.len_utf8-len.ensures.value) c.hold-rest.ensures in
+    record { goes = goes_run c.args.self.now c.args.bytes.now c.take.new.self c.hold-rest.new.self _ c.hold-rest.result.now (goes (goal.at.characters-preserved c).In-Going) held }
 
 pub returns-in-LineEnded : goal.returns-in-LineEnded
 returns-in-LineEnded c =
-    let before = c.in-Bytes.left.now in
-    let b = c.in-Some.ensures in
-    let shuts = left_shuts c.in-Bytes.is c.characters.invariant.goes c.in_ok-left.ensures.reached in
-    let takes = subst (λ (p : Progress). TakesTo c.pieces.new.self c.in-Some.c p c.take.new.self) c.in-LineEnded.is (record { begun = c.in_ok-take.ensures.begins; taken = c.in_ok-take.ensures.takes }) in
-    record { stops = stops_line c.args.self.now c.args.bytes.now c.pieces.new.self before shuts c.in-Some.c b.scalar (drop (len_utf8 c.in-Some.c) before) (sym b.spell) c.take.new.self c.in-LineEnded.len (sym c.ends_before.ensures ∙ c.if-ends_before.false) takes }
+    let at = goal.at.returns-in-LineEnded c in
+    record { stops = stops_line c.args.self.now c.args.bytes.now c.pieces.new.self c.in-Bytes.left.now (shuts at.In-Bytes) c.in-Some.c c.in-Some.ensures.scalar _ (sym c.in-Some.ensures.spell) c.take.new.self c.in-LineEnded.len (sym c.ends_before.ensures ∙ c.if-ends_before.false) (came at.In_ok-take _ c.in-LineEnded.is) }
 
 pub returns-in-Refused : goal.returns-in-Refused
 returns-in-Refused c =
-    let before = c.in-Bytes.left.now in
-    let b = c.in-Some.ensures in
-    let shuts = left_shuts c.in-Bytes.is c.characters.invariant.goes c.in_ok-left.ensures.reached in
-    let takes = subst (λ (p : Progress). TakesTo c.pieces.new.self c.in-Some.c p c.take.new.self) c.in-Refused.is (record { begun = c.in_ok-take.ensures.begins; taken = c.in_ok-take.ensures.takes }) in
-    record { stops = stops_refused c.args.self.now c.args.bytes.now c.pieces.new.self before shuts c.in-Some.c b.scalar (drop (len_utf8 c.in-Some.c) before) (sym b.spell) c.take.new.self (sym c.ends_before.ensures ∙ c.if-ends_before.false) takes }
+    let at = goal.at.returns-in-Refused c in
+    record { stops = stops_refused c.args.self.now c.args.bytes.now c.pieces.new.self c.in-Bytes.left.now (shuts at.In-Bytes) c.in-Some.c c.in-Some.ensures.scalar _ (sym c.in-Some.ensures.spell) c.take.new.self (sym c.ends_before.ensures ∙ c.if-ends_before.false) (came at.In_ok-take _ c.in-Refused.is) }
