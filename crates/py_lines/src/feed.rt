@@ -386,14 +386,11 @@ impl Feed {
         requires room { HasRoom self.old 0 }
         ensures { EndsHeld self.old result self.new }
     {
-        if self.state.scan.stop < self.held.len() {
-            let behind = self.state.scan.stop;
-            return Err(self.fail(FaultKind::BadUtf8, behind));
-        }
         if self.state.scan.is_returned() {
             return self.close(1);
         }
-        if let Some(flaw) = self.state.scan.unfinished() {
+        let rest = self.held.len() - self.state.scan.stop;
+        if let Some(flaw) = self.state.end_flaw(rest) {
             return Err(self.fail(flaw.kind, flaw.place));
         }
         self.close(0)

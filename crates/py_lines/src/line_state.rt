@@ -5,7 +5,7 @@ ghost use Rattle.std.specs.Prelude.{◌≡◌, ℕ, ◌+◌, ◌<◌, ◌^◌, l
 use crate::count::line_behind;
 use crate::fault::{Fault, FaultKind, LexError};
 use crate::mode::Mode;
-use crate::scan::Scan;
+use crate::scan::{Flaw, Scan};
 use crate::unit::Unit;
 use std::alloc::Global;
 
@@ -23,7 +23,7 @@ pub struct LineState {
 impl LineState {
     ghost use Rattle.py_lines.specs.Token.{EachLiesIn};
     ghost use Rattle.py_lines.specs.UnitLine.{line_in};
-    ghost use Rattle.py_lines.specs.Private.LineState.{BeginsAnew, KeepsFault, StandsAt, first_mode, scanned_line};
+    ghost use Rattle.py_lines.specs.Private.LineState.{BeginsAnew, IsEndFlaw, KeepsFault, StandsAt, first_mode, scanned_line};
 
     /// At this byte of a text, which is on this line. Nothing of the next line is read.
     pub fn at(alloc: Global, place: u64, line: u64) -> LineState
@@ -71,6 +71,20 @@ impl LineState {
         };
         self.fault = Some(fault);
         LexError::Fault(fault)
+    }
+
+    /// What is wrong where the text ends so many bytes after the characters that were scanned, if anything is. Such bytes
+    /// begin no character.
+    pub fn end_flaw(&self, rest: usize) -> Option<Flaw>
+        ensures { IsEndFlaw self.now.scan rest result }
+    {
+        if rest > 0 {
+            return Some(Flaw {
+                kind: FaultKind::BadUtf8,
+                place: self.scan.stop,
+            });
+        }
+        self.scan.unfinished()
     }
 
     /// The line that the scan has closed: this text at this byte, with so many bytes of line end.

@@ -124,10 +124,8 @@ impl<'t> Source<'t> {
         requires { HasScanned self.old Stop.TextEnd }
         ensures { Advances self.old result self.new }
     {
-        if self.characters.len() < self.bytes.len() {
-            return Err(self.fail(FaultKind::BadUtf8, self.state.scan.stop));
-        }
-        if let Some(flaw) = self.state.scan.unfinished() {
+        let rest = self.bytes.len() - self.characters.len();
+        if let Some(flaw) = self.state.end_flaw(rest) {
             return Err(self.fail(flaw.kind, flaw.place));
         }
         self.state.scan.close()?;

@@ -1,18 +1,26 @@
-use Rattle.std.proofs.Common.{sym, ◌∙◌, arith}
+use Rattle.std.proofs.Common.{◌≡◌, ℕ, ◌-◌, ◌<◌, None, Some, Err, List, false, inl, inr, length, sym, ◌∙◌, subst, arith}
+use Rattle.py_lines.specs.declared.fault.FaultKind.{FaultKind}
+use Rattle.py_lines.specs.declared.fault.LexError.{LexError}
+use Rattle.py_lines.specs.declared.feed.Feed.{Feed}
+use Rattle.py_lines.specs.declared.scan.Flaw.{Flaw}
+use Rattle.py_lines.specs.Private.Feed.{EndsHeld, FailsAt, IsOpen, IsPart}
+use Rattle.py_lines.specs.Private.LineState.{IsEndFlaw}
+use Rattle.py_lines.specs.Private.Scan.{is_returned}
+use Rattle.py_lines.proofs.Readers.LineAnswers.{Within, all_within}
 use Rattle.py_lines.proofs.Feeds.Steps.{open_order, open_stop, open_size, within_held}
-use Rattle.py_lines.proofs.Feeds.EndedHeld.{all_scanned, stop_utf8, ends_so_bytes, ends_so_open, ends_so_plain, ends_so_returned, unfinished_within}
+use Rattle.py_lines.proofs.Feeds.EndedHeld.{all_scanned, ends_so_bytes, ends_so_open, ends_so_plain, ends_so_returned, unfinished_within}
 use Rattle.py_lines.proofs.feed.Feed.end_line.Goals as goal
 
-pub fail-requires-clause-text : goal.fail-requires-clause-text
-fail-requires-clause-text c =
-    let o = c.requires.scanned in
-    stop_utf8 c.args.self.now o.0 o.1 o.2
+flaw_within : (f : Feed) (read after : List ℕ) (o : IsOpen f read after) (rest : ℕ) (flaw : Flaw) → IsEndFlaw f.state.scan rest (Some flaw) → Within read flaw.place
+flaw_within f read after o rest flaw (inl (some, kind, place)) = subst (Within read) (sym place) (all_within read f.state.scan.stop (open_stop f read after o))
+flaw_within f read after o rest flaw (inr (none, (kind, unfinished))) = unfinished_within f read after o flaw.place unfinished
 
-pub returns-then-self-len : goal.returns-then-self-len
-returns-then-self-len c =
-    let o = c.requires.scanned in
-    let f = c.args.self.now in
-    ends_so_bytes f o.0 o.1 o.2 c.fail.new.self c.fail.result o.3 (omega (arith, open_size f o.0 o.1 o.2, open_stop f o.0 o.1 o.2, c.len.ensures, c.if-self-len.true)) c.fail.ensures c.requires.not_ready
+flaw_fails : (f : Feed) (read after : List ℕ) (o : IsOpen f read after) → IsPart f after → 0 < length f.held.items → is_returned f.state.scan ≡ false → f.ready ≡ None → (held : ℕ) → held ≡ length f.held.items → (flaw : Flaw) → IsEndFlaw f.state.scan (held - f.state.scan.stop) (Some flaw) → (error : LexError) (new : Feed) → FailsAt f flaw.kind flaw.place error new → EndsHeld f (Err error) new
+flaw_fails f read after o part some not_yet not_ready held all flaw (inl (more, kind, place)) error new at =
+    let moved = subst (λ (k : FaultKind). FailsAt f k f.state.scan.stop error new) kind (subst (λ (n : ℕ). FailsAt f flaw.kind n error new) place at) in
+    ends_so_bytes f read after o new error part (omega (arith, all, more, open_size f read after o, open_stop f read after o)) moved not_ready
+flaw_fails f read after o part some not_yet not_ready held all flaw (inr (none, (kind, unfinished))) error new at =
+    ends_so_open f read after o new error flaw.kind flaw.place kind (all_scanned f read after o (omega (arith, all, none))) some not_yet unfinished at not_ready
 
 pub close-requires : goal.close-requires
 close-requires c = let o = c.requires.scanned in open_order c.args.self.now o.0 o.1 o.2
@@ -23,33 +31,37 @@ close-requires-2 c = let o = c.requires.scanned in open_order c.args.self.now o.
 pub returns-then-is_returned : goal.returns-then-is_returned
 returns-then-is_returned c =
     let o = c.requires.scanned in
-    let f = c.args.self.now in
-    let none = all_scanned f o.0 o.1 o.2 (omega (arith, c.len.ensures, c.if-self-len.false)) in
-    ends_so_returned f o.0 o.1 o.2 c.close.new.self c.close.result none c.requires.some (sym c.is_returned.ensures ∙ c.if-is_returned.true) c.close.ensures
+    let returned = sym c.is_returned.ensures ∙ c.if-is_returned.true in
+    ends_so_returned c.args.self.now o.0 o.1 o.2 c.close.new.self c.close.result (o.3.last returned) c.requires.some returned c.close.ensures
 
-pub fail-requires-in-Some-clause-within : goal.fail-requires-in-Some-clause-within
-fail-requires-in-Some-clause-within c =
+pub overflow_sub-rest : goal.overflow_sub-rest
+overflow_sub-rest c =
     let o = c.requires.scanned in
     let f = c.args.self.now in
-    let w = within_held f o.0 o.1 o.2 c.in-Some.flaw.place (unfinished_within f o.0 o.1 o.2 c.in-Some.flaw.place c.in-Some.ensures.1) in
+    omega (arith, c.len.ensures, open_size f o.0 o.1 o.2, open_stop f o.0 o.1 o.2)
+
+pub fail-requires-clause-within : goal.fail-requires-clause-within
+fail-requires-clause-within c =
+    let o = c.requires.scanned in
+    let f = c.args.self.now in
+    let w = within_held f o.0 o.1 o.2 c.in-Some.flaw.place (flaw_within f o.0 o.1 o.2 _ c.in-Some.flaw c.in-Some.ensures) in
     omega (arith, w.0, open_size f o.0 o.1 o.2)
 
-pub fail-requires-in-Some-clause-text : goal.fail-requires-in-Some-clause-text
-fail-requires-in-Some-clause-text c =
+pub fail-requires-clause-text : goal.fail-requires-clause-text
+fail-requires-clause-text c =
     let o = c.requires.scanned in
     let f = c.args.self.now in
-    (within_held f o.0 o.1 o.2 c.in-Some.flaw.place (unfinished_within f o.0 o.1 o.2 c.in-Some.flaw.place c.in-Some.ensures.1)).2
+    (within_held f o.0 o.1 o.2 c.in-Some.flaw.place (flaw_within f o.0 o.1 o.2 _ c.in-Some.flaw c.in-Some.ensures)).2
 
 pub returns-in-Some : goal.returns-in-Some
 returns-in-Some c =
     let o = c.requires.scanned in
     let f = c.args.self.now in
-    let none = all_scanned f o.0 o.1 o.2 (omega (arith, c.len.ensures, c.if-self-len.false)) in
-    ends_so_open f o.0 o.1 o.2 c.fail-in-Some.new.self c.fail-in-Some.result c.in-Some.flaw.kind c.in-Some.flaw.place c.in-Some.ensures.0 none c.requires.some (sym c.is_returned.ensures ∙ c.if-is_returned.false) c.in-Some.ensures.1 c.fail-in-Some.ensures c.requires.not_ready
+    flaw_fails f o.0 o.1 o.2 o.3 c.requires.some (sym c.is_returned.ensures ∙ c.if-is_returned.false) c.requires.not_ready c.len.result (omega (arith, c.len.ensures)) c.in-Some.flaw c.in-Some.ensures c.fail.result c.fail.new.self c.fail.ensures
 
 pub returns : goal.returns
 returns c =
     let o = c.requires.scanned in
     let f = c.args.self.now in
-    let none = all_scanned f o.0 o.1 o.2 (omega (arith, c.len.ensures, c.if-self-len.false)) in
-    ends_so_plain f o.0 o.1 o.2 c.close-2.new.self c.close-2.result none c.requires.some (sym c.is_returned.ensures ∙ c.if-is_returned.false) c.in_default.ensures c.close-2.ensures
+    let none = all_scanned f o.0 o.1 o.2 (omega (arith, c.len.ensures, c.in_default.ensures.0)) in
+    ends_so_plain f o.0 o.1 o.2 c.close-2.new.self c.close-2.result none c.requires.some (sym c.is_returned.ensures ∙ c.if-is_returned.false) c.in_default.ensures.1 c.close-2.ensures
