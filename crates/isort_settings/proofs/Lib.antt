@@ -19,6 +19,7 @@
 -- total. proofs/OrderRows has rows worked out by hand.
 pub mod Documents
 pub mod KeyLaws
+pub mod ModuleLists
 pub mod OrderLaws
 pub mod OrderNumbers
 pub mod OrderParts
@@ -28,5 +29,4 @@ pub mod OrderThen
 pub mod Prefixes
 pub mod Readings
 pub mod Table
-pub mod Texts
 pub mod Entries

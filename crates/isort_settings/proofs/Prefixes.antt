@@ -59,3 +59,8 @@ pub section_in-cuts : (v : Values) (name : List ℕ) → (slice_index name 0 == 
     → section_in v name ≡ option_map_or (λ s. s) (section_of_cuts (lists_of v) name (length name)) v.default_section
 section_in-cuts v name other none =
     rw other (ap (λ o. option_map_or (λ s. s) o v.default_section) (section_of_prefixes-cons (lists_of v) name _ ∙ ap (λ o. option_or o (section_of_cuts (lists_of v) name (length name))) none))
+
+-- where a list holds the whole module, it decides
+pub section_in-whole : (v : Values) (name : List ℕ) (s : Section) → (slice_index name 0 == byte ".") ≡ false → section_holding (lists_of v) name ≡ Some s → section_in v name ≡ s
+section_in-whole v name s other held =
+    rw other (ap (λ o. option_map_or (λ t. t) o v.default_section) (section_of_prefixes-cons (lists_of v) name _ ∙ ap (λ o. option_or o (section_of_cuts (lists_of v) name (length name))) held))

@@ -1,5 +1,6 @@
 pub mod StandardLibrary
 pub mod Limits
+pub mod Modules
 pub mod Keys
 pub mod Values
 pub mod Reading

@@ -1,11 +1,12 @@
 -- The values of settings, one for each key that a field keeps.
 pub mod OneKey
-use Rattle.std.specs.Prelude.{ℕ, ℤ, Bool, List, map, string_bytes}
+use Rattle.std.specs.Prelude.{ℕ, ℤ, Bool, List}
 use Rattle.isort_settings.specs.declared.key.SettingKey.{SettingKey}
 use Rattle.isort_settings.specs.declared.key.SettingKey.TheVariants as key
 use Rattle.isort_settings.specs.declared.section.Section.{Section}
 use Rattle.isort_settings.specs.declared.settings.Settings.{Settings}
 use Rattle.isort_settings.specs.Keys.{Meaning, row_of}
+use Rattle.isort_settings.specs.Modules.{texts_of}
 
 -- what settings say: a value for each key, the lists as lists of bytes
 pub record Values : Type 0 where
@@ -49,12 +50,12 @@ values s = record {
   lines_between_types = s.lines_between_types;
   lines_after_imports = s.lines_after_imports;
   default_section = s.default_section;
-  known_standard_library = map string_bytes s.known_standard_library.items;
-  extra_standard_library = map string_bytes s.extra_standard_library.items;
-  known_third_party = map string_bytes s.known_third_party.items;
-  known_first_party = map string_bytes s.known_first_party.items;
-  known_local_folder = map string_bytes s.known_local_folder.items;
-  known_future_library = map string_bytes s.known_future_library.items;
+  known_standard_library = texts_of s.known_standard_library;
+  extra_standard_library = texts_of s.extra_standard_library;
+  known_third_party = texts_of s.known_third_party;
+  known_first_party = texts_of s.known_first_party;
+  known_local_folder = texts_of s.known_local_folder;
+  known_future_library = texts_of s.known_future_library;
 }
 
 -- the values that a rule gives to the keys

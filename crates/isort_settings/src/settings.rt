@@ -7,11 +7,12 @@ ghost use Rattle.isort_settings.specs.declared.limits.TheConstants.{LINE_LENGTH,
 use crate::error::SettingsError;
 use crate::key::SettingKey as Key;
 use crate::limits::{END_GAP, GRID_WRAP, LINE_LENGTH, MODES, SECTION_GAP, TYPE_GAP};
+use crate::modules::Modules;
 use crate::order::{class_cmp, natural_cmp, split_dots};
 use crate::profile::Profile;
+use crate::pyproject;
 use crate::section::Section;
 use crate::value::KeyValue;
-use crate::{pyproject, standard_library, text_list};
 use std::alloc::Global;
 use std::cmp::Ordering;
 use toml::{Table, Value};
@@ -50,17 +51,17 @@ pub struct Settings {
     /// The section of a module that no list holds.
     pub default_section: Section,
     /// The modules of the standard library.
-    pub known_standard_library: Vec<String>,
+    pub known_standard_library: Modules,
     /// Further modules of the standard library.
-    pub extra_standard_library: Vec<String>,
+    pub extra_standard_library: Modules,
     /// The modules of the section `THIRDPARTY`.
-    pub known_third_party: Vec<String>,
+    pub known_third_party: Modules,
     /// The modules of the section `FIRSTPARTY`.
-    pub known_first_party: Vec<String>,
+    pub known_first_party: Modules,
     /// The modules of the section `LOCALFOLDER`.
-    pub known_local_folder: Vec<String>,
+    pub known_local_folder: Modules,
     /// The modules of the section `FUTURE`.
-    pub known_future_library: Vec<String>,
+    pub known_future_library: Modules,
     pub ghost line_length_in_range: { IsWithin LINE_LENGTH line_length },
     pub ghost mode_in_range: { IsWithin MODES multi_line_output },
     pub ghost grid_wrap_in_range: { IsWithin GRID_WRAP force_grid_wrap },
@@ -81,8 +82,9 @@ impl Settings {
     ghost use Rattle.isort_settings.specs.Values.{values, values_from, plain_values, black_values};
     ghost use Rattle.isort_settings.specs.Values.OneKey.{with_value};
 
-    /// The settings that hold where nothing else is said.
+    /// The settings that hold where nothing else is said. They take no memory, so they are always there.
     pub fn plain(alloc: Global) -> Result<Settings, SettingsError>
+        ensures made { IsOk result }
         ensures ok { IfOk result (λ s. values s ≡ plain_values) }
         ensures err { IsOkUnless result SettingsError.Memory }
     {
@@ -102,17 +104,18 @@ impl Settings {
             lines_between_types: 0,
             lines_after_imports: -1,
             default_section: Section::ThirdParty,
-            known_standard_library: standard_library::modules(alloc)?,
-            extra_standard_library: Vec::new(alloc),
-            known_third_party: Vec::new(alloc),
-            known_first_party: Vec::new(alloc),
-            known_local_folder: Vec::new(alloc),
-            known_future_library: text_list::from_texts(alloc, &["__future__"])?,
+            known_standard_library: Modules::StandardLibrary,
+            extra_standard_library: Modules::Listed(Vec::new(alloc)),
+            known_third_party: Modules::Listed(Vec::new(alloc)),
+            known_first_party: Modules::Listed(Vec::new(alloc)),
+            known_local_folder: Modules::Listed(Vec::new(alloc)),
+            known_future_library: Modules::Future,
         })
     }
 
-    /// The settings of the profile `black`.
+    /// The settings of the profile `black`. They take no memory, so they are always there.
     pub fn black(alloc: Global) -> Result<Settings, SettingsError>
+        ensures made { IsOk result }
         ensures ok { IfOk result (λ s. values s ≡ black_values) }
         ensures err { IsOkUnless result SettingsError.Memory }
     {
@@ -199,16 +202,16 @@ impl Settings {
                 &mut self.ensure_newline_before_comments,
                 read.flag(),
             ),
-            Key::ExtraStandardLibrary => put(&mut self.extra_standard_library, read.texts(alloc)),
+            Key::ExtraStandardLibrary => put(&mut self.extra_standard_library, read.modules(alloc)),
             Key::ForceGridWrap => put(&mut self.force_grid_wrap, read.count(GRID_WRAP)),
             Key::ForceSingleLine => put(&mut self.force_single_line, read.flag()),
             Key::ForceSortWithinSections => put(&mut self.force_sort_within_sections, read.flag()),
             Key::IncludeTrailingComma => put(&mut self.include_trailing_comma, read.flag()),
-            Key::KnownFirstParty => put(&mut self.known_first_party, read.texts(alloc)),
-            Key::KnownFutureLibrary => put(&mut self.known_future_library, read.texts(alloc)),
-            Key::KnownLocalFolder => put(&mut self.known_local_folder, read.texts(alloc)),
-            Key::KnownStandardLibrary => put(&mut self.known_standard_library, read.texts(alloc)),
-            Key::KnownThirdParty => put(&mut self.known_third_party, read.texts(alloc)),
+            Key::KnownFirstParty => put(&mut self.known_first_party, read.modules(alloc)),
+            Key::KnownFutureLibrary => put(&mut self.known_future_library, read.modules(alloc)),
+            Key::KnownLocalFolder => put(&mut self.known_local_folder, read.modules(alloc)),
+            Key::KnownStandardLibrary => put(&mut self.known_standard_library, read.modules(alloc)),
+            Key::KnownThirdParty => put(&mut self.known_third_party, read.modules(alloc)),
             Key::LineLength => put(&mut self.line_length, read.count(LINE_LENGTH)),
             Key::LinesAfterImports => put(&mut self.lines_after_imports, read.whole(END_GAP)),
             Key::LinesBetweenSections => put(
@@ -312,17 +315,17 @@ impl Settings {
     fn listed(&self, prefix: &[u8]) -> Option<Section>
         ensures { result ≡ section_holding (lists_of (values self.now)) prefix.now }
     {
-        if text_list::holds(&self.known_local_folder, prefix) {
+        if self.known_local_folder.holds(prefix) {
             Some(Section::LocalFolder)
-        } else if text_list::holds(&self.known_first_party, prefix) {
+        } else if self.known_first_party.holds(prefix) {
             Some(Section::FirstParty)
-        } else if text_list::holds(&self.known_third_party, prefix) {
+        } else if self.known_third_party.holds(prefix) {
             Some(Section::ThirdParty)
-        } else if text_list::holds(&self.known_standard_library, prefix)
-            || text_list::holds(&self.extra_standard_library, prefix)
+        } else if self.known_standard_library.holds(prefix)
+            || self.extra_standard_library.holds(prefix)
         {
             Some(Section::Stdlib)
-        } else if text_list::holds(&self.known_future_library, prefix) {
+        } else if self.known_future_library.holds(prefix) {
             Some(Section::Future)
         } else {
             None

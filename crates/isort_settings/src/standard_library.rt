@@ -1,13 +1,12 @@
 //! The modules that count as the standard library where no setting says otherwise.
 
-ghost use Rattle.std.specs.Prelude.{◌≡◌, IfOk, map, string_bytes};
+ghost use Rattle.std.specs.Prelude.{◌≡◌, map};
+ghost use Rattle.isort_settings.specs.Sections.{holds};
 ghost use Rattle.isort_settings.specs.StandardLibrary.{standard_library};
 
-use crate::text_list;
-use std::alloc::{AllocError, Global};
-
-/// The default of `known_standard_library`. This is the project's own list, with no claim that it is whole.
-pub const STANDARD_LIBRARY: [&str; 160] = [
+/// The default of `known_standard_library`, by the bytes of the names. This is the project's own list, with no claim that
+/// it is whole.
+const STANDARD_LIBRARY: [&str; 160] = [
     "abc",
     "argparse",
     "array",
@@ -170,9 +169,18 @@ pub const STANDARD_LIBRARY: [&str; 160] = [
     "zoneinfo",
 ];
 
-/// The list as texts of their own.
-pub fn modules(alloc: Global) -> Result<Vec<String>, AllocError>
-    ensures { IfOk result (λ v. map string_bytes v.items ≡ standard_library) }
+/// The modules that count as the standard library.
+pub fn modules() -> &'static [&'static str]
+    ensures { map (λ m. m.now) result.now ≡ standard_library }
 {
-    text_list::from_texts(alloc, &STANDARD_LIBRARY)
+    &STANDARD_LIBRARY
+}
+
+/// Whether the standard library holds the module.
+pub fn holds(module: &[u8]) -> bool
+    ensures { result ≡ holds standard_library «module».now }
+{
+    modules()
+        .binary_search_by(|name| name.as_bytes().cmp(module))
+        .is_ok()
 }

@@ -1,13 +1,15 @@
 //! A reader for each kind of value that a key may have.
-ghost use Rattle.std.specs.Prelude.{◌≡◌, ◌≢◌, IfOk, IfErr, Ok, Err, map, option_copied, string_bytes};
+ghost use Rattle.std.specs.Prelude.{◌≡◌, ◌≢◌, IfOk, IfErr, Ok, Err, option_copied};
 ghost use Rattle.std.specs.List.{list_any};
 ghost use Rattle.toml.specs.View.{view};
 ghost use Rattle.isort_settings.specs.Keys.{count, whole, wrap_mode, flag, section, texts};
+ghost use Rattle.isort_settings.specs.Modules.{texts_of};
 ghost use Rattle.isort_settings.specs.Reading.{is_wildcard, entry_of, count_within, whole_within, read_value};
 
 use crate::error::SettingsError;
 use crate::key::SettingKey;
 use crate::limits::{Limits, MODES};
+use crate::modules::Modules;
 use crate::section::Section;
 use std::alloc::Global;
 use toml::Value;
@@ -105,10 +107,10 @@ impl KeyValue<'_> {
             .ok_or(SettingsError::BadValue(self.key))
     }
 
-    /// A list of texts.
-    pub fn texts(self, alloc: Global) -> Result<Vec<String>, SettingsError>
-        ensures ok { IfOk result (λ v. read_value texts self.entry.key (view self.entry.value.now)
-            ≡ Ok (map string_bytes v.items)) }
+    /// A list of modules.
+    pub fn modules(self, alloc: Global) -> Result<Modules, SettingsError>
+        ensures ok { IfOk result (λ m. read_value texts self.entry.key (view self.entry.value.now)
+            ≡ Ok (texts_of m)) }
         ensures err { IfErr result (λ e. e ≢ SettingsError.Memory
             → read_value texts self.entry.key (view self.entry.value.now) ≡ Err e) }
     {
@@ -122,6 +124,6 @@ impl KeyValue<'_> {
             };
             list.push(String::from_str(alloc, text)?)?;
         }
-        Ok(list)
+        Ok(Modules::Listed(list))
     }
 }

@@ -1,6 +1,6 @@
 use crate::cases::{Case, all_are_so, are_texts, each_holds_again};
-use isort_settings::{Profile, Section, SettingKey, Settings, SettingsError, laws};
-use std::alloc::Global;
+use isort_settings::{Modules, Profile, Section, SettingKey, Settings, SettingsError, laws};
+use std::alloc::{AllocError, Global};
 use std::cmp::Ordering;
 use std::cmp::Ordering::{Equal, Greater, Less};
 use std::test::Fail;
@@ -147,7 +147,8 @@ fn refusals(rt: HostRuntime) -> Result<(), Fail> {
 fn are_plain(settings: &Settings) -> bool {
     (settings.line_length, settings.multi_line_output) == (79, 0)
         && settings.lines_after_imports == -1
-        && settings.known_standard_library.len() == 160
+        && settings.known_standard_library.get(159) == Some("zoneinfo")
+        && settings.known_standard_library.get(160).is_none()
 }
 
 /// Whether these are the settings of the profile `black`.
@@ -235,6 +236,12 @@ impl Case for Stands {
 
 const PLAIN_TEXTS: &[Stands] = &[
     Stands(b"", None, Known::Plain, &[]),
+    Stands(
+        b"[tool.isort]\nknown_future_library = [\"__future__\"]",
+        None,
+        Known::Plain,
+        &[],
+    ),
     Stands(
         b"[tool.isort]\ncolour = 1\nFirst = 1\n[tool.isort.sub]\nline_length = 0",
         None,
@@ -324,6 +331,33 @@ fn sets(alloc: Global) -> bool {
 #[test]
 fn setters(rt: HostRuntime) -> Result<(), Fail> {
     all_are_so(&[sets(rt.alloc()) || sets(rt.alloc())])
+}
+
+/// A list of one module.
+fn only(alloc: Global, module: &str) -> Result<Modules, AllocError> {
+    let mut modules = Vec::new(alloc);
+    modules.push(String::from_str(alloc, module)?)?;
+    Ok(Modules::Listed(modules))
+}
+
+/// Whether lists of modules are read, and compared by what they hold.
+fn are_lists(alloc: Global) -> Result<bool, AllocError> {
+    let future = only(alloc, "__future__")?;
+    let os = only(alloc, "os")?;
+    Ok(
+        future == Modules::Future
+            && os != Modules::Future
+            && os != Modules::StandardLibrary
+            && os.get(0) == Some("os")
+            && os.get(1).is_none()
+            && Modules::Future.get(0) == Some("__future__"),
+    )
+}
+
+#[test]
+fn lists_of_modules(rt: HostRuntime) -> Result<(), Fail> {
+    let alloc = rt.alloc();
+    all_are_so(&[are_lists(alloc) == Ok(true) || are_lists(alloc) == Ok(true)])
 }
 
 /// A text, a module, and its section under the settings of the text.

@@ -4,12 +4,17 @@ use Rattle.std.specs.Option.{option_map_or}
 use Rattle.isort_settings.specs.declared.section.Section.{Section}
 use Rattle.isort_settings.specs.Sections.{lists_of, section_in}
 use Rattle.isort_settings.specs.Values.{Values, values}
-use Rattle.isort_settings.proofs.Prefixes.{section_of_cuts, section_of_cuts-skip, section_of_cuts-at, section_in-cuts}
+use Rattle.isort_settings.proofs.Prefixes.{section_of_cuts, section_of_cuts-skip, section_of_cuts-at, section_in-cuts, section_in-whole}
 use Rattle.isort_settings.proofs.settings.Settings.section_of.Goals as goal
 
 -- what an answer of the look-up means, with the default section
 or_default : (v : Values) (o p : Option Section) → o ≡ p → option_map_or (λ s. s) o v.default_section ≡ option_map_or (λ s. s) p v.default_section
 or_default v o p same = ap (λ x. option_map_or (λ s. s) x v.default_section) same
+
+pub returns-in-Some : goal.returns-in-Some
+returns-in-Some c =
+    sym (ap (λ m. section_in (values c.args.self.now) m) (sym c.as_bytes-name.ensures.value)
+    ∙ section_in-whole (values c.args.self.now) _ _ (sym c.is_relative.ensures ∙ c.if-is_relative.false) (sym c.listed.ensures ∙ c.in-Some.is))
 
 pub loop-stop-init : goal.loop-stop-init
 loop-stop-init c =

@@ -1,5 +1,6 @@
 -- In each arm the reader of the key's kind has answered, and its answer was put in the key's place.
-use Rattle.std.proofs.Common.{refl, inl, inr, map, string_bytes}
+use Rattle.std.proofs.Common.{refl, inl, inr}
+use Rattle.isort_settings.specs.Modules.{texts_of}
 use Rattle.isort_settings.specs.declared.key.SettingKey.TheVariants as key
 use Rattle.isort_settings.proofs.Readings.{taken, took, took_shown, in_ranges}
 use Rattle.isort_settings.proofs.settings.Settings.take_value.Goals as goal
@@ -17,7 +18,7 @@ pub returns-in-EnsureNewlineBeforeComments : goal.returns-in-EnsureNewlineBefore
 returns-in-EnsureNewlineBeforeComments c = took _ key.EnsureNewlineBeforeComments _ _ _ _ _ _ c.in-EnsureNewlineBeforeComments.is c.flag-in-EnsureNewlineBeforeComments.ensures c.put-in-EnsureNewlineBeforeComments.ensures
 
 pub returns-in-ExtraStandardLibrary : goal.returns-in-ExtraStandardLibrary
-returns-in-ExtraStandardLibrary c = took_shown _ key.ExtraStandardLibrary _ _ (λ v. map string_bytes v.items) _ _ _ _ c.in-ExtraStandardLibrary.is c.texts.ensures.ok c.texts.ensures.err c.put-in-ExtraStandardLibrary.ensures
+returns-in-ExtraStandardLibrary c = took_shown _ key.ExtraStandardLibrary _ _ texts_of _ _ _ _ c.in-ExtraStandardLibrary.is c.modules.ensures.ok c.modules.ensures.err c.put-in-ExtraStandardLibrary.ensures
 
 pub returns-in-ForceGridWrap : goal.returns-in-ForceGridWrap
 returns-in-ForceGridWrap c = took _ key.ForceGridWrap _ _ _ _ _ _ c.in-ForceGridWrap.is c.count.ensures c.put-in-ForceGridWrap.ensures
@@ -32,19 +33,19 @@ pub returns-in-IncludeTrailingComma : goal.returns-in-IncludeTrailingComma
 returns-in-IncludeTrailingComma c = took _ key.IncludeTrailingComma _ _ _ _ _ _ c.in-IncludeTrailingComma.is c.flag-in-IncludeTrailingComma.ensures c.put-in-IncludeTrailingComma.ensures
 
 pub returns-in-KnownFirstParty : goal.returns-in-KnownFirstParty
-returns-in-KnownFirstParty c = took_shown _ key.KnownFirstParty _ _ (λ v. map string_bytes v.items) _ _ _ _ c.in-KnownFirstParty.is c.texts-in-KnownFirstParty.ensures.ok c.texts-in-KnownFirstParty.ensures.err c.put-in-KnownFirstParty.ensures
+returns-in-KnownFirstParty c = took_shown _ key.KnownFirstParty _ _ texts_of _ _ _ _ c.in-KnownFirstParty.is c.modules-in-KnownFirstParty.ensures.ok c.modules-in-KnownFirstParty.ensures.err c.put-in-KnownFirstParty.ensures
 
 pub returns-in-KnownFutureLibrary : goal.returns-in-KnownFutureLibrary
-returns-in-KnownFutureLibrary c = took_shown _ key.KnownFutureLibrary _ _ (λ v. map string_bytes v.items) _ _ _ _ c.in-KnownFutureLibrary.is c.texts-in-KnownFutureLibrary.ensures.ok c.texts-in-KnownFutureLibrary.ensures.err c.put-in-KnownFutureLibrary.ensures
+returns-in-KnownFutureLibrary c = took_shown _ key.KnownFutureLibrary _ _ texts_of _ _ _ _ c.in-KnownFutureLibrary.is c.modules-in-KnownFutureLibrary.ensures.ok c.modules-in-KnownFutureLibrary.ensures.err c.put-in-KnownFutureLibrary.ensures
 
 pub returns-in-KnownLocalFolder : goal.returns-in-KnownLocalFolder
-returns-in-KnownLocalFolder c = took_shown _ key.KnownLocalFolder _ _ (λ v. map string_bytes v.items) _ _ _ _ c.in-KnownLocalFolder.is c.texts-in-KnownLocalFolder.ensures.ok c.texts-in-KnownLocalFolder.ensures.err c.put-in-KnownLocalFolder.ensures
+returns-in-KnownLocalFolder c = took_shown _ key.KnownLocalFolder _ _ texts_of _ _ _ _ c.in-KnownLocalFolder.is c.modules-in-KnownLocalFolder.ensures.ok c.modules-in-KnownLocalFolder.ensures.err c.put-in-KnownLocalFolder.ensures
 
 pub returns-in-KnownStandardLibrary : goal.returns-in-KnownStandardLibrary
-returns-in-KnownStandardLibrary c = took_shown _ key.KnownStandardLibrary _ _ (λ v. map string_bytes v.items) _ _ _ _ c.in-KnownStandardLibrary.is c.texts-in-KnownStandardLibrary.ensures.ok c.texts-in-KnownStandardLibrary.ensures.err c.put-in-KnownStandardLibrary.ensures
+returns-in-KnownStandardLibrary c = took_shown _ key.KnownStandardLibrary _ _ texts_of _ _ _ _ c.in-KnownStandardLibrary.is c.modules-in-KnownStandardLibrary.ensures.ok c.modules-in-KnownStandardLibrary.ensures.err c.put-in-KnownStandardLibrary.ensures
 
 pub returns-in-KnownThirdParty : goal.returns-in-KnownThirdParty
-returns-in-KnownThirdParty c = took_shown _ key.KnownThirdParty _ _ (λ v. map string_bytes v.items) _ _ _ _ c.in-KnownThirdParty.is c.texts-in-KnownThirdParty.ensures.ok c.texts-in-KnownThirdParty.ensures.err c.put-in-KnownThirdParty.ensures
+returns-in-KnownThirdParty c = took_shown _ key.KnownThirdParty _ _ texts_of _ _ _ _ c.in-KnownThirdParty.is c.modules-in-KnownThirdParty.ensures.ok c.modules-in-KnownThirdParty.ensures.err c.put-in-KnownThirdParty.ensures
 
 pub returns-in-LineLength : goal.returns-in-LineLength
 returns-in-LineLength c = took _ key.LineLength _ _ _ _ _ _ c.in-LineLength.is c.count-in-LineLength.ensures c.put-in-LineLength.ensures

@@ -1,0 +1,11 @@
+-- What a list of modules holds.
+use Rattle.std.specs.Prelude.{codes, ℕ, List, [], ◌∷◌, map, string_bytes}
+use Rattle.isort_settings.specs.declared.modules.Modules.{Modules}
+use Rattle.isort_settings.specs.declared.modules.Modules.TheVariants.{StandardLibrary, Future, Listed}
+use Rattle.isort_settings.specs.StandardLibrary.{standard_library}
+
+-- the modules of a list, each as its bytes
+abbrev pub texts_of : Modules → List (List ℕ)
+texts_of StandardLibrary = standard_library
+texts_of Future = codes "__future__" ∷ []
+texts_of (Listed modules) = map string_bytes modules.items

@@ -1,0 +1,112 @@
+//! Lists of modules, as settings have them.
+ghost use Rattle.std.specs.Prelude.{◌≡◌, bytes_eq, length, map, option_copied, slice_get, string_bytes};
+ghost use Rattle.isort_settings.specs.Sections.{holds};
+
+use crate::standard_library;
+
+/// The modules that a key lists. Only a list that settings give takes memory.
+#[derive(Debug, Drop)]
+pub enum Modules {
+    /// The default of `known_standard_library`: the modules that count as the standard library where no setting says
+    /// otherwise.
+    StandardLibrary,
+    /// The default of `known_future_library`: `__future__` alone.
+    Future,
+    /// A list that settings give.
+    Listed(Vec<String>),
+}
+
+/// The default of `known_future_library`.
+const FUTURE: [&str; 1] = ["__future__"];
+
+impl Modules {
+    ghost use Rattle.isort_settings.specs.Modules.{texts_of};
+
+    /// How many modules there are.
+    fn len(&self) -> usize
+        ensures { result ≡ length (texts_of self.now) }
+    {
+        match self {
+            Modules::StandardLibrary => standard_library::modules().len(),
+            Modules::Future => FUTURE.len(),
+            Modules::Listed(modules) => modules.len(),
+        }
+    }
+
+    /// The module at the index, if there are that many.
+    pub fn get(&self, index: usize) -> Option<&str>
+        ensures { option_copied result ≡ slice_get (texts_of self.now) index }
+    {
+        match self {
+            Modules::StandardLibrary => text_at(standard_library::modules(), index),
+            Modules::Future => text_at(&FUTURE, index),
+            Modules::Listed(modules) => modules.get(index).map(|module| module.as_str()),
+        }
+    }
+
+    /// Whether the list holds the module.
+    pub(crate) fn holds(&self, module: &[u8]) -> bool
+        ensures { result ≡ holds (texts_of self.now) «module».now }
+    {
+        match self {
+            Modules::StandardLibrary => standard_library::holds(module),
+            Modules::Future => module == b"__future__".as_slice(),
+            Modules::Listed(modules) => is_among(modules, module),
+        }
+    }
+}
+
+/// Two lists are equal where they hold the same modules in the same order.
+impl PartialEq for Modules {
+    ghost use Rattle.std.specs.Cmp.{partial_equiv_from_equiv};
+    ghost use Rattle.std.specs.Cmp.Lexicographic.{lists_equiv, nat_list_eq_equiv, pointwise};
+    ghost use Rattle.std.specs.Ordering.{on};
+    ghost use Rattle.std.proofs.lemmas.Cmp.{on_equiv};
+    ghost use Rattle.isort_settings.specs.Modules.{texts_of};
+
+    ghost eq = { on texts_of (pointwise bytes_eq) };
+
+    ghost laws = { partial_equiv_from_equiv (on_equiv texts_of (lists_equiv nat_list_eq_equiv)) };
+
+    fn eq(&self, other: &Modules) -> bool {
+        let count = self.len();
+        if count != other.len() {
+            return false;
+        }
+        for index in 0..count {
+            if self.get(index) != other.get(index) {
+                return false;
+            }
+        }
+        true
+    }
+}
+
+impl Eq for Modules {
+    ghost use Rattle.std.specs.Cmp.Lexicographic.{lists_equiv, nat_list_eq_equiv};
+    ghost use Rattle.std.proofs.lemmas.Cmp.{on_equiv};
+    ghost use Rattle.isort_settings.specs.Modules.{texts_of};
+
+    ghost laws = { on_equiv texts_of (lists_equiv nat_list_eq_equiv) };
+}
+
+/// The text at the index, if there are that many.
+fn text_at(texts: &'static [&'static str], index: usize) -> Option<&'static str>
+    ensures { option_copied result ≡ slice_get (map (λ t. t.now) texts.now) index }
+{
+    texts.get(index).copied()
+}
+
+/// Whether the entry is the text.
+fn is_text(entry: &String, text: &[u8]) -> bool
+    ensures { result ≡ bytes_eq (string_bytes entry.now) text.now }
+{
+    entry.as_bytes() == text
+}
+
+/// Whether the text is one of the entries.
+fn is_among(entries: &[String], text: &[u8]) -> bool
+    ensures { result ≡ holds (map string_bytes entries.now) text.now }
+{
+    entries.iter().any(|entry| is_text(entry, text))
+}
