@@ -1,5 +1,6 @@
 -- The lines of a whole text, and its end or fault.
 pub mod LinePrefix
+pub mod LinesBefore
 pub mod Answers
 pub mod Uniqueness
 pub mod Existence

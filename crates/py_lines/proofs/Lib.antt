@@ -45,6 +45,7 @@
 -- DepthRows are rows worked out by hand, on the definitions alone.
 pub mod Text
 pub mod Pieces
+pub mod Neighbours
 pub mod Machine
 pub mod Faults
 pub mod LogicalLines

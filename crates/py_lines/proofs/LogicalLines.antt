@@ -2,4 +2,5 @@
 pub mod Cuts
 pub mod NextLine
 pub mod TokenPlaces
+pub mod Words
 pub mod WorkedRows

@@ -4,6 +4,8 @@ pub mod Balance
 pub mod PieceGrammar
 pub mod LogicalLine
 pub mod Lexed
+pub mod Neighbours
+pub mod Words
 pub mod Settled
 pub mod Given
 pub mod Scanning

@@ -1,10 +1,12 @@
 //! Laws of the definitions, which the checker proves as contracts of functions that do nothing.
 
-ghost use Rattle.std.specs.Prelude.{◌≡◌, ℕ, Option, Some, List, ◌++◌, take};
-ghost use Rattle.py_lines.specs.Piece.{Piece};
-ghost use Rattle.py_lines.specs.PieceGrammar.{Reads, ReadsText};
-ghost use Rattle.py_lines.specs.LogicalLine.{LogicalLine};
-ghost use Rattle.py_lines.specs.Lexed.{IsFaultAt, IsReadOrFaulty, IsLexed, BeginsLexing};
+ghost use Rattle.std.specs.Prelude.{◌≡◌, ℕ, Option, Some, List, [], ◌++◌, map, take};
+ghost use Rattle.py_lines.specs.Piece.{Piece, spelled};
+ghost use Rattle.py_lines.specs.PieceGrammar.{AreReadBefore, Reads, ReadsText};
+ghost use Rattle.py_lines.specs.LogicalLine.{LogicalLine, cut, line_of};
+ghost use Rattle.py_lines.specs.Lexed.{IsBalancedReading, EndsLine, IsFaultAt, IsReadOrFaulty, IsLexed, BeginsLexing};
+ghost use Rattle.py_lines.specs.Neighbours.{AreSimple, MayTouch, MayFollowLines};
+ghost use Rattle.py_lines.specs.Words.{word_in, words_of, extent_of};
 ghost use Rattle.py_lines.specs.Reader.{Reader, HasGiven};
 ghost use Rattle.py_lines.specs.Settled.{IsSettled, Decides};
 ghost use Rattle.py_lines.specs.Given.{AreFirstLines};
@@ -53,4 +55,29 @@ pub fn settled_is_final()
     ensures within { (text : List ℕ) (place line : ℕ) (lines others : List LogicalLine) → AreFirstLines text place line lines → IsSettled (take place text) others → (more : List LogicalLine) × (lines ≡ others ++ more) }
     ensures fault { (text more : List ℕ) (fault : Fault) (lines : List LogicalLine) (end : Option Fault) → Decides text fault → IsLexed (text ++ more) lines end → end ≡ Some fault }
     ensures all { (text more : List ℕ) (fault : Fault) (lines : List LogicalLine) → Decides text fault → IsLexed text lines (Some fault) → IsLexed (text ++ more) lines (Some fault) }
+{}
+
+/// Pieces other than marks and strings are read where each may touch the next.
+pub fn neighbours_are_read()
+    ensures { (pieces : List Piece) → AreSimple pieces → MayTouch pieces → AreReadBefore pieces [] }
+{}
+
+/// Whole lines and what may follow them are read together exactly if each is read, and the lines of both are those of each.
+pub fn lines_before_a_text()
+    ensures together { (lines rest : List Piece)
+        → EndsLine lines → IsBalancedReading lines (spelled lines) → IsBalancedReading rest (spelled rest)
+        → MayFollowLines lines rest → IsBalancedReading (lines ++ rest) (spelled (lines ++ rest)) }
+    ensures apart { (lines rest : List Piece)
+        → EndsLine lines → IsBalancedReading (lines ++ rest) (spelled (lines ++ rest))
+        → IsBalancedReading lines (spelled lines) × IsBalancedReading rest (spelled rest) }
+    ensures cut { (lines rest : List Piece) → EndsLine lines → cut 0 (lines ++ rest) ≡ cut 0 lines ++ cut 0 rest }
+{}
+
+/// The tokens of a logical line have the kinds and the bytes of its pieces, wherever the line stands, and lie at the same
+/// places of it.
+pub fn tokens_are_words()
+    ensures words { (offset line : ℕ) (pieces : List Piece)
+        → map (word_in (line_of offset line pieces).text) (line_of offset line pieces).tokens ≡ words_of pieces }
+    ensures anywhere { (offset line place row : ℕ) (pieces : List Piece)
+        → map extent_of (line_of offset line pieces).tokens ≡ map extent_of (line_of place row pieces).tokens }
 {}

@@ -1,0 +1,68 @@
+-- The tokens of a logical line say what its pieces say.
+use Rattle.std.proofs.Common.{◌≡◌, ℕ, ◌+◌, ◌-◌, List, [], ◌∷◌, ◌++◌, map, length, length-append, take, drop, refl, sym, ap, ◌∙◌, append_assoc, arith}
+use Rattle.std.specs.Prelude.{encode_utf8_all, slice_range, if◌then◌else◌}
+use Rattle.std.proofs.Math.Seq.{drop-append_seam, take-append_seam}
+use Rattle.std.proofs.lemmas.Str.{encodes-append}
+use Rattle.py_lines.specs.Character.{is_digit}
+use Rattle.py_lines.specs.Piece.{Class, mark, space, word, string, operator, comment, join, line_end, Piece, begins, spelled}
+use Rattle.py_lines.specs.LogicalLine.{byte_len, line_ends, first_or_zero, tokens_of_piece, tokens_from, line_of}
+use Rattle.py_lines.specs.Words.{Word, word_in, words_of_piece, words_of, extent_of}
+use Rattle.py_lines.specs.declared.token.TokKind.TheVariants as kind
+use Rattle.py_lines.specs.declared.token.Token.{Token}
+
+slice_seam : (b x c : List ℕ) → slice_range (b ++ (x ++ c)) (length b) (length b + length x) ≡ x
+slice_seam b x c =
+    let e : (length b + length x) - length b ≡ length x = omega arith in
+    ap (λ (n : ℕ). take n (drop (length b) (b ++ (x ++ c)))) e ∙ ap (λ (t : List ℕ). take (length x) t) (drop-append_seam b (x ++ c)) ∙ take-append_seam x c
+
+one_word : (b c : List ℕ) (line : ℕ) (class : Class) (text : List ℕ) → map (word_in (b ++ (encode_utf8_all text ++ c))) (tokens_of_piece (length b) (length b + byte_len text) line class text) ≡ words_of_piece class text
+one_word b c line mark text = refl
+one_word b c line space text = refl
+one_word b c line join text = refl
+one_word b c line line_end text = refl
+one_word b c line word text = λ i. record { kind = if begins is_digit text then kind.Number else kind.Name; bytes = slice_seam b (encode_utf8_all text) c i } ∷ []
+one_word b c line string text = λ i. record { kind = kind.Str; bytes = slice_seam b (encode_utf8_all text) c i } ∷ []
+one_word b c line operator text = λ i. record { kind = kind.Op (first_or_zero text); bytes = slice_seam b (encode_utf8_all text) c i } ∷ []
+one_word b c line comment text = λ i. record { kind = kind.Remark; bytes = slice_seam b (encode_utf8_all text) c i } ∷ []
+
+map-append : {A B : Type 0} (f : A → B) (xs ys : List A) → map f (xs ++ ys) ≡ map f xs ++ map f ys
+map-append f [] ys = refl
+map-append f (x ∷ xs) ys = ap (λ l. f x ∷ l) (map-append f xs ys)
+
+words_after : (b : List ℕ) (line : ℕ) (ps : List Piece) → map (word_in (b ++ encode_utf8_all (spelled ps))) (tokens_from (length b) line ps) ≡ words_of ps
+words_after b line [] = refl
+words_after b line (p ∷ ps) =
+    let bytes = encode_utf8_all p.text in
+    let parts : encode_utf8_all (p.text ++ spelled ps) ≡ bytes ++ encode_utf8_all (spelled ps) = encodes-append p.text (spelled ps) in
+    let seam : length b + byte_len p.text ≡ length (b ++ bytes) = omega (arith, length-append {A = ℕ}) in
+    let regroup = sym (append_assoc b bytes (encode_utf8_all (spelled ps))) in
+    let others = words_after (b ++ bytes) (line + line_ends p.text) ps in
+    let tokens = tokens_from (length b + byte_len p.text) (line + line_ends p.text) ps in
+    ap (λ (t : List ℕ). map (word_in (b ++ t)) (tokens_of_piece (length b) (length b + byte_len p.text) line p.class p.text ++ tokens)) parts
+    ∙ map-append (word_in (b ++ (bytes ++ encode_utf8_all (spelled ps)))) (tokens_of_piece (length b) (length b + byte_len p.text) line p.class p.text) tokens
+    ∙ (λ i. one_word b (encode_utf8_all (spelled ps)) line p.class p.text i ++ map (word_in (regroup i)) (tokens_from (seam i) (line + line_ends p.text) ps))
+    ∙ ap (λ l. words_of_piece p.class p.text ++ l) others
+
+pub words_of_line : (offset line : ℕ) (ps : List Piece) → map (word_in (line_of offset line ps).text) (line_of offset line ps).tokens ≡ words_of ps
+words_of_line offset line ps = words_after [] line ps
+
+one_extent : (start stop line row : ℕ) (class : Class) (text : List ℕ) → map extent_of (tokens_of_piece start stop line class text) ≡ map extent_of (tokens_of_piece start stop row class text)
+one_extent start stop line row mark text = refl
+one_extent start stop line row space text = refl
+one_extent start stop line row word text = refl
+one_extent start stop line row string text = refl
+one_extent start stop line row operator text = refl
+one_extent start stop line row comment text = refl
+one_extent start stop line row join text = refl
+one_extent start stop line row line_end text = refl
+
+pub same_extents : (start line row : ℕ) (ps : List Piece) → map extent_of (tokens_from start line ps) ≡ map extent_of (tokens_from start row ps)
+same_extents start line row [] = refl
+same_extents start line row (p ∷ ps) =
+    let stop = start + byte_len p.text in
+    map-append extent_of (tokens_of_piece start stop line p.class p.text) (tokens_from stop (line + line_ends p.text) ps)
+    ∙ (λ i. one_extent start stop line row p.class p.text i ++ same_extents stop (line + line_ends p.text) (row + line_ends p.text) ps i)
+    ∙ sym (map-append extent_of (tokens_of_piece start stop row p.class p.text) (tokens_from stop (row + line_ends p.text) ps))
+
+pub extents_of_line : (offset line place row : ℕ) (ps : List Piece) → map extent_of (line_of offset line ps).tokens ≡ map extent_of (line_of place row ps).tokens
+extents_of_line offset line place row ps = same_extents 0 line row ps
