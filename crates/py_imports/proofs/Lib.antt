@@ -50,6 +50,9 @@ pub mod DecidingLemmas
 pub mod OneFaultLemmas
 pub mod ReaderLemmas
 pub mod ActionLemmas
+pub mod JoinedTexts
+pub mod OneStatement
+pub mod Names
 pub mod ShapeLemmas
 pub mod ShapeRows
 pub mod SortableLemmas

@@ -3,6 +3,7 @@ pub mod Binds
 pub mod Bound
 pub mod Declaration
 pub mod Grammar
+pub mod Names
 pub mod Reading
 pub mod Shape
 pub mod Spelled

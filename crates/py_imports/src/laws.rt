@@ -1,11 +1,23 @@
 //! Laws of the definitions, which the checker proves as contracts of functions that do nothing.
 
-ghost use Rattle.std.specs.Prelude.{◌≡◌, List};
-ghost use Rattle.py_lines.specs.LogicalLine.{LogicalLine};
+ghost use Rattle.std.specs.Prelude.{◌≡◌, ◌∷◌, ◌++◌, ◌⊎◌, ℕ, List, true, false, codes, map, nat_lt};
+ghost use Rattle.std.specs.List.{list_any};
+ghost use Rattle.py_lines.specs.LogicalLine.{LogicalLine, line_of};
+ghost use Rattle.py_lines.specs.Piece.{Piece};
+ghost use Rattle.py_lines.specs.PieceGrammar.{AreReadBefore};
+ghost use Rattle.py_lines.specs.Words.{words_of};
 ghost use Rattle.py_lines.specs.declared.fault.Fault.{Fault};
-ghost use Rattle.py_imports.specs.Grammar.{Terminal, Imported, IsImport};
-ghost use Rattle.py_imports.specs.Bound.{Bound};
+ghost use Rattle.py_lines.specs.declared.token.Token.{Token};
+ghost use Rattle.py_imports.specs.Grammar.{Terminal, Imported, IsImport, begins_import};
+ghost use Rattle.py_imports.specs.Bound.{Bound, bound_at};
+ghost use Rattle.py_imports.specs.Names.{HaveNames, terminals_in};
+ghost use Rattle.py_imports.specs.Shape.{terminals_of};
+ghost use Rattle.py_imports.specs.Statement.{is_divider, significant};
+ghost use Rattle.py_imports.specs.Action.{says};
 ghost use Rattle.py_imports.specs.Binds.{Binds, IsBadAt, BindsOrIsBad};
+ghost use Rattle.py_imports.specs.declared.action.Action.{Action};
+
+use py_lines::laws::tokens_are_words;
 
 /// An import statement binds one list: the grammar relates it to no other.
 pub fn binds_one_list()
@@ -19,4 +31,31 @@ pub fn binds_or_is_bad()
     ensures one_list { (line : LogicalLine) (bounds others : List Bound) → Binds line bounds → Binds line others → bounds ≡ others }
     ensures one_fault { (line : LogicalLine) (fault other : Fault) → IsBadAt line fault → IsBadAt line other → fault ≡ other }
     ensures not_both { (line : LogicalLine) (bounds : List Bound) (fault : Fault) → Binds line bounds → ¬ (IsBadAt line fault) }
+{}
+
+/// What a logical line says to the import grammar is what the words of its pieces say, wherever the line stands. Where the
+/// pieces are read, each name among them is a word, and no number and no keyword.
+pub fn names_are_words()
+    ensures words { (offset line : ℕ) (pieces : List Piece)
+        → terminals_of (line_of offset line pieces) ≡ terminals_in (words_of pieces) }
+    ensures names { (offset line : ℕ) (pieces : List Piece) (rest : List ℕ)
+        → AreReadBefore pieces rest → HaveNames (terminals_of (line_of offset line pieces)) }
+{
+    tokens_are_words();
+}
+
+/// A logical line with neither `;` nor `:` outside its comments binds what it imports as one statement, if it is one in the
+/// grammar.
+pub fn one_statement_binds_its_imports()
+    ensures { (line : LogicalLine) (token : Token) (tokens : List Token) (is : List Imported)
+        → significant line.tokens ≡ token ∷ tokens → list_any (λ t. is_divider t.kind) (token ∷ tokens) ≡ false
+        → begins_import (terminals_of line) ≡ true → IsImport (terminals_of line) is
+        → Binds line (map (bound_at token.line (nat_lt 0 line.indent)) is) }
+{}
+
+/// Two texts with `; ` between them say no action that neither of them says. So what comments say when they are joined, one
+/// of them says.
+pub fn joined_texts_say_no_more()
+    ensures { (a : Action) (text rest : List ℕ)
+        → says a (text ++ (codes "; " ++ rest)) ≡ true → (says a text ≡ true) ⊎ (says a rest ≡ true) }
 {}
