@@ -1,5 +1,6 @@
 -- What the calls answer.
-use Rattle.std.specs.Prelude.{◌≡◌, ◌≢◌, ◌⊎◌, ℕ, ◌+◌, ◌≤◌, Bool, MatchBool, List, [], ◌∷◌, ◌++◌, length, drop, slice_range, Result, Ok, Err, string_bytes}
+use Rattle.std.specs.Prelude.{◌≡◌, ◌≢◌, ◌⊎◌, ℕ, ◌+◌, ◌≤◌, Bool, MatchBool, List, [], ◌∷◌, ◌++◌}
+use Rattle.std.specs.Prelude.{length, drop, slice_range, Result, Ok, Err, string_bytes}
 use Rattle.py_lines.specs.LogicalLine.{LogicalLine}
 use Rattle.isort_settings.specs.Values.{Values}
 use Rattle.isort_sort.specs.Blocks.{run_rows, Cut, rest, block, members_of}
@@ -38,7 +39,9 @@ spans_from at (block before run blanks cut) =
 
 -- the blocks of a text: none where it is skipped
 abbrev pub AreBlocksOf : List ℕ → List Block → Type 0
-AreBlocksOf text blocks = IsSkipped text × (blocks ≡ []) ⊎ ((lines : List LogicalLine) × (cut : Cut) × HasBlocks text lines cut × (blocks ≡ spans_from (length (mark_of lines)) cut))
+AreBlocksOf text blocks =
+    IsSkipped text × (blocks ≡ [])
+    ⊎ ((lines : List LogicalLine) × (cut : Cut) × HasBlocks text lines cut × (blocks ≡ spans_from (length (mark_of lines)) cut))
 
 -- the text from this byte on, with the span of each block replaced by one of these texts
 abbrev pub with_layouts : List ℕ → ℕ → List Block → List (List ℕ) → List ℕ

@@ -44,7 +44,8 @@ is_blank row = role_is_blank row.role
 -- whether after comments and blank lines there is a member with this indentation
 abbrev pub leads_to : List ℕ → List Row → Bool
 leads_to indentation [] = false
-leads_to indentation (row ∷ rows) = (is_member row && bytes_eq row.indentation indentation) || (is_between row && leads_to indentation rows)
+leads_to indentation (row ∷ rows) =
+    (is_member row && bytes_eq row.indentation indentation) || (is_between row && leads_to indentation rows)
 
 -- a further member of a run, after comments and blank lines
 pub record Further : Type 0 where

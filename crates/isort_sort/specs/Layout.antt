@@ -44,12 +44,15 @@ gap_by_comment v (c ∷ cs) = if v.ensure_newline_before_comments then 1 else 0
 
 -- the lines of one statement, with the comments above it
 abbrev pub own_lines : Values → List ℕ → Laid → List (List ℕ)
-own_lines v indentation s = map (λ c. indentation ++ c) s.above ++ statement_lines v indentation s.statement (remark s.comments) s.items s.cut
+own_lines v indentation s =
+    map (λ c. indentation ++ c) s.above ++ statement_lines v indentation s.statement (remark s.comments) s.items s.cut
 
 -- the lines of the statements after one
 abbrev pub lines_after : Values → List ℕ → Laid → List Laid → List (List ℕ)
 lines_after v indentation a [] = []
-lines_after v indentation a (b ∷ ss) = replicate (max (gap_by_kind v a.statement b.statement) (gap_by_comment v b.above)) [] ++ (own_lines v indentation b ++ lines_after v indentation b ss)
+lines_after v indentation a (b ∷ ss) =
+    replicate (max (gap_by_kind v a.statement b.statement) (gap_by_comment v b.above)) []
+    ++ (own_lines v indentation b ++ lines_after v indentation b ss)
 
 -- the lines of a block
 abbrev pub block_lines : Values → List ℕ → List Laid → List (List ℕ)

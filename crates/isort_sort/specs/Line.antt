@@ -1,5 +1,5 @@
 -- A logical line as sorting sees it: its comments, and what it imports.
-use Rattle.std.specs.Prelude.{◌≡◌, ℕ, ◌==◌, Bool, true, false, List, [], ◌∷◌, ◌++◌, codes, map, filter, slice_range, if◌then◌else◌}
+use Rattle.std.specs.Prelude.{ℕ, ◌==◌, Bool, true, false, List, [], ◌∷◌, map, filter, slice_range, if◌then◌else◌}
 use Rattle.std.specs.List.{list_all}
 use Rattle.std.specs.Str.{byte}
 use Rattle.py_lines.specs.Character.{is_space}
@@ -8,10 +8,6 @@ use Rattle.py_lines.specs.declared.token.Token.{Token}
 use Rattle.py_imports.specs.Bound.{Bound}
 use Rattle.py_imports.specs.Grammar.{Imported}
 use Rattle.py_imports.specs.Statement.{is_comment}
-
--- `isort:` stands nowhere in the text
-abbrev pub IsSilent : List ℕ → Type 0
-IsSilent text = (before after : List ℕ) → ¬ (text ≡ before ++ (codes "isort:" ++ after))
 
 -- the bytes of a token
 abbrev pub word_of : LogicalLine → Token → List ℕ

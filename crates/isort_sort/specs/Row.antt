@@ -1,5 +1,6 @@
 -- The logical lines of a text as sorting sees them.
-use Rattle.std.specs.Prelude.{◌≡◌, ℕ, ◌+◌, Bool, true, false, not, ◌&&◌, ◌||◌, ◌⊎◌, List, [], ◌∷◌, ◌++◌, map, drop, slice_range, nat_lt, if◌then◌else◌, Option, None, Some, slice_get}
+use Rattle.std.specs.Prelude.{◌≡◌, ℕ, ◌+◌, Bool, true, false, not, ◌&&◌, ◌||◌, ◌⊎◌, List, [], ◌∷◌, ◌++◌, map}
+use Rattle.std.specs.Prelude.{drop, slice_range, nat_lt, if◌then◌else◌, Option, None, Some, slice_get}
 use Rattle.std.specs.List.{list_any}
 use Rattle.py_lines.specs.LogicalLine.{LogicalLine}
 use Rattle.py_lines.specs.declared.token.TokKind.{TokKind}
@@ -106,7 +107,9 @@ pub record IsRow (before : List LogicalLine) (line : LogicalLine) (row : Row) : 
 -- the rows of lines that stand after others
 abbrev pub AreRows : List LogicalLine → List LogicalLine → List Row → Type 0
 AreRows before [] rows = rows ≡ []
-AreRows before (line ∷ lines) rows = (row : Row) × (others : List Row) × (rows ≡ row ∷ others) × IsRow before line row × AreRows (before ++ line ∷ []) lines others
+AreRows before (line ∷ lines) rows =
+    (row : Row) × (others : List Row) × (rows ≡ row ∷ others)
+    × IsRow before line row × AreRows (before ++ line ∷ []) lines others
 
 -- whether a token is a string
 abbrev pub is_string : TokKind → Bool
@@ -119,7 +122,9 @@ string_skips line (Some t) = is_string t.kind && says action.SkipFile (word_of l
 
 abbrev pub first_string_skips : List LogicalLine → Bool
 first_string_skips [] = false
-first_string_skips (line ∷ lines) = if is_nothing (significant line.tokens) then first_string_skips lines else string_skips line (slice_get (significant line.tokens) 0)
+first_string_skips (line ∷ lines) =
+    if is_nothing (significant line.tokens) then first_string_skips lines
+    else string_skips line (slice_get (significant line.tokens) 0)
 
 abbrev pub skips_file : List LogicalLine → Bool
 skips_file lines = list_any (λ line. list_any (says action.SkipFile) (comment_texts line)) lines || first_string_skips lines

@@ -1,5 +1,6 @@
 -- The sorted text.
-use Rattle.std.specs.Prelude.{◌≡◌, nat_lt, ℕ, ◌==◌, Bool, true, false, ◌⊎◌, List, [], ◌∷◌, ◌++◌, flat_map, length, take, ℤ, pos, negsuc, count_by, if◌then◌else◌, Option, None, Some}
+use Rattle.std.specs.Prelude.{◌≡◌, nat_lt, ℕ, ◌==◌, Bool, true, false, ◌⊎◌, List, [], ◌∷◌, ◌++◌, flat_map}
+use Rattle.std.specs.Prelude.{length, take, ℤ, pos, negsuc, count_by, if◌then◌else◌, Option, None, Some}
 use Rattle.py_lines.specs.LogicalLine.{LogicalLine}
 use Rattle.py_lines.specs.Piece.{begins}
 use Rattle.py_lines.specs.Lexed.{IsLexed}
@@ -15,7 +16,9 @@ use Rattle.isort_sort.specs.Row.{Before, two, as_many, one, Role, comments, othe
 -- the first line end of a text, or LF
 abbrev pub first_end : List ℕ → List ℕ
 first_end [] = 10 ∷ []
-first_end (b ∷ text) = if b == 10 then 10 ∷ [] else (if b == 13 then (if begins (λ c. c == 10) text then 13 ∷ 10 ∷ [] else 13 ∷ []) else first_end text)
+first_end (b ∷ text) =
+    if b == 10 then 10 ∷ []
+    else (if b == 13 then (if begins (λ c. c == 10) text then 13 ∷ 10 ∷ [] else 13 ∷ []) else first_end text)
 
 -- the last row of a run
 abbrev pub last_row : Row → List Further → Row
@@ -45,13 +48,15 @@ asked (negsuc n) by_row = by_row
 -- how many blank lines stand after a block, before these rows, where there were `kept`
 abbrev pub blanks_after : Values → Run → ℕ → List Row → ℕ
 blanks_after v run kept [] = kept
-blanks_after v run kept (row ∷ rows) = if is_indented run then kept else asked v.lines_after_imports (number_before kept (before_role row.role))
+blanks_after v run kept (row ∷ rows) =
+    if is_indented run then kept else asked v.lines_after_imports (number_before kept (before_role row.role))
 
 -- the layout of a block, with the blank lines that stood after it, before these rows
 abbrev pub IsLayout : Values → List ℕ → Run → List Row → List Row → List ℕ → Type 0
 IsLayout v end run blanks after text =
     (laid : List Laid) × AreLaid v run.first.indentation (members_of run) laid
-    × (text ≡ text_of_lines end (last_row run.first run.others).ended (blanks_after v run (count_by (λ row. row.ended) blanks) after) (block_lines v run.first.indentation laid))
+    × (text ≡ text_of_lines end (last_row run.first run.others).ended
+    (blanks_after v run (count_by (λ row. row.ended) blanks) after) (block_lines v run.first.indentation laid))
 
 -- the text of rows
 abbrev pub texts_of : List Row → List ℕ
@@ -61,7 +66,8 @@ texts_of rows = flat_map (λ row. row.text) rows
 abbrev pub IsSortedCut : Values → List ℕ → Cut → List ℕ → Type 0
 IsSortedCut v end (rest rows) text = text ≡ texts_of rows
 IsSortedCut v end (block before run blanks cut) text =
-    (own others : List ℕ) × (text ≡ texts_of before ++ (own ++ others)) × IsLayout v end run blanks (cut_rows cut) own × IsSortedCut v end cut others
+    (own others : List ℕ) × (text ≡ texts_of before ++ (own ++ others))
+    × IsLayout v end run blanks (cut_rows cut) own × IsSortedCut v end cut others
 
 -- the byte order mark of a text
 abbrev pub mark_of : List LogicalLine → List ℕ

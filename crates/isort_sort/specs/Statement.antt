@@ -1,5 +1,6 @@
 -- The statements that sorting writes, and their order.
-use Rattle.std.specs.Prelude.{ℕ, ◌==◌, Bool, true, false, not, ◌&&◌, ◌||◌, Option, None, Some, List, [], codes, if◌then◌else◌, bytes_eq, is_some}
+use Rattle.std.specs.Prelude.{ℕ, ◌==◌, Bool, true, false, not, ◌&&◌, ◌||◌, Option, None}
+use Rattle.std.specs.Prelude.{Some, List, [], codes, if◌then◌else◌, bytes_eq, is_some}
 use Rattle.std.specs.Option.{option_cmp}
 use Rattle.std.specs.Ordering.{nat_cmp, ordering_then}
 use Rattle.std.specs.declared.cmp.Ordering.{Ordering}
@@ -92,4 +93,6 @@ same_alias other another = false
 
 -- whether two statements are the same
 abbrev pub same_statement : Statement → Statement → Bool
-same_statement a b = (form_place a == form_place b) && bytes_eq (module_of a) (module_of b) && bytes_eq (own_item a).path (own_item b).path && same_alias (own_item a).alias (own_item b).alias
+same_statement a b =
+    (form_place a == form_place b) && bytes_eq (module_of a) (module_of b)
+    && bytes_eq (own_item a).path (own_item b).path && same_alias (own_item a).alias (own_item b).alias

@@ -1,5 +1,6 @@
 -- The lines of a statement.
-use Rattle.std.specs.Prelude.{◌≡◌, ℕ, ◌+◌, ◌==◌, Bool, true, false, not, ◌&&◌, ◌||◌, List, [], ◌∷◌, ◌++◌, map, flat_map, length, replicate, codes, if◌then◌else◌, nat_le, nat_lt}
+use Rattle.std.specs.Prelude.{◌≡◌, ℕ, ◌+◌, ◌==◌, Bool, true, false, not, ◌&&◌, ◌||◌, List, [], ◌∷◌, ◌++◌}
+use Rattle.std.specs.Prelude.{map, flat_map, length, replicate, codes, if◌then◌else◌, nat_le, nat_lt}
 use Rattle.isort_sort.specs.Width.{width}
 use Rattle.std.specs.List.{join_by}
 use Rattle.py_imports.specs.Grammar.{Item}
@@ -65,13 +66,20 @@ trailing_comma v = if v.include_trailing_comma then codes "," else []
 -- the lines of a wrapped statement, whose items have this cut into texts: in brackets from the first line on (modes 0
 -- and 1), after a backslash (mode 2), or in brackets of their own (mode 3)
 abbrev pub in_brackets : Values → List ℕ → List ℕ → List ℕ → List (List ℕ) → List (List ℕ)
-in_brackets v indentation m comment texts = framed (indentation ++ (head m ++ codes "(")) (indentation ++ replicate (width (head m) + 1) 32) (codes ",") (trailing_comma v ++ (codes ")" ++ comment)) texts
+in_brackets v indentation m comment texts =
+    framed (indentation ++ (head m ++ codes "(")) (indentation ++ replicate (width (head m) + 1) 32) (codes ",")
+    (trailing_comma v ++ (codes ")" ++ comment)) texts
 
 abbrev pub hanging : List ℕ → List ℕ → List ℕ → List (List ℕ) → List (List ℕ)
-hanging indentation m comment texts = (indentation ++ (head m ++ (92 ∷ []))) ∷ framed (indentation ++ four_spaces) (indentation ++ four_spaces) (codes ", " ++ 92 ∷ []) comment texts
+hanging indentation m comment texts =
+    (indentation ++ (head m ++ (92 ∷ [])))
+    ∷ framed (indentation ++ four_spaces) (indentation ++ four_spaces) (codes ", " ++ 92 ∷ []) comment texts
 
 abbrev pub hanging_in_brackets : Values → List ℕ → List ℕ → List ℕ → List (List ℕ) → List (List ℕ)
-hanging_in_brackets v indentation m comment texts = (indentation ++ (head m ++ (codes "(" ++ comment))) ∷ (framed (indentation ++ four_spaces) (indentation ++ four_spaces) (codes ",") (trailing_comma v) texts ++ (indentation ++ codes ")") ∷ [])
+hanging_in_brackets v indentation m comment texts =
+    (indentation ++ (head m ++ (codes "(" ++ comment)))
+    ∷ (framed (indentation ++ four_spaces) (indentation ++ four_spaces) (codes ",") (trailing_comma v) texts
+    ++ (indentation ++ codes ")") ∷ [])
 
 abbrev pub wrapped : Values → List ℕ → List ℕ → List ℕ → List (List ℕ) → List (List ℕ)
 wrapped v indentation m comment texts =
@@ -95,11 +103,13 @@ is_wrapped v indentation m comment items =
 -- the lines of names from a module, with this cut of them
 abbrev pub names_lines : Values → List ℕ → List ℕ → List ℕ → List Item → List (List Item) → List (List ℕ)
 names_lines v indentation m comment items cut =
-    if is_wrapped v indentation m comment items then wrapped v indentation m comment (map items_text cut) else flat indentation m comment items ∷ []
+    if is_wrapped v indentation m comment items then wrapped v indentation m comment (map items_text cut)
+    else flat indentation m comment items ∷ []
 
 -- the lines of a statement, with its joined comment, its items, and a cut of them
 abbrev pub statement_lines : Values → List ℕ → Statement → List ℕ → List Item → List (List Item) → List (List ℕ)
-statement_lines v indentation (straight m alias) comment items cut = (indentation ++ (codes "import " ++ (m ++ (alias_text alias ++ comment)))) ∷ []
+statement_lines v indentation (straight m alias) comment items cut =
+    (indentation ++ (codes "import " ++ (m ++ (alias_text alias ++ comment)))) ∷ []
 statement_lines v indentation (star m) comment items cut = (indentation ++ (head m ++ (codes "*" ++ comment))) ∷ []
 statement_lines v indentation (names m) comment items cut = names_lines v indentation m comment items cut
 statement_lines v indentation (single m i) comment items cut = names_lines v indentation m comment items cut

@@ -1,10 +1,10 @@
 //! The layout of a block that was found.
 ghost use Rattle.std.specs.Prelude.{◌≡◌, ◌++◌, IfOk, IfErr, OnOk, map, string_bytes, replicate, flat_map, List, ℕ, if◌then◌else◌};
 ghost use Rattle.isort_settings.specs.Values.{values};
-ghost use Rattle.isort_sort.specs.Arranged.{IsArranged};
-ghost use Rattle.isort_sort.specs.Found.{blanks_of};
-ghost use Rattle.isort_sort.specs.FoundValues.{found_value};
-ghost use Rattle.isort_sort.specs.LineEnd.{end_bytes};
+ghost use Rattle.isort_sort.specs.Private.Arranged.{IsArranged};
+ghost use Rattle.isort_sort.specs.Private.Found.{blanks_of};
+ghost use Rattle.isort_sort.specs.Private.FoundValues.{found_value};
+ghost use Rattle.isort_sort.specs.Private.LineEnd.{end_bytes};
 
 use crate::answer::SortError;
 use crate::finder::FoundBlock;
@@ -67,7 +67,8 @@ pub(crate) fn arrange(
 
 /// Puts blank lines after a text.
 fn push_blank_lines(text: &mut String, end: LineEnd, blanks: usize) -> Result<(), SortError>
-    ensures ok { OnOk result (string_bytes text.new ≡ string_bytes text.old ++ flat_map (λ (l : List ℕ). l) (replicate blanks (end_bytes end))) }
+    ensures ok { OnOk result (string_bytes text.new ≡ string_bytes text.old
+        ++ flat_map (λ (l : List ℕ). l) (replicate blanks (end_bytes end))) }
     ensures err { IfErr result (λ e. e ≡ SortError.Memory) }
 {
     for _ in 0..blanks {

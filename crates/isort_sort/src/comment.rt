@@ -3,7 +3,8 @@ ghost use Rattle.std.specs.Prelude.{◌≡◌, IfOk, IsTrue, map, string_bytes};
 ghost use Rattle.std.specs.List.{list_any};
 ghost use Rattle.py_lines.specs.Lines.{line_in};
 ghost use Rattle.py_imports.specs.Action.{says};
-ghost use Rattle.isort_sort.specs.Line.{IsSilent, comment_texts, own_comments, stripped, without_hash};
+ghost use Rattle.isort_sort.specs.Line.{comment_texts, own_comments, stripped, without_hash};
+ghost use Rattle.isort_sort.specs.Private.Silence.{IsSilent};
 
 use memchr::memmem;
 use py_imports::{Action, says};

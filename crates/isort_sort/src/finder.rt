@@ -1,9 +1,12 @@
 //! Finding the blocks of a text, line by line.
-ghost use Rattle.std.specs.Prelude.{◌≡◌, ◌+◌, ◌<◌, ◌≤◌, ◌^◌, [], None, MatchOption, IfOk, OnOk, IfErr, is_some, map, option_map, string_bytes};
-ghost use Rattle.isort_sort.specs.Finding.{after_blank, after_comments, after_member, after_other, begun_with, closed_before, closed_found, closed_with, with_blank, with_comments, with_member};
-ghost use Rattle.isort_sort.specs.FoundValues.{before_value, finding_value, found_value, open_value, IsCounted};
-ghost use Rattle.isort_sort.specs.LineRole.{before_of};
-ghost use Rattle.isort_sort.specs.Values.{member_value};
+ghost use Rattle.std.specs.Prelude.{◌≡◌, ◌+◌, ◌<◌, ◌≤◌, ◌^◌, [], None, MatchOption, is_some, map, option_map};
+ghost use Rattle.std.specs.Prelude.{string_bytes, IfOk, OnOk, IfErr};
+ghost use Rattle.isort_sort.specs.Private.Finding.{after_blank, after_comments, after_member, after_other};
+ghost use Rattle.isort_sort.specs.Private.Finding.{begun_with, closed_before, closed_found, closed_with};
+ghost use Rattle.isort_sort.specs.Private.Finding.{with_blank, with_comments, with_member};
+ghost use Rattle.isort_sort.specs.Private.FoundValues.{before_value, finding_value, found_value, open_value, IsCounted};
+ghost use Rattle.isort_sort.specs.Private.LineRole.{before_of};
+ghost use Rattle.isort_sort.specs.Private.Values.{member_value};
 
 use crate::answer::SortError;
 use crate::member::Member;
@@ -199,7 +202,8 @@ impl BlockFinder {
     ) -> Result<(), SortError>
         requires counted { IsCounted (finding_value self.old) }
         requires further { (finding_value self.old).place ≤ line.stop }
-        ensures value { OnOk result (finding_value self.new ≡ after_comments line.stop (map string_bytes comments.items) (finding_value self.old)) }
+        ensures value { OnOk result (finding_value self.new
+            ≡ after_comments line.stop (map string_bytes comments.items) (finding_value self.old)) }
         ensures counted { OnOk result (IsCounted (finding_value self.new)) }
         ensures err { IfErr result (λ e. e ≡ SortError.Memory) }
     {
@@ -218,7 +222,8 @@ impl BlockFinder {
         indentation: &str,
         member: Member,
     ) -> Result<(), SortError>
-        ensures value { OnOk result (finding_value self.new ≡ after_member line.stop line.ended indentation.now (member_value member) (finding_value self.old)) }
+        ensures value { OnOk result (finding_value self.new
+            ≡ after_member line.stop line.ended indentation.now (member_value member) (finding_value self.old)) }
         ensures counted { OnOk result (IsCounted (finding_value self.new)) }
         ensures err { IfErr result (λ e. e ≡ SortError.Memory) }
     {

@@ -3,13 +3,13 @@ ghost use Rattle.std.specs.Prelude.{◌≡◌, ◌++◌, IfOk, OnOk, IfErr, [], 
 ghost use Rattle.std.specs.Option.{option_map};
 ghost use Rattle.isort_settings.specs.Values.{values};
 ghost use Rattle.indexmap.specs.IndexMap.{keys};
-ghost use Rattle.isort_sort.specs.Gathered.{brought, brought_by, brought_value, seen_value, AreDistinct, AreMade, Gathers};
-ghost use Rattle.isort_sort.specs.GroupOrder.{group_cmp};
-ghost use Rattle.isort_sort.specs.Group.{group_value, AreGrouped};
+ghost use Rattle.isort_sort.specs.Private.Gathered.{brought, brought_by, brought_value, seen_value, AreDistinct, AreMade, Gathers};
+ghost use Rattle.isort_sort.specs.Private.GroupOrder.{group_cmp};
+ghost use Rattle.isort_sort.specs.Private.Group.{group_value, AreGrouped};
 ghost use Rattle.isort_sort.specs.Member.{firsts};
 ghost use Rattle.isort_sort.specs.Order.{AreInOrder};
 ghost use Rattle.isort_sort.specs.Statement.{item_cmp};
-ghost use Rattle.isort_sort.specs.Values.{item_value, member_value};
+ghost use Rattle.isort_sort.specs.Private.Values.{item_value, member_value};
 
 use crate::answer::SortError;
 use crate::member::Member;
@@ -47,7 +47,7 @@ struct Gathered {
 }
 
 impl Gathered {
-    ghost use Rattle.isort_sort.specs.Gathered.{nothing, IsMade};
+    ghost use Rattle.isort_sort.specs.Private.Gathered.{nothing, IsMade};
 
     /// Nothing.
     fn new(alloc: Global) -> Gathered
@@ -67,9 +67,12 @@ impl Gathered {
         mut comments: Vec<String>,
         mut above: Vec<String>,
     ) -> Result<(), AllocError>
-        ensures items { OnOk result (map item_value self.new.items.items ≡ map item_value self.old.items.items ++ option_to_list (option_map item_value item)) }
-        ensures comments { OnOk result (map string_bytes self.new.comments.items ≡ map string_bytes self.old.comments.items ++ map string_bytes comments.items) }
-        ensures above { OnOk result (map string_bytes self.new.above.items ≡ map string_bytes self.old.above.items ++ map string_bytes above.items) }
+        ensures items { OnOk result (map item_value self.new.items.items
+            ≡ map item_value self.old.items.items ++ option_to_list (option_map item_value item)) }
+        ensures comments { OnOk result (map string_bytes self.new.comments.items
+            ≡ map string_bytes self.old.comments.items ++ map string_bytes comments.items) }
+        ensures above { OnOk result (map string_bytes self.new.above.items
+            ≡ map string_bytes self.old.above.items ++ map string_bytes above.items) }
     {
         if let Some(item) = item {
             self.items.push(item)?;
@@ -167,7 +170,8 @@ fn gather_member(
     statements: &mut Statements,
     member: Member,
 ) -> Result<(), SortError>
-    ensures ok { OnOk result (Gathers statements.old.entries (brought_by (values settings.now) (member_value member)) statements.new.entries) }
+    ensures ok { OnOk result (Gathers statements.old.entries (brought_by (values settings.now) (member_value member))
+        statements.new.entries) }
     ensures err { IfErr result (λ e. e ≡ SortError.Memory) }
 {
     let Member {
@@ -194,7 +198,8 @@ fn gather_members(
     settings: &Settings,
     members: Vec<Member>,
 ) -> Result<Statements, SortError>
-    ensures ok { IfOk result (λ statements. Gathers [] (brought (values settings.now) (map member_value members.items)) statements.entries) }
+    ensures ok { IfOk result (λ statements. Gathers [] (brought (values settings.now) (map member_value members.items))
+        statements.entries) }
     ensures err { IfErr result (λ e. e ≡ SortError.Memory) }
 {
     let mut statements = IndexMap::new(alloc);

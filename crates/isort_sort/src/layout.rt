@@ -2,11 +2,11 @@
 ghost use Rattle.std.specs.Prelude.{◌≡◌, ◌≢◌, ◌++◌, [], IfOk, IfErr, OnOk, codes, map, max, string_bytes};
 ghost use Rattle.std.specs.List.{AllByRecursion, join_by};
 ghost use Rattle.isort_settings.specs.Values.{values};
-ghost use Rattle.isort_sort.specs.Group.{group_value, IsTextOf};
+ghost use Rattle.isort_sort.specs.Private.Group.{group_value, IsTextOf};
 ghost use Rattle.isort_sort.specs.Layout.{gap_by_kind, gap_by_comment};
-ghost use Rattle.isort_sort.specs.LineEnd.{end_bytes};
-ghost use Rattle.isort_sort.specs.Packing.{text_with, HasSection};
-ghost use Rattle.isort_sort.specs.Values.{statement_value};
+ghost use Rattle.isort_sort.specs.Private.LineEnd.{end_bytes};
+ghost use Rattle.isort_sort.specs.Private.Packing.{text_with, HasSection};
+ghost use Rattle.isort_sort.specs.Private.Values.{statement_value};
 
 use crate::answer::SortError;
 use crate::group::Group;
@@ -75,7 +75,7 @@ impl Layout<'_> {
     ghost use Rattle.std.specs.Prelude.{replicate};
     ghost use Rattle.std.specs.Option.{option_map};
     ghost use Rattle.isort_sort.specs.Layout.{block_lines};
-    ghost use Rattle.isort_sort.specs.Packing.{
+    ghost use Rattle.isort_sort.specs.Private.Packing.{
       line_room,
       packed,
       cut_texts,
@@ -86,7 +86,7 @@ impl Layout<'_> {
       laid_of,
     };
     ghost use Rattle.isort_sort.specs.Statement.{straight, star};
-    ghost use Rattle.isort_sort.specs.Values.{item_value};
+    ghost use Rattle.isort_sort.specs.Private.Values.{item_value};
     ghost use Rattle.isort_sort.specs.Wrapping.{
       flat,
       four_spaces,

@@ -1,7 +1,7 @@
 //! The line ends of a text.
 ghost use Rattle.std.specs.Prelude.{◌≡◌};
 ghost use Rattle.isort_sort.specs.Sorted.{first_end};
-ghost use Rattle.isort_sort.specs.LineEnd.{end_bytes};
+ghost use Rattle.isort_sort.specs.Private.LineEnd.{end_bytes};
 
 /// A line end (Python Language Reference, 2.1.2).
 #[derive(Clone, Copy)]

@@ -1,13 +1,14 @@
 //! Reading a text that is to be sorted, and finding its blocks.
-ghost use Rattle.std.specs.Prelude.{◌≡◌, ℕ, ◌+◌, ◌-◌, ◌<◌, ◌≤◌, ◌^◌, MatchOption, ⊤, List, ◌∷◌, [], ◌++◌, false, length, map, IsTrue, IfOk, IfErr, OnOk};
+ghost use Rattle.std.specs.Prelude.{◌≡◌, ℕ, ◌+◌, ◌-◌, ◌<◌, ◌≤◌, ◌^◌, MatchOption, ⊤, List, [], false, length, map};
+ghost use Rattle.std.specs.Prelude.{IsTrue, IfOk, IfErr, OnOk};
 ghost use Rattle.py_lines.specs.Lines.{line_in};
 ghost use Rattle.py_lines.specs.LogicalLine.{LogicalLine};
 ghost use Rattle.py_imports.specs.Binds.{Binds};
 ghost use Rattle.py_imports.specs.Bound.{bound_of};
 ghost use Rattle.isort_sort.specs.Answers.{IsRefused};
-ghost use Rattle.isort_sort.specs.FoundValues.{finding_value, IsCounted};
-ghost use Rattle.isort_sort.specs.Line.{IsSilent};
-ghost use Rattle.isort_sort.specs.Reading.{FindsLine, IsReadSoFar, IsReadBefore, IsWholeRead, IsFoundIn};
+ghost use Rattle.isort_sort.specs.Private.FoundValues.{finding_value, IsCounted};
+ghost use Rattle.isort_sort.specs.Private.Silence.{IsSilent};
+ghost use Rattle.isort_sort.specs.Private.Reading.{FindsLine, IsReadSoFar, ReadsLine, IsReadBefore, IsWholeRead, IsFoundIn};
 ghost use Rattle.isort_sort.specs.Row.{mark_after};
 
 use crate::answer::SortError;
@@ -86,9 +87,10 @@ impl LineReader {
         requires some_text { 0 < length (line_in unit.now).text }
         requires counted { IsCounted (finding_value self.old.blocks) }
         requires fits { (finding_value self.old.blocks).place + length (line_in unit.now).text < 2 ^ 64 }
-        ensures on { OnOk result ((lines : List LogicalLine) → IsReadSoFar lines self.old → IsReadSoFar (lines ++ line_in unit.now ∷ []) self.new) }
+        ensures on { OnOk result (ReadsLine (line_in unit.now) self.old self.new) }
         ensures counted { OnOk result (IsCounted (finding_value self.new.blocks)) }
-        ensures place { OnOk result ((finding_value self.new.blocks).place ≤ (finding_value self.old.blocks).place + length (line_in unit.now).text) }
+        ensures place { OnOk result ((finding_value self.new.blocks).place
+            ≤ (finding_value self.old.blocks).place + length (line_in unit.now).text) }
         ensures err { IfErr result (λ e. e ≡ SortError.Memory) }
     {
         let mark = self.begin(alloc, unit);
@@ -106,10 +108,11 @@ impl LineReader {
         requires silent { IsTrue silent → IsSilent (line_in unit.now).text }
         requires counted { IsCounted (finding_value self.old.blocks) }
         requires fits { (finding_value self.old.blocks).place + length (line_in unit.now).text < 2 ^ 64 }
-        ensures on { IsTrue result → (lines : List LogicalLine) → IsReadSoFar lines self.old → IsReadSoFar (lines ++ line_in unit.now ∷ []) self.new }
+        ensures on { IsTrue result → ReadsLine (line_in unit.now) self.old self.new }
         ensures binds { IsTrue result → Binds (line_in unit.now) [] }
         ensures counted { IsCounted (finding_value self.new.blocks) }
-        ensures place { IsTrue result → (finding_value self.new.blocks).place ≤ (finding_value self.old.blocks).place + length (line_in unit.now).text }
+        ensures place { IsTrue result → (finding_value self.new.blocks).place
+            ≤ (finding_value self.old.blocks).place + length (line_in unit.now).text }
         ensures same { result ≡ false → self.new ≡ self.old }
     {
         if !self.begun
@@ -174,7 +177,8 @@ fn find_line(
     requires fits { (finding_value blocks.old).place + (length (line_in unit.now).text - mark) < 2 ^ 64 }
     ensures on { OnOk result (FindsLine off mark (line_in unit.now) (finding_value blocks.old) (finding_value blocks.new)) }
     ensures counted { OnOk result (IsCounted (finding_value blocks.new)) }
-    ensures place { OnOk result ((finding_value blocks.new).place ≡ (finding_value blocks.old).place + (length (line_in unit.now).text - mark)) }
+    ensures place { OnOk result ((finding_value blocks.new).place
+        ≡ (finding_value blocks.old).place + (length (line_in unit.now).text - mark)) }
     ensures err { IfErr result (λ e. e ≡ SortError.Memory) }
 {
     let line = LineStop {

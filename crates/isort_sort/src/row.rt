@@ -2,7 +2,7 @@
 ghost use Rattle.std.specs.Prelude.{◌≡◌};
 ghost use Rattle.py_lines.specs.Lines.{line_in};
 ghost use Rattle.py_imports.specs.Shape.{IsSortable, mark_len};
-ghost use Rattle.isort_sort.specs.LineRole.{before_of, IsOfRole, turned};
+ghost use Rattle.isort_sort.specs.Private.LineRole.{before_of, IsOfRole, turned};
 ghost use Rattle.isort_sort.specs.Row.{before_line, indentation_of, is_comment_kind, parts_blocks, says_alone};
 
 use crate::comment::comments_say;

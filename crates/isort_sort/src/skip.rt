@@ -7,7 +7,7 @@ ghost use Rattle.py_imports.specs.Action.{says};
 ghost use Rattle.py_imports.specs.Statement.{is_comment, significant};
 ghost use Rattle.py_imports.specs.declared.action.Action.TheVariants as action;
 ghost use Rattle.isort_sort.specs.Line.{comment_texts};
-ghost use Rattle.isort_sort.specs.Reading.{has_code, IsSkipSoFar};
+ghost use Rattle.isort_sort.specs.Private.Reading.{has_code, IsSkipSoFar};
 ghost use Rattle.isort_sort.specs.Row.{is_string, string_skips};
 
 use crate::comment::{comments_say, string_says};
@@ -86,7 +86,9 @@ impl SkipReader {
 
     /// Whether the text asks for it by what was read, or by this line.
     fn skips_with(&self, unit: &Unit<'_>) -> bool
-        ensures { result ≡ self.now.skips || list_any (says action.SkipFile) (comment_texts (line_in unit.now)) || (not self.now.begun && string_skips (line_in unit.now) (slice_get (significant (line_in unit.now).tokens) 0)) }
+        ensures { result ≡ self.now.skips || list_any (says action.SkipFile) (comment_texts (line_in unit.now))
+            || (not self.now.begun && string_skips (line_in unit.now)
+            (slice_get (significant (line_in unit.now).tokens) 0)) }
     {
         self.skips || comments_say(unit, Action::SkipFile) || (!self.begun && string_skips(unit))
     }

@@ -2,8 +2,8 @@
 ghost use Rattle.std.specs.Prelude.{◌≡◌, ◌≢◌, IfOk, IfErr};
 ghost use Rattle.isort_settings.specs.Values.{values};
 ghost use Rattle.isort_sort.specs.Answers.{AreBlocksOf, Checks, IsRefused, Sorts};
-ghost use Rattle.isort_sort.specs.Found.{span_of};
-ghost use Rattle.isort_sort.specs.FoundValues.{found_value};
+ghost use Rattle.isort_sort.specs.Private.Found.{span_of};
+ghost use Rattle.isort_sort.specs.Private.FoundValues.{found_value};
 ghost use Rattle.isort_sort.specs.Metered.{inner_of, last_of, IsGivenUp};
 ghost use Rattle.isort_sort.specs.Written.{LeavesUnwritten, WritesSorted};
 
@@ -103,8 +103,10 @@ pub fn sort_to<W: Write>(
     writer: &mut Metered<W>,
 ) -> Result<Outcome, SortError>
     requires { last_of writer.old ≡ Last.Fine }
-    ensures ok { IfOk result (λ outcome. WritesSorted text.now (values settings.now) outcome (W.contents (inner_of writer.old)) (W.contents (inner_of writer.new))) }
-    ensures err { IfErr result (λ e. LeavesUnwritten text.now (values settings.now) e (W.contents (inner_of writer.old)) (W.contents (inner_of writer.new))) }
+    ensures ok { IfOk result (λ outcome. WritesSorted text.now (values settings.now) outcome
+        (W.contents (inner_of writer.old)) (W.contents (inner_of writer.new))) }
+    ensures err { IfErr result (λ e. LeavesUnwritten text.now (values settings.now) e
+        (W.contents (inner_of writer.old)) (W.contents (inner_of writer.new))) }
     ensures stopped { result ≡ Err SortError.Write → IsGivenUp (last_of writer.new) }
     ensures fine { result ≢ Err SortError.Write → last_of writer.new ≡ Last.Fine }
 {

@@ -4,8 +4,8 @@ ghost use Rattle.std.specs.Io.KnownBytes.{Appends};
 ghost use Rattle.std.specs.Str.{IsUtf8};
 ghost use Rattle.isort_settings.specs.Values.{values};
 ghost use Rattle.isort_sort.specs.Metered.{inner_of, last_of, IsGivenUp};
-ghost use Rattle.isort_sort.specs.Parts.{sorted_bytes, AreTexts};
-ghost use Rattle.isort_sort.specs.Reading.{IsFoundIn};
+ghost use Rattle.isort_sort.specs.Private.Parts.{sorted_bytes, AreTexts};
+ghost use Rattle.isort_sort.specs.Private.Reading.{IsFoundIn};
 ghost use Rattle.isort_sort.specs.Sorted.{IsLaidOut};
 ghost use Rattle.isort_sort.specs.Written.{AppendsFront};
 
@@ -85,9 +85,11 @@ impl<'t> SortedText<'t> {
     /// Writes it whole, or a prefix of it where a write fails.
     pub(crate) fn write_to<W: Write>(&self, writer: &mut Metered<W>) -> Result<(), SortError>
         requires { last_of writer.old ≡ Last.Fine }
-        ensures ok { OnOk result (Appends (W.contents (inner_of writer.old)) (W.contents (inner_of writer.new)) (sorted_bytes self.now)) }
+        ensures ok { OnOk result (Appends (W.contents (inner_of writer.old)) (W.contents (inner_of writer.new))
+            (sorted_bytes self.now)) }
         ensures fine { OnOk result (last_of writer.new ≡ Last.Fine) }
-        ensures front { OnErr result (AppendsFront (W.contents (inner_of writer.old)) (W.contents (inner_of writer.new)) (sorted_bytes self.now)) }
+        ensures front { OnErr result (AppendsFront (W.contents (inner_of writer.old)) (W.contents (inner_of writer.new))
+            (sorted_bytes self.now)) }
         ensures err { IfErr result (λ e. e ≡ SortError.Write) }
         ensures stopped { OnErr result (IsGivenUp (last_of writer.new)) }
     {

@@ -5,11 +5,12 @@ ghost use Rattle.std.specs.Ordering.{nat_cmp};
 ghost use Rattle.py_imports.specs.Bound.{bound_of};
 ghost use Rattle.isort_settings.specs.Orders.{name_cmp};
 ghost use Rattle.isort_settings.specs.Values.{values};
-ghost use Rattle.isort_sort.specs.Gathered.{listed_item};
-ghost use Rattle.isort_sort.specs.GroupOrder.{cmp_in_module, cmp_in_section};
+ghost use Rattle.isort_sort.specs.Private.Gathered.{listed_item};
+ghost use Rattle.isort_sort.specs.Private.GroupOrder.{cmp_in_module, cmp_in_section};
 ghost use Rattle.isort_sort.specs.Line.{imported_of};
-ghost use Rattle.isort_sort.specs.Statement.{form_place, group_place, is_from, item_cmp, module_of, own_item, section_place, statement_of};
-ghost use Rattle.isort_sort.specs.Values.{item_value, statement_value};
+ghost use Rattle.isort_sort.specs.Statement.{form_place, group_place, is_from, item_cmp, module_of, own_item};
+ghost use Rattle.isort_sort.specs.Statement.{section_place, statement_of};
+ghost use Rattle.isort_sort.specs.Private.Values.{item_value, statement_value};
 
 use isort_settings::{Section, Settings};
 use py_imports::Binding;
@@ -49,7 +50,8 @@ impl Statement {
     /// The statement that an import belongs to; and its item, if the statement is one of names.
     pub(crate) fn of_binding(settings: &Settings, binding: Binding) -> (Statement, Option<Item>)
         ensures statement { statement_value result.0 ≡ statement_of (values settings.now) (imported_of (bound_of binding)) }
-        ensures item { option_to_list (option_map item_value result.1) ≡ listed_item (values settings.now) (imported_of (bound_of binding)) }
+        ensures item { option_to_list (option_map item_value result.1)
+            ≡ listed_item (values settings.now) (imported_of (bound_of binding)) }
     {
         let Binding {
             module_name: module,

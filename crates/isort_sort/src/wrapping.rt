@@ -4,9 +4,9 @@ ghost use Rattle.std.specs.List.{join_by};
 ghost use Rattle.std.specs.Option.{SomeIff, option_map};
 ghost use Rattle.py_imports.specs.Spelled.{alias_text};
 ghost use Rattle.isort_sort.specs.Width as width;
-ghost use Rattle.isort_sort.specs.Values.{item_value};
+ghost use Rattle.isort_sort.specs.Private.Values.{item_value};
 ghost use Rattle.isort_sort.specs.Wrapping.{item_text, items_text, head, remark};
-ghost use Rattle.isort_sort.specs.Packing.{packed};
+ghost use Rattle.isort_sort.specs.Private.Packing.{packed};
 
 use crate::statement::Item;
 use crate::width::width;
@@ -126,7 +126,7 @@ pub(crate) struct Wrap<'a> {
 }
 
 impl Wrap<'_> {
-    ghost use Rattle.isort_sort.specs.Wrap.{next_line};
+    ghost use Rattle.isort_sort.specs.Private.Wrap.{next_line};
 
     /// Puts the end of a line of items after `out`, and the beginning of the next line.
     fn push_break(&self, out: &mut String) -> Result<(), AllocError>

@@ -14,7 +14,8 @@ fn write_some<W: Write>(writer: &mut Metered<W>, bytes: &[u8]) -> Result<usize, 
     requires some { 0 < length bytes.now }
     ensures bound { IfOk result (λ count. count ≤ length bytes.now) }
     ensures some { IfOk result (λ count. 0 < count) }
-    ensures bytes { IfOk result (λ count. Appends (W.contents (inner_of writer.old)) (W.contents (inner_of writer.new)) (take count bytes.now)) }
+    ensures bytes { IfOk result (λ count. Appends (W.contents (inner_of writer.old)) (W.contents (inner_of writer.new))
+        (take count bytes.now)) }
     ensures kept { OnErr result (Keeps (W.contents (inner_of writer.old)) (W.contents (inner_of writer.new))) }
     ensures fine { OnOk result (last_of writer.new ≡ Last.Fine) }
     ensures err { IfErr result (λ e. e ≡ SortError.Write) }

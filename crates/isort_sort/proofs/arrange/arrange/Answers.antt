@@ -1,9 +1,9 @@
 use Rattle.isort_settings.specs.Values.{values}
 use Rattle.std.specs.Prelude.{string_bytes}
-use Rattle.isort_sort.specs.FoundValues.{found_value}
-use Rattle.isort_sort.specs.LineEnd.{end_bytes}
-use Rattle.isort_sort.proofs.GroupsLaidOut.{sections_right, arranged}
-use Rattle.isort_sort.proofs.NamedLemmas.{groups_have_items}
+use Rattle.isort_sort.specs.Private.FoundValues.{found_value}
+use Rattle.isort_sort.specs.Private.LineEnd.{end_bytes}
+use Rattle.isort_sort.proofs.Layouts.LaidOut.{sections_right, arranged}
+use Rattle.isort_sort.proofs.Groups.Named.{groups_have_items}
 use Rattle.isort_sort.proofs.arrange.arrange.Goals as goal
 
 pub block_text-requires : goal.block_text-requires

@@ -1,5 +1,5 @@
 use Rattle.std.proofs.Common.{◌≡◌, ◌++◌, string_bytes, replicate, flat_map, List, ℕ}
-use Rattle.isort_sort.specs.LineEnd.{end_bytes}
+use Rattle.isort_sort.specs.Private.LineEnd.{end_bytes}
 use Rattle.isort_sort.proofs.arrange.push_blank_lines.Given as goal
 
 abbrev pub invariant-loop : goal.invariant-loop

@@ -4,7 +4,7 @@ use Rattle.std.proofs.lemmas.List.{map-append}
 use Rattle.std.proofs.lemmas.Option.{slice_get-get_or}
 use Rattle.py_lines.specs.declared.token.Token.{Token}
 use Rattle.py_lines.specs.declared.token.TokKind.TheVariants as kind
-use Rattle.isort_sort.proofs.CommentLemmas.{texts_on}
+use Rattle.isort_sort.proofs.Rows.Comments.{texts_on}
 use Rattle.isort_sort.proofs.comment.comment_texts.Goals as goal
 use Rattle.isort_sort.proofs.comment.comment_texts.Goals.{then-is_comment+in_ok-to_string+in_ok-push, else-is_comment}
 

@@ -1,6 +1,6 @@
 -- The comments so far were taken.
 use Rattle.std.proofs.Common.{◌≡◌, ◌++◌, map, drop, string_bytes}
-use Rattle.isort_sort.proofs.CommentLemmas.{texts}
+use Rattle.isort_sort.proofs.Rows.Comments.{texts}
 use Rattle.isort_sort.proofs.comment.comment_texts.Given as goal
 
 abbrev pub invariant-tokens : goal.invariant-tokens

@@ -5,9 +5,9 @@ use Rattle.py_lines.specs.Lines.{line_in}
 use Rattle.py_lines.specs.declared.token.Token.{Token}
 use Rattle.py_lines.specs.declared.token.TokKind.TheVariants as kind
 use Rattle.py_imports.specs.Action.{says}
-use Rattle.isort_sort.proofs.CommentLemmas.{comments_say, says_on}
-use Rattle.isort_sort.specs.Line.{IsSilent}
-use Rattle.isort_sort.proofs.SilenceLemmas.{silent_comments}
+use Rattle.isort_sort.proofs.Rows.Comments.{comments_say, says_on}
+use Rattle.isort_sort.specs.Private.Silence.{IsSilent}
+use Rattle.isort_sort.proofs.Rows.Silence.{silent_comments}
 use Rattle.isort_sort.proofs.comment.comments_say.Goals as goal
 use Rattle.isort_sort.proofs.comment.comments_say.Goals.{else-is_comment-via-then-is_comment+else-says, else-is_comment-via-else-is_comment}
 

@@ -1,6 +1,6 @@
 -- No comment so far says the action.
 use Rattle.std.proofs.Common.{◌≡◌, drop}
-use Rattle.isort_sort.proofs.CommentLemmas.{comments_say}
+use Rattle.isort_sort.proofs.Rows.Comments.{comments_say}
 use Rattle.isort_sort.proofs.comment.comments_say.Given as goal
 
 abbrev pub invariant-tokens : goal.invariant-tokens

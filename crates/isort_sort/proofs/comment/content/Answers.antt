@@ -1,6 +1,6 @@
 use Rattle.std.proofs.Common.{ap, ◌∙◌}
 use Rattle.isort_sort.specs.Line.{without_end, stripped}
-use Rattle.isort_sort.proofs.CommentLemmas.{hash_cut, start_is, end_is}
+use Rattle.isort_sort.proofs.Rows.Comments.{hash_cut, start_is, end_is}
 use Rattle.isort_sort.proofs.comment.content.Goals as goal
 
 pub returns : goal.returns

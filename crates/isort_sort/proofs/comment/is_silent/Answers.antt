@@ -1,4 +1,4 @@
-use Rattle.isort_sort.proofs.SilenceLemmas.{silent_text}
+use Rattle.isort_sort.proofs.Rows.Silence.{silent_text}
 use Rattle.isort_sort.proofs.comment.is_silent.Goals as goal
 
 pub returns : goal.returns

@@ -4,7 +4,7 @@ use Rattle.std.proofs.lemmas.List.{map-append}
 use Rattle.std.proofs.lemmas.Option.{slice_get-get_or}
 use Rattle.py_lines.specs.declared.token.Token.{Token}
 use Rattle.py_lines.specs.declared.token.TokKind.TheVariants as kind
-use Rattle.isort_sort.proofs.CommentLemmas.{contents_on, content_of, something, nothing}
+use Rattle.isort_sort.proofs.Rows.Comments.{contents_on, content_of, something, nothing}
 use Rattle.isort_sort.proofs.comment.own_comments.Goals as goal
 use Rattle.isort_sort.proofs.comment.own_comments.Goals.{then-is_comment+then-not-is_empty+in_ok-to_string+in_ok-push, then-is_comment+else-not-is_empty, else-is_comment}
 

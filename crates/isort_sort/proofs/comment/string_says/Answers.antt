@@ -1,6 +1,6 @@
 use Rattle.std.proofs.Common.{not, sym, ap, ◌∙◌, subst}
-use Rattle.isort_sort.specs.Line.{IsSilent}
-use Rattle.isort_sort.proofs.SilenceLemmas.{silent_says}
+use Rattle.isort_sort.specs.Private.Silence.{IsSilent}
+use Rattle.isort_sort.proofs.Rows.Silence.{silent_says}
 use Rattle.isort_sort.proofs.comment.string_says.Goals as goal
 
 pub returns-else-not-is_silent : goal.returns-else-not-is_silent

@@ -4,7 +4,7 @@ use Rattle.std.specs.String.{string_eq}
 use Rattle.std.specs.Vec.Iter.{into_iter_items}
 use Rattle.std.proofs.lemmas.Result.{IfOk-weaker}
 use Rattle.indexmap.specs.IndexSet.{insert_all}
-use Rattle.isort_sort.proofs.FirstsLemmas.{firsts-insert_all}
+use Rattle.isort_sort.proofs.Groups.Firsts.{firsts-insert_all}
 use Rattle.isort_sort.proofs.group.each_once.Goals as goal
 
 pub returns : goal.returns

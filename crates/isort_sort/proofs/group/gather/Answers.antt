@@ -1,9 +1,9 @@
 -- The map after the import's statement has what it brings.
 use Rattle.std.proofs.Common.{rules, refl, ap, ◌∙◌}
 use Rattle.std.specs.Prelude.{unwrap_or}
-use Rattle.isort_sort.specs.Gathered.{brought_value}
+use Rattle.isort_sort.specs.Private.Gathered.{brought_value}
 use Rattle.isort_sort.specs.contracts.statement.StatementPartialEq.TheImpl as same
-use Rattle.isort_sort.proofs.GatherLemmas.{statement_eq, gathers}
+use Rattle.isort_sort.proofs.Groups.Gathered.{statement_eq, gathers}
 use Rattle.isort_sort.proofs.group.gather.Goals as goal
 
 pub returns-clause-ok : goal.returns-clause-ok

@@ -3,7 +3,7 @@ use Rattle.std.proofs.Common.{◌≡◌, map, string_bytes}
 use Rattle.std.specs.Vec.Iter.{into_iter_items}
 use Rattle.py_imports.specs.Bound.{bound_of}
 use Rattle.isort_settings.specs.Values.{values}
-use Rattle.isort_sort.specs.Gathered.{brings, found, seen_after}
+use Rattle.isort_sort.specs.Private.Gathered.{brings, found, seen_after}
 use Rattle.isort_sort.specs.Line.{imported_of}
 use Rattle.isort_sort.specs.Statement.{Statement}
 use Rattle.isort_sort.proofs.group.gather_member.Given as goal

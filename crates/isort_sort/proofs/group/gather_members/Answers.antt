@@ -2,10 +2,10 @@
 use Rattle.std.proofs.Common.{List, map, ap, sym, ◌∙◌}
 use Rattle.std.specs.Vec.Iter.{into_iter_items}
 use Rattle.isort_settings.specs.Values.{values}
-use Rattle.isort_sort.specs.Gathered.{brings, brought, found, seen_after}
-use Rattle.isort_sort.specs.Values.{member_value}
+use Rattle.isort_sort.specs.Private.Gathered.{brings, brought, found, seen_after}
+use Rattle.isort_sort.specs.Private.Values.{member_value}
 use Rattle.isort_sort.specs.declared.member.Member as code_member
-use Rattle.isort_sort.proofs.SeenLemmas.{seen_after-append}
+use Rattle.isort_sort.proofs.Groups.Seen.{seen_after-append}
 use Rattle.isort_sort.proofs.group.gather_members.Goals as goal
 
 pub loop-member-preserved : goal.loop-member-preserved

@@ -2,9 +2,9 @@
 use Rattle.std.proofs.Common.{◌≡◌, None, map}
 use Rattle.std.specs.Vec.Iter.{into_iter_items}
 use Rattle.isort_settings.specs.Values.{values}
-use Rattle.isort_sort.specs.Gathered.{brought, found, seen_after}
+use Rattle.isort_sort.specs.Private.Gathered.{brought, found, seen_after}
 use Rattle.isort_sort.specs.Statement.{Statement}
-use Rattle.isort_sort.specs.Values.{member_value}
+use Rattle.isort_sort.specs.Private.Values.{member_value}
 use Rattle.isort_sort.proofs.group.gather_members.Given as goal
 
 abbrev pub invariant-loop-member : goal.invariant-loop-member

@@ -4,10 +4,10 @@ use Rattle.std.specs.Ordering.{is_lt}
 use Rattle.std.proofs.lemmas.Fn.{always_returns_same}
 use Rattle.std.proofs.lemmas.List.Sorted.{ranks_by}
 use Rattle.isort_settings.specs.Values.{values}
-use Rattle.isort_sort.specs.GroupOrder.{group_cmp}
-use Rattle.isort_sort.specs.Group.{group_value}
-use Rattle.isort_sort.proofs.OrderedGroupsLemmas.{are_grouped, group_cmp_total}
-use Rattle.isort_sort.proofs.StatementLemmas.{AreOrders}
+use Rattle.isort_sort.specs.Private.GroupOrder.{group_cmp}
+use Rattle.isort_sort.specs.Private.Group.{group_value}
+use Rattle.isort_sort.proofs.Groups.Ordered.{are_grouped, group_cmp_total}
+use Rattle.isort_sort.proofs.Orders.Statements.{AreOrders}
 use Rattle.isort_sort.proofs.group.group_members.Goals as goal
 
 pub returns-clause-ok : goal.returns-clause-ok

@@ -3,11 +3,11 @@ use Rattle.std.proofs.Common.{Bool, List, [], ◌∷◌, ◌++◌, refl, sym, ap
 use Rattle.std.specs.List.{IsDistinct}
 use Rattle.indexmap.specs.IndexMap.{keys}
 use Rattle.isort_settings.specs.Values.{values}
-use Rattle.isort_sort.specs.Gathered.{AreMade}
+use Rattle.isort_sort.specs.Private.Gathered.{AreMade}
 use Rattle.isort_sort.specs.declared.group.Gathered as code_gathered
 use Rattle.isort_sort.specs.declared.group.Group as code
 use Rattle.isort_sort.specs.declared.statement.Statement as code_statement
-use Rattle.isort_sort.proofs.GatherLemmas.{statement_eq}
+use Rattle.isort_sort.proofs.Groups.Gathered.{statement_eq}
 use Rattle.isort_sort.proofs.group.groups_of.Goals as goal
 
 abbrev Entries : Type 0

@@ -1,7 +1,7 @@
 -- The groups so far, with those that are made of the rest, are made of all.
 use Rattle.std.proofs.Common.{List, ◌++◌}
 use Rattle.isort_settings.specs.Values.{values}
-use Rattle.isort_sort.specs.Gathered.{AreMade}
+use Rattle.isort_sort.specs.Private.Gathered.{AreMade}
 use Rattle.isort_sort.specs.declared.group.Group as code
 use Rattle.isort_sort.proofs.group.groups_of.Given as goal
 

@@ -5,10 +5,10 @@ use Rattle.std.proofs.lemmas.Fn.{always_returns_same}
 use Rattle.std.specs.Ordering.{is_lt}
 use Rattle.isort_settings.specs.Values.{values}
 use Rattle.isort_sort.specs.Statement.{item_cmp}
-use Rattle.isort_sort.specs.Values.{item_value}
-use Rattle.isort_sort.proofs.SortedLemmas.{in_order_by_value}
-use Rattle.isort_sort.proofs.SameLemmas.{item_eq, ties, equivalence}
-use Rattle.isort_sort.proofs.StatementLemmas.{name_orders_total, name_orders_exact}
+use Rattle.isort_sort.specs.Private.Values.{item_value}
+use Rattle.isort_sort.proofs.Orders.SortedVectors.{in_order_by_value}
+use Rattle.isort_sort.proofs.Orders.Equality.{item_eq, ties, equivalence}
+use Rattle.isort_sort.proofs.Orders.Statements.{name_orders_total, name_orders_exact}
 use Rattle.isort_sort.proofs.group.order_items.Goals as goal
 
 pub returns : goal.returns

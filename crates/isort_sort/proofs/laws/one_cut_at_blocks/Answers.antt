@@ -1,5 +1,5 @@
-use Rattle.isort_sort.proofs.OneBlocks.{one_cut_at_blocks}
-use Rattle.isort_sort.proofs.SomeBlocks.{some_cut_at_blocks}
+use Rattle.isort_sort.proofs.Finding.OneBlocks.{one_cut_at_blocks}
+use Rattle.isort_sort.proofs.Finding.SomeBlocks.{some_cut_at_blocks}
 use Rattle.isort_sort.proofs.laws.one_cut_at_blocks.Goals as goal
 
 pub returns-clause-some : goal.returns-clause-some

@@ -1,4 +1,4 @@
-use Rattle.isort_sort.proofs.OneSorted.{some_blocks, one_list_of_blocks}
+use Rattle.isort_sort.proofs.SortedTexts.OneSorted.{some_blocks, one_list_of_blocks}
 use Rattle.isort_sort.proofs.laws.one_list_of_blocks.Goals as goal
 
 pub returns-clause-some : goal.returns-clause-some

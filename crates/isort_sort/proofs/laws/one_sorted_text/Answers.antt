@@ -1,5 +1,5 @@
-use Rattle.isort_sort.proofs.OneSorted.{some_sorted_text, one_sorted_text}
-use Rattle.isort_sort.proofs.StatementLemmas.{AreOrders}
+use Rattle.isort_sort.proofs.SortedTexts.OneSorted.{some_sorted_text, one_sorted_text}
+use Rattle.isort_sort.proofs.Orders.Statements.{AreOrders}
 use Rattle.isort_sort.proofs.laws.one_sorted_text.Goals as goal
 
 pub returns-clause-some : goal.returns-clause-some

@@ -1,4 +1,4 @@
-use Rattle.isort_sort.proofs.BlockSpans.{blocks_stand_apart, only_blocks_are_replaced}
+use Rattle.isort_sort.proofs.SortedTexts.BlockSpans.{blocks_stand_apart, only_blocks_are_replaced}
 use Rattle.isort_sort.proofs.laws.only_blocks_change.Goals as goal
 
 pub returns-clause-apart : goal.returns-clause-apart

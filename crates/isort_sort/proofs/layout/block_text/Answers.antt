@@ -1,10 +1,10 @@
 use Rattle.std.proofs.Common.{◌++◌, length, map, string_bytes, ap, ◌∙◌, arith}
 use Rattle.isort_settings.specs.Values.{values}
-use Rattle.isort_sort.specs.Group.{group_value}
+use Rattle.isort_sort.specs.Private.Group.{group_value}
 use Rattle.isort_sort.specs.Layout.{block_lines}
-use Rattle.isort_sort.specs.LineEnd.{end_bytes}
-use Rattle.isort_sort.specs.Packing.{laid_of, text_with}
-use Rattle.isort_sort.proofs.GroupsLemmas.{laid_out, ended_text, unended_text, split_before_end}
+use Rattle.isort_sort.specs.Private.LineEnd.{end_bytes}
+use Rattle.isort_sort.specs.Private.Packing.{laid_of, text_with}
+use Rattle.isort_sort.proofs.Layouts.GroupTexts.{laid_out, ended_text, unended_text, split_before_end}
 use Rattle.isort_sort.proofs.layout.block_text.Goals as goal
 use Rattle.isort_sort.proofs.layout.block_text.Goals.{then-not-ended, else-not-ended}
 

@@ -1,13 +1,13 @@
 use Rattle.std.proofs.Common.{rules, [], ◌≡◌, ◌+◌, ◌-◌, nat_lt, length, map, string_bytes, refl, sym, ap, ◌∙◌, subst, MatchOption}
 use Rattle.py_lines.specs.Lines.{line_in}
 use Rattle.py_imports.specs.Bound.{bound_of}
-use Rattle.isort_sort.specs.FoundValues.{finding_value}
-use Rattle.isort_sort.specs.Reading.{FindsLine}
+use Rattle.isort_sort.specs.Private.FoundValues.{finding_value}
+use Rattle.isort_sort.specs.Private.Reading.{FindsLine}
 use Rattle.isort_sort.specs.Line.{comment_texts, own_comments, imported_of}
-use Rattle.isort_sort.specs.Values.{member_value}
+use Rattle.isort_sort.specs.Private.Values.{member_value}
 use Rattle.std.specs.Str.{IsUtf8}
-use Rattle.isort_sort.proofs.LineLemmas.{finds_blank, finds_comments, finds_member, finds_other, any_match, none_match}
-use Rattle.isort_sort.proofs.ReadingLemmas.{imports_of_bindings}
+use Rattle.isort_sort.proofs.Readings.Lines.{finds_blank, finds_comments, finds_member, finds_other, any_match, none_match}
+use Rattle.isort_sort.proofs.Readings.ReadSoFar.{imports_of_bindings}
 use Rattle.isort_sort.proofs.read.find_line.Goals as goal
 use Rattle.isort_sort.proofs.read.find_line.Goals.{then-is_open+in_ok-comments-in-Comments, else-is_open}
 

@@ -1,7 +1,7 @@
 use Rattle.std.proofs.Common.{◌+◌, ap, sym, subst, arith, rules}
 use Rattle.std.specs.Str.{IsUtf8, IsCharBoundary}
 use Rattle.py_lines.specs.Lines.{line_in}
-use Rattle.isort_sort.proofs.MarkLemmas.{mark_boundary, indentation_boundary}
+use Rattle.isort_sort.proofs.Rows.Marks.{mark_boundary, indentation_boundary}
 use Rattle.isort_sort.proofs.row.indentation.Goals as goal
 
 pub overflow_add-start : goal.overflow_add-start

@@ -3,7 +3,7 @@ use denote.Enum.Bare.{sameb}
 use Rattle.py_lines.specs.Lines.{line_in}
 use Rattle.py_imports.specs.contracts.shape.Shape as shape_type
 use Rattle.py_imports.specs.declared.shape.Shape.TheVariants as shape
-use Rattle.isort_sort.proofs.RoleLemmas.{unsortable}
+use Rattle.isort_sort.proofs.Rows.Roles.{unsortable}
 use Rattle.isort_sort.proofs.row.role_of.Goals as goal
 use Rattle.isort_sort.proofs.row.role_of.Goals.{in_default-via-in-Comment+else-not-parts_blocks, in_default-via-in-Code+then-not-off+else-eq, in_default-via-in-Code+else-not-off}
 

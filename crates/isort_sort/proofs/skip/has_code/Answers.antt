@@ -1,6 +1,6 @@
 use Rattle.std.proofs.Common.{◌∙◌}
 use Rattle.py_lines.specs.Lines.{line_in}
-use Rattle.isort_sort.proofs.SkipLemmas.{code_found}
+use Rattle.isort_sort.proofs.Rows.Skips.{code_found}
 use Rattle.isort_sort.proofs.skip.has_code.Goals as goal
 
 pub returns : goal.returns

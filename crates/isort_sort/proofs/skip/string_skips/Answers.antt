@@ -6,7 +6,7 @@ use Rattle.py_lines.specs.declared.token.Token.{Token}
 use Rattle.py_lines.specs.declared.token.TokKind.TheVariants as kind
 use Rattle.py_imports.specs.Action.{says}
 use Rattle.py_imports.specs.declared.action.Action.TheVariants as action
-use Rattle.isort_sort.proofs.SkipLemmas.{place_within, string_found, string_missing}
+use Rattle.isort_sort.proofs.Rows.Skips.{place_within, string_found, string_missing}
 use Rattle.isort_sort.proofs.skip.string_skips.Goals as goal
 
 pub returns-then-is_string : goal.returns-then-is_string

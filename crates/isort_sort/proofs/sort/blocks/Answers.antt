@@ -1,5 +1,5 @@
 use Rattle.std.proofs.Common.{ap, ◌∙◌}
-use Rattle.isort_sort.proofs.Spans.{blocks_of_found, none_of_skipped, all_taken}
+use Rattle.isort_sort.proofs.Finding.Spans.{blocks_of_found, none_of_skipped, all_taken}
 use Rattle.isort_sort.proofs.sort.blocks.Goals as goal
 use Rattle.isort_sort.proofs.sort.blocks.Goals.{in-Blocks+else-found-test, in_default}
 

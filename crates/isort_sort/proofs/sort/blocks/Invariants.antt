@@ -1,6 +1,6 @@
 -- The spans of the blocks so far were taken.
 use Rattle.std.proofs.Common.{◌≡◌, ◌++◌, drop}
-use Rattle.isort_sort.proofs.Spans.{spans}
+use Rattle.isort_sort.proofs.Finding.Spans.{spans}
 use Rattle.isort_sort.proofs.sort.blocks.Given as goal
 
 abbrev pub invariant-found : goal.invariant-found

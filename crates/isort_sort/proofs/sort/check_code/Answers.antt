@@ -1,8 +1,8 @@
 use Rattle.std.proofs.Common.{◌++◌, ◌∙◌, ap, refl, inr, subst, List, ℕ}
 use Rattle.isort_settings.specs.Values.{values}
-use Rattle.isort_sort.specs.Parts.{part_text, Makes}
-use Rattle.isort_sort.proofs.SortedTextLemmas.{regrouped, same_or_not, checked_early}
-use Rattle.isort_sort.proofs.StatementLemmas.{AreOrders}
+use Rattle.isort_sort.specs.Private.Parts.{part_text, Makes}
+use Rattle.isort_sort.proofs.SortedTexts.OfParts.{regrouped, same_or_not, checked_early}
+use Rattle.isort_sort.proofs.Orders.Statements.{AreOrders}
 use Rattle.isort_sort.proofs.sort.check_code.Goals as goal
 
 pub returns-in-None : goal.returns-in-None

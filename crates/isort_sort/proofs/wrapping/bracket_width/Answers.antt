@@ -1,6 +1,6 @@
 use Rattle.std.proofs.Common.{◌≡◌, codes, ap, ◌∙◌, arith}
 use Rattle.isort_sort.specs.Width.{width}
-use Rattle.isort_sort.proofs.LengthLemmas.{width-append}
+use Rattle.isort_sort.proofs.Layouts.Lengths.{width-append}
 use Rattle.isort_sort.proofs.wrapping.bracket_width.Goals as goal
 
 pub returns : goal.returns

@@ -1,7 +1,7 @@
 use Rattle.std.proofs.Common.{codes, arith}
-use Rattle.isort_sort.specs.Values.{item_value}
+use Rattle.isort_sort.specs.Private.Values.{item_value}
 use Rattle.isort_sort.specs.Wrapping.{item_text}
-use Rattle.isort_sort.proofs.WritingLemmas.{joined_written}
+use Rattle.isort_sort.proofs.Layouts.Writing.{joined_written}
 use Rattle.isort_sort.proofs.wrapping.push_items.Goals as goal
 
 pub returns : goal.returns

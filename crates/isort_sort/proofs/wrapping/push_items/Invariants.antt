@@ -1,5 +1,5 @@
 use Rattle.std.proofs.Common.{◌≡◌, ◌++◌, string_bytes, codes, flat_map, take}
-use Rattle.isort_sort.specs.Values.{item_value}
+use Rattle.isort_sort.specs.Private.Values.{item_value}
 use Rattle.isort_sort.specs.Wrapping.{item_text}
 use Rattle.isort_sort.proofs.wrapping.push_items.Given as goal
 

@@ -1,7 +1,7 @@
 use Rattle.std.proofs.Common.{◌≡◌, ◌++◌, List, ◌∷◌, map, codes, string_bytes, String, Global, ap, sym, ◌∙◌, subst, append_assoc, refl, arith}
 use Rattle.std.specs.List.{join_by}
 use Rattle.isort_sort.specs.Wrapping.{remark}
-use Rattle.isort_sort.proofs.WritingLemmas.{joined_written}
+use Rattle.isort_sort.proofs.Layouts.Writing.{joined_written}
 use Rattle.isort_sort.proofs.wrapping.push_remark.Goals as goal
 
 -- the joined comment of some comments

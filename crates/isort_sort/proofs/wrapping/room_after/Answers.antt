@@ -1,7 +1,7 @@
 use Rattle.std.proofs.Common.{◌≡◌, ℕ, ◌+◌, ◌-◌, ◌≤◌, string_bytes, subst, ap, ◌∙◌, arith}
 use Rattle.std.specs.Option.{SomeIff}
 use Rattle.isort_sort.specs.Width.{width}
-use Rattle.isort_sort.proofs.WidthLemmas.{width-item, width-renamed, none_left, left_after}
+use Rattle.isort_sort.proofs.Layouts.Widths.{width-item, width-renamed, none_left, left_after}
 use Rattle.isort_sort.proofs.wrapping.room_after.Goals as goal
 
 pub returns-in_err-room : goal.returns-in_err-room

@@ -1,6 +1,6 @@
 use Rattle.std.proofs.Common.{take, ◌++◌}
 use Rattle.std.proofs.KnownBytes.{Appends-trans}
-use Rattle.isort_sort.proofs.WrittenLemmas.{split_more}
+use Rattle.isort_sort.proofs.SortedTexts.Written.{split_more}
 use Rattle.isort_sort.proofs.write.write_whole.Goals as goal
 
 pub loop-rest-preserved : goal.loop-rest-preserved

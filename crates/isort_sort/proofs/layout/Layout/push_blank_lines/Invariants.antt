@@ -1,5 +1,5 @@
 use Rattle.std.proofs.Common.{◌≡◌, ◌++◌, [], string_bytes, replicate}
-use Rattle.isort_sort.specs.Packing.{text_with}
+use Rattle.isort_sort.specs.Private.Packing.{text_with}
 use Rattle.isort_sort.proofs.layout.Layout.push_blank_lines.Given as goal
 
 abbrev pub invariant-loop : goal.invariant-loop

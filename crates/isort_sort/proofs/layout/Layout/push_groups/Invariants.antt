@@ -1,9 +1,9 @@
 use Rattle.std.proofs.Common.{◌≡◌, ◌≢◌, ◌++◌, [], string_bytes, drop}
 use Rattle.std.specs.List.{AllByRecursion}
 use Rattle.isort_settings.specs.Values.{values}
-use Rattle.isort_sort.specs.Group.{group_value}
-use Rattle.isort_sort.specs.Packing.{HasSection}
-use Rattle.isort_sort.proofs.GroupsLemmas.{rest_text}
+use Rattle.isort_sort.specs.Private.Group.{group_value}
+use Rattle.isort_sort.specs.Private.Packing.{HasSection}
+use Rattle.isort_sort.proofs.Layouts.GroupTexts.{rest_text}
 use Rattle.isort_sort.proofs.layout.Layout.push_groups.Given as goal
 
 abbrev pub invariant-loop-group : goal.invariant-loop-group

@@ -1,10 +1,10 @@
 use Rattle.std.proofs.Common.{ℕ, List, ◌∷◌, [], ◌++◌, map, codes, string_bytes, ap, ◌∙◌}
 use Rattle.std.specs.List.{join_by}
-use Rattle.isort_sort.specs.Packing.{packed}
-use Rattle.isort_sort.specs.Values.{item_value}
+use Rattle.isort_sort.specs.Private.Packing.{packed}
+use Rattle.isort_sort.specs.Private.Values.{item_value}
 use Rattle.isort_sort.specs.Wrapping.{items_text, four_spaces}
-use Rattle.isort_sort.proofs.FramedLemmas.{hanging-written, some_values}
-use Rattle.isort_sort.proofs.WritingLemmas.{extend, last_extended}
+use Rattle.isort_sort.proofs.Layouts.Framed.{hanging-written, some_values}
+use Rattle.isort_sort.proofs.Layouts.Writing.{extend, last_extended}
 use Rattle.isort_sort.proofs.layout.Layout.push_hanging.Goals as goal
 
 pub returns : goal.returns

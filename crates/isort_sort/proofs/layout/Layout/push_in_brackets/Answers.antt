@@ -1,11 +1,11 @@
 use Rattle.std.proofs.Common.{ℕ, List, ◌++◌, map, replicate, codes, string_bytes, ap, ◌∙◌}
 use Rattle.std.specs.List.{join_by}
 use Rattle.isort_settings.specs.Values.{values}
-use Rattle.isort_sort.specs.Packing.{line_room, packed}
-use Rattle.isort_sort.specs.Values.{item_value}
+use Rattle.isort_sort.specs.Private.Packing.{line_room, packed}
+use Rattle.isort_sort.specs.Private.Values.{item_value}
 use Rattle.isort_sort.specs.Wrapping.{items_text}
-use Rattle.isort_sort.proofs.FramedLemmas.{in_brackets-written, some_values}
-use Rattle.isort_sort.proofs.WritingLemmas.{extend, last_extended}
+use Rattle.isort_sort.proofs.Layouts.Framed.{in_brackets-written, some_values}
+use Rattle.isort_sort.proofs.Layouts.Writing.{extend, last_extended}
 use Rattle.isort_sort.proofs.layout.Layout.push_in_brackets.Goals as goal
 
 pub returns : goal.returns

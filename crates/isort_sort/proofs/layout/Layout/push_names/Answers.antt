@@ -1,6 +1,6 @@
 use Rattle.std.proofs.Common.{arith}
 use Rattle.std.proofs.lemmas.Str.{IsUtf8-had}
-use Rattle.isort_sort.proofs.WritingLemmas.{split_after}
+use Rattle.isort_sort.proofs.Layouts.Writing.{split_after}
 use Rattle.isort_sort.proofs.layout.Layout.push_names.Goals as goal
 
 pub truncate-requires : goal.truncate-requires

@@ -1,7 +1,7 @@
 use Rattle.std.proofs.Common.{codes, map, string_bytes}
 use Rattle.isort_sort.specs.Wrapping.{head, remark}
-use Rattle.isort_sort.proofs.FramedLemmas.{star_line}
-use Rattle.isort_sort.proofs.WritingLemmas.{last_extended}
+use Rattle.isort_sort.proofs.Layouts.Framed.{star_line}
+use Rattle.isort_sort.proofs.Layouts.Writing.{last_extended}
 use Rattle.isort_sort.proofs.layout.Layout.push_star.Goals as goal
 
 pub returns : goal.returns

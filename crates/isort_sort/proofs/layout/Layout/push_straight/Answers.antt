@@ -2,8 +2,8 @@ use Rattle.std.proofs.Common.{codes, map, string_bytes}
 use Rattle.std.specs.Option.{option_map}
 use Rattle.py_imports.specs.Spelled.{alias_text}
 use Rattle.isort_sort.specs.Wrapping.{remark}
-use Rattle.isort_sort.proofs.FramedLemmas.{straight_line}
-use Rattle.isort_sort.proofs.WritingLemmas.{extend, last_extended}
+use Rattle.isort_sort.proofs.Layouts.Framed.{straight_line}
+use Rattle.isort_sort.proofs.Layouts.Writing.{extend, last_extended}
 use Rattle.isort_sort.proofs.layout.Layout.push_straight.Goals as goal
 
 pub returns : goal.returns

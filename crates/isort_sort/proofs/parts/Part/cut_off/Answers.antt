@@ -1,5 +1,5 @@
 use Rattle.std.proofs.Common.{◌≡◌, ◌++◌, ◌∙◌, IfSome, List, ℕ, None, subst, string_bytes, append_assoc}
-use Rattle.isort_sort.proofs.SortedTextLemmas.{unstripped, strips_part, strips_no_part}
+use Rattle.isort_sort.proofs.SortedTexts.OfParts.{unstripped, strips_part, strips_no_part}
 use Rattle.isort_sort.proofs.parts.Part.cut_off.Goals as goal
 
 pub returns-in_err-strip_prefix-clause-none : goal.returns-in_err-strip_prefix-clause-none

@@ -2,10 +2,10 @@ use Rattle.std.proofs.Common.{◌≡◌, [], ◌∷◌, ap, ◌∙◌, sym, refl
 use Rattle.std.specs.Prelude.{slice_range}
 use Rattle.std.specs.Str.{IsUtf8}
 use Rattle.std.specs.Vec.Iter.{into_iter_items}
-use Rattle.isort_sort.specs.Arranged.{IsArranged}
-use Rattle.isort_sort.specs.FoundValues.{found_value}
-use Rattle.isort_sort.specs.LineEnd.{end_bytes}
-use Rattle.isort_sort.proofs.PartsLemmas.{made_gap, next_made, same_made}
+use Rattle.isort_sort.specs.Private.Arranged.{IsArranged}
+use Rattle.isort_sort.specs.Private.FoundValues.{found_value}
+use Rattle.isort_sort.specs.Private.LineEnd.{end_bytes}
+use Rattle.isort_sort.proofs.SortedTexts.Parts.{made_gap, next_made, same_made}
 use Rattle.isort_sort.proofs.parts.Parts.next.Goals as goal
 
 nothing_left : {X : Type 0} (xs : List X) → length xs ≡ 0 → xs ≡ []

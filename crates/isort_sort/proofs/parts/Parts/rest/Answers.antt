@@ -2,7 +2,7 @@ use Rattle.std.proofs.Common.{◌++◌, ◌≡◌, ap, ◌∙◌, sym, length, s
 use Rattle.std.specs.Prelude.{slice_range}
 use Rattle.std.specs.Str.{IsUtf8}
 use Rattle.isort_sort.specs.Sorted.{IsLaidOut}
-use Rattle.isort_sort.proofs.PartsLemmas.{all_made, rest_utf8}
+use Rattle.isort_sort.proofs.SortedTexts.Parts.{all_made, rest_utf8}
 use Rattle.isort_sort.proofs.parts.Parts.rest.Goals as goal
 
 pub between-requires-clause-ordered : goal.between-requires-clause-ordered

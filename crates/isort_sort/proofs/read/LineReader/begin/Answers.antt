@@ -1,6 +1,6 @@
 use Rattle.std.proofs.Common.{refl}
 use Rattle.py_lines.specs.Lines.{line_in}
-use Rattle.isort_sort.proofs.LinesRead.{beginning}
+use Rattle.isort_sort.proofs.Readings.LinesRead.{beginning}
 use Rattle.isort_sort.proofs.read.LineReader.begin.Goals as goal
 
 pub returns-clause-before : goal.returns-clause-before

@@ -1,4 +1,4 @@
-use Rattle.isort_sort.proofs.LinesRead.{found_in}
+use Rattle.isort_sort.proofs.Readings.LinesRead.{found_in}
 use Rattle.isort_sort.proofs.read.LineReader.finish.Goals as goal
 
 pub returns-clause-ok : goal.returns-clause-ok

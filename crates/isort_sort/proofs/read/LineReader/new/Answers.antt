@@ -1,6 +1,6 @@
 use Rattle.std.proofs.Common.{[], sym, refl, subst}
-use Rattle.isort_sort.specs.Finding.{IsFinding}
-use Rattle.isort_sort.proofs.FindingRows.{nothing_found}
+use Rattle.isort_sort.specs.Private.Finding.{IsFinding}
+use Rattle.isort_sort.proofs.Finding.Rows.{nothing_found}
 use Rattle.isort_sort.proofs.read.LineReader.new.Goals as goal
 
 pub returns-clause-start : goal.returns-clause-start

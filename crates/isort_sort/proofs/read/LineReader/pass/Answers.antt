@@ -1,9 +1,9 @@
 use Rattle.std.proofs.Common.{length, refl, sym, ap, subst, ◌∙◌}
 use Rattle.std.specs.Str.{IsUtf8}
 use Rattle.py_lines.specs.Lines.{line_in}
-use Rattle.isort_sort.specs.FoundValues.{finding_value}
-use Rattle.isort_sort.specs.Line.{IsSilent}
-use Rattle.isort_sort.proofs.PassingLemmas.{passed_to, passed_on, begins_none, none_open}
+use Rattle.isort_sort.specs.Private.FoundValues.{finding_value}
+use Rattle.isort_sort.specs.Private.Silence.{IsSilent}
+use Rattle.isort_sort.proofs.Readings.Passing.{passed_to, passed_on, begins_none, none_open}
 use Rattle.isort_sort.proofs.read.LineReader.pass.Goals as goal
 use Rattle.isort_sort.proofs.read.LineReader.pass.Goals.{else-not-silent-via-then-not-silent+else-not-is_silent, else-not-silent-via-else-not-silent}
 

@@ -1,6 +1,6 @@
 use Rattle.std.proofs.Common.{refl}
 use Rattle.py_lines.specs.Lines.{line_in}
-use Rattle.isort_sort.proofs.LinesRead.{read_on}
+use Rattle.isort_sort.proofs.Readings.LinesRead.{read_on}
 use Rattle.isort_sort.proofs.read.LineReader.push.Goals as goal
 
 pub returns-clause-on : goal.returns-clause-on

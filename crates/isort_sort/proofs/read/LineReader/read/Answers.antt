@@ -3,11 +3,11 @@ use Rattle.std.proofs.lemmas.Result.{err_from_is_err_and}
 use Rattle.py_lines.specs.Lines.{line_in, ReadsNext}
 use Rattle.py_lines.specs.Lexed.{IsLexed}
 use Rattle.py_imports.specs.Bound.{bound_of}
-use Rattle.isort_sort.specs.FoundValues.{finding_value}
-use Rattle.isort_sort.specs.Line.{IsSilent}
-use Rattle.isort_sort.specs.Reading.{IsReadSoFar}
-use Rattle.isort_sort.proofs.ReadingLemmas.{BindAll-snoc, continues, refuses_text, refuses_line}
-use Rattle.isort_sort.proofs.SilenceLemmas.{silent_line}
+use Rattle.isort_sort.specs.Private.FoundValues.{finding_value}
+use Rattle.isort_sort.specs.Private.Silence.{IsSilent}
+use Rattle.isort_sort.specs.Private.Reading.{IsReadSoFar}
+use Rattle.isort_sort.proofs.Readings.ReadSoFar.{BindAll-snoc, continues, refuses_text, refuses_line}
+use Rattle.isort_sort.proofs.Rows.Silence.{silent_line}
 use Rattle.isort_sort.proofs.read.LineReader.read.Goals as goal
 
 pub returns-in_err-unit-clause-err : goal.returns-in_err-unit-clause-err

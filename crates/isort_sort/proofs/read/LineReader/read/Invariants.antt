@@ -4,8 +4,8 @@ use Rattle.py_lines.specs.LogicalLine.{LogicalLine}
 use Rattle.py_lines.specs.Reader.{HasGiven}
 use Rattle.py_imports.specs.Bound.{Bound}
 use Rattle.py_imports.specs.Binds.{BindAll}
-use Rattle.isort_sort.specs.FoundValues.{finding_value, IsCounted}
-use Rattle.isort_sort.specs.Reading.{IsReadSoFar}
+use Rattle.isort_sort.specs.Private.FoundValues.{finding_value, IsCounted}
+use Rattle.isort_sort.specs.Private.Reading.{IsReadSoFar}
 use Rattle.isort_sort.proofs.read.LineReader.read.Given as goal
 
 abbrev pub invariant-lines : goal.invariant-lines

@@ -1,7 +1,7 @@
 use Rattle.std.proofs.Common.{◌||◌, sym, ap, ◌∙◌}
 use Rattle.py_lines.specs.Lines.{line_in}
-use Rattle.isort_sort.specs.Reading.{has_code}
-use Rattle.isort_sort.proofs.SkipLemmas.{skip_pushed}
+use Rattle.isort_sort.specs.Private.Reading.{has_code}
+use Rattle.isort_sort.proofs.Rows.Skips.{skip_pushed}
 use Rattle.isort_sort.proofs.skip.SkipReader.push.Goals as goal
 
 pub returns-then-self : goal.returns-then-self

@@ -1,6 +1,6 @@
 use Rattle.std.proofs.Common.{◌++◌, ◌∙◌, ap, refl, flat_map, drop, ◌+◌, List, ℕ}
-use Rattle.isort_sort.specs.Parts.{part_text, sorted_bytes}
-use Rattle.isort_sort.proofs.SortedTextLemmas.{bytes_from, bytes_last, regrouped, differs, same_or_not}
+use Rattle.isort_sort.specs.Private.Parts.{part_text, sorted_bytes}
+use Rattle.isort_sort.proofs.SortedTexts.OfParts.{bytes_from, bytes_last, regrouped, differs, same_or_not}
 use Rattle.isort_sort.proofs.sorted_text.SortedText.is.Goals as goal
 
 pub returns-in-None : goal.returns-in-None

@@ -1,6 +1,6 @@
 -- The text and the sorted text begin alike.
 use Rattle.std.proofs.Common.{◌≡◌, ◌++◌, ℕ, List, drop, flat_map}
-use Rattle.isort_sort.specs.Parts.{part_text, sorted_bytes}
+use Rattle.isort_sort.specs.Private.Parts.{part_text, sorted_bytes}
 use Rattle.isort_sort.proofs.sorted_text.SortedText.is.Given as goal
 
 abbrev pub invariant-parts : goal.invariant-parts

@@ -1,6 +1,6 @@
 -- The parts so far were joined.
 use Rattle.std.proofs.Common.{◌≡◌, ◌++◌, drop, flat_map, string_bytes}
-use Rattle.isort_sort.specs.Parts.{part_text, AreTexts}
+use Rattle.isort_sort.specs.Private.Parts.{part_text, AreTexts}
 use Rattle.isort_sort.proofs.sorted_text.SortedText.joined.Given as goal
 
 abbrev pub invariant-parts : goal.invariant-parts

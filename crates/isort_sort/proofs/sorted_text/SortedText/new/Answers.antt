@@ -1,7 +1,7 @@
 use Rattle.std.proofs.Common.{sym, ap, ◌∙◌, subst, flat_map}
 use Rattle.isort_settings.specs.Values.{values}
-use Rattle.isort_sort.specs.Parts.{part_text, AreTexts, HasMade, Makes}
-use Rattle.isort_sort.proofs.SortedTextLemmas.{texts_snoc, bytes_snoc}
+use Rattle.isort_sort.specs.Private.Parts.{part_text, AreTexts, HasMade, Makes}
+use Rattle.isort_sort.proofs.SortedTexts.OfParts.{texts_snoc, bytes_snoc}
 use Rattle.isort_sort.proofs.sorted_text.SortedText.new.Goals as goal
 
 pub parts-preserved : goal.parts-preserved

@@ -1,7 +1,7 @@
 -- The parts so far were made, and blocks become fewer.
 use Rattle.std.proofs.Common.{length, flat_map}
 use Rattle.isort_settings.specs.Values.{values}
-use Rattle.isort_sort.specs.Parts.{part_text, left_of, AreTexts, HasMade}
+use Rattle.isort_sort.specs.Private.Parts.{part_text, left_of, AreTexts, HasMade}
 use Rattle.isort_sort.proofs.sorted_text.SortedText.new.Given as goal
 
 abbrev pub invariant-parts : goal.invariant-parts

@@ -1,9 +1,9 @@
 use Rattle.std.proofs.Common.{[], ◌++◌, ◌∙◌, ◌+◌, ap, sym, subst, flat_map, drop, List, ℕ, append-nil, append_assoc, string_bytes}
 use Rattle.std.specs.Io.KnownBytes.{Appends}
 use Rattle.std.proofs.KnownBytes.{Appends-trans}
-use Rattle.isort_sort.specs.Parts.{part_text, sorted_bytes}
+use Rattle.isort_sort.specs.Private.Parts.{part_text, sorted_bytes}
 use Rattle.isort_sort.specs.Written.{AppendsFront}
-use Rattle.isort_sort.proofs.SortedTextLemmas.{bytes_from, bytes_last, regrouped, appends_front, on_err, on_err_map}
+use Rattle.isort_sort.proofs.SortedTexts.OfParts.{bytes_from, bytes_last, regrouped, appends_front, on_err, on_err_map}
 use Rattle.isort_sort.proofs.sorted_text.SortedText.write_to.Goals as goal
 
 pub returns-in_err-write_whole-clause-front : goal.returns-in_err-write_whole-clause-front

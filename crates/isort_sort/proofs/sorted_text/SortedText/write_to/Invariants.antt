@@ -2,7 +2,7 @@
 use Rattle.std.proofs.Common.{◌≡◌, ◌++◌, ℕ, List, drop, flat_map}
 use Rattle.std.specs.Io.KnownBytes.{Appends}
 use Rattle.isort_sort.specs.Metered.{inner_of, last_of}
-use Rattle.isort_sort.specs.Parts.{part_text, sorted_bytes}
+use Rattle.isort_sort.specs.Private.Parts.{part_text, sorted_bytes}
 use Rattle.isort_sort.specs.declared.metered.Last.TheVariants.{Fine}
 use Rattle.isort_sort.proofs.sorted_text.SortedText.write_to.Given as goal
 

@@ -1,0 +1,6 @@
+-- The blocks of rows, and how they are found.
+pub mod Steps
+pub mod Rows
+pub mod SomeBlocks
+pub mod OneBlocks
+pub mod Spans

@@ -1,0 +1,9 @@
+-- The lines of statements, and their text.
+pub mod OneCut
+pub mod Lengths
+pub mod Widths
+pub mod Writing
+pub mod Packing
+pub mod Framed
+pub mod GroupTexts
+pub mod LaidOut

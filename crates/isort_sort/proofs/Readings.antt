@@ -1,0 +1,5 @@
+-- The lines of a text, as they are read one after another.
+pub mod Lines
+pub mod LinesRead
+pub mod ReadSoFar
+pub mod Passing

@@ -1,0 +1,122 @@
+-- The rows of a text's lines, one line after another.
+use Rattle.std.proofs.Common.{◌≡◌, ℕ, ◌+◌, ◌-◌, Bool, true, false, cond, not, ◌||◌, ◌&&◌, nat_lt, Option, None, Some, MatchOption, is_some, List, [], ◌∷◌, ◌++◌, length, map, drop, refl, sym, ap, ◌∙◌, subst, append_assoc, append-nil, arith}
+use Rattle.std.proofs.lemmas.List.{length-drop}
+use Rattle.std.specs.List.{list_any}
+use Rattle.std.specs.Str.{IsUtf8}
+use Rattle.py_lines.specs.LogicalLine.{LogicalLine}
+use Rattle.py_imports.specs.Action.{says}
+use Rattle.py_imports.specs.Bound.{Bound}
+use Rattle.py_imports.specs.Binds.{Binds}
+use Rattle.py_imports.specs.declared.action.Action.TheVariants as action
+use Rattle.isort_sort.specs.Private.Arranging.{AreUtf8}
+use Rattle.isort_sort.specs.Private.Finding.{Finding, IsFinding, after_blank, after_comments, after_member, after_other}
+use Rattle.isort_sort.specs.Line.{comment_texts, own_comments, imported_of}
+use Rattle.isort_sort.specs.Private.LineRole.{before_of, IsOfRole, turned}
+use Rattle.isort_sort.specs.Member.{Member}
+use Rattle.isort_sort.specs.Private.Reading.{IsRowOf, FindsLine}
+use Rattle.isort_sort.specs.Row.{Role, member, comments, blank, other, HasRole, is_comment_kind, says_off, says_on, is_off_after, mark_after, indentation_of, Row, IsRow, AreRows}
+use Rattle.isort_sort.specs.declared.row.BlankLines.{BlankLines}
+use Rattle.isort_sort.specs.declared.row.Role.TheVariants as role
+use Rattle.isort_sort.proofs.Rows.Skips.{any_push}
+use Rattle.isort_sort.proofs.Finding.Rows.{found_blank, found_comments, found_member, found_other}
+
+-- one more row
+pub rows_push : (before lines : List LogicalLine) (rows : List Row) (line : LogicalLine) (row : Row) → AreRows before lines rows → IsRow (before ++ lines) line row → AreRows before (lines ++ line ∷ []) (rows ++ row ∷ [])
+rows_push before [] rows line row are is = (row, [], ap (λ rs. rs ++ row ∷ []) are, subst (λ (ls : List LogicalLine). IsRow ls line row) (append-nil before) is, refl)
+rows_push before (l ∷ ls) rows line row are is = (
+  are.0,
+  are.1 ++ row ∷ [],
+  ap (λ rs. rs ++ row ∷ []) are.2,
+  are.3,
+  rows_push (before ++ l ∷ []) ls are.1 line row are.4 (subst (λ (x : List LogicalLine). IsRow x line row) (sym (append_assoc before (l ∷ []) ls)) is),
+)
+
+pub utf8_push : (rows : List Row) (row : Row) → AreUtf8 rows → IsUtf8 row.text → AreUtf8 (rows ++ row ∷ [])
+utf8_push [] row are is = (is, tt)
+utf8_push (r ∷ rs) row are is = (are.0, utf8_push rs row are.1 is)
+
+-- a line that says `off` turns sorting off, and one that says `on` turns it on
+turns : (off on off_now : Bool) (was any : Bool) → on && off_now ≡ false → (off && not (any || on)) || cond off_now true (cond on false was) ≡ cond off_now true (cond on false ((off && not any) || was))
+turns false on off_now was any h = refl
+turns true on off_now was true h = refl
+turns true false true was false h = refl
+turns true false false was false h = refl
+turns true true true was false h = absurd (cc)
+turns true true false was false h = refl
+
+never_both : (line : LogicalLine) → says_on line && says_off line ≡ false
+never_both line = by (is_comment_kind line.kind) (list_any (says action.On) (comment_texts line)) (says_off line)
+  where
+    by : (a b c : Bool) → (a && b && not c) && c ≡ false
+    by true true true = refl
+    by true true false = refl
+    by true false c = refl
+    by false b c = refl
+
+pub off_push : (lines : List LogicalLine) (line : LogicalLine) → is_off_after (lines ++ line ∷ []) ≡ turned (is_off_after lines) line
+off_push [] line = by (says_off line) (says_on line)
+  where
+    by : (a b : Bool) → (a && true) || false ≡ cond a true (cond b false false)
+    by true b = refl
+    by false true = refl
+    by false false = refl
+off_push (l ∷ ls) line =
+    (λ i. (says_off l && not (any_push says_on ls line i)) || off_push ls line i)
+    ∙ turns (says_off l) (says_on line) (says_off line) (is_off_after ls) (list_any says_on ls) (never_both line)
+
+-- the row of a line after others
+pub row_after : (lines : List LogicalLine) (line : LogicalLine) (off : Bool) (mark : ℕ) (row : Row) → off ≡ is_off_after lines → mark ≡ mark_after lines line → IsRowOf off mark line row → IsRow lines line row
+row_after lines line off mark row o m is = record {
+  role = subst (λ (b : Bool). HasRole b line row.role) o is.role;
+  text = is.text ∙ ap (λ n. drop n line.text) m;
+  indentation = is.indentation;
+  ended = is.ended;
+}
+
+-- the byte after a line that stands at `place`
+abbrev pub IsStop : ℕ → LogicalLine → ℕ → ℕ → Type 0
+IsStop mark line place stop = stop ≡ place + (length line.text - mark)
+
+stop_is : (mark : ℕ) (line : LogicalLine) (place stop : ℕ) → IsStop mark line place stop → stop ≡ place + length (drop mark line.text)
+stop_is mark line place stop s = omega (arith, s, length-drop mark line.text)
+
+-- the row of a line that has this role
+abbrev row_of : ℕ → LogicalLine → Role → Row
+row_of mark line r = record { text = drop mark line.text; indentation = indentation_of line; ended = nat_lt 0 line.end_len; role = r }
+
+is_row : (off : Bool) (mark : ℕ) (line : LogicalLine) (r : Role) → IsUtf8 line.text → HasRole off line r → IsRowOf off mark line (row_of mark line r)
+is_row off mark line r utf8 has = record { role = has; text = refl; indentation = refl; ended = refl; utf8 = utf8 }
+
+-- what each kind of line makes of the blocks found
+
+pub finds_blank : (off : Bool) (mark : ℕ) (line : LogicalLine) (utf8 : IsUtf8 line.text) (f : Finding) (stop : ℕ) (ended : Bool) → IsOfRole off line role.Blank → IsStop mark line f.place stop → ended ≡ nat_lt 0 line.end_len → FindsLine off mark line f (after_blank stop ended f)
+finds_blank off mark line utf8 f stop ended is s e = λ start rows h.
+    let found : Row = row_of mark line blank in
+    (found, is_row off mark line blank utf8 is, subst (λ (b : Bool). IsFinding start (rows ++ found ∷ []) (after_blank stop b f)) (sym e) (found_blank start rows f found stop h refl (stop_is mark line f.place stop s)))
+
+pub finds_comments : (off : Bool) (mark : ℕ) (line : LogicalLine) (utf8 : IsUtf8 line.text) (f : Finding) (stop : ℕ) (passed : List (List ℕ)) → IsOfRole off line role.Comments → MatchOption f.opened (Unit {0}) (λ o. passed ≡ comment_texts line) → IsStop mark line f.place stop → FindsLine off mark line f (after_comments stop passed f)
+finds_comments off mark line utf8 f stop passed is same s = λ start rows h.
+    let found : Row = row_of mark line (comments (comment_texts line)) in
+    (found, is_row off mark line (comments (comment_texts line)) utf8 (is.0, is.1, refl), found_comments start rows f found stop (comment_texts line) passed h refl same (stop_is mark line f.place stop s))
+
+pub finds_member : (off : Bool) (mark : ℕ) (line : LogicalLine) (utf8 : IsUtf8 line.text) (f : Finding) (stop : ℕ) (ended : Bool) (indentation : List ℕ) (m : Member) (bounds : List Bound) → IsOfRole off line role.Member → Binds line bounds → m ≡ record { imports = map imported_of bounds; comments = own_comments line; above = [] } → indentation ≡ indentation_of line → IsStop mark line f.place stop → ended ≡ nat_lt 0 line.end_len → FindsLine off mark line f (after_member stop ended indentation m f)
+finds_member off mark line utf8 f stop ended indentation m bounds is binds value at s e = λ start rows h.
+    let found : Row = row_of mark line (member (map imported_of bounds) (own_comments line)) in (
+      found,
+      is_row off mark line (member (map imported_of bounds) (own_comments line)) utf8 (is.0, (is.1, (bounds, binds, refl)), refl),
+      subst (λ (b : Bool). IsFinding start (rows ++ found ∷ []) (after_member stop b indentation m f)) (sym e) (subst (λ (i : List ℕ). IsFinding start (rows ++ found ∷ []) (after_member stop (nat_lt 0 line.end_len) i m f)) (sym at) (found_member start rows f found stop m h refl value (stop_is mark line f.place stop s))),
+    )
+
+pub finds_other : (off : Bool) (mark : ℕ) (line : LogicalLine) (utf8 : IsUtf8 line.text) (f : Finding) (stop : ℕ) (b : BlankLines) → IsOfRole off line (role.Other b) → IsStop mark line f.place stop → FindsLine off mark line f (after_other stop (before_of b) f)
+finds_other off mark line utf8 f stop b is s = λ start rows h.
+    let found : Row = row_of mark line (other (before_of b)) in
+    (found, is_row off mark line (other (before_of b)) utf8 is, found_other start rows f found stop (before_of b) h refl (stop_is mark line f.place stop s))
+
+-- what is asked for where a block may go on
+pub any_match : {A : Type 0} {P : Type 0} (x : Option A) → P → MatchOption x (Unit {0}) (λ o. P)
+any_match None is = tt
+any_match (Some o) is = is
+
+pub none_match : {A : Type 0} (P : Type 0) (x : Option A) → is_some x ≡ false → MatchOption x (Unit {0}) (λ o. P)
+none_match P None none = tt
+none_match P (Some o) none = absurd (cc)

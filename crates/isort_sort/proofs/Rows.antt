@@ -1,0 +1,9 @@
+-- The rows of a text's lines.
+pub mod Comments
+pub mod Marks
+pub mod Roles
+pub mod Skips
+pub mod Texts
+pub mod Silence
+pub mod SomeRows
+pub mod OneRows

@@ -1,0 +1,8 @@
+-- The sorted text, block by block.
+pub mod Arranging
+pub mod Parts
+pub mod OfParts
+pub mod Written
+pub mod SortedCuts
+pub mod OneSorted
+pub mod BlockSpans

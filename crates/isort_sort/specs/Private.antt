@@ -1,0 +1,20 @@
+-- What contracts of private functions alone cite: the values of the program's types, blocks as they are found, what is
+-- seen of a block's statements, packed lines, and a sorted text part by part. No public contract names a word of these
+-- files.
+pub mod Values
+pub mod Group
+pub mod Found
+pub mod Finding
+pub mod FoundValues
+pub mod LineRole
+pub mod Silence
+pub mod Reading
+pub mod Arranged
+pub mod Arranging
+pub mod LineEnd
+pub mod Gathered
+pub mod GroupOrder
+pub mod Packing
+pub mod Wrap
+pub mod WrapMode
+pub mod Parts

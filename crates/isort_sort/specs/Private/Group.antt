@@ -1,0 +1,67 @@
+-- The statements of a block with what each takes from the members, before they are cut into lines.
+use Rattle.std.specs.Prelude.{◌≡◌, ℕ, Bool, None, List, [], ◌∷◌, map, codes, string_bytes}
+use Rattle.std.specs.List.{AllByRecursion}
+use Rattle.py_imports.specs.Grammar.{Item}
+use Rattle.isort_settings.specs.Values.{Values}
+use Rattle.isort_settings.specs.declared.section.Section.{Section}
+use Rattle.isort_sort.specs.Layout.{Laid, block_lines, text_of_lines}
+use Rattle.isort_sort.specs.Member.{Member, AreStatements, AreItemsOf, comments_of, above_of}
+use Rattle.isort_sort.specs.Statement.{Statement, straight, star, names, single, module_of, section_of}
+use Rattle.isort_sort.specs.Private.Values.{item_value, statement_value}
+use Rattle.isort_sort.specs.Wrapping.{IsCut, fits_line}
+use Rattle.isort_sort.specs.declared.group.Group as code
+
+-- a statement with its section, its items in order, the comments that it joins, and those above it
+pub record Group : Type 0 where
+  pub section : Section
+  pub statement : Statement
+  pub items : List Item
+  pub comments : List (List ℕ)
+  pub above : List (List ℕ)
+
+-- the items of a statement, of which `listed` are the items of names that share it
+abbrev pub items_with : Statement → List Item → List Item
+items_with (straight m alias) listed = record { path = []; alias = alias } ∷ []
+items_with (star m) listed = record { path = codes "*"; alias = None } ∷ []
+items_with (names m) listed = listed
+items_with (single m i) listed = i ∷ []
+
+-- a group
+abbrev pub group_value : code.Group → Group
+group_value g = record {
+  section = g.section;
+  statement = statement_value g.statement;
+  items = items_with (statement_value g.statement) (map item_value g.items.items);
+  comments = map string_bytes g.comments.items;
+  above = map string_bytes g.above.items;
+}
+
+-- the group holds what its statement takes from the members
+pub record IsGrouped (v : Values) (members : List Member) (g : Group) : Type 0 where
+  pub section : g.section ≡ section_of v g.statement
+  pub items : AreItemsOf v members g.statement g.items
+  pub comments : g.comments ≡ comments_of v members g.statement
+  pub above : g.above ≡ above_of v members g.statement
+
+-- the statements of the members, in order, each with what it takes from them
+pub record AreGrouped (v : Values) (members : List Member) (groups : List Group) : Type 0 where
+  pub statements : AreStatements v members (map (λ g. g.statement) groups)
+  pub each : AllByRecursion (IsGrouped v members) groups
+
+-- how a group is laid out: some cut of its items into lines, and all else as it is
+pub record LaysOut (v : Values) (indentation : List ℕ) (g : Group) (s : Laid) : Type 0 where
+  pub statement : s.statement ≡ g.statement
+  pub items : s.items ≡ g.items
+  pub cut : IsCut (fits_line v indentation (module_of g.statement)) g.items s.cut
+  pub comments : s.comments ≡ g.comments
+  pub above : s.above ≡ g.above
+
+abbrev pub LayOut : Values → List ℕ → List Group → List Laid → Type 0
+LayOut v indentation [] laid = laid ≡ []
+LayOut v indentation (g ∷ gs) laid =
+    (s : Laid) × (others : List Laid) × (laid ≡ s ∷ others) × LaysOut v indentation g s × LayOut v indentation gs others
+
+-- the text of groups that are laid out, with these line ends
+abbrev pub IsTextOf : Values → List ℕ → List ℕ → Bool → List Group → List ℕ → Type 0
+IsTextOf v indentation end ended groups text =
+    (laid : List Laid) × LayOut v indentation groups laid × (text ≡ text_of_lines end ended 0 (block_lines v indentation laid))

@@ -1,0 +1,70 @@
+-- How the program cuts items into lines, and the text that it writes.
+use Rattle.std.specs.Prelude.{◌≡◌, ℕ, ◌+◌, ◌-◌, ◌==◌, Bool, not, ◌&&◌, ◌||◌, List, []}
+use Rattle.std.specs.Prelude.{◌∷◌, ◌++◌, map, flat_map, length, if◌then◌else◌, nat_le}
+use Rattle.py_imports.specs.Grammar.{Item}
+use Rattle.isort_settings.specs.Values.{Values}
+use Rattle.isort_sort.specs.Private.Group.{Group}
+use Rattle.isort_sort.specs.declared.group.Group as code
+use Rattle.isort_sort.specs.Layout.{Laid, own_lines}
+use Rattle.isort_sort.specs.Statement.{module_of, section_of}
+use Rattle.isort_sort.specs.Private.Values.{statement_value}
+use Rattle.isort_sort.specs.Width.{width}
+use Rattle.isort_sort.specs.Wrapping.{head, items_text, remark, is_forced, names_lines, wrapped}
+
+-- how many characters the items on a line of a wrapped statement may have, where they are several
+abbrev pub line_room : Values → List ℕ → List ℕ → ℕ
+line_room v indentation m =
+    if v.multi_line_output == 0 then v.line_length - (width indentation + (width (head m) + 2))
+    else (if v.multi_line_output == 2 then v.line_length - (width indentation + 7) else 0)
+
+-- the line, with the items that still fit on it, and the lines after it
+unfoldable pub packed_after : ℕ → List Item → List Item → List (List Item)
+packed_after room [] line = line ∷ []
+packed_after room (i ∷ items) line =
+    if nat_le (width (items_text (line ++ i ∷ []))) room then packed_after room items (line ++ i ∷ [])
+    else line ∷ packed_after room items (i ∷ [])
+
+-- items on lines, as many on each as fit
+abbrev pub packed : ℕ → List Item → List (List Item)
+packed room [] = []
+packed room (i ∷ items) = packed_after room items (i ∷ [])
+
+-- the items' texts on each line of a wrapped statement
+abbrev pub cut_texts : Values → List ℕ → List ℕ → List Item → List (List ℕ)
+cut_texts v indentation m items = map items_text (packed (line_room v indentation m) items)
+
+-- how the program lays out a group
+abbrev pub laid_of : Values → List ℕ → Group → Laid
+laid_of v indentation g = record {
+  statement = g.statement;
+  items = g.items;
+  cut = packed (line_room v indentation (module_of g.statement)) g.items;
+  comments = g.comments;
+  above = g.above;
+}
+
+-- whether a statement of names is wrapped, which would be this on one line
+abbrev pub wraps : Values → List ℕ → List Item → Bool
+wraps v line items =
+    not (nat_le v.multi_line_output 1 && (length items == 1)) && (is_forced v items || not (nat_le (width line) v.line_length))
+
+-- lines, each with a line end
+abbrev pub text_with : List ℕ → List (List ℕ) → List ℕ
+text_with end lines = flat_map (λ l. l ++ end) lines
+
+-- a wrapped statement, and one of names
+abbrev pub wrapped_text : Values → List ℕ → List ℕ → List ℕ → List (List ℕ) → List Item → List ℕ
+wrapped_text v indentation end m comments items =
+    text_with end (wrapped v indentation m (remark comments) (cut_texts v indentation m items))
+
+abbrev pub names_text : Values → List ℕ → List ℕ → List ℕ → List (List ℕ) → List Item → List ℕ
+names_text v indentation end m comments items =
+    text_with end (names_lines v indentation m (remark comments) items (packed (line_room v indentation m) items))
+
+-- a group
+abbrev pub group_text : Values → List ℕ → List ℕ → Group → List ℕ
+group_text v indentation end g = text_with end (own_lines v indentation (laid_of v indentation g))
+
+-- the group's section is that of its statement
+abbrev pub HasSection : Values → code.Group → Type 0
+HasSection v g = g.section ≡ section_of v (statement_value g.statement)

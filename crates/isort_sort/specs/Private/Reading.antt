@@ -1,0 +1,81 @@
+-- What the program knows of the lines of a text that it has read.
+use Rattle.std.specs.Prelude.{◌≡◌, ℕ, Bool, true, false, not, nat_lt, List, [], ◌∷◌, ◌++◌, length, map, drop}
+use Rattle.std.specs.List.{list_any}
+use Rattle.std.specs.Str.{IsUtf8}
+use Rattle.py_lines.specs.LogicalLine.{LogicalLine}
+use Rattle.py_imports.specs.Shape.{is_nothing}
+use Rattle.py_imports.specs.Statement.{significant}
+use Rattle.isort_sort.specs.Private.Arranging.{AreUtf8, IsCutText}
+use Rattle.isort_sort.specs.Blocks.{Cut}
+use Rattle.isort_sort.specs.Private.Finding.{Finding, IsFinding}
+use Rattle.isort_sort.specs.Private.FoundValues.{found_value, finding_value}
+use Rattle.isort_sort.specs.Row.{Row, HasRole, indentation_of, is_off_after, AreRows, skips_file}
+use Rattle.isort_sort.specs.Sorted.{mark_of, IsAccepted, IsSkipped, HasBlocks}
+use Rattle.isort_sort.specs.declared.read.FoundText.{FoundText}
+use Rattle.isort_sort.specs.declared.read.FoundText.TheVariants as found
+use Rattle.isort_sort.specs.declared.read.LineReader.{LineReader}
+use Rattle.isort_sort.specs.declared.skip.SkipReader.{SkipReader}
+
+-- whether there is a line
+abbrev pub is_some_line : List LogicalLine → Bool
+is_some_line [] = false
+is_some_line (line ∷ lines) = true
+
+-- whether a line has a token that is no comment
+abbrev pub has_code : LogicalLine → Bool
+has_code line = not (is_nothing (significant line.tokens))
+
+-- whether these lines ask for the text to be left as it is, and whether they have a token that is no comment
+pub record IsSkipSoFar (lines : List LogicalLine) (r : SkipReader) : Type 0 where
+  pub skips : r.skips ≡ skips_file lines
+  pub begun : r.begun ≡ list_any has_code lines
+
+-- the row of a line that begins with so many bytes of a byte order mark, where sorting is off before it or not
+pub record IsRowOf (off : Bool) (mark : ℕ) (line : LogicalLine) (row : Row) : Type 0 where
+  pub role : HasRole off line row.role
+  pub text : row.text ≡ drop mark line.text
+  pub indentation : row.indentation ≡ indentation_of line
+  pub ended : row.ended ≡ nat_lt 0 line.end_len
+  pub utf8 : IsUtf8 line.text
+
+-- whatever rows the blocks were found of, those of the line's row too are found
+abbrev pub FindsLine : Bool → ℕ → LogicalLine → Finding → Finding → Type 0
+FindsLine off mark line old new =
+    (start : ℕ) (rows : List Row) → IsFinding start rows old
+    → (row : Row) × IsRowOf off mark line row × IsFinding start (rows ++ row ∷ []) new
+
+-- the rows of the lines, as far as their blocks are found
+pub record IsReadSoFar (lines : List LogicalLine) (r : LineReader) : Type 0 where
+  pub rows : List Row
+  pub seen : AreRows [] lines rows
+  pub utf8 : AreUtf8 rows
+  pub finding : IsFinding (length (mark_of lines)) rows (finding_value r.blocks)
+  pub begun : r.begun ≡ is_some_line lines
+  pub off : r.off ≡ is_off_after lines
+  pub skip : IsSkipSoFar lines r.skip
+
+-- whatever lines were read, this one is read after them
+abbrev pub ReadsLine : LogicalLine → LineReader → LineReader → Type 0
+ReadsLine line old new = (lines : List LogicalLine) → IsReadSoFar lines old → IsReadSoFar (lines ++ line ∷ []) new
+
+-- the same before this line, where the text's byte order mark is known from it
+pub record IsReadBefore (lines : List LogicalLine) (line : LogicalLine) (r : LineReader) : Type 0 where
+  pub rows : List Row
+  pub seen : AreRows [] lines rows
+  pub utf8 : AreUtf8 rows
+  pub finding : IsFinding (length (mark_of (lines ++ line ∷ []))) rows (finding_value r.blocks)
+  pub begun : r.begun ≡ true
+  pub off : r.off ≡ is_off_after lines
+  pub skip : IsSkipSoFar lines r.skip
+
+-- the text was read to its end: its lines are accepted, and their rows' blocks are found
+pub record IsWholeRead (text : List ℕ) (r : LineReader) : Type 0 where
+  pub lines : List LogicalLine
+  pub accepted : IsAccepted text lines
+  pub so_far : IsReadSoFar lines r
+
+-- what was found in a text: that it is skipped, or its blocks
+abbrev pub IsFoundIn : List ℕ → FoundText → Type 0
+IsFoundIn text found.Skipped = IsSkipped text
+IsFoundIn text (found.Blocks blocks) =
+    (lines : List LogicalLine) × (cut : Cut) × HasBlocks text lines cut × IsCutText text (mark_of lines) cut (map found_value blocks.items)
