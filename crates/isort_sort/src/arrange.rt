@@ -1,5 +1,5 @@
 //! The layout of a block that was found.
-ghost use Rattle.std.specs.Prelude.{◌≡◌, ◌++◌, IfOk, IfErr, OnOk, map, string_bytes, replicate, flat_map, List, ℕ, if◌then◌else◌};
+ghost use Rattle.std.specs.Prelude.{◌≡◌, IfOk, IfErr, string_bytes, if◌then◌else◌};
 ghost use Rattle.isort_settings.specs.Values.{values};
 ghost use Rattle.isort_sort.specs.Private.Arranged.{IsArranged};
 ghost use Rattle.isort_sort.specs.Private.Found.{blanks_of};
@@ -12,6 +12,7 @@ use crate::group::group_members;
 use crate::layout::block_text;
 use crate::line_end::LineEnd;
 use crate::row::BlankLines;
+use crate::texts::push_times;
 use isort_settings::Settings;
 use std::alloc::Global;
 
@@ -61,18 +62,6 @@ pub(crate) fn arrange(
     let groups = group_members(alloc, settings, block.members)?;
     let indentation = block.indentation.as_str();
     let mut text = block_text(alloc, settings, indentation, end, block.ended, &groups)?;
-    push_blank_lines(&mut text, end, blanks)?;
+    push_times(&mut text, end.as_str(), blanks)?;
     Ok(text)
-}
-
-/// Puts blank lines after a text.
-fn push_blank_lines(text: &mut String, end: LineEnd, blanks: usize) -> Result<(), SortError>
-    ensures ok { OnOk result (string_bytes text.new ≡ string_bytes text.old
-        ++ flat_map (λ (l : List ℕ). l) (replicate blanks (end_bytes end))) }
-    ensures err { IfErr result (λ e. e ≡ SortError.Memory) }
-{
-    for _ in 0..blanks {
-        text.push_str(end.as_str())?;
-    }
-    Ok(())
 }

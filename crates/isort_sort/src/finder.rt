@@ -30,7 +30,9 @@ pub(crate) struct FoundBlock {
     pub(crate) start: usize,
     /// The byte after its span.
     pub(crate) stop: usize,
+    /// The indentation of its members.
     pub(crate) indentation: String,
+    /// Its members, in source order.
     pub(crate) members: Vec<Member>,
     /// Whether its last line has a line end.
     pub(crate) ended: bool,
@@ -43,6 +45,7 @@ pub(crate) struct FoundBlock {
 /// A block that may go on.
 #[derive(Drop)]
 struct OpenBlock {
+    /// The block up to its last member.
     block: FoundBlock,
     /// The comments after its last member.
     above: Vec<String>,
@@ -139,7 +142,9 @@ impl OpenBlock {
 /// Finds the blocks of a text whose lines are handed in one after another.
 #[derive(Drop)]
 pub(crate) struct BlockFinder {
+    /// The blocks that were found, in source order.
     found: Vec<FoundBlock>,
+    /// The block that may go on.
     open: Option<OpenBlock>,
     /// The byte after the last line.
     place: usize,

@@ -26,6 +26,7 @@ use std::mem;
 pub(crate) struct Group {
     /// The section of its module.
     pub(crate) section: Section,
+    /// The statement.
     pub(crate) statement: Statement,
     /// The items of `Names`, in order; none for the other statements.
     pub(crate) items: Vec<Item>,
@@ -140,10 +141,13 @@ type Statements = IndexMap<Statement, Gathered>;
 /// An import, with what it brings to its statement.
 #[derive(Drop)]
 struct Import {
+    /// The statement that it belongs to.
     statement: Statement,
     /// Its item, if the statement is one of names.
     item: Option<Item>,
+    /// The own comments of its line, if it is the line's first import.
     comments: Vec<String>,
+    /// The comments above its line, if it is the line's first import.
     above: Vec<String>,
 }
 

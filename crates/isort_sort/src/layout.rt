@@ -12,6 +12,7 @@ use crate::answer::SortError;
 use crate::group::Group;
 use crate::line_end::LineEnd;
 use crate::statement::{Item, Statement};
+use crate::texts::push_times;
 use crate::width::width;
 use crate::wrap_mode::WrapMode;
 use crate::wrapping::{Wrap, bracket_width, push_alias, push_head, push_items, push_remark};
@@ -64,6 +65,7 @@ fn gap(settings: &Settings, before: &Group, group: &Group) -> u32
 /// How the statements of a block are laid out.
 #[derive(Clone, Copy)]
 struct Layout<'a> {
+    /// The settings.
     settings: &'a Settings,
     /// The block's indentation.
     indentation: &'a str,
@@ -421,10 +423,7 @@ impl Layout<'_> {
         ensures { OnOk result (string_bytes out.new ≡ string_bytes out.old
             ++ text_with self.now.end.now (replicate count [])) }
     {
-        for _ in 0..count {
-            out.push_str(self.end)?;
-        }
-        Ok(())
+        push_times(out, self.end, count as usize)
     }
 
     /// Puts the lines of the groups after `out`, each with a line end.

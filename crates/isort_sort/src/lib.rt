@@ -18,6 +18,7 @@ mod skip;
 mod sort;
 mod sorted_text;
 mod statement;
+mod texts;
 mod width;
 mod wrap_mode;
 mod wrapping;

@@ -41,7 +41,9 @@ impl Last {
 /// each call is made once, whole, and its answer given as it is, they can't say: tests show it.
 #[derive(Drop)]
 pub struct Metered<T> {
+    /// The reader or writer.
     inner: T,
+    /// How its last call ended.
     last: Last,
 }
 

@@ -48,7 +48,9 @@ impl Part<'_> {
 /// The parts of a sorted text, one after another.
 #[derive(Drop)]
 pub(crate) struct Parts<'t> {
+    /// The text.
     text: &'t [u8],
+    /// The settings.
     settings: &'t Settings,
     /// The line end that is written.
     end: LineEnd,

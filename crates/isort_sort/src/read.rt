@@ -37,7 +37,9 @@ pub(crate) struct LineReader {
     pub(crate) begun: bool,
     /// Whether sorting is off after the lines.
     pub(crate) off: bool,
+    /// Whether the text asks to be left as it is.
     pub(crate) skip: SkipReader,
+    /// The blocks of the lines.
     pub(crate) blocks: BlockFinder,
 }
 

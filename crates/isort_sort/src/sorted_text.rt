@@ -23,7 +23,9 @@ use std::str;
 /// A sorted text: its parts, and what stays of the text after the last of them.
 #[derive(Drop)]
 pub(crate) struct SortedText<'t> {
+    /// The parts, one after another.
     parts: Vec<Part<'t>>,
+    /// What stays of the text after the last part.
     rest: &'t [u8],
 }
 

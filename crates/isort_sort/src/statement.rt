@@ -19,7 +19,9 @@ use std::cmp::Ordering;
 /// An item of `from MODULE import ..`: a name, and its alias.
 #[derive(Drop, PartialEq, Eq, Hash)]
 pub(crate) struct Item {
+    /// The name that is imported.
     pub(crate) name: String,
+    /// The name that it is bound to, if that is another one.
     pub(crate) alias: Option<String>,
 }
 

@@ -1,5 +1,5 @@
 //! The lines of a statement.
-ghost use Rattle.std.specs.Prelude.{◌≡◌, ◌-◌, ◌+◌, ◌≤◌, ◌++◌, OnOk, map, string_bytes, replicate};
+ghost use Rattle.std.specs.Prelude.{◌≡◌, ◌-◌, ◌+◌, ◌≤◌, ◌++◌, OnOk, map, string_bytes};
 ghost use Rattle.std.specs.List.{join_by};
 ghost use Rattle.std.specs.Option.{SomeIff, option_map};
 ghost use Rattle.py_imports.specs.Spelled.{alias_text};
@@ -9,6 +9,7 @@ ghost use Rattle.isort_sort.specs.Wrapping.{item_text, items_text, head, remark}
 ghost use Rattle.isort_sort.specs.Private.Packing.{packed};
 
 use crate::statement::Item;
+use crate::texts::push_times;
 use crate::width::width;
 use std::alloc::AllocError;
 
@@ -35,13 +36,11 @@ fn push_item(out: &mut String, item: &Item) -> Result<(), AllocError>
 pub(crate) fn push_items(out: &mut String, items: &[Item]) -> Result<(), AllocError>
     ensures { OnOk result (string_bytes out.new ≡ string_bytes out.old ++ items_text (map item_value items.now)) }
 {
-    let Some((first, others)) = items.split_first() else {
-        return Ok(());
-    };
-    push_item(out, first)?;
-    for item in others {
-        out.push_str(", ")?;
+    let mut before = "";
+    for item in items {
+        out.push_str(before)?;
         push_item(out, item)?;
+        before = ", ";
     }
     Ok(())
 }
@@ -50,14 +49,11 @@ pub(crate) fn push_items(out: &mut String, items: &[Item]) -> Result<(), AllocEr
 pub(crate) fn push_remark(out: &mut String, comments: &[String]) -> Result<(), AllocError>
     ensures { OnOk result (string_bytes out.new ≡ string_bytes out.old ++ remark (map string_bytes comments.now)) }
 {
-    let Some((first, others)) = comments.split_first() else {
-        return Ok(());
-    };
-    out.push_str("  # ")?;
-    out.push_str(first.as_str())?;
-    for comment in others {
-        out.push_str("; ")?;
+    let mut before = "  # ";
+    for comment in comments {
+        out.push_str(before)?;
         out.push_str(comment.as_str())?;
+        before = "; ";
     }
     Ok(())
 }
@@ -76,16 +72,6 @@ pub(crate) fn bracket_width(module: &str) -> usize
     ensures { result ≡ width.width (head module.now) + 1 }
 {
     "from ".len() + width(module.as_bytes()) + " import (".len()
-}
-
-/// Puts so many spaces after `out`.
-fn push_spaces(out: &mut String, count: usize) -> Result<(), AllocError>
-    ensures { OnOk result (string_bytes out.new ≡ string_bytes out.old ++ replicate count 32) }
-{
-    for _ in 0..count {
-        out.push_str(" ")?;
-    }
-    Ok(())
 }
 
 /// What is left of so many characters after an item, if it isn't longer.
@@ -135,7 +121,7 @@ impl Wrap<'_> {
         out.push_str(self.between)?;
         out.push_str(self.end)?;
         out.push_str(self.indentation)?;
-        push_spaces(out, self.spaces)
+        push_times(out, " ", self.spaces)
     }
 
     /// Puts items after `out`, as many on each line as fit.

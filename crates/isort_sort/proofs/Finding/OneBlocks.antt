@@ -79,9 +79,6 @@ same_others indentation (f ∷ fs) (g ∷ gs) xs ys e h k m n =
     let more = same_others indentation fs gs xs ys same.behind a.1 b.1 m n in
     ((λ i. record { between = same.front i; row = same.one i } ∷ more.0 i), more.1)
 
-abbrev has_block : List Row → Bool
-has_block rows = list_any is_member rows
-
 any_first : (before : List Row) (row : Row) (behind : List Row) → is_member row ≡ true → list_any is_member (before ++ row ∷ behind) ≡ true
 any_first [] row behind h = rw h
 any_first (r ∷ rs) row behind h = ap (λ b. is_member r || b) (any_first rs row behind h) ∙ or_true (is_member r)

@@ -41,10 +41,6 @@ seen_is_gathered s o (b ∷ bs) = seen_is_gathered s (seen_with s o b) bs ∙ by
     by true = gathered-more (unwrap_or o nothing) b (for s bs)
     by false = refl
 
-or_more : (a b : Bool) → a || b ≡ true → (a ≡ true → b ≡ true) → b ≡ true
-or_more true b h f = f refl
-or_more false b h f = h
-
 -- a statement is seen where an import belongs to it
 pub is_seen : (s : Statement) (o : Option Seen) (bs : List Brought) → is_some (seen_after s o bs) ≡ is_some o || list_any (λ (t : Statement). same_statement t s) (map (λ b. b.statement) bs)
 is_seen s None [] = refl

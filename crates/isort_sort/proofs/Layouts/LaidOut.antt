@@ -1,5 +1,5 @@
 -- The text of grouped members that are laid out is a layout of the members.
-use Rattle.std.proofs.Common.{◌≡◌, ℕ, zero, suc, Bool, true, false, cond, List, [], ◌∷◌, ◌++◌, map, flat_map, replicate, refl, sym, ap, ◌∙◌, subst, append-nil}
+use Rattle.std.proofs.Common.{◌≡◌, ℕ, Bool, true, false, cond, List, [], ◌∷◌, ◌++◌, map, flat_map, replicate, sym, ap, ◌∙◌, subst, append-nil}
 use Rattle.std.specs.List.{join_by}
 use Rattle.std.proofs.lemmas.List.Concat.{flat_map-append}
 use Rattle.std.specs.List.{AllByRecursion}
@@ -13,6 +13,7 @@ use Rattle.isort_sort.specs.Member.{Member, AreStatements, AreItemsOf, comments_
 use Rattle.isort_sort.specs.Statement.{Statement, module_of, section_of}
 use Rattle.isort_sort.specs.Wrapping.{IsCut, fits_line}
 use Rattle.isort_sort.specs.declared.group.Group as code
+use Rattle.isort_sort.proofs.Layouts.Writing.{blank_lines}
 
 -- each group's section is that of its statement
 pub sections_right : (v : Values) (members : List Member) (groups : List code.Group) → AllByRecursion (IsGrouped v members) (map group_value groups) → AllByRecursion (λ g. (group_value g).section ≡ section_of v (group_value g).statement) groups
@@ -44,15 +45,11 @@ are_laid v indentation members groups laid grouped out = record {
 }
 
 -- blank lines after the lines of a block
-blank_texts : (n : ℕ) (end : List ℕ) → flat_map (λ (l : List ℕ). l ++ end) (replicate n []) ≡ flat_map (λ (l : List ℕ). l) (replicate n end)
-blank_texts zero end = refl
-blank_texts (suc n) end = ap (λ (rest : List ℕ). end ++ rest) (blank_texts n end)
-
 with_blanks : (end : List ℕ) (ended : Bool) (blanks n : ℕ) (lines : List (List ℕ)) (text : List ℕ) → n ≡ cond ended blanks 0 → text ≡ text_of_lines end ended 0 lines ++ flat_map (λ (l : List ℕ). l) (replicate n end) → text ≡ text_of_lines end ended blanks lines
 with_blanks end true blanks n lines text e h =
     let f : List ℕ → List ℕ = λ l. l ++ end in
     h ∙ (λ i. flat_map f (append-nil lines i) ++ flat_map (λ (l : List ℕ). l) (replicate (e i) end))
-    ∙ ap (λ (rest : List ℕ). flat_map f lines ++ rest) (sym (blank_texts blanks end))
+    ∙ ap (λ (rest : List ℕ). flat_map f lines ++ rest) (blank_lines end blanks)
     ∙ sym (flat_map-append f lines (replicate blanks []))
 with_blanks end false blanks n lines text e h = h ∙ ap (λ k. join_by (λ (l : List ℕ). l) end lines ++ flat_map (λ (l : List ℕ). l) (replicate k end)) e ∙ append-nil (join_by (λ (l : List ℕ). l) end lines)
 

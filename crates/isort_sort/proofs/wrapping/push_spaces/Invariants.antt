@@ -1,5 +1,0 @@
-use Rattle.std.proofs.Common.{◌≡◌, ◌++◌, string_bytes, replicate}
-use Rattle.isort_sort.proofs.wrapping.push_spaces.Given as goal
-
-abbrev pub invariant-loop : goal.invariant-loop
-invariant-loop l = string_bytes l.out ≡ string_bytes l.initial.out ++ replicate l.counter 32
