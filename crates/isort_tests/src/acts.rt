@@ -2,8 +2,8 @@ ghost use Rattle.std.specs.Prelude.{◌≡◌, ◌≤◌, false, true, length, I
 ghost use Rattle.isort_find.specs.Pieces.{IsOpenYet};
 
 use crate::cases::page;
-use isort_find::{Cursor, FindError, FindOptions, Finder, PieceFinder, ResumeError};
-use py_imports::Binding;
+use isort_find::{Cursor, FindError, FindOptions, Finder, PieceFinder};
+use py_imports::{Binding, ImportError};
 use py_lines::Fault;
 use std::alloc::Global;
 use std::marker::Model;
@@ -16,13 +16,17 @@ pub(crate) fn tell(what: &str, out: &mut String) {
     let _ = out.push_str(what);
 }
 
-/// An import: its line, and its statement, which is asked for once more where memory ran out.
-pub(crate) fn tell_binding(alloc: Global, binding: &Binding, out: &mut String) {
-    let statement = match binding.statement(alloc) {
+/// The statement of an import; where memory ran out, it is asked for again.
+fn statement_of(alloc: Global, binding: &Binding) -> Result<String, ImportError> {
+    match binding.statement(alloc) {
         Err(_) => binding.statement(alloc),
         statement => statement,
-    };
-    if let Ok(statement) = statement {
+    }
+}
+
+/// An import: its line, and its statement.
+pub(crate) fn tell_binding(alloc: Global, binding: &Binding, out: &mut String) {
+    if let Ok(statement) = statement_of(alloc, binding) {
         let line = binding.line;
         let indented = if binding.indented { "indented " } else { "" };
         let _ = writeln!(out, "{line} {indented}{statement}");
@@ -72,33 +76,25 @@ impl Fed {
         })
     }
 
-    /// One that goes on from a cursor of a short text.
+    /// One that goes on from a cursor of a short text; where memory ran out, it is made again of the cursor that came back.
     fn resume(alloc: Global, cursor: Cursor) -> Option<Fed> {
-        if cursor.offset() > MOST {
-            return None;
-        }
-        match PieceFinder::resume(alloc, cursor) {
-            Ok(finder) => Some(Fed {
-                finder,
-                ended: false,
-                faulty: false,
-            }),
-            Err((cursor, _)) => Fed::resume_again(alloc, cursor),
+        match Fed::try_resume(alloc, cursor) {
+            Ok(finder) => Some(finder),
+            Err(cursor) => Fed::try_resume(alloc, cursor).ok(),
         }
     }
 
-    /// The same, where memory ran out: the cursor came back.
-    fn resume_again(alloc: Global, cursor: Cursor) -> Option<Fed> {
+    fn try_resume(alloc: Global, cursor: Cursor) -> Result<Fed, Cursor> {
         if cursor.offset() > MOST {
-            return None;
+            return Err(cursor);
         }
         match PieceFinder::resume(alloc, cursor) {
-            Ok(finder) => Some(Fed {
+            Ok(finder) => Ok(Fed {
                 finder,
                 ended: false,
                 faulty: false,
             }),
-            Err(_) => None,
+            Err((cursor, _)) => Err(cursor),
         }
     }
 
@@ -177,16 +173,8 @@ impl Fed {
         }
     }
 
-    fn has_ready(&self) -> bool {
-        self.finder.has_ready()
-    }
-
-    fn fed(&self) -> u64 {
-        self.finder.fed()
-    }
-
-    fn held(&self) -> &[u8] {
-        self.finder.held()
+    fn options(self) -> FindOptions {
+        self.stop().options()
     }
 
     fn stop(self) -> Cursor {
@@ -260,8 +248,17 @@ fn tell_end(alloc: Global, finder: &mut Fed, out: &mut String) {
 
 /// Whether an import is ready, up to which byte the text was fed, and how many bytes are held.
 fn tell_state(finder: &Fed, out: &mut String) {
-    let ready = if finder.has_ready() { "ready" } else { "none" };
-    let _ = writeln!(out, "{ready}, {}, {}", finder.fed(), finder.held().len());
+    let ready = if finder.finder.has_ready() {
+        "ready"
+    } else {
+        "none"
+    };
+    let _ = writeln!(
+        out,
+        "{ready}, {}, {}",
+        finder.finder.fed(),
+        finder.finder.held().len()
+    );
 }
 
 /// A piece fed once: how many bytes were taken, or the fault. Whether it has none.
@@ -301,7 +298,7 @@ fn tell_text(alloc: Global, finder: &mut Fed, first: &[u8], second: &[u8], out: 
 
 /// A text up to a byte, from where a finder stands: whether it meets no fault.
 fn tell_up_to(alloc: Global, finder: &mut Fed, text: &[u8], upto: usize, out: &mut String) -> bool {
-    match text.get(finder.fed() as usize..upto) {
+    match text.get(finder.finder.fed() as usize..upto) {
         Some(piece) => tell_piece(alloc, finder, piece, out),
         None => true,
     }
@@ -358,9 +355,9 @@ fn tell_finish(finder: &mut Fed, out: &mut String) {
 }
 
 fn tell_held(finder: &Fed, out: &mut String) {
-    match str::from_utf8(finder.held()) {
+    match str::from_utf8(finder.finder.held()) {
         Ok(held) => {
-            let _ = writeln!(out, "{}, {held}", finder.fed());
+            let _ = writeln!(out, "{}, {held}", finder.finder.fed());
         }
         Err(_) => tell("other bytes are held\n", out),
     }
@@ -368,7 +365,7 @@ fn tell_held(finder: &Fed, out: &mut String) {
 
 fn tell_whether(finder: &Fed, out: &mut String) {
     tell(
-        if finder.has_ready() {
+        if finder.finder.has_ready() {
             "ready\n"
         } else {
             "none\n"
@@ -410,34 +407,26 @@ fn tell_imports(alloc: Global, finder: &mut Finder<'_>, most: usize, none: &str,
 }
 
 /// A finder of a whole text; where memory ran out, it is begun again.
-pub(crate) fn begun(
-    alloc: Global,
-    text: &[u8],
-    options: FindOptions,
-) -> Result<Finder<'_>, FindError> {
+pub(crate) fn begun(alloc: Global, text: &[u8], options: FindOptions) -> Option<Finder<'_>> {
     match Finder::new(alloc, text, options) {
-        Err(_) => Finder::new(alloc, text, options),
-        finder => finder,
+        Ok(finder) => Some(finder),
+        Err(_) => Finder::new(alloc, text, options).ok(),
     }
 }
 
 /// A finder that goes on from a cursor; where memory ran out, it is made again of the cursor that came back.
-pub(crate) fn resumed(
-    alloc: Global,
-    text: &[u8],
-    cursor: Cursor,
-) -> Result<Finder<'_>, (Cursor, ResumeError)> {
+pub(crate) fn resumed(alloc: Global, text: &[u8], cursor: Cursor) -> Option<Finder<'_>> {
     match Finder::resume(alloc, text, cursor) {
-        Err((cursor, ResumeError::Memory)) => Finder::resume(alloc, text, cursor),
-        finder => finder,
+        Ok(finder) => Some(finder),
+        Err((cursor, _)) => Finder::resume(alloc, text, cursor).ok(),
     }
 }
 
 /// A finder of pieces; where memory ran out, it is begun again.
-fn begun_in_pieces(alloc: Global, options: FindOptions) -> Result<Fed, FindError> {
+fn begun_in_pieces(alloc: Global, options: FindOptions) -> Option<Fed> {
     match Fed::new(alloc, options) {
-        Err(_) => Fed::new(alloc, options),
-        finder => finder,
+        Ok(finder) => Some(finder),
+        Err(_) => Fed::new(alloc, options).ok(),
     }
 }
 
@@ -460,35 +449,20 @@ fn go_on(alloc: Global, finder: Fed, out: &mut String) -> Option<Fed> {
 fn go_whole(alloc: Global, finder: Fed, text: &[u8], out: &mut String) -> Option<Fed> {
     let cursor = finder.stop();
     tell_place(&cursor, out);
-    match resumed(alloc, text, cursor) {
-        Ok(whole) => go_after(alloc, whole, 100, out),
-        Err(_) => None,
-    }
+    go_after(alloc, resumed(alloc, text, cursor)?, 100, out)
 }
 
-/// A finder that goes on from where one of this whole text stops, which gives so many imports.
-fn go_first(
-    alloc: Global,
-    text: &[u8],
-    options: FindOptions,
-    most: usize,
-    out: &mut String,
-) -> Option<Fed> {
-    match begun(alloc, text, options) {
-        Ok(whole) => go_after(alloc, whole, most, out),
-        Err(_) => None,
-    }
+/// A finder that goes on from where one of this whole text stops, which has the options of this one, and gives so many
+/// imports.
+fn go_first(alloc: Global, finder: Fed, text: &[u8], most: usize, out: &mut String) -> Option<Fed> {
+    go_after(alloc, begun(alloc, text, finder.options())?, most, out)
 }
 
-/// A finder that goes on from where one of this whole text stops, which tells all of it.
-fn go_found(alloc: Global, text: &[u8], options: FindOptions, out: &mut String) -> Option<Fed> {
-    match begun(alloc, text, options) {
-        Ok(mut whole) => {
-            tell_imports(alloc, &mut whole, 100, "end\n", out);
-            Fed::resume(alloc, whole.stop())
-        }
-        Err(_) => None,
-    }
+/// A finder that goes on from where one of this whole text stops, which has the options of this one, and tells all of it.
+fn go_found(alloc: Global, finder: Fed, text: &[u8], out: &mut String) -> Option<Fed> {
+    let mut whole = begun(alloc, text, finder.options())?;
+    tell_imports(alloc, &mut whole, 100, "end\n", out);
+    Fed::resume(alloc, whole.stop())
 }
 
 /// Does what makes no other finder.
@@ -513,19 +487,13 @@ fn tell_act(alloc: Global, finder: &mut Fed, act: Act<'_>, out: &mut String) {
 }
 
 /// Does this with a finder.
-fn go(
-    alloc: Global,
-    mut finder: Fed,
-    options: FindOptions,
-    act: Act<'_>,
-    out: &mut String,
-) -> Option<Fed> {
+fn go(alloc: Global, mut finder: Fed, act: Act<'_>, out: &mut String) -> Option<Fed> {
     match act {
         Act::Bytes(text) => go_by_bytes(alloc, finder, text, out),
         Act::Stop => go_on(alloc, finder, out),
         Act::Whole(text) => go_whole(alloc, finder, text, out),
-        Act::First(text, most) => go_first(alloc, text, options, most, out),
-        Act::Found(text) => go_found(alloc, text, options, out),
+        Act::First(text, most) => go_first(alloc, finder, text, most, out),
+        Act::Found(text) => go_found(alloc, finder, text, out),
         _ => {
             tell_act(alloc, &mut finder, act, out);
             Some(finder)
@@ -534,27 +502,27 @@ fn go(
 }
 
 /// Does all this with one finder, in order, or up to where none can go on.
-fn go_through(
+fn go_through(alloc: Global, mut finder: Fed, acts: &[Act<'_>], out: &mut String) -> Option<Fed> {
+    for act in acts {
+        finder = go(alloc, finder, *act, out)?;
+    }
+    Some(finder)
+}
+
+/// A finder with which all this was done, in order.
+fn gone_through(
     alloc: Global,
-    mut finder: Fed,
     options: FindOptions,
     acts: &[Act<'_>],
     out: &mut String,
 ) -> Option<Fed> {
-    for act in acts {
-        finder = go(alloc, finder, options, *act, out)?;
-    }
-    Some(finder)
+    go_through(alloc, begun_in_pieces(alloc, options)?, acts, out)
 }
 
 /// What a finder tells with which all this is done, in order.
 pub(crate) fn tell_acts(alloc: Global, options: FindOptions, acts: &[Act<'_>]) -> String {
     let mut out = page(alloc);
-    let is_done = match begun_in_pieces(alloc, options) {
-        Ok(finder) => go_through(alloc, finder, options, acts, &mut out).is_some(),
-        Err(_) => false,
-    };
-    if !is_done {
+    if gone_through(alloc, options, acts, &mut out).is_none() {
         tell("no finder\n", &mut out);
     }
     out

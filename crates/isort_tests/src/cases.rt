@@ -1,4 +1,5 @@
 //! Tables of cases. What such a test costs lies in the one function that tries a row, and not in the test.
+use isort_settings::Settings;
 use std::alloc::Global;
 use std::test::Fail;
 
@@ -23,6 +24,29 @@ pub(crate) fn each_holds<C: Case>(alloc: Global, cases: &[C]) -> Result<(), Fail
 pub(crate) fn each_holds_again<C: Case>(alloc: Global, cases: &[C]) -> Result<(), Fail> {
     for (i, case) in cases.iter().enumerate() {
         if !case.holds(alloc) && !case.holds(alloc) {
+            return Err(Fail::new(format_args!("row {i} does not hold")));
+        }
+    }
+    Ok(())
+}
+
+/// A row of a test's table that is tried under the settings without a profile.
+pub(crate) trait PlainCase {
+    /// Whether what the row says is so. Where a call fails that has to go well, it isn't.
+    fn holds_under(&self, alloc: Global, settings: &Settings) -> bool;
+}
+
+fn holds_plainly<C: PlainCase>(alloc: Global, case: &C) -> bool {
+    match Settings::plain(alloc) {
+        Ok(settings) => case.holds_under(alloc, &settings),
+        Err(_) => false,
+    }
+}
+
+/// Every row holds under the settings without a profile. One that doesn't is tried once more, as above.
+pub(crate) fn each_holds_plainly<C: PlainCase>(alloc: Global, cases: &[C]) -> Result<(), Fail> {
+    for (i, case) in cases.iter().enumerate() {
+        if !holds_plainly(alloc, case) && !holds_plainly(alloc, case) {
             return Err(Fail::new(format_args!("row {i} does not hold")));
         }
     }

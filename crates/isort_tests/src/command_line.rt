@@ -1,124 +1,82 @@
-use crate::cases::{Case, all_are_so, are_texts, each_holds_again};
-use isort_cmd::{Action, Job, UsageError, command};
-use isort_find::{FindOptions, ImportKey};
+use crate::cases::{Case, all_are_so, each_holds_again};
+use isort_cmd::{UsageError, command};
 use std::alloc::Global;
 use std::test::Fail;
 
-/// What `command` makes of these words.
-fn read(alloc: Global, words: &[&str]) -> Result<Job, UsageError> {
+/// These words, as `command` takes them.
+fn owned(alloc: Global, words: &[&str]) -> Option<Vec<String>> {
     let mut all = Vec::new(alloc);
     for word in words {
-        all.push(String::from_str(alloc, word)?)?;
+        all.push(String::from_str(alloc, word).ok()?).ok()?;
     }
-    command(alloc, all)
+    Some(all)
 }
 
-/// How words are refused.
-#[derive(Clone, Copy, PartialEq, Eq)]
-enum Refusal {
-    Together,
-    Refused,
-    Help,
-}
+/// Words, and how what `command` makes of them begins, as it is shown for debugging. A job is shown whole.
+struct Reads(&'static [&'static str], &'static str);
 
-const HELP: &str = "Sort the import statements of Python files, or list them.\n";
-
-/// Words, how they are refused, and how the text of that begins, where there is one.
-struct Refused(&'static [&'static str], Refusal, &'static str);
-
-/// How this refuses, and the text of that, where there is one.
-fn refusal_of(error: &UsageError) -> Option<(Refusal, &str)> {
-    match error {
-        UsageError::Together => Some((Refusal::Together, "")),
-        UsageError::Refused(text) => Some((Refusal::Refused, text.as_str())),
-        UsageError::Help(text) => Some((Refusal::Help, text.as_str())),
-        _ => None,
+impl Reads {
+    fn shown(&self, alloc: Global) -> Option<String> {
+        let answer = command(alloc, owned(alloc, self.0)?);
+        format!(in alloc; "{answer:?}").ok()
     }
 }
 
-impl Refused {
-    fn is_so(&self, error: &UsageError) -> bool {
-        match refusal_of(error) {
-            Some((refusal, text)) => refusal == self.1 && text.starts_with(self.2),
+impl Case for Reads {
+    fn holds(&self, alloc: Global) -> bool {
+        match self.shown(alloc) {
+            Some(text) => text.as_str().starts_with(self.1),
             None => false,
         }
     }
 }
 
-impl Case for Refused {
-    fn holds(&self, alloc: Global) -> bool {
-        match read(alloc, self.0) {
-            Ok(_) => false,
-            Err(error) => self.is_so(&error),
-        }
-    }
-}
+const HELP: &str = "Err(Help(\"Sort the import statements of Python files, or list them.\\n";
 
-const REFUSALS: &[Refused] = &[
-    Refused(
+const REFUSALS: &[Reads] = &[
+    Reads(
         &["isort", "--identify", "--modules", "--packages", "-"],
-        Refusal::Together,
-        "",
+        "Err(Together)",
     ),
-    Refused(&["isort", "--packages", "a.py"], Refusal::Together, ""),
-    Refused(&["isort", "--top-only", "a.py"], Refusal::Together, ""),
-    Refused(
-        &["isort", "--identify", "--check", "a.py"],
-        Refusal::Together,
-        "",
-    ),
-    Refused(
-        &["isort", "--identify", "-d", "a.py"],
-        Refusal::Together,
-        "",
-    ),
-    Refused(
+    Reads(&["isort", "--packages", "a.py"], "Err(Together)"),
+    Reads(&["isort", "--top-only", "a.py"], "Err(Together)"),
+    Reads(&["isort", "--identify", "--check", "a.py"], "Err(Together)"),
+    Reads(&["isort", "--identify", "-d", "a.py"], "Err(Together)"),
+    Reads(
         &["isort", "--identify", "--profile", "black", "a.py"],
-        Refusal::Together,
-        "",
+        "Err(Together)",
     ),
-    Refused(
-        &["isort", "--identify", "-m", "3", "a.py"],
-        Refusal::Together,
-        "",
-    ),
-    Refused(
+    Reads(&["isort", "--identify", "-m", "3", "a.py"], "Err(Together)"),
+    Reads(
         &["isort"],
-        Refusal::Refused,
-        "error: the following required arguments were not provided:\n",
+        "Err(Refused(\"error: the following required arguments were not provided:\\n",
     ),
-    Refused(
+    Reads(
         &["isort", "-c", "-c", "a.py"],
-        Refusal::Refused,
-        "error: the argument '--check-only' cannot be used multiple times\n",
+        "Err(Refused(\"error: the argument '--check-only' cannot be used multiple times\\n",
     ),
-    Refused(
+    Reads(
         &["isort", "-x", "a.py"],
-        Refusal::Refused,
-        "error: unexpected argument '-x' found\n",
+        "Err(Refused(\"error: unexpected argument '-x' found\\n",
     ),
-    Refused(
+    Reads(
         &["isort", "a.py", "-l"],
-        Refusal::Refused,
-        "error: a value is required for '--line-length <N>' but none was supplied\n",
+        "Err(Refused(\"error: a value is required for '--line-length <N>' but none was supplied\\n",
     ),
-    Refused(
+    Reads(
         &["isort", "-l", "x", "a.py"],
-        Refusal::Refused,
-        "error: invalid value 'x' for '--line-length <N>'",
+        "Err(Refused(\"error: invalid value 'x' for '--line-length <N>'",
     ),
-    Refused(
+    Reads(
         &["isort", "-l=-1", "a.py"],
-        Refusal::Refused,
-        "error: invalid value '-1' for '--line-length <N>'",
+        "Err(Refused(\"error: invalid value '-1' for '--line-length <N>'",
     ),
-    Refused(
+    Reads(
         &["isort", "-m", "4294967296", "a.py"],
-        Refusal::Refused,
-        "error: invalid value '4294967296' for '--multi-line <N>'",
+        "Err(Refused(\"error: invalid value '4294967296' for '--multi-line <N>'",
     ),
-    Refused(&["isort", "--help"], Refusal::Help, HELP),
-    Refused(&["isort", "-h"], Refusal::Help, HELP),
+    Reads(&["isort", "--help"], HELP),
+    Reads(&["isort", "-h"], HELP),
 ];
 
 #[test]
@@ -126,147 +84,60 @@ fn refuses_words(rt: HostRuntime) -> Result<(), Fail> {
     each_holds_again(rt.alloc(), REFUSALS)
 }
 
-/// What a job is to do.
-#[derive(Clone, Copy)]
-enum Asked {
-    /// It lists the first import of each such key, or all, and only those at the top of a file, or all.
-    List(Option<ImportKey>, bool),
-    /// It sorts, with `-c` and `-d` so, and with these `-l` and `-m`.
-    Sort((bool, bool), (Option<u32>, Option<u32>)),
-    /// It sorts, with this file of settings and this profile.
-    Texts(&'static str, &'static str),
-}
-
-impl Asked {
-    fn is_asked(self, action: &Action) -> bool {
-        match self {
-            Asked::List(unique, top_only) => lists(action, FindOptions { unique, top_only }),
-            Asked::Sort(outputs, numbers) => are_asked(action, outputs, numbers),
-            Asked::Texts(file, name) => has_texts(action, file, name),
-        }
-    }
-}
-
-fn lists(action: &Action, wanted: FindOptions) -> bool {
-    matches!(action, Action::Identify(options) if *options == wanted)
-}
-
-fn are_asked(action: &Action, outputs: (bool, bool), numbers: (Option<u32>, Option<u32>)) -> bool {
-    match action {
-        Action::Sort {
-            check,
-            to_stdout,
-            line_length,
-            multi_line,
-            ..
-        } => (*check, *to_stdout) == outputs && (*line_length, *multi_line) == numbers,
-        Action::Identify(_) => false,
-    }
-}
-
-fn has_texts(action: &Action, file: &str, name: &str) -> bool {
-    match action {
-        Action::Sort {
-            settings_file: Some(settings_file),
-            profile: Some(profile),
-            ..
-        } => settings_file.as_str() == file && profile.as_str() == name,
-        _ => false,
-    }
-}
-
-/// Words, the files that they name, and what is to be done with them.
-struct Reads(&'static [&'static str], &'static [&'static str], Asked);
-
-impl Case for Reads {
-    fn holds(&self, alloc: Global) -> bool {
-        match read(alloc, self.0) {
-            Ok(job) => are_texts(job.files.as_slice(), self.1) && self.2.is_asked(&job.action),
-            Err(_) => false,
-        }
-    }
-}
-
-const LISTINGS: &[Reads] = &[
+const JOBS: &[Reads] = &[
     Reads(
         &["isort", "--identify", "-"],
-        &["-"],
-        Asked::List(None, false),
+        "Ok(Job { files: [\"-\"], action: Identify(FindOptions { unique: None, top_only: false }) })",
     ),
     Reads(
         &["isort", "--identify", "--top-only", "a.py", "b.py"],
-        &["a.py", "b.py"],
-        Asked::List(None, true),
+        "Ok(Job { files: [\"a.py\", \"b.py\"], action: Identify(FindOptions { unique: None, top_only: true }) })",
     ),
     Reads(
         &["isort", "a.py", "--unique", "--identify", "--", "-c"],
-        &["a.py", "-c"],
-        Asked::List(Some(ImportKey::Alias), false),
+        "Ok(Job { files: [\"a.py\", \"-c\"], action: Identify(FindOptions { unique: Some(Alias), top_only: false }) })",
     ),
     Reads(
         &["isort", "--identify", "--packages", "a.py"],
-        &["a.py"],
-        Asked::List(Some(ImportKey::Package), false),
+        "Ok(Job { files: [\"a.py\"], action: Identify(FindOptions { unique: Some(Package), top_only: false }) })",
     ),
     Reads(
         &["isort", "--identify", "--modules", "a.py"],
-        &["a.py"],
-        Asked::List(Some(ImportKey::Module), false),
+        "Ok(Job { files: [\"a.py\"], action: Identify(FindOptions { unique: Some(Module), top_only: false }) })",
     ),
     Reads(
         &["isort", "--identify", "--attributes", "a.py"],
-        &["a.py"],
-        Asked::List(Some(ImportKey::Attribute), false),
+        "Ok(Job { files: [\"a.py\"], action: Identify(FindOptions { unique: Some(Attribute), top_only: false }) })",
     ),
-];
-
-#[test]
-fn reads_listings(rt: HostRuntime) -> Result<(), Fail> {
-    each_holds_again(rt.alloc(), LISTINGS)
-}
-
-const SORTINGS: &[Reads] = &[
     Reads(
         &["isort", "a.py", "b.py"],
-        &["a.py", "b.py"],
-        Asked::Sort((false, false), (None, None)),
+        "Ok(Job { files: [\"a.py\", \"b.py\"], action: Sort { check: false, to_stdout: false, settings_file: None, profile: None, line_length: None, multi_line: None } })",
     ),
     Reads(
         &["isort", "-l", "0", "a.py"],
-        &["a.py"],
-        Asked::Sort((false, false), (Some(0), None)),
+        "Ok(Job { files: [\"a.py\"], action: Sort { check: false, to_stdout: false, settings_file: None, profile: None, line_length: Some(0), multi_line: None } })",
     ),
     Reads(
         &["isort", "-c", "-l", "100", "a.py"],
-        &["a.py"],
-        Asked::Sort((true, false), (Some(100), None)),
+        "Ok(Job { files: [\"a.py\"], action: Sort { check: true, to_stdout: false, settings_file: None, profile: None, line_length: Some(100), multi_line: None } })",
     ),
     Reads(
         &["isort", "--check", "-m=3", "-"],
-        &["-"],
-        Asked::Sort((true, false), (None, Some(3))),
+        "Ok(Job { files: [\"-\"], action: Sort { check: true, to_stdout: false, settings_file: None, profile: None, line_length: None, multi_line: Some(3) } })",
     ),
     Reads(
         &["isort", "a.py", "-cdl5", "b.py"],
-        &["a.py", "b.py"],
-        Asked::Sort((true, true), (Some(5), None)),
+        "Ok(Job { files: [\"a.py\", \"b.py\"], action: Sort { check: true, to_stdout: true, settings_file: None, profile: None, line_length: Some(5), multi_line: None } })",
+    ),
+    Reads(
+        &["isort", "--settings-file", "s.toml", "--profile=", "a.py"],
+        "Ok(Job { files: [\"a.py\"], action: Sort { check: false, to_stdout: false, settings_file: Some(\"s.toml\"), profile: Some(\"\"), line_length: None, multi_line: None } })",
     ),
 ];
 
 #[test]
-fn reads_jobs_of_sorting(rt: HostRuntime) -> Result<(), Fail> {
-    each_holds_again(rt.alloc(), SORTINGS)
-}
-
-const TEXTS: &[Reads] = &[Reads(
-    &["isort", "--settings-file", "s.toml", "--profile=", "a.py"],
-    &["a.py"],
-    Asked::Texts("s.toml", ""),
-)];
-
-#[test]
-fn reads_texts(rt: HostRuntime) -> Result<(), Fail> {
-    each_holds_again(rt.alloc(), TEXTS)
+fn reads_jobs(rt: HostRuntime) -> Result<(), Fail> {
+    each_holds_again(rt.alloc(), JOBS)
 }
 
 /// Whether options that do not go together are told so.

@@ -2,7 +2,7 @@
 ghost use Rattle.std.specs.Prelude.{◌≡◌};
 ghost use Rattle.isort_sort.specs.Metered.{last_of};
 
-use crate::cases::{Case, each_holds_again};
+use crate::cases::{PlainCase, each_holds_plainly};
 use crate::runs::{ALL, FIRST, FIRST_LINES};
 use crate::sorting_runs::{SORTED, UNSORTED};
 use isort_cmd::{Last, Metered, RunError, identify, sort_run};
@@ -310,17 +310,12 @@ impl Ran {
     }
 }
 
-impl Case for Ran {
-    fn holds(&self, alloc: Global) -> bool {
-        match Settings::plain(alloc) {
-            Ok(settings) => {
-                self.meets_failures(alloc, &settings, 1)
-                    && self.meets_failures(alloc, &settings, 7)
-                    && self.meets_failures(alloc, &settings, 1000)
-                    && self.waits(alloc, &settings)
-            }
-            Err(_) => false,
-        }
+impl PlainCase for Ran {
+    fn holds_under(&self, alloc: Global, settings: &Settings) -> bool {
+        self.meets_failures(alloc, settings, 1)
+            && self.meets_failures(alloc, settings, 7)
+            && self.meets_failures(alloc, settings, 1000)
+            && self.waits(alloc, settings)
     }
 }
 
@@ -341,14 +336,14 @@ const ROWS: &[Ran] = &[
 
 #[test]
 fn answers_each_failure_and_waits_for_interrupted_calls(rt: HostRuntime) -> Result<(), Fail> {
-    each_holds_again(rt.alloc(), ROWS)
+    each_holds_plainly(rt.alloc(), ROWS)
 }
 
 /// What is run over a reader without end, which is too long.
 struct Endless(Task);
 
-impl Endless {
-    fn is_too_long(&self, alloc: Global, settings: &Settings) -> bool {
+impl PlainCase for Endless {
+    fn holds_under(&self, alloc: Global, settings: &Settings) -> bool {
         let mut reader = Metered::new(io::repeat(b'#'));
         let mut writer = Device::new(alloc, b"", 1000, Trouble::None);
         let answer = run(alloc, settings, self.0, &mut reader, &mut writer);
@@ -356,18 +351,9 @@ impl Endless {
     }
 }
 
-impl Case for Endless {
-    fn holds(&self, alloc: Global) -> bool {
-        match Settings::plain(alloc) {
-            Ok(settings) => self.is_too_long(alloc, &settings),
-            Err(_) => false,
-        }
-    }
-}
-
 const TASKS: &[Endless] = &[Endless(Task::Identify), Endless(Task::Sort)];
 
 #[test]
 fn leaves_a_reader_without_end(rt: HostRuntime) -> Result<(), Fail> {
-    each_holds_again(rt.alloc(), TASKS)
+    each_holds_plainly(rt.alloc(), TASKS)
 }

@@ -1,9 +1,8 @@
-use crate::acts::{begun, resumed, tell, tell_error, tell_import, tell_place};
+use crate::acts::{begun, resumed, tell_import, tell_place};
 use crate::cases::{Case, all_are_so, each_holds, each_holds_again, page};
 use isort_find::laws::equal_keys;
-use isort_find::{Cursor, FindError, FindOptions, Finder, ImportKey, KeyText, ResumeError, key_of};
-use py_imports::{Binding, ImportError};
-use py_lines::{Fault, FaultKind};
+use isort_find::{Cursor, FindOptions, Finder, ImportKey, KeyText, ResumeError, key_of};
+use py_imports::Binding;
 use std::alloc::Global;
 use std::test::Fail;
 
@@ -30,37 +29,22 @@ struct Story(
 );
 
 impl Story {
-    fn begin(&self, alloc: Global) -> Result<Finder<'static>, FindError> {
+    /// Tells all that, or gives up where there is no finder.
+    fn tell(&self, alloc: Global, out: &mut String) -> Option<()> {
+        let text = self.0.as_bytes();
         let (unique, top_only) = self.1;
-        let options = FindOptions { unique, top_only };
-        begun(alloc, self.0.as_bytes(), options)
-    }
-
-    fn go_on(&self, alloc: Global, cursor: Cursor, out: &mut String) {
-        match resumed(alloc, self.0.as_bytes(), cursor) {
-            Ok(finder) => {
-                tell_some(alloc, finder, self.2.1, out);
-            }
-            Err(_) => tell("no finder\n", out),
-        }
-    }
-
-    fn tell(&self, alloc: Global, out: &mut String) {
-        match self.begin(alloc) {
-            Ok(finder) => {
-                let cursor = tell_some(alloc, finder, self.2.0, out);
-                self.go_on(alloc, cursor, out);
-            }
-            Err(error) => tell_error(error, out),
-        }
+        let finder = begun(alloc, text, FindOptions { unique, top_only })?;
+        let cursor = tell_some(alloc, finder, self.2.0, out);
+        let finder = resumed(alloc, text, cursor)?;
+        tell_some(alloc, finder, self.2.1, out);
+        Some(())
     }
 }
 
 impl Case for Story {
     fn holds(&self, alloc: Global) -> bool {
         let mut out = page(alloc);
-        self.tell(alloc, &mut out);
-        out.as_str() == self.3
+        self.tell(alloc, &mut out).is_some() && out.as_str() == self.3
     }
 }
 
@@ -191,30 +175,21 @@ fn tells_stories(rt: HostRuntime) -> Result<(), Fail> {
 struct Short(&'static str, usize, &'static str, &'static str);
 
 impl Short {
-    /// The cursor that comes back.
-    fn tell_refused(&self, alloc: Global, cursor: Cursor, out: &mut String) {
-        match Finder::resume(alloc, self.2.as_bytes(), cursor) {
-            Err((cursor, ResumeError::TextTooShort)) => tell_place(&cursor, out),
-            _ => tell("not refused\n", out),
-        }
-    }
-
-    fn tell(&self, alloc: Global, out: &mut String) {
-        match Finder::new(alloc, self.0.as_bytes(), ALL) {
-            Ok(finder) => {
-                let cursor = tell_some(alloc, finder, self.1, out);
-                self.tell_refused(alloc, cursor, out);
-            }
-            Err(error) => tell_error(error, out),
-        }
+    /// Tells the cursor that comes back, and gives why.
+    fn refusal(&self, alloc: Global, out: &mut String) -> Option<ResumeError> {
+        let finder = Finder::new(alloc, self.0.as_bytes(), ALL).ok()?;
+        let cursor = tell_some(alloc, finder, self.1, out);
+        let (cursor, error) = Finder::resume(alloc, self.2.as_bytes(), cursor).err()?;
+        tell_place(&cursor, out);
+        Some(error)
     }
 }
 
 impl Case for Short {
     fn holds(&self, alloc: Global) -> bool {
         let mut out = String::new(alloc);
-        self.tell(alloc, &mut out);
-        out.as_str() == self.3
+        let refusal = self.refusal(alloc, &mut out);
+        refusal == Some(ResumeError::TextTooShort) && out.as_str() == self.3
     }
 }
 
@@ -235,149 +210,62 @@ fn refuses_short_texts(rt: HostRuntime) -> Result<(), Fail> {
     each_holds_again(rt.alloc(), SHORT)
 }
 
-/// What makes a call again where memory is refused.
-#[derive(Clone, Copy)]
-struct Patience {
-    alloc: Global,
+const ATTRIBUTES: FindOptions = FindOptions {
+    unique: Some(ImportKey::Attribute),
+    top_only: false,
+};
+
+/// Where a finder stops that goes on from the cursor and tells its next answer.
+fn pass(alloc: Global, text: &[u8], cursor: Cursor, out: &mut String) -> Option<Cursor> {
+    let mut finder = resumed(alloc, text, cursor)?;
+    tell_import(alloc, &mut finder, "end\n", out);
+    Some(finder.stop())
 }
 
-impl Patience {
-    fn finder<'t>(self, text: &'t str) -> Result<Finder<'t>, FindError> {
-        let asked = FindOptions {
-            unique: Some(ImportKey::Attribute),
-            top_only: false,
-        };
-        begun(self.alloc, text.as_bytes(), asked)
-    }
-
-    fn next(self, finder: &mut Finder<'_>) -> Result<Option<Binding>, FindError> {
-        match finder.next_import() {
-            Err(FindError::Memory) => finder.next_import(),
-            answer => answer,
-        }
-    }
-
-    fn resumed<'t>(self, text: &'t str, cursor: Cursor) -> Option<Finder<'t>> {
-        resumed(self.alloc, text.as_bytes(), cursor).ok()
-    }
-
-    fn statement(self, binding: &Binding) -> Result<String, ImportError> {
-        match binding.statement(self.alloc) {
-            Err(_) => binding.statement(self.alloc),
-            statement => statement,
-        }
-    }
-
-    /// Whether the binding is that of the statement on the line.
-    fn tells(self, binding: &Binding, line: u64, statement: &str) -> bool {
-        match self.statement(binding) {
-            Ok(spelled) => binding.line == line && spelled.as_str() == statement,
-            Err(_) => false,
-        }
-    }
-
-    /// Whether the finder's next import is this.
-    fn hears(self, finder: &mut Finder<'_>, line: u64, statement: &str) -> bool {
-        match self.next(finder) {
-            Ok(Some(binding)) => self.tells(&binding, line, statement),
-            _ => false,
-        }
-    }
-
-    /// Where a finder stops again that goes on from the cursor, if its next import is this.
-    fn passes(self, text: &str, cursor: Cursor, line: u64, statement: &str) -> Option<Cursor> {
-        let mut finder = self.resumed(text, cursor)?;
-        if self.hears(&mut finder, line, statement) {
-            Some(finder.stop())
-        } else {
-            None
-        }
-    }
-
-    /// Whether the finder tells of this fault, or else of the end, after the last import.
-    fn ends(self, finder: &mut Finder<'_>, end: Option<Fault>) -> bool {
-        match self.next(finder) {
-            Ok(None) => end.is_none(),
-            Err(FindError::Fault(fault)) => end == Some(fault),
-            _ => false,
-        }
-    }
-
-    /// Whether a finder tells so that goes on from the cursor.
-    fn ends_after(self, text: &str, cursor: Cursor, end: Option<Fault>) -> bool {
-        match self.resumed(text, cursor) {
-            Some(mut finder) => self.ends(&mut finder, end),
-            None => false,
-        }
-    }
-}
-
-/// A text, its imports, which are asked for one by one, and the fault that comes after them, or else the end.
-struct Asked(&'static str, &'static [(u64, &'static str)], Option<Fault>);
+/// A text, how many answers of it are asked for, each of a finder that goes on from where the one before it stopped, and
+/// what is told.
+struct Asked(&'static str, usize, &'static str);
 
 impl Asked {
-    /// Where a finder stops after these imports.
-    fn passed(&self, patience: Patience, mut cursor: Cursor) -> Option<Cursor> {
-        for (line, statement) in self.1 {
-            cursor = patience.passes(self.0, cursor, *line, statement)?;
+    /// Tells all that, or gives up where there is no finder.
+    fn tell(&self, alloc: Global, out: &mut String) -> Option<()> {
+        let text = self.0.as_bytes();
+        let mut cursor = begun(alloc, text, ATTRIBUTES)?.stop();
+        for _ in 0..self.1 {
+            cursor = pass(alloc, text, cursor, out)?;
         }
-        Some(cursor)
+        Some(())
     }
+}
 
-    fn is_answered_from(&self, patience: Patience, cursor: Cursor) -> bool {
-        match self.passed(patience, cursor) {
-            Some(cursor) => patience.ends_after(self.0, cursor, self.2),
-            None => false,
-        }
-    }
-
-    fn is_answered(&self, patience: Patience) -> bool {
-        match patience.finder(self.0) {
-            Ok(finder) => self.is_answered_from(patience, finder.stop()),
-            Err(_) => false,
-        }
+impl Case for Asked {
+    fn holds(&self, alloc: Global) -> bool {
+        let mut out = page(alloc);
+        self.tell(alloc, &mut out).is_some() && out.as_str() == self.2
     }
 }
 
 const ASKED: &[Asked] = &[
     Asked(
         "import a, b, c",
-        &[(1, "import a"), (1, "import b"), (1, "import c")],
-        None,
+        4,
+        "1 import a\n1 import b\n1 import c\nend\n",
     ),
     Asked(
         ALIKE,
-        &[
-            (1, "import a.b"),
-            (2, "from a import c"),
-            (3, "from .a import d"),
-        ],
-        None,
+        4,
+        "1 import a.b\n2 from a import c\n3 from .a import d\nend\n",
     ),
     Asked(
         "import a\nimport b\nx = (1,",
-        &[(1, "import a"), (2, "import b")],
-        Some(Fault {
-            kind: FaultKind::OpenBracket,
-            offset: 22,
-            line: 3,
-        }),
+        3,
+        "1 import a\n2 import b\nF6 bracket not closed, 22, 3\n",
     ),
 ];
 
-fn are_answered(patience: Patience) -> bool {
-    for asked in ASKED {
-        if !asked.is_answered(patience) {
-            return false;
-        }
-    }
-    true
-}
-
 #[test]
 fn answers_when_it_is_asked_one_by_one(rt: HostRuntime) -> Result<(), Fail> {
-    let patience = Patience { alloc: rt.alloc() };
-    all_are_so(&[are_answered(patience)])
+    each_holds(rt.alloc(), ASKED)
 }
 
 /// Whether a cursor that stopped at once has its finder's options.
@@ -400,46 +288,30 @@ fn keeps_its_options(rt: HostRuntime) -> Result<(), Fail> {
 
 /// The first import of a text.
 fn first_of(alloc: Global, text: &str) -> Option<Binding> {
-    match Finder::new(alloc, text.as_bytes(), ALL) {
-        Ok(mut finder) => next_of(&mut finder),
-        Err(_) => None,
-    }
-}
-
-/// The finder's next import.
-fn next_of(finder: &mut Finder<'_>) -> Option<Binding> {
-    match finder.next_import() {
-        Ok(answer) => answer,
-        Err(_) => None,
-    }
+    let mut finder = Finder::new(alloc, text.as_bytes(), ALL).ok()?;
+    finder.next_import().ok().flatten()
 }
 
 /// The key of the first import of a text.
 fn first_key(alloc: Global, text: &str, key: ImportKey) -> Option<KeyText> {
-    match first_of(alloc, text) {
-        Some(binding) => key_of(alloc, &binding, key).ok(),
-        None => None,
-    }
+    let binding = first_of(alloc, text)?;
+    key_of(alloc, &binding, key).ok()
 }
 
 /// Two statements, a key, and whether their imports have one such key.
 struct Keys(&'static str, &'static str, ImportKey, bool);
 
 impl Keys {
-    fn holds_beside(&self, alloc: Global, one: &KeyText) -> bool {
-        match first_key(alloc, self.1, self.2) {
-            Some(other) => equal_keys(one, &other) == self.3,
-            None => false,
-        }
+    fn are_equal(&self, alloc: Global) -> Option<bool> {
+        let one = first_key(alloc, self.0, self.2)?;
+        let other = first_key(alloc, self.1, self.2)?;
+        Some(equal_keys(&one, &other))
     }
 }
 
 impl Case for Keys {
     fn holds(&self, alloc: Global) -> bool {
-        match first_key(alloc, self.0, self.2) {
-            Some(one) => self.holds_beside(alloc, &one),
-            None => false,
-        }
+        self.are_equal(alloc) == Some(self.3)
     }
 }
 

@@ -1,3 +1,4 @@
+use crate::acts::tell_binding;
 use crate::cases::{Case, each_holds_again};
 use py_imports::{
     Action, Binding, ImportError, Shape, bindings_of, is_declaration, says, shape_of,
@@ -5,15 +6,6 @@ use py_imports::{
 use py_lines::{Fault, FaultKind, Lines, Unit};
 use std::alloc::Global;
 use std::test::Fail;
-
-/// The statement of a binding on a line of its own, after its line number. Where memory is refused, it is missing.
-fn list_binding(alloc: Global, binding: &Binding, out: &mut String) {
-    if let Ok(statement) = binding.statement(alloc) {
-        let line = binding.line;
-        let indented = if binding.indented { "indented " } else { "" };
-        let _ = writeln!(out, "{line} {indented}{statement}");
-    }
-}
 
 /// Whether a copy of the binding is equal to it.
 fn is_copied(alloc: Global, binding: &Binding) -> bool {
@@ -29,7 +21,7 @@ fn list_bindings(alloc: Global, bindings: &[Binding], out: &mut String) -> bool 
         if !is_copied(alloc, binding) {
             return false;
         }
-        list_binding(alloc, binding, out);
+        tell_binding(alloc, binding, out);
     }
     true
 }
@@ -168,7 +160,7 @@ fn gives_bindings(rt: HostRuntime) -> Result<(), Fail> {
     each_holds_again(rt.alloc(), BINDINGS)
 }
 
-const REFUSED: &[First] = &[
+const FIRST: &[First] = &[
     First("from a import ()", Said::Refused(0)),
     First("from a import (*)", Said::Refused(0)),
     First("from a import b,", Said::Refused(0)),
@@ -195,14 +187,6 @@ const REFUSED: &[First] = &[
     First("import", Said::Refused(0)),
     First("import as", Said::Refused(0)),
     First("if a: import b; from c", Said::Refused(16)),
-];
-
-#[test]
-fn refuses_bad_statements(rt: HostRuntime) -> Result<(), Fail> {
-    each_holds_again(rt.alloc(), REFUSED)
-}
-
-const DECLARATIONS: &[First] = &[
     First("def f(): pass", Said::Declaration(true)),
     First("class C: pass", Said::Declaration(true)),
     First("@d", Said::Declaration(true)),
@@ -216,14 +200,6 @@ const DECLARATIONS: &[First] = &[
     First("# def", Said::Declaration(false)),
     First("\n", Said::Declaration(false)),
     First("if a: def_", Said::Declaration(false)),
-];
-
-#[test]
-fn knows_declarations(rt: HostRuntime) -> Result<(), Fail> {
-    each_holds_again(rt.alloc(), DECLARATIONS)
-}
-
-const SHAPES: &[First] = &[
     First("import a", Said::Shaped(Shape::Sortable)),
     First("  import a\n", Said::Shaped(Shape::Sortable)),
     First("\u{feff}import a", Said::Shaped(Shape::Sortable)),
@@ -266,8 +242,8 @@ const SHAPES: &[First] = &[
 ];
 
 #[test]
-fn knows_shapes(rt: HostRuntime) -> Result<(), Fail> {
-    each_holds_again(rt.alloc(), SHAPES)
+fn says_of_first_lines(rt: HostRuntime) -> Result<(), Fail> {
+    each_holds_again(rt.alloc(), FIRST)
 }
 
 /// A comment, an action, and whether the comment says it.

@@ -1,5 +1,5 @@
 //! What a metered reader or writer notes of its calls.
-use crate::cases::all_are_so;
+use crate::cases::{Case, each_holds_again};
 use crate::devices::{Device, Trouble};
 use isort_cmd::{Last, Metered};
 use std::alloc::Global;
@@ -18,25 +18,12 @@ fn writes_six(alloc: Global) -> bool {
     matches!(writer.write(b"abcdef"), Ok(6))
 }
 
-#[test]
-fn offers_all_bytes(rt: HostRuntime) -> Result<(), Fail> {
-    all_are_so(&[
-        reads_four(rt.alloc()) || reads_four(rt.alloc()),
-        writes_six(rt.alloc()) || writes_six(rt.alloc()),
-    ])
-}
-
 /// Whether each flush reaches the writer, whose first call fails.
 fn flushes_twice(alloc: Global) -> bool {
     let mut writer = Device::new(alloc, b"", 1000, Trouble::First(ErrorKind::Other));
     let first = writer.flush().is_err() && writer.last() == Last::Failed;
     let second = writer.flush().is_ok() && writer.last() == Last::Fine;
     first && second && writer.into_inner().calls == 2
-}
-
-#[test]
-fn flushes_what_is_inside(rt: HostRuntime) -> Result<(), Fail> {
-    all_are_so(&[flushes_twice(rt.alloc()) || flushes_twice(rt.alloc())])
 }
 
 /// Whether two interrupted reads are counted.
@@ -48,11 +35,6 @@ fn counts_two(alloc: Global) -> bool {
     reader.last() == Last::Interrupted(2)
 }
 
-#[test]
-fn counts_interruptions(rt: HostRuntime) -> Result<(), Fail> {
-    all_are_so(&[counts_two(rt.alloc()) || counts_two(rt.alloc())])
-}
-
 /// Whether a write that takes no byte is noted, but not one of no bytes.
 fn notes_one() -> bool {
     let mut none = [0u8; 0];
@@ -61,7 +43,36 @@ fn notes_one() -> bool {
     some && matches!(full.write(b""), Ok(0)) && full.last() == Last::Fine
 }
 
+/// What is seen of metered devices.
+enum Seen {
+    Read,
+    Written,
+    Flushes,
+    Interruptions,
+    EmptyWrites,
+}
+
+impl Case for Seen {
+    fn holds(&self, alloc: Global) -> bool {
+        match self {
+            Seen::Read => reads_four(alloc),
+            Seen::Written => writes_six(alloc),
+            Seen::Flushes => flushes_twice(alloc),
+            Seen::Interruptions => counts_two(alloc),
+            Seen::EmptyWrites => notes_one(),
+        }
+    }
+}
+
+const SEEN: &[Seen] = &[
+    Seen::Read,
+    Seen::Written,
+    Seen::Flushes,
+    Seen::Interruptions,
+    Seen::EmptyWrites,
+];
+
 #[test]
-fn notes_empty_writes() -> Result<(), Fail> {
-    all_are_so(&[notes_one()])
+fn notes_calls(rt: HostRuntime) -> Result<(), Fail> {
+    each_holds_again(rt.alloc(), SEEN)
 }

@@ -355,118 +355,6 @@ fn tells_of_every_prefix(rt: HostRuntime) -> Result<(), Fail> {
     each_holds(rt.alloc(), PREFIXES)
 }
 
-/// Options, three pieces that are each fed once, and what is told of them.
-struct Steps(
-    FindOptions,
-    &'static [u8],
-    &'static [u8],
-    &'static [u8],
-    &'static str,
-);
-
-impl Case for Steps {
-    fn holds(&self, alloc: Global) -> bool {
-        let acts = [
-            Act::Step(self.1),
-            Act::Step(self.2),
-            Act::Step(self.3),
-            Act::Stop,
-        ];
-        tells(alloc, self.0, &acts, self.4)
-    }
-}
-
-// A line end CR needs one more byte. Where that byte has a fault, it comes as soon as nothing is ready.
-const RETURNS: &[Steps] = &[
-    Steps(
-        PLAIN,
-        b"import a\nx\r\xff",
-        b"x\r\xff",
-        b"",
-        "took 9\nready, 9, 9\n1 import a\nnone, 9, 0\nF1 not UTF-8, 11, 3\nF1 not UTF-8, 11, 3\nat 11, 1\n",
-    ),
-    Steps(
-        PLAIN,
-        b"x\r",
-        b"\xff",
-        b"",
-        "took 2\nnone, 2, 2\nnone, 2, 2\nF1 not UTF-8, 2, 2\nF1 not UTF-8, 2, 2\nat 2, 0\n",
-    ),
-    Steps(
-        PLAIN,
-        b"import x\r\xff",
-        b"",
-        b"",
-        "took 10\nready, 10, 10\n1 import x\nnone, 10, 1\nF1 not UTF-8, 9, 2\nF1 not UTF-8, 9, 2\nat 9, 1\n",
-    ),
-    Steps(
-        PLAIN,
-        b"import x\r)",
-        b"",
-        b"",
-        "took 10\nready, 10, 10\n1 import x\nnone, 10, 1\nF5 closing bracket without its opening, 9, 2\nF5 closing bracket without its opening, 9, 2\nat 9, 1\n",
-    ),
-    Steps(
-        PLAIN,
-        b"x\r)",
-        b"",
-        b"",
-        "F5 closing bracket without its opening, 2, 2\nF5 closing bracket without its opening, 2, 2\nF5 closing bracket without its opening, 2, 2\nat 2, 0\n",
-    ),
-    Steps(
-        PLAIN,
-        b"x\r",
-        b")",
-        b"",
-        "took 2\nnone, 2, 2\nnone, 2, 2\nF5 closing bracket without its opening, 2, 2\nF5 closing bracket without its opening, 2, 2\nat 2, 0\n",
-    ),
-    Steps(
-        PLAIN,
-        b"import a\r",
-        b"x",
-        b"y",
-        "took 9\nnone, 9, 9\nnone, 9, 9\ntook 1\nready, 10, 10\n1 import a\nnone, 10, 1\ntook 1\nnone, 11, 2\nnone, 11, 2\nat 9, 1\n",
-    ),
-    Steps(
-        MODULES,
-        b"import a\nimport a\r)",
-        b"import a\r)",
-        b"",
-        "took 9\nready, 9, 9\n1 import a\nnone, 9, 0\nF5 closing bracket without its opening, 18, 3\nF5 closing bracket without its opening, 18, 3\nat 18, 1\n",
-    ),
-];
-
-// Other pieces: a line that ends the top, a character in two pieces, and a piece after a line without imports.
-const PIECES: &[Steps] = &[
-    Steps(
-        TOP,
-        b"import a\ndef f(): pass\r)",
-        b"def f(): pass\r)",
-        b"import b\n",
-        "took 9\nready, 9, 9\n1 import a\nnone, 9, 0\ntook 15\nnone, 24, 0\nnone, 24, 0\ntook 9\nnone, 33, 0\nnone, 33, 0\nat 9, 1\n",
-    ),
-    Steps(
-        PLAIN,
-        b"import a\xc3",
-        b"\xa9\n",
-        b"",
-        "took 9\nnone, 9, 9\nnone, 9, 9\ntook 2\nready, 11, 11\n1 import a\u{e9}\nnone, 11, 0\ntook 0\nnone, 11, 0\nnone, 11, 0\nat 11, 1\n",
-    ),
-    Steps(
-        MODULES,
-        b"x = 1\nimport a\nimport a\nimport b\ny",
-        b"import a\nimport b\ny",
-        b"y",
-        "took 15\nready, 15, 9\n2 import a\nnone, 15, 0\ntook 18\nready, 33, 9\n4 import b\nnone, 33, 0\ntook 1\nnone, 34, 1\nnone, 34, 1\nat 33, 2\n",
-    ),
-];
-
-#[test]
-fn tells_each_step(rt: HostRuntime) -> Result<(), Fail> {
-    each_holds_again(rt.alloc(), RETURNS)?;
-    each_holds_again(rt.alloc(), PIECES)
-}
-
 /// Options, what is done with a finder, and what it tells.
 struct Script(FindOptions, &'static [Act<'static>], &'static str);
 
@@ -476,159 +364,243 @@ impl Case for Script {
     }
 }
 
-const READY: &[Script] = &[Script(
-    PLAIN,
-    &[
-        Act::Feed(b"import a\rx"),
-        Act::Feed(b"y"),
-        Act::Feed(b""),
-        Act::Ready,
-        Act::Held,
-        Act::Next,
-        Act::Next,
-        Act::Ready,
-        Act::Held,
-        Act::Stop,
-    ],
-    "took 10\ntook 0\ntook 0\nready\n10, import a\rx\n1 import a\nno import\nnone\n10, x\nat 9, 1\n",
-)];
+const STEPS: &[Script] = &[
+    // A line end CR needs one more byte. Where that byte has a fault, it comes as soon as nothing is ready.
+    Script(
+        PLAIN,
+        &[
+            Act::Step(b"import a\nx\r\xff"),
+            Act::Step(b"x\r\xff"),
+            Act::Step(b""),
+            Act::Stop,
+        ],
+        "took 9\nready, 9, 9\n1 import a\nnone, 9, 0\nF1 not UTF-8, 11, 3\nF1 not UTF-8, 11, 3\nat 11, 1\n",
+    ),
+    Script(
+        PLAIN,
+        &[
+            Act::Step(b"x\r"),
+            Act::Step(b"\xff"),
+            Act::Step(b""),
+            Act::Stop,
+        ],
+        "took 2\nnone, 2, 2\nnone, 2, 2\nF1 not UTF-8, 2, 2\nF1 not UTF-8, 2, 2\nat 2, 0\n",
+    ),
+    Script(
+        PLAIN,
+        &[
+            Act::Step(b"import x\r\xff"),
+            Act::Step(b""),
+            Act::Step(b""),
+            Act::Stop,
+        ],
+        "took 10\nready, 10, 10\n1 import x\nnone, 10, 1\nF1 not UTF-8, 9, 2\nF1 not UTF-8, 9, 2\nat 9, 1\n",
+    ),
+    Script(
+        PLAIN,
+        &[
+            Act::Step(b"import x\r)"),
+            Act::Step(b""),
+            Act::Step(b""),
+            Act::Stop,
+        ],
+        "took 10\nready, 10, 10\n1 import x\nnone, 10, 1\nF5 closing bracket without its opening, 9, 2\nF5 closing bracket without its opening, 9, 2\nat 9, 1\n",
+    ),
+    Script(
+        PLAIN,
+        &[
+            Act::Step(b"x\r)"),
+            Act::Step(b""),
+            Act::Step(b""),
+            Act::Stop,
+        ],
+        "F5 closing bracket without its opening, 2, 2\nF5 closing bracket without its opening, 2, 2\nF5 closing bracket without its opening, 2, 2\nat 2, 0\n",
+    ),
+    Script(
+        PLAIN,
+        &[
+            Act::Step(b"x\r"),
+            Act::Step(b")"),
+            Act::Step(b""),
+            Act::Stop,
+        ],
+        "took 2\nnone, 2, 2\nnone, 2, 2\nF5 closing bracket without its opening, 2, 2\nF5 closing bracket without its opening, 2, 2\nat 2, 0\n",
+    ),
+    Script(
+        PLAIN,
+        &[
+            Act::Step(b"import a\r"),
+            Act::Step(b"x"),
+            Act::Step(b"y"),
+            Act::Stop,
+        ],
+        "took 9\nnone, 9, 9\nnone, 9, 9\ntook 1\nready, 10, 10\n1 import a\nnone, 10, 1\ntook 1\nnone, 11, 2\nnone, 11, 2\nat 9, 1\n",
+    ),
+    Script(
+        MODULES,
+        &[
+            Act::Step(b"import a\nimport a\r)"),
+            Act::Step(b"import a\r)"),
+            Act::Step(b""),
+            Act::Stop,
+        ],
+        "took 9\nready, 9, 9\n1 import a\nnone, 9, 0\nF5 closing bracket without its opening, 18, 3\nF5 closing bracket without its opening, 18, 3\nat 18, 1\n",
+    ),
+    // Other pieces: a line that ends the top, a character in two pieces, and a piece after a line without imports.
+    Script(
+        TOP,
+        &[
+            Act::Step(b"import a\ndef f(): pass\r)"),
+            Act::Step(b"def f(): pass\r)"),
+            Act::Step(b"import b\n"),
+            Act::Stop,
+        ],
+        "took 9\nready, 9, 9\n1 import a\nnone, 9, 0\ntook 15\nnone, 24, 0\nnone, 24, 0\ntook 9\nnone, 33, 0\nnone, 33, 0\nat 9, 1\n",
+    ),
+    Script(
+        PLAIN,
+        &[
+            Act::Step(b"import a\xc3"),
+            Act::Step(b"\xa9\n"),
+            Act::Step(b""),
+            Act::Stop,
+        ],
+        "took 9\nnone, 9, 9\nnone, 9, 9\ntook 2\nready, 11, 11\n1 import a\u{e9}\nnone, 11, 0\ntook 0\nnone, 11, 0\nnone, 11, 0\nat 11, 1\n",
+    ),
+    Script(
+        MODULES,
+        &[
+            Act::Step(b"x = 1\nimport a\nimport a\nimport b\ny"),
+            Act::Step(b"import a\nimport b\ny"),
+            Act::Step(b"y"),
+            Act::Stop,
+        ],
+        "took 15\nready, 15, 9\n2 import a\nnone, 15, 0\ntook 18\nready, 33, 9\n4 import b\nnone, 33, 0\ntook 1\nnone, 34, 1\nnone, 34, 1\nat 33, 2\n",
+    ),
+];
 
 #[test]
-fn takes_nothing_while_an_import_is_ready(rt: HostRuntime) -> Result<(), Fail> {
-    each_holds_again(rt.alloc(), READY)
+fn tells_each_step(rt: HostRuntime) -> Result<(), Fail> {
+    each_holds_again(rt.alloc(), STEPS)
 }
 
-const LAST_LINE: &[Script] = &[Script(
-    PLAIN,
-    &[
-        Act::Piece(b"import a\r"),
-        Act::Finish,
-        Act::Next,
-        Act::Next,
-        Act::Next,
-    ],
-    "end\n1 import a\nno import\nno import\n",
-)];
-
-#[test]
-fn gives_the_last_line_at_the_end(rt: HostRuntime) -> Result<(), Fail> {
-    each_holds_again(rt.alloc(), LAST_LINE)
-}
-
-const AFTER_TOP: &[Script] = &[Script(
-    TOP,
-    &[
-        Act::Feed(b"x = 1\nclass A: pass\n)\n\xff"),
-        Act::Feed(b"import a\n("),
-        Act::Held,
-        Act::Ready,
-        Act::Finish,
-        Act::Next,
-        Act::Stop,
-    ],
-    "took 23\ntook 10\n33, \nnone\nend\nno import\nat 6, 0\n",
-)];
-
-#[test]
-fn ends_after_the_top(rt: HostRuntime) -> Result<(), Fail> {
-    each_holds_again(rt.alloc(), AFTER_TOP)
-}
-
-const INSIDE: &[Script] = &[Script(
-    PLAIN,
-    &[
-        Act::Feed(b"import a, b, c\n"),
-        Act::Next,
-        Act::Next,
-        Act::Stop,
-        Act::Next,
-        Act::Stop,
-        Act::Piece(b"import a, b, c\n"),
-        Act::Finish,
-        Act::Next,
-        Act::Stop,
-    ],
-    "took 15\n1 import a\n1 import b\nat 0, 2\nno import\nat 0, 2\n1 import c\nend\nno import\nat 15, 3\n",
-)];
-
-#[test]
-fn keeps_the_cursor_inside_a_line(rt: HostRuntime) -> Result<(), Fail> {
-    each_holds_again(rt.alloc(), INSIDE)
-}
-
-const TO_WHOLE: &[Script] = &[Script(
-    PLAIN,
-    &[
-        Act::Feed(b"import a, b, c"),
-        Act::Ready,
-        Act::Finish,
-        Act::Next,
-        Act::Next,
-        Act::Ready,
-        Act::Held,
-        Act::Whole(b"import a, b, c"),
-    ],
-    "took 14\nnone\nend\n1 import a\n1 import b\nready\n14, import a, b, c\nat 0, 2\n1 import c\nno import\nat 14, 3\n",
-)];
-
-#[test]
-fn hands_cursors_to_finders_of_whole_texts(rt: HostRuntime) -> Result<(), Fail> {
-    each_holds_again(rt.alloc(), TO_WHOLE)
-}
-
-const FROM_WHOLE: &[Script] = &[Script(
-    PLAIN,
-    &[
-        Act::First(b"import a, b, c", 2),
-        Act::Ready,
-        Act::Held,
-        Act::Piece(b"import a, b, c"),
-        Act::Ready,
-        Act::Held,
-        Act::Finish,
-        Act::Next,
-        Act::Next,
-        Act::Stop,
-        Act::Ready,
-        Act::Held,
-        Act::Finish,
-        Act::Next,
-        Act::Stop,
-    ],
-    "1 import a\n1 import b\nat 0, 2\nnone\n0, \nnone\n14, import a, b, c\nend\n1 import c\nno import\nat 14, 3\nnone\n14, \nend\nno import\nat 14, 3\n",
-)];
-
-#[test]
-fn takes_cursors_of_finders_of_whole_texts(rt: HostRuntime) -> Result<(), Fail> {
-    each_holds_again(rt.alloc(), FROM_WHOLE)
-}
-
-// After the line that ends the top a cursor stands at that line, whichever finder has it.
-const BOTH_WAYS: &[Script] = &[Script(
-    TOP,
-    &[
-        Act::Piece(b"import a\nimport b\n@d\nx = (\n"),
-        Act::Ready,
-        Act::Held,
-        Act::Whole(b"import a\nimport b\n@d\nx = (\n"),
-        Act::Feed(b"@d\nx = (\n"),
-        Act::Ready,
-        Act::Held,
-        Act::Next,
-        Act::Ready,
-        Act::Held,
-        Act::Stop,
-    ],
-    "1 import a\n2 import b\nnone\n27, \nat 18, 2\nno import\nat 18, 2\ntook 9\nnone\n27, \nno import\nnone\n27, \nat 18, 2\n",
-)];
-
-#[test]
-fn hands_cursors_both_ways_after_the_top(rt: HostRuntime) -> Result<(), Fail> {
-    each_holds_again(rt.alloc(), BOTH_WAYS)
-}
-
-// A text with a fault; and the same once more, fed from the line with the fault on.
-const FAULTY: &[Script] = &[
+const SCRIPTS: &[Script] = &[
+    // Nothing is taken while an import is ready.
+    Script(
+        PLAIN,
+        &[
+            Act::Feed(b"import a\rx"),
+            Act::Feed(b"y"),
+            Act::Feed(b""),
+            Act::Ready,
+            Act::Held,
+            Act::Next,
+            Act::Next,
+            Act::Ready,
+            Act::Held,
+            Act::Stop,
+        ],
+        "took 10\ntook 0\ntook 0\nready\n10, import a\rx\n1 import a\nno import\nnone\n10, x\nat 9, 1\n",
+    ),
+    // The last line comes at the end.
+    Script(
+        PLAIN,
+        &[
+            Act::Piece(b"import a\r"),
+            Act::Finish,
+            Act::Next,
+            Act::Next,
+            Act::Next,
+        ],
+        "end\n1 import a\nno import\nno import\n",
+    ),
+    // Nothing is told after the top.
+    Script(
+        TOP,
+        &[
+            Act::Feed(b"x = 1\nclass A: pass\n)\n\xff"),
+            Act::Feed(b"import a\n("),
+            Act::Held,
+            Act::Ready,
+            Act::Finish,
+            Act::Next,
+            Act::Stop,
+        ],
+        "took 23\ntook 10\n33, \nnone\nend\nno import\nat 6, 0\n",
+    ),
+    // A cursor stays inside a line.
+    Script(
+        PLAIN,
+        &[
+            Act::Feed(b"import a, b, c\n"),
+            Act::Next,
+            Act::Next,
+            Act::Stop,
+            Act::Next,
+            Act::Stop,
+            Act::Piece(b"import a, b, c\n"),
+            Act::Finish,
+            Act::Next,
+            Act::Stop,
+        ],
+        "took 15\n1 import a\n1 import b\nat 0, 2\nno import\nat 0, 2\n1 import c\nend\nno import\nat 15, 3\n",
+    ),
+    // A cursor is handed to a finder of a whole text.
+    Script(
+        PLAIN,
+        &[
+            Act::Feed(b"import a, b, c"),
+            Act::Ready,
+            Act::Finish,
+            Act::Next,
+            Act::Next,
+            Act::Ready,
+            Act::Held,
+            Act::Whole(b"import a, b, c"),
+        ],
+        "took 14\nnone\nend\n1 import a\n1 import b\nready\n14, import a, b, c\nat 0, 2\n1 import c\nno import\nat 14, 3\n",
+    ),
+    // A cursor of a finder of a whole text is taken.
+    Script(
+        PLAIN,
+        &[
+            Act::First(b"import a, b, c", 2),
+            Act::Ready,
+            Act::Held,
+            Act::Piece(b"import a, b, c"),
+            Act::Ready,
+            Act::Held,
+            Act::Finish,
+            Act::Next,
+            Act::Next,
+            Act::Stop,
+            Act::Ready,
+            Act::Held,
+            Act::Finish,
+            Act::Next,
+            Act::Stop,
+        ],
+        "1 import a\n1 import b\nat 0, 2\nnone\n0, \nnone\n14, import a, b, c\nend\n1 import c\nno import\nat 14, 3\nnone\n14, \nend\nno import\nat 14, 3\n",
+    ),
+    // After the line that ends the top a cursor stands at that line, whichever finder has it.
+    Script(
+        TOP,
+        &[
+            Act::Piece(b"import a\nimport b\n@d\nx = (\n"),
+            Act::Ready,
+            Act::Held,
+            Act::Whole(b"import a\nimport b\n@d\nx = (\n"),
+            Act::Feed(b"@d\nx = (\n"),
+            Act::Ready,
+            Act::Held,
+            Act::Next,
+            Act::Ready,
+            Act::Held,
+            Act::Stop,
+        ],
+        "1 import a\n2 import b\nnone\n27, \nat 18, 2\nno import\nat 18, 2\ntook 9\nnone\n27, \nno import\nnone\n27, \nat 18, 2\n",
+    ),
+    // A text with a fault; and the same once more, fed from the line with the fault on.
     Script(
         PLAIN,
         &[
@@ -659,33 +631,19 @@ const FAULTY: &[Script] = &[
         ],
         "1 import a\n1 import b\nF9 import statement not understood, 19, 2\nF9 import statement not understood, 19, 2\nno import\nnone\nF9 import statement not understood, 19, 2\nnone\nF9 import statement not understood, 19, 2\nat 19, 2\nF9 import statement not understood, 19, 2\n",
     ),
-];
-
-#[test]
-fn answers_its_fault_again(rt: HostRuntime) -> Result<(), Fail> {
-    each_holds_again(rt.alloc(), FAULTY)
-}
-
-// The last logical line is bad: a text that is ended again, or fed, has the same fault.
-const FAULTY_END: &[Script] = &[Script(
-    PLAIN,
-    &[
-        Act::Feed(b"x = 1\nimport"),
-        Act::Ready,
-        Act::Finish,
-        Act::Finish,
-        Act::Feed(b"a"),
-    ],
-    "took 12\nnone\nF9 import statement not understood, 6, 2\nF9 import statement not understood, 6, 2\nF9 import statement not understood, 6, 2\n",
-)];
-
-#[test]
-fn ends_in_its_fault_again(rt: HostRuntime) -> Result<(), Fail> {
-    each_holds_again(rt.alloc(), FAULTY_END)
-}
-
-// A cursor after a last line that CR ends, or nothing, and that the bytes before it don't settle.
-const UNSETTLED: &[Script] = &[
+    // The last logical line is bad: a text that is ended again, or fed, has the same fault.
+    Script(
+        PLAIN,
+        &[
+            Act::Feed(b"x = 1\nimport"),
+            Act::Ready,
+            Act::Finish,
+            Act::Finish,
+            Act::Feed(b"a"),
+        ],
+        "took 12\nnone\nF9 import statement not understood, 6, 2\nF9 import statement not understood, 6, 2\nF9 import statement not understood, 6, 2\n",
+    ),
+    // A cursor after a last line that CR ends, or nothing, and that the bytes before it don't settle.
     Script(
         PLAIN,
         &[Act::First(b"import a\r", 2), Act::Next, Act::Stop],
@@ -699,6 +657,6 @@ const UNSETTLED: &[Script] = &[
 ];
 
 #[test]
-fn stays_after_an_unsettled_line(rt: HostRuntime) -> Result<(), Fail> {
-    each_holds_again(rt.alloc(), UNSETTLED)
+fn follows_scripts(rt: HostRuntime) -> Result<(), Fail> {
+    each_holds_again(rt.alloc(), SCRIPTS)
 }

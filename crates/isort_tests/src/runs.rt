@@ -43,6 +43,39 @@ impl Case for Listed<'_> {
     }
 }
 
+const PACKAGES: FindOptions = FindOptions {
+    unique: Some(ImportKey::Package),
+    top_only: false,
+};
+
+const MODULES: FindOptions = FindOptions {
+    unique: Some(ImportKey::Module),
+    top_only: false,
+};
+
+const ATTRIBUTES: FindOptions = FindOptions {
+    unique: Some(ImportKey::Attribute),
+    top_only: false,
+};
+
+const UNIQUE: FindOptions = FindOptions {
+    unique: Some(ImportKey::Alias),
+    top_only: false,
+};
+
+const TOP: FindOptions = FindOptions {
+    unique: None,
+    top_only: true,
+};
+
+const ALIKE: &[u8] = b"import a.b\nfrom a import c\nfrom .a import d\nfrom a import c as e\n";
+
+const DECLARED: &[u8] = b"import a\nif a:\n    def f(): pass\n    import b\n@d\nx = (\n";
+
+const THREE: &str = "p.py:1 import a.b\np.py:2 from a import c\np.py:3 from .a import d\n";
+
+const BOTH: &str = "p.py:1 import a\np.py:4 indented import b\n";
+
 const LISTED: &[Listed<'static>] = &[
     Listed(b"", ALL, 1000, "", Ok(())),
     Listed(b"\xef\xbb\xbf", ALL, 1000, "", Ok(())),
@@ -195,60 +228,7 @@ const LISTED: &[Listed<'static>] = &[
             line: 1,
         })),
     ),
-];
-
-#[test]
-fn lists_texts(rt: HostRuntime) -> Result<(), Fail> {
-    each_holds_again(rt.alloc(), LISTED)
-}
-
-#[test]
-fn counts_brackets(rt: HostRuntime) -> Result<(), Fail> {
-    let text = brackets();
-    let open = Err(fault(FaultKind::OpenBracket, 199, 1));
-    let too_deep = Err(fault(FaultKind::TooDeep, 200, 1));
-    let rows = [
-        Listed(&text[1..401], ALL, 1000, "", Ok(())),
-        Listed(&text[1..201], ALL, 1000, "", open),
-        Listed(&text[..201], ALL, 1000, "", too_deep),
-    ];
-    each_holds_again(rt.alloc(), &rows)
-}
-
-const PACKAGES: FindOptions = FindOptions {
-    unique: Some(ImportKey::Package),
-    top_only: false,
-};
-
-const MODULES: FindOptions = FindOptions {
-    unique: Some(ImportKey::Module),
-    top_only: false,
-};
-
-const ATTRIBUTES: FindOptions = FindOptions {
-    unique: Some(ImportKey::Attribute),
-    top_only: false,
-};
-
-const UNIQUE: FindOptions = FindOptions {
-    unique: Some(ImportKey::Alias),
-    top_only: false,
-};
-
-const TOP: FindOptions = FindOptions {
-    unique: None,
-    top_only: true,
-};
-
-const ALIKE: &[u8] = b"import a.b\nfrom a import c\nfrom .a import d\nfrom a import c as e\n";
-
-const DECLARED: &[u8] = b"import a\nif a:\n    def f(): pass\n    import b\n@d\nx = (\n";
-
-const THREE: &str = "p.py:1 import a.b\np.py:2 from a import c\np.py:3 from .a import d\n";
-
-const BOTH: &str = "p.py:1 import a\np.py:4 indented import b\n";
-
-const CHOSEN: &[Listed<'static>] = &[
+    // What the options ask for.
     Listed(
         ALIKE,
         PACKAGES,
@@ -277,21 +257,27 @@ const CHOSEN: &[Listed<'static>] = &[
             line: 6,
         })),
     ),
-];
-
-#[test]
-fn lists_what_the_options_ask_for(rt: HostRuntime) -> Result<(), Fail> {
-    each_holds_again(rt.alloc(), CHOSEN)
-}
-
-const BOUNDED: &[Listed<'static>] = &[
+    // At most so many bytes are taken.
     Listed(b"a = 1\n", ALL, 5, "", Err(RunError::TooLong)),
     Listed(b"a = 1\n", ALL, 6, "", Ok(())),
 ];
 
 #[test]
-fn takes_at_most_max(rt: HostRuntime) -> Result<(), Fail> {
-    each_holds_again(rt.alloc(), BOUNDED)
+fn lists_texts(rt: HostRuntime) -> Result<(), Fail> {
+    each_holds_again(rt.alloc(), LISTED)
+}
+
+#[test]
+fn counts_brackets(rt: HostRuntime) -> Result<(), Fail> {
+    let text = brackets();
+    let open = Err(fault(FaultKind::OpenBracket, 199, 1));
+    let too_deep = Err(fault(FaultKind::TooDeep, 200, 1));
+    let rows = [
+        Listed(&text[1..401], ALL, 1000, "", Ok(())),
+        Listed(&text[1..201], ALL, 1000, "", open),
+        Listed(&text[..201], ALL, 1000, "", too_deep),
+    ];
+    each_holds_again(rt.alloc(), &rows)
 }
 
 /// A text, how its listing ends, and the lines of it and of another text, which is listed to the same writer.
@@ -484,7 +470,6 @@ fn lists_what_came(rt: HostRuntime) -> Result<(), Fail> {
 }
 
 /// What is seen of a reader and a writer after a listing.
-#[derive(Clone, Copy)]
 enum Seen {
     /// Nothing.
     None,
@@ -498,12 +483,12 @@ enum Seen {
 
 impl Seen {
     /// Whether the last calls of the reader and the writer ended so, or so many calls of each were made.
-    fn is_so(self, lasts: (Last, Last), calls: (u32, u32)) -> bool {
+    fn is_so(&self, lasts: (Last, Last), calls: (u32, u32)) -> bool {
         match self {
             Seen::None => true,
-            Seen::Read(last) => lasts.0 == last,
-            Seen::Written(last) => lasts.1 == last,
-            Seen::Calls(reads, writes) => calls == (reads, writes),
+            Seen::Read(last) => lasts.0 == *last,
+            Seen::Written(last) => lasts.1 == *last,
+            Seen::Calls(reads, writes) => calls == (*reads, *writes),
         }
     }
 }
@@ -533,7 +518,8 @@ impl Case for Troubled {
     }
 }
 
-const WRITERS: &[Troubled] = &[
+const TROUBLED: &[Troubled] = &[
+    // A writer is full, or takes a byte a call.
     Troubled(
         FIRST,
         (Trouble::None, Trouble::Full(5)),
@@ -550,14 +536,7 @@ const WRITERS: &[Troubled] = &[
         FIRST_LINES,
         Seen::Written(Last::Fine),
     ),
-];
-
-#[test]
-fn writes_in_pieces(rt: HostRuntime) -> Result<(), Fail> {
-    each_holds_again(rt.alloc(), WRITERS)
-}
-
-const READERS: &[Troubled] = &[
+    // A reader fails, or is interrupted for ever.
     Troubled(
         "",
         (Trouble::After(0, ErrorKind::Other), Trouble::None),
@@ -574,14 +553,7 @@ const READERS: &[Troubled] = &[
         "",
         Seen::Read(Last::Interrupted(1000)),
     ),
-];
-
-#[test]
-fn gives_up_reading(rt: HostRuntime) -> Result<(), Fail> {
-    each_holds_again(rt.alloc(), READERS)
-}
-
-const CLOGGED: &[Troubled] = &[
+    // Lines alone are flushed.
     Troubled(
         "import a\nx = 1\n",
         (Trouble::None, Trouble::Flush),
@@ -598,31 +570,19 @@ const CLOGGED: &[Troubled] = &[
         "",
         Seen::None,
     ),
-];
-
-#[test]
-fn flushes_after_lines_alone(rt: HostRuntime) -> Result<(), Fail> {
-    each_holds_again(rt.alloc(), CLOGGED)
-}
-
-const INTERRUPTED: &[Troubled] = &[Troubled(
-    FIRST,
-    (
-        Trouble::First(ErrorKind::Interrupted),
-        Trouble::First(ErrorKind::Interrupted),
+    // A call that is interrupted is made again.
+    Troubled(
+        FIRST,
+        (
+            Trouble::First(ErrorKind::Interrupted),
+            Trouble::First(ErrorKind::Interrupted),
+        ),
+        1000,
+        Ok(()),
+        FIRST_LINES,
+        Seen::Calls(3, 5),
     ),
-    1000,
-    Ok(()),
-    FIRST_LINES,
-    Seen::Calls(3, 5),
-)];
-
-#[test]
-fn goes_on_after_an_interruption(rt: HostRuntime) -> Result<(), Fail> {
-    each_holds_again(rt.alloc(), INTERRUPTED)
-}
-
-const FAILED: &[Troubled] = &[
+    // The first failure ends a run.
     Troubled(
         FIRST,
         (Trouble::First(ErrorKind::Other), Trouble::None),
@@ -642,6 +602,6 @@ const FAILED: &[Troubled] = &[
 ];
 
 #[test]
-fn stops_at_the_first_failure(rt: HostRuntime) -> Result<(), Fail> {
-    each_holds_again(rt.alloc(), FAILED)
+fn lists_through_troubled_devices(rt: HostRuntime) -> Result<(), Fail> {
+    each_holds_again(rt.alloc(), TROUBLED)
 }

@@ -245,6 +245,8 @@ enum Step {
     Place(u64, u64),
     /// The text of the line that is ready, or a dash.
     Ready(&'static str),
+    /// The tokens of the line that is ready, its text, and how many bytes end it.
+    Unit(&'static [Token], &'static str, usize),
     /// The bytes that are held.
     Held(&'static [u8]),
     /// Releases the line that is ready.
@@ -256,6 +258,14 @@ fn ready_text(scanner: &Scanner) -> &str {
     match scanner.ready() {
         Some(unit) => unit.text,
         None => "-",
+    }
+}
+
+/// Whether this line is ready.
+fn has_unit(scanner: &Scanner, tokens: &[Token], text: &str, end_len: usize) -> bool {
+    match scanner.ready() {
+        Some(unit) => unit.tokens == tokens && unit.text == text && unit.end_len == end_len,
+        None => false,
     }
 }
 
@@ -280,6 +290,7 @@ impl Step {
             Step::Fed(fed) => scanner.fed() == fed,
             Step::Place(offset, line) => scanner.offset() == offset && scanner.line() == line,
             Step::Ready(text) => ready_text(scanner) == text,
+            Step::Unit(tokens, text, end_len) => has_unit(scanner, tokens, text, end_len),
             Step::Held(bytes) => scanner.held() == bytes,
             Step::Release => let_go(scanner),
         }
@@ -344,30 +355,26 @@ impl Case for Script {
     }
 }
 
-const WAITING: &[Script] = &[Script(
-    &[
-        Step::Feed(b"import a\n", Ok(9)),
-        Step::Ready("import a\n"),
-        Step::Feed(b"x", Ok(0)),
-        Step::Feed(b"", Ok(0)),
-        Step::Fed(9),
-        Step::Place(0, 1),
-        Step::Release,
-        Step::Held(b""),
-        Step::Fed(9),
-        Step::Place(9, 2),
-        Step::Feed(b"x", Ok(1)),
-        Step::Fed(10),
-    ],
-    End::Open,
-)];
-
-#[test]
-fn waits_while_a_line_is_ready(rt: HostRuntime) -> Result<(), Fail> {
-    each_holds_again(rt.alloc(), WAITING)
-}
-
-const RETURNS: &[Script] = &[
+const SCRIPTS: &[Script] = &[
+    // Nothing is taken while a line is ready.
+    Script(
+        &[
+            Step::Feed(b"import a\n", Ok(9)),
+            Step::Ready("import a\n"),
+            Step::Feed(b"x", Ok(0)),
+            Step::Feed(b"", Ok(0)),
+            Step::Fed(9),
+            Step::Place(0, 1),
+            Step::Release,
+            Step::Held(b""),
+            Step::Fed(9),
+            Step::Place(9, 2),
+            Step::Feed(b"x", Ok(1)),
+            Step::Fed(10),
+        ],
+        End::Open,
+    ),
+    // The byte after a return is taken.
     Script(
         &[Step::Feed(b"x\r\ny", Ok(3)), Step::Ready("x\r\n")],
         End::Open,
@@ -382,126 +389,209 @@ const RETURNS: &[Script] = &[
         ],
         End::Open,
     ),
+    // A line waits after a return.
+    Script(
+        &[
+            Step::Feed(b"import a\r", Ok(9)),
+            Step::Ready("-"),
+            Step::Held(b"import a\r"),
+            Step::Feed(b"x", Ok(1)),
+            Step::Ready("import a\r"),
+            Step::Fed(10),
+            Step::Release,
+            Step::Held(b"x"),
+        ],
+        End::Open,
+    ),
+    // The end closes a line after a return.
+    Script(
+        &[Step::Feed(b"import a\r", Ok(9)), Step::Ready("-")],
+        End::Line("import a\r"),
+    ),
+    // A line goes on after a cut: nothing is ready before the second piece.
+    Script(
+        &[
+            Step::Feed(b"r", Ok(1)),
+            Step::Ready("-"),
+            Step::Feed(b"b'a'\n", Ok(5)),
+            Step::Unit(
+                &[Token {
+                    kind: TokKind::Str,
+                    start: 0,
+                    stop: 5,
+                    line: 1,
+                }],
+                "rb'a'\n",
+                1,
+            ),
+        ],
+        End::Open,
+    ),
+    Script(
+        &[
+            Step::Feed(b"rb", Ok(2)),
+            Step::Ready("-"),
+            Step::Feed(b"'a'\n", Ok(4)),
+            Step::Unit(
+                &[Token {
+                    kind: TokKind::Str,
+                    start: 0,
+                    stop: 5,
+                    line: 1,
+                }],
+                "rb'a'\n",
+                1,
+            ),
+        ],
+        End::Open,
+    ),
+    Script(
+        &[
+            Step::Feed(b"x\xc3", Ok(2)),
+            Step::Ready("-"),
+            Step::Feed(b"\xa9\n", Ok(2)),
+            Step::Unit(
+                &[Token {
+                    kind: TokKind::Name,
+                    start: 0,
+                    stop: 3,
+                    line: 1,
+                }],
+                "xé\n",
+                1,
+            ),
+        ],
+        End::Open,
+    ),
+    Script(
+        &[
+            Step::Feed(b"'\xf0\x9f", Ok(3)),
+            Step::Ready("-"),
+            Step::Feed(b"\x98\x80'\n", Ok(4)),
+            Step::Unit(
+                &[Token {
+                    kind: TokKind::Str,
+                    start: 0,
+                    stop: 6,
+                    line: 1,
+                }],
+                "'😀'\n",
+                1,
+            ),
+        ],
+        End::Open,
+    ),
+    Script(
+        &[
+            Step::Feed(b"\"\"", Ok(2)),
+            Step::Ready("-"),
+            Step::Feed(b"\"a\n\"\"\"\n", Ok(7)),
+            Step::Unit(
+                &[Token {
+                    kind: TokKind::Str,
+                    start: 0,
+                    stop: 8,
+                    line: 1,
+                }],
+                "\"\"\"a\n\"\"\"\n",
+                1,
+            ),
+        ],
+        End::Open,
+    ),
+    Script(
+        &[
+            Step::Feed(b"a\r", Ok(2)),
+            Step::Ready("-"),
+            Step::Feed(b"\nb", Ok(1)),
+            Step::Unit(
+                &[Token {
+                    kind: TokKind::Name,
+                    start: 0,
+                    stop: 1,
+                    line: 1,
+                }],
+                "a\r\n",
+                2,
+            ),
+        ],
+        End::Open,
+    ),
+    Script(
+        &[
+            Step::Feed(b"a\r", Ok(2)),
+            Step::Ready("-"),
+            Step::Feed(b"b\n", Ok(1)),
+            Step::Unit(
+                &[Token {
+                    kind: TokKind::Name,
+                    start: 0,
+                    stop: 1,
+                    line: 1,
+                }],
+                "a\r",
+                1,
+            ),
+        ],
+        End::Open,
+    ),
+    Script(
+        &[
+            Step::Feed(b"(\r", Ok(2)),
+            Step::Ready("-"),
+            Step::Feed(b"\r)\rb", Ok(4)),
+            Step::Unit(
+                &[
+                    Token {
+                        kind: TokKind::Op(40),
+                        start: 0,
+                        stop: 1,
+                        line: 1,
+                    },
+                    Token {
+                        kind: TokKind::Op(41),
+                        start: 3,
+                        stop: 4,
+                        line: 3,
+                    },
+                ],
+                "(\r\r)\r",
+                1,
+            ),
+        ],
+        End::Open,
+    ),
+    Script(
+        &[
+            Step::Feed(b"1", Ok(1)),
+            Step::Ready("-"),
+            Step::Feed(b"2 #\n\n", Ok(4)),
+            Step::Unit(
+                &[
+                    Token {
+                        kind: TokKind::Number,
+                        start: 0,
+                        stop: 2,
+                        line: 1,
+                    },
+                    Token {
+                        kind: TokKind::Remark,
+                        start: 3,
+                        stop: 4,
+                        line: 1,
+                    },
+                ],
+                "12 #\n",
+                1,
+            ),
+        ],
+        End::Open,
+    ),
 ];
 
 #[test]
-fn takes_the_byte_after_a_return(rt: HostRuntime) -> Result<(), Fail> {
-    each_holds_again(rt.alloc(), RETURNS)
-}
-
-const CUT_RETURNS: &[Script] = &[Script(
-    &[
-        Step::Feed(b"import a\r", Ok(9)),
-        Step::Ready("-"),
-        Step::Held(b"import a\r"),
-        Step::Feed(b"x", Ok(1)),
-        Step::Ready("import a\r"),
-        Step::Fed(10),
-        Step::Release,
-        Step::Held(b"x"),
-    ],
-    End::Open,
-)];
-
-#[test]
-fn waits_after_a_return(rt: HostRuntime) -> Result<(), Fail> {
-    each_holds_again(rt.alloc(), CUT_RETURNS)
-}
-
-/// How many bytes are taken of a piece.
-fn tell_taken(told: &mut String, scanner: &mut Scanner, piece: &[u8])
-    requires { scanner.old.ended ≡ false }
-    ensures { scanner.new.ended ≡ false }
-{
-    if let Ok(taken) = feed(scanner, piece) {
-        let _ = write!(told, "{taken}");
-    }
-}
-
-/// A line: how its tokens begin and stop, and its text.
-fn tell_spans(told: &mut String, unit: &Unit<'_>) {
-    for token in unit.tokens.iter() {
-        let _ = write!(told, " {:?} {} {}", token.kind, token.start, token.stop);
-    }
-    let _ = write!(told, " {:?} {}", unit.text, unit.end_len);
-}
-
-/// Two pieces, and what they come to: bytes taken of the first, whether no line was ready, bytes taken of the second,
-/// and the line that is ready then.
-struct Cut(&'static [u8], &'static [u8], &'static str);
-
-impl Cut {
-    fn tell(&self, told: &mut String, scanner: &mut Scanner)
-        requires { scanner.old.ended ≡ false }
-    {
-        tell_taken(told, scanner, self.0);
-        tell(
-            told,
-            if scanner.ready().is_none() {
-                " true "
-            } else {
-                " false "
-            },
-        );
-        tell_taken(told, scanner, self.1);
-        tell(told, ":");
-        if let Some(unit) = scanner.ready() {
-            tell_spans(told, &unit);
-        }
-    }
-}
-
-impl Case for Cut {
-    fn holds(&self, alloc: Global) -> bool {
-        let mut told = String::new(alloc);
-        if let Ok(mut scanner) = Scanner::new(alloc) {
-            self.tell(&mut told, &mut scanner);
-        }
-        told.as_str() == self.2
-    }
-}
-
-const CUTS: &[Cut] = &[
-    Cut(b"r", b"b'a'\n", "1 true 5: Str 0 5 \"rb'a'\\n\" 1"),
-    Cut(b"rb", b"'a'\n", "2 true 4: Str 0 5 \"rb'a'\\n\" 1"),
-    Cut(b"x\xc3", b"\xa9\n", "2 true 2: Name 0 3 \"xé\\n\" 1"),
-    Cut(
-        b"'\xf0\x9f",
-        b"\x98\x80'\n",
-        "3 true 4: Str 0 6 \"'😀'\\n\" 1",
-    ),
-    Cut(
-        b"\"\"",
-        b"\"a\n\"\"\"\n",
-        "2 true 7: Str 0 8 \"\\\"\\\"\\\"a\\n\\\"\\\"\\\"\\n\" 1",
-    ),
-    Cut(b"a\r", b"\nb", "2 true 1: Name 0 1 \"a\\r\\n\" 2"),
-    Cut(b"a\r", b"b\n", "2 true 1: Name 0 1 \"a\\r\" 1"),
-    Cut(
-        b"(\r",
-        b"\r)\rb",
-        "2 true 4: Op(40) 0 1 Op(41) 3 4 \"(\\r\\r)\\r\" 1",
-    ),
-    Cut(
-        b"1",
-        b"2 #\n\n",
-        "1 true 4: Number 0 2 Remark 3 4 \"12 #\\n\" 1",
-    ),
-];
-
-#[test]
-fn goes_on_after_a_cut(rt: HostRuntime) -> Result<(), Fail> {
-    each_holds_again(rt.alloc(), CUTS)
-}
-
-const LAST: &[Script] = &[Script(
-    &[Step::Feed(b"import a\r", Ok(9)), Step::Ready("-")],
-    End::Line("import a\r"),
-)];
-
-#[test]
-fn finish_closes_a_line_after_a_return(rt: HostRuntime) -> Result<(), Fail> {
-    each_holds_again(rt.alloc(), LAST)
+fn follows_scripts(rt: HostRuntime) -> Result<(), Fail> {
+    each_holds_again(rt.alloc(), SCRIPTS)
 }
 
 /// A piece from byte 2 of a text on, in line 2, and what is told of it.

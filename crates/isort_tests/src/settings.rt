@@ -1,4 +1,4 @@
-use crate::cases::{Case, all_are_so, are_texts, each_holds_again};
+use crate::cases::{Case, PlainCase, all_are_so, are_texts, each_holds_again, each_holds_plainly};
 use isort_settings::{Modules, Profile, Section, SettingKey, Settings, SettingsError, laws};
 use std::alloc::{AllocError, Global};
 use std::cmp::Ordering;
@@ -234,7 +234,7 @@ impl Case for Stands {
     }
 }
 
-const PLAIN_TEXTS: &[Stands] = &[
+const STANDS: &[Stands] = &[
     Stands(b"", None, Known::Plain, &[]),
     Stands(
         b"[tool.isort]\nknown_future_library = [\"__future__\"]",
@@ -248,14 +248,7 @@ const PLAIN_TEXTS: &[Stands] = &[
         Known::Plain,
         &["First", "colour", "sub"],
     ),
-];
-
-#[test]
-fn texts_without_a_profile(rt: HostRuntime) -> Result<(), Fail> {
-    each_holds_again(rt.alloc(), PLAIN_TEXTS)
-}
-
-const BLACK_TEXTS: &[Stands] = &[
+    // The profile that is handed in.
     Stands(b"[tool]\n", BLACK, Known::Black, &[]),
     Stands(
         b"[tool.isort]\nprofile = \"google\"",
@@ -263,23 +256,18 @@ const BLACK_TEXTS: &[Stands] = &[
         Known::Black,
         &[],
     ),
+    // A key beside the profile.
+    Stands(
+        b"[tool.isort]\nline_length = 100\nprofile = \"black\"",
+        None,
+        Known::Wide,
+        &[],
+    ),
 ];
 
 #[test]
-fn profile_handed_in(rt: HostRuntime) -> Result<(), Fail> {
-    each_holds_again(rt.alloc(), BLACK_TEXTS)
-}
-
-const WIDE_TEXTS: &[Stands] = &[Stands(
-    b"[tool.isort]\nline_length = 100\nprofile = \"black\"",
-    None,
-    Known::Wide,
-    &[],
-)];
-
-#[test]
-fn key_beside_profile(rt: HostRuntime) -> Result<(), Fail> {
-    each_holds_again(rt.alloc(), WIDE_TEXTS)
+fn texts(rt: HostRuntime) -> Result<(), Fail> {
+    each_holds_again(rt.alloc(), STANDS)
 }
 
 const OUT_OF_RANGE: Result<(), SettingsError> = Err(SettingsError::BadValue(
@@ -463,12 +451,9 @@ fn orders_of_names(rt: HostRuntime) -> Result<(), Fail> {
 /// Two modules and their order.
 struct Compared(&'static str, &'static str, Ordering);
 
-impl Case for Compared {
-    fn holds(&self, alloc: Global) -> bool {
-        match Settings::plain(alloc) {
-            Ok(settings) => settings.order_modules(self.0, self.1) == self.2,
-            Err(_) => false,
-        }
+impl PlainCase for Compared {
+    fn holds_under(&self, _alloc: Global, settings: &Settings) -> bool {
+        settings.order_modules(self.0, self.1) == self.2
     }
 }
 
@@ -484,7 +469,7 @@ const MODULES: &[Compared] = &[
 #[test]
 fn orders_of_modules(rt: HostRuntime) -> Result<(), Fail> {
     laws::modules_are_totally_ordered();
-    each_holds_again(rt.alloc(), MODULES)
+    each_holds_plainly(rt.alloc(), MODULES)
 }
 
 #[test]

@@ -1,4 +1,4 @@
-use crate::cases::{Case, all_are_so, each_holds_again};
+use crate::cases::{Case, PlainCase, all_are_so, each_holds_again, each_holds_plainly};
 use crate::writing::is_written;
 use isort_settings::Settings;
 use isort_sort::{Outcome, SortError, Sorted, blocks, check_code, sort_code};
@@ -598,21 +598,14 @@ impl Answered {
             Err(_) => false,
         }
     }
+}
 
-    fn is_answered(&self, alloc: Global, settings: &Settings) -> bool {
+impl PlainCase for Answered {
+    fn holds_under(&self, alloc: Global, settings: &Settings) -> bool {
         let is_same = self.1 != Outcome::Changed;
         self.is_sorted_so(alloc, settings)
             && check_code(alloc, self.0.as_bytes(), settings) == Ok(is_same)
             && self.has_such_blocks(alloc)
-    }
-}
-
-impl Case for Answered {
-    fn holds(&self, alloc: Global) -> bool {
-        match Settings::plain(alloc) {
-            Ok(settings) => self.is_answered(alloc, &settings),
-            Err(_) => false,
-        }
     }
 }
 
@@ -654,34 +647,25 @@ const ANSWERS: &[Answered] = &[
 
 #[test]
 fn answers_texts(rt: HostRuntime) -> Result<(), Fail> {
-    each_holds_again(rt.alloc(), ANSWERS)
+    each_holds_plainly(rt.alloc(), ANSWERS)
 }
 
 /// A text, and the kind, the byte and the line of its fault.
 struct Faulty(&'static str, FaultKind, u64, u64);
 
-impl Faulty {
+impl PlainCase for Faulty {
     /// Whether each call refuses the text so.
-    fn is_refused(&self, alloc: Global, settings: &Settings, want: SortError) -> bool {
-        let text = self.0.as_bytes();
-        is_written(alloc, settings, self.0, Err(want), b"")
-            && sort_code(alloc, text, settings).err() == Some(want)
-            && check_code(alloc, text, settings) == Err(want)
-            && blocks(alloc, text).err() == Some(want)
-    }
-}
-
-impl Case for Faulty {
-    fn holds(&self, alloc: Global) -> bool {
+    fn holds_under(&self, alloc: Global, settings: &Settings) -> bool {
         let want = SortError::Fault(Fault {
             kind: self.1,
             offset: self.2,
             line: self.3,
         });
-        match Settings::plain(alloc) {
-            Ok(settings) => self.is_refused(alloc, &settings, want),
-            Err(_) => false,
-        }
+        let text = self.0.as_bytes();
+        is_written(alloc, settings, self.0, Err(want), b"")
+            && sort_code(alloc, text, settings).err() == Some(want)
+            && check_code(alloc, text, settings) == Err(want)
+            && blocks(alloc, text).err() == Some(want)
     }
 }
 
@@ -697,5 +681,5 @@ const FAULTS: &[Faulty] = &[
 
 #[test]
 fn refuses_faults(rt: HostRuntime) -> Result<(), Fail> {
-    each_holds_again(rt.alloc(), FAULTS)
+    each_holds_plainly(rt.alloc(), FAULTS)
 }

@@ -1,4 +1,4 @@
-use crate::cases::{Case, each_holds_again};
+use crate::cases::{PlainCase, each_holds_plainly};
 use crate::devices::{Device, Trouble};
 use isort_cmd::{Metered, RunError, check_run, sort_run};
 use isort_settings::Settings;
@@ -26,21 +26,12 @@ const WRONG_CLOSE: RunError = RunError::Fault(Fault {
 /// A text, how many bytes are taken, how it is sorted, and what is written.
 struct Run(&'static str, u16, Result<Outcome, RunError>, &'static str);
 
-impl Run {
-    fn is_so(&self, alloc: Global, settings: &Settings) -> bool {
+impl PlainCase for Run {
+    fn holds_under(&self, alloc: Global, settings: &Settings) -> bool {
         let mut reader = Metered::new(self.0.as_bytes());
         let mut writer = Metered::new(Vec::new(alloc));
         let got = sort_run(alloc, &mut reader, &mut writer, settings, u64::from(self.1));
         got == self.2 && writer.into_inner().as_slice() == self.3.as_bytes()
-    }
-}
-
-impl Case for Run {
-    fn holds(&self, alloc: Global) -> bool {
-        match Settings::plain(alloc) {
-            Ok(settings) => self.is_so(alloc, &settings),
-            Err(_) => false,
-        }
     }
 }
 
@@ -55,21 +46,16 @@ const SORTS: &[Run] = &[
 
 #[test]
 fn sorts_texts(rt: HostRuntime) -> Result<(), Fail> {
-    each_holds_again(rt.alloc(), SORTS)
+    each_holds_plainly(rt.alloc(), SORTS)
 }
 
 /// A text, how many bytes are taken, and what a check answers.
 struct Check(&'static str, u16, Result<bool, RunError>);
 
-impl Case for Check {
-    fn holds(&self, alloc: Global) -> bool {
+impl PlainCase for Check {
+    fn holds_under(&self, alloc: Global, settings: &Settings) -> bool {
         let mut reader = Metered::new(self.0.as_bytes());
-        match Settings::plain(alloc) {
-            Ok(settings) => {
-                check_run(alloc, &mut reader, &settings, u64::from(self.1)) == self.2
-            }
-            Err(_) => false,
-        }
+        check_run(alloc, &mut reader, settings, u64::from(self.1)) == self.2
     }
 }
 
@@ -83,30 +69,24 @@ const CHECKS: &[Check] = &[
 
 #[test]
 fn checks_texts(rt: HostRuntime) -> Result<(), Fail> {
-    each_holds_again(rt.alloc(), CHECKS)
+    each_holds_plainly(rt.alloc(), CHECKS)
 }
 
-/// Whether `UNSORTED` is sorted to a writer with room for five bytes.
-fn writes_five_bytes(alloc: Global, settings: &Settings) -> bool {
-    let mut reader = Metered::new(UNSORTED.as_bytes());
-    let mut writer = Device::new(alloc, b"", 1000, Trouble::Full(5));
-    let got = sort_run(alloc, &mut reader, &mut writer, settings, 1000);
-    got == Err(RunError::Write) && writer.into_inner().taken.as_slice() == b"from ".as_slice()
-}
+/// A text, and the first bytes of the sorted text, which are written where the writer has no more room.
+struct Prefix(&'static str, &'static str);
 
-/// The first bytes that are written where the writer has no more room.
-struct Prefix;
-
-impl Case for Prefix {
-    fn holds(&self, alloc: Global) -> bool {
-        match Settings::plain(alloc) {
-            Ok(settings) => writes_five_bytes(alloc, &settings),
-            Err(_) => false,
-        }
+impl PlainCase for Prefix {
+    fn holds_under(&self, alloc: Global, settings: &Settings) -> bool {
+        let mut reader = Metered::new(self.0.as_bytes());
+        let mut writer = Device::new(alloc, b"", 1000, Trouble::Full(self.1.len()));
+        let got = sort_run(alloc, &mut reader, &mut writer, settings, 1000);
+        got == Err(RunError::Write) && writer.into_inner().taken.as_slice() == self.1.as_bytes()
     }
 }
 
+const PREFIXES: &[Prefix] = &[Prefix(UNSORTED, "from ")];
+
 #[test]
 fn writes_a_prefix(rt: HostRuntime) -> Result<(), Fail> {
-    each_holds_again(rt.alloc(), &[Prefix])
+    each_holds_plainly(rt.alloc(), PREFIXES)
 }

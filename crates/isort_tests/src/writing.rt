@@ -2,7 +2,7 @@
 ghost use Rattle.std.specs.Prelude.{◌≡◌, ◌≤◌, length};
 ghost use Rattle.isort_sort.specs.Metered.{last_of};
 
-use crate::cases::{Case, each_holds_again};
+use crate::cases::{PlainCase, each_holds_plainly};
 use crate::devices::{Device, Trouble};
 use crate::sorting_runs::{BROKEN, SKIPPED, SORTED, UNSORTED};
 use isort_settings::Settings;
@@ -55,12 +55,9 @@ const BAD_IMPORT: SortError = SortError::Fault(Fault {
 /// A text, the answer, and what is written.
 struct Written(&'static str, Result<Outcome, SortError>, &'static str);
 
-impl Case for Written {
-    fn holds(&self, alloc: Global) -> bool {
-        match Settings::plain(alloc) {
-            Ok(settings) => is_written(alloc, &settings, self.0, self.1, self.2.as_bytes()),
-            Err(_) => false,
-        }
+impl PlainCase for Written {
+    fn holds_under(&self, alloc: Global, settings: &Settings) -> bool {
+        is_written(alloc, settings, self.0, self.1, self.2.as_bytes())
     }
 }
 
@@ -75,7 +72,7 @@ const WRITTEN: &[Written] = &[
 
 #[test]
 fn writes_the_sorted_text(rt: HostRuntime) -> Result<(), Fail> {
-    each_holds_again(rt.alloc(), WRITTEN)
+    each_holds_plainly(rt.alloc(), WRITTEN)
 }
 
 /// A text, what sorting it comes to, and the sorted text.
@@ -116,14 +113,9 @@ impl Sorting {
     }
 }
 
-impl Case for Sorting {
-    fn holds(&self, alloc: Global) -> bool {
-        match Settings::plain(alloc) {
-            Ok(settings) => {
-                self.is_written_slowly(alloc, &settings) && self.is_cut_everywhere(alloc, &settings)
-            }
-            Err(_) => false,
-        }
+impl PlainCase for Sorting {
+    fn holds_under(&self, alloc: Global, settings: &Settings) -> bool {
+        self.is_written_slowly(alloc, settings) && self.is_cut_everywhere(alloc, settings)
     }
 }
 
@@ -135,5 +127,5 @@ const SORTINGS: &[Sorting] = &[
 
 #[test]
 fn writes_whole_texts_slowly_and_prefixes_of_every_length(rt: HostRuntime) -> Result<(), Fail> {
-    each_holds_again(rt.alloc(), SORTINGS)
+    each_holds_plainly(rt.alloc(), SORTINGS)
 }
