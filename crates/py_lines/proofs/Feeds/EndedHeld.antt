@@ -1,6 +1,6 @@
 -- The text ends with what is held: its last line, or the fault that stands there.
 use Rattle.std.proofs.Common.{◌≡◌, ℕ, ◌+◌, ◌<◌, ◌≤◌, ◌⊎◌, Bool, true, false, ◌&&◌, None, Some, Result, Ok, Err, List, [], ◌∷◌, ◌++◌, length, take, refl, sym, ap, ◌∙◌, subst, inl, inr, append-nil, arith}
-use Rattle.std.specs.Prelude.{encode_utf8_all, if◌then◌else◌, IsUtf8}
+use Rattle.std.specs.Prelude.{encode_utf8_all, if◌then◌else◌}
 use Rattle.std.specs.Global.{Vec}
 use Rattle.std.specs.Str.{StartsWithNoChar}
 use Rattle.std.proofs.lemmas.Bool.{both_ways, and_parts, false_from_ne_true}
@@ -153,11 +153,6 @@ module _ (f : Feed) (read rest : List ℕ) (o : IsOpen f read rest) where
       final_return m is = absurd (both_ways _ refl is)
 
   -- what these come to
-  pub stop_utf8 : IsUtf8 (take f.state.scan.stop f.held.items)
-  stop_utf8 =
-      let w : Within read f.state.scan.stop = record { front = read; later = []; split = append-nil read; size = open_stop f read rest o } in
-      (within_held f read rest o f.state.scan.stop w).2
-
   pub all_scanned : length f.held.items ≤ f.state.scan.stop → rest ≡ []
   all_scanned full = nil_from_length rest (omega (arith, full, open_stop f read rest o, open_size f read rest o))
 

@@ -1,9 +1,9 @@
 -- What the scanner inside a `Scanner` holds: the text since the line that was released last, and how far it was scanned.
-use Rattle.std.specs.Prelude.{◌≡◌, ℕ, ◌+◌, ◌<◌, ◌≤◌, ◌⊎◌, ◌^◌, ◌&&◌, not, Bool, true, false, Option, None, Some, Result, Ok, Err, List, [], ◌∷◌, ◌++◌, length, take, drop, encode_utf8, encode_utf8_all, if◌then◌else◌}
+use Rattle.std.specs.Prelude.{◌≡◌, ℕ, ◌+◌, ◌<◌, ◌≤◌, ◌⊎◌, ◌^◌, Bool, true, false, Option, None, Some, Result, Ok, Err, List, [], ◌∷◌, ◌++◌, length, take, drop, encode_utf8, encode_utf8_all, if◌then◌else◌}
 use Rattle.std.specs.Str.{StartsWithNoChar, all_scalars}
 use Rattle.std.specs.Char.{IsScalar}
-use Rattle.py_lines.specs.Character.{is_line_feed, is_return}
-use Rattle.py_lines.specs.Piece.{Piece, ends, begins, spelled}
+use Rattle.py_lines.specs.Character.{is_return}
+use Rattle.py_lines.specs.Piece.{Piece, ends, spelled}
 use Rattle.py_lines.specs.LogicalLine.{LogicalLine, byte_len, line_ends, line_of}
 use Rattle.py_lines.specs.Lexed.{IsLexed}
 use Rattle.py_lines.specs.Settled.{IsHopeless}
@@ -11,7 +11,7 @@ use Rattle.py_lines.specs.Given.{AreFirstLines}
 use Rattle.py_lines.specs.Scanning.{GoesOnWith, IsScanning, HoldsReady, fed_of, ready_lines}
 use Rattle.py_lines.specs.Scanning.View.{line_of_feed, ready_of, scanning_of}
 use Rattle.py_lines.specs.Private.Machine.{step, character_kind}
-use Rattle.py_lines.specs.Private.Scan.{ScansIn, Closes, IsUnderWay, IsAtLineEnd, stack_if, is_returned, refused_place, EndsWhole}
+use Rattle.py_lines.specs.Private.Scan.{ScansIn, Closes, IsUnderWay, stack_if, is_returned, refused_place, EndsWhole, IsLineBefore, IsNotEnded}
 use Rattle.py_lines.specs.Private.LineState.{BeginsAnew, KeepsFault, first_mode}
 use Rattle.py_lines.specs.declared.fault.Fault.{Fault}
 use Rattle.py_lines.specs.declared.fault.FaultKind.{FaultKind}
@@ -57,7 +57,7 @@ pub record IsOpen (f : Feed) (read rest : List ℕ) : Type 0 where
 pub record IsEnded (f : Feed) (end_len : ℕ) (read rest : List ℕ) : Type 0 where
   pub scalars : all_scalars read ≡ true
   pub spell : encode_utf8_all read ++ rest ≡ f.held.items
-  pub at : (after : List ℕ) → (ends is_return read ≡ true → begins is_line_feed after ≡ false) → IsAtLineEnd (first_mode f.state.place) f.state.scan read (encode_utf8_all after) end_len
+  pub at : IsLineBefore (first_mode f.state.place) f.state.scan read end_len
   pub number : f.state.scan.line ≡ f.state.line
 
 -- the text has this fault from now on: so many bytes after the lines released
@@ -67,7 +67,8 @@ pub record FailsAt (old : Feed) (kind : FaultKind) (behind : ℕ) (error : LexEr
 
 -- what closing the open piece, and with it the line, comes to
 abbrev pub ClosesLine : Feed → ℕ → Result (Unit {0}) LexError → Feed → Type 0
-ClosesLine old end_len (Ok done) new = KeepsText old new × (new.ready ≡ Some end_len) × (new.state.fault ≡ old.state.fault) × Closes old.state.scan new.state.scan
+ClosesLine old end_len (Ok done) new =
+    KeepsText old new × (new.ready ≡ Some end_len) × (new.state.fault ≡ old.state.fault) × Closes old.state.scan new.state.scan
 ClosesLine old end_len (Err (lex.Fault f)) new = ⊥
 ClosesLine old end_len (Err lex.Memory) new = Restarts old new
 
@@ -75,7 +76,7 @@ ClosesLine old end_len (Err lex.Memory) new = Restarts old new
 pub record Refuses (old : Feed) (read : List ℕ) (c : ℕ) (error : LexError) (new : Feed) : Type 0 where
   pub way : IsUnderWay (first_mode old.state.place) old.state.scan read
   pub refuses : stack_if (step way.state c) ≡ None
-  pub not_yet : is_returned old.state.scan && not (is_line_feed c) ≡ false
+  pub not_yet : IsNotEnded old.state.scan c
   pub fails : FailsAt old (character_kind old.state.scan.piece.mode c) (refused_place old.state.scan) error new
 
 -- a line has ended in what is held
@@ -93,14 +94,18 @@ pub record IsPart (f : Feed) (rest : List ℕ) : Type 0 where
 
 -- the fault of what is held next: a character that is refused, or bytes that begin none
 pub data FailsNext (old : Feed) (read rest : List ℕ) (error : LexError) (new : Feed) : Type 0 where
-  at_character : (c : ℕ) (after : List ℕ) → IsScalar c → rest ≡ encode_utf8 c ++ after → Refuses old read c error new → FailsNext old read rest error new
-  at_bytes : IsUnderWay (first_mode old.state.place) old.state.scan read → IsHopeless rest → is_returned old.state.scan ≡ false → FailsAt old BadUtf8 old.state.scan.stop error new → FailsNext old read rest error new
+  at_character : (c : ℕ) (after : List ℕ) → IsScalar c → rest ≡ encode_utf8 c ++ after → Refuses old read c error new
+      → FailsNext old read rest error new
+  at_bytes : IsUnderWay (first_mode old.state.place) old.state.scan read → IsHopeless rest → is_returned old.state.scan ≡ false
+      → FailsAt old BadUtf8 old.state.scan.stop error new → FailsNext old read rest error new
 
 -- where the scan of what is held stops, and what is left there
 abbrev pub StopsHeld : Feed → Stop → List ℕ → List ℕ → Type 0
 StopsHeld f stops.TextEnd read rest = IsOpen f read rest × StartsWithNoChar rest
 StopsHeld f (stops.LineEnd len) read rest = IsEnded f len read rest × EndsWhole read rest
-StopsHeld f (stops.Refused c) read rest = (opens : IsOpen f read rest) × (after : List ℕ) × IsScalar c × (rest ≡ encode_utf8 c ++ after) × (stack_if (step opens.way.state c) ≡ None) × (is_returned f.state.scan && not (is_line_feed c) ≡ false)
+StopsHeld f (stops.Refused c) read rest =
+    (opens : IsOpen f read rest) × (after : List ℕ) × IsScalar c × (rest ≡ encode_utf8 c ++ after)
+    × (stack_if (step opens.way.state c) ≡ None) × IsNotEnded f.state.scan c
 
 -- nothing is held, and the scan of these bytes, which come next, has stopped so
 pub record HasScannedNext (f : Feed) (chunk : List ℕ) (stop : Stop) : Type 0 where
@@ -109,7 +114,9 @@ pub record HasScannedNext (f : Feed) (chunk : List ℕ) (stop : Stop) : Type 0 w
 
 -- what a scan of the characters that are held answers and leaves
 abbrev pub ScansCharacters : Feed → Result Stop LexError → Feed → Type 0
-ScansCharacters old (Ok stop) new = KeepsText old new × (new.ready ≡ old.ready) × (new.state.fault ≡ old.state.fault) × ((read : List ℕ) × (rest : List ℕ) × StopsHeld new stop read rest)
+ScansCharacters old (Ok stop) new =
+    KeepsText old new × (new.ready ≡ old.ready) × (new.state.fault ≡ old.state.fault)
+    × ((read : List ℕ) × (rest : List ℕ) × StopsHeld new stop read rest)
 ScansCharacters old (Err (lex.Fault f)) new = ⊥
 ScansCharacters old (Err lex.Memory) new = Restarts old new
 
@@ -274,7 +281,8 @@ pub record FailsPiece (old : Feed) (piece : List ℕ) (error : LexError) (new : 
 -- what a call that is fed a piece answers and leaves
 abbrev pub FeedsSo : Feed → List ℕ → Result ℕ LexError → Feed → Type 0
 FeedsSo old piece (Ok n) new = (old.state.fault ≡ None) × (Waits old n new ⊎ TakesSome old piece n new)
-FeedsSo old piece (Err (lex.Fault f)) new = ((old.state.fault ≡ Some f) × (new ≡ old)) ⊎ ((old.state.fault ≡ None) × FailsPiece old piece (lex.Fault f) new)
+FeedsSo old piece (Err (lex.Fault f)) new =
+    ((old.state.fault ≡ Some f) × (new ≡ old)) ⊎ ((old.state.fault ≡ None) × FailsPiece old piece (lex.Fault f) new)
 FeedsSo old piece (Err lex.Memory) new = (old.state.fault ≡ None) × (old.ready ≡ None) × IsUnchanged old new
 
 -- the text ends with what is held, after the lines released
@@ -291,7 +299,8 @@ pub record IsLastLine (old new : Feed) : Type 0 where
   pub is_ready : new.ready ≡ Some end_len
   pub ready : IsReady new end_len
   pub all : new.state.scan.stop ≡ length new.held.items
-  pub lexed : (text : List ℕ) (lines : List LogicalLine) → EndsWith old text lines → IsLexed text (lines ++ line_of_feed new end_len ∷ []) None
+  pub lexed : (text : List ℕ) (lines : List LogicalLine) → EndsWith old text lines
+      → IsLexed text (lines ++ line_of_feed new end_len ∷ []) None
 
 -- the text that ends with what is held has this fault, which is kept
 pub record IsEndFault (old : Feed) (fault : Fault) (new : Feed) : Type 0 where
@@ -311,7 +320,9 @@ pub record HasEndedText (old new : Feed) : Type 0 where
   pub text : KeepsText old new
   pub fault : new.state.fault ≡ old.state.fault
   pub state : StandsSo new.ready new
-  pub lexed : (text : List ℕ) (lines : List LogicalLine) → IsScanning (scanning_of old) text lines → length text ≡ fed_of (scanning_of old) → IsLexed text (lines ++ ready_lines (ready_of new new.ready)) None × HoldsReady new.held.items (ready_of new new.ready)
+  pub lexed : (text : List ℕ) (lines : List LogicalLine) → IsScanning (scanning_of old) text lines
+      → length text ≡ fed_of (scanning_of old)
+      → IsLexed text (lines ++ ready_lines (ready_of new new.ready)) None × HoldsReady new.held.items (ready_of new new.ready)
 
 -- what a call that ends the text answers and leaves
 abbrev pub EndsText : Feed → Result (Unit {0}) LexError → Feed → Type 0

@@ -54,7 +54,8 @@ pub record IsFaultAfter (old : LineState) (kind : FaultKind) (behind : ℕ) (byt
   pub line : (front : List ℕ) → encode_utf8_all front ≡ bytes → fault.line ≡ old.line + line_ends front
 
 -- the text has this fault from now on
-pub record KeepsFault (old : LineState) (kind : FaultKind) (behind : ℕ) (bytes : List ℕ) (error : LexError) (new : LineState) : Type 0 where
+pub record KeepsFault (old : LineState) (kind : FaultKind) (behind : ℕ) (bytes : List ℕ)
+    (error : LexError) (new : LineState) : Type 0 where
   pub fault : Fault
   pub error_is : error ≡ lex.Fault fault
   pub at : IsFaultAfter old kind behind bytes fault
@@ -64,4 +65,5 @@ pub record KeepsFault (old : LineState) (kind : FaultKind) (behind : ℕ) (bytes
 -- something is open
 abbrev pub IsEndFlaw : Scan → ℕ → Option Flaw → Type 0
 IsEndFlaw scan rest None = (rest ≡ 0) × IsUnfinished scan None
-IsEndFlaw scan rest (Some flaw) = ((0 < rest) × (flaw.kind ≡ BadUtf8) × (flaw.place ≡ scan.stop)) ⊎ ((rest ≡ 0) × IsUnfinished scan (Some flaw))
+IsEndFlaw scan rest (Some flaw) =
+    ((0 < rest) × (flaw.kind ≡ BadUtf8) × (flaw.place ≡ scan.stop)) ⊎ ((rest ≡ 0) × IsUnfinished scan (Some flaw))

@@ -57,7 +57,9 @@ spelling_on s (c ∷ cs) = spelling_on (spelling_with s c) cs
 
 -- what a character does in a short string that it doesn't end at once
 unfoldable pub short_move : ℕ → ℕ → Move
-short_move q c = if is_backslash c then moves.Grows (modes.Escape q) else (if is_break c then moves.Refused else moves.Grows (modes.Inside q))
+short_move q c =
+    if is_backslash c then moves.Grows (modes.Escape q)
+    else (if is_break c then moves.Refused else moves.Grows (modes.Inside q))
 
 -- what a character other than the quote does in a long string
 unfoldable pub long_move : ℕ → ℕ → Move
@@ -68,12 +70,16 @@ unfoldable pub move_of : Mode → ℕ → Move
 move_of modes.Start c = if is_mark c then moves.Closes else moves.Breaks
 move_of modes.Free c = moves.Breaks
 move_of modes.Space c = if is_space c then moves.Grows modes.Space else moves.Breaks
-move_of (modes.Word s) c = if is_word_character c then moves.Grows (modes.Word (spelling_with s c)) else (if is_prefix_spelling s && is_quote c then moves.Grows (modes.Opened c) else moves.Breaks)
+move_of (modes.Word s) c =
+    if is_word_character c then moves.Grows (modes.Word (spelling_with s c))
+    else (if is_prefix_spelling s && is_quote c then moves.Grows (modes.Opened c) else moves.Breaks)
 move_of modes.Comment c = if is_break c then moves.Breaks else moves.Grows modes.Comment
 move_of (modes.Opened q) c = if c == q then moves.Grows (modes.Empty q) else short_move q c
 move_of (modes.Inside q) c = if c == q then moves.Closes else short_move q c
 move_of (modes.Escape q) c = if is_return c then moves.Grows (modes.EscapeReturn q) else moves.Grows (modes.Inside q)
-move_of (modes.EscapeReturn q) c = if is_line_feed c then moves.Grows (modes.Inside q) else (if c == q then moves.Closes else short_move q c)
+move_of (modes.EscapeReturn q) c =
+    if is_line_feed c then moves.Grows (modes.Inside q)
+    else (if c == q then moves.Closes else short_move q c)
 move_of (modes.Empty q) c = if c == q then moves.Grows (modes.Long q) else moves.Breaks
 move_of (modes.Long q) c = if c == q then moves.Grows (modes.LongOne q) else long_move q c
 move_of (modes.LongOne q) c = if c == q then moves.Grows (modes.LongTwo q) else long_move q c
@@ -326,17 +332,25 @@ abbrev pub Holds : Mode → List Piece → List ℕ → Type 0
 Holds modes.Start done held = (done ≡ []) × (held ≡ [])
 Holds modes.Free done held = held ≡ []
 Holds modes.Space done held = IsRun is_space held
-Holds (modes.Word s) done held = (first : ℕ) × (others : List ℕ) × (held ≡ first ∷ others) × (is_word_start first ≡ true) × (list_all is_word_character others ≡ true) × (s ≡ spelling_on (first_spelling first) others)
+Holds (modes.Word s) done held =
+    (first : ℕ) × (others : List ℕ) × (held ≡ first ∷ others) × (is_word_start first ≡ true)
+    × (list_all is_word_character others ≡ true) × (s ≡ spelling_on (first_spelling first) others)
 Holds modes.Comment done held = IsComment held
 Holds (modes.Opened q) done held = HoldsQuotes (q ∷ []) q held
 Holds (modes.Inside q) done held = HoldsSome q held
-Holds (modes.Escape q) done held = (before : List ℕ) × (slash : ℕ) × (held ≡ before ++ slash ∷ []) × HoldsItems q before × (is_backslash slash ≡ true)
-Holds (modes.EscapeReturn q) done held = (before : List ℕ) × (slash : ℕ) × (r : ℕ) × (held ≡ before ++ slash ∷ r ∷ []) × HoldsItems q before × (is_backslash slash ≡ true) × (is_return r ≡ true)
+Holds (modes.Escape q) done held =
+    (before : List ℕ) × (slash : ℕ) × (held ≡ before ++ slash ∷ []) × HoldsItems q before
+    × (is_backslash slash ≡ true)
+Holds (modes.EscapeReturn q) done held =
+    (before : List ℕ) × (slash : ℕ) × (r : ℕ) × (held ≡ before ++ slash ∷ r ∷ []) × HoldsItems q before
+    × (is_backslash slash ≡ true) × (is_return r ≡ true)
 Holds (modes.Empty q) done held = HoldsQuotes (q ∷ q ∷ []) q held
 Holds (modes.Long q) done held = HoldsLong q held
 Holds (modes.LongOne q) done held = (before : List ℕ) × (held ≡ before ++ q ∷ []) × HoldsLong q before
 Holds (modes.LongTwo q) done held = (before : List ℕ) × (held ≡ before ++ q ∷ q ∷ []) × HoldsLong q before
-Holds (modes.LongEscape q) done held = (before : List ℕ) × (slash : ℕ) × (held ≡ before ++ slash ∷ []) × HoldsFront q before × (is_backslash slash ≡ true)
+Holds (modes.LongEscape q) done held =
+    (before : List ℕ) × (slash : ℕ) × (held ≡ before ++ slash ∷ []) × HoldsFront q before
+    × (is_backslash slash ≡ true)
 Holds modes.Backslash done held = (slash : ℕ) × (held ≡ slash ∷ []) × (is_backslash slash ≡ true)
 Holds modes.JoinReturn done held = (slash : ℕ) × (r : ℕ) × (held ≡ slash ∷ r ∷ []) × (is_backslash slash ≡ true) × (is_return r ≡ true)
 Holds modes.Return done held = (r : ℕ) × (held ≡ r ∷ []) × (is_return r ≡ true)

@@ -9,8 +9,9 @@ use Rattle.py_lines.specs.LogicalLine.{byte_len}
 use Rattle.std.specs.declared.alloc.AllocError.{AllocError}
 use Rattle.py_lines.specs.Piece.{operator, begins}
 use Rattle.py_lines.specs.Private.Machine.{Bracket, IsSound, brackets_behind, IsFull, first_spelling, spelling_on, move_of}
-use Rattle.py_lines.specs.Private.Scan.{Begins, Closes, IsUnderWay, ScansIn, line_start, stack_of, none_open, with_brackets, is_return_mode}
+use Rattle.py_lines.specs.Private.Scan.{Begins, Closes, IsUnderWay, ScansIn, line_start, stack_of, none_open, with_brackets, is_return_mode, stack_with}
 use Rattle.py_lines.specs.declared.brackets.Brackets.{Brackets}
+use Rattle.py_lines.specs.declared.token.Token.{Token}
 use Rattle.py_lines.specs.declared.token.TokKind.{TokKind}
 use Rattle.py_lines.specs.declared.token.TokKind.TheVariants as kind
 use Rattle.py_lines.specs.declared.unit.UnitKind.TheVariants as unit_kind
@@ -176,11 +177,19 @@ space_mode run = modes.Space
 
 -- the scan with a piece of so many bytes open, after closed ones
 abbrev pub opened : Scan → Mode → ℕ → Scan
-opened old m len = record old { piece = record { mode = m; start = old.stop; line = old.count.line }; stop = old.stop + len; count = record { line = old.count.line; after_return = false } }
+opened old m len = record old {
+  piece = record { mode = m; start = old.stop; line = old.count.line };
+  stop = old.stop + len;
+  count = record { line = old.count.line; after_return = false };
+}
+
+-- a token of so many bytes, where the scan stands
+abbrev pub token_at : Scan → TokKind → ℕ → Token
+token_at scan k len = record { kind = k; start = scan.stop; stop = scan.stop + len; line = scan.count.line }
 
 -- a token of so many bytes came after closed pieces
 pub record AddsToken (old : Scan) (k : TokKind) (len : ℕ) (new : Scan) : Type 0 where
-  pub tokens : new.tokens.items ≡ old.tokens.items ++ record { kind = k; start = old.stop; stop = old.stop + len; line = old.count.line } ∷ []
+  pub tokens : new.tokens.items ≡ old.tokens.items ++ token_at old k len ∷ []
   pub kind : new.kind ≡ unit_kind.Code
   pub mode : new.piece.mode ≡ modes.Free
   pub start : new.piece.start ≡ old.stop + len
@@ -194,7 +203,8 @@ pub record AddsToken (old : Scan) (k : TokKind) (len : ℕ) (new : Scan) : Type 
   pub brackets : new.brackets ≡ old.brackets
 
 -- a piece that this run spells came after closed ones: it is open, or closed where what follows shows its end
-pub record TakesRun (passes : ℕ → Bool) (next : List Bracket → ℕ → Bool) (mode_of : List ℕ → Mode) (old : Scan) (bytes : List ℕ) (len : ℕ) (new : Scan) : Type 0 where
+pub record TakesRun (passes : ℕ → Bool) (next : List Bracket → ℕ → Bool) (mode_of : List ℕ → Mode)
+    (old : Scan) (bytes : List ℕ) (len : ℕ) (new : Scan) : Type 0 where
   pub run : List ℕ
   pub after : List ℕ
   pub spell : run ++ after ≡ bytes
@@ -202,7 +212,8 @@ pub record TakesRun (passes : ℕ → Bool) (next : List Bracket → ℕ → Boo
   pub full : IsFull run
   pub all : list_all passes run ≡ true
   pub ends : begins passes after ≡ false
-  pub how : (new ≡ opened old (mode_of run) len) ⊎ (Closes (opened old (mode_of run) len) new × (begins (next (stack_of old.brackets)) after ≡ true))
+  pub how : (new ≡ opened old (mode_of run) len)
+      ⊎ (Closes (opened old (mode_of run) len) new × (begins (next (stack_of old.brackets)) after ≡ true))
 
 -- an operator came after closed pieces
 pub record TakesOperator (old : Scan) (bytes : List ℕ) (len : ℕ) (new : Scan) : Type 0 where
@@ -212,7 +223,7 @@ pub record TakesOperator (old : Scan) (bytes : List ℕ) (len : ℕ) (new : Scan
   pub size : 1 ≡ len
   pub passes : is_operator c ≡ true
   pub met : Brackets
-  pub stands : brackets_behind (stack_of old.brackets) old.stop (record { class = operator; text = c ∷ [] }) ≡ Some (stack_of met)
+  pub stands : stack_with old.brackets old.stop c ≡ Some (stack_of met)
   pub adds : AddsToken (with_brackets old met) (kind.Op c) 1 new
 
 -- a string between single quotes, of ASCII and with no escape in it, came whole after closed pieces
@@ -268,7 +279,12 @@ BeginsWithFeed bytes = begins is_line_feed bytes ≡ true
 
 -- the scan after a line end of so many bytes, which CR begins, after closed pieces
 abbrev pub line_ended : Scan → ℕ → Scan
-line_ended old len = record old { piece = record { mode = modes.Free; start = old.stop + len; line = old.count.line + 1 }; stop = old.stop + len; count = record { line = old.count.line + 1; after_return = len == 1 }; margin = false }
+line_ended old len = record old {
+  piece = record { mode = modes.Free; start = old.stop + len; line = old.count.line + 1 };
+  stop = old.stop + len;
+  count = record { line = old.count.line + 1; after_return = len == 1 };
+  margin = false;
+}
 
 -- CR LF came after closed pieces
 pub record TakesReturnFeed (old : Scan) (bytes : List ℕ) (new : Scan) : Type 0 where
@@ -289,13 +305,32 @@ pub record TakesReturnAlone (old : Scan) (bytes : List ℕ) (new : Scan) : Type 
 abbrev pub TakesReturn : Scan → List ℕ → Taken → Scan → Type 0
 TakesReturn old bytes taken.Nothing new = new ≡ old
 TakesReturn old bytes (taken.Bytes len) new = (len ≡ 2) × (none_open (stack_of old.brackets) ≡ false) × TakesReturnFeed old bytes new
-TakesReturn old bytes (taken.LineEnd len) new = ((len ≡ 2) × (none_open (stack_of old.brackets) ≡ true) × TakesReturnFeed old bytes new) ⊎ ((len ≡ 1) × TakesReturnAlone old bytes new)
+TakesReturn old bytes (taken.LineEnd len) new =
+    ((len ≡ 2) × (none_open (stack_of old.brackets) ≡ true) × TakesReturnFeed old bytes new)
+    ⊎ ((len ≡ 1) × TakesReturnAlone old bytes new)
+
+-- a line end came after closed pieces: in brackets the line goes on
+abbrev pub TakesLineEnd : Scan → List ℕ → Taken → Scan → Type 0
+TakesLineEnd old bytes taken new = (BeginsWithFeed bytes × TakesLineFeed old taken new) ⊎ TakesReturn old bytes taken new
+
+-- a word came after closed pieces, or space
+abbrev pub TakesWord : Scan → List ℕ → ℕ → Scan → Type 0
+TakesWord = TakesRun is_word_byte follows word_mode
+
+abbrev pub TakesSpace : Scan → List ℕ → ℕ → Scan → Type 0
+TakesSpace = TakesRun is_space may_begin space_mode
+
+-- such a piece came, or another that ends no line
+abbrev pub TakesBytes : Scan → List ℕ → ℕ → Scan → Type 0
+TakesBytes old bytes len new =
+    TakesWord old bytes len new ⊎ (TakesSpace old bytes len new ⊎ (TakesOperator old bytes len new ⊎ (TakesString old bytes len new
+    ⊎ (TakesComment old bytes len new ⊎ TakesLineEnd old bytes (taken.Bytes len) new))))
 
 -- a piece came after closed ones, or nothing was taken
 abbrev pub TakesPiece : Scan → List ℕ → Result Taken AllocError → Scan → Type 0
 TakesPiece old bytes (Ok taken.Nothing) new = new ≡ old
-TakesPiece old bytes (Ok (taken.Bytes len)) new = TakesRun is_word_byte follows word_mode old bytes len new ⊎ (TakesRun is_space may_begin space_mode old bytes len new ⊎ (TakesOperator old bytes len new ⊎ (TakesString old bytes len new ⊎ (TakesComment old bytes len new ⊎ ((BeginsWithFeed bytes × TakesLineFeed old (taken.Bytes len) new) ⊎ TakesReturn old bytes (taken.Bytes len) new)))))
-TakesPiece old bytes (Ok (taken.LineEnd len)) new = (BeginsWithFeed bytes × TakesLineFeed old (taken.LineEnd len) new) ⊎ TakesReturn old bytes (taken.LineEnd len) new
+TakesPiece old bytes (Ok (taken.Bytes len)) new = TakesBytes old bytes len new
+TakesPiece old bytes (Ok (taken.LineEnd len)) new = TakesLineEnd old bytes (taken.LineEnd len) new
 TakesPiece old bytes (Err e) new = Unit {0}
 
 -- the scan has closed the open piece, since the next byte shows its end

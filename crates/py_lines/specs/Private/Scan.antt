@@ -51,10 +51,14 @@ abbrev pub IsInnermost : Option OpenBracket → List Bracket → Type 0
 IsInnermost None st = st ≡ []
 IsInnermost (Some b) st = (others : List Bracket) × (st ≡ record { opener = b.opener; place = b.place } ∷ others)
 
+-- the open brackets after an operator at this byte, if it may stand there
+abbrev pub stack_with : Brackets → ℕ → ℕ → Option (List Bracket)
+stack_with b place c = brackets_behind (stack_of b) place (record { class = operator; text = c ∷ [] })
+
 -- an operator at this byte goes into the stack, or may not stand there
 abbrev pub Meets : Brackets → ℕ → ℕ → Result Bool AllocError → Brackets → Type 0
-Meets old c place (Ok true) new = brackets_behind (stack_of old) place (record { class = operator; text = c ∷ [] }) ≡ Some (stack_of new)
-Meets old c place (Ok false) new = (brackets_behind (stack_of old) place (record { class = operator; text = c ∷ [] }) ≡ None) × (new ≡ old)
+Meets old c place (Ok true) new = stack_with old place c ≡ Some (stack_of new)
+Meets old c place (Ok false) new = (stack_with old place c ≡ None) × (new ≡ old)
 Meets old c place (Err e) new = Unit {0}
 
 -- the kind of a line with one more token
@@ -197,8 +201,10 @@ with_brackets old b = record old { brackets = b }
 
 -- an operator came after the open piece, or may not stand there
 abbrev pub Operates : Scan → ℕ → Result Progress AllocError → Scan → Type 0
-Operates old c (Ok progress.Refused) new = (brackets_behind (stack_of old.brackets) old.stop (record { class = operator; text = c ∷ [] }) ≡ None) × (new ≡ old)
-Operates old c (Ok progress.Going) new = (met : Brackets) × (brackets_behind (stack_of old.brackets) old.stop (record { class = operator; text = c ∷ [] }) ≡ Some (stack_of met)) × ClosesAndAdds (with_brackets old met) c (Some (kind.Op c)) new
+Operates old c (Ok progress.Refused) new = (stack_with old.brackets old.stop c ≡ None) × (new ≡ old)
+Operates old c (Ok progress.Going) new =
+    (met : Brackets) × (stack_with old.brackets old.stop c ≡ Some (stack_of met))
+    × ClosesAndAdds (with_brackets old met) c (Some (kind.Op c)) new
 Operates old c (Ok (progress.LineEnded len)) new = ⊥
 Operates old c (Err e) new = Unit {0}
 
@@ -300,17 +306,23 @@ pub record IsAtLineEnd (m : Mode) (scan : Scan) (read rest : List ℕ) (len : �
 abbrev pub is_returned : Scan → Bool
 is_returned scan = is_return_mode scan.piece.mode && none_open (stack_of scan.brackets)
 
+-- the line goes on with this character, or is refused: it hadn't ended before, with CR
+abbrev pub IsNotEnded : Scan → ℕ → Type 0
+IsNotEnded scan c = is_returned scan && not (is_line_feed c) ≡ false
+
 -- what one more character comes to, wherever the machine stands that the scan keeps count of
 abbrev pub TakesNext : Scan → ℕ → Result Progress AllocError → Scan → Type 0
 TakesNext old c result new =
-    (s : Scanned) (read : List ℕ) → IsSound s read → EndsNoLine 0 s.done → is_returned old && not (is_line_feed c) ≡ false
+    (s : Scanned) (read : List ℕ) → IsSound s read → EndsNoLine 0 s.done → IsNotEnded old c
     → Tallies old s → IsStacked old s → Takes old s c result new
 
 -- the scan of a line's characters stops after these, with `rest` after them
 abbrev pub StopsSo : Mode → Scan → Stop → List ℕ → List ℕ → Type 0
 StopsSo m scan stops.TextEnd read rest = IsUnderWay m scan read × (rest ≡ []) × (is_returned scan ≡ false)
 StopsSo m scan (stops.LineEnd len) read rest = IsAtLineEnd m scan read rest len
-StopsSo m scan (stops.Refused c) read rest = (way : IsUnderWay m scan read) × (after : List ℕ) × (rest ≡ encode_utf8_all (c ∷ after)) × (stack_if (step way.state c) ≡ None) × (is_returned scan && not (is_line_feed c) ≡ false)
+StopsSo m scan (stops.Refused c) read rest =
+    (way : IsUnderWay m scan read) × (after : List ℕ) × (rest ≡ encode_utf8_all (c ∷ after))
+    × (stack_if (step way.state c) ≡ None) × IsNotEnded scan c
 
 -- where the scan of a text stops: after some of its characters
 pub record Scans (m : Mode) (text : List ℕ) (scan : Scan) (stop : Stop) : Type 0 where
@@ -320,9 +332,13 @@ pub record Scans (m : Mode) (text : List ℕ) (scan : Scan) (stop : Stop) : Type
   pub spell : encode_utf8_all read ++ rest ≡ text
   pub stops : StopsSo m scan stop read rest
 
+-- LF doesn't follow CR
+abbrev pub IsApart : List ℕ → List ℕ → Type 0
+IsApart read after = ends is_return read ≡ true → begins is_line_feed after ≡ false
+
 -- these characters are a line with its line end, whatever follows, except LF after CR
 abbrev pub IsLineBefore : Mode → Scan → List ℕ → ℕ → Type 0
-IsLineBefore m scan read len = (after : List ℕ) → (ends is_return read ≡ true → begins is_line_feed after ≡ false) → IsAtLineEnd m scan read (encode_utf8_all after) len
+IsLineBefore m scan read len = (after : List ℕ) → IsApart read after → IsAtLineEnd m scan read (encode_utf8_all after) len
 
 -- What follows a line's end: nothing is known of it after LF, and after CR there is a byte that is no LF.
 abbrev pub EndsWhole : List ℕ → List ℕ → Type 0
@@ -332,7 +348,9 @@ EndsWhole read rest = (ends is_return read ≡ false) ⊎ ((b : ℕ) × (more : 
 abbrev pub StopsIn : Mode → Scan → Stop → List ℕ → List ℕ → Type 0
 StopsIn m scan stops.TextEnd read rest = IsUnderWay m scan read × StartsWithNoChar rest
 StopsIn m scan (stops.LineEnd len) read rest = IsLineBefore m scan read len × EndsWhole read rest
-StopsIn m scan (stops.Refused c) read rest = (way : IsUnderWay m scan read) × (after : List ℕ) × IsScalar c × (rest ≡ encode_utf8 c ++ after) × (stack_if (step way.state c) ≡ None) × (is_returned scan && not (is_line_feed c) ≡ false)
+StopsIn m scan (stops.Refused c) read rest =
+    (way : IsUnderWay m scan read) × (after : List ℕ) × IsScalar c × (rest ≡ encode_utf8 c ++ after)
+    × (stack_if (step way.state c) ≡ None) × IsNotEnded scan c
 
 -- where the scan of a line stops that began with these bytes
 pub record ScansIn (m : Mode) (line : ℕ) (whole : List ℕ) (scan : Scan) (stop : Stop) : Type 0 where
@@ -347,9 +365,15 @@ pub record ScansIn (m : Mode) (line : ℕ) (whole : List ℕ) (scan : Scan) (sto
 abbrev pub refused_place : Scan → ℕ
 refused_place scan = if in_short scan.piece.mode || is_behind_slash scan.piece.mode then scan.piece.start else scan.stop
 
+-- the innermost open bracket stands at this byte
+abbrev pub HasInnermostAt : List Bracket → ℕ → Type 0
+HasInnermostAt st place = (b : Bracket) × (others : List Bracket) × (st ≡ b ∷ others) × (place ≡ b.place)
+
 -- what is open starts at this byte: a string or a backslash, or else the innermost bracket
 abbrev pub IsOpenFrom : Scan → ℕ → Type 0
-IsOpenFrom scan place = ((is_final scan.piece.mode ≡ false) × (place ≡ scan.piece.start)) ⊎ ((is_final scan.piece.mode ≡ true) × ((b : Bracket) × (others : List Bracket) × (stack_of scan.brackets ≡ b ∷ others) × (place ≡ b.place)))
+IsOpenFrom scan place =
+    ((is_final scan.piece.mode ≡ false) × (place ≡ scan.piece.start))
+    ⊎ ((is_final scan.piece.mode ≡ true) × HasInnermostAt (stack_of scan.brackets) place)
 
 -- what is wrong where the text ends: nothing, if it may end there
 abbrev pub IsUnfinished : Scan → Option Flaw → Type 0

@@ -38,7 +38,8 @@ pub record HasScanned (s : Source) (stop : Stop) : Type 0 where
 
 -- what a call that reads the next line answers and leaves
 abbrev pub Advances : Source → Result Bool LexError → Source → Type 0
-Advances old (Ok true) new = Continues (reader_of old) (line_of_source new) (reader_of new) × EachLiesIn (line_of_source new).text new.state.scan.tokens.items
+Advances old (Ok true) new =
+    Continues (reader_of old) (line_of_source new) (reader_of new) × EachLiesIn (line_of_source new).text new.state.scan.tokens.items
 Advances old (Ok false) new = Ends (reader_of old) (reader_of new)
 Advances old (Err (lex.Fault f)) new = Fails (reader_of old) f (reader_of new)
 Advances old (Err lex.Memory) new = RunsOut (reader_of old) (reader_of new)
