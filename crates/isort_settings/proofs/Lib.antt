@@ -12,6 +12,9 @@
 --
 -- Sections (proofs/Prefixes): the first of all pairs of a prefix and a list is what prefix by prefix finds.
 --
+-- Lists of modules (proofs/ModuleLists): the standard library is sorted, so a binary search finds what it holds, and two
+-- lists are compared place by place.
+--
 -- Orders (proofs/OrderParts, OrderRuns, OrderNumbers): the runs that the code splits off are the first parts of the
 -- cut, and of two numbers without leading zeros the longer one is greater.
 --

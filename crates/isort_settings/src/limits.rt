@@ -2,7 +2,7 @@
 ghost use Rattle.std.specs.Prelude.{◌≡◌, ◌&&◌, nat_le, int_le};
 
 /// The whole numbers from `least` to `most`.
-#[derive(Clone, Copy)]
+#[derive(Drop)]
 pub struct Limits<N> {
     pub least: N,
     pub most: N,

@@ -4,8 +4,8 @@ ghost use Rattle.std.specs.Prelude.{◌≡◌, map};
 ghost use Rattle.isort_settings.specs.Sections.{holds};
 ghost use Rattle.isort_settings.specs.StandardLibrary.{standard_library};
 
-/// The default of `known_standard_library`, by the bytes of the names. This is the project's own list, with no claim that
-/// it is whole.
+/// The default of `known_standard_library`, by the bytes of the names. This is the project's own list, with no claim
+/// that it is whole.
 const STANDARD_LIBRARY: [&str; 160] = [
     "abc",
     "argparse",

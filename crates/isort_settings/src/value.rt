@@ -49,7 +49,7 @@ fn entry(value: &Value) -> Option<&str>
 }
 
 /// A key's value in the table.
-#[derive(Clone, Copy)]
+#[derive(Drop)]
 pub struct KeyValue<'t> {
     pub key: SettingKey,
     pub value: &'t Value,

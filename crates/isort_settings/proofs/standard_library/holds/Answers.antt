@@ -1,5 +1,5 @@
 -- The list is sorted, so a binary search finds what it holds.
-use Rattle.std.proofs.Common.{◌≡◌, true, map, refl, ap, ◌∙◌, rules, tests}
+use Rattle.std.proofs.Common.{◌≡◌, true, refl, ap, ◌∙◌, rules, tests}
 use Rattle.std.proofs.lemmas.Fn.{always_returns_same}
 use Rattle.std.specs.Cmp.Lexicographic.{slice_cmp}
 use Rattle.std.specs.Ordering.{nat_cmp}

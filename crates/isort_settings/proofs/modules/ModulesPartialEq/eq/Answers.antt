@@ -1,5 +1,5 @@
 -- The lists are compared module by module.
-use Rattle.std.proofs.Common.{◌≡◌, ◌+◌, ◌&&◌, not, true, false, length, sym, ◌∙◌, ap, drop, bytes_eq, arith}
+use Rattle.std.proofs.Common.{◌+◌, ◌&&◌, not, sym, ◌∙◌, ap, drop, bytes_eq, arith}
 use Rattle.std.specs.Cmp.Lexicographic.{pointwise}
 use Rattle.isort_settings.specs.Modules.{texts_of}
 use Rattle.isort_settings.proofs.ModuleLists.{same_after, same_at_end}
