@@ -1,10 +1,9 @@
 //! Runs of bytes that leave the open piece as it is.
 
 ghost use Rattle.std.specs.Prelude.{◌≡◌, ◌<◌, ◌==◌, ℕ, Bool, true, List, length};
-ghost use Rattle.std.specs.List.{prefix_len};
 ghost use Rattle.py_lines.specs.Character.{is_space};
 ghost use Rattle.py_lines.specs.Piece.{begins};
-ghost use Rattle.py_lines.specs.Private.Run.{BeginsSo, HasAsciiQuote, IsRunOf, Marks, is_between, is_in_run, is_word_byte, is_comment_byte, is_body_byte, is_text_byte, stays};
+ghost use Rattle.py_lines.specs.Private.Run.{BeginsSo, CountsSet, HasAsciiQuote, IsRunOf, Marks, is_between, is_in_run, is_word_byte, is_comment_byte, is_body_byte, is_text_byte, stays};
 
 use crate::character::is_break;
 use crate::mode::{Mode, Spelling};
@@ -146,7 +145,7 @@ fn text(quote: u8, lanes: u8x16) -> u8x16
 /// How many lanes are set before the first that isn't.
 #[inline(always)]
 fn set_first(mask: u8x16) -> usize
-    ensures { (passes : ℕ → Bool) (lanes : List ℕ) → length lanes ≡ 16 → Marks passes lanes mask → result ≡ prefix_len passes lanes }
+    ensures { CountsSet mask result }
 {
     let others = mask.simd_lt(u8x16::splat(128)).to_bitmask();
     if others == 0 {

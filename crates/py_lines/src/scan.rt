@@ -6,7 +6,7 @@ ghost use Rattle.py_lines.specs.Character.{is_line_feed};
 ghost use Rattle.py_lines.specs.Piece.{begins};
 ghost use Rattle.py_lines.specs.Private.Machine.{IsSound, start_of, character_kind};
 ghost use Rattle.py_lines.specs.Private.Scan.{TakesNext, AddsTo, Emits, Closes, ReadsCharacter, Begins, Tallies, IsStacked, Scans, ScansIn, line_start, is_returned, none_open, stack_of, line_end_progress, ClosesAndAdds, freed, refused_place, IsUnfinished};
-ghost use Rattle.py_lines.specs.Private.Run.{WhereverReached, is_free, Holds, HasAsciiQuote, Reached};
+ghost use Rattle.py_lines.specs.Private.Run.{WhereverReached, is_free, Holds, HasAsciiQuote, StandsBefore};
 ghost use Rattle.py_lines.specs.declared.token.TokKind.TheVariants.{Op};
 ghost use Rattle.py_lines.specs.declared.mode.Mode.{Mode};
 
@@ -132,9 +132,9 @@ impl Scan {
         ensures { OnOk result (AddsTo self.old token self.new) }
     {
         self.tokens.push(token)?;
-        if token.kind != TokKind::Remark {
+        if !token.kind.is_comment() {
             self.kind = UnitKind::Code;
-        } else if self.kind == UnitKind::Blank {
+        } else if matches!(self.kind, UnitKind::Blank) {
             self.kind = UnitKind::Comment;
         }
         Ok(())
@@ -374,7 +374,7 @@ impl Scan {
     /// Takes characters that go on in the line, up to its end, bytes that begin no character, or a character that is
     /// refused. A CR at the end of the bytes stays open.
     pub fn extend(&mut self, bytes: &[u8]) -> Result<Stop, AllocError>
-        requires way { (m : Mode) × (line : ℕ) × (whole : List ℕ) × IsSound (line_start m) [] × Reached m line whole self.old bytes.now }
+        requires way { StandsBefore self.old bytes.now }
         requires bytes { self.old.stop + length bytes.now < 2 ^ 64 }
         requires lines { self.old.line + self.old.stop + length bytes.now + 1 < 2 ^ 64 }
         ensures stops { WhereverReached self.old bytes.now (λ m line whole. IfOk result (ScansIn m line whole self.new)) }

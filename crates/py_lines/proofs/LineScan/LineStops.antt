@@ -18,7 +18,7 @@ use Rattle.py_lines.specs.declared.scan.Stop.{Stop}
 use Rattle.py_lines.specs.declared.scan.Stop.TheVariants as stops
 use Rattle.py_lines.specs.Private.Machine.{Scanned, IsSound, start_of}
 use Rattle.py_lines.specs.Private.Scan.{Tallies, IsStacked, TakesNext, Begins, Closes, line_start, stack_of, none_open, is_returned, is_return_mode, IsAtLineEnd, EndsWhole, ScansIn, Scans}
-use Rattle.py_lines.specs.Private.Run.{Holds, HasAsciiQuote, Reached, ReachedShut, IsNoLonger, LeavesOff, is_free}
+use Rattle.py_lines.specs.Private.Run.{StandsBefore, Holds, HasAsciiQuote, Reached, ReachedShut, IsNoLonger, LeavesOff, is_free}
 use Rattle.py_lines.proofs.LineScan.EarlyEnds.{TakesFrom, taken_free, taken_open, stands_reached, stands_shut, shut_none}
 use Rattle.py_lines.proofs.LineScan.ShortPieces.{free_is, open_reached}
 use Rattle.py_lines.proofs.Text.CharacterTests.{feed_from, feed_is}
@@ -37,10 +37,6 @@ GoesTo old text new rest = (m : Mode) (line : ℕ) (whole : List ℕ) → IsSoun
 -- and it stops so
 abbrev pub StopsNow : Scan → List ℕ → Scan → Stop → Type 0
 StopsNow old text new stop = (m : Mode) (line : ℕ) (whole : List ℕ) → IsSound (line_start m) [] → Reached m line whole old text → ScansIn m line whole new stop
-
--- it stands somewhere in a line
-abbrev pub StandsBefore : Scan → List ℕ → Type 0
-StandsBefore old text = (m : Mode) × (line : ℕ) × (whole : List ℕ) × IsSound (line_start m) [] × Reached m line whole old text
 
 -- the same, where it may have closed the open piece early
 abbrev pub ShutsTo : Scan → List ℕ → Scan → List ℕ → Type 0

@@ -7,7 +7,7 @@ use Rattle.std.proofs.lemmas.Simd.{length-chunk, get_or-chunk, map-map, tops_com
 use Rattle.std.proofs.lemmas.List.{take_all, length-map, length-drop, get_or-drop}
 use Rattle.std.proofs.lemmas.List.Sums.{prefix_len-le-length, prefix_len_passes, prefix_len_stops}
 use Rattle.std.proofs.lemmas.Bool.{ne_eqb, cases_lt}
-use Rattle.py_lines.specs.Private.Run.{Marks, IsRunOf}
+use Rattle.py_lines.specs.Private.Run.{CountsSet, Marks, IsRunOf}
 
 sel_of_map : (p : ℕ → Bool) (y z : ℕ) (vs : List ℕ) → sel_l (map p vs) (replicate (length vs) y) (replicate (length vs) z) ≡ map (λ x. cond (p x) y z) vs
 sel_of_map p y z [] = refl
@@ -124,7 +124,7 @@ pub record Sixteen (p : ℕ → Bool) (xs : List ℕ) (i r : ℕ) : Type 0 where
   pub ends : r < 16 → IsRunOf p xs (i + r)
 
 pub sixteen : (p : ℕ → Bool) (xs : List ℕ) (i r : ℕ) (mask : List ℕ) → i ≤ length xs → 16 ≤ length xs - i → ((k : ℕ) → k < i → p (slice_index xs k) ≡ true)
-    → ((passes : ℕ → Bool) (lanes : List ℕ) → length lanes ≡ 16 → Marks passes lanes mask → r ≡ prefix_len passes lanes) → Marks p (chunk i 16 xs) mask → Sixteen p xs i r
+    → CountsSet mask r → Marks p (chunk i 16 xs) mask → Sixteen p xs i r
 sixteen p xs i r mask within more before counts marks =
     let room : i + 16 ≤ length xs = omega (arith, within, more) in
     let counted = counts p (chunk i 16 xs) (length-chunk i 16 xs room) marks in

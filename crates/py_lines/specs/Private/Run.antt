@@ -2,7 +2,7 @@
 use Rattle.std.specs.Prelude.{◌&&◌, is_some, Some, Result, Ok, Err, ◌≡◌, ℕ, ◌+◌, ◌<◌, ◌≤◌, ◌⊎◌, Bool, true, false, ◌==◌, ◌||◌, not, nat_lt, nat_le, if◌then◌else◌, map, List, [], ◌∷◌, ◌++◌, length, take, drop, slice_index, codes, encode_utf8, encode_utf8_all}
 use Rattle.std.specs.Str.{all_scalars, byte, IsUtf8}
 use Rattle.std.specs.Char.{is_ascii_alphanumeric, len_utf8, IsScalar}
-use Rattle.std.specs.List.{list_all}
+use Rattle.std.specs.List.{list_all, prefix_len}
 use Rattle.py_lines.specs.Character.{is_one_of}
 use Rattle.py_lines.specs.Balance.{is_opening, is_closing}
 use Rattle.py_lines.specs.LogicalLine.{byte_len}
@@ -47,6 +47,10 @@ is_between low high c = nat_le low c && nat_le c high
 -- the lanes of a mask that are set are those whose bytes pass
 abbrev pub Marks : (ℕ → Bool) → List ℕ → List ℕ → Type 0
 Marks passes lanes mask = mask ≡ map (λ c. if passes c then 255 else 0) lanes
+
+-- so many of sixteen lanes stand before the first that the mask doesn't set
+abbrev pub CountsSet : List ℕ → ℕ → Type 0
+CountsSet mask n = (passes : ℕ → Bool) (lanes : List ℕ) → length lanes ≡ 16 → Marks passes lanes mask → n ≡ prefix_len passes lanes
 
 -- the letters and digits of ASCII, and the underscore
 unfoldable pub is_word_byte : ℕ → Bool
@@ -127,6 +131,11 @@ pub record Reached (m : Mode) (at : ℕ) (text : List ℕ) (scan : Scan) (rest :
 abbrev pub WhereverReached : Scan → List ℕ → (Mode → ℕ → List ℕ → Type 0) → Type 0
 WhereverReached scan rest holds =
     (m : Mode) (line : ℕ) (whole : List ℕ) → IsSound (line_start m) [] → Reached m line whole scan rest → holds m line whole
+
+-- it has come there in some line
+abbrev pub StandsBefore : Scan → List ℕ → Type 0
+StandsBefore scan rest =
+    (m : Mode) × (line : ℕ) × (whole : List ℕ) × IsSound (line_start m) [] × Reached m line whole scan rest
 
 -- what a line end, a comment or a join of lines begins with
 abbrev pub is_apart : ℕ → Bool
