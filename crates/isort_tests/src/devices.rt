@@ -131,7 +131,7 @@ impl Write for Device<'_> {
 }
 
 /// What is run.
-#[derive(Clone, Copy, PartialEq, Eq)]
+#[derive(Clone, Copy)]
 enum Task {
     Identify,
     Sort,
@@ -219,7 +219,7 @@ impl Ran {
     ) -> bool {
         answer == Err(failure.2)
             && self.2.as_bytes().starts_with(written)
-            && (!unread || self.0 == Task::Identify || written.is_empty())
+            && (!unread || matches!(self.0, Task::Identify) || written.is_empty())
     }
 
     /// What a run with this answer comes to, after which these are the devices.

@@ -177,7 +177,7 @@ struct Short(&'static str, usize, &'static str, &'static str);
 impl Short {
     /// Tells the cursor that comes back, and gives why.
     fn refusal(&self, alloc: Global, out: &mut String) -> Option<ResumeError> {
-        let finder = Finder::new(alloc, self.0.as_bytes(), ALL).ok()?;
+        let finder = begun(alloc, self.0.as_bytes(), ALL)?;
         let cursor = tell_some(alloc, finder, self.1, out);
         let (cursor, error) = Finder::resume(alloc, self.2.as_bytes(), cursor).err()?;
         tell_place(&cursor, out);
@@ -288,7 +288,7 @@ fn keeps_its_options(rt: HostRuntime) -> Result<(), Fail> {
 
 /// The first import of a text.
 fn first_of(alloc: Global, text: &str) -> Option<Binding> {
-    let mut finder = Finder::new(alloc, text.as_bytes(), ALL).ok()?;
+    let mut finder = begun(alloc, text.as_bytes(), ALL)?;
     finder.next_import().ok().flatten()
 }
 
