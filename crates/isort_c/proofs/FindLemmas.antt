@@ -3,13 +3,13 @@ use Rattle.std.proofs.Common.{◌≡◌, ℕ, List, [], ◌∷◌, ◌++◌, Opt
 use Rattle.std.proofs.lemmas.List.{append_assoc, append-nil}
 use Rattle.py_imports.specs.Bound.{Bound, bound_of}
 use Rattle.py_imports.specs.declared.binding.Binding.{Binding}
-use Rattle.isort_find.specs.Finder.{Finding, HasFound, FindsNext, GivesNext, text_of, options_of}
+use Rattle.isort_find.specs.Finder.{FinderState, HasFound, FindsNext, GivesNext, text_of, options_of}
 use Rattle.isort_find.specs.declared.error.FindError.{FindError}
 use Rattle.isort_find.specs.declared.options.FindOptions.{FindOptions}
 use Rattle.isort_c.specs.Records.{bound_record, bound_records}
 
 -- the records of what a finder of this text has given
-pub record HasListed (text : List ℕ) (options : FindOptions) (f : Finding) (bytes : List ℕ) : Type 0 where
+pub record HasListed (text : List ℕ) (options : FindOptions) (f : FinderState) (bytes : List ℕ) : Type 0 where
   pub bounds : List Bound
   pub found : HasFound f bounds
   pub written : bytes ≡ bound_records bounds
@@ -20,7 +20,7 @@ pub records_more : (bs : List Bound) (b : Bound) → bound_records (bs ++ b ∷ 
 records_more [] b = append-nil (bound_record b)
 records_more (a ∷ bs) b = ap (λ xs. bound_record a ++ xs) (records_more bs b) ∙ sym (append_assoc (bound_record a) (bound_records bs) (bound_record b))
 
-pub listed_next : (text : List ℕ) (options : FindOptions) (old new : Finding) (b : Bound) (before after : List ℕ) → HasListed text options old before → FindsNext old b new → after ≡ before ++ bound_record b → HasListed text options new after
+pub listed_next : (text : List ℕ) (options : FindOptions) (old new : FinderState) (b : Bound) (before after : List ℕ) → HasListed text options old before → FindsNext old b new → after ≡ before ++ bound_record b → HasListed text options new after
 listed_next text options old new b before after h n e = record {
   bounds = h.bounds ++ b ∷ [];
   found = n.found h.bounds h.found;
@@ -29,5 +29,5 @@ listed_next text options old new b before after h n e = record {
   options_is = n.task.options ∙ h.options_is;
 }
 
-pub listed_some : (text : List ℕ) (options : FindOptions) (old new : Finding) (r : Result (Option Binding) FindError) (b : Binding) (before after : List ℕ) → HasListed text options old before → GivesNext old r new → r ≡ Ok (Some b) → after ≡ before ++ bound_record (bound_of b) → HasListed text options new after
+pub listed_some : (text : List ℕ) (options : FindOptions) (old new : FinderState) (r : Result (Option Binding) FindError) (b : Binding) (before after : List ℕ) → HasListed text options old before → GivesNext old r new → r ≡ Ok (Some b) → after ≡ before ++ bound_record (bound_of b) → HasListed text options new after
 listed_some text options old new r b before after h g is e = listed_next text options old new (bound_of b) before after h (subst (λ x. GivesNext old x new) is g) e

@@ -3,7 +3,7 @@ use Rattle.std.proofs.Common.{◌≡◌, ℕ, ◌+◌, ◌-◌, ◌≤◌, false
 use Rattle.std.proofs.lemmas.Grind.{common_steps}
 use Rattle.std.proofs.lemmas.List.{append-nil, length-take-le, take-append-drop}
 use Rattle.std.specs.Io.KnownBytes.{Keeps}
-use Rattle.isort_find.specs.Pieces.{PieceFinding, TakesPiece, FeedsPiece, fed_by, has_ready}
+use Rattle.isort_find.specs.Pieces.{PieceFinderState, TakesPiece, FeedsPiece, fed_by, has_ready}
 use Rattle.isort_find.specs.declared.options.FindOptions.{FindOptions}
 use Rattle.isort_find.specs.declared.error.FindError.{FindError}
 use Rattle.isort_sort.specs.Metered.{IsGivenUp}
@@ -21,18 +21,18 @@ use Rattle.isort_cmd.proofs.StageLemmas.{error_of_find, goes_at, stops_at}
 -- ---- the byte that is held
 
 -- a look at it decides a fault
-pub looks_at_fault : FoundLaws → (old : PieceFinding) (e : FindError) (new : PieceFinding) → FeedsPiece old [] (Err e) new → LooksAtHeld old (Err (run_error_of e)) new
+pub looks_at_fault : FoundLaws → (old : PieceFinderState) (e : FindError) (new : PieceFinderState) → FeedsPiece old [] (Err e) new → LooksAtHeld old (Err (run_error_of e)) new
 looks_at_fault laws old e new feeds = (
   error_of_find e last.Fine refl,
   λ path known options start now to. subst (λ (k : List ℕ). LeavesPiece path k options (run_error_of e) start now) (append-nil known) (leaves_fed laws path known [] options old e new start now feeds to),
 )
 
 -- memory ran out
-pub looks_at_memory : GivenBegin → (old new : PieceFinding) → LooksAtHeld old (Err run.Memory) new
+pub looks_at_memory : GivenBegin → (old new : PieceFinderState) → LooksAtHeld old (Err run.Memory) new
 looks_at_memory begin old new = (refl, λ path known options start now to. front_each begin path known options old start now to.listed)
 
 -- all is well
-pub looks_at_none : FoundLaws → (old : PieceFinding) (n : ℕ) (new : PieceFinding) → old.scanning.ended ≡ false → TakesPiece old [] n new → has_ready new ≡ false → HoldsNone old new
+pub looks_at_none : FoundLaws → (old : PieceFinderState) (n : ℕ) (new : PieceFinderState) → old.scanning.ended ≡ false → TakesPiece old [] n new → has_ready new ≡ false → HoldsNone old new
 looks_at_none laws old n new open_yet takes none =
     let no_byte : n ≡ 0 = takes.whole none in
     record {
@@ -76,7 +76,7 @@ parts_of : (n : ℕ) (bytes : List ℕ) → n ≤ length bytes → take n bytes 
 parts_of n bytes within = grind (arith, common_steps)
 
 -- more bytes of the piece were taken, and what got ready was listed
-pub amid_next : FoundLaws → (piece rest : List ℕ) (old now : Stage) (n : ℕ) (mid : PieceFinding) (new : Stage) → IsAmid piece rest old now → TakesPiece now.finder rest n mid → ListsAll (record now { finder = mid }) new → IsAmid piece (take (length rest - n) (drop n rest)) old new
+pub amid_next : FoundLaws → (piece rest : List ℕ) (old now : Stage) (n : ℕ) (mid : PieceFinderState) (new : Stage) → IsAmid piece rest old now → TakesPiece now.finder rest n mid → ListsAll (record now { finder = mid }) new → IsAmid piece (take (length rest - n) (drop n rest)) old new
 amid_next laws piece rest old now n mid new amid takes all =
     let goes = all.goes_on in
     let size = length-take-le n rest takes.within in
@@ -99,7 +99,7 @@ amid_next laws piece rest old now n mid new amid takes all =
     }
 
 -- feeding more of the piece failed
-pub amid_fed : FoundLaws → (piece rest : List ℕ) (old now : Stage) (e : FindError) (mid : PieceFinding) → IsAmid piece rest old now → FeedsPiece now.finder rest (Err e) mid → StopsInPiece old piece (run_error_of e) (record now { finder = mid })
+pub amid_fed : FoundLaws → (piece rest : List ℕ) (old now : Stage) (e : FindError) (mid : PieceFinderState) → IsAmid piece rest old now → FeedsPiece now.finder rest (Err e) mid → StopsInPiece old piece (run_error_of e) (record now { finder = mid })
 amid_fed laws piece rest old now e mid amid feeds = record {
   error = error_of_find e now.last amid.fine;
   leaves = λ known options start so_far.
@@ -108,7 +108,7 @@ amid_fed laws piece rest old now e mid amid feeds = record {
 }
 
 -- more of the piece was taken, and listing what got ready failed
-pub amid_ready : FoundLaws → (piece rest : List ℕ) (old now : Stage) (n : ℕ) (mid : PieceFinding) (e : RunError) (new : Stage) → IsAmid piece rest old now → TakesPiece now.finder rest n mid → StopsReady (record now { finder = mid }) e new → StopsInPiece old piece e new
+pub amid_ready : FoundLaws → (piece rest : List ℕ) (old now : Stage) (n : ℕ) (mid : PieceFinderState) (e : RunError) (new : Stage) → IsAmid piece rest old now → TakesPiece now.finder rest n mid → StopsReady (record now { finder = mid }) e new → StopsInPiece old piece e new
 amid_ready laws piece rest old now n mid e new amid takes stops = record {
   error = stops.error;
   leaves = λ known options start so_far.
@@ -127,14 +127,14 @@ listed_whole piece rest old now amid none known options start so_far = subst (λ
     front_whole a empty = sym (append-nil a.front) ∙ ap (λ x. a.front ++ x) (sym empty) ∙ a.split
 
 -- the byte that is held decides a fault
-pub amid_looked : (piece rest : List ℕ) (old now : Stage) (e : RunError) (mid : PieceFinding) → IsAmid piece rest old now → rest ≡ [] → LooksAtHeld now.finder (Err e) mid → StopsInPiece old piece e (record now { finder = mid })
+pub amid_looked : (piece rest : List ℕ) (old now : Stage) (e : RunError) (mid : PieceFinderState) → IsAmid piece rest old now → rest ≡ [] → LooksAtHeld now.finder (Err e) mid → StopsInPiece old piece e (record now { finder = mid })
 amid_looked piece rest old now e mid amid none looks = record {
   error = subst (λ (l : Last). IsOutputError e l) (sym amid.fine) looks.0;
   leaves = λ known options start so_far. looks.1 old.path (known ++ piece) options start now.written (listed_whole piece rest old now amid none known options start so_far);
 }
 
 -- all is well
-pub amid_whole : (piece rest : List ℕ) (old now : Stage) (mid : PieceFinding) → IsAmid piece rest old now → rest ≡ [] → HoldsNone now.finder mid → TakesAll old piece (record now { finder = mid })
+pub amid_whole : (piece rest : List ℕ) (old now : Stage) (mid : PieceFinderState) → IsAmid piece rest old now → rest ≡ [] → HoldsNone now.finder mid → TakesAll old piece (record now { finder = mid })
 amid_whole piece rest old now mid amid none holds =
     let whole : amid.front ≡ piece = sym (append-nil amid.front) ∙ ap (λ x. amid.front ++ x) (sym none) ∙ amid.split in
     record {

@@ -4,7 +4,7 @@ use Rattle.std.proofs.Math.Seq.{take-length}
 use Rattle.py_lines.specs.declared.fault.Fault.{Fault}
 use Rattle.isort_find.specs.Found.{IsFound}
 use Rattle.isort_find.specs.Settled.{IsFoundSettled}
-use Rattle.isort_find.specs.Pieces.{PieceFinding, EndsText, EndsInFault, EndsFeeding, fed_by, options_for}
+use Rattle.isort_find.specs.Pieces.{PieceFinderState, EndsText, EndsInFault, EndsFeeding, fed_by, options_for}
 use Rattle.isort_find.specs.declared.options.FindOptions.{FindOptions}
 use Rattle.isort_find.specs.declared.error.FindError.{FindError}
 use Rattle.isort_find.specs.declared.finder.Outcome.TheVariants as outcome
@@ -17,11 +17,11 @@ use Rattle.isort_cmd.specs.declared.error.RunError.TheVariants as run
 use Rattle.isort_cmd.proofs.ListingLemmas.{GivenBegin, found_fault, lists_front}
 
 -- what was listed of the very bytes that were fed
-pub listed_of : (path text : List ℕ) (options : FindOptions) (finder : PieceFinding) (start now : Option (List ℕ)) → HasListed path text options finder start now → IsListed path text options finder start now
+pub listed_of : (path text : List ℕ) (options : FindOptions) (finder : PieceFinderState) (start now : Option (List ℕ)) → HasListed path text options finder start now → IsListed path text options finder start now
 listed_of path text options finder start now h = (h.listed text (take-length text)).listed
 
 -- the text ended, and its last logical line was made
-pub ends_listed : (path text : List ℕ) (options : FindOptions) (finder next : PieceFinding) (start now : Option (List ℕ)) → HasListed path text options finder start now → EndsText finder next → IsListed path text options next start now
+pub ends_listed : (path text : List ℕ) (options : FindOptions) (finder next : PieceFinderState) (start now : Option (List ℕ)) → HasListed path text options finder start now → EndsText finder next → IsListed path text options next start now
 ends_listed path text options finder next start now h ends =
     let listed = listed_of path text options finder start now h in
     let same : options_for next ≡ options_for finder = ap (λ x. x.options) ends.cursor in
@@ -34,12 +34,12 @@ ends_listed path text options finder next start now h ends =
     }
 
 -- and it stays so
-pub still_ended : (next last : PieceFinding) → (next.scanning.ended ≡ true) ⊎ (next.outcome ≡ outcome.End) → last.scanning.ended ≡ next.scanning.ended → (next.outcome ≡ outcome.End → last.outcome ≡ outcome.End) → (last.scanning.ended ≡ true) ⊎ (last.outcome ≡ outcome.End)
+pub still_ended : (next last : PieceFinderState) → (next.scanning.ended ≡ true) ⊎ (next.outcome ≡ outcome.End) → last.scanning.ended ≡ next.scanning.ended → (next.outcome ≡ outcome.End → last.outcome ≡ outcome.End) → (last.scanning.ended ≡ true) ⊎ (last.outcome ≡ outcome.End)
 still_ended next last (inl ended) same stays = inl (same ∙ ended)
 still_ended next last (inr top) same stays = inr (stays top)
 
 -- the text ended in a fault
-ends_in_fault : (path text : List ℕ) (options : FindOptions) (finder next : PieceFinding) (fault : Fault) (start now : Option (List ℕ)) → HasListed path text options finder start now → EndsInFault finder fault next → Lists path text options (Some fault) start now
+ends_in_fault : (path text : List ℕ) (options : FindOptions) (finder next : PieceFinderState) (fault : Fault) (start now : Option (List ℕ)) → HasListed path text options finder start now → EndsInFault finder fault next → Lists path text options (Some fault) start now
 ends_in_fault path text options finder next fault start now h ends =
     let listed = listed_of path text options finder start now h in
     let found = found_fault next text listed.bounds fault (ends.found text listed.bounds listed.found (sym h.fed)) ends.kept in
@@ -50,12 +50,12 @@ ends_in_fault path text options finder next fault start now h ends =
     }
 
 -- what an error of ending the text leaves
-pub leaves_at_end : GivenBegin → (path text : List ℕ) (options : FindOptions) (finder next : PieceFinding) (e : FindError) (start now : Option (List ℕ)) → EndsFeeding finder (Err e) next → HasListed path text options finder start now → LeavesAtError path text options (run_error_of e) start now
+pub leaves_at_end : GivenBegin → (path text : List ℕ) (options : FindOptions) (finder next : PieceFinderState) (e : FindError) (start now : Option (List ℕ)) → EndsFeeding finder (Err e) next → HasListed path text options finder start now → LeavesAtError path text options (run_error_of e) start now
 leaves_at_end begin path text options finder next (find.Fault f) start now ends h = ends_in_fault path text options finder next f start now h ends
 leaves_at_end begin path text options finder next find.Memory start now ends h = lists_front begin path text options finder start now (listed_of path text options finder start now h)
 
 -- what an error of listing leaves
-pub leaves_ready : (path text : List ℕ) (options : FindOptions) (finder : PieceFinding) (e : RunError) (start now : Option (List ℕ)) → LeavesReady path text options finder e start now → LeavesAtError path text options e start now
+pub leaves_ready : (path text : List ℕ) (options : FindOptions) (finder : PieceFinderState) (e : RunError) (start now : Option (List ℕ)) → LeavesReady path text options finder e start now → LeavesAtError path text options e start now
 leaves_ready path text options finder (run.Fault f) start now h = h.0
 leaves_ready path text options finder run.Write start now h = h
 leaves_ready path text options finder run.Memory start now h = h

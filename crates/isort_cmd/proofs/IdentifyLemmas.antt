@@ -8,7 +8,7 @@ use Rattle.py_lines.specs.declared.fault.Fault.{Fault}
 use Rattle.py_imports.specs.Bound.{Bound}
 use Rattle.isort_find.specs.Found.{IsFound, BeginsFound}
 use Rattle.isort_find.specs.Settled.{IsFoundSettled, DecidesFound}
-use Rattle.isort_find.specs.Pieces.{PieceFinding, HasFoundIn, AreAllSettled, IsUndecided, fed_by, has_ready, options_for}
+use Rattle.isort_find.specs.Pieces.{PieceFinderState, HasFoundIn, AreAllSettled, IsUndecided, fed_by, has_ready, options_for}
 use Rattle.isort_find.specs.declared.options.FindOptions.{FindOptions}
 use Rattle.isort_find.specs.declared.finder.Outcome.{Outcome}
 use Rattle.isort_find.specs.declared.finder.Outcome.TheVariants as outcome
@@ -18,7 +18,7 @@ use Rattle.isort_sort.specs.declared.metered.Last.TheVariants as last
 use Rattle.isort_cmd.specs.RunError.{EndsReading, EndsWriting, IsUnread, LeavesReader}
 use Rattle.isort_cmd.specs.Stages.{Stage, StopsInput, TakesInput, ListsEnd}
 use Rattle.isort_cmd.specs.Steps.{IsOutputError, HasListed, LeavesKnown, LeavesRead}
-use Rattle.isort_cmd.specs.Written.{AreFed, Lists, ListsFront, ListsSettled, ListsInput, ListsUnread, ListsFaulty, LeavesAtError, LeavesInput}
+use Rattle.isort_cmd.specs.Written.{AreFed, Lists, ListsPrefix, ListsSettled, ListsInput, ListsUnread, ListsFaulty, LeavesAtError, LeavesInput}
 use Rattle.isort_cmd.specs.declared.error.RunError.{RunError}
 use Rattle.isort_cmd.specs.declared.error.RunError.TheVariants as run
 use Rattle.isort_cmd.proofs.ListingLemmas.{SomeFound, lists_nothing}
@@ -39,7 +39,7 @@ open_is_no_fault : (o : Outcome) (fault : Fault) → o ≡ outcome.Open → o �
 open_is_no_fault o fault is other = cc
 
 -- a finder that was fed nothing
-pub fresh : (path : List ℕ) (finder : PieceFinding) (start : Option (List ℕ)) → fed_by finder ≡ 0 → has_ready finder ≡ false → finder.scanning.ended ≡ false → finder.outcome ≡ outcome.Open → ((text : List ℕ) → HasFoundIn finder text []) → ((text : List ℕ) → AreAllSettled finder text []) → ((text : List ℕ) → IsUndecided finder text) → HasListed path [] (options_for finder) finder start start
+pub fresh : (path : List ℕ) (finder : PieceFinderState) (start : Option (List ℕ)) → fed_by finder ≡ 0 → has_ready finder ≡ false → finder.scanning.ended ≡ false → finder.outcome ≡ outcome.Open → ((text : List ℕ) → HasFoundIn finder text []) → ((text : List ℕ) → AreAllSettled finder text []) → ((text : List ℕ) → IsUndecided finder text) → HasListed path [] (options_for finder) finder start start
 fresh path finder start fed none_ready open_yet is_open found all undecided = record {
   fed = fed;
   none_ready = none_ready;
@@ -72,7 +72,7 @@ no_bad bad_decided known options bounds None undecided found = found
 no_bad bad_decided known options bounds (Some fault) undecided found = absurd (undecided fault (bad_decided known options bounds fault found))
 
 -- what the bytes fed settle was listed
-lists_settled : SomeSettled → BadDecided → (path known : List ℕ) (options : FindOptions) (finder : PieceFinding) (start now : Option (List ℕ)) → HasListed path known options finder start now → ListsSettled path known options start now
+lists_settled : SomeSettled → BadDecided → (path known : List ℕ) (options : FindOptions) (finder : PieceFinderState) (start now : Option (List ℕ)) → HasListed path known options finder start now → ListsSettled path known options start now
 lists_settled some_settled bad_decided path known options finder start now h =
     let so_far = h.listed known (take-length known) in
     let listed = so_far.listed in
@@ -91,7 +91,7 @@ lists_settled some_settled bad_decided path known options finder start now h =
     }
 
 -- and it is a prefix of the lines of each text that begins with these bytes
-settled_front : SettledBegin → (path known more : List ℕ) (options : FindOptions) (start now : Option (List ℕ)) → ListsSettled path known options start now → ListsFront path (known ++ more) options start now
+settled_front : SettledBegin → (path known more : List ℕ) (options : FindOptions) (start now : Option (List ℕ)) → ListsSettled path known options start now → ListsPrefix path (known ++ more) options start now
 settled_front settled_begin path known more options start now lists =
     let begins = settled_begin known more options lists.bounds None lists.found in
     record {
@@ -107,7 +107,7 @@ settled_front settled_begin path known more options start now lists =
     }
 
 -- what an error leaves of each text that begins with the bytes fed
-leaves_text : SomeSettled → BadDecided → SettledBegin → (path known more : List ℕ) (options : FindOptions) (finder : PieceFinding) (e : RunError) (start now : Option (List ℕ)) → LeavesKnown path known options finder e start now → LeavesAtError path (known ++ more) options e start now
+leaves_text : SomeSettled → BadDecided → SettledBegin → (path known more : List ℕ) (options : FindOptions) (finder : PieceFinderState) (e : RunError) (start now : Option (List ℕ)) → LeavesKnown path known options finder e start now → LeavesAtError path (known ++ more) options e start now
 leaves_text some_settled bad_decided settled_begin path known more options finder (run.Fault f) start now h = record { bounds = h.bounds; found = h.found more; written = h.written }
 leaves_text some_settled bad_decided settled_begin path known more options finder run.Write start now h = h more
 leaves_text some_settled bad_decided settled_begin path known more options finder run.Memory start now h = h more
@@ -125,7 +125,7 @@ of_fed P max known (Some text) None fed h = absurd fed.consumed
 of_fed P max known (Some text) (Some rest) fed h = subst P (sym (begins_with_fed max text known fed.read rest fed.consumed fed.first)) (h (drop max fed.read ++ rest))
 
 -- what an error leaves of the reader's text
-leaves_read : SomeSettled → BadDecided → SettledBegin → (path : List ℕ) (options : FindOptions) (max : ℕ) (finder : PieceFinding) (e : RunError) (old left start now : Option (List ℕ)) → LeavesRead path options max finder e old left start now → IfSome old (λ text. LeavesAtError path text options e start now)
+leaves_read : SomeSettled → BadDecided → SettledBegin → (path : List ℕ) (options : FindOptions) (max : ℕ) (finder : PieceFinderState) (e : RunError) (old left start now : Option (List ℕ)) → LeavesRead path options max finder e old left start now → IfSome old (λ text. LeavesAtError path text options e start now)
 leaves_read some_settled bad_decided settled_begin path options max finder e old left start now h = of_fed (λ text. LeavesAtError path text options e start now) max h.known old left h.fed (λ more. leaves_text some_settled bad_decided settled_begin path h.known more options finder e start now h.leaves)
 
 -- ---- what `identify` promises
@@ -164,7 +164,7 @@ identified_nothing some path options max given start reader writer reader_fine w
 -- ---- reading or listing failed
 
 -- what an error of reading leaves
-leaves_unread : SomeSettled → BadDecided → (path : List ℕ) (options : FindOptions) (max : ℕ) (finder : PieceFinding) (e : RunError) (given left old new : Option (List ℕ)) → LeavesRead path options max finder e given left old new → IsUnread e → ListsUnread path options max given left old new
+leaves_unread : SomeSettled → BadDecided → (path : List ℕ) (options : FindOptions) (max : ℕ) (finder : PieceFinderState) (e : RunError) (given left old new : Option (List ℕ)) → LeavesRead path options max finder e given left old new → IsUnread e → ListsUnread path options max given left old new
 leaves_unread some_settled bad_decided path options max finder (run.Fault f) given left old new h unread = absurd unread
 leaves_unread some_settled bad_decided path options max finder run.Write given left old new h unread = absurd unread
 leaves_unread some_settled bad_decided path options max finder run.Memory given left old new h unread = absurd unread
@@ -173,7 +173,7 @@ leaves_unread some_settled bad_decided path options max finder run.TooLong given
 leaves_unread some_settled bad_decided path options max finder run.NeverEnds given left old new h unread = record { known = h.known; fed = h.fed; lists = lists_settled some_settled bad_decided path h.known options finder old new h.leaves }
 
 -- what a fault leaves that the bytes fed decide
-fault_decided : (path : List ℕ) (options : FindOptions) (max : ℕ) (finder : PieceFinding) (fault : Fault) (given left old new : Option (List ℕ)) → LeavesRead path options max finder (run.Fault fault) given left old new → ListsFaulty path options max fault given left old new
+fault_decided : (path : List ℕ) (options : FindOptions) (max : ℕ) (finder : PieceFinderState) (fault : Fault) (given left old new : Option (List ℕ)) → LeavesRead path options max finder (run.Fault fault) given left old new → ListsFaulty path options max fault given left old new
 fault_decided path options max finder fault given left old new h =
     let meets = h.leaves in
     record {

@@ -5,10 +5,10 @@ use Rattle.std.proofs.KnownBytes.{Appends-nil, Appends-trans}
 use Rattle.py_lines.specs.declared.fault.Fault.{Fault}
 use Rattle.py_imports.specs.Bound.{Bound, bound_of}
 use Rattle.py_imports.specs.declared.binding.Binding.{Binding}
-use Rattle.isort_find.specs.Cursor.{Standing, HasStopped}
+use Rattle.isort_find.specs.Cursor.{CursorState, HasStopped}
 use Rattle.isort_find.specs.Found.{IsFound, BeginsFound}
 use Rattle.isort_find.specs.Settled.{IsFoundSettled, DecidesFound}
-use Rattle.isort_find.specs.Pieces.{PieceFinding, HasFoundIn, HasReachedIn, GivesBinding, GivesNone, GivesReady, has_ready, ready_in, options_for, fed_by}
+use Rattle.isort_find.specs.Pieces.{PieceFinderState, HasFoundIn, HasReachedIn, GivesBinding, GivesNone, GivesReady, has_ready, ready_in, options_for, fed_by}
 use Rattle.isort_find.specs.declared.options.FindOptions.{FindOptions}
 use Rattle.isort_find.specs.declared.error.FindError.{FindError}
 use Rattle.isort_find.specs.declared.error.FindError.TheVariants as find
@@ -17,22 +17,22 @@ use Rattle.isort_find.specs.declared.finder.Outcome.TheVariants as outcome
 use Rattle.isort_cmd.specs.Printed.{printed, line_text}
 use Rattle.isort_cmd.specs.RunError.{run_error_of}
 use Rattle.isort_cmd.specs.Steps.{IsListed, LeavesReady}
-use Rattle.isort_sort.specs.Written.{AppendsFront}
-use Rattle.isort_cmd.specs.Written.{ListsFront}
+use Rattle.isort_sort.specs.Written.{AppendsPrefix}
+use Rattle.isort_cmd.specs.Written.{ListsPrefix}
 use Rattle.isort_cmd.specs.declared.error.RunError.{RunError}
 use Rattle.isort_cmd.specs.declared.error.RunError.TheVariants as run
 use Rattle.isort_cmd.proofs.PrintedLemmas.{printed-append, printed-snoc}
 
 -- the law `stopped` of `isort_find::laws::given_begin_the_found`
 abbrev pub GivenBegin : Type 0
-GivenBegin = (text : List ℕ) (cursor : Standing) (bounds : List Bound) → HasStopped text cursor bounds → BeginsFound text cursor.options bounds
+GivenBegin = (text : List ℕ) (cursor : CursorState) (bounds : List Bound) → HasStopped text cursor bounds → BeginsFound text cursor.options bounds
 
 -- the law `some` of `isort_find::laws::one_found`
 abbrev pub SomeFound : Type 0
 SomeFound = (text : List ℕ) (options : FindOptions) → (bounds : List Bound) × (end : Option Fault) × IsFound text options bounds end
 
 -- nothing is a prefix of the lines
-pub lists_nothing : SomeFound → (path text : List ℕ) (options : FindOptions) (contents : Option (List ℕ)) → ListsFront path text options contents contents
+pub lists_nothing : SomeFound → (path text : List ℕ) (options : FindOptions) (contents : Option (List ℕ)) → ListsPrefix path text options contents contents
 lists_nothing some path text options contents =
     let all = some text options in
     record {
@@ -43,13 +43,13 @@ lists_nothing some path text options contents =
     }
 
 -- a finder that met a fault has found all before it
-pub found_fault : (finder : PieceFinding) (text : List ℕ) (bounds : List Bound) (fault : Fault) → HasFoundIn finder text bounds → finder.outcome ≡ outcome.Fault fault → IsFound text (options_for finder) bounds (Some fault)
+pub found_fault : (finder : PieceFinderState) (text : List ℕ) (bounds : List Bound) (fault : Fault) → HasFoundIn finder text bounds → finder.outcome ≡ outcome.Fault fault → IsFound text (options_for finder) bounds (Some fault)
 found_fault finder text bounds fault found is =
     let at : HasReachedIn finder text bounds (outcome.Fault fault) = subst (λ (o : Outcome). HasReachedIn finder text bounds o) is found.reached in
     at.0
 
 -- one more binding was given, and its line was written
-pub listed_next : (path text : List ℕ) (options : FindOptions) (finder next : PieceFinding) (b : Bound) (out : List ℕ) (start mid now : Option (List ℕ)) → GivesBinding finder b next → out ≡ line_text path b → Appends mid now out → IsListed path text options finder start mid → IsListed path text options next start now
+pub listed_next : (path text : List ℕ) (options : FindOptions) (finder next : PieceFinderState) (b : Bound) (out : List ℕ) (start mid now : Option (List ℕ)) → GivesBinding finder b next → out ≡ line_text path b → Appends mid now out → IsListed path text options finder start mid → IsListed path text options next start now
 listed_next path text options finder next b out start mid now gives put wrote listed = record {
   bounds = listed.bounds ++ b ∷ [];
   found = gives.found text listed.bounds listed.found;
@@ -59,7 +59,7 @@ listed_next path text options finder next b out start mid now gives put wrote li
 }
 
 -- nothing was given
-pub listed_none : (path text : List ℕ) (options : FindOptions) (finder next : PieceFinding) (start now : Option (List ℕ)) → GivesNone finder next → IsListed path text options finder start now → IsListed path text options next start now
+pub listed_none : (path text : List ℕ) (options : FindOptions) (finder next : PieceFinderState) (start now : Option (List ℕ)) → GivesNone finder next → IsListed path text options finder start now → IsListed path text options next start now
 listed_none path text options finder next start now none listed = record {
   bounds = listed.bounds;
   found = none.found text listed.bounds listed.found;
@@ -69,7 +69,7 @@ listed_none path text options finder next start now none listed = record {
 }
 
 -- the run gave up between two bindings
-pub lists_front : GivenBegin → (path text : List ℕ) (options : FindOptions) (finder : PieceFinding) (start now : Option (List ℕ)) → IsListed path text options finder start now → ListsFront path text options start now
+pub lists_front : GivenBegin → (path text : List ℕ) (options : FindOptions) (finder : PieceFinderState) (start now : Option (List ℕ)) → IsListed path text options finder start now → ListsPrefix path text options start now
 lists_front begin path text options finder start now listed =
     let begins = begin text finder.cursor listed.bounds listed.found.stopped in
     record {
@@ -85,7 +85,7 @@ lists_front begin path text options finder start now listed =
     }
 
 -- the run gave up while it wrote the line of one more binding
-pub lists_stopped : GivenBegin → (path text : List ℕ) (options : FindOptions) (finder next : PieceFinding) (b : Bound) (out : List ℕ) (start mid now : Option (List ℕ)) → GivesBinding finder b next → out ≡ line_text path b → AppendsFront mid now out → IsListed path text options finder start mid → ListsFront path text options start now
+pub lists_stopped : GivenBegin → (path text : List ℕ) (options : FindOptions) (finder next : PieceFinderState) (b : Bound) (out : List ℕ) (start mid now : Option (List ℕ)) → GivesBinding finder b next → out ≡ line_text path b → AppendsPrefix mid now out → IsListed path text options finder start mid → ListsPrefix path text options start now
 lists_stopped begin path text options finder next b out start mid now gives put wrote listed =
     let before = printed path listed.bounds in
     let bounds = listed.bounds ++ b ∷ [] in
@@ -105,24 +105,24 @@ lists_stopped begin path text options finder next b out start mid now gives put 
     }
 
 -- what a call that asks for what is ready says, at each of its answers
-pub gives_one : (old : PieceFinding) (r : Result (Option Binding) FindError) (b : Binding) (new : PieceFinding) → GivesReady old r new → r ≡ Ok (Some b) → GivesBinding old (bound_of b) new
+pub gives_one : (old : PieceFinderState) (r : Result (Option Binding) FindError) (b : Binding) (new : PieceFinderState) → GivesReady old r new → r ≡ Ok (Some b) → GivesBinding old (bound_of b) new
 gives_one old r b new h e = subst (λ x. GivesReady old x new) e h
 
-pub gives_none : (old : PieceFinding) (r : Result (Option Binding) FindError) (new : PieceFinding) → GivesReady old r new → r ≡ Ok None → GivesNone old new
+pub gives_none : (old : PieceFinderState) (r : Result (Option Binding) FindError) (new : PieceFinderState) → GivesReady old r new → r ≡ Ok None → GivesNone old new
 gives_none old r new h e = subst (λ x. GivesReady old x new) e h
 
-pub gives_error : (old : PieceFinding) (r : Result (Option Binding) FindError) (e : FindError) (new : PieceFinding) → GivesReady old r new → r ≡ Err e → GivesReady old (Err e) new
+pub gives_error : (old : PieceFinderState) (r : Result (Option Binding) FindError) (e : FindError) (new : PieceFinderState) → GivesReady old r new → r ≡ Err e → GivesReady old (Err e) new
 gives_error old r e new h same = subst (λ x. GivesReady old x new) same h
 
 -- nothing is ready after the top
-pub not_after_top : (finder : PieceFinding) → has_ready finder ≡ true → finder.outcome ≡ outcome.End → ⊥
+pub not_after_top : (finder : PieceFinderState) → has_ready finder ≡ true → finder.outcome ≡ outcome.End → ⊥
 not_after_top finder ready top = not_both false refl (subst (λ (o : Outcome). ready_in o finder.unread finder.pending.left ≡ true) top ready)
   where
     not_both : (b : Bool) → b ≡ false → b ≡ true → ⊥
     not_both b h k = cc
 
 -- what the errors of a call that asks for what is ready leave
-pub leaves_at_find_error : GivenBegin → (path text : List ℕ) (options : FindOptions) (finder next : PieceFinding) (e : FindError) (start now : Option (List ℕ)) → GivesReady finder (Err e) next → IsListed path text options finder start now → LeavesReady path text options finder (run_error_of e) start now
+pub leaves_at_find_error : GivenBegin → (path text : List ℕ) (options : FindOptions) (finder next : PieceFinderState) (e : FindError) (start now : Option (List ℕ)) → GivesReady finder (Err e) next → IsListed path text options finder start now → LeavesReady path text options finder (run_error_of e) start now
 leaves_at_find_error begin path text options finder next (find.Fault f) start now gives listed =
     let found = found_fault next text listed.bounds f (gives.found text listed.bounds listed.found) gives.kept in (
       record {
@@ -135,7 +135,7 @@ leaves_at_find_error begin path text options finder next (find.Fault f) start no
 leaves_at_find_error begin path text options finder next find.Memory start now gives listed = lists_front begin path text options finder start now listed
 
 -- what is left by an error at a finder is left at each one before it that was fed as much
-pub leaves_from : (path text : List ℕ) (options : FindOptions) (old mid : PieceFinding) (e : RunError) (start now : Option (List ℕ)) → fed_by mid ≡ fed_by old → mid.scanning.ended ≡ old.scanning.ended → LeavesReady path text options mid e start now → LeavesReady path text options old e start now
+pub leaves_from : (path text : List ℕ) (options : FindOptions) (old mid : PieceFinderState) (e : RunError) (start now : Option (List ℕ)) → fed_by mid ≡ fed_by old → mid.scanning.ended ≡ old.scanning.ended → LeavesReady path text options mid e start now → LeavesReady path text options old e start now
 leaves_from path text options old mid (run.Fault f) start now fed ended leaves = (leaves.0, λ open_yet. subst (λ (n : ℕ). DecidesFound (take n text) options f) fed (leaves.1 (ended ∙ open_yet)))
 leaves_from path text options old mid run.Write start now fed ended leaves = leaves
 leaves_from path text options old mid run.Memory start now fed ended leaves = leaves

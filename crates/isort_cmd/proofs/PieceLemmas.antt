@@ -4,13 +4,13 @@ use Rattle.std.proofs.Math.Seq.{take-add, take-append-add, take-append_seam, dro
 use Rattle.std.proofs.lemmas.List.{append-nil, length-take-le, take-append-drop}
 use Rattle.std.specs.Io.KnownBytes.{Keeps}
 use Rattle.std.proofs.KnownBytes.{Appends-kept}
-use Rattle.py_lines.specs.Scanning.{GoesOnWith}
+use Rattle.py_lines.specs.ScannerState.{GoesOnWith}
 use Rattle.py_lines.specs.declared.fault.Fault.{Fault}
 use Rattle.py_imports.specs.Bound.{Bound}
-use Rattle.isort_find.specs.Cursor.{Standing}
+use Rattle.isort_find.specs.Cursor.{CursorState}
 use Rattle.isort_find.specs.Found.{IsFound}
 use Rattle.isort_find.specs.Settled.{IsFoundSettled, DecidesFound}
-use Rattle.isort_find.specs.Pieces.{PieceFinding, AreSettled, TakesPiece, MeetsFaultIn, FeedsPiece, options_for, fed_by, has_ready}
+use Rattle.isort_find.specs.Pieces.{PieceFinderState, AreSettled, TakesPiece, MeetsFaultIn, FeedsPiece, options_for, fed_by, has_ready}
 use Rattle.isort_find.specs.declared.options.FindOptions.{FindOptions}
 use Rattle.isort_find.specs.declared.error.FindError.{FindError}
 use Rattle.isort_find.specs.declared.error.FindError.TheVariants as find
@@ -19,7 +19,7 @@ use Rattle.isort_find.specs.declared.finder.Outcome.TheVariants as outcome
 use Rattle.isort_cmd.specs.Printed.{printed}
 use Rattle.isort_cmd.specs.RunError.{run_error_of}
 use Rattle.isort_cmd.specs.Steps.{IsListed, HasListed, HasListedTo, HasNoFault, LeavesReady, LeavesPiece, MeetsFaultAfter}
-use Rattle.isort_cmd.specs.Written.{Lists, ListsFront}
+use Rattle.isort_cmd.specs.Written.{Lists, ListsPrefix}
 use Rattle.isort_cmd.specs.declared.error.RunError.{RunError}
 use Rattle.isort_cmd.specs.declared.error.RunError.TheVariants as run
 use Rattle.isort_cmd.proofs.ListingLemmas.{GivenBegin, found_fault, lists_front}
@@ -50,19 +50,19 @@ goes_both text a b goes =
 -- ---- a piece is taken
 
 -- what was settled stays so as more is fed
-settled_more : FoundLaws → (old new : PieceFinding) (text : List ℕ) (bounds : List Bound) (n : ℕ) → fed_by new ≡ fed_by old + n → new.cursor ≡ old.cursor → AreSettled old text bounds → AreSettled new text bounds
+settled_more : FoundLaws → (old new : PieceFinderState) (text : List ℕ) (bounds : List Bound) (n : ℕ) → fed_by new ≡ fed_by old + n → new.cursor ≡ old.cursor → AreSettled old text bounds → AreSettled new text bounds
 settled_more laws old new text bounds n fed cursor settled found bad h =
     let known = take (fed_by old) text in
     let more = take n (drop (fed_by old) text) in
     let options = options_for old in
-    let at : IsFoundSettled (known ++ more) options found bad = subst (λ (k : List ℕ). IsFoundSettled k options found bad) (ap (λ (m : ℕ). take m text) fed ∙ take-add (fed_by old) n text) (subst (λ (c : Standing). IsFoundSettled (take (fed_by new) text) c.options found bad) cursor h) in
+    let at : IsFoundSettled (known ++ more) options found bad = subst (λ (k : List ℕ). IsFoundSettled k options found bad) (ap (λ (m : ℕ). take m text) fed ∙ take-add (fed_by old) n text) (subst (λ (c : CursorState). IsFoundSettled (take (fed_by new) text) c.options found bad) cursor h) in
     let before = laws.some known options in
     let grown = laws.grow known more options before.0 found before.1 bad before.2 at in
     let begun = settled before.0 before.1 before.2 in
     (begun.0 ++ grown.0, grown.1 ∙ ap (λ x. x ++ grown.0) begun.1 ∙ append_assoc bounds begun.0 grown.0)
 
 -- some bytes of a piece were taken: what was listed of each text that begins with them stays so
-pub taken_listed : FoundLaws → (path known piece : List ℕ) (options : FindOptions) (old : PieceFinding) (n : ℕ) (new : PieceFinding) (start now : Option (List ℕ)) → old.scanning.ended ≡ false → TakesPiece old piece n new → HasListedTo path known options old start now → HasListedTo path (known ++ take n piece) options new start now
+pub taken_listed : FoundLaws → (path known piece : List ℕ) (options : FindOptions) (old : PieceFinderState) (n : ℕ) (new : PieceFinderState) (start now : Option (List ℕ)) → old.scanning.ended ≡ false → TakesPiece old piece n new → HasListedTo path known options old start now → HasListedTo path (known ++ take n piece) options new start now
 taken_listed laws path known piece options old n new start now open_yet takes to = record {
   fed = takes.fed ∙ ap (λ (m : ℕ). m + n) to.fed ∙ ap (λ (m : ℕ). length known + m) (sym (length-take-le n piece takes.within)) ∙ sym (length-append known (take n piece));
   no_fault = takes.no_fault;
@@ -74,7 +74,7 @@ taken_listed laws path known piece options old n new start now open_yet takes to
         bounds = listed.bounds;
         found = takes.found text listed.bounds listed.found after;
         settled = λ _. settled_more laws old new text listed.bounds n takes.fed takes.cursor (listed.settled open_yet);
-        same_options = ap (λ (c : Standing). c.options) takes.cursor ∙ listed.same_options;
+        same_options = ap (λ (c : CursorState). c.options) takes.cursor ∙ listed.same_options;
         written = listed.written;
       };
 }
@@ -93,13 +93,13 @@ fault_after laws path known rest options fault start now lists decides =
     }
 
 -- an error at a finder that was fed the known bytes, of which more of a piece are left
-pub leaves_each : FoundLaws → (path known rest : List ℕ) (options : FindOptions) (mid : PieceFinding) (e : RunError) (start now : Option (List ℕ)) → fed_by mid ≡ length known → mid.scanning.ended ≡ false → ((text : List ℕ) → GoesOnWith text 0 known → LeavesReady path text options mid e start now) → LeavesPiece path (known ++ rest) options e start now
+pub leaves_each : FoundLaws → (path known rest : List ℕ) (options : FindOptions) (mid : PieceFinderState) (e : RunError) (start now : Option (List ℕ)) → fed_by mid ≡ length known → mid.scanning.ended ≡ false → ((text : List ℕ) → GoesOnWith text 0 known → LeavesReady path text options mid e start now) → LeavesPiece path (known ++ rest) options e start now
 leaves_each laws path known rest options mid (run.Fault f) start now fed open_yet leaves =
     let left = leaves (known ++ rest) (goes_begin known rest) in
     let decides : DecidesFound known options f = subst (λ (k : List ℕ). DecidesFound k options f) (ap (λ (n : ℕ). take n (known ++ rest)) fed ∙ take-append_seam known rest) (left.1 open_yet) in
     fault_after laws path known rest options f start now left.0 decides
-leaves_each laws path known rest options mid run.Write start now fed open_yet leaves = λ more. subst (λ (t : List ℕ). ListsFront path t options start now) (sym (append_assoc known rest more)) (leaves (known ++ (rest ++ more)) (goes_begin known (rest ++ more)))
-leaves_each laws path known rest options mid run.Memory start now fed open_yet leaves = λ more. subst (λ (t : List ℕ). ListsFront path t options start now) (sym (append_assoc known rest more)) (leaves (known ++ (rest ++ more)) (goes_begin known (rest ++ more)))
+leaves_each laws path known rest options mid run.Write start now fed open_yet leaves = λ more. subst (λ (t : List ℕ). ListsPrefix path t options start now) (sym (append_assoc known rest more)) (leaves (known ++ (rest ++ more)) (goes_begin known (rest ++ more)))
+leaves_each laws path known rest options mid run.Memory start now fed open_yet leaves = λ more. subst (λ (t : List ℕ). ListsPrefix path t options start now) (sym (append_assoc known rest more)) (leaves (known ++ (rest ++ more)) (goes_begin known (rest ++ more)))
 leaves_each laws path known rest options mid run.Read start now fed open_yet leaves = leaves (known ++ rest) (goes_begin known rest)
 leaves_each laws path known rest options mid run.TooLong start now fed open_yet leaves = leaves (known ++ rest) (goes_begin known rest)
 leaves_each laws path known rest options mid run.NeverEnds start now fed open_yet leaves = leaves (known ++ rest) (goes_begin known rest)
@@ -110,11 +110,11 @@ is_open outcome.End top fault = absurd (top refl)
 is_open (outcome.Fault f) top fault = absurd (fault f refl)
 
 -- a prefix of the lines was written, whatever follows the known bytes
-pub front_each : GivenBegin → (path known : List ℕ) (options : FindOptions) (finder : PieceFinding) (start now : Option (List ℕ)) → ((text : List ℕ) → GoesOnWith text 0 known → IsListed path text options finder start now) → (more : List ℕ) → ListsFront path (known ++ more) options start now
+pub front_each : GivenBegin → (path known : List ℕ) (options : FindOptions) (finder : PieceFinderState) (start now : Option (List ℕ)) → ((text : List ℕ) → GoesOnWith text 0 known → IsListed path text options finder start now) → (more : List ℕ) → ListsPrefix path (known ++ more) options start now
 front_each begin path known options finder start now listed more = lists_front begin path (known ++ more) options finder start now (listed (known ++ more) (goes_begin known more))
 
 -- the piece decides a fault
-fed_fault : FoundLaws → (path known piece : List ℕ) (options : FindOptions) (old : PieceFinding) (fault : Fault) (new : PieceFinding) (start now : Option (List ℕ)) → MeetsFaultIn old piece fault new → HasListedTo path known options old start now → MeetsFaultAfter path (known ++ piece) options fault start now
+fed_fault : FoundLaws → (path known piece : List ℕ) (options : FindOptions) (old : PieceFinderState) (fault : Fault) (new : PieceFinderState) (start now : Option (List ℕ)) → MeetsFaultIn old piece fault new → HasListedTo path known options old start now → MeetsFaultAfter path (known ++ piece) options fault start now
 fed_fault laws path known piece options old fault new start now meets to =
     let text = known ++ piece in
     let listed = to.listed text (goes_begin known piece) in
@@ -131,20 +131,20 @@ fed_fault laws path known piece options old fault new start now meets to =
     subst (λ (t : List ℕ). MeetsFaultAfter path t options fault start now) whole (fault_after laws path first rest options fault start now (subst (λ (t : List ℕ). Lists path t options (Some fault) start now) (sym whole) lists) decides)
 
 -- what the errors of a call that is fed a piece leave
-pub leaves_fed : FoundLaws → (path known piece : List ℕ) (options : FindOptions) (old : PieceFinding) (e : FindError) (new : PieceFinding) (start now : Option (List ℕ)) → FeedsPiece old piece (Err e) new → HasListedTo path known options old start now → LeavesPiece path (known ++ piece) options (run_error_of e) start now
+pub leaves_fed : FoundLaws → (path known piece : List ℕ) (options : FindOptions) (old : PieceFinderState) (e : FindError) (new : PieceFinderState) (start now : Option (List ℕ)) → FeedsPiece old piece (Err e) new → HasListedTo path known options old start now → LeavesPiece path (known ++ piece) options (run_error_of e) start now
 leaves_fed laws path known piece options old (find.Fault f) new start now meets to = fed_fault laws path known piece options old f new start now meets to
 leaves_fed laws path known piece options old find.Memory new start now keeps to = front_each laws.begin path (known ++ piece) options old start now (λ text goes. to.listed text (goes_both text known piece goes).0)
 
-pub feeds_error : (old : PieceFinding) (piece : List ℕ) (r : Result ℕ FindError) (e : FindError) (new : PieceFinding) → FeedsPiece old piece r new → r ≡ Err e → FeedsPiece old piece (Err e) new
+pub feeds_error : (old : PieceFinderState) (piece : List ℕ) (r : Result ℕ FindError) (e : FindError) (new : PieceFinderState) → FeedsPiece old piece r new → r ≡ Err e → FeedsPiece old piece (Err e) new
 feeds_error old piece r e new h same = subst (λ (x : Result ℕ FindError). FeedsPiece old piece x new) same h
 
-pub feeds_some : (old : PieceFinding) (piece : List ℕ) (r : Result ℕ FindError) (n : ℕ) (new : PieceFinding) → FeedsPiece old piece r new → r ≡ Ok n → TakesPiece old piece n new
+pub feeds_some : (old : PieceFinderState) (piece : List ℕ) (r : Result ℕ FindError) (n : ℕ) (new : PieceFinderState) → FeedsPiece old piece r new → r ≡ Ok n → TakesPiece old piece n new
 feeds_some old piece r n new h same = subst (λ (x : Result ℕ FindError). FeedsPiece old piece x new) same h
 
 -- ---- nothing is ready
 
 -- Once no byte was fed and nothing is ready, what was listed is all that the bytes settle.
-pub looked_listed : FoundLaws → (path known : List ℕ) (options : FindOptions) (old : PieceFinding) (n : ℕ) (new : PieceFinding) (start now : Option (List ℕ)) → old.scanning.ended ≡ false → TakesPiece old [] n new → has_ready new ≡ false → HasListedTo path known options old start now → HasListed path known options new start now
+pub looked_listed : FoundLaws → (path known : List ℕ) (options : FindOptions) (old : PieceFinderState) (n : ℕ) (new : PieceFinderState) (start now : Option (List ℕ)) → old.scanning.ended ≡ false → TakesPiece old [] n new → has_ready new ≡ false → HasListedTo path known options old start now → HasListed path known options new start now
 looked_listed laws path known options old n new start now open_yet takes none to =
     let no_byte : take n [] ≡ [] = ap (λ (m : ℕ). take m []) (takes.whole none) in
     let same : known ++ take n [] ≡ known = ap (λ x. known ++ x) no_byte ∙ append-nil known in
@@ -162,7 +162,7 @@ looked_listed laws path known options old n new start now open_yet takes none to
               bounds = before.bounds;
               found = takes.found text before.bounds before.found nothing;
               settled = λ _. settled_more laws old new text before.bounds n takes.fed takes.cursor (before.settled open_yet);
-              same_options = ap (λ (c : Standing). c.options) takes.cursor ∙ before.same_options;
+              same_options = ap (λ (c : CursorState). c.options) takes.cursor ∙ before.same_options;
               written = before.written;
             };
             all = takes.all text before.bounds before.found nothing none;
@@ -171,7 +171,7 @@ looked_listed laws path known options old n new start now open_yet takes none to
     }
 
 -- the writer kept what it has
-pub has_listed_kept : (path known : List ℕ) (options : FindOptions) (finder : PieceFinding) (start mid now : Option (List ℕ)) → Keeps mid now → HasListed path known options finder start mid → HasListed path known options finder start now
+pub has_listed_kept : (path known : List ℕ) (options : FindOptions) (finder : PieceFinderState) (start mid now : Option (List ℕ)) → Keeps mid now → HasListed path known options finder start mid → HasListed path known options finder start now
 has_listed_kept path known options finder start mid now kept listed = record {
   fed = listed.fed;
   none_ready = listed.none_ready;
@@ -194,7 +194,7 @@ has_listed_kept path known options finder start mid now kept listed = record {
 }
 
 -- what is listed of each text stays so where each text's is, and as much was fed
-pub to_next : (path known : List ℕ) (options : FindOptions) (mid new : PieceFinding) (first before now : Option (List ℕ)) → fed_by new ≡ fed_by mid → (HasNoFault mid → HasNoFault new) → ((text : List ℕ) → IsListed path text options mid first before → IsListed path text options new first now) → HasListedTo path known options mid first before → HasListedTo path known options new first now
+pub to_next : (path known : List ℕ) (options : FindOptions) (mid new : PieceFinderState) (first before now : Option (List ℕ)) → fed_by new ≡ fed_by mid → (HasNoFault mid → HasNoFault new) → ((text : List ℕ) → IsListed path text options mid first before → IsListed path text options new first now) → HasListedTo path known options mid first before → HasListedTo path known options new first now
 to_next path known options mid new first before now fed no_fault listed to = record {
   fed = fed ∙ to.fed;
   no_fault = no_fault to.no_fault;

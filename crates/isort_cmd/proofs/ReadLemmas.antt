@@ -4,7 +4,7 @@ use Rattle.std.proofs.Math.Seq.{take-append-add}
 use Rattle.std.proofs.lemmas.List.{append-nil, length-take-le, take-take, take_all}
 use Rattle.std.proofs.KnownBytes.{Consumes-trans, Consumes-kept}
 use Rattle.std.specs.Io.KnownBytes.{Consumes, Keeps}
-use Rattle.isort_find.specs.Pieces.{PieceFinding, fed_by, options_for}
+use Rattle.isort_find.specs.Pieces.{PieceFinderState, fed_by, options_for}
 use Rattle.isort_find.specs.declared.options.FindOptions.{FindOptions}
 use Rattle.isort_sort.specs.declared.metered.Last.{Last}
 use Rattle.isort_sort.specs.declared.metered.Last.TheVariants as last
@@ -40,7 +40,7 @@ take_fitting max n fitting known buffer within there is = go (nat_lt n (max - le
         let some : fitting ≡ max - length known = omega (arith, over, is) in
         ap (λ m. known ++ take m buffer) some ∙ take_room max n known buffer within (omega (arith, over))
 
-leaves_read_error : (path known : List ℕ) (options : FindOptions) (finder : PieceFinding) (e : RunError) (l : Last) (start now : Option (List ℕ)) → IsReadError e l → HasListed path known options finder start now → LeavesKnown path known options finder e start now
+leaves_read_error : (path known : List ℕ) (options : FindOptions) (finder : PieceFinderState) (e : RunError) (l : Last) (start now : Option (List ℕ)) → IsReadError e l → HasListed path known options finder start now → LeavesKnown path known options finder e start now
 leaves_read_error path known options finder (run.Fault f) l start now h listed = absurd h
 leaves_read_error path known options finder run.Write l start now h listed = absurd h
 leaves_read_error path known options finder run.Memory l start now h listed = absurd h
@@ -48,7 +48,7 @@ leaves_read_error path known options finder run.Read l start now h listed = list
 leaves_read_error path known options finder run.TooLong l start now h listed = listed
 leaves_read_error path known options finder run.NeverEnds l start now h listed = listed
 
-leaves_piece_error : (path known : List ℕ) (options : FindOptions) (finder : PieceFinding) (e : RunError) (start now : Option (List ℕ)) → LeavesPiece path known options e start now → LeavesKnown path known options finder e start now
+leaves_piece_error : (path known : List ℕ) (options : FindOptions) (finder : PieceFinderState) (e : RunError) (start now : Option (List ℕ)) → LeavesPiece path known options e start now → LeavesKnown path known options finder e start now
 leaves_piece_error path known options finder (run.Fault f) start now h = h
 leaves_piece_error path known options finder run.Write start now h = h
 leaves_piece_error path known options finder run.Memory start now h = h

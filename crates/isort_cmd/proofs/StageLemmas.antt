@@ -4,14 +4,14 @@ use Rattle.std.specs.Io.KnownBytes.{Appends}
 use Rattle.py_lines.specs.declared.fault.Fault.{Fault}
 use Rattle.py_imports.specs.Bound.{Bound}
 use Rattle.isort_find.specs.Found.{IsFound}
-use Rattle.isort_find.specs.Pieces.{PieceFinding, GivesBinding, GivesNone, GivesReady, EndsFeeding}
+use Rattle.isort_find.specs.Pieces.{PieceFinderState, GivesBinding, GivesNone, GivesReady, EndsFeeding}
 use Rattle.isort_find.specs.declared.options.FindOptions.{FindOptions}
 use Rattle.isort_find.specs.declared.error.FindError.{FindError}
 use Rattle.isort_find.specs.declared.error.FindError.TheVariants as find
 use Rattle.isort_find.specs.declared.finder.Outcome.{Outcome}
 use Rattle.isort_find.specs.declared.finder.Outcome.TheVariants as outcome
 use Rattle.isort_sort.specs.Metered.{IsGivenUp}
-use Rattle.isort_sort.specs.Written.{AppendsFront}
+use Rattle.isort_sort.specs.Written.{AppendsPrefix}
 use Rattle.isort_sort.specs.declared.metered.Last.{Last}
 use Rattle.isort_sort.specs.declared.metered.Last.TheVariants as last
 use Rattle.isort_cmd.specs.Printed.{line_text}
@@ -50,7 +50,7 @@ lists_one old new b out same fine gives put wrote = record {
 }
 
 -- nothing was ready
-pub lists_none : (old : Stage) (next : PieceFinding) → old.last ≡ last.Fine → GivesNone old.finder next → ListsAll old (record old { finder = next })
+pub lists_none : (old : Stage) (next : PieceFinderState) → old.last ≡ last.Fine → GivesNone old.finder next → ListsAll old (record old { finder = next })
 lists_none old next fine none = record {
   goes_on = record {
     same_path = refl;
@@ -70,21 +70,21 @@ lists_none old next fine none = record {
 }
 
 -- the finder failed
-pub stops_at_find : GivenBegin → (old : Stage) (e : FindError) (next : PieceFinding) → old.last ≡ last.Fine → GivesReady old.finder (Err e) next → StopsReady old (run_error_of e) (record old { finder = next })
+pub stops_at_find : GivenBegin → (old : Stage) (e : FindError) (next : PieceFinderState) → old.last ≡ last.Fine → GivesReady old.finder (Err e) next → StopsReady old (run_error_of e) (record old { finder = next })
 stops_at_find begin old e next fine gives = record {
   error = error_of_find e old.last fine;
   leaves = λ text options start h. leaves_at_find_error begin old.path text options old.finder next e start old.written gives h;
 }
 
 -- memory ran out before the line was written
-pub stops_at_memory : GivenBegin → (old : Stage) (next : PieceFinding) → old.last ≡ last.Fine → StopsReady old run.Memory (record old { finder = next })
+pub stops_at_memory : GivenBegin → (old : Stage) (next : PieceFinderState) → old.last ≡ last.Fine → StopsReady old run.Memory (record old { finder = next })
 stops_at_memory begin old next fine = record {
   error = fine;
   leaves = λ text options start h. lists_front begin old.path text options old.finder start old.written h;
 }
 
 -- a write failed
-pub stops_at_write : GivenBegin → (old new : Stage) (b : Bound) (out : List ℕ) → IsGivenUp new.last → GivesBinding old.finder b new.finder → out ≡ line_text old.path b → AppendsFront old.written new.written out → StopsReady old run.Write new
+pub stops_at_write : GivenBegin → (old new : Stage) (b : Bound) (out : List ℕ) → IsGivenUp new.last → GivesBinding old.finder b new.finder → out ≡ line_text old.path b → AppendsPrefix old.written new.written out → StopsReady old run.Write new
 stops_at_write begin old new b out given_up gives put wrote = record {
   error = given_up;
   leaves = λ text options start h. lists_stopped begin old.path text options old.finder new.finder b out start old.written new.written gives put wrote h;
@@ -147,21 +147,21 @@ stops_after old mid new e first stops = record {
 -- ---- the end
 
 -- the text ended, and all that was ready then was listed
-pub ends_in_all : (old new : Stage) (next : PieceFinding) → EndsFeeding old.finder (Ok tt) next → ListsAll (record old { finder = next }) new → EndsListing old new
+pub ends_in_all : (old new : Stage) (next : PieceFinderState) → EndsFeeding old.finder (Ok tt) next → ListsAll (record old { finder = next }) new → EndsListing old new
 ends_in_all old new next ends all = record {
   fine = all.goes_on.fine;
   whole = λ text options start h. all.whole text options start (ends_listed old.path text options old.finder next start old.written h ends) ends.no_fault (still_ended next new.finder ends.ended all.goes_on.open_yet all.goes_on.stays);
 }
 
 -- the text ended in an error
-pub stops_at_end : GivenBegin → (old : Stage) (e : FindError) (next : PieceFinding) → old.last ≡ last.Fine → EndsFeeding old.finder (Err e) next → StopsAtEnd old (run_error_of e) (record old { finder = next })
+pub stops_at_end : GivenBegin → (old : Stage) (e : FindError) (next : PieceFinderState) → old.last ≡ last.Fine → EndsFeeding old.finder (Err e) next → StopsAtEnd old (run_error_of e) (record old { finder = next })
 stops_at_end begin old e next fine ends = record {
   error = error_of_find e old.last fine;
   leaves = λ text options start h. leaves_at_end begin old.path text options old.finder next e start old.written ends h;
 }
 
 -- the text ended, and what was ready then could not be listed
-pub stops_after_end : (old new : Stage) (next : PieceFinding) (e : RunError) → EndsFeeding old.finder (Ok tt) next → StopsReady (record old { finder = next }) e new → StopsAtEnd old e new
+pub stops_after_end : (old new : Stage) (next : PieceFinderState) (e : RunError) → EndsFeeding old.finder (Ok tt) next → StopsReady (record old { finder = next }) e new → StopsAtEnd old e new
 stops_after_end old new next e ends stops = record {
   error = stops.error;
   leaves = λ text options start h. leaves_ready old.path text options next e start new.written (stops.leaves text options start (ends_listed old.path text options old.finder next start old.written h ends));

@@ -44,8 +44,8 @@ is_forbidden rows = if was_given (codes "identify") rows then wants_sorting rows
     else was_given (codes "top-only") rows || nat_lt 0 (key_count rows)
 
 -- the key of the option that names one
-abbrev pub key_in : List Row → Option ImportKey
-key_in rows = option_map (λ option. option.1) (find (λ option. was_given option.0 rows) key_options)
+abbrev pub key_option : List Row → Option ImportKey
+key_option rows = option_map (λ option. option.1) (find (λ option. was_given option.0 rows) key_options)
 
 -- the number below 2^32 that a text writes, in decimal digits, after a `+` or not
 abbrev pub number_in : Text → Option ℕ
@@ -61,7 +61,7 @@ number_of name rows = option_and_then number_in (one_of name rows)
 -- the action that the options ask for
 abbrev pub IsAction : List Row → Action → Type 0
 IsAction rows (Identify options) = (was_given (codes "identify") rows ≡ true)
-    × (options ≡ record { unique = key_in rows; top_only = was_given (codes "top-only") rows })
+    × (options ≡ record { unique = key_option rows; top_only = was_given (codes "top-only") rows })
 IsAction rows (Sort check to_stdout settings_file profile line_length multi_line) =
     (was_given (codes "identify") rows ≡ false)
     × (check ≡ (was_given (codes "check-only") rows || was_given (codes "check") rows))

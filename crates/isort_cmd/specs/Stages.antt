@@ -1,7 +1,7 @@
 -- What the calls of a listing promise one another. Contracts of private functions alone cite these.
 use Rattle.std.specs.Prelude.{◌≡◌, ◌<◌, ◌+◌, ℕ, Bool, true, false, Option, None, IfSome, Result, Ok, Err, List, ◌++◌, length}
 use Rattle.std.specs.Io.KnownBytes.{IsAtEnd}
-use Rattle.isort_find.specs.Pieces.{PieceFinding, options_for, due_by, fed_by, has_ready}
+use Rattle.isort_find.specs.Pieces.{PieceFinderState, options_for, due_by, fed_by, has_ready}
 use Rattle.isort_find.specs.declared.options.FindOptions.{FindOptions}
 use Rattle.isort_find.specs.declared.finder.Outcome.TheVariants as outcome
 use Rattle.isort_sort.specs.Metered.{inner_of, last_of}
@@ -18,7 +18,7 @@ use Rattle.isort_cmd.specs.declared.listing.Listing.{Listing}
 -- Where a listing stands: the path of its lines, its finder, what its writer has taken, and how the writer's last call ended.
 pub record Stage : Type 0 where
   pub path : List ℕ
-  pub finder : PieceFinding
+  pub finder : PieceFinderState
   pub written : Option (List ℕ)
   pub last : Last
 

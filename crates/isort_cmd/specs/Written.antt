@@ -6,7 +6,7 @@ use Rattle.py_imports.specs.Bound.{Bound}
 use Rattle.isort_find.specs.Found.{IsFound}
 use Rattle.isort_find.specs.Settled.{IsFoundSettled, DecidesFound}
 use Rattle.isort_find.specs.declared.options.FindOptions.{FindOptions}
-use Rattle.isort_sort.specs.Written.{AppendsFront}
+use Rattle.isort_sort.specs.Written.{AppendsPrefix}
 use Rattle.isort_cmd.specs.Printed.{printed}
 use Rattle.isort_cmd.specs.declared.error.RunError.{RunError}
 use Rattle.isort_cmd.specs.declared.error.RunError.TheVariants as run
@@ -18,11 +18,11 @@ pub record Lists (path text : List ℕ) (options : FindOptions) (end : Option Fa
   pub written : Appends old new (printed path bounds)
 
 -- a prefix of the lines of all imports that are found in the text with these options was written
-pub record ListsFront (path text : List ℕ) (options : FindOptions) (old new : Option (List ℕ)) : Type 0 where
+pub record ListsPrefix (path text : List ℕ) (options : FindOptions) (old new : Option (List ℕ)) : Type 0 where
   pub bounds : List Bound
   pub end : Option Fault
   pub found : IsFound text options bounds end
-  pub written : AppendsFront old new (printed path bounds)
+  pub written : AppendsPrefix old new (printed path bounds)
 
 -- The bytes that a run has fed to its finder: those that it read, and of more than `max` the first `max`.
 pub record AreFed (max : ℕ) (known : List ℕ) (old new : Option (List ℕ)) : Type 0 where
@@ -48,11 +48,11 @@ pub record ListsToFault (path known : List ℕ) (options : FindOptions) (fault :
 -- What an error leaves of the listing of a text: all lines before a fault, and else a prefix of the lines.
 abbrev pub LeavesAtError : List ℕ → List ℕ → FindOptions → RunError → Option (List ℕ) → Option (List ℕ) → Type 0
 LeavesAtError path text options (run.Fault f) old new = Lists path text options (Some f) old new
-LeavesAtError path text options run.Write old new = ListsFront path text options old new
-LeavesAtError path text options run.Memory old new = ListsFront path text options old new
-LeavesAtError path text options run.Read old new = ListsFront path text options old new
-LeavesAtError path text options run.TooLong old new = ListsFront path text options old new
-LeavesAtError path text options run.NeverEnds old new = ListsFront path text options old new
+LeavesAtError path text options run.Write old new = ListsPrefix path text options old new
+LeavesAtError path text options run.Memory old new = ListsPrefix path text options old new
+LeavesAtError path text options run.Read old new = ListsPrefix path text options old new
+LeavesAtError path text options run.TooLong old new = ListsPrefix path text options old new
+LeavesAtError path text options run.NeverEnds old new = ListsPrefix path text options old new
 
 -- What a reader had, at most `max` bytes, was read to its end, and the lines of all imports that are found in it were written.
 pub record ListsInput (path : List ℕ) (options : FindOptions) (max : ℕ) (given left old new : Option (List ℕ)) : Type 0 where

@@ -1,7 +1,7 @@
 //! What the options of a command line ask for.
 ghost use Rattle.std.specs.Prelude.{◌≡◌, IfOk, IfErr, codes, map, unwrap_or, option_map, string_bytes, []};
 ghost use Rattle.clap.specs.Words.{all_of, first_of};
-ghost use Rattle.isort_cmd.specs.Choice.{IsAction, IsJob, is_forbidden, key_count, key_in, number_of, wants_sorting, was_given};
+ghost use Rattle.isort_cmd.specs.Choice.{IsAction, IsJob, is_forbidden, key_count, key_option, number_of, wants_sorting, was_given};
 ghost use Rattle.isort_cmd.specs.ParserSteps.{IsNoJob, rows_in};
 
 use crate::job::{Action, Job};
@@ -66,7 +66,7 @@ fn action_of(alloc: Global, matches: &ArgMatches<'_>) -> Result<Action, UsageErr
 {
     if was_given(matches, "identify") {
         return Ok(Action::Identify(FindOptions {
-            unique: key_in(matches),
+            unique: key_option(matches),
             top_only: was_given(matches, "top-only"),
         }));
     }
@@ -81,8 +81,8 @@ fn action_of(alloc: Global, matches: &ArgMatches<'_>) -> Result<Action, UsageErr
 }
 
 /// The key of the option that names one.
-fn key_in(matches: &ArgMatches<'_>) -> Option<ImportKey>
-    ensures { result ≡ key_in (rows_in matches.now) }
+fn key_option(matches: &ArgMatches<'_>) -> Option<ImportKey>
+    ensures { result ≡ key_option (rows_in matches.now) }
 {
     if was_given(matches, "unique") {
         Some(ImportKey::Alias)

@@ -6,8 +6,8 @@ use Rattle.py_lines.specs.declared.fault.Fault.{Fault}
 use Rattle.py_imports.specs.Bound.{Bound}
 use Rattle.py_imports.specs.Binds.{BindAll, BindsOrIsBad, IsBadAt}
 use Rattle.isort_find.specs.Found.{has_one_like, firsts, ends_top, counted_lines, counted_end, of_all, before_bad, IsFound, BeginsFound}
-use Rattle.isort_find.specs.Cursor.{Standing, HasStopped, BeginsNext, IsBehind}
-use Rattle.isort_find.specs.Finder.{Finding, HasFound, text_of, options_of}
+use Rattle.isort_find.specs.Cursor.{CursorState, HasStopped, BeginsNext, IsAfter}
+use Rattle.isort_find.specs.Finder.{FinderState, HasFound, text_of, options_of}
 use Rattle.isort_find.specs.declared.options.FindOptions.{FindOptions}
 use Rattle.isort_find.specs.declared.options.ImportKey.{ImportKey}
 use Rattle.isort_find.proofs.TakeLemmas.{list_all-snoc}
@@ -95,7 +95,7 @@ begins_decided text options lines bounds looked rest binds all found begins (inr
 pub begins_behind : EachBindsOrIsBad → (text : List ℕ) (options : FindOptions) (lines : List LogicalLine) (bounds looked rest : List Bound) → BeginsLexing text lines → BindAll lines (looked ++ rest) → AllCount options lines → bounds ≡ firsts options.unique [] looked → BeginsFound text options bounds
 begins_behind each text options lines bounds looked rest begins binds all found = begins_decided text options lines bounds looked rest binds all found begins (decide each (counted_lines options begins.more))
 
-begins_part : GivenBegin → EachBindsOrIsBad → (text : List ℕ) (options : FindOptions) (offset line taken : ℕ) (bounds : List Bound) (behind : IsBehind text options offset line taken bounds) → (behind.part ≡ []) ⊎ BeginsNext text options behind.lines behind.part → BeginsFound text options bounds
+begins_part : GivenBegin → EachBindsOrIsBad → (text : List ℕ) (options : FindOptions) (offset line taken : ℕ) (bounds : List Bound) (behind : IsAfter text options offset line taken bounds) → (behind.part ≡ []) ⊎ BeginsNext text options behind.lines behind.part → BeginsFound text options bounds
 begins_part given each text options offset line taken bounds behind (inl none) =
     let looked : behind.before ++ behind.part ≡ behind.before = ap (λ t. behind.before ++ t) none ∙ append-nil behind.before in
     begins_behind each text options behind.lines bounds behind.before [] (given _ behind.lines behind.given) (subst (BindAll behind.lines) (sym (append-nil behind.before)) behind.binds) behind.in_top (behind.found ∙ ap (firsts options.unique []) looked)
@@ -106,13 +106,13 @@ begins_part given each text options offset line taken bounds behind (inr next) =
     begins_behind each text options lines bounds (behind.before ++ behind.part) next.rest next.begins binds all behind.found
 
 -- What was given where a finder stops begins what is found in its text.
-pub stopped_begins : GivenBegin → EachBindsOrIsBad → (text : List ℕ) (cursor : Standing) (bounds : List Bound) → HasStopped text cursor bounds → BeginsFound text cursor.options bounds
+pub stopped_begins : GivenBegin → EachBindsOrIsBad → (text : List ℕ) (cursor : CursorState) (bounds : List Bound) → HasStopped text cursor bounds → BeginsFound text cursor.options bounds
 stopped_begins given each text cursor bounds stopped =
     let behind = stopped.behind in
     begins_part given each text cursor.options cursor.offset cursor.line cursor.taken bounds behind behind.is_part.1
 
 -- What a finder has given, with those that it goes on from, begins what is found in its text.
-pub begins_found : GivenBegin → EachBindsOrIsBad → (f : Finding) (bounds : List Bound) → HasFound f bounds → BeginsFound (text_of f) (options_of f) bounds
+pub begins_found : GivenBegin → EachBindsOrIsBad → (f : FinderState) (bounds : List Bound) → HasFound f bounds → BeginsFound (text_of f) (options_of f) bounds
 begins_found given each f bounds has = stopped_begins given each (text_of f) f.cursor bounds has.stopped
 
 -- the law `some` of `py_lines::laws::one_lexing`

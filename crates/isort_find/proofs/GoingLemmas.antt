@@ -3,7 +3,7 @@ use Rattle.std.proofs.Common.{◌≡◌, ℕ, ◌+◌, ◌⊎◌, Option, None, 
 use Rattle.py_lines.specs.declared.fault.Fault.{Fault}
 use Rattle.py_imports.specs.Bound.{Bound}
 use Rattle.isort_find.specs.Found.{IsFound}
-use Rattle.isort_find.specs.Finder.{Finding, HasReached, SameTask, MeetsEndAt, MeetsFaultAt, FindsEnd, FindsFault, text_of, options_of}
+use Rattle.isort_find.specs.Finder.{FinderState, HasReached, SameTask, MeetsEndAt, MeetsFaultAt, FindsEnd, FindsFault, text_of, options_of}
 use Rattle.isort_find.specs.Steps.Findings.{Goes}
 use Rattle.isort_find.specs.declared.options.FindOptions.{FindOptions}
 use Rattle.isort_find.specs.declared.finder.Outcome.{Outcome}
@@ -16,7 +16,7 @@ work outcome.End n = 0
 work (outcome.Fault fault) n = 0
 
 -- the call has just begun
-pub goes_start : (i : Finding) → Goes i i
+pub goes_start : (i : FinderState) → Goes i i
 goes_start i = record {
   keeps = record { kept = λ bounds h. h; task = record { text = refl; options = refl }; given = refl };
   falls = λ e. omega arith;
@@ -25,13 +25,13 @@ goes_start i = record {
 }
 
 -- what is found for one finder is found for the other
-found_for : (i f : Finding) (bounds : List Bound) (end : Option Fault) → SameTask i f → IsFound (text_of f) (options_of f) bounds end → IsFound (text_of i) (options_of i) bounds end
+found_for : (i f : FinderState) (bounds : List Bound) (end : Option Fault) → SameTask i f → IsFound (text_of f) (options_of f) bounds end → IsFound (text_of i) (options_of i) bounds end
 found_for i f bounds end task h = subst (λ (t : List ℕ). IsFound t (options_of i) bounds end) task.text (subst (λ (o : FindOptions). IsFound (text_of f) o bounds end) task.options h)
 
 -- a call that ends elsewhere than it began was open there
-not_met : (i f : Finding) (met other : Outcome) → (i.outcome ≡ outcome.Open) ⊎ (f ≡ i) → f.outcome ≡ met → i.outcome ≡ other → (outcome.Open ≡ other → ⊥) → met ≡ other
+not_met : (i f : FinderState) (met other : Outcome) → (i.outcome ≡ outcome.Open) ⊎ (f ≡ i) → f.outcome ≡ met → i.outcome ≡ other → (outcome.Open ≡ other → ⊥) → met ≡ other
 not_met i f met other (inl opened) at is differs = absurd (differs (sym opened ∙ is))
-not_met i f met other (inr same) at is differs = sym at ∙ ap (λ (x : Finding). x.outcome) same ∙ is
+not_met i f met other (inr same) at is differs = sym at ∙ ap (λ (x : FinderState). x.outcome) same ∙ is
 
 -- an outcome that isn't open, and is open or the end, is the end
 pub is_end : (o here there : Outcome) → o ≡ here → o ≡ there → (here ≡ outcome.Open) ⊎ (here ≡ outcome.End) → (there ≡ outcome.Open → ⊥) → o ≡ outcome.End
@@ -39,7 +39,7 @@ is_end o here there e d (inl opened) closed = absurd (closed (sym d ∙ e ∙ op
 is_end o here there e d (inr ended) closed = e ∙ ended
 
 -- the end was met
-pub goes_to_end : (i f : Finding) → Goes i f → f.outcome ≡ outcome.End → FindsEnd i f
+pub goes_to_end : (i f : FinderState) → Goes i f → f.outcome ≡ outcome.End → FindsEnd i f
 goes_to_end i f goes at =
     let task = goes.keeps.task in
     record {
@@ -53,7 +53,7 @@ goes_to_end i f goes at =
     }
 
 -- the fault was met
-pub goes_to_fault : (i f : Finding) (fault : Fault) → Goes i f → f.outcome ≡ outcome.Fault fault → FindsFault i fault f
+pub goes_to_fault : (i f : FinderState) (fault : Fault) → Goes i f → f.outcome ≡ outcome.Fault fault → FindsFault i fault f
 goes_to_fault i f fault goes at =
     let task = goes.keeps.task in
     record {

@@ -7,7 +7,7 @@ use Rattle.std.specs.Str.{bytes_eq}
 use Rattle.py_imports.specs.Bound.{Bound}
 use Rattle.isort_find.specs.Key.{Key, key_of, key_eq}
 use Rattle.isort_find.specs.KeyText.{key_in}
-use Rattle.isort_find.specs.Cursor.{Standing, keys_of, has_key}
+use Rattle.isort_find.specs.Cursor.{CursorState, keys_of, has_key}
 use Rattle.isort_find.specs.Steps.Standings.{Admits}
 use Rattle.isort_find.specs.declared.options.ImportKey.{ImportKey}
 use Rattle.isort_find.specs.declared.key.KeyText.{KeyText}
@@ -36,7 +36,7 @@ pub text_eq : (a b : KeyText) → string_eq a.text b.text && (option_eq string_e
 text_eq a b = (λ i. bytes_eq (string_bytes a.text) (string_bytes b.text) && (same_optional a.attribute b.attribute i && same_optional a.alias b.alias i))
 
 -- the set takes in a key
-pub admits : (eq : KeyText → KeyText → Bool) → ((a b : KeyText) → eq a b ≡ key_eq (key_in a) (key_in b)) → (old : Standing) (key : ImportKey) (keys after : List KeyText) (k : KeyText) (b : Bound) (is_new : Bool) → old.options.unique ≡ Some key → old.keys ≡ map key_in keys → key_in k ≡ key_of key b → is_new ≡ not (list_any (eq k) keys) → after ≡ (if list_any (eq k) keys then keys else keys ++ k ∷ []) → Admits old b is_new (record old { keys = map key_in after })
+pub admits : (eq : KeyText → KeyText → Bool) → ((a b : KeyText) → eq a b ≡ key_eq (key_in a) (key_in b)) → (old : CursorState) (key : ImportKey) (keys after : List KeyText) (k : KeyText) (b : Bound) (is_new : Bool) → old.options.unique ≡ Some key → old.keys ≡ map key_in keys → key_in k ≡ key_of key b → is_new ≡ not (list_any (eq k) keys) → after ≡ (if list_any (eq k) keys then keys else keys ++ k ∷ []) → Admits old b is_new (record old { keys = map key_in after })
 admits eq same old key keys after k b is_new unique are made new added =
     let there : list_any (eq k) keys ≡ has_key old.options.unique old.keys b = in_set eq same k keys ∙ (λ i. list_any (key_eq (made i)) (sym are i)) ∙ ap (λ u. has_key u old.keys b) (sym unique) in
     let behind = ap (map key_in) added ∙ keys_behind (list_any (eq k) keys) keys k (key_of key b) made in

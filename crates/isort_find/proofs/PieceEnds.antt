@@ -6,12 +6,12 @@ use Rattle.py_lines.specs.Lexed.{IsLexed}
 use Rattle.py_lines.specs.Settled.{IsSettled}
 use Rattle.py_lines.specs.Given.{AreFirstLines}
 use Rattle.py_lines.specs.Reader.{HasGiven, standing_at}
-use Rattle.py_lines.specs.Scanning.{Scanning, fed_of, ready_lines, Releases}
+use Rattle.py_lines.specs.ScannerState.{ScannerState, fed_of, ready_lines, Releases}
 use Rattle.py_imports.specs.Bound.{Bound}
 use Rattle.py_imports.specs.Binds.{BindAll}
 use Rattle.isort_find.specs.Found.{firsts, ends_top, of_all, IsFound}
-use Rattle.isort_find.specs.Cursor.{Standing, IsBehind, HasStopped}
-use Rattle.isort_find.specs.Pieces.{PieceFinding, options_for, fed_by, HasReleased, IsBetweenLines, IsAtTopEnd, HasFoundIn, AreAllSettled}
+use Rattle.isort_find.specs.Cursor.{CursorState, IsAfter, HasStopped}
+use Rattle.isort_find.specs.Pieces.{PieceFinderState, options_for, fed_by, HasReleased, IsBetweenLines, IsAtTopEnd, HasFoundIn, AreAllSettled}
 use Rattle.isort_find.specs.Steps.Feedings.{IsNextPlace, LetsGo, StandsNext, Rests}
 use Rattle.isort_find.specs.Steps.Standings.{standing_before}
 use Rattle.isort_find.specs.declared.options.FindOptions.{FindOptions}
@@ -35,7 +35,7 @@ true_or_false : (b : Bool) → b ≡ false → b ≡ true → ⊥
 true_or_false b h k = cc
 
 -- what is settled between two lines is what was released, or less
-pub settled_within : OneSettled → AscentLaws → (s : Scanning) (text : List ℕ) (lines others : List LogicalLine) → s.ended ≡ false → s.ready ≡ None → HasReleased s text lines → IsSettled (take (fed_of s) text) others → (more : List LogicalLine) × (lines ≡ others ++ more)
+pub settled_within : OneSettled → AscentLaws → (s : ScannerState) (text : List ℕ) (lines others : List LogicalLine) → s.ended ≡ false → s.ready ≡ None → HasReleased s text lines → IsSettled (take (fed_of s) text) others → (more : List LogicalLine) × (lines ≡ others ++ more)
 settled_within one ascent s text lines others yet none (inr h) settled = absurd (true_or_false _ yet h.ended)
 settled_within one ascent s text lines others yet none (inl h) settled = by_held s.held refl
   where
@@ -66,11 +66,11 @@ cut_counts : (options : FindOptions) (lines others : List LogicalLine) → AllCo
 cut_counts options [] others h = refl
 cut_counts options (l ∷ ls) others h = let parts = both _ _ h in together _ _ parts.0 (cut_counts options ls others parts.1)
 
-pub fed_open : (f : PieceFinding) → f.outcome ≡ outcome.Open → fed_by f ≡ fed_of f.scanning
+pub fed_open : (f : PieceFinderState) → f.outcome ≡ outcome.Open → fed_by f ≡ fed_of f.scanning
 fed_open f opened = ap (λ (o : Outcome). fed_by (record f { outcome = o })) opened
 
 -- between two lines, none of which is ready, all that is settled was given
-pub gap_settled : SettledLaws → OneSettled → AscentLaws → (f : PieceFinding) (text : List ℕ) (bounds : List Bound) → f.outcome ≡ outcome.Open → f.scanning.ended ≡ false → f.scanning.ready ≡ None → IsBetweenLines f text bounds → AreAllSettled f text bounds
+pub gap_settled : SettledLaws → OneSettled → AscentLaws → (f : PieceFinderState) (text : List ℕ) (bounds : List Bound) → f.outcome ≡ outcome.Open → f.scanning.ended ≡ false → f.scanning.ready ≡ None → IsBetweenLines f text bounds → AreAllSettled f text bounds
 gap_settled laws one ascent f text bounds opened yet none b = λ found bad s.
     let behind = b.behind in
     let unique = (options_for f).unique in
@@ -82,44 +82,44 @@ gap_settled laws one ascent f text bounds opened yet none b = λ found bad s.
     (firsts unique binds.0 (binds.1 ++ behind.part), behind.found ∙ ap (λ t. firsts unique [] (t ++ behind.part)) binds.2 ∙ ap (firsts unique []) (append_assoc binds.0 binds.1 behind.part) ∙ firsts-append unique [] binds.0 (binds.1 ++ behind.part) ∙ ap (λ t. t ++ firsts unique binds.0 (binds.1 ++ behind.part)) (sym is))
 
 -- where the next line begins
-pub place_given : (f : PieceFinding) (text : List ℕ) (lines : List LogicalLine) (place : Place) → IsNextPlace f place → HasGiven (standing_at text f.scanning.place f.scanning.line) lines → HasGiven (standing_at text place.offset place.line) lines
+pub place_given : (f : PieceFinderState) (text : List ℕ) (lines : List LogicalLine) (place : Place) → IsNextPlace f place → HasGiven (standing_at text f.scanning.place f.scanning.line) lines → HasGiven (standing_at text place.offset place.line) lines
 place_given f text lines place here given = subst (λ (n : ℕ). HasGiven (standing_at text n place.line) lines) (sym here.offset) (subst (λ (n : ℕ). HasGiven (standing_at text f.scanning.place n) lines) (sym here.line) given)
 
-no_part : (f : PieceFinding) (text : List ℕ) (bounds : List Bound) (b : IsBetweenLines f text bounds) → f.skip ≡ 0 → b.behind.part ≡ []
+no_part : (f : PieceFinderState) (text : List ℕ) (bounds : List Bound) (b : IsBetweenLines f text bounds) → f.skip ≡ 0 → b.behind.part ≡ []
 no_part f text bounds b fresh = nil_from_length b.behind.part (sym b.behind.is_part.0 ∙ fresh)
 
 -- between two lines, where the cursor stands
-pub record IsResting (f : PieceFinding) (text : List ℕ) (bounds : List Bound) : Type 0 where
+pub record IsResting (f : PieceFinderState) (text : List ℕ) (bounds : List Bound) : Type 0 where
   pub between : IsBetweenLines f text bounds
   pub stopped : HasStopped text f.cursor bounds
   pub stands : f.cursor.offset ≡ f.scanning.place
 
 -- the cursor goes there, or stands there
-rest_between : (m new : PieceFinding) (text : List ℕ) (bounds : List Bound) → IsBetweenLines m text bounds → HasStopped text m.cursor bounds → StandsNext m new ⊎ ((m.skip ≡ 0 → ⊥) × (new ≡ m)) → IsResting new text bounds
+rest_between : (m new : PieceFinderState) (text : List ℕ) (bounds : List Bound) → IsBetweenLines m text bounds → HasStopped text m.cursor bounds → StandsNext m new ⊎ ((m.skip ≡ 0 → ⊥) × (new ≡ m)) → IsResting new text bounds
 rest_between m new text bounds b stopped (inl s) =
     let none = no_part m text bounds b s.fresh in
     let cursor = standing_before m.cursor s.place in
-    subst (λ (g : PieceFinding). IsResting g text bounds) (sym s.same) (record {
+    subst (λ (g : PieceFinderState). IsResting g text bounds) (sym s.same) (record {
       between = record { none = b.none; behind = b.behind; released = b.released; unread = b.unread; stands = inl s.fresh };
       stopped = stands_at m.cursor s.place b.behind none (place_given m text b.behind.lines s.place s.here b.behind.given) stopped;
       stands = s.here.offset;
     })
-rest_between m new text bounds b stopped (inr s) = subst (λ (g : PieceFinding). IsResting g text bounds) (sym s.1) (record { between = b; stopped = stopped; stands = where_skipped b.stands })
+rest_between m new text bounds b stopped (inr s) = subst (λ (g : PieceFinderState). IsResting g text bounds) (sym s.1) (record { between = b; stopped = stopped; stands = where_skipped b.stands })
   where
     where_skipped : (m.skip ≡ 0) ⊎ (m.cursor.offset ≡ m.scanning.place) → m.cursor.offset ≡ m.scanning.place
     where_skipped (inl fresh) = absurd (s.0 fresh)
     where_skipped (inr at) = at
 
 -- the line that was read is let go, and the cursor goes to the next
-pub rests_open : (f new : PieceFinding) (text : List ℕ) (bounds : List Bound) → f.outcome ≡ outcome.Open → f.pending.left ≡ [] → f.unread ≡ false → Rests f new → HasFoundIn f text bounds → IsResting new text bounds
+pub rests_open : (f new : PieceFinderState) (text : List ℕ) (bounds : List Bound) → f.outcome ≡ outcome.Open → f.pending.left ≡ [] → f.unread ≡ false → Rests f new → HasFoundIn f text bounds → IsResting new text bounds
 rests_open f new text bounds opened none read r h = by r.goes
   where
     by : ((f.outcome ≡ outcome.Open) × LetsGo f r.mid) ⊎ ((f.outcome ≡ outcome.Open → ⊥) × (r.mid ≡ f)) → IsResting new text bounds
-    by (inl go) = rest_between r.mid new text bounds (let_go_between f r.mid text bounds opened none read go.1 h) (subst (λ (c : Standing). HasStopped text c bounds) (ap (λ (g : PieceFinding). g.cursor) (sym go.1.rest)) h.stopped) r.stands
+    by (inl go) = rest_between r.mid new text bounds (let_go_between f r.mid text bounds opened none read go.1 h) (subst (λ (c : CursorState). HasStopped text c bounds) (ap (λ (g : PieceFinderState). g.cursor) (sym go.1.rest)) h.stopped) r.stands
     by (inr closed) = absurd (closed.0 opened)
 
 -- after all lines of a text
-pub ended_found : SettledLaws → (f : PieceFinding) (text : List ℕ) (bounds : List Bound) → f.scanning.ended ≡ true → f.scanning.ready ≡ None → IsBetweenLines f text bounds → IsFound text (options_for f) bounds None
+pub ended_found : SettledLaws → (f : PieceFinderState) (text : List ℕ) (bounds : List Bound) → f.scanning.ended ≡ true → f.scanning.ready ≡ None → IsBetweenLines f text bounds → IsFound text (options_for f) bounds None
 ended_found laws f text bounds over none b = by b.released
   where
     by : HasReleased f.scanning text b.behind.lines → IsFound text (options_for f) bounds None
@@ -135,7 +135,7 @@ ended_found laws f text bounds over none b = by b.released
         }
 
 -- what stays where nothing is ready
-pub record RestsSo (f new : PieceFinding) : Type 0 where
+pub record RestsSo (f new : PieceFinderState) : Type 0 where
   pub outcome : new.outcome ≡ f.outcome
   pub left : new.pending.left ≡ f.pending.left
   pub unread : new.unread ≡ f.unread
@@ -145,32 +145,32 @@ pub record RestsSo (f new : PieceFinding) : Type 0 where
   pub options : options_for new ≡ options_for f
   pub given : new.cursor.given ≡ f.cursor.given
 
-pub fed_gone : (s t : Scanning) → Releases s t → fed_of t ≡ fed_of s
+pub fed_gone : (s t : ScannerState) → Releases s t → fed_of t ≡ fed_of s
 fed_gone s t r = let len = ap length r.held in omega (arith, r.place, len, length-append r.unit.text t.held)
 
-gone_so : (f m : PieceFinding) → ((f.outcome ≡ outcome.Open) × LetsGo f m) ⊎ ((f.outcome ≡ outcome.Open → ⊥) × (m ≡ f)) → RestsSo f m
+gone_so : (f m : PieceFinderState) → ((f.outcome ≡ outcome.Open) × LetsGo f m) ⊎ ((f.outcome ≡ outcome.Open → ⊥) × (m ≡ f)) → RestsSo f m
 gone_so f m (inl go) = let is = go.1.rest in by go.1.scanner
   where
     so : fed_of m.scanning ≡ fed_of f.scanning → m.scanning.ended ≡ f.scanning.ended → RestsSo f m
-    so fed ended = record { outcome = ap (λ (g : PieceFinding). g.outcome) go.1.rest; left = ap (λ (g : PieceFinding). g.pending.left) go.1.rest; unread = ap (λ (g : PieceFinding). g.unread) go.1.rest; passed = ap (λ (g : PieceFinding). g.passed) go.1.rest; fed = fed; ended = ended; options = ap options_for go.1.rest; given = ap (λ (g : PieceFinding). g.cursor.given) go.1.rest }
+    so fed ended = record { outcome = ap (λ (g : PieceFinderState). g.outcome) go.1.rest; left = ap (λ (g : PieceFinderState). g.pending.left) go.1.rest; unread = ap (λ (g : PieceFinderState). g.unread) go.1.rest; passed = ap (λ (g : PieceFinderState). g.passed) go.1.rest; fed = fed; ended = ended; options = ap options_for go.1.rest; given = ap (λ (g : PieceFinderState). g.cursor.given) go.1.rest }
 
     by : ((f.scanning.ready ≡ None) × (m.scanning ≡ f.scanning)) ⊎ Releases f.scanning m.scanning → RestsSo f m
-    by (inl here) = so (ap fed_of here.1) (ap (λ (s : Scanning). s.ended) here.1)
+    by (inl here) = so (ap fed_of here.1) (ap (λ (s : ScannerState). s.ended) here.1)
     by (inr r) = so (fed_gone f.scanning m.scanning r) r.ended
-gone_so f m (inr closed) = let is = closed.1 in record { outcome = ap (λ (g : PieceFinding). g.outcome) is; left = ap (λ (g : PieceFinding). g.pending.left) is; unread = ap (λ (g : PieceFinding). g.unread) is; passed = ap (λ (g : PieceFinding). g.passed) is; fed = ap (λ (g : PieceFinding). fed_of g.scanning) is; ended = ap (λ (g : PieceFinding). g.scanning.ended) is; options = ap options_for is; given = ap (λ (g : PieceFinding). g.cursor.given) is }
+gone_so f m (inr closed) = let is = closed.1 in record { outcome = ap (λ (g : PieceFinderState). g.outcome) is; left = ap (λ (g : PieceFinderState). g.pending.left) is; unread = ap (λ (g : PieceFinderState). g.unread) is; passed = ap (λ (g : PieceFinderState). g.passed) is; fed = ap (λ (g : PieceFinderState). fed_of g.scanning) is; ended = ap (λ (g : PieceFinderState). g.scanning.ended) is; options = ap options_for is; given = ap (λ (g : PieceFinderState). g.cursor.given) is }
 
-stood_so : (m new : PieceFinding) → StandsNext m new ⊎ ((m.skip ≡ 0 → ⊥) × (new ≡ m)) → RestsSo m new
-stood_so m new (inl s) = let is = s.same in record { outcome = ap (λ (g : PieceFinding). g.outcome) is; left = ap (λ (g : PieceFinding). g.pending.left) is; unread = ap (λ (g : PieceFinding). g.unread) is; passed = ap (λ (g : PieceFinding). g.passed) is; fed = ap (λ (g : PieceFinding). fed_of g.scanning) is; ended = ap (λ (g : PieceFinding). g.scanning.ended) is; options = ap options_for is; given = ap (λ (g : PieceFinding). g.cursor.given) is }
-stood_so m new (inr s) = let is = s.1 in record { outcome = ap (λ (g : PieceFinding). g.outcome) is; left = ap (λ (g : PieceFinding). g.pending.left) is; unread = ap (λ (g : PieceFinding). g.unread) is; passed = ap (λ (g : PieceFinding). g.passed) is; fed = ap (λ (g : PieceFinding). fed_of g.scanning) is; ended = ap (λ (g : PieceFinding). g.scanning.ended) is; options = ap options_for is; given = ap (λ (g : PieceFinding). g.cursor.given) is }
+stood_so : (m new : PieceFinderState) → StandsNext m new ⊎ ((m.skip ≡ 0 → ⊥) × (new ≡ m)) → RestsSo m new
+stood_so m new (inl s) = let is = s.same in record { outcome = ap (λ (g : PieceFinderState). g.outcome) is; left = ap (λ (g : PieceFinderState). g.pending.left) is; unread = ap (λ (g : PieceFinderState). g.unread) is; passed = ap (λ (g : PieceFinderState). g.passed) is; fed = ap (λ (g : PieceFinderState). fed_of g.scanning) is; ended = ap (λ (g : PieceFinderState). g.scanning.ended) is; options = ap options_for is; given = ap (λ (g : PieceFinderState). g.cursor.given) is }
+stood_so m new (inr s) = let is = s.1 in record { outcome = ap (λ (g : PieceFinderState). g.outcome) is; left = ap (λ (g : PieceFinderState). g.pending.left) is; unread = ap (λ (g : PieceFinderState). g.unread) is; passed = ap (λ (g : PieceFinderState). g.passed) is; fed = ap (λ (g : PieceFinderState). fed_of g.scanning) is; ended = ap (λ (g : PieceFinderState). g.scanning.ended) is; options = ap options_for is; given = ap (λ (g : PieceFinderState). g.cursor.given) is }
 
-pub rests_so : (f new : PieceFinding) → Rests f new → RestsSo f new
+pub rests_so : (f new : PieceFinderState) → Rests f new → RestsSo f new
 rests_so f new r =
     let a = gone_so f r.mid r.goes in
     let b = stood_so r.mid new r.stands in
     record { outcome = b.outcome ∙ a.outcome; left = b.left ∙ a.left; unread = b.unread ∙ a.unread; passed = b.passed ∙ a.passed; fed = b.fed ∙ a.fed; ended = b.ended ∙ a.ended; options = b.options ∙ a.options; given = b.given ∙ a.given }
 
 -- after all lines of a text the cursor stands at its end
-pub ended_at : SettledLaws → (f : PieceFinding) (text : List ℕ) (bounds : List Bound) → f.scanning.ended ≡ true → f.scanning.ready ≡ None → IsBetweenLines f text bounds → f.scanning.place ≡ length text
+pub ended_at : SettledLaws → (f : PieceFinderState) (text : List ℕ) (bounds : List Bound) → f.scanning.ended ≡ true → f.scanning.ready ≡ None → IsBetweenLines f text bounds → f.scanning.place ≡ length text
 ended_at laws f text bounds over none b = by b.released
   where
     by : HasReleased f.scanning text b.behind.lines → f.scanning.place ≡ length text
@@ -180,19 +180,19 @@ ended_at laws f text bounds over none b = by b.released
         sym (bytes_given _ b.behind.lines b.behind.given) ∙ bytes_lexed text b.behind.lines lexed
 
 -- at the line that ends the top the cursor goes to where this line begins
-pub rests_top : (f new : PieceFinding) (text : List ℕ) (bounds : List Bound) → IsAtTopEnd f text bounds → HasStopped text f.cursor bounds → StandsNext f new ⊎ ((f.skip ≡ 0 → ⊥) × (new ≡ f)) → IsAtTopEnd new text bounds × HasStopped text new.cursor bounds × (new.cursor.offset ≡ new.scanning.place)
+pub rests_top : (f new : PieceFinderState) (text : List ℕ) (bounds : List Bound) → IsAtTopEnd f text bounds → HasStopped text f.cursor bounds → StandsNext f new ⊎ ((f.skip ≡ 0 → ⊥) × (new ≡ f)) → IsAtTopEnd new text bounds × HasStopped text new.cursor bounds × (new.cursor.offset ≡ new.scanning.place)
 rests_top f new text bounds t stopped (inr s) = absurd (s.0 t.fresh)
 rests_top f new text bounds t stopped (inl s) =
-    let behind : IsBehind text (options_for f) f.scanning.place f.scanning.line 0 bounds = record { lines = t.lines; before = t.before; part = []; given = t.given; binds = t.binds; in_top = t.in_top; is_part = (refl, inl refl); found = t.found ∙ ap (firsts (options_for f).unique []) (sym (append-nil t.before)) } in
+    let behind : IsAfter text (options_for f) f.scanning.place f.scanning.line 0 bounds = record { lines = t.lines; before = t.before; part = []; given = t.given; binds = t.binds; in_top = t.in_top; is_part = (refl, inl refl); found = t.found ∙ ap (firsts (options_for f).unique []) (sym (append-nil t.before)) } in
     let there = stands_at f.cursor s.place behind refl (place_given f text t.lines s.place s.here t.given) stopped in
-    subst (λ (g : PieceFinding). IsAtTopEnd g text bounds × HasStopped text g.cursor bounds × (g.cursor.offset ≡ g.scanning.place)) (sym s.same) (
+    subst (λ (g : PieceFinderState). IsAtTopEnd g text bounds × HasStopped text g.cursor bounds × (g.cursor.offset ≡ g.scanning.place)) (sym s.same) (
       record { lines = t.lines; line = t.line; before = t.before; known = t.known; given = t.given; binds = t.binds; in_top = t.in_top; ends = t.ends; fresh = t.fresh; fed = t.fed; found = t.found },
       there,
       s.here.offset,
     )
 
 -- after the top nothing more counts
-pub top_found : SettledLaws → (f : PieceFinding) (text : List ℕ) (bounds : List Bound) → IsAtTopEnd f text bounds → IsFound text (options_for f) bounds None × LineAt text f.scanning.place (λ line. ends_top (options_for f) line ≡ true)
+pub top_found : SettledLaws → (f : PieceFinderState) (text : List ℕ) (bounds : List Bound) → IsAtTopEnd f text bounds → IsFound text (options_for f) bounds None × LineAt text f.scanning.place (λ line. ends_top (options_for f) line ≡ true)
 top_found laws f text bounds t =
     let begins = known_begins laws f.scanning text (t.lines ++ t.line ∷ []) t.known in (
       record {

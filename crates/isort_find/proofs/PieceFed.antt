@@ -1,10 +1,10 @@
 -- What a finder over pieces is once it was fed.
 use Rattle.std.proofs.Common.{◌≡◌, ℕ, ◌+◌, Bool, true, false, None, List, length, take, drop, inl, inr, refl, sym, ap, ◌∙◌, subst, arith}
 use Rattle.std.proofs.lemmas.List.{nil_from_length, length-drop}
-use Rattle.py_lines.specs.Scanning.{GoesOnWith}
+use Rattle.py_lines.specs.ScannerState.{GoesOnWith}
 use Rattle.py_lines.specs.declared.fault.Fault.{Fault}
 use Rattle.py_imports.specs.Bound.{Bound}
-use Rattle.isort_find.specs.Pieces.{PieceFinding, fed_by, fed_in, has_ready, ready_in, IsOpenYet, IsAtTopEnd, HasReachedIn, HasFoundIn, TakesPiece}
+use Rattle.isort_find.specs.Pieces.{PieceFinderState, fed_by, fed_in, has_ready, ready_in, IsOpenYet, IsAtTopEnd, HasReachedIn, HasFoundIn, TakesPiece}
 use Rattle.isort_find.specs.Steps.Feedings.{TakesSome, TakesAll, IsDrained}
 use Rattle.isort_find.specs.declared.finder.Outcome.{Outcome}
 use Rattle.isort_find.specs.declared.finder.Outcome.TheVariants as outcome
@@ -28,22 +28,22 @@ end_or_fault : (o : Outcome) (fault : Fault) → o ≡ outcome.End → o ≡ out
 end_or_fault o fault h k = cc
 
 -- before a fault the text hasn't ended
-pub yet_open : (f : PieceFinding) → f.outcome ≡ outcome.Open → IsOpenYet f → f.scanning.ended ≡ false
+pub yet_open : (f : PieceFinderState) → f.outcome ≡ outcome.Open → IsOpenYet f → f.scanning.ended ≡ false
 yet_open f here yet = yet (λ fault is. some_fault f.outcome fault here is)
 
-pub yet_end : (f : PieceFinding) → f.outcome ≡ outcome.End → IsOpenYet f → f.scanning.ended ≡ false
+pub yet_end : (f : PieceFinderState) → f.outcome ≡ outcome.End → IsOpenYet f → f.scanning.ended ≡ false
 yet_end f here yet = yet (λ fault is. end_or_fault f.outcome fault here is)
 
 -- more was passed over after the top
-abbrev pub with_passed : PieceFinding → ℕ → PieceFinding
+abbrev pub with_passed : PieceFinderState → ℕ → PieceFinderState
 with_passed f n = record f { passed = f.passed + n }
 
-top_passed : (f : PieceFinding) (n : ℕ) (text : List ℕ) (bounds : List Bound) → IsAtTopEnd f text bounds → IsAtTopEnd (with_passed f n) text bounds
+top_passed : (f : PieceFinderState) (n : ℕ) (text : List ℕ) (bounds : List Bound) → IsAtTopEnd f text bounds → IsAtTopEnd (with_passed f n) text bounds
 top_passed f n text bounds t = record { lines = t.lines; line = t.line; before = t.before; known = t.known; given = t.given; binds = t.binds; in_top = t.in_top; ends = t.ends; fresh = t.fresh; fed = (let k = t.fed in omega (arith, k)); found = t.found }
 
 -- after the top a piece is taken whole
-pub passes_piece : SettledLaws → AscentLaws → (f new : PieceFinding) (piece : List ℕ) → f.outcome ≡ outcome.End → f.scanning.ended ≡ false → new ≡ with_passed f (length piece) → TakesPiece f piece (length piece) new
-passes_piece laws ascent f new piece at yet is = subst (λ (g : PieceFinding). TakesPiece f piece (length piece) g) (sym is) (
+pub passes_piece : SettledLaws → AscentLaws → (f new : PieceFinderState) (piece : List ℕ) → f.outcome ≡ outcome.End → f.scanning.ended ≡ false → new ≡ with_passed f (length piece) → TakesPiece f piece (length piece) new
+passes_piece laws ascent f new piece at yet is = subst (λ (g : PieceFinderState). TakesPiece f piece (length piece) g) (sym is) (
     record {
       within = omega arith;
       found = λ text bounds h goes. record { stopped = h.stopped; reached = subst (HasReachedIn g text bounds) (sym at) (topped text bounds h) };
@@ -63,22 +63,22 @@ passes_piece laws ascent f new piece at yet is = subst (λ (g : PieceFinding). T
       open_yet = refl;
     })
   where
-    g : PieceFinding
+    g : PieceFinderState
     g = with_passed f (length piece)
 
     topped : (text : List ℕ) (bounds : List Bound) → HasFoundIn f text bounds → IsAtTopEnd g text bounds
     topped text bounds h = top_passed f (length piece) text bounds (subst (HasReachedIn f text bounds) at h.reached)
 
-drained : (piece : List ℕ) (n : ℕ) (f : PieceFinding) → TakesAll piece n f → IsDrained f
+drained : (piece : List ℕ) (n : ℕ) (f : PieceFinderState) → TakesAll piece n f → IsDrained f
 drained piece n f (inl top) = inr top
 drained piece n f (inr all) = inl all.1
 
-whole_piece : (piece : List ℕ) (n : ℕ) (f : PieceFinding) → (f.outcome ≡ outcome.End → ⊥) → TakesAll piece n f → (n ≡ length piece) × (f.scanning.ready ≡ None)
+whole_piece : (piece : List ℕ) (n : ℕ) (f : PieceFinderState) → (f.outcome ≡ outcome.End → ⊥) → TakesAll piece n f → (n ≡ length piece) × (f.scanning.ready ≡ None)
 whole_piece piece n f no_end (inl top) = absurd (no_end top)
 whole_piece piece n f no_end (inr all) = all
 
 -- bytes were taken line by line, and the top has no end yet
-pub feeds_lines : (old new : PieceFinding) (piece : List ℕ) (n : ℕ) → old.outcome ≡ outcome.Open → old.scanning.ended ≡ false → has_ready old ≡ false → (new.outcome ≡ outcome.End → ⊥) → TakesSome old piece n new → (has_ready new ≡ false → TakesAll piece n new) → TakesPiece old piece n new
+pub feeds_lines : (old new : PieceFinderState) (piece : List ℕ) (n : ℕ) → old.outcome ≡ outcome.Open → old.scanning.ended ≡ false → has_ready old ≡ false → (new.outcome ≡ outcome.End → ⊥) → TakesSome old piece n new → (has_ready new ≡ false → TakesAll piece n new) → TakesPiece old piece n new
 feeds_lines old new piece n opened yet none no_end t done = record {
   within = t.within;
   found = t.found;
@@ -99,7 +99,7 @@ feeds_lines old new piece n opened yet none no_end t done = record {
 }
 
 -- bytes were taken up to the end of the top, and then the rest
-pub feeds_top : SettledLaws → AscentLaws → (old mid new : PieceFinding) (piece : List ℕ) (t : ℕ) → old.outcome ≡ outcome.Open → old.scanning.ended ≡ false → has_ready old ≡ false → mid.outcome ≡ outcome.End → TakesSome old piece t mid → new ≡ with_passed mid (length (drop t piece)) → TakesPiece old piece (t + length (drop t piece)) new
+pub feeds_top : SettledLaws → AscentLaws → (old mid new : PieceFinderState) (piece : List ℕ) (t : ℕ) → old.outcome ≡ outcome.Open → old.scanning.ended ≡ false → has_ready old ≡ false → mid.outcome ≡ outcome.End → TakesSome old piece t mid → new ≡ with_passed mid (length (drop t piece)) → TakesPiece old piece (t + length (drop t piece)) new
 feeds_top laws ascent old mid new piece t opened yet none at first is =
     let rest = drop t piece in
     let next = passes_piece laws ascent mid new rest at (first.open_yet ∙ yet) is in
@@ -126,7 +126,7 @@ feeds_top laws ascent old mid new piece t opened yet none at first is =
     }
 
 -- nothing is taken where something is ready
-pub feeds_none : (f : PieceFinding) (piece : List ℕ) → f.outcome ≡ outcome.Open → f.scanning.ended ≡ false → has_ready f ≡ true → TakesPiece f piece 0 f
+pub feeds_none : (f : PieceFinderState) (piece : List ℕ) → f.outcome ≡ outcome.Open → f.scanning.ended ≡ false → has_ready f ≡ true → TakesPiece f piece 0 f
 feeds_none f piece opened yet ready = record {
   within = omega arith;
   found = λ text bounds h goes. h;

@@ -5,14 +5,14 @@ use Rattle.std.proofs.Math.Seq.{take-add, take-append_seam, drop-append_seam}
 use Rattle.py_lines.specs.LogicalLine.{LogicalLine}
 use Rattle.py_lines.specs.Lexed.{IsLexed}
 use Rattle.py_lines.specs.Settled.{Decides}
-use Rattle.py_lines.specs.Scanning.{Scanning, fed_of, GoesOnWith, IsScanning, Releases, TakesBytes, MeetsFault, EndsScan, EndsFaulty}
+use Rattle.py_lines.specs.ScannerState.{ScannerState, fed_of, GoesOnWith, IsScanning, Releases, TakesBytes, MeetsFault, EndsScan, EndsFaulty}
 use Rattle.py_lines.specs.declared.fault.Fault.{Fault}
 use Rattle.py_imports.specs.Bound.{Bound}
 use Rattle.py_imports.specs.Binds.{BindAll}
 use Rattle.isort_find.specs.Found.{firsts, of_all, IsFound}
 use Rattle.isort_find.specs.Settled.{DecidesFound}
-use Rattle.isort_find.specs.Cursor.{Standing, HasStopped}
-use Rattle.isort_find.specs.Pieces.{PieceFinding, options_for, fed_by, has_ready, HasReleased, IsBetweenLines, HasReachedIn, HasFoundIn, KeepsAll, MeetsFaultIn, EndsText, EndsInFault, EndsFeeding}
+use Rattle.isort_find.specs.Cursor.{CursorState, HasStopped}
+use Rattle.isort_find.specs.Pieces.{PieceFinderState, options_for, fed_by, has_ready, HasReleased, IsBetweenLines, HasReachedIn, HasFoundIn, PieceFinderRunsOut, MeetsFaultIn, EndsText, EndsInFault, EndsFeeding}
 use Rattle.isort_find.specs.Steps.Feedings.{IsNextPlace, LetsGo, TriesReady, TakesSome, TakesBytesOf, with_fault}
 use Rattle.isort_find.specs.Steps.Standings.{standing_before}
 use Rattle.isort_find.specs.Finder.{MeetsFaultAt}
@@ -32,7 +32,7 @@ use Rattle.isort_find.proofs.PieceHeld.{between_rest, line_any, open_ready}
 use Rattle.isort_find.proofs.PieceTries.{gap_at, tried_so, tried_ready, tried_fed, tried_fine, tried_found, IsBadReady, tried_bad, bad_decided}
 
 -- a finder of which nothing is ready lets its line go
-pub record Begins (old a : PieceFinding) : Type 0 where
+pub record Begins (old a : PieceFinderState) : Type 0 where
   pub opened : old.outcome ≡ outcome.Open
   pub none : has_ready old ≡ false
   pub yet : old.scanning.ended ≡ false
@@ -44,68 +44,68 @@ true_or_false b h k = cc
 none_or_some : (r : Option LogicalLine) (line : LogicalLine) → r ≡ None → r ≡ Some line → ⊥
 none_or_some r line h k = cc
 
-begun_open : (old a : PieceFinding) → Begins old a → a.outcome ≡ outcome.Open
-begun_open old a b = ap (λ (f : PieceFinding). f.outcome) b.go.rest ∙ b.opened
+begun_open : (old a : PieceFinderState) → Begins old a → a.outcome ≡ outcome.Open
+begun_open old a b = ap (λ (f : PieceFinderState). f.outcome) b.go.rest ∙ b.opened
 
-begun_cursor : (old a : PieceFinding) → Begins old a → a.cursor ≡ old.cursor
-begun_cursor old a b = ap (λ (f : PieceFinding). f.cursor) b.go.rest
+begun_cursor : (old a : PieceFinderState) → Begins old a → a.cursor ≡ old.cursor
+begun_cursor old a b = ap (λ (f : PieceFinderState). f.cursor) b.go.rest
 
-begun_ended : (old a : PieceFinding) → Begins old a → a.scanning.ended ≡ old.scanning.ended
+begun_ended : (old a : PieceFinderState) → Begins old a → a.scanning.ended ≡ old.scanning.ended
 begun_ended old a b = by b.go.scanner
   where
     by : ((old.scanning.ready ≡ None) × (a.scanning ≡ old.scanning)) ⊎ Releases old.scanning a.scanning → a.scanning.ended ≡ old.scanning.ended
-    by (inl same) = ap (λ (s : Scanning). s.ended) same.1
+    by (inl same) = ap (λ (s : ScannerState). s.ended) same.1
     by (inr r) = r.ended
 
-begun_fed : (old a : PieceFinding) → Begins old a → fed_by old ≡ fed_of a.scanning
+begun_fed : (old a : PieceFinderState) → Begins old a → fed_by old ≡ fed_of a.scanning
 begun_fed old a b = fed_open old b.opened ∙ sym (by b.go.scanner)
   where
     by : ((old.scanning.ready ≡ None) × (a.scanning ≡ old.scanning)) ⊎ Releases old.scanning a.scanning → fed_of a.scanning ≡ fed_of old.scanning
     by (inl same) = ap fed_of same.1
     by (inr r) = fed_gone old.scanning a.scanning r
 
-begun_held : (old a : PieceFinding) → Begins old a → length a.scanning.held ≤ length old.scanning.held
+begun_held : (old a : PieceFinderState) → Begins old a → length a.scanning.held ≤ length old.scanning.held
 begun_held old a b = by b.go.scanner
   where
     by : ((old.scanning.ready ≡ None) × (a.scanning ≡ old.scanning)) ⊎ Releases old.scanning a.scanning → length a.scanning.held ≤ length old.scanning.held
-    by (inl same) = let len = ap (λ (s : Scanning). length s.held) same.1 in omega (arith, len)
+    by (inl same) = let len = ap (λ (s : ScannerState). length s.held) same.1 in omega (arith, len)
     by (inr r) = let len = ap length r.held in omega (arith, len, length-append r.unit.text a.scanning.held)
 
-begun_gone : (old a : PieceFinding) → Begins old a → (line : LogicalLine) → old.scanning.ready ≡ Some line → length a.scanning.held < length old.scanning.held
+begun_gone : (old a : PieceFinderState) → Begins old a → (line : LogicalLine) → old.scanning.ready ≡ Some line → length a.scanning.held < length old.scanning.held
 begun_gone old a b line ready = by b.go.scanner
   where
     by : ((old.scanning.ready ≡ None) × (a.scanning ≡ old.scanning)) ⊎ Releases old.scanning a.scanning → length a.scanning.held < length old.scanning.held
     by (inl same) = absurd (none_or_some _ line same.0 ready)
     by (inr r) = let len = ap length r.held in let some = b.go.some_text r.unit r.was in omega (arith, len, some, length-append r.unit.text a.scanning.held)
 
-begun_between : (old a : PieceFinding) → Begins old a → (text : List ℕ) (bounds : List Bound) → HasFoundIn old text bounds → IsBetweenLines a text bounds
+begun_between : (old a : PieceFinderState) → Begins old a → (text : List ℕ) (bounds : List Bound) → HasFoundIn old text bounds → IsBetweenLines a text bounds
 begun_between old a b text bounds h = let q = nothing_ready old b.opened b.none in let_go_between old a text bounds b.opened q.1 q.0 b.go h
 
-begun_stopped : (old a : PieceFinding) → Begins old a → (text : List ℕ) (bounds : List Bound) → HasFoundIn old text bounds → HasStopped text a.cursor bounds
-begun_stopped old a b text bounds h = subst (λ (c : Standing). HasStopped text c bounds) (sym (begun_cursor old a b)) h.stopped
+begun_stopped : (old a : PieceFinderState) → Begins old a → (text : List ℕ) (bounds : List Bound) → HasFoundIn old text bounds → HasStopped text a.cursor bounds
+begun_stopped old a b text bounds h = subst (λ (c : CursorState). HasStopped text c bounds) (sym (begun_cursor old a b)) h.stopped
 
 -- the scanner stands in the text
-begun_scanning : (old a : PieceFinding) → Begins old a → (text : List ℕ) (lines : List LogicalLine) → HasReleased a.scanning text lines → IsScanning a.scanning text lines
+begun_scanning : (old a : PieceFinderState) → Begins old a → (text : List ℕ) (lines : List LogicalLine) → HasReleased a.scanning text lines → IsScanning a.scanning text lines
 begun_scanning old a b text lines (inl h) = h
 begun_scanning old a b text lines (inr h) = absurd (true_or_false _ (begun_ended old a b ∙ b.yet) h.ended)
 
-taken_gap : (old a : PieceFinding) → Begins old a → (s : Scanning) (piece : List ℕ) (n : ℕ) → TakesBytes a.scanning piece n s → (text : List ℕ) (bounds : List Bound) → HasFoundIn old text bounds → GoesOnWith text (fed_by old) (take n piece) → IsAtGap (record a { scanning = s }) text bounds
+taken_gap : (old a : PieceFinderState) → Begins old a → (s : ScannerState) (piece : List ℕ) (n : ℕ) → TakesBytes a.scanning piece n s → (text : List ℕ) (bounds : List Bound) → HasFoundIn old text bounds → GoesOnWith text (fed_by old) (take n piece) → IsAtGap (record a { scanning = s }) text bounds
 taken_gap old a b s piece n takes text bounds h goes =
     let between = begun_between old a b text bounds h in
     let scanning = begun_scanning old a b text between.behind.lines between.released in
     gap_at a s text bounds between (inl (takes.scans text between.behind.lines scanning (subst (λ (p : ℕ). GoesOnWith text p (take n piece)) (begun_fed old a b) goes))) takes.place
 
-taken_fed : (old a : PieceFinding) → Begins old a → (s : Scanning) (piece : List ℕ) (n : ℕ) → TakesBytes a.scanning piece n s → fed_of s ≡ fed_by old + n
+taken_fed : (old a : PieceFinderState) → Begins old a → (s : ScannerState) (piece : List ℕ) (n : ℕ) → TakesBytes a.scanning piece n s → fed_of s ≡ fed_by old + n
 taken_fed old a b s piece n takes = let len = ap length takes.held in let fed = begun_fed old a b in omega (arith, fed, takes.place, len, length-append a.scanning.held (take n piece), length-take-le n piece takes.within)
 
 -- bytes were taken up to a line's end or the piece's, and the line was tried
-pub takes_line : SettledLaws → OneSettled → AscentLaws → (old a : PieceFinding) → Begins old a → (s : Scanning) (piece : List ℕ) (n : ℕ) → TakesBytes a.scanning piece n s → (new : PieceFinding) (result : Result (Unit {0}) FindError) → result ≡ Ok tt → TriesReady (record a { scanning = s }) result new → TakesSome old piece n new
+pub takes_line : SettledLaws → OneSettled → AscentLaws → (old a : PieceFinderState) → Begins old a → (s : ScannerState) (piece : List ℕ) (n : ℕ) → TakesBytes a.scanning piece n s → (new : PieceFinderState) (result : Result (Unit {0}) FindError) → result ≡ Ok tt → TriesReady (record a { scanning = s }) result new → TakesSome old piece n new
 takes_line laws one ascent old a b s piece n takes new result ok tries =
-    let mid : PieceFinding = record a { scanning = s } in
+    let mid : PieceFinderState = record a { scanning = s } in
     let opened = begun_open old a b in
     let so = tried_so mid new result opened ok tries in
-    let ended : new.scanning.ended ≡ old.scanning.ended = ap (λ (x : Scanning). x.ended) so.scanning ∙ takes.open_yet ∙ begun_ended old a b in
-    let size : length new.scanning.held ≡ length a.scanning.held + n = ap (λ (x : Scanning). length x.held) so.scanning ∙ ap length takes.held ∙ length-append a.scanning.held (take n piece) ∙ ap (λ k. length a.scanning.held + k) (length-take-le n piece takes.within) in
+    let ended : new.scanning.ended ≡ old.scanning.ended = ap (λ (x : ScannerState). x.ended) so.scanning ∙ takes.open_yet ∙ begun_ended old a b in
+    let size : length new.scanning.held ≡ length a.scanning.held + n = ap (λ (x : ScannerState). length x.held) so.scanning ∙ ap length takes.held ∙ length-append a.scanning.held (take n piece) ∙ ap (λ k. length a.scanning.held + k) (length-take-le n piece takes.within) in
     let found : (text : List ℕ) (bounds : List Bound) → HasFoundIn old text bounds → GoesOnWith text (fed_by old) (take n piece) → HasFoundIn new text bounds = λ text bounds h goes. tried_found laws mid new text bounds result opened tries (taken_gap old a b s piece n takes text bounds h goes) (begun_stopped old a b text bounds h) in
     record {
       within = takes.within;
@@ -121,11 +121,11 @@ takes_line laws one ascent old a b s piece n takes new result ok tries =
       open_yet = ended;
     }
   where
-    lexical : (g : PieceFinding) → g.scanning ≡ s → (text : List ℕ) (bounds : List Bound) → HasFoundIn old text bounds → GoesOnWith text (fed_by old) (take n piece) → g.scanning.ready ≡ None → (fault : Fault) → ¬ (Decides (take (fed_of g.scanning) text) fault)
+    lexical : (g : PieceFinderState) → g.scanning ≡ s → (text : List ℕ) (bounds : List Bound) → HasFoundIn old text bounds → GoesOnWith text (fed_by old) (take n piece) → g.scanning.ready ≡ None → (fault : Fault) → ¬ (Decides (take (fed_of g.scanning) text) fault)
     lexical g is text bounds h goes ready fault =
         let between = begun_between old a b text bounds h in
         let scanning = begun_scanning old a b text between.behind.lines between.released in
-        subst (λ (x : Scanning). ¬ (Decides (take (fed_of x) text) fault)) (sym is) (takes.undecided text between.behind.lines scanning (subst (λ (p : ℕ). GoesOnWith text p (take n piece)) (begun_fed old a b) goes) (ap (λ (x : Scanning). x.ready) (sym is) ∙ ready) fault)
+        subst (λ (x : ScannerState). ¬ (Decides (take (fed_of x) text) fault)) (sym is) (takes.undecided text between.behind.lines scanning (subst (λ (p : ℕ). GoesOnWith text p (take n piece)) (begun_fed old a b) goes) (ap (λ (x : ScannerState). x.ready) (sym is) ∙ ready) fault)
 
     by_some : (piece ≡ []) ⊎ ((u : LogicalLine) × (a.scanning.ready ≡ Some u)) → piece ≡ []
     by_some (inl nil) = nil
@@ -184,31 +184,31 @@ known_lexed laws each text n lines fault decides lexed =
     subst (λ (ls : List LogicalLine). IsLexed known ls (Some fault)) same now
 
 -- what is found up to a lexical fault, which the finder then has
-pub lexical_found : SettledLaws → (a g : PieceFinding) (text : List ℕ) (bounds : List Bound) (place : Place) (fault : Fault) (b : IsBetweenLines a text bounds) → g.cursor ≡ standing_before a.cursor place → g.outcome ≡ outcome.Fault fault → IsNextPlace a place → IsLexed text b.behind.lines (Some fault) → HasStopped text a.cursor bounds → HasFoundIn g text bounds
+pub lexical_found : SettledLaws → (a g : PieceFinderState) (text : List ℕ) (bounds : List Bound) (place : Place) (fault : Fault) (b : IsBetweenLines a text bounds) → g.cursor ≡ standing_before a.cursor place → g.outcome ≡ outcome.Fault fault → IsNextPlace a place → IsLexed text b.behind.lines (Some fault) → HasStopped text a.cursor bounds → HasFoundIn g text bounds
 lexical_found laws a g text bounds place fault b cursor failed here lexed stopped =
     let none = none_of_end laws.ends.laws text (options_for a) b.behind.lines b.behind.part (Some fault) lexed b.behind.is_part.1 in
     let c = standing_before a.cursor place in
     let found : IsFound text c.options bounds (Some fault) = lexed_found text (options_for a) b.behind.lines b.behind.before bounds fault lexed b.behind.in_top b.behind.binds (found_whole b.behind none) in
     let met : MeetsFaultAt text c.offset fault = inr (b.behind.lines, lexed, bytes_given _ b.behind.lines b.behind.given ∙ sym here.offset) in
     record {
-      stopped = subst (λ (x : Standing). HasStopped text x bounds) (sym cursor) (stands_at a.cursor place b.behind none (place_given a text b.behind.lines place here b.behind.given) stopped);
-      reached = subst (HasReachedIn g text bounds) (sym failed) (subst (λ (x : Standing). IsFound text x.options bounds (Some fault) × MeetsFaultAt text x.offset fault) (sym cursor) (found, met));
+      stopped = subst (λ (x : CursorState). HasStopped text x bounds) (sym cursor) (stands_at a.cursor place b.behind none (place_given a text b.behind.lines place here b.behind.given) stopped);
+      reached = subst (HasReachedIn g text bounds) (sym failed) (subst (λ (x : CursorState). IsFound text x.options bounds (Some fault) × MeetsFaultAt text x.offset fault) (sym cursor) (found, met));
     }
 
 -- the scanner meets a fault
-pub meets_lexical : SettledLaws → EachIsLexed → (old a : PieceFinding) → Begins old a → (s : Scanning) (piece : List ℕ) (fault : Fault) (place : Place) → IsNextPlace a place → MeetsFault a.scanning piece fault s → (new : PieceFinding) → new ≡ with_fault (record a { scanning = s }) place fault → MeetsFaultIn old piece fault new
+pub meets_lexical : SettledLaws → EachIsLexed → (old a : PieceFinderState) → Begins old a → (s : ScannerState) (piece : List ℕ) (fault : Fault) (place : Place) → IsNextPlace a place → MeetsFault a.scanning piece fault s → (new : PieceFinderState) → new ≡ with_fault (record a { scanning = s }) place fault → MeetsFaultIn old piece fault new
 meets_lexical laws each old a b s piece fault place here meets new is =
-    let cursor : new.cursor ≡ standing_before a.cursor place = ap (λ (f : PieceFinding). f.cursor) is in
-    let kept : new.outcome ≡ outcome.Fault fault = ap (λ (f : PieceFinding). f.outcome) is in
+    let cursor : new.cursor ≡ standing_before a.cursor place = ap (λ (f : PieceFinderState). f.cursor) is in
+    let kept : new.outcome ≡ outcome.Fault fault = ap (λ (f : PieceFinderState). f.outcome) is in
     record {
       found = λ text bounds h goes. let q = met text bounds h goes in let r = begun_between old a b text bounds h in lexical_found laws a new text bounds place fault r cursor kept here q.3 (begun_stopped old a b text bounds h);
       decided = λ text bounds h goes opened. decided text bounds h goes;
       none_ready = b.none;
       again = λ first was. absurd (some_fault _ first b.opened was);
       was_in_top = λ top. open_or_end _ b.opened top;
-      options = ap (λ (c : Standing). c.options) cursor ∙ ap (λ (c : Standing). c.options) (begun_cursor old a b);
-      given = ap (λ (c : Standing). c.given) cursor ∙ ap (λ (c : Standing). c.given) (begun_cursor old a b);
-      open_yet = ap (λ (f : PieceFinding). f.scanning.ended) is ∙ meets.open_yet ∙ begun_ended old a b;
+      options = ap (λ (c : CursorState). c.options) cursor ∙ ap (λ (c : CursorState). c.options) (begun_cursor old a b);
+      given = ap (λ (c : CursorState). c.given) cursor ∙ ap (λ (c : CursorState). c.given) (begun_cursor old a b);
+      open_yet = ap (λ (f : PieceFinderState). f.scanning.ended) is ∙ meets.open_yet ∙ begun_ended old a b;
       kept = kept;
     }
   where
@@ -225,36 +225,36 @@ meets_lexical laws each old a b s piece fault place here meets new is =
         let known = take (fed_of a.scanning + q.0) text in
         let lexed = known_lexed laws each text (fed_of a.scanning + q.0) r.behind.lines fault q.2 q.3 in
         let now : DecidesFound known (options_for a) fault = record { bounds = bounds; found = lexed_found known (options_for a) r.behind.lines r.behind.before bounds fault lexed r.behind.in_top r.behind.binds (found_whole r.behind none); stays = inl q.2 } in
-        (q.0, q.1, subst (λ (o : FindOptions). DecidesFound (take (fed_by old + q.0) text) o fault) (ap (λ (c : Standing). c.options) (begun_cursor old a b)) (subst (λ (p : ℕ). DecidesFound (take (p + q.0) text) (options_for a) fault) (sym (begun_fed old a b)) now))
+        (q.0, q.1, subst (λ (o : FindOptions). DecidesFound (take (fed_by old + q.0) text) o fault) (ap (λ (c : CursorState). c.options) (begun_cursor old a b)) (subst (λ (p : ℕ). DecidesFound (take (p + q.0) text) (options_for a) fault) (sym (begun_fed old a b)) now))
 
 -- the line that got ready is bad
-meets_bad_line : SettledLaws → (old a : PieceFinding) → Begins old a → (s : Scanning) (piece : List ℕ) (n : ℕ) → TakesBytes a.scanning piece n s → (new : PieceFinding) (result : Result (Unit {0}) FindError) (fault : Fault) → TriesReady (record a { scanning = s }) result new → IsBadReady (record a { scanning = s }) fault new → MeetsFaultIn old piece fault new
+meets_bad_line : SettledLaws → (old a : PieceFinderState) → Begins old a → (s : ScannerState) (piece : List ℕ) (n : ℕ) → TakesBytes a.scanning piece n s → (new : PieceFinderState) (result : Result (Unit {0}) FindError) (fault : Fault) → TriesReady (record a { scanning = s }) result new → IsBadReady (record a { scanning = s }) fault new → MeetsFaultIn old piece fault new
 meets_bad_line laws old a b s piece n takes new result fault tries bad =
-    let mid : PieceFinding = record a { scanning = s } in
+    let mid : PieceFinderState = record a { scanning = s } in
     let opened = begun_open old a b in
     record {
       found = λ text bounds h goes. tried_found laws mid new text bounds result opened tries (taken_gap old a b s piece n takes text bounds h (goes_both text (fed_by old) piece n takes.within goes).0) (begun_stopped old a b text bounds h);
       decided = λ text bounds h goes was.
           let gap = taken_gap old a b s piece n takes text bounds h (goes_both text (fed_by old) piece n takes.within goes).0 in
           let now = bad_decided laws mid new text bounds fault (takes.open_yet ∙ begun_ended old a b ∙ b.yet) bad gap in
-          (n, takes.within, subst (λ (o : FindOptions). DecidesFound (take (fed_by old + n) text) o fault) (ap (λ (c : Standing). c.options) (begun_cursor old a b)) (subst (λ (p : ℕ). DecidesFound (take p text) (options_for a) fault) (taken_fed old a b s piece n takes) now));
+          (n, takes.within, subst (λ (o : FindOptions). DecidesFound (take (fed_by old + n) text) o fault) (ap (λ (c : CursorState). c.options) (begun_cursor old a b)) (subst (λ (p : ℕ). DecidesFound (take p text) (options_for a) fault) (taken_fed old a b s piece n takes) now));
       none_ready = b.none;
       again = λ first was. absurd (some_fault _ first b.opened was);
       was_in_top = λ top. open_or_end _ b.opened top;
-      options = ap options_for bad.kept ∙ ap (λ (c : Standing). c.options) (begun_cursor old a b);
-      given = ap (λ (f : PieceFinding). f.cursor.given) bad.kept ∙ ap (λ (c : Standing). c.given) (begun_cursor old a b);
-      open_yet = ap (λ (f : PieceFinding). f.scanning.ended) bad.kept ∙ takes.open_yet ∙ begun_ended old a b;
-      kept = ap (λ (f : PieceFinding). f.outcome) bad.kept;
+      options = ap options_for bad.kept ∙ ap (λ (c : CursorState). c.options) (begun_cursor old a b);
+      given = ap (λ (f : PieceFinderState). f.cursor.given) bad.kept ∙ ap (λ (c : CursorState). c.given) (begun_cursor old a b);
+      open_yet = ap (λ (f : PieceFinderState). f.scanning.ended) bad.kept ∙ takes.open_yet ∙ begun_ended old a b;
+      kept = ap (λ (f : PieceFinderState). f.outcome) bad.kept;
     }
 
-pub tries_bad : SettledLaws → (old a : PieceFinding) → Begins old a → (s : Scanning) (piece : List ℕ) (n : ℕ) → TakesBytes a.scanning piece n s → (new : PieceFinding) (result : Result (Unit {0}) FindError) (e : FindError) (answer : Result ℕ FindError) → result ≡ Err e → answer ≡ Err e → TriesReady (record a { scanning = s }) result new → TakesBytesOf old piece answer new
+pub tries_bad : SettledLaws → (old a : PieceFinderState) → Begins old a → (s : ScannerState) (piece : List ℕ) (n : ℕ) → TakesBytes a.scanning piece n s → (new : PieceFinderState) (result : Result (Unit {0}) FindError) (e : FindError) (answer : Result ℕ FindError) → result ≡ Err e → answer ≡ Err e → TriesReady (record a { scanning = s }) result new → TakesBytesOf old piece answer new
 tries_bad laws old a b s piece n takes new result e answer err is tries =
     let t = tried_bad (record a { scanning = s }) new result e err tries in
     subst (λ (r : Result ℕ FindError). TakesBytesOf old piece r new) (sym (is ∙ ap Err t.is)) (meets_bad_line laws old a b s piece n takes new result t.fault tries t.bad)
 
 -- the line was let go, and nothing else changed
-pub keeps_begun : (old a new : PieceFinding) → Begins old a → new ≡ a → KeepsAll old new × (new.scanning.ready ≡ None) × (length new.scanning.held ≤ length old.scanning.held)
-keeps_begun old a new b is = subst (λ (f : PieceFinding). KeepsAll old f × (f.scanning.ready ≡ None) × (length f.scanning.held ≤ length old.scanning.held)) (sym is) (
+pub keeps_begun : (old a new : PieceFinderState) → Begins old a → new ≡ a → PieceFinderRunsOut old new × (new.scanning.ready ≡ None) × (length new.scanning.held ≤ length old.scanning.held)
+keeps_begun old a new b is = subst (λ (f : PieceFinderState). PieceFinderRunsOut old f × (f.scanning.ready ≡ None) × (length f.scanning.held ≤ length old.scanning.held)) (sym is) (
   record {
     found = λ text bounds h. record { stopped = begun_stopped old a b text bounds h; reached = reached_at a text bounds (begun_open old a b) (inl (begun_between old a b text bounds h)) };
     rest = λ text bounds h yet none. between_rest a text bounds (begun_open old a b) (begun_ended old a b ∙ yet) b.go.none_ready (begun_between old a b text bounds h);
@@ -271,64 +271,64 @@ keeps_begun old a new b is = subst (λ (f : PieceFinding). KeepsAll old f × (f.
 )
 
 -- the scanner's text has ended
-ended_gap : (old a : PieceFinding) → Begins old a → (s : Scanning) → EndsScan a.scanning s → (text : List ℕ) (bounds : List Bound) → HasFoundIn old text bounds → length text ≡ fed_by old → IsAtGap (record a { scanning = s }) text bounds
+ended_gap : (old a : PieceFinderState) → Begins old a → (s : ScannerState) → EndsScan a.scanning s → (text : List ℕ) (bounds : List Bound) → HasFoundIn old text bounds → length text ≡ fed_by old → IsAtGap (record a { scanning = s }) text bounds
 ended_gap old a b s ends text bounds h all =
     let between = begun_between old a b text bounds h in
     let scanning = begun_scanning old a b text between.behind.lines between.released in
     gap_at a s text bounds between (inr (ends.scans text between.behind.lines scanning (all ∙ begun_fed old a b))) ends.place
 
 -- the text has ended, and its last line was tried
-pub ends_line : SettledLaws → (old a : PieceFinding) → Begins old a → (s : Scanning) → EndsScan a.scanning s → (new : PieceFinding) (result : Result (Unit {0}) FindError) → result ≡ Ok tt → TriesReady (record a { scanning = s }) result new → EndsText old new
+pub ends_line : SettledLaws → (old a : PieceFinderState) → Begins old a → (s : ScannerState) → EndsScan a.scanning s → (new : PieceFinderState) (result : Result (Unit {0}) FindError) → result ≡ Ok tt → TriesReady (record a { scanning = s }) result new → EndsText old new
 ends_line laws old a b s ends new result ok tries =
-    let mid : PieceFinding = record a { scanning = s } in
+    let mid : PieceFinderState = record a { scanning = s } in
     let opened = begun_open old a b in
     let so = tried_so mid new result opened ok tries in
     let held = ap length ends.held in
     let same : fed_of s ≡ fed_of a.scanning = omega (arith, ends.place, held) in
     let found : (text : List ℕ) (bounds : List Bound) → HasFoundIn old text bounds → length text ≡ fed_by old → HasFoundIn new text bounds = λ text bounds h all. tried_found laws mid new text bounds result opened tries (ended_gap old a b s ends text bounds h all) (begun_stopped old a b text bounds h) in
-    let left : a.pending.left ≡ [] = ap (λ (f : PieceFinding). f.pending.left) b.go.rest ∙ (nothing_ready old b.opened b.none).1 in
+    let left : a.pending.left ≡ [] = ap (λ (f : PieceFinderState). f.pending.left) b.go.rest ∙ (nothing_ready old b.opened b.none).1 in
     record {
       found = found;
       line = λ text bounds h all ready.
           let line = tried_ready mid new result ok left tries ready in
-          line_any new text bounds line.0 (open_ready new ready) (ap (λ (x : Scanning). x.ready) so.scanning ∙ line.1) (found text bounds h all);
+          line_any new text bounds line.0 (open_ready new ready) (ap (λ (x : ScannerState). x.ready) so.scanning ∙ line.1) (found text bounds h all);
       cursor = so.cursor ∙ begun_cursor old a b;
       fed = tried_fed mid new so ∙ same ∙ sym (begun_fed old a b);
-      ended = inl (ap (λ (x : Scanning). x.ended) so.scanning ∙ ends.ended);
+      ended = inl (ap (λ (x : ScannerState). x.ended) so.scanning ∙ ends.ended);
       was_no_fault = λ fault at. some_fault _ fault b.opened at;
       no_fault = tried_fine mid new so;
     }
 
 -- the last line is bad
-pub ends_bad : SettledLaws → (old a : PieceFinding) → Begins old a → (s : Scanning) → EndsScan a.scanning s → (new : PieceFinding) (result : Result (Unit {0}) FindError) (e : FindError) → result ≡ Err e → TriesReady (record a { scanning = s }) result new → EndsFeeding old (Err e) new
+pub ends_bad : SettledLaws → (old a : PieceFinderState) → Begins old a → (s : ScannerState) → EndsScan a.scanning s → (new : PieceFinderState) (result : Result (Unit {0}) FindError) (e : FindError) → result ≡ Err e → TriesReady (record a { scanning = s }) result new → EndsFeeding old (Err e) new
 ends_bad laws old a b s ends new result e err tries =
-    let mid : PieceFinding = record a { scanning = s } in
+    let mid : PieceFinderState = record a { scanning = s } in
     let t = tried_bad mid new result e err tries in
     subst (λ (x : FindError). EndsFeeding old (Err x) new) (sym t.is) (record {
       found = λ text bounds h all. tried_found laws mid new text bounds result (begun_open old a b) tries (ended_gap old a b s ends text bounds h all) (begun_stopped old a b text bounds h);
       again = λ first was. absurd (some_fault _ first b.opened was);
       was_in_top = λ top. open_or_end _ b.opened top;
-      options = ap options_for t.bad.kept ∙ ap (λ (c : Standing). c.options) (begun_cursor old a b);
-      given = ap (λ (f : PieceFinding). f.cursor.given) t.bad.kept ∙ ap (λ (c : Standing). c.given) (begun_cursor old a b);
-      kept = ap (λ (f : PieceFinding). f.outcome) t.bad.kept;
+      options = ap options_for t.bad.kept ∙ ap (λ (c : CursorState). c.options) (begun_cursor old a b);
+      given = ap (λ (f : PieceFinderState). f.cursor.given) t.bad.kept ∙ ap (λ (c : CursorState). c.given) (begun_cursor old a b);
+      kept = ap (λ (f : PieceFinderState). f.outcome) t.bad.kept;
     })
 
-pub ends_tried : SettledLaws → (old a : PieceFinding) → Begins old a → (s : Scanning) → EndsScan a.scanning s → (new : PieceFinding) (result : Result (Unit {0}) FindError) → TriesReady (record a { scanning = s }) result new → EndsFeeding old result new
+pub ends_tried : SettledLaws → (old a : PieceFinderState) → Begins old a → (s : ScannerState) → EndsScan a.scanning s → (new : PieceFinderState) (result : Result (Unit {0}) FindError) → TriesReady (record a { scanning = s }) result new → EndsFeeding old result new
 ends_tried laws old a b s ends new (Ok done) tries = ends_line laws old a b s ends new (Ok done) refl tries
 ends_tried laws old a b s ends new (Err e) tries = ends_bad laws old a b s ends new (Err e) e refl tries
 
 -- the text may not end so
-pub ends_lexical : SettledLaws → (old a : PieceFinding) → Begins old a → (s : Scanning) (fault : Fault) (place : Place) → IsNextPlace a place → EndsFaulty a.scanning fault s → (new : PieceFinding) → new ≡ with_fault (record a { scanning = s }) place fault → EndsInFault old fault new
+pub ends_lexical : SettledLaws → (old a : PieceFinderState) → Begins old a → (s : ScannerState) (fault : Fault) (place : Place) → IsNextPlace a place → EndsFaulty a.scanning fault s → (new : PieceFinderState) → new ≡ with_fault (record a { scanning = s }) place fault → EndsInFault old fault new
 ends_lexical laws old a b s fault place here ends new is =
-    let cursor : new.cursor ≡ standing_before a.cursor place = ap (λ (f : PieceFinding). f.cursor) is in
-    let kept : new.outcome ≡ outcome.Fault fault = ap (λ (f : PieceFinding). f.outcome) is in
+    let cursor : new.cursor ≡ standing_before a.cursor place = ap (λ (f : PieceFinderState). f.cursor) is in
+    let kept : new.outcome ≡ outcome.Fault fault = ap (λ (f : PieceFinderState). f.outcome) is in
     record {
       found = λ text bounds h all.
           let r = begun_between old a b text bounds h in
           lexical_found laws a new text bounds place fault r cursor kept here (ends.all text r.behind.lines (begun_scanning old a b text r.behind.lines r.released) (all ∙ begun_fed old a b)) (begun_stopped old a b text bounds h);
       again = λ first was. absurd (some_fault _ first b.opened was);
       was_in_top = λ top. open_or_end _ b.opened top;
-      options = ap (λ (c : Standing). c.options) cursor ∙ ap (λ (c : Standing). c.options) (begun_cursor old a b);
-      given = ap (λ (c : Standing). c.given) cursor ∙ ap (λ (c : Standing). c.given) (begun_cursor old a b);
+      options = ap (λ (c : CursorState). c.options) cursor ∙ ap (λ (c : CursorState). c.options) (begun_cursor old a b);
+      given = ap (λ (c : CursorState). c.given) cursor ∙ ap (λ (c : CursorState). c.given) (begun_cursor old a b);
       kept = kept;
     }

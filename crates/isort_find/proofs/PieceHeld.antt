@@ -3,9 +3,9 @@ use Rattle.std.proofs.Common.{◌≡◌, ℕ, ◌+◌, ◌<◌, Bool, true, fals
 use Rattle.py_lines.specs.LogicalLine.{LogicalLine}
 use Rattle.py_lines.specs.Lexed.{IsLexed}
 use Rattle.py_lines.specs.Settled.{IsSettled}
-use Rattle.py_lines.specs.Scanning.{Scanning, fed_of, ready_lines, GoesOnWith, HoldsReady, IsScanning}
+use Rattle.py_lines.specs.ScannerState.{ScannerState, fed_of, ready_lines, GoesOnWith, HoldsReady, IsScanning}
 use Rattle.py_imports.specs.Bound.{Bound}
-use Rattle.isort_find.specs.Pieces.{PieceFinding, held_by, held_in, has_ready, ready_in, HasReleased, IsBetweenLines, IsWithinLine, HasFoundIn, HoldsRest, HoldsLine}
+use Rattle.isort_find.specs.Pieces.{PieceFinderState, held_by, held_in, has_ready, ready_in, HasReleased, IsBetweenLines, IsWithinLine, HasFoundIn, HoldsRest, HoldsLine}
 use Rattle.isort_find.specs.declared.finder.Outcome.{Outcome}
 use Rattle.isort_find.specs.declared.finder.Outcome.TheVariants as outcome
 use Rattle.isort_find.proofs.SettledFoundLemmas.{append-nil-lines}
@@ -18,11 +18,11 @@ true_or_false b h k = cc
 none_or_some : (r : Option LogicalLine) (line : LogicalLine) → r ≡ None → r ≡ Some line → ⊥
 none_or_some r line h k = cc
 
-held_open : (f : PieceFinding) → f.outcome ≡ outcome.Open → held_by f ≡ f.scanning.held
+held_open : (f : PieceFinderState) → f.outcome ≡ outcome.Open → held_by f ≡ f.scanning.held
 held_open f opened = ap (λ (o : Outcome). held_in o f.scanning) opened
 
 -- the scanner stands in the text, and no line is ready
-rest_of : (f : PieceFinding) (text : List ℕ) (lines : List LogicalLine) → f.outcome ≡ outcome.Open → f.scanning.ready ≡ None → IsScanning f.scanning text lines → HoldsRest f text
+rest_of : (f : PieceFinderState) (text : List ℕ) (lines : List LogicalLine) → f.outcome ≡ outcome.Open → f.scanning.ready ≡ None → IsScanning f.scanning text lines → HoldsRest f text
 rest_of f text lines opened none h =
     let held = held_open f opened in
     let fed = fed_open f opened in
@@ -37,16 +37,16 @@ rest_of f text lines opened none h =
           subst (λ (n : ℕ). IsSettled (take n text) lines) (sym fed) (subst (λ (ls : List LogicalLine). IsSettled known ls) (append-nil-lines lines) now);
     }
 
-still_scanning : (s : Scanning) (text : List ℕ) (lines : List LogicalLine) → s.ended ≡ false → HasReleased s text lines → IsScanning s text lines
+still_scanning : (s : ScannerState) (text : List ℕ) (lines : List LogicalLine) → s.ended ≡ false → HasReleased s text lines → IsScanning s text lines
 still_scanning s text lines yet (inl h) = h
 still_scanning s text lines yet (inr h) = absurd (true_or_false _ yet h.ended)
 
 -- between two lines
-pub between_rest : (f : PieceFinding) (text : List ℕ) (bounds : List Bound) → f.outcome ≡ outcome.Open → f.scanning.ended ≡ false → f.scanning.ready ≡ None → IsBetweenLines f text bounds → HoldsRest f text
+pub between_rest : (f : PieceFinderState) (text : List ℕ) (bounds : List Bound) → f.outcome ≡ outcome.Open → f.scanning.ended ≡ false → f.scanning.ready ≡ None → IsBetweenLines f text bounds → HoldsRest f text
 between_rest f text bounds opened yet none b = rest_of f text b.behind.lines opened none (still_scanning f.scanning text b.behind.lines yet b.released)
 
 -- where no line is ready
-pub rest_any : (f : PieceFinding) (text : List ℕ) (bounds : List Bound) → f.outcome ≡ outcome.Open → f.scanning.ended ≡ false → f.scanning.ready ≡ None → HasFoundIn f text bounds → HoldsRest f text
+pub rest_any : (f : PieceFinderState) (text : List ℕ) (bounds : List Bound) → f.outcome ≡ outcome.Open → f.scanning.ended ≡ false → f.scanning.ready ≡ None → HasFoundIn f text bounds → HoldsRest f text
 rest_any f text bounds opened yet none h = by (reached_so f text bounds opened h)
   where
     by : IsBetweenLines f text bounds ⊎ IsWithinLine f text bounds → HoldsRest f text
@@ -54,7 +54,7 @@ rest_any f text bounds opened yet none h = by (reached_so f text bounds opened h
     by (inr w) = absurd (none_or_some _ w.line none w.ready)
 
 -- after these lines one is ready
-line_of : (f : PieceFinding) (text : List ℕ) (lines : List LogicalLine) (line : LogicalLine) → f.outcome ≡ outcome.Open → f.scanning.ready ≡ Some line → HasReleased f.scanning text lines → HoldsLine f text
+line_of : (f : PieceFinderState) (text : List ℕ) (lines : List LogicalLine) (line : LogicalLine) → f.outcome ≡ outcome.Open → f.scanning.ready ≡ Some line → HasReleased f.scanning text lines → HoldsLine f text
 line_of f text lines line opened ready (inl h) =
     let held = held_open f opened in
     let known = take (fed_of f.scanning) text in
@@ -83,14 +83,14 @@ line_of f text lines line opened ready (inr h) =
     }
 
 -- where a line is ready
-pub line_any : (f : PieceFinding) (text : List ℕ) (bounds : List Bound) (line : LogicalLine) → f.outcome ≡ outcome.Open → f.scanning.ready ≡ Some line → HasFoundIn f text bounds → HoldsLine f text
+pub line_any : (f : PieceFinderState) (text : List ℕ) (bounds : List Bound) (line : LogicalLine) → f.outcome ≡ outcome.Open → f.scanning.ready ≡ Some line → HasFoundIn f text bounds → HoldsLine f text
 line_any f text bounds line opened ready h = by (reached_so f text bounds opened h)
   where
     by : IsBetweenLines f text bounds ⊎ IsWithinLine f text bounds → HoldsLine f text
     by (inl b) = line_of f text b.behind.lines line opened ready b.released
     by (inr w) = line_of f text w.lines line opened ready w.released
 
-pub open_ready : (f : PieceFinding) → has_ready f ≡ true → f.outcome ≡ outcome.Open
+pub open_ready : (f : PieceFinderState) → has_ready f ≡ true → f.outcome ≡ outcome.Open
 open_ready f ready = by f.outcome refl
   where
     by : (o : Outcome) → f.outcome ≡ o → f.outcome ≡ outcome.Open
@@ -103,7 +103,7 @@ only_unread true h = refl
 only_unread false h = absurd (true_or_false false refl h)
 
 -- where something is ready: a line, or the next one was left unread before it was whole
-pub ready_any : (f : PieceFinding) (text : List ℕ) (bounds : List Bound) → f.scanning.ended ≡ false → has_ready f ≡ true → HasFoundIn f text bounds → HoldsLine f text ⊎ ((f.unread ≡ true) × HoldsRest f text)
+pub ready_any : (f : PieceFinderState) (text : List ℕ) (bounds : List Bound) → f.scanning.ended ≡ false → has_ready f ≡ true → HasFoundIn f text bounds → HoldsLine f text ⊎ ((f.unread ≡ true) × HoldsRest f text)
 ready_any f text bounds yet ready h = by f.scanning.ready refl (reached_so f text bounds opened h)
   where
     opened : f.outcome ≡ outcome.Open

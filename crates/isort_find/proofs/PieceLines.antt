@@ -3,12 +3,12 @@ use Rattle.std.proofs.Common.{◌≡◌, ℕ, ◌+◌, ◌≤◌, Bool, true, fa
 use Rattle.std.proofs.Math.Seq.{take-add, take-append_seam}
 use Rattle.std.proofs.lemmas.List.{length-take-le, length-drop, drop-take}
 use Rattle.py_lines.specs.LogicalLine.{LogicalLine}
-use Rattle.py_lines.specs.Scanning.{GoesOnWith}
+use Rattle.py_lines.specs.ScannerState.{GoesOnWith}
 use Rattle.py_lines.specs.declared.fault.Fault.{Fault}
 use Rattle.py_imports.specs.Bound.{Bound}
 use Rattle.isort_find.specs.Settled.{DecidesFound}
-use Rattle.isort_find.specs.Cursor.{Standing}
-use Rattle.isort_find.specs.Pieces.{PieceFinding, options_for, fed_by, has_ready, ready_in, IsBetweenLines, IsWithinLine, HasFoundIn, KeepsAll, MeetsFaultIn}
+use Rattle.isort_find.specs.Cursor.{CursorState}
+use Rattle.isort_find.specs.Pieces.{PieceFinderState, options_for, fed_by, has_ready, ready_in, IsBetweenLines, IsWithinLine, HasFoundIn, PieceFinderRunsOut, MeetsFaultIn}
 use Rattle.isort_find.specs.Steps.Feedings.{TakesSome, TakesBytesOf, with_unread}
 use Rattle.isort_find.specs.declared.error.FindError.TheVariants as error
 use Rattle.isort_find.specs.declared.options.FindOptions.{FindOptions}
@@ -42,7 +42,7 @@ goes_then text place piece t n first second goes =
     )
 
 -- bytes were taken, and then more
-takes_more : (old mid new : PieceFinding) (piece : List ℕ) (t n : ℕ) → TakesSome old piece t mid → TakesSome mid (drop t piece) n new → TakesSome old piece (t + n) new
+takes_more : (old mid new : PieceFinderState) (piece : List ℕ) (t n : ℕ) → TakesSome old piece t mid → TakesSome mid (drop t piece) n new → TakesSome old piece (t + n) new
 takes_more old mid new piece t n first next =
     let size = length-drop t piece in
     let goes : (text : List ℕ) → GoesOnWith text (fed_by old) (take (t + n) piece) → GoesOnWith text (fed_by old) (take t piece) × GoesOnWith text (fed_by mid) (take n (drop t piece)) = λ text whole. let both = goes_then text (fed_by old) piece t n first.within next.within whole in (both.0, subst (λ (p : ℕ). GoesOnWith text p (take n (drop t piece))) (sym first.fed) both.1) in
@@ -61,10 +61,10 @@ takes_more old mid new piece t n first next =
     }
 
 -- bytes were taken, and then a fault was met
-fault_after : (old mid new : PieceFinding) (piece : List ℕ) (t : ℕ) (fault : Fault) → old.outcome ≡ outcome.Open → has_ready old ≡ false → mid.outcome ≡ outcome.Open → TakesSome old piece t mid → MeetsFaultIn mid (drop t piece) fault new → MeetsFaultIn old piece fault new
+fault_after : (old mid new : PieceFinderState) (piece : List ℕ) (t : ℕ) (fault : Fault) → old.outcome ≡ outcome.Open → has_ready old ≡ false → mid.outcome ≡ outcome.Open → TakesSome old piece t mid → MeetsFaultIn mid (drop t piece) fault new → MeetsFaultIn old piece fault new
 fault_after old mid new piece t fault opened none going first next =
     let goes : (text : List ℕ) → GoesOnWith text (fed_by old) piece → GoesOnWith text (fed_by old) (take t piece) × GoesOnWith text (fed_by mid) (drop t piece) = λ text whole. let both = goes_both text (fed_by old) piece t first.within whole in (both.0, subst (λ (p : ℕ). GoesOnWith text p (drop t piece)) (sym first.fed) both.1) in
-    let options : options_for mid ≡ options_for old = ap (λ (c : Standing). c.options) first.cursor in
+    let options : options_for mid ≡ options_for old = ap (λ (c : CursorState). c.options) first.cursor in
     record {
       found = λ text bounds h whole. let g = goes text whole in next.found text bounds (first.found text bounds h g.0) g.1;
       decided = λ text bounds h whole was.
@@ -77,13 +77,13 @@ fault_after old mid new piece t fault opened none going first next =
       again = λ other was. absurd (some_fault _ other opened was);
       was_in_top = λ top. open_or_end _ opened top;
       options = next.options ∙ options;
-      given = next.given ∙ ap (λ (c : Standing). c.given) first.cursor;
+      given = next.given ∙ ap (λ (c : CursorState). c.given) first.cursor;
       open_yet = next.open_yet ∙ first.open_yet;
       kept = next.kept;
     }
 
 -- bytes were taken, and then memory ran out: the next line is left unread
-unread_after : (old mid last : PieceFinding) (piece : List ℕ) (t : ℕ) → TakesSome old piece t mid → KeepsAll mid last → last.scanning.ready ≡ None → length last.scanning.held ≤ length mid.scanning.held → TakesSome old piece t (with_unread last)
+unread_after : (old mid last : PieceFinderState) (piece : List ℕ) (t : ℕ) → TakesSome old piece t mid → PieceFinderRunsOut mid last → last.scanning.ready ≡ None → length last.scanning.held ≤ length mid.scanning.held → TakesSome old piece t (with_unread last)
 unread_after old mid last piece t first keeps none shorter =
     let ready : has_ready (with_unread last) ≡ true = (λ i. ready_in (keeps.is_open i) true last.pending.left) in
     record {
@@ -108,29 +108,29 @@ unread_after old mid last piece t first keeps none shorter =
         by (inr w) = absurd (none_or_some _ w.line none w.ready)
 
 -- what was taken so far within a call: nothing yet, or bytes
-abbrev pub HasTaken : PieceFinding → List ℕ → ℕ → PieceFinding → Type 0
+abbrev pub HasTaken : PieceFinderState → List ℕ → ℕ → PieceFinderState → Type 0
 HasTaken old piece t mid = ((t ≡ 0) × (mid ≡ old)) ⊎ TakesSome old piece t mid
 
 -- more bytes were taken
-pub takes_next : (old mid new : PieceFinding) (piece : List ℕ) (t n : ℕ) → HasTaken old piece t mid → TakesSome mid (drop t piece) n new → TakesSome old piece (t + n) new
+pub takes_next : (old mid new : PieceFinderState) (piece : List ℕ) (t n : ℕ) → HasTaken old piece t mid → TakesSome mid (drop t piece) n new → TakesSome old piece (t + n) new
 takes_next old mid new piece t n (inl begun) next =
     let none = begun.0 in
     let all : n ≡ t + n = omega (arith, none) in
-    subst (λ (k : ℕ). TakesSome old piece k new) all (subst (λ (f : PieceFinding). TakesSome f piece n new) begun.1 (subst (λ (k : ℕ). TakesSome mid (drop k piece) n new) none next))
+    subst (λ (k : ℕ). TakesSome old piece k new) all (subst (λ (f : PieceFinderState). TakesSome f piece n new) begun.1 (subst (λ (k : ℕ). TakesSome mid (drop k piece) n new) none next))
 takes_next old mid new piece t n (inr first) next = takes_more old mid new piece t n first next
 
 -- a fault was met
-pub fault_next : (old mid new : PieceFinding) (piece : List ℕ) (t : ℕ) (fault : Fault) → old.outcome ≡ outcome.Open → has_ready old ≡ false → mid.outcome ≡ outcome.Open → HasTaken old piece t mid → MeetsFaultIn mid (drop t piece) fault new → MeetsFaultIn old piece fault new
-fault_next old mid new piece t fault opened none going (inl begun) next = subst (λ (f : PieceFinding). MeetsFaultIn f piece fault new) begun.1 (subst (λ (k : ℕ). MeetsFaultIn mid (drop k piece) fault new) begun.0 next)
+pub fault_next : (old mid new : PieceFinderState) (piece : List ℕ) (t : ℕ) (fault : Fault) → old.outcome ≡ outcome.Open → has_ready old ≡ false → mid.outcome ≡ outcome.Open → HasTaken old piece t mid → MeetsFaultIn mid (drop t piece) fault new → MeetsFaultIn old piece fault new
+fault_next old mid new piece t fault opened none going (inl begun) next = subst (λ (f : PieceFinderState). MeetsFaultIn f piece fault new) begun.1 (subst (λ (k : ℕ). MeetsFaultIn mid (drop k piece) fault new) begun.0 next)
 fault_next old mid new piece t fault opened none going (inr first) next = fault_after old mid new piece t fault opened none going first next
 
 -- memory ran out after the first byte
-pub unread_next : (old mid last : PieceFinding) (piece : List ℕ) (t : ℕ) → (t ≡ 0 → ⊥) → HasTaken old piece t mid → KeepsAll mid last → last.scanning.ready ≡ None → length last.scanning.held ≤ length mid.scanning.held → TakesSome old piece t (with_unread last)
+pub unread_next : (old mid last : PieceFinderState) (piece : List ℕ) (t : ℕ) → (t ≡ 0 → ⊥) → HasTaken old piece t mid → PieceFinderRunsOut mid last → last.scanning.ready ≡ None → length last.scanning.held ≤ length mid.scanning.held → TakesSome old piece t (with_unread last)
 unread_next old mid last piece t some (inl begun) keeps none shorter = absurd (some begun.0)
 unread_next old mid last piece t some (inr first) keeps none shorter = unread_after old mid last piece t first keeps none shorter
 
 -- memory ran out after lines of no byte of the piece
-keeps_after : (old mid last : PieceFinding) (piece : List ℕ) → old.outcome ≡ outcome.Open → has_ready old ≡ false → has_ready mid ≡ false → TakesSome old piece 0 mid → KeepsAll mid last → KeepsAll old last
+keeps_after : (old mid last : PieceFinderState) (piece : List ℕ) → old.outcome ≡ outcome.Open → has_ready old ≡ false → has_ready mid ≡ false → TakesSome old piece 0 mid → PieceFinderRunsOut mid last → PieceFinderRunsOut old last
 keeps_after old mid last piece opened none none_mid first keeps =
     let found : (text : List ℕ) (bounds : List Bound) → HasFoundIn old text bounds → HasFoundIn mid text bounds = λ text bounds h. first.found text bounds h refl in
     record {
@@ -146,8 +146,8 @@ keeps_after old mid last piece opened none none_mid first keeps =
     }
 
 -- memory ran out before the first byte
-pub keeps_next : (old mid last : PieceFinding) (piece : List ℕ) (t : ℕ) → t ≡ 0 → old.outcome ≡ outcome.Open → has_ready old ≡ false → has_ready mid ≡ false → HasTaken old piece t mid → TakesBytesOf mid (drop t piece) (Err error.Memory) last → TakesBytesOf old piece (Err error.Memory) last
-keeps_next old mid last piece t is opened none none_mid (inl begun) keeps = subst (λ (f : PieceFinding). TakesBytesOf f piece (Err error.Memory) last) begun.1 keeps
+pub keeps_next : (old mid last : PieceFinderState) (piece : List ℕ) (t : ℕ) → t ≡ 0 → old.outcome ≡ outcome.Open → has_ready old ≡ false → has_ready mid ≡ false → HasTaken old piece t mid → TakesBytesOf mid (drop t piece) (Err error.Memory) last → TakesBytesOf old piece (Err error.Memory) last
+keeps_next old mid last piece t is opened none none_mid (inl begun) keeps = subst (λ (f : PieceFinderState). TakesBytesOf f piece (Err error.Memory) last) begun.1 keeps
 keeps_next old mid last piece t is opened none none_mid (inr first) keeps =
     let begun = subst (λ (k : ℕ). TakesSome old piece k mid) is first in
     (keeps_after old mid last piece opened none none_mid begun keeps.0, keeps.1, (let k = keeps.2 in let m = begun.held in omega (arith, k, m)))

@@ -4,11 +4,11 @@ use Rattle.std.proofs.lemmas.List.{nil_from_length}
 use Rattle.std.proofs.lemmas.Str.{length-le-encodes}
 use Rattle.py_lines.specs.Settled.{Decides}
 use Rattle.py_lines.specs.Balance.{none}
-use Rattle.py_lines.specs.Scanning.{Scanning, begun_at, IsScanning}
+use Rattle.py_lines.specs.ScannerState.{ScannerState, begun_at, IsScanning}
 use Rattle.py_lines.specs.declared.fault.Fault.{Fault}
-use Rattle.isort_find.specs.Cursor.{Standing, first_standing}
-use Rattle.isort_find.specs.Pending.{Looking}
-use Rattle.isort_find.specs.Pieces.{piece_finding, AreAllSettled, IsUndecided}
+use Rattle.isort_find.specs.Cursor.{CursorState, first_standing}
+use Rattle.isort_find.specs.Pending.{PendingState}
+use Rattle.isort_find.specs.Pieces.{piece_finder_state, AreAllSettled, IsUndecided}
 use Rattle.isort_find.specs.declared.options.FindOptions.{FindOptions}
 use Rattle.isort_find.specs.declared.finder.Outcome.TheVariants as outcome
 use Rattle.isort_find.proofs.SettledFoundLemmas.{SettledLaws}
@@ -27,15 +27,15 @@ none_decided text fault empty d =
     let characters : d.characters ≡ [] = nil_from_length d.characters (omega (arith, size, parts, short)) in
     d.refused.unread tail [] (record { spell = sym characters; fit = tt; balanced = none [] refl; shallow = tt })
 
-fed_none : (s : Scanning) (text : List ℕ) → s ≡ begun_at 0 1 → take (s.place + length s.held) text ≡ []
-fed_none s text start = ap (λ (x : Scanning). take (x.place + length x.held) text) start
+fed_none : (s : ScannerState) (text : List ℕ) → s ≡ begun_at 0 1 → take (s.place + length s.held) text ≡ []
+fed_none s text start = ap (λ (x : ScannerState). take (x.place + length x.held) text) start
 
-pub new_settled : SettledLaws → OneSettled → AscentLaws → (s : Scanning) (p : Looking) (passed : ℕ) (options : FindOptions) (cursor : Standing) → s ≡ begun_at 0 1 → ((text : List ℕ) → IsScanning s text []) → p.left ≡ [] → cursor ≡ first_standing options → (text : List ℕ) → AreAllSettled (piece_finding s false 0 p outcome.Open passed cursor) text []
+pub new_settled : SettledLaws → OneSettled → AscentLaws → (s : ScannerState) (p : PendingState) (passed : ℕ) (options : FindOptions) (cursor : CursorState) → s ≡ begun_at 0 1 → ((text : List ℕ) → IsScanning s text []) → p.left ≡ [] → cursor ≡ first_standing options → (text : List ℕ) → AreAllSettled (piece_finder_state s false 0 p outcome.Open passed cursor) text []
 new_settled laws one ascent s p passed options cursor start scans left is text =
-    let f = piece_finding s false 0 p outcome.Open passed cursor in
-    gap_settled laws one ascent f text [] refl (ap (λ (x : Scanning). x.ended) start) (ap (λ (x : Scanning). x.ready) start) (begins_between s p passed options cursor start scans left is text)
+    let f = piece_finder_state s false 0 p outcome.Open passed cursor in
+    gap_settled laws one ascent f text [] refl (ap (λ (x : ScannerState). x.ended) start) (ap (λ (x : ScannerState). x.ready) start) (begins_between s p passed options cursor start scans left is text)
 
-pub new_undecided : SettledLaws → OneSettled → AscentLaws → (s : Scanning) (p : Looking) (passed : ℕ) (options : FindOptions) (cursor : Standing) → s ≡ begun_at 0 1 → ((text : List ℕ) → IsScanning s text []) → p.left ≡ [] → cursor ≡ first_standing options → (text : List ℕ) → IsUndecided (piece_finding s false 0 p outcome.Open passed cursor) text
+pub new_undecided : SettledLaws → OneSettled → AscentLaws → (s : ScannerState) (p : PendingState) (passed : ℕ) (options : FindOptions) (cursor : CursorState) → s ≡ begun_at 0 1 → ((text : List ℕ) → IsScanning s text []) → p.left ≡ [] → cursor ≡ first_standing options → (text : List ℕ) → IsUndecided (piece_finder_state s false 0 p outcome.Open passed cursor) text
 new_undecided laws one ascent s p passed options cursor start scans left is text =
-    let f = piece_finding s false 0 p outcome.Open passed cursor in
-    gap_undecided laws one ascent f text [] refl (ap (λ (x : Scanning). x.ended) start) (ap (λ (x : Scanning). x.ready) start) (λ fault. none_decided (take (s.place + length s.held) text) fault (fed_none s text start)) (begins_between s p passed options cursor start scans left is text)
+    let f = piece_finder_state s false 0 p outcome.Open passed cursor in
+    gap_undecided laws one ascent f text [] refl (ap (λ (x : ScannerState). x.ended) start) (ap (λ (x : ScannerState). x.ready) start) (λ fault. none_decided (take (s.place + length s.held) text) fault (fed_none s text start)) (begins_between s p passed options cursor start scans left is text)

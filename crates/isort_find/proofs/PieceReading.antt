@@ -6,13 +6,13 @@ use Rattle.py_lines.specs.Lexed.{IsLexed, BeginsLexing}
 use Rattle.py_lines.specs.Settled.{IsSettled}
 use Rattle.py_lines.specs.Given.{AreFirstLines}
 use Rattle.py_lines.specs.Reader.{HasGiven, standing_at}
-use Rattle.py_lines.specs.Scanning.{Scanning, fed_of, ready_lines, HoldsReady, IsScanning, HasEnded, Releases}
+use Rattle.py_lines.specs.ScannerState.{ScannerState, fed_of, ready_lines, HoldsReady, IsScanning, HasEnded, Releases}
 use Rattle.py_lines.specs.declared.fault.Fault.{Fault}
 use Rattle.py_imports.specs.Bound.{Bound, bound_of}
 use Rattle.py_imports.specs.Binds.{Binds, IsBadAt}
 use Rattle.isort_find.specs.Found.{firsts, ends_top, counted_lines, before_bad}
-use Rattle.isort_find.specs.Cursor.{Standing, BeginsNext, IsBehind, HasStopped}
-use Rattle.isort_find.specs.Pieces.{PieceFinding, options_for, HasReleased, AreKnown, IsBetweenLines, IsWithinLine, IsAtTopEnd, HasReachedIn, HasFoundIn}
+use Rattle.isort_find.specs.Cursor.{CursorState, BeginsNext, IsAfter, HasStopped}
+use Rattle.isort_find.specs.Pieces.{PieceFinderState, options_for, HasReleased, AreKnown, IsBetweenLines, IsWithinLine, IsAtTopEnd, HasReachedIn, HasFoundIn}
 use Rattle.isort_find.specs.Steps.Feedings.{IsNextPlace, LetsGo, JudgesReady, FollowsStep, with_fault, with_read, with_top_end, with_unread}
 use Rattle.isort_find.specs.Steps.Readings.{Judges}
 use Rattle.isort_find.specs.Steps.Standings.{standing_before}
@@ -31,15 +31,15 @@ use Rattle.isort_find.proofs.SettledFoundLemmas.{SettledLaws, append-nil-lines}
 use Rattle.isort_find.proofs.PieceStarts.{given_first}
 
 -- the scanner's first lines of the text
-pub first_of : (s : Scanning) (text : List ℕ) (lines : List LogicalLine) → HasReleased s text lines → AreFirstLines text s.place s.line lines
+pub first_of : (s : ScannerState) (text : List ℕ) (lines : List LogicalLine) → HasReleased s text lines → AreFirstLines text s.place s.line lines
 first_of s text lines (inl h) = h.first
 first_of s text lines (inr h) = h.first
 
-pub given_of : (s : Scanning) (text : List ℕ) (lines : List LogicalLine) → HasReleased s text lines → HasGiven (standing_at text s.place s.line) lines
+pub given_of : (s : ScannerState) (text : List ℕ) (lines : List LogicalLine) → HasReleased s text lines → HasGiven (standing_at text s.place s.line) lines
 given_of s text lines h = given_first text s.place s.line lines (first_of s text lines h)
 
 -- lines that are known begin the lexing of the text
-pub known_begins : SettledLaws → (s : Scanning) (text : List ℕ) (lines : List LogicalLine) → AreKnown s text lines → BeginsLexing text lines
+pub known_begins : SettledLaws → (s : ScannerState) (text : List ℕ) (lines : List LogicalLine) → AreKnown s text lines → BeginsLexing text lines
 known_begins laws s text lines (inl settled) = subst (λ (t : List ℕ). BeginsLexing t lines) (take-append-drop (fed_of s) text) (laws.lines (take (fed_of s) text) (drop (fed_of s) text) lines settled)
 known_begins laws s text lines (inr lexed) = record { more = []; end = None; lexed = subst (λ (ls : List LogicalLine). IsLexed text ls None) (sym (append-nil-lines lines)) lexed.1 }
 
@@ -49,7 +49,7 @@ holds_some held line whole some =
     omega (arith, len, length-append line.text whole.0, some)
 
 -- the line that is ready is known, with those before it
-pub ready_known : (s : Scanning) (text : List ℕ) (lines : List LogicalLine) (line : LogicalLine) → HasReleased s text lines → s.ready ≡ Some line → 0 < length line.text → AreKnown s text (lines ++ line ∷ [])
+pub ready_known : (s : ScannerState) (text : List ℕ) (lines : List LogicalLine) (line : LogicalLine) → HasReleased s text lines → s.ready ≡ Some line → 0 < length line.text → AreKnown s text (lines ++ line ∷ [])
 ready_known s text lines line (inl h) ready some = inl (subst (λ (r : Option LogicalLine). IsSettled (take (fed_of s) text) (lines ++ ready_lines r)) ready (h.settled (holds_some s.held line (subst (HoldsReady s.held) ready h.whole) some)))
 ready_known s text lines line (inr h) ready some = inr (h.ended, subst (λ (r : Option LogicalLine). IsLexed text (lines ++ ready_lines r) None) ready h.lexed)
 
@@ -74,35 +74,35 @@ none_of_top one text options lines part line begins ends (inl none) = none
 none_of_top one text options lines part line begins ends (inr n) = absurd (counts_or_ends _ ends (subst (λ (l : LogicalLine). ends_top options l ≡ false) (sym (same_begun one text lines line n.line begins n.begins)) n.in_top))
 
 -- what was looked at of a line begins what it binds
-splits_of : Laws → (f : PieceFinding) (text : List ℕ) (options : FindOptions) (lines : List LogicalLine) (part bs : List Bound) (line : LogicalLine) → BeginsLexing text (lines ++ line ∷ []) → Binds line bs → IsPartOf text options lines part → (rest : List Bound) × (bs ≡ part ++ rest)
+splits_of : Laws → (f : PieceFinderState) (text : List ℕ) (options : FindOptions) (lines : List LogicalLine) (part bs : List Bound) (line : LogicalLine) → BeginsLexing text (lines ++ line ∷ []) → Binds line bs → IsPartOf text options lines part → (rest : List Bound) × (bs ≡ part ++ rest)
 splits_of one f text options lines part bs line begins binds (inl none) = (bs, ap (λ t. t ++ bs) (sym none))
 splits_of one f text options lines part bs line begins binds (inr n) = (n.rest, one.one_list line bs (part ++ n.rest) binds (subst (λ (l : LogicalLine). Binds l (part ++ n.rest)) (sym (same_begun one text lines line n.line begins n.begins)) n.binds))
 
 -- between two logical lines, the next of which may be ready
-pub record IsAtGap (f : PieceFinding) (text : List ℕ) (bounds : List Bound) : Type 0 where
+pub record IsAtGap (f : PieceFinderState) (text : List ℕ) (bounds : List Bound) : Type 0 where
   pub none : f.pending.left ≡ []
-  pub behind : IsBehind text (options_for f) f.scanning.place f.scanning.line f.skip bounds
+  pub behind : IsAfter text (options_for f) f.scanning.place f.scanning.line f.skip bounds
   pub released : HasReleased f.scanning text behind.lines
   pub stands : (f.skip ≡ 0) ⊎ (f.cursor.offset ≡ f.scanning.place)
 
-pub gap_of : (f : PieceFinding) (text : List ℕ) (bounds : List Bound) → IsBetweenLines f text bounds → IsAtGap f text bounds
+pub gap_of : (f : PieceFinderState) (text : List ℕ) (bounds : List Bound) → IsBetweenLines f text bounds → IsAtGap f text bounds
 gap_of f text bounds b = record { none = b.none; behind = b.behind; released = b.released; stands = b.stands }
 
 -- a line that is ready is about to be read
-pub record IsReadyAt (f : PieceFinding) (text : List ℕ) (bounds : List Bound) (line : LogicalLine) (place : Place) : Type 0 where
+pub record IsReadyAt (f : PieceFinderState) (text : List ℕ) (bounds : List Bound) (line : LogicalLine) (place : Place) : Type 0 where
   pub between : IsAtGap f text bounds
   pub ready : f.scanning.ready ≡ Some line
   pub some_text : 0 < length line.text
   pub here : IsNextPlace f place
 
-known_at : (f : PieceFinding) (text : List ℕ) (bounds : List Bound) (line : LogicalLine) (place : Place) (r : IsReadyAt f text bounds line place) → AreKnown f.scanning text (r.between.behind.lines ++ line ∷ [])
+known_at : (f : PieceFinderState) (text : List ℕ) (bounds : List Bound) (line : LogicalLine) (place : Place) (r : IsReadyAt f text bounds line place) → AreKnown f.scanning text (r.between.behind.lines ++ line ∷ [])
 known_at f text bounds line place r = ready_known f.scanning text r.between.behind.lines line r.between.released r.ready r.some_text
 
-given_at : (f : PieceFinding) (text : List ℕ) (bounds : List Bound) (line : LogicalLine) (place : Place) (r : IsReadyAt f text bounds line place) → HasGiven (standing_at text place.offset place.line) r.between.behind.lines
+given_at : (f : PieceFinderState) (text : List ℕ) (bounds : List Bound) (line : LogicalLine) (place : Place) (r : IsReadyAt f text bounds line place) → HasGiven (standing_at text place.offset place.line) r.between.behind.lines
 given_at f text bounds line place r = subst (λ (n : ℕ). HasGiven (standing_at text n place.line) r.between.behind.lines) (sym r.here.offset) (subst (λ (n : ℕ). HasGiven (standing_at text f.scanning.place n) r.between.behind.lines) (sym r.here.line) r.between.behind.given)
 
 -- the bindings of the line are to be looked at
-pub read_bindings : SettledLaws → (f : PieceFinding) (text : List ℕ) (bounds : List Bound) (line : LogicalLine) (place : Place) (bs : List Bound) → IsReadyAt f text bounds line place → Binds line bs → ends_top (options_for f) line ≡ false → IsWithinLine (with_read f place bs) text bounds
+pub read_bindings : SettledLaws → (f : PieceFinderState) (text : List ℕ) (bounds : List Bound) (line : LogicalLine) (place : Place) (bs : List Bound) → IsReadyAt f text bounds line place → Binds line bs → ends_top (options_for f) line ≡ false → IsWithinLine (with_read f place bs) text bounds
 read_bindings laws f text bounds line place bs r binds counts =
     let b = r.between.behind in
     let known = known_at f text bounds line place r in
@@ -128,11 +128,11 @@ read_bindings laws f text bounds line place bs r binds counts =
     }
 
 -- what was found of lines that are all looked at
-pub found_whole : {text : List ℕ} {options : FindOptions} {offset line taken : ℕ} {bounds : List Bound} (b : IsBehind text options offset line taken bounds) → b.part ≡ [] → bounds ≡ firsts options.unique [] b.before
+pub found_whole : {text : List ℕ} {options : FindOptions} {offset line taken : ℕ} {bounds : List Bound} (b : IsAfter text options offset line taken bounds) → b.part ≡ [] → bounds ≡ firsts options.unique [] b.before
 found_whole {options = options} b none = b.found ∙ ap (firsts options.unique []) (ap (λ t. b.before ++ t) none ∙ append-nil b.before)
 
 -- the line ends the top
-pub read_top : SettledLaws → (f : PieceFinding) (text : List ℕ) (bounds : List Bound) (line : LogicalLine) (place : Place) → IsReadyAt f text bounds line place → ends_top (options_for f) line ≡ true → IsAtTopEnd (with_top_end f) text bounds
+pub read_top : SettledLaws → (f : PieceFinderState) (text : List ℕ) (bounds : List Bound) (line : LogicalLine) (place : Place) → IsReadyAt f text bounds line place → ends_top (options_for f) line ≡ true → IsAtTopEnd (with_top_end f) text bounds
 read_top laws f text bounds line place r ends =
     let b = r.between.behind in
     let known = known_at f text bounds line place r in
@@ -152,7 +152,7 @@ read_top laws f text bounds line place r ends =
     }
 
 -- the cursor goes to where the lines end that were read, and nothing of the next was looked at
-pub stands_at : {text : List ℕ} {offset number taken : ℕ} {bounds : List Bound} (cursor : Standing) (place : Place) (b : IsBehind text cursor.options offset number taken bounds) → b.part ≡ [] → HasGiven (standing_at text place.offset place.line) b.lines → HasStopped text cursor bounds → HasStopped text (standing_before cursor place) bounds
+pub stands_at : {text : List ℕ} {offset number taken : ℕ} {bounds : List Bound} (cursor : CursorState) (place : Place) (b : IsAfter text cursor.options offset number taken bounds) → b.part ≡ [] → HasGiven (standing_at text place.offset place.line) b.lines → HasStopped text cursor bounds → HasStopped text (standing_before cursor place) bounds
 stands_at cursor place b none given h = record {
   behind = record {
     lines = b.lines;
@@ -169,7 +169,7 @@ stands_at cursor place b none given h = record {
 }
 
 -- the line is bad
-pub read_bad : SettledLaws → (f : PieceFinding) (text : List ℕ) (bounds : List Bound) (line : LogicalLine) (place : Place) (fault : Fault) → IsReadyAt f text bounds line place → IsBadAt line fault → ends_top (options_for f) line ≡ false → HasStopped text f.cursor bounds → HasFoundIn (with_fault f place fault) text bounds
+pub read_bad : SettledLaws → (f : PieceFinderState) (text : List ℕ) (bounds : List Bound) (line : LogicalLine) (place : Place) (fault : Fault) → IsReadyAt f text bounds line place → IsBadAt line fault → ends_top (options_for f) line ≡ false → HasStopped text f.cursor bounds → HasFoundIn (with_fault f place fault) text bounds
 read_bad laws f text bounds line place fault r bad counts stopped =
     let b = r.between.behind in
     let known = known_at f text bounds line place r in
@@ -189,29 +189,29 @@ read_bad laws f text bounds line place fault r bad counts stopped =
     }
 
 -- the line was left unread
-pub between_unread : (f : PieceFinding) (text : List ℕ) (bounds : List Bound) → IsAtGap f text bounds → IsBetweenLines (with_unread f) text bounds
+pub between_unread : (f : PieceFinderState) (text : List ℕ) (bounds : List Bound) → IsAtGap f text bounds → IsBetweenLines (with_unread f) text bounds
 between_unread f text bounds b = record { none = b.none; behind = b.behind; released = b.released; unread = λ e. absurd cc; stands = b.stands }
 
-pub reached_at : (f : PieceFinding) (text : List ℕ) (bounds : List Bound) → f.outcome ≡ outcome.Open → IsBetweenLines f text bounds ⊎ IsWithinLine f text bounds → HasReachedIn f text bounds f.outcome
+pub reached_at : (f : PieceFinderState) (text : List ℕ) (bounds : List Bound) → f.outcome ≡ outcome.Open → IsBetweenLines f text bounds ⊎ IsWithinLine f text bounds → HasReachedIn f text bounds f.outcome
 reached_at f text bounds opened h = subst (HasReachedIn f text bounds) (sym opened) h
 
-pub reached_so : (f : PieceFinding) (text : List ℕ) (bounds : List Bound) → f.outcome ≡ outcome.Open → HasFoundIn f text bounds → IsBetweenLines f text bounds ⊎ IsWithinLine f text bounds
+pub reached_so : (f : PieceFinderState) (text : List ℕ) (bounds : List Bound) → f.outcome ≡ outcome.Open → HasFoundIn f text bounds → IsBetweenLines f text bounds ⊎ IsWithinLine f text bounds
 reached_so f text bounds opened h = subst (HasReachedIn f text bounds) opened h.reached
 
 -- what becomes of a finder between two lines, whatever the next line is
-pub found_followed : SettledLaws → (f new : PieceFinding) (text : List ℕ) (bounds : List Bound) (line : LogicalLine) (place : Place) (s : Step) (result : Result (Unit {0}) FindError) → f.outcome ≡ outcome.Open → IsReadyAt f text bounds line place → HasStopped text f.cursor bounds → Judges (options_for f) line s → FollowsStep f place s result new → HasFoundIn new text bounds
-found_followed laws f new text bounds line place (step.Bindings bindings) result opened r stopped judged follows = subst (λ (g : PieceFinding). HasFoundIn g text bounds) (sym follows.1) (record { stopped = stopped; reached = reached_at (with_read f place (map bound_of bindings.items)) text bounds opened (inr (read_bindings laws f text bounds line place (map bound_of bindings.items) r judged.0 judged.1)) })
-found_followed laws f new text bounds line place step.End result opened r stopped judged follows = subst (λ (g : PieceFinding). HasFoundIn g text bounds) (sym follows.1) (record { stopped = stopped; reached = read_top laws f text bounds line place r judged })
-found_followed laws f new text bounds line place (step.Fault fault) result opened r stopped judged follows = subst (λ (g : PieceFinding). HasFoundIn g text bounds) (sym follows.1) (read_bad laws f text bounds line place fault r judged.0 judged.1 stopped)
-found_followed laws f new text bounds line place step.LineLost result opened r stopped judged follows = subst (λ (g : PieceFinding). HasFoundIn g text bounds) (sym follows.1) (record { stopped = stopped; reached = reached_at (with_unread f) text bounds opened (inl (between_unread f text bounds r.between)) })
+pub found_followed : SettledLaws → (f new : PieceFinderState) (text : List ℕ) (bounds : List Bound) (line : LogicalLine) (place : Place) (s : Step) (result : Result (Unit {0}) FindError) → f.outcome ≡ outcome.Open → IsReadyAt f text bounds line place → HasStopped text f.cursor bounds → Judges (options_for f) line s → FollowsStep f place s result new → HasFoundIn new text bounds
+found_followed laws f new text bounds line place (step.Bindings bindings) result opened r stopped judged follows = subst (λ (g : PieceFinderState). HasFoundIn g text bounds) (sym follows.1) (record { stopped = stopped; reached = reached_at (with_read f place (map bound_of bindings.items)) text bounds opened (inr (read_bindings laws f text bounds line place (map bound_of bindings.items) r judged.0 judged.1)) })
+found_followed laws f new text bounds line place step.End result opened r stopped judged follows = subst (λ (g : PieceFinderState). HasFoundIn g text bounds) (sym follows.1) (record { stopped = stopped; reached = read_top laws f text bounds line place r judged })
+found_followed laws f new text bounds line place (step.Fault fault) result opened r stopped judged follows = subst (λ (g : PieceFinderState). HasFoundIn g text bounds) (sym follows.1) (read_bad laws f text bounds line place fault r judged.0 judged.1 stopped)
+found_followed laws f new text bounds line place step.LineLost result opened r stopped judged follows = subst (λ (g : PieceFinderState). HasFoundIn g text bounds) (sym follows.1) (record { stopped = stopped; reached = reached_at (with_unread f) text bounds opened (inl (between_unread f text bounds r.between)) })
 found_followed laws f new text bounds line place step.NoMemory result opened r stopped judged follows = absurd judged
 
 -- the line that is ready was read
-pub found_judged : SettledLaws → (f new : PieceFinding) (text : List ℕ) (bounds : List Bound) (result : Result (Unit {0}) FindError) → f.outcome ≡ outcome.Open → JudgesReady f result new → IsAtGap f text bounds → HasStopped text f.cursor bounds → HasFoundIn new text bounds
+pub found_judged : SettledLaws → (f new : PieceFinderState) (text : List ℕ) (bounds : List Bound) (result : Result (Unit {0}) FindError) → f.outcome ≡ outcome.Open → JudgesReady f result new → IsAtGap f text bounds → HasStopped text f.cursor bounds → HasFoundIn new text bounds
 found_judged laws f new text bounds result opened j between stopped = found_followed laws f new text bounds j.line j.place j.step result opened (record { between = between; ready = j.ready; some_text = j.some_text; here = j.here }) stopped j.judges j.follows
 
 -- a line that was read is let go
-within_gone : (f : PieceFinding) (s : Scanning) (text : List ℕ) (bounds : List Bound) → f.pending.left ≡ [] → Releases f.scanning s → IsWithinLine f text bounds → IsBetweenLines (record f { scanning = s }) text bounds
+within_gone : (f : PieceFinderState) (s : ScannerState) (text : List ℕ) (bounds : List Bound) → f.pending.left ≡ [] → Releases f.scanning s → IsWithinLine f text bounds → IsBetweenLines (record f { scanning = s }) text bounds
 within_gone f s text bounds none r w =
     let same : r.unit ≡ w.line = let e : Some r.unit ≡ Some w.line = sym r.was ∙ w.ready in cc in
     let released = gone w.lines w.line same w.released in
@@ -239,12 +239,12 @@ within_gone f s text bounds none r w =
 none_or_some : (r : Option LogicalLine) (line : LogicalLine) → r ≡ None → r ≡ Some line → ⊥
 none_or_some r line h k = cc
 
-gone_either : (f : PieceFinding) (s : Scanning) (text : List ℕ) (bounds : List Bound) → f.pending.left ≡ [] → f.unread ≡ false → ((f.scanning.ready ≡ None) × (s ≡ f.scanning)) ⊎ Releases f.scanning s → IsBetweenLines f text bounds ⊎ IsWithinLine f text bounds → IsBetweenLines (record f { scanning = s }) text bounds
-gone_either f s text bounds none read (inl here) (inl b) = subst (λ (x : Scanning). IsBetweenLines (record f { scanning = x }) text bounds) (sym here.1) (record { none = b.none; behind = b.behind; released = b.released; unread = b.unread; stands = b.stands })
+gone_either : (f : PieceFinderState) (s : ScannerState) (text : List ℕ) (bounds : List Bound) → f.pending.left ≡ [] → f.unread ≡ false → ((f.scanning.ready ≡ None) × (s ≡ f.scanning)) ⊎ Releases f.scanning s → IsBetweenLines f text bounds ⊎ IsWithinLine f text bounds → IsBetweenLines (record f { scanning = s }) text bounds
+gone_either f s text bounds none read (inl here) (inl b) = subst (λ (x : ScannerState). IsBetweenLines (record f { scanning = x }) text bounds) (sym here.1) (record { none = b.none; behind = b.behind; released = b.released; unread = b.unread; stands = b.stands })
 gone_either f s text bounds none read (inl here) (inr w) = absurd (none_or_some _ w.line here.0 w.ready)
 gone_either f s text bounds none read (inr r) (inl b) = absurd (none_or_some _ r.unit (b.unread read) r.was)
 gone_either f s text bounds none read (inr r) (inr w) = within_gone f s text bounds none r w
 
 -- the line that was read last is let go, once nothing of it is left
-pub let_go_between : (f new : PieceFinding) (text : List ℕ) (bounds : List Bound) → f.outcome ≡ outcome.Open → f.pending.left ≡ [] → f.unread ≡ false → LetsGo f new → HasFoundIn f text bounds → IsBetweenLines new text bounds
-let_go_between f new text bounds opened none read l h = subst (λ (g : PieceFinding). IsBetweenLines g text bounds) (sym l.rest) (gone_either f new.scanning text bounds none read l.scanner (reached_so f text bounds opened h))
+pub let_go_between : (f new : PieceFinderState) (text : List ℕ) (bounds : List Bound) → f.outcome ≡ outcome.Open → f.pending.left ≡ [] → f.unread ≡ false → LetsGo f new → HasFoundIn f text bounds → IsBetweenLines new text bounds
+let_go_between f new text bounds opened none read l h = subst (λ (g : PieceFinderState). IsBetweenLines g text bounds) (sym l.rest) (gone_either f new.scanning text bounds none read l.scanner (reached_so f text bounds opened h))

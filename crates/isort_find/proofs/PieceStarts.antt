@@ -6,11 +6,11 @@ use Rattle.py_lines.specs.Piece.{spelled}
 use Rattle.py_lines.specs.LogicalLine.{LogicalLine, ends_line, line_ends}
 use Rattle.py_lines.specs.Given.{AreFirstLines}
 use Rattle.py_lines.specs.Reader.{HasGiven, standing_at}
-use Rattle.py_lines.specs.Scanning.{Scanning, begun_at, IsScanning}
+use Rattle.py_lines.specs.ScannerState.{ScannerState, begun_at, IsScanning}
 use Rattle.py_imports.specs.Bound.{Bound}
-use Rattle.isort_find.specs.Cursor.{Standing, first_standing, keys_of, HasStopped}
-use Rattle.isort_find.specs.Pending.{Looking}
-use Rattle.isort_find.specs.Pieces.{piece_finding, IsBetweenLines, HasFoundIn}
+use Rattle.isort_find.specs.Cursor.{CursorState, first_standing, keys_of, HasStopped}
+use Rattle.isort_find.specs.Pending.{PendingState}
+use Rattle.isort_find.specs.Pieces.{piece_finder_state, IsBetweenLines, HasFoundIn}
 use Rattle.isort_find.specs.declared.options.FindOptions.{FindOptions}
 use Rattle.isort_find.specs.declared.options.ImportKey.{ImportKey}
 use Rattle.isort_find.specs.declared.finder.Outcome.TheVariants as outcome
@@ -39,27 +39,27 @@ no_keys None = refl
 no_keys (Some key) = refl
 
 -- a cursor at the start of a text
-stopped_first : (text : List ℕ) (options : FindOptions) (cursor : Standing) → cursor ≡ first_standing options → HasGiven (standing_at text 0 1) [] → HasStopped text cursor []
-stopped_first text options cursor is given = subst (λ (c : Standing). HasStopped text c []) (sym is) (record {
+stopped_first : (text : List ℕ) (options : FindOptions) (cursor : CursorState) → cursor ≡ first_standing options → HasGiven (standing_at text 0 1) [] → HasStopped text cursor []
+stopped_first text options cursor is given = subst (λ (c : CursorState). HasStopped text c []) (sym is) (record {
   behind = record { lines = []; before = []; part = []; given = given; binds = refl; in_top = refl; is_part = (refl, inl refl); found = refl };
   keys = no_keys options.unique;
   given = refl;
 })
 
 -- a finder over pieces begins before the first line
-pub begins_between : (s : Scanning) (p : Looking) (passed : ℕ) (options : FindOptions) (cursor : Standing) → s ≡ begun_at 0 1 → ((text : List ℕ) → IsScanning s text []) → p.left ≡ [] → cursor ≡ first_standing options → (text : List ℕ) → IsBetweenLines (piece_finding s false 0 p outcome.Open passed cursor) text []
+pub begins_between : (s : ScannerState) (p : PendingState) (passed : ℕ) (options : FindOptions) (cursor : CursorState) → s ≡ begun_at 0 1 → ((text : List ℕ) → IsScanning s text []) → p.left ≡ [] → cursor ≡ first_standing options → (text : List ℕ) → IsBetweenLines (piece_finder_state s false 0 p outcome.Open passed cursor) text []
 begins_between s p passed options cursor start scans left is text = record {
   none = left;
   behind = record { lines = []; before = []; part = []; given = given_first text s.place s.line [] (scans text).first; binds = refl; in_top = refl; is_part = (refl, inl refl); found = refl };
   released = inl (scans text);
-  unread = λ e. ap (λ (x : Scanning). x.ready) start;
+  unread = λ e. ap (λ (x : ScannerState). x.ready) start;
   stands = inl refl;
 }
 
 -- so nothing was given
-pub begins_pieces : (s : Scanning) (p : Looking) (passed : ℕ) (options : FindOptions) (cursor : Standing) → s ≡ begun_at 0 1 → ((text : List ℕ) → IsScanning s text []) → p.left ≡ [] → cursor ≡ first_standing options → (text : List ℕ) → HasFoundIn (piece_finding s false 0 p outcome.Open passed cursor) text []
+pub begins_pieces : (s : ScannerState) (p : PendingState) (passed : ℕ) (options : FindOptions) (cursor : CursorState) → s ≡ begun_at 0 1 → ((text : List ℕ) → IsScanning s text []) → p.left ≡ [] → cursor ≡ first_standing options → (text : List ℕ) → HasFoundIn (piece_finder_state s false 0 p outcome.Open passed cursor) text []
 begins_pieces s p passed options cursor start scans left is text = record {
-  stopped = stopped_first text options cursor is (given_first text 0 1 [] (subst (λ (x : Scanning). AreFirstLines text x.place x.line []) start (scans text).first));
+  stopped = stopped_first text options cursor is (given_first text 0 1 [] (subst (λ (x : ScannerState). AreFirstLines text x.place x.line []) start (scans text).first));
   reached = inl (begins_between s p passed options cursor start scans left is text);
 }
 
@@ -67,7 +67,7 @@ bounded : (n m : ℕ) → 1 ≤ n → n ≤ m + 1 → n ≡ min (max n 1) (m + 1
 bounded n m h k = omega (arith, h, k)
 
 -- a finder over pieces goes on from a cursor
-pub resumes_pieces : (s : Scanning) (skip : ℕ) (p : Looking) (passed : ℕ) (cursor : Standing) (line : ℕ) → line ≡ min (max cursor.line 1) (cursor.offset + 1) → s ≡ begun_at cursor.offset line → ((text : List ℕ) (lines : List LogicalLine) → AreFirstLines text cursor.offset line lines → IsScanning s text lines) → skip ≡ cursor.taken → p.left ≡ [] → (text : List ℕ) (bounds : List Bound) → HasStopped text cursor bounds → HasFoundIn (piece_finding s false skip p outcome.Open passed cursor) text bounds
+pub resumes_pieces : (s : ScannerState) (skip : ℕ) (p : PendingState) (passed : ℕ) (cursor : CursorState) (line : ℕ) → line ≡ min (max cursor.line 1) (cursor.offset + 1) → s ≡ begun_at cursor.offset line → ((text : List ℕ) (lines : List LogicalLine) → AreFirstLines text cursor.offset line lines → IsScanning s text lines) → skip ≡ cursor.taken → p.left ≡ [] → (text : List ℕ) (bounds : List Bound) → HasStopped text cursor bounds → HasFoundIn (piece_finder_state s false skip p outcome.Open passed cursor) text bounds
 resumes_pieces s skip p passed cursor line is start scans looked left text bounds h =
     let b = h.behind in
     let place = line_of_place text cursor.offset cursor.line b.lines b.given in
@@ -79,12 +79,12 @@ resumes_pieces s skip p passed cursor line is start scans looked left text bound
         none = left;
         behind = record { lines = b.lines; before = b.before; part = b.part; given = given_first text s.place s.line b.lines scanning.first; binds = b.binds; in_top = b.in_top; is_part = (looked ∙ b.is_part.0, b.is_part.1); found = b.found };
         released = inl scanning;
-        unread = λ e. ap (λ (x : Scanning). x.ready) start;
-        stands = inr (ap (λ (x : Scanning). x.place) (sym start));
+        unread = λ e. ap (λ (x : ScannerState). x.ready) start;
+        stands = inr (ap (λ (x : ScannerState). x.place) (sym start));
       });
     }
 
 -- the same, with the cursor's place and line by themselves
-pub resumes_from : (s : Scanning) (skip : ℕ) (p : Looking) (passed : ℕ) (cursor : Standing) (offset number most line : ℕ) → offset ≡ cursor.offset → number ≡ cursor.line → most ≡ max number 1 → line ≡ min most (offset + 1) → s ≡ begun_at offset line → ((text : List ℕ) (lines : List LogicalLine) → AreFirstLines text offset line lines → IsScanning s text lines) → skip ≡ cursor.taken → p.left ≡ [] → (text : List ℕ) (bounds : List Bound) → HasStopped text cursor bounds → HasFoundIn (piece_finding s false skip p outcome.Open passed cursor) text bounds
+pub resumes_from : (s : ScannerState) (skip : ℕ) (p : PendingState) (passed : ℕ) (cursor : CursorState) (offset number most line : ℕ) → offset ≡ cursor.offset → number ≡ cursor.line → most ≡ max number 1 → line ≡ min most (offset + 1) → s ≡ begun_at offset line → ((text : List ℕ) (lines : List LogicalLine) → AreFirstLines text offset line lines → IsScanning s text lines) → skip ≡ cursor.taken → p.left ≡ [] → (text : List ℕ) (bounds : List Bound) → HasStopped text cursor bounds → HasFoundIn (piece_finder_state s false skip p outcome.Open passed cursor) text bounds
 resumes_from s skip p passed cursor offset number most line here there up down start scans looked left =
     resumes_pieces s skip p passed cursor line (down ∙ (λ i. min ((up ∙ ap (λ n. max n 1) there) i) (here i + 1))) (start ∙ ap (λ n. begun_at n line) here) (λ text lines. subst (λ (n : ℕ). AreFirstLines text n line lines → IsScanning s text lines) here (scans text lines)) looked left

@@ -4,17 +4,17 @@ use Rattle.std.specs.List.{list_all}
 use Rattle.py_lines.specs.LogicalLine.{LogicalLine}
 use Rattle.py_lines.specs.Settled.{IsSettled}
 use Rattle.py_lines.specs.Reader.{HasGiven, standing_at}
-use Rattle.py_lines.specs.Scanning.{Scanning, fed_of}
+use Rattle.py_lines.specs.ScannerState.{ScannerState, fed_of}
 use Rattle.py_lines.specs.declared.fault.Fault.{Fault}
 use Rattle.py_imports.specs.Bound.{Bound}
 use Rattle.py_imports.specs.Binds.{Binds, BindAll}
 use Rattle.isort_find.specs.Key.{Key}
 use Rattle.isort_find.specs.Found.{firsts, has_one_like, ends_top, counted_lines, AreFound, of_all}
 use Rattle.isort_find.specs.Settled.{IsFoundSettled}
-use Rattle.isort_find.specs.Cursor.{Standing, next_count, keys_of, IsBehind, HasStopped, has_key}
+use Rattle.isort_find.specs.Cursor.{CursorState, next_count, keys_of, IsAfter, HasStopped, has_key}
 use Rattle.isort_find.specs.Finder.{BindsFrom}
-use Rattle.isort_find.specs.Pending.{Looking}
-use Rattle.isort_find.specs.Pieces.{PieceFinding, options_for, fed_by, AreKnown, IsBetweenLines, IsWithinLine, HasFoundIn, AreSettled}
+use Rattle.isort_find.specs.Pending.{PendingState}
+use Rattle.isort_find.specs.Pieces.{PieceFinderState, options_for, fed_by, AreKnown, IsBetweenLines, IsWithinLine, HasFoundIn, AreSettled}
 use Rattle.isort_find.specs.Steps.Feedings.{LooksAhead}
 use Rattle.isort_find.specs.Steps.Lookings.{Looks, Passes, TakesNew}
 use Rattle.isort_find.specs.declared.options.FindOptions.{FindOptions}
@@ -32,7 +32,7 @@ use Rattle.isort_find.proofs.SettledFoundLemmas.{SettledLaws}
 use Rattle.isort_find.proofs.PieceReading.{known_begins, reached_at, reached_so}
 
 -- bindings with known keys were looked at inside a line
-line_passed : (f : PieceFinding) (text : List ℕ) (bounds : List Bound) (p : Looking) → HasStopped text f.cursor bounds → Passes f.cursor f.pending p → IsWithinLine f text bounds → IsWithinLine (record f { pending = p }) text bounds
+line_passed : (f : PieceFinderState) (text : List ℕ) (bounds : List Bound) (p : PendingState) → HasStopped text f.cursor bounds → Passes f.cursor f.pending p → IsWithinLine f text bounds → IsWithinLine (record f { pending = p }) text bounds
 line_passed f text bounds p stopped passes w = record {
   lines = w.lines;
   line = w.line;
@@ -53,25 +53,25 @@ line_passed f text bounds p stopped passes w = record {
 }
 
 -- between two lines nothing is left to look at
-gap_passed : (f : PieceFinding) (text : List ℕ) (bounds : List Bound) (p : Looking) → Passes f.cursor f.pending p → IsBetweenLines f text bounds → IsBetweenLines (record f { pending = p }) text bounds
+gap_passed : (f : PieceFinderState) (text : List ℕ) (bounds : List Bound) (p : PendingState) → Passes f.cursor f.pending p → IsBetweenLines f text bounds → IsBetweenLines (record f { pending = p }) text bounds
 gap_passed f text bounds p passes b = record { none = nothing_dropped passes.dropped p.left (sym b.none ∙ passes.split); behind = b.behind; released = b.released; unread = b.unread; stands = b.stands }
 
-either_looked : (f : PieceFinding) (text : List ℕ) (bounds : List Bound) (p : Looking) → HasStopped text f.cursor bounds → Passes f.cursor f.pending p → IsBetweenLines f text bounds ⊎ IsWithinLine f text bounds → IsBetweenLines (record f { pending = p }) text bounds ⊎ IsWithinLine (record f { pending = p }) text bounds
+either_looked : (f : PieceFinderState) (text : List ℕ) (bounds : List Bound) (p : PendingState) → HasStopped text f.cursor bounds → Passes f.cursor f.pending p → IsBetweenLines f text bounds ⊎ IsWithinLine f text bounds → IsBetweenLines (record f { pending = p }) text bounds ⊎ IsWithinLine (record f { pending = p }) text bounds
 either_looked f text bounds p stopped passes (inl b) = inl (gap_passed f text bounds p passes b)
 either_looked f text bounds p stopped passes (inr w) = inr (line_passed f text bounds p stopped passes w)
 
 -- bindings with known keys were looked at
-pub pieces_passed : (f : PieceFinding) (text : List ℕ) (bounds : List Bound) (p : Looking) → f.outcome ≡ outcome.Open → Passes f.cursor f.pending p → HasFoundIn f text bounds → HasFoundIn (record f { pending = p }) text bounds
+pub pieces_passed : (f : PieceFinderState) (text : List ℕ) (bounds : List Bound) (p : PendingState) → f.outcome ≡ outcome.Open → Passes f.cursor f.pending p → HasFoundIn f text bounds → HasFoundIn (record f { pending = p }) text bounds
 pieces_passed f text bounds p opened passes h = record {
   stopped = h.stopped;
   reached = reached_at (record f { pending = p }) text bounds opened (either_looked f text bounds p h.stopped passes (reached_so f text bounds opened h));
 }
 
-pub looked_ahead : (f new : PieceFinding) (text : List ℕ) (bounds : List Bound) → f.outcome ≡ outcome.Open → LooksAhead f new → HasFoundIn f text bounds → HasFoundIn new text bounds
-looked_ahead f new text bounds opened l h = subst (λ (g : PieceFinding). HasFoundIn g text bounds) (sym l.same) (pieces_passed f text bounds l.looking opened l.passes h)
+pub looked_ahead : (f new : PieceFinderState) (text : List ℕ) (bounds : List Bound) → f.outcome ≡ outcome.Open → LooksAhead f new → HasFoundIn f text bounds → HasFoundIn new text bounds
+looked_ahead f new text bounds opened l h = subst (λ (g : PieceFinderState). HasFoundIn g text bounds) (sym l.same) (pieces_passed f text bounds l.looking opened l.passes h)
 
 -- a binding with a new key was looked at
-line_given : (f : PieceFinding) (text : List ℕ) (bounds : List Bound) (p : Looking) (b : Bound) → HasStopped text f.cursor bounds → has_key (options_for f).unique f.cursor.keys b ≡ false → Looks f.pending b p → IsWithinLine f text bounds → IsWithinLine (record f { pending = p; cursor = given_at f.cursor p b }) text (bounds ++ b ∷ [])
+line_given : (f : PieceFinderState) (text : List ℕ) (bounds : List Bound) (p : PendingState) (b : Bound) → HasStopped text f.cursor bounds → has_key (options_for f).unique f.cursor.keys b ≡ false → Looks f.pending b p → IsWithinLine f text bounds → IsWithinLine (record f { pending = p; cursor = given_at f.cursor p b }) text (bounds ++ b ∷ [])
 line_given f text bounds p b stopped new looks w =
     let looked = w.before ++ w.part in
     let unique = (options_for f).unique in
@@ -96,7 +96,7 @@ line_given f text bounds p b stopped new looks w =
     }
 
 -- inside a line a finder may stop
-line_behind : SettledLaws → (f : PieceFinding) (text : List ℕ) (bounds : List Bound) → IsWithinLine f text bounds → IsBehind text (options_for f) f.pending.place.offset f.pending.place.line f.pending.taken bounds
+line_behind : SettledLaws → (f : PieceFinderState) (text : List ℕ) (bounds : List Bound) → IsWithinLine f text bounds → IsAfter text (options_for f) f.pending.place.offset f.pending.place.line f.pending.taken bounds
 line_behind laws f text bounds w = record {
   lines = w.lines;
   before = w.before;
@@ -109,16 +109,16 @@ line_behind laws f text bounds w = record {
 }
 
 -- what there is once a binding was given: the state, its line, and that it is settled
-pub record HasGivenOne (f : PieceFinding) (text : List ℕ) (bounds : List Bound) (b : Bound) : Type 0 where
+pub record HasGivenOne (f : PieceFinderState) (text : List ℕ) (bounds : List Bound) (b : Bound) : Type 0 where
   pub within : IsWithinLine f text (bounds ++ b ∷ [])
   pub stopped : HasStopped text f.cursor (bounds ++ b ∷ [])
   pub from : BindsFrom text f.cursor.offset b
 
-one_given : SettledLaws → (f : PieceFinding) (text : List ℕ) (bounds : List Bound) (p : Looking) (b : Bound) → HasStopped text f.cursor bounds → has_key (options_for f).unique f.cursor.keys b ≡ false → Looks f.pending b p → IsBetweenLines f text bounds ⊎ IsWithinLine f text bounds → HasGivenOne (record f { pending = p; cursor = given_at f.cursor p b }) text bounds b
+one_given : SettledLaws → (f : PieceFinderState) (text : List ℕ) (bounds : List Bound) (p : PendingState) (b : Bound) → HasStopped text f.cursor bounds → has_key (options_for f).unique f.cursor.keys b ≡ false → Looks f.pending b p → IsBetweenLines f text bounds ⊎ IsWithinLine f text bounds → HasGivenOne (record f { pending = p; cursor = given_at f.cursor p b }) text bounds b
 one_given laws f text bounds p b stopped new looks (inl between) = absurd (none_is_some [] p.left b (sym between.none ∙ looks.left))
 one_given laws f text bounds p b stopped new looks (inr within) =
     let w = line_given f text bounds p b stopped new looks within in
-    let g : PieceFinding = record f { pending = p; cursor = given_at f.cursor p b } in
+    let g : PieceFinderState = record f { pending = p; cursor = given_at f.cursor p b } in
     record {
       within = w;
       stopped = record {
@@ -136,15 +136,15 @@ one_given laws f text bounds p b stopped new looks (inr within) =
     }
 
 -- the next binding was given
-pub pieces_given : SettledLaws → (f : PieceFinding) (text : List ℕ) (bounds : List Bound) (t : Standing) (p : Looking) (b : Bound) → f.outcome ≡ outcome.Open → TakesNew f.cursor f.pending b t p → HasFoundIn f text bounds → HasGivenOne (record f { pending = p; cursor = t }) text bounds b
+pub pieces_given : SettledLaws → (f : PieceFinderState) (text : List ℕ) (bounds : List Bound) (t : CursorState) (p : PendingState) (b : Bound) → f.outcome ≡ outcome.Open → TakesNew f.cursor f.pending b t p → HasFoundIn f text bounds → HasGivenOne (record f { pending = p; cursor = t }) text bounds b
 pieces_given laws f text bounds t p b opened takes h =
     let new : has_key (options_for f).unique f.cursor.keys b ≡ false = not_not _ takes.admits.answer in
-    let mid : PieceFinding = record f { pending = takes.between } in
+    let mid : PieceFinderState = record f { pending = takes.between } in
     let q = pieces_passed f text bounds takes.between opened takes.passes h in
-    subst (λ (s : Standing). HasGivenOne (record f { pending = p; cursor = s }) text bounds b) (sym (gives_at f.cursor t f.pending p b takes)) (one_given laws mid text bounds p b q.stopped new takes.looks (reached_so mid text bounds opened q))
+    subst (λ (s : CursorState). HasGivenOne (record f { pending = p; cursor = s }) text bounds b) (sym (gives_at f.cursor t f.pending p b takes)) (one_given laws mid text bounds p b q.stopped new takes.looks (reached_so mid text bounds opened q))
 
 -- so it has found one more
-pub found_one : (f : PieceFinding) (text : List ℕ) (bounds : List Bound) (b : Bound) → f.outcome ≡ outcome.Open → HasGivenOne f text bounds b → HasFoundIn f text (bounds ++ b ∷ [])
+pub found_one : (f : PieceFinderState) (text : List ℕ) (bounds : List Bound) (b : Bound) → f.outcome ≡ outcome.Open → HasGivenOne f text bounds b → HasFoundIn f text (bounds ++ b ∷ [])
 found_one f text bounds b opened g = record { stopped = g.stopped; reached = reached_at f text (bounds ++ b ∷ []) opened (inr g.within) }
 
 -- the law `one` of `py_lines::settled_is_final`
@@ -159,7 +159,7 @@ found_in_settled laws one known options lines all found bad settled binds in_top
     let are = subst (λ (ls : List LogicalLine). AreFound options.unique ls None found bad) counted s.found in
     (one_of laws.ends options.unique lines None found (firsts options.unique [] all) bad None are (of_all options.unique lines None (firsts options.unique [] all) None all binds refl refl)).0
 
-pub settled_or_ended : (s : Scanning) (text : List ℕ) (lines : List LogicalLine) → s.ended ≡ false → AreKnown s text lines → IsSettled (take (fed_of s) text) lines
+pub settled_or_ended : (s : ScannerState) (text : List ℕ) (lines : List LogicalLine) → s.ended ≡ false → AreKnown s text lines → IsSettled (take (fed_of s) text) lines
 settled_or_ended s text lines yet (inl settled) = settled
 settled_or_ended s text lines yet (inr ended) = absurd (both _ yet ended.0)
   where
@@ -167,7 +167,7 @@ settled_or_ended s text lines yet (inr ended) = absurd (both _ yet ended.0)
     both b h k = cc
 
 -- inside a line that is settled what was given is settled
-pub given_settled : SettledLaws → OneSettled → (f : PieceFinding) (text : List ℕ) (bounds : List Bound) → f.outcome ≡ outcome.Open → f.scanning.ended ≡ false → IsWithinLine f text bounds → AreSettled f text bounds
+pub given_settled : SettledLaws → OneSettled → (f : PieceFinderState) (text : List ℕ) (bounds : List Bound) → f.outcome ≡ outcome.Open → f.scanning.ended ≡ false → IsWithinLine f text bounds → AreSettled f text bounds
 given_settled laws one f text bounds opened yet w =
     let lines = w.lines ++ w.line ∷ [] in
     let left = f.pending.left in

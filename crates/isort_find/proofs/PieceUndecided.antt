@@ -4,13 +4,13 @@ use Rattle.std.proofs.Math.Seq.{take-add}
 use Rattle.py_lines.specs.LogicalLine.{LogicalLine}
 use Rattle.py_lines.specs.Lexed.{IsLexed}
 use Rattle.py_lines.specs.Settled.{Decides}
-use Rattle.py_lines.specs.Scanning.{fed_of}
+use Rattle.py_lines.specs.ScannerState.{fed_of}
 use Rattle.py_lines.specs.declared.fault.Fault.{Fault}
 use Rattle.py_imports.specs.Bound.{Bound}
 use Rattle.py_imports.specs.Binds.{BindAll}
 use Rattle.isort_find.specs.Found.{firsts, ends_top, of_all, IsFound}
 use Rattle.isort_find.specs.Settled.{IsFoundSettled, SettlesBadLine, DecidesFound}
-use Rattle.isort_find.specs.Pieces.{PieceFinding, options_for, fed_by, fed_in, has_ready, ready_in, are_left, IsBetweenLines, IsWithinLine, IsAtTopEnd, HasReachedIn, HasFoundIn, AreAllSettled, IsUndecided}
+use Rattle.isort_find.specs.Pieces.{PieceFinderState, options_for, fed_by, fed_in, has_ready, ready_in, are_left, IsBetweenLines, IsWithinLine, IsAtTopEnd, HasReachedIn, HasFoundIn, AreAllSettled, IsUndecided}
 use Rattle.isort_find.specs.Steps.Feedings.{IsDrained}
 use Rattle.isort_find.specs.declared.finder.Outcome.{Outcome}
 use Rattle.isort_find.specs.declared.finder.Outcome.TheVariants as outcome
@@ -33,13 +33,13 @@ none_left [] h = refl
 none_left (b ∷ bs) h = absurd cc
 
 -- nothing is unread and nothing is left, where nothing is ready
-pub nothing_ready : (f : PieceFinding) → f.outcome ≡ outcome.Open → has_ready f ≡ false → (f.unread ≡ false) × (f.pending.left ≡ [])
+pub nothing_ready : (f : PieceFinderState) → f.outcome ≡ outcome.Open → has_ready f ≡ false → (f.unread ≡ false) × (f.pending.left ≡ [])
 nothing_ready f opened none =
     let parts = neither f.unread (are_left f.pending.left) ((λ i. ready_in (sym opened i) f.unread f.pending.left) ∙ none) in
     (parts.0, none_left f.pending.left parts.1)
 
 -- inside a line of which nothing is left, all that is settled was given
-within_settled : SettledLaws → OneSettled → (f : PieceFinding) (text : List ℕ) (bounds : List Bound) → f.outcome ≡ outcome.Open → f.scanning.ended ≡ false → f.pending.left ≡ [] → IsWithinLine f text bounds → AreAllSettled f text bounds
+within_settled : SettledLaws → OneSettled → (f : PieceFinderState) (text : List ℕ) (bounds : List Bound) → f.outcome ≡ outcome.Open → f.scanning.ended ≡ false → f.pending.left ≡ [] → IsWithinLine f text bounds → AreAllSettled f text bounds
 within_settled laws one f text bounds opened yet none w =
     let lines = w.lines ++ w.line ∷ [] in
     let left = f.pending.left in
@@ -57,7 +57,7 @@ some_or_none : (r : Option LogicalLine) (line : LogicalLine) → r ≡ None → 
 some_or_none r line h k = cc
 
 -- what is found is given, where nothing is ready
-pub all_settled : SettledLaws → OneSettled → AscentLaws → (f : PieceFinding) (text : List ℕ) (bounds : List Bound) → f.scanning.ended ≡ false → ((fault : Fault) → f.outcome ≡ outcome.Fault fault → ⊥) → has_ready f ≡ false → HasFoundIn f text bounds → AreAllSettled f text bounds
+pub all_settled : SettledLaws → OneSettled → AscentLaws → (f : PieceFinderState) (text : List ℕ) (bounds : List Bound) → f.scanning.ended ≡ false → ((fault : Fault) → f.outcome ≡ outcome.Fault fault → ⊥) → has_ready f ≡ false → HasFoundIn f text bounds → AreAllSettled f text bounds
 all_settled laws one ascent f text bounds yet fine none h = by f.outcome refl
   where
     open_so : f.outcome ≡ outcome.Open → IsBetweenLines f text bounds ⊎ IsWithinLine f text bounds → AreAllSettled f text bounds
@@ -70,7 +70,7 @@ all_settled laws one ascent f text bounds yet fine none h = by f.outcome refl
     by (outcome.Fault fault) is = absurd (fine fault is)
 
 -- lines that all bind have no bad one among those that are settled
-pub gap_undecided : SettledLaws → OneSettled → AscentLaws → (f : PieceFinding) (text : List ℕ) (bounds : List Bound) → f.outcome ≡ outcome.Open → f.scanning.ended ≡ false → f.scanning.ready ≡ None → ((fault : Fault) → ¬ (Decides (take (fed_of f.scanning) text) fault)) → IsBetweenLines f text bounds → IsUndecided f text
+pub gap_undecided : SettledLaws → OneSettled → AscentLaws → (f : PieceFinderState) (text : List ℕ) (bounds : List Bound) → f.outcome ≡ outcome.Open → f.scanning.ended ≡ false → f.scanning.ready ≡ None → ((fault : Fault) → ¬ (Decides (take (fed_of f.scanning) text) fault)) → IsBetweenLines f text bounds → IsUndecided f text
 gap_undecided laws one ascent f text bounds opened yet none lexical b = λ fault d. by fault (subst (λ (n : ℕ). DecidesFound (take n text) (options_for f) fault) (fed_open f opened) d).stays
   where
     by : (fault : Fault) → Decides (take (fed_of f.scanning) text) fault ⊎ SettlesBadLine (take (fed_of f.scanning) text) fault → ⊥
@@ -84,7 +84,7 @@ none_is_some : (fault : Fault) → ◌≡◌ {A = Option Fault} None (Some fault
 none_is_some fault h = cc
 
 -- after the top no fault counts
-pub top_undecided : SettledLaws → (f : PieceFinding) (text : List ℕ) (bounds : List Bound) → f.outcome ≡ outcome.End → f.scanning.ended ≡ false → IsAtTopEnd f text bounds → IsUndecided f text
+pub top_undecided : SettledLaws → (f : PieceFinderState) (text : List ℕ) (bounds : List Bound) → f.outcome ≡ outcome.End → f.scanning.ended ≡ false → IsAtTopEnd f text bounds → IsUndecided f text
 top_undecided laws f text bounds at yet t = λ fault d.
     let first = fed_of f.scanning in
     let more = f.passed - first in
@@ -103,7 +103,7 @@ open_or_end : (o : Outcome) → o ≡ outcome.Open → o ≡ outcome.End → ⊥
 open_or_end o h k = cc
 
 -- no fault is decided where nothing is ready and no line is held that was read
-pub all_undecided : SettledLaws → OneSettled → AscentLaws → (f : PieceFinding) (text : List ℕ) (bounds : List Bound) → f.scanning.ended ≡ false → ((fault : Fault) → f.outcome ≡ outcome.Fault fault → ⊥) → IsDrained f → (f.scanning.ready ≡ None → (fault : Fault) → ¬ (Decides (take (fed_of f.scanning) text) fault)) → HasFoundIn f text bounds → IsUndecided f text
+pub all_undecided : SettledLaws → OneSettled → AscentLaws → (f : PieceFinderState) (text : List ℕ) (bounds : List Bound) → f.scanning.ended ≡ false → ((fault : Fault) → f.outcome ≡ outcome.Fault fault → ⊥) → IsDrained f → (f.scanning.ready ≡ None → (fault : Fault) → ¬ (Decides (take (fed_of f.scanning) text) fault)) → HasFoundIn f text bounds → IsUndecided f text
 all_undecided laws one ascent f text bounds yet fine drained lexical h = by f.outcome refl drained
   where
     open_so : f.outcome ≡ outcome.Open → f.scanning.ready ≡ None → IsBetweenLines f text bounds ⊎ IsWithinLine f text bounds → IsUndecided f text

@@ -14,7 +14,7 @@ use Rattle.isort_find.specs.declared.pending.Place.{Place}
 
 -- the options, the byte to go on from with its line, how many bindings of the logical line there were looked at, how
 -- many were given in all, and the keys of those
-pub record Standing : Type 0 where
+pub record CursorState : Type 0 where
   pub options : FindOptions
   pub offset : ℕ
   pub line : ℕ
@@ -23,11 +23,11 @@ pub record Standing : Type 0 where
   pub keys : List Key
 
 -- what a cursor is seen as, by its fields
-abbrev pub standing : FindOptions → Place → ℕ → ℕ → List Key → Standing
+abbrev pub standing : FindOptions → Place → ℕ → ℕ → List Key → CursorState
 standing options place taken given keys = record { options = options; offset = place.offset; line = place.line; taken = taken; given = given; keys = keys }
 
 -- at the start of a text
-abbrev pub first_standing : FindOptions → Standing
+abbrev pub first_standing : FindOptions → CursorState
 first_standing options = record { options = options; offset = 0; line = 1; taken = 0; given = 0; keys = [] }
 
 -- one more than n, but never above what 64 bits hold
@@ -45,7 +45,7 @@ has_key None keys b = false
 has_key (Some key) keys b = list_any (key_eq (key_of key b)) keys
 
 -- the binding to look at next, if there is one, has a key that wasn't given
-abbrev pub BeginsNew : Standing → List Bound → Type 0
+abbrev pub BeginsNew : CursorState → List Bound → Type 0
 BeginsNew s [] = Unit {0}
 BeginsNew s (b ∷ bs) = has_key s.options.unique s.keys b ≡ false
 
@@ -63,7 +63,7 @@ IsPart text options lines taken part = (taken ≡ length part) × ((part ≡ [])
 
 -- After logical lines of the text, at this byte and line, and after the first bindings, so many, of the next line:
 -- so far these bindings were found.
-pub record IsBehind (text : List ℕ) (options : FindOptions) (offset line taken : ℕ) (bounds : List Bound) : Type 0 where
+pub record IsAfter (text : List ℕ) (options : FindOptions) (offset line taken : ℕ) (bounds : List Bound) : Type 0 where
   pub lines : List LogicalLine
   pub before : List Bound
   pub part : List Bound
@@ -74,7 +74,7 @@ pub record IsBehind (text : List ℕ) (options : FindOptions) (offset line taken
   pub found : bounds ≡ firsts options.unique [] (before ++ part)
 
 -- A finder of this text stopped here, once it had found just these first bindings.
-pub record HasStopped (text : List ℕ) (cursor : Standing) (bounds : List Bound) : Type 0 where
-  pub behind : IsBehind text cursor.options cursor.offset cursor.line cursor.taken bounds
+pub record HasStopped (text : List ℕ) (cursor : CursorState) (bounds : List Bound) : Type 0 where
+  pub behind : IsAfter text cursor.options cursor.offset cursor.line cursor.taken bounds
   pub keys : cursor.keys ≡ keys_of cursor.options.unique bounds
   pub given : cursor.given ≡ min (length bounds) (2 ^ 64 - 1)

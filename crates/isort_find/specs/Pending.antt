@@ -5,11 +5,11 @@ use Rattle.py_imports.specs.declared.binding.Binding.{Binding}
 use Rattle.isort_find.specs.declared.pending.Place.{Place}
 
 -- where the line begins, how many of its bindings were looked at, and those that are left
-pub record Looking : Type 0 where
+pub record PendingState : Type 0 where
   pub place : Place
   pub taken : ℕ
   pub left : List Bound
 
 -- the bindings that are left, by the fields of a `Pending`
-abbrev pub looking_at : Place → ℕ → List Binding → Looking
+abbrev pub looking_at : Place → ℕ → List Binding → PendingState
 looking_at place taken bindings = record { place = place; taken = taken; left = map bound_of bindings }

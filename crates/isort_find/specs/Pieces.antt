@@ -7,16 +7,16 @@ use Rattle.py_lines.specs.Lexed.{IsLexed}
 use Rattle.py_lines.specs.Settled.{IsSettled}
 use Rattle.py_lines.specs.Given.{AreFirstLines}
 use Rattle.py_lines.specs.Reader.{HasGiven, standing_at}
-use Rattle.py_lines.specs.Scanning.{Scanning, fed_of, GoesOnWith, IsScanning, HasEnded}
+use Rattle.py_lines.specs.ScannerState.{ScannerState, fed_of, GoesOnWith, IsScanning, HasEnded}
 use Rattle.py_lines.specs.declared.fault.Fault.{Fault}
 use Rattle.py_imports.specs.Bound.{Bound, bound_of}
 use Rattle.py_imports.specs.Binds.{Binds, BindAll}
 use Rattle.py_imports.specs.declared.binding.Binding.{Binding}
 use Rattle.isort_find.specs.Found.{firsts, ends_top, IsFound}
 use Rattle.isort_find.specs.Settled.{IsFoundSettled, DecidesFound}
-use Rattle.isort_find.specs.Cursor.{Standing, next_count, BeginsNew, IsBehind, HasStopped}
+use Rattle.isort_find.specs.Cursor.{CursorState, next_count, BeginsNew, IsAfter, HasStopped}
 use Rattle.isort_find.specs.Finder.{BindsFrom, MeetsEndAt, MeetsFaultAt}
-use Rattle.isort_find.specs.Pending.{Looking}
+use Rattle.isort_find.specs.Pending.{PendingState}
 use Rattle.isort_find.specs.declared.options.FindOptions.{FindOptions}
 use Rattle.isort_find.specs.declared.error.FindError.{FindError}
 use Rattle.isort_find.specs.declared.error.FindError.TheVariants as error
@@ -27,41 +27,41 @@ use Rattle.isort_find.specs.declared.finder.Outcome.TheVariants as outcome
 -- unread for want of memory; how many bindings of the next line were looked at; those left of the line read last; whether
 -- the end of the top or a fault was met; after the top, the byte up to which the text was fed; and the cursor at which the
 -- finder would stop.
-pub record PieceFinding : Type 0 where
-  pub scanning : Scanning
+pub record PieceFinderState : Type 0 where
+  pub scanning : ScannerState
   pub unread : Bool
   pub skip : ℕ
-  pub pending : Looking
+  pub pending : PendingState
   pub outcome : Outcome
   pub passed : ℕ
-  pub cursor : Standing
+  pub cursor : CursorState
 
 -- what a finder is seen as, by its fields
-abbrev pub piece_finding : Scanning → Bool → ℕ → Looking → Outcome → ℕ → Standing → PieceFinding
-piece_finding scanning unread skip pending outcome passed cursor = record { scanning = scanning; unread = unread; skip = skip; pending = pending; outcome = outcome; passed = passed; cursor = cursor }
+abbrev pub piece_finder_state : ScannerState → Bool → ℕ → PendingState → Outcome → ℕ → CursorState → PieceFinderState
+piece_finder_state scanning unread skip pending outcome passed cursor = record { scanning = scanning; unread = unread; skip = skip; pending = pending; outcome = outcome; passed = passed; cursor = cursor }
 
 -- the options of the finder
-abbrev pub options_for : PieceFinding → FindOptions
+abbrev pub options_for : PieceFinderState → FindOptions
 options_for f = f.cursor.options
 
 -- how far the text was fed: after the top by what was passed over
-abbrev pub fed_in : Outcome → Scanning → ℕ → ℕ
+abbrev pub fed_in : Outcome → ScannerState → ℕ → ℕ
 fed_in outcome.Open s passed = fed_of s
 fed_in outcome.End s passed = passed
 fed_in (outcome.Fault fault) s passed = fed_of s
 
 -- the byte of the text up to which the finder was fed
-abbrev pub fed_by : PieceFinding → ℕ
+abbrev pub fed_by : PieceFinderState → ℕ
 fed_by f = fed_in f.outcome f.scanning f.passed
 
 -- what is held of the text: nothing after the top
-abbrev pub held_in : Outcome → Scanning → List ℕ
+abbrev pub held_in : Outcome → ScannerState → List ℕ
 held_in outcome.Open s = s.held
 held_in outcome.End s = []
 held_in (outcome.Fault fault) s = s.held
 
 -- the text that the finder holds
-abbrev pub held_by : PieceFinding → List ℕ
+abbrev pub held_by : PieceFinderState → List ℕ
 held_by f = held_in f.outcome f.scanning
 
 -- whether any are left
@@ -76,39 +76,39 @@ ready_in outcome.End unread left = false
 ready_in (outcome.Fault fault) unread left = false
 
 -- whether an import is ready, or a refused growth left that open
-abbrev pub has_ready : PieceFinding → Bool
+abbrev pub has_ready : PieceFinderState → Bool
 has_ready f = ready_in f.outcome f.unread f.pending.left
 
 -- the text hasn't ended, or a fault was met: bytes may be fed, and the text may end
-abbrev pub IsOpenYet : PieceFinding → Type 0
+abbrev pub IsOpenYet : PieceFinderState → Type 0
 IsOpenYet f = ((fault : Fault) → f.outcome ≡ outcome.Fault fault → ⊥) → f.scanning.ended ≡ false
 
 -- how many bindings are left at most, where a line that was left unread has any number of them
-abbrev pub due_by : PieceFinding → ℕ
+abbrev pub due_by : PieceFinderState → ℕ
 due_by f = (if f.unread then 2 ^ 64 else 0) + length f.pending.left
 
 -- a refused growth left the last line unread, or the next of its bindings not looked at, whose key was given
-abbrev pub IsUnsure : PieceFinding → Type 0
+abbrev pub IsUnsure : PieceFinderState → Type 0
 IsUnsure f = (f.unread ≡ true) ⊎ ¬ (BeginsNew f.cursor f.pending.left)
 
 -- the scanner has released just these logical lines of the text, of which more may come or not
-abbrev pub HasReleased : Scanning → List ℕ → List LogicalLine → Type 0
+abbrev pub HasReleased : ScannerState → List ℕ → List LogicalLine → Type 0
 HasReleased s text lines = IsScanning s text lines ⊎ HasEnded s text lines
 
 -- these logical lines are settled by the bytes fed, or they are all of the text
-abbrev pub AreKnown : Scanning → List ℕ → List LogicalLine → Type 0
+abbrev pub AreKnown : ScannerState → List ℕ → List LogicalLine → Type 0
 AreKnown s text lines = IsSettled (take (fed_of s) text) lines ⊎ ((s.ended ≡ true) × IsLexed text lines None)
 
 -- between two logical lines, the next of which may be ready but was left unread
-pub record IsBetweenLines (f : PieceFinding) (text : List ℕ) (bounds : List Bound) : Type 0 where
+pub record IsBetweenLines (f : PieceFinderState) (text : List ℕ) (bounds : List Bound) : Type 0 where
   pub none : f.pending.left ≡ []
-  pub behind : IsBehind text (options_for f) f.scanning.place f.scanning.line f.skip bounds
+  pub behind : IsAfter text (options_for f) f.scanning.place f.scanning.line f.skip bounds
   pub released : HasReleased f.scanning text behind.lines
   pub unread : f.unread ≡ false → f.scanning.ready ≡ None
   pub stands : (f.skip ≡ 0) ⊎ (f.cursor.offset ≡ f.scanning.place)
 
 -- inside a logical line that was read, some of whose bindings were looked at
-pub record IsWithinLine (f : PieceFinding) (text : List ℕ) (bounds : List Bound) : Type 0 where
+pub record IsWithinLine (f : PieceFinderState) (text : List ℕ) (bounds : List Bound) : Type 0 where
   pub lines : List LogicalLine
   pub line : LogicalLine
   pub before : List Bound
@@ -127,7 +127,7 @@ pub record IsWithinLine (f : PieceFinding) (text : List ℕ) (bounds : List Boun
   pub found : bounds ≡ firsts (options_for f).unique [] (before ++ part)
 
 -- at the logical line that ends the top, which is settled
-pub record IsAtTopEnd (f : PieceFinding) (text : List ℕ) (bounds : List Bound) : Type 0 where
+pub record IsAtTopEnd (f : PieceFinderState) (text : List ℕ) (bounds : List Bound) : Type 0 where
   pub lines : List LogicalLine
   pub line : LogicalLine
   pub before : List Bound
@@ -141,32 +141,32 @@ pub record IsAtTopEnd (f : PieceFinding) (text : List ℕ) (bounds : List Bound)
   pub found : bounds ≡ firsts (options_for f).unique [] before
 
 -- where a finder has got, by whether it has met the end of the top or a fault
-abbrev pub HasReachedIn : PieceFinding → List ℕ → List Bound → Outcome → Type 0
+abbrev pub HasReachedIn : PieceFinderState → List ℕ → List Bound → Outcome → Type 0
 HasReachedIn f text bounds outcome.Open = IsBetweenLines f text bounds ⊎ IsWithinLine f text bounds
 HasReachedIn f text bounds outcome.End = IsAtTopEnd f text bounds
 HasReachedIn f text bounds (outcome.Fault fault) = IsFound text (options_for f) bounds (Some fault) × MeetsFaultAt text f.cursor.offset fault
 
 -- The finder was fed so much of this text. With those that it goes on from, it has given just these bindings: the first
 -- that are found in the text.
-pub record HasFoundIn (f : PieceFinding) (text : List ℕ) (bounds : List Bound) : Type 0 where
+pub record HasFoundIn (f : PieceFinderState) (text : List ℕ) (bounds : List Bound) : Type 0 where
   pub stopped : HasStopped text f.cursor bounds
   pub reached : HasReachedIn f text bounds f.outcome
 
 -- what the bytes fed settle of what is found begins with these bindings
-abbrev pub AreSettled : PieceFinding → List ℕ → List Bound → Type 0
+abbrev pub AreSettled : PieceFinderState → List ℕ → List Bound → Type 0
 AreSettled f text bounds = (found : List Bound) (bad : Option Fault) → IsFoundSettled (take (fed_by f) text) (options_for f) found bad → (more : List Bound) × (found ≡ bounds ++ more)
 
 -- All that the bytes fed settle of what is found was given. A cursor that the finder goes on from may have given more.
-abbrev pub AreAllSettled : PieceFinding → List ℕ → List Bound → Type 0
+abbrev pub AreAllSettled : PieceFinderState → List ℕ → List Bound → Type 0
 AreAllSettled f text bounds = (found : List Bound) (bad : Option Fault) → IsFoundSettled (take (fed_by f) text) (options_for f) found bad → (more : List Bound) × (bounds ≡ found ++ more)
 
 -- no fault is decided by the bytes fed
-abbrev pub IsUndecided : PieceFinding → List ℕ → Type 0
+abbrev pub IsUndecided : PieceFinderState → List ℕ → Type 0
 IsUndecided f text = (fault : Fault) → ¬ (DecidesFound (take (fed_by f) text) (options_for f) fault)
 
 -- The text that is held goes on from these logical lines up to where the text was fed. They are the text's first, and
 -- once a byte is held they are all that the bytes fed settle.
-pub record HoldsRest (f : PieceFinding) (text : List ℕ) : Type 0 where
+pub record HoldsRest (f : PieceFinderState) (text : List ℕ) : Type 0 where
   pub lines : List LogicalLine
   pub first : AreFirstLines text f.scanning.place f.scanning.line lines
   pub held : GoesOnWith text f.scanning.place (held_by f)
@@ -175,7 +175,7 @@ pub record HoldsRest (f : PieceFinding) (text : List ℕ) : Type 0 where
 
 -- The text that is held is the logical line that is ready, with at most one byte more. The line comes after these, and
 -- is settled by the bytes fed, or the last of the text.
-pub record HoldsLine (f : PieceFinding) (text : List ℕ) : Type 0 where
+pub record HoldsLine (f : PieceFinderState) (text : List ℕ) : Type 0 where
   pub lines : List LogicalLine
   pub line : LogicalLine
   pub more : List ℕ
@@ -188,7 +188,7 @@ pub record HoldsLine (f : PieceFinding) (text : List ℕ) : Type 0 where
 -- The finder took so many bytes of a piece: none of some only where something was ready, and after the top all. Where
 -- nothing is ready in the end, it took all, all that is settled was given, no fault is decided, and before the top's end
 -- it holds what is not settled. Else it holds the line that is ready, or a refused growth left open whether one is.
-pub record TakesPiece (old : PieceFinding) (piece : List ℕ) (n : ℕ) (new : PieceFinding) : Type 0 where
+pub record TakesPiece (old : PieceFinderState) (piece : List ℕ) (n : ℕ) (new : PieceFinderState) : Type 0 where
   pub within : n ≤ length piece
   pub found : (text : List ℕ) (bounds : List Bound) → HasFoundIn old text bounds → GoesOnWith text (fed_by old) (take n piece) → HasFoundIn new text bounds
   pub all : (text : List ℕ) (bounds : List Bound) → HasFoundIn old text bounds → GoesOnWith text (fed_by old) (take n piece) → has_ready new ≡ false → AreAllSettled new text bounds
@@ -208,7 +208,7 @@ pub record TakesPiece (old : PieceFinding) (piece : List ℕ) (n : ℕ) (new : P
 
 -- The text fed, with some of the piece, decides this fault, after the bindings given; nothing was ready. It is kept,
 -- the cursor stands at the logical line that has it, and the finder may be called again.
-pub record MeetsFaultIn (old : PieceFinding) (piece : List ℕ) (fault : Fault) (new : PieceFinding) : Type 0 where
+pub record MeetsFaultIn (old : PieceFinderState) (piece : List ℕ) (fault : Fault) (new : PieceFinderState) : Type 0 where
   pub found : (text : List ℕ) (bounds : List Bound) → HasFoundIn old text bounds → GoesOnWith text (fed_by old) piece → HasFoundIn new text bounds
   pub decided : (text : List ℕ) (bounds : List Bound) → HasFoundIn old text bounds → GoesOnWith text (fed_by old) piece → old.outcome ≡ outcome.Open → (n : ℕ) × (n ≤ length piece) × DecidesFound (take (fed_by old + n) text) (options_for old) fault
   pub none_ready : has_ready old ≡ false
@@ -221,7 +221,7 @@ pub record MeetsFaultIn (old : PieceFinding) (piece : List ℕ) (fault : Fault) 
 
 -- A growth was refused: the finder means what it meant, and no byte was taken. Where nothing is ready it holds what is not
 -- settled, and else what it held.
-pub record KeepsAll (old new : PieceFinding) : Type 0 where
+pub record PieceFinderRunsOut (old new : PieceFinderState) : Type 0 where
   pub found : (text : List ℕ) (bounds : List Bound) → HasFoundIn old text bounds → HasFoundIn new text bounds
   pub rest : (text : List ℕ) (bounds : List Bound) → HasFoundIn old text bounds → old.scanning.ended ≡ false → has_ready old ≡ false → HoldsRest new text
   pub scanning : has_ready old ≡ true → new.scanning ≡ old.scanning
@@ -233,14 +233,14 @@ pub record KeepsAll (old new : PieceFinding) : Type 0 where
   pub open_yet : new.scanning.ended ≡ old.scanning.ended
 
 -- what a call that is fed a piece answers
-abbrev pub FeedsPiece : PieceFinding → List ℕ → Result ℕ FindError → PieceFinding → Type 0
+abbrev pub FeedsPiece : PieceFinderState → List ℕ → Result ℕ FindError → PieceFinderState → Type 0
 FeedsPiece old piece (Ok n) new = TakesPiece old piece n new
 FeedsPiece old piece (Err (error.Fault fault)) new = MeetsFaultIn old piece fault new
-FeedsPiece old piece (Err error.Memory) new = KeepsAll old new × (has_ready old ≡ false)
+FeedsPiece old piece (Err error.Memory) new = PieceFinderRunsOut old new × (has_ready old ≡ false)
 
 -- This binding was given, the next that is found, and before the text's end it is settled. The cursor stands at its logical
 -- line, which is held.
-pub record GivesBinding (old : PieceFinding) (b : Bound) (new : PieceFinding) : Type 0 where
+pub record GivesBinding (old : PieceFinderState) (b : Bound) (new : PieceFinderState) : Type 0 where
   pub found : (text : List ℕ) (bounds : List Bound) → HasFoundIn old text bounds → HasFoundIn new text (bounds ++ b ∷ [])
   pub settled : (text : List ℕ) (bounds : List Bound) → HasFoundIn old text bounds → old.scanning.ended ≡ false → AreSettled new text (bounds ++ b ∷ [])
   pub offset : (text : List ℕ) (bounds : List Bound) → HasFoundIn old text bounds → BindsFrom text new.cursor.offset b
@@ -256,7 +256,7 @@ pub record GivesBinding (old : PieceFinding) (b : Bound) (new : PieceFinding) : 
 -- Nothing is ready. All that is settled was given, and after the text's end all that is found. Before these ends what is not
 -- settled is held. The cursor stands where the lines end that were read, which after the top is the line that ends it, or
 -- stays at the line with the fault.
-pub record GivesNone (old new : PieceFinding) : Type 0 where
+pub record GivesNone (old new : PieceFinderState) : Type 0 where
   pub found : (text : List ℕ) (bounds : List Bound) → HasFoundIn old text bounds → HasFoundIn new text bounds
   pub all : (text : List ℕ) (bounds : List Bound) → HasFoundIn old text bounds → old.scanning.ended ≡ false → ((fault : Fault) → old.outcome ≡ outcome.Fault fault → ⊥) → AreAllSettled new text bounds
   pub whole : (text : List ℕ) (bounds : List Bound) → HasFoundIn old text bounds → (new.scanning.ended ≡ true) ⊎ (new.outcome ≡ outcome.End) → ((fault : Fault) → old.outcome ≡ outcome.Fault fault → ⊥) → IsFound text (options_for old) bounds None × MeetsEndAt text (options_for old) new.cursor.offset
@@ -273,7 +273,7 @@ pub record GivesNone (old new : PieceFinding) : Type 0 where
 
 -- The last logical line, which was left unread, is bad: this is the fault. Before the text's end the bytes fed decide it.
 -- It is kept, and the finder may be called again.
-pub record GivesFault (old : PieceFinding) (fault : Fault) (new : PieceFinding) : Type 0 where
+pub record GivesFault (old : PieceFinderState) (fault : Fault) (new : PieceFinderState) : Type 0 where
   pub found : (text : List ℕ) (bounds : List Bound) → HasFoundIn old text bounds → HasFoundIn new text bounds
   pub decided : (text : List ℕ) (bounds : List Bound) → HasFoundIn old text bounds → old.scanning.ended ≡ false → DecidesFound (take (fed_by old) text) (options_for old) fault
   pub unread : old.unread ≡ true
@@ -284,14 +284,14 @@ pub record GivesFault (old : PieceFinding) (fault : Fault) (new : PieceFinding) 
   pub kept : new.outcome ≡ outcome.Fault fault
 
 -- what a call that asks for what is ready answers
-abbrev pub GivesReady : PieceFinding → Result (Option Binding) FindError → PieceFinding → Type 0
+abbrev pub GivesReady : PieceFinderState → Result (Option Binding) FindError → PieceFinderState → Type 0
 GivesReady old (Ok (Some b)) new = GivesBinding old (bound_of b) new
 GivesReady old (Ok None) new = GivesNone old new
 GivesReady old (Err (error.Fault fault)) new = GivesFault old fault new
-GivesReady old (Err error.Memory) new = KeepsAll old new × (has_ready old ≡ true)
+GivesReady old (Err error.Memory) new = PieceFinderRunsOut old new × (has_ready old ≡ true)
 
 -- the text ends here: its last logical line was made, if one is left, and is held where it is ready
-pub record EndsText (old new : PieceFinding) : Type 0 where
+pub record EndsText (old new : PieceFinderState) : Type 0 where
   pub found : (text : List ℕ) (bounds : List Bound) → HasFoundIn old text bounds → length text ≡ fed_by old → HasFoundIn new text bounds
   pub line : (text : List ℕ) (bounds : List Bound) → HasFoundIn old text bounds → length text ≡ fed_by old → has_ready new ≡ true → HoldsLine new text
   pub cursor : new.cursor ≡ old.cursor
@@ -301,7 +301,7 @@ pub record EndsText (old new : PieceFinding) : Type 0 where
   pub no_fault : (fault : Fault) → new.outcome ≡ outcome.Fault fault → ⊥
 
 -- the text that ends here has this fault, after the bindings given
-pub record EndsInFault (old : PieceFinding) (fault : Fault) (new : PieceFinding) : Type 0 where
+pub record EndsInFault (old : PieceFinderState) (fault : Fault) (new : PieceFinderState) : Type 0 where
   pub found : (text : List ℕ) (bounds : List Bound) → HasFoundIn old text bounds → length text ≡ fed_by old → HasFoundIn new text bounds
   pub again : (first : Fault) → old.outcome ≡ outcome.Fault first → (fault ≡ first) × (new ≡ old)
   pub was_in_top : old.outcome ≡ outcome.End → ⊥
@@ -310,7 +310,7 @@ pub record EndsInFault (old : PieceFinding) (fault : Fault) (new : PieceFinding)
   pub kept : new.outcome ≡ outcome.Fault fault
 
 -- what a call that ends the text answers
-abbrev pub EndsFeeding : PieceFinding → Result (Unit {0}) FindError → PieceFinding → Type 0
+abbrev pub EndsFeeding : PieceFinderState → Result (Unit {0}) FindError → PieceFinderState → Type 0
 EndsFeeding old (Ok done) new = EndsText old new
 EndsFeeding old (Err (error.Fault fault)) new = EndsInFault old fault new
-EndsFeeding old (Err error.Memory) new = KeepsAll old new
+EndsFeeding old (Err error.Memory) new = PieceFinderRunsOut old new

@@ -22,11 +22,11 @@ pub struct Cursor {
 }
 
 impl Model for Cursor {
-    ghost use Rattle.isort_find.specs.Cursor.{Standing, standing};
+    ghost use Rattle.isort_find.specs.Cursor.{CursorState, standing};
     ghost use Rattle.isort_find.specs.KeyText.{key_in};
     ghost use Rattle.std.specs.Prelude.{map};
 
-    ghost Value = { Standing };
+    ghost Value = { CursorState };
 
     ghost view = { λ c. standing c.options c.place c.taken c.given (map key_in c.keys.keys) };
 }

@@ -23,7 +23,7 @@ pub enum Outcome {
     Fault(Fault),
 }
 
-/// Finds the imports of a text, one at a time. Contracts see it as a `Finding`.
+/// Finds the imports of a text, one at a time. Contracts see it as a `FinderState`.
 #[derive(Drop)]
 pub struct Finder<'t> {
     alloc: Global,
@@ -38,9 +38,9 @@ pub struct Finder<'t> {
 
 impl<'t> Model for Finder<'t> {
     ghost use Rattle.std.specs.Prelude.{◌≡◌};
-    ghost use Rattle.isort_find.specs.Finder.{Finding, finding};
+    ghost use Rattle.isort_find.specs.Finder.{FinderState, finding};
 
-    ghost Value = { Finding };
+    ghost Value = { FinderState };
 
     ghost view = { λ f. finding f.lines f.text.now f.again f.skip f.pending f.outcome f.cursor };
 

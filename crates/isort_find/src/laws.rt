@@ -4,11 +4,11 @@ ghost use Rattle.std.specs.Prelude.{◌≡◌, ◌↔◌, ℕ, IsTrue, Option, S
 ghost use Rattle.py_lines.specs.declared.fault.Fault.{Fault};
 ghost use Rattle.py_imports.specs.Bound.{Bound};
 ghost use Rattle.isort_find.specs.KeyText.{key_in};
-ghost use Rattle.isort_find.specs.Cursor.{Standing, HasStopped};
+ghost use Rattle.isort_find.specs.Cursor.{CursorState, HasStopped};
 ghost use Rattle.isort_find.specs.Found.{IsFound, BeginsFound};
 ghost use Rattle.isort_find.specs.Settled.{IsFoundSettled, DecidesFound};
 ghost use Rattle.isort_find.specs.declared.options.FindOptions.{FindOptions};
-ghost use Rattle.isort_find.specs.Finder.{Finding, HasFound, text_of, options_of};
+ghost use Rattle.isort_find.specs.Finder.{FinderState, HasFound, text_of, options_of};
 
 use crate::key::KeyText;
 use py_imports::laws::binds_or_is_bad;
@@ -25,8 +25,8 @@ pub fn equal_keys(one: &KeyText, other: &KeyText) -> bool
 /// What a finder has given, with those that it goes on from, begins what is found in its text: the rest comes after
 /// it. So does what was given by then where a finder, over pieces or over the whole text, stops.
 pub fn given_begin_the_found()
-    ensures begin { (f : Finding) (bounds : List Bound) → HasFound f bounds → BeginsFound (text_of f) (options_of f) bounds }
-    ensures stopped { (text : List ℕ) (cursor : Standing) (bounds : List Bound) → HasStopped text cursor bounds → BeginsFound text cursor.options bounds }
+    ensures begin { (f : FinderState) (bounds : List Bound) → HasFound f bounds → BeginsFound (text_of f) (options_of f) bounds }
+    ensures stopped { (text : List ℕ) (cursor : CursorState) (bounds : List Bound) → HasStopped text cursor bounds → BeginsFound text cursor.options bounds }
 {
     given_lines_begin_the_text();
     binds_or_is_bad();

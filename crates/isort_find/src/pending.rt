@@ -26,9 +26,9 @@ pub struct Pending {
 impl Model for Pending {
     ghost use Rattle.std.specs.Prelude.{ℕ, ◌+◌, ◌^◌, ◌<◌, map};
     ghost use Rattle.std.specs.VecDeque.{deque_len};
-    ghost use Rattle.isort_find.specs.Pending.{Looking, looking_at};
+    ghost use Rattle.isort_find.specs.Pending.{PendingState, looking_at};
 
-    ghost Value = { Looking };
+    ghost Value = { PendingState };
 
     ghost view = { λ p. looking_at p.place p.taken p.bindings.items };
 

@@ -17,7 +17,7 @@ use std::alloc::Global;
 use std::marker::Model;
 
 /// Finds the imports of a text that comes in pieces, each as soon as its logical line is whole. It keeps the text of one
-/// line and at most one byte more. Contracts see it as a `PieceFinding`.
+/// line and at most one byte more. Contracts see it as a `PieceFinderState`.
 ///
 /// Feed a piece, take what is ready, and feed what wasn't taken of the piece. After the last piece call `finish`, and take
 /// what is ready then.
@@ -34,16 +34,16 @@ pub struct PieceFinder {
 }
 
 impl Model for PieceFinder {
-    ghost use Rattle.isort_find.specs.Pieces.{PieceFinding, piece_finding};
+    ghost use Rattle.isort_find.specs.Pieces.{PieceFinderState, piece_finder_state};
 
-    ghost Value = { PieceFinding };
+    ghost Value = { PieceFinderState };
 
-    ghost view = { λ f. piece_finding f.scanner f.unread f.skip f.pending f.outcome f.passed f.cursor };
+    ghost view = { λ f. piece_finder_state f.scanner f.unread f.skip f.pending f.outcome f.passed f.cursor };
 }
 
 impl PieceFinder {
     ghost use Rattle.isort_find.specs.Cursor.{first_standing, HasStopped};
-    ghost use Rattle.isort_find.specs.Pieces.{PieceFinding, HasFoundIn, AreAllSettled, IsUndecided, IsOpenYet, FeedsPiece, GivesReady, EndsFeeding, fed_by, held_by, has_ready};
+    ghost use Rattle.isort_find.specs.Pieces.{PieceFinderState, HasFoundIn, AreAllSettled, IsUndecided, IsOpenYet, FeedsPiece, GivesReady, EndsFeeding, fed_by, held_by, has_ready};
     ghost use Rattle.isort_find.specs.Steps.Feedings.{IsNextPlace, LetsGo, FollowsStep, HoldsPlain, ReadsReady, LooksAhead, TriesReady, TakesBytesOf, GoesOn, TakesAll, ReadsUnread, TakesReady, Rests, with_fault, with_read};
 
     /// A finder at the start of a text, before its first piece. It answers `Memory` alone.

@@ -13,7 +13,7 @@ use Rattle.std.specs.List.{flat_map, prefix_len, position_or_len}
 use Rattle.std.specs.Ordering.{nat_cmp, is_ne, ordering_then}
 use Rattle.std.specs.Str.Parse.{AllDigits, digits_value}
 use Rattle.isort_settings.proofs.OrderThen.{then-tied_by_test, then-decided_by_test}
-use Rattle.isort_settings.specs.Orders.{Numbered, Cut, digit_before, digit_in_front, cut_at_numbers, Part, text, number, cased, parts, part_cmp}
+use Rattle.isort_settings.specs.Orders.{Numbered, NumberCut, digit_before, digit_in_front, cut_at_numbers, Part, text, number, cased, parts, part_cmp}
 
 -- where the first digit stands, and how many digits a text begins with
 abbrev pub digits_start : List ℕ → ℕ
@@ -28,15 +28,15 @@ BeginsWithDigit [] = Unit {0}
 BeginsWithDigit (z ∷ zs) = is_ascii_digit z ≡ true
 
 -- the parts of a cut text, and those after its first one
-abbrev parts_behind : List Numbered → List Part
-parts_behind ns = flat_map (λ n. number (digits_value 10 n.digits) ∷ text n.behind ∷ []) ns
+abbrev parts_after : List Numbered → List Part
+parts_after ns = flat_map (λ n. number (digits_value 10 n.digits) ∷ text n.behind ∷ []) ns
 
-abbrev parts_of : Cut → List Part
-parts_of c = text c.first ∷ parts_behind c.others
+abbrev parts_of : NumberCut → List Part
+parts_of c = text c.first ∷ parts_after c.others
 
 -- the parts of what begins at the first digit
 abbrev pub numbers : Bool → List ℕ → List Part
-numbers s zs = parts_behind (cut_at_numbers (cased s zs)).others
+numbers s zs = parts_after (cut_at_numbers (cased s zs)).others
 
 -- one more byte before it
 drop_one_more : (n x : ℕ) (xs : List ℕ) → drop (1 + n) (x ∷ xs) ≡ drop n xs
@@ -52,34 +52,34 @@ digit_before-first d (x ∷ xs) [] = refl
 digit_before-first d (x ∷ xs) (n ∷ ns) = refl
 
 -- a byte before a cut text
-abbrev in_front : Bool → ℕ → Cut → Cut
+abbrev in_front : Bool → ℕ → NumberCut → NumberCut
 in_front b x c = cond b (digit_in_front x c) (record c { first = x ∷ c.first })
 
-front_first : (b : Bool) (x : ℕ) (c : Cut) → b ≡ true → (in_front b x c).first ≡ []
+front_first : (b : Bool) (x : ℕ) (c : NumberCut) → b ≡ true → (in_front b x c).first ≡ []
 front_first true x c e = digit_before-first x c.first c.others
 front_first false x c e = cc
 
-front_digit : (b : Bool) (x : ℕ) (c : Cut) → b ≡ true → in_front b x c ≡ digit_in_front x c
+front_digit : (b : Bool) (x : ℕ) (c : NumberCut) → b ≡ true → in_front b x c ≡ digit_in_front x c
 front_digit true x c e = refl
 front_digit false x c e = cc
 
-front_text : (b : Bool) (x : ℕ) (c : Cut) → b ≡ false → in_front b x c ≡ record c { first = x ∷ c.first }
+front_text : (b : Bool) (x : ℕ) (c : NumberCut) → b ≡ false → in_front b x c ≡ record c { first = x ∷ c.first }
 front_text true x c e = cc
 front_text false x c e = refl
 
 -- the text before the first digit is the first part, and the rest are the parts after it
-abbrev cut_at : List ℕ → List ℕ → Cut
+abbrev cut_at : List ℕ → List ℕ → NumberCut
 cut_at front rest = record { first = front; others = (cut_at_numbers rest).others }
 
 cut_text_step : (b : Bool) (x : ℕ) (xs : List ℕ) → is_ascii_digit x ≡ b → cut_at_numbers xs ≡ cut_at (take (digits_start xs) xs) (drop (digits_start xs) xs)
     → cut_at_numbers (x ∷ xs) ≡ cut_at (take (cond (not b) (1 + digits_start xs) 0) (x ∷ xs)) (drop (cond (not b) (1 + digits_start xs) 0) (x ∷ xs))
 cut_text_step true x xs e rest =
-    let f : List ℕ → Cut = λ t. record { first = t; others = (cut_at_numbers (x ∷ xs)).others } in
+    let f : List ℕ → NumberCut = λ t. record { first = t; others = (cut_at_numbers (x ∷ xs)).others } in
     ap f (front_first (is_ascii_digit x) x (cut_at_numbers xs) e)
 cut_text_step false x xs e rest =
     let k : ℕ = digits_start xs in
     front_text (is_ascii_digit x) x (cut_at_numbers xs) e
-    ∙ ap (λ (c : Cut). record c { first = x ∷ c.first }) rest
+    ∙ ap (λ (c : NumberCut). record c { first = x ∷ c.first }) rest
     ∙ ap (λ t. cut_at t (drop k xs)) (sym (take_one_more k x xs))
     ∙ ap (λ t. cut_at (take (1 + k) (x ∷ xs)) t) (sym (drop_one_more k x xs))
 
@@ -88,16 +88,16 @@ cut_text [] = refl
 cut_text (x ∷ xs) = cut_text_step (is_ascii_digit x) x xs refl (cut_text xs)
 
 -- digits, and the cut of what stands after them
-abbrev numbered : List ℕ → List ℕ → Cut
+abbrev numbered : List ℕ → List ℕ → NumberCut
 numbered ds rest = record { first = []; others = record { digits = ds; behind = (cut_at_numbers rest).first } ∷ (cut_at_numbers rest).others }
 
 before_text : (x y : ℕ) (first : List ℕ) (others : List Numbered) → digit_before x (y ∷ first) others ≡ record { first = []; others = record { digits = x ∷ []; behind = y ∷ first } ∷ others }
 before_text x y first [] = refl
 before_text x y first (n ∷ ns) = refl
 
-digit_alone : (x y : ℕ) (c d : Cut) → c ≡ record d { first = y ∷ d.first } → digit_in_front x c ≡ record { first = []; others = record { digits = x ∷ []; behind = c.first } ∷ c.others }
+digit_alone : (x y : ℕ) (c d : NumberCut) → c ≡ record d { first = y ∷ d.first } → digit_in_front x c ≡ record { first = []; others = record { digits = x ∷ []; behind = c.first } ∷ c.others }
 digit_alone x y c d e =
-    let P : Cut → Type 0 = λ t. digit_in_front x t ≡ record { first = []; others = record { digits = x ∷ []; behind = t.first } ∷ t.others } in
+    let P : NumberCut → Type 0 = λ t. digit_in_front x t ≡ record { first = []; others = record { digits = x ∷ []; behind = t.first } ∷ t.others } in
     subst P (sym e) (before_text x y d.first d.others)
 
 one_more_digit : (n x : ℕ) (ds xs : List ℕ) (more : List ℕ → List ℕ) → ds ≡ take n xs
@@ -178,9 +178,9 @@ parts_text false xs =
     let ws : List ℕ = map to_ascii_lowercase xs in
     let k : ℕ = digits_start xs in
     ap parts_of (cut_text ws)
-    ∙ ap (λ n. text (take n ws) ∷ parts_behind (cut_at_numbers (drop n ws)).others) (digits_start-map xs)
-    ∙ ap (λ t. text t ∷ parts_behind (cut_at_numbers (drop k ws)).others) (take-map to_ascii_lowercase k xs)
-    ∙ ap (λ t. text (map to_ascii_lowercase (take k xs)) ∷ parts_behind (cut_at_numbers t).others) (drop-map to_ascii_lowercase k xs)
+    ∙ ap (λ n. text (take n ws) ∷ parts_after (cut_at_numbers (drop n ws)).others) (digits_start-map xs)
+    ∙ ap (λ t. text t ∷ parts_after (cut_at_numbers (drop k ws)).others) (take-map to_ascii_lowercase k xs)
+    ∙ ap (λ t. text (map to_ascii_lowercase (take k xs)) ∷ parts_after (cut_at_numbers t).others) (drop-map to_ascii_lowercase k xs)
 
 numbers-nil : (s : Bool) → numbers s [] ≡ []
 numbers-nil true = refl
@@ -188,12 +188,12 @@ numbers-nil false = refl
 
 numbers-digit : (s : Bool) (z : ℕ) (zs : List ℕ) → is_ascii_digit z ≡ true
     → numbers s (z ∷ zs) ≡ number (digits_value 10 (take (digits_end (z ∷ zs)) (z ∷ zs))) ∷ parts s (drop (digits_end (z ∷ zs)) (z ∷ zs))
-numbers-digit true z zs e = ap (λ (c : Cut). parts_behind c.others) (cut_number z zs e)
+numbers-digit true z zs e = ap (λ (c : NumberCut). parts_after c.others) (cut_number z zs e)
 numbers-digit false z zs e =
     let xs : List ℕ = z ∷ zs in
     let ws : List ℕ = map to_ascii_lowercase xs in
     let k : ℕ = digits_end xs in
-    ap (λ (c : Cut). parts_behind c.others) (cut_number (to_ascii_lowercase z) (map to_ascii_lowercase zs) (digit_lower z ∙ e))
+    ap (λ (c : NumberCut). parts_after c.others) (cut_number (to_ascii_lowercase z) (map to_ascii_lowercase zs) (digit_lower z ∙ e))
     ∙ ap (λ n. number (digits_value 10 (take n ws)) ∷ parts_of (cut_at_numbers (drop n ws))) (digits_end-map xs)
     ∙ ap (λ t. number (digits_value 10 t) ∷ parts_of (cut_at_numbers (drop k ws))) (digits-map xs)
     ∙ ap (λ t. number (digits_value 10 (take k xs)) ∷ parts_of (cut_at_numbers t)) (drop-map to_ascii_lowercase k xs)

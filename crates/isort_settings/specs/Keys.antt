@@ -32,20 +32,20 @@ Meaning texts = List (List ℕ)
 Meaning no_field = Unit {0}
 
 -- a row of the table: the kind, the default, and the value under `black`
-pub record Row : Type 0 where
+pub record KeyRow : Type 0 where
   pub kind : Kind
   pub plain : Meaning kind
   pub black : Meaning kind
 
-abbrev pub row : (kind : Kind) → Meaning kind → Meaning kind → Row
+abbrev pub row : (kind : Kind) → Meaning kind → Meaning kind → KeyRow
 row k p b = record { kind = k; plain = p; black = b }
 
 -- a row on which `black` says nothing
-abbrev pub same : (kind : Kind) → Meaning kind → Row
+abbrev pub same : (kind : Kind) → Meaning kind → KeyRow
 same k p = row k p p
 
 -- the table of keys
-abbrev pub row_of : SettingKey → Row
+abbrev pub row_of : SettingKey → KeyRow
 row_of key.LineLength = row (count 1 10000) 79 88
 row_of key.MultiLineOutput = row wrap_mode 0 3
 row_of key.IncludeTrailingComma = row flag false true

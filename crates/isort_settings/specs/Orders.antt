@@ -18,21 +18,21 @@ pub record Numbered : Type 0 where
 
 -- a text cut at its numbers, which are its longest runs of ASCII digits: the text before the first one, and each of
 -- them with the text after it
-pub record Cut : Type 0 where
+pub record NumberCut : Type 0 where
   pub first : List ℕ
   pub others : List Numbered
 
 -- a digit before a text and the numbers after it: where the text is empty, the digit belongs to the first number
-abbrev pub digit_before : ℕ → List ℕ → List Numbered → Cut
+abbrev pub digit_before : ℕ → List ℕ → List Numbered → NumberCut
 digit_before d [] (n ∷ others) = record { first = []; others = record n { digits = d ∷ n.digits } ∷ others }
 digit_before d behind others = record { first = []; others = record { digits = d ∷ []; behind = behind } ∷ others }
 
 -- a digit before a cut text: it belongs to the number that the text begins with, or is one by itself
-abbrev pub digit_in_front : ℕ → Cut → Cut
+abbrev pub digit_in_front : ℕ → NumberCut → NumberCut
 digit_in_front d c = digit_before d c.first c.others
 
 -- the cut of a text
-abbrev pub cut_at_numbers : List ℕ → Cut
+abbrev pub cut_at_numbers : List ℕ → NumberCut
 cut_at_numbers [] = record { first = []; others = [] }
 cut_at_numbers (c ∷ text) =
     let rest = cut_at_numbers text in

@@ -9,7 +9,7 @@ use Rattle.isort_sort.specs.declared.answer.SortError.{SortError}
 use Rattle.isort_sort.specs.declared.answer.SortError.TheVariants as error
 
 -- known bytes grow by a prefix of these
-pub record AppendsFront (old new : Option (List ℕ)) (bytes : List ℕ) : Type 0 where
+pub record AppendsPrefix (old new : Option (List ℕ)) (bytes : List ℕ) : Type 0 where
   pub front : List ℕ
   pub rest : List ℕ
   pub split : front ++ rest ≡ bytes
@@ -28,13 +28,13 @@ pub record WritesSorted (text : List ℕ) (v : Values) (outcome : Outcome) (old 
   pub written : Appends old new sorted
 
 -- a prefix of the sorted text was written
-pub record WritesSortedFront (text : List ℕ) (v : Values) (old new : Option (List ℕ)) : Type 0 where
+pub record WritesSortedPrefix (text : List ℕ) (v : Values) (old new : Option (List ℕ)) : Type 0 where
   pub sorted : List ℕ
   pub is : IsSorted text v sorted
-  pub written : AppendsFront old new sorted
+  pub written : AppendsPrefix old new sorted
 
 -- what an error says of the text and leaves: a prefix of the sorted text where a write failed, and else nothing
 abbrev pub LeavesUnwritten : List ℕ → Values → SortError → Option (List ℕ) → Option (List ℕ) → Type 0
 LeavesUnwritten text v (error.Fault fault) old new = HasFault text fault × Keeps old new
-LeavesUnwritten text v error.Write old new = WritesSortedFront text v old new
+LeavesUnwritten text v error.Write old new = WritesSortedPrefix text v old new
 LeavesUnwritten text v error.Memory old new = Keeps old new

@@ -6,7 +6,7 @@ ghost use Rattle.indexmap.specs.IndexMap.{keys};
 ghost use Rattle.isort_sort.specs.Private.Gathered.{brought, brought_by, brought_value, seen_value, AreDistinct, AreMade, Gathers};
 ghost use Rattle.isort_sort.specs.Private.GroupOrder.{group_cmp};
 ghost use Rattle.isort_sort.specs.Private.Group.{group_value, AreGrouped};
-ghost use Rattle.isort_sort.specs.Member.{firsts};
+ghost use Rattle.isort_sort.specs.Member.{first_texts};
 ghost use Rattle.isort_sort.specs.Order.{AreInOrder};
 ghost use Rattle.isort_sort.specs.Statement.{item_cmp};
 ghost use Rattle.isort_sort.specs.Private.Values.{item_value, member_value};
@@ -48,11 +48,11 @@ struct Gathered {
 }
 
 impl Gathered {
-    ghost use Rattle.isort_sort.specs.Private.Gathered.{nothing, IsMade};
+    ghost use Rattle.isort_sort.specs.Private.Gathered.{nothing_seen, IsMade};
 
     /// Nothing.
     fn new(alloc: Global) -> Gathered
-        ensures { seen_value result ≡ nothing }
+        ensures { seen_value result ≡ nothing_seen }
     {
         Gathered {
             items: Vec::new(alloc),
@@ -110,7 +110,7 @@ impl Gathered {
 
 /// The texts, each once, where it stands first.
 fn each_once(alloc: Global, texts: Vec<String>) -> Result<Vec<String>, AllocError>
-    ensures { IfOk result (λ kept. map string_bytes kept.items ≡ firsts (map string_bytes texts.items)) }
+    ensures { IfOk result (λ kept. map string_bytes kept.items ≡ first_texts (map string_bytes texts.items)) }
 {
     let kept: IndexSet<String> = texts.into_iter().collect(alloc)?;
     kept.into_iter().collect(alloc)

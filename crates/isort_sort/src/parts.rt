@@ -2,7 +2,7 @@
 ghost use Rattle.std.specs.Prelude.{◌≡◌, ◌++◌, ◌≤◌, ℕ, List, [], length, slice_range, IfOk, IfErr, IfSome};
 ghost use Rattle.std.specs.Str.{IsUtf8};
 ghost use Rattle.isort_settings.specs.Values.{Values, values};
-ghost use Rattle.isort_sort.specs.Private.Parts.{part_text, left_of, HasMade, Makes};
+ghost use Rattle.isort_sort.specs.Private.Parts.{part_text, parts_left, HasMade, Makes};
 ghost use Rattle.isort_sort.specs.Private.Reading.{IsFoundIn};
 ghost use Rattle.isort_sort.specs.Sorted.{IsLaidOut};
 
@@ -94,8 +94,8 @@ impl<'t> Parts<'t> {
     pub(crate) fn rest(&self) -> &'t [u8]
         requires { (text : List ℕ) × (v : Values) × (out : List ℕ) × HasMade text v self.now out }
         ensures laid { (text : List ℕ) (v : Values) (out : List ℕ) → HasMade text v self.now out
-            → left_of self.now ≡ [] → IsLaidOut text v (out ++ result.now) }
-        ensures utf8 { left_of self.now ≡ [] → IsUtf8 result.now }
+            → parts_left self.now ≡ [] → IsLaidOut text v (out ++ result.now) }
+        ensures utf8 { parts_left self.now ≡ [] → IsUtf8 result.now }
     {
         between(self.text, self.at, self.text.len())
     }

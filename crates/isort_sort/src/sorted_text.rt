@@ -7,7 +7,7 @@ ghost use Rattle.isort_sort.specs.Metered.{inner_of, last_of, IsGivenUp};
 ghost use Rattle.isort_sort.specs.Private.Parts.{sorted_bytes, AreTexts};
 ghost use Rattle.isort_sort.specs.Private.Reading.{IsFoundIn};
 ghost use Rattle.isort_sort.specs.Sorted.{IsLaidOut};
-ghost use Rattle.isort_sort.specs.Written.{AppendsFront};
+ghost use Rattle.isort_sort.specs.Written.{AppendsPrefix};
 
 use crate::answer::SortError;
 use crate::finder::FoundBlock;
@@ -90,7 +90,7 @@ impl<'t> SortedText<'t> {
         ensures ok { OnOk result (Appends (W.contents (inner_of writer.old)) (W.contents (inner_of writer.new))
             (sorted_bytes self.now)) }
         ensures fine { OnOk result (last_of writer.new ≡ Last.Fine) }
-        ensures front { OnErr result (AppendsFront (W.contents (inner_of writer.old)) (W.contents (inner_of writer.new))
+        ensures front { OnErr result (AppendsPrefix (W.contents (inner_of writer.old)) (W.contents (inner_of writer.new))
             (sorted_bytes self.now)) }
         ensures err { IfErr result (λ e. e ≡ SortError.Write) }
         ensures stopped { OnErr result (IsGivenUp (last_of writer.new)) }

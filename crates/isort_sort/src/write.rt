@@ -2,7 +2,7 @@
 ghost use Rattle.std.specs.Prelude.{◌≡◌, ◌<◌, ◌≤◌, IfOk, OnOk, OnErr, IfErr, length, take};
 ghost use Rattle.std.specs.Io.KnownBytes.{Appends, Keeps};
 ghost use Rattle.isort_sort.specs.Metered.{inner_of, last_of, IsGivenUp};
-ghost use Rattle.isort_sort.specs.Written.{AppendsFront};
+ghost use Rattle.isort_sort.specs.Written.{AppendsPrefix};
 
 use crate::answer::SortError;
 use crate::metered::{Last, MOST_INTERRUPTIONS, Metered};
@@ -41,7 +41,7 @@ pub fn write_whole<W: Write>(writer: &mut Metered<W>, bytes: &[u8]) -> Result<()
     requires { last_of writer.old ≡ Last.Fine }
     ensures ok { OnOk result (Appends (W.contents (inner_of writer.old)) (W.contents (inner_of writer.new)) bytes.now) }
     ensures fine { OnOk result (last_of writer.new ≡ Last.Fine) }
-    ensures front { OnErr result (AppendsFront (W.contents (inner_of writer.old)) (W.contents (inner_of writer.new)) bytes.now) }
+    ensures front { OnErr result (AppendsPrefix (W.contents (inner_of writer.old)) (W.contents (inner_of writer.new)) bytes.now) }
     ensures err { IfErr result (λ e. e ≡ SortError.Write) }
     ensures stopped { OnErr result (IsGivenUp (last_of writer.new)) }
 {

@@ -4,7 +4,7 @@ use Rattle.std.proofs.lemmas.Option.{slice_get-get_or}
 use Rattle.std.proofs.lemmas.List.{append-nil, drop_all, map-append}
 use Rattle.py_lines.specs.LogicalLine.{LogicalLine}
 use Rattle.py_lines.specs.declared.token.Token.{Token}
-use Rattle.py_imports.specs.Statement.{is_comment, significant, is_divider, depth_past, depth_behind, ends_in_divider, may_start_behind, Place, places_from, starts}
+use Rattle.py_imports.specs.Statement.{is_comment, significant, is_divider, depth_past, depth_after_tokens, ends_in_divider, may_start_after, Place, places_from, starts}
 use Rattle.py_imports.specs.Bound.{Bound, bound_at, bound_of}
 use Rattle.py_imports.specs.Grammar.{Imported}
 use Rattle.py_imports.specs.Binds.{BindsAt, BindEach, Binds, Refuses}
@@ -17,26 +17,26 @@ use Rattle.py_imports.specs.declared.error.ImportError.TheVariants as error
 use Rattle.py_imports.proofs.ReaderLemmas.{AreRead, one_more_read}
 use Rattle.py_imports.proofs.TokenLemmas.{depth_behind-snoc, significant-cons}
 
-ends_in_divider-snoc : (depth : ℕ) (ts : List Token) (t : Token) → ends_in_divider depth (ts ++ t ∷ []) ≡ is_divider t.kind && (depth_behind depth ts == 0)
+ends_in_divider-snoc : (depth : ℕ) (ts : List Token) (t : Token) → ends_in_divider depth (ts ++ t ∷ []) ≡ is_divider t.kind && (depth_after_tokens depth ts == 0)
 ends_in_divider-snoc depth [] t = refl
 ends_in_divider-snoc depth (u ∷ []) t = refl
 ends_in_divider-snoc depth (u ∷ v ∷ ts) t = ends_in_divider-snoc (depth_past depth u.kind) (v ∷ ts) t
 
-may_start_behind-snoc : (ts : List Token) (t : Token) → may_start_behind (ts ++ t ∷ []) ≡ is_divider t.kind && (depth_behind 0 ts == 0)
+may_start_behind-snoc : (ts : List Token) (t : Token) → may_start_after (ts ++ t ∷ []) ≡ is_divider t.kind && (depth_after_tokens 0 ts == 0)
 may_start_behind-snoc [] t = refl
 may_start_behind-snoc (u ∷ ts) t = ends_in_divider-snoc 0 (u ∷ ts) t
 
 -- the places among these at which statements start
 abbrev starts_among : List Place → List Place
-starts_among ps = filter (λ p. may_start_behind p.before) ps
+starts_among ps = filter (λ p. may_start_after p.before) ps
 
 -- the statements were bound that start before token `i`, whose depth this is; whether one may start there
 pub record BindsSoFar (line : LogicalLine) (i depth : ℕ) (here : Bool) (bindings : List Binding) : Type 0 where
   pub before : List Token
   pub done : List Place
   pub split : starts (significant line.tokens) ≡ done ++ starts_among (places_from before (significant (drop i line.tokens)))
-  pub level : depth ≡ depth_behind 0 before
-  pub start : here ≡ may_start_behind before
+  pub level : depth ≡ depth_after_tokens 0 before
+  pub start : here ≡ may_start_after before
   pub binds : BindEach line done (map bound_of bindings)
 
 pub binds_nothing : (line : LogicalLine) → BindsSoFar line 0 0 true []
@@ -61,16 +61,16 @@ is_place_at : (line : LogicalLine) (before : List Token) (i : ℕ) (t : Token) �
 is_place_at line before i t within = (slice_get-get_or line.tokens i t within, refl)
 
 -- the starts from a place on, where a statement starts there and where none does
-starts_here : (p : Place) (ps : List Place) → may_start_behind p.before ≡ true → starts_among (p ∷ ps) ≡ p ∷ starts_among ps
+starts_here : (p : Place) (ps : List Place) → may_start_after p.before ≡ true → starts_among (p ∷ ps) ≡ p ∷ starts_among ps
 starts_here p ps e = rw e
 
-starts_later : (p : Place) (ps : List Place) → may_start_behind p.before ≡ false → starts_among (p ∷ ps) ≡ starts_among ps
+starts_later : (p : Place) (ps : List Place) → may_start_after p.before ≡ false → starts_among (p ∷ ps) ≡ starts_among ps
 starts_later p ps e = rw e
 
-level_behind : (before : List Token) (depth : ℕ) (t : Token) → depth ≡ depth_behind 0 before → depth_past depth t.kind ≡ depth_behind 0 (before ++ t ∷ [])
+level_behind : (before : List Token) (depth : ℕ) (t : Token) → depth ≡ depth_after_tokens 0 before → depth_past depth t.kind ≡ depth_after_tokens 0 (before ++ t ∷ [])
 level_behind before depth t e = ap (λ d. depth_past d t.kind) e ∙ sym (depth_behind-snoc 0 before t)
 
-start_behind : (before : List Token) (depth : ℕ) (t : Token) → depth ≡ depth_behind 0 before → is_divider t.kind && (depth == 0) ≡ may_start_behind (before ++ t ∷ [])
+start_behind : (before : List Token) (depth : ℕ) (t : Token) → depth ≡ depth_after_tokens 0 before → is_divider t.kind && (depth == 0) ≡ may_start_after (before ++ t ∷ [])
 start_behind before depth t e = ap (λ d. is_divider t.kind && (d == 0)) e ∙ sym (may_start_behind-snoc before t)
 
 -- the starts, with the place of token `i` among what is left

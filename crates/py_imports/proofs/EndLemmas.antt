@@ -7,12 +7,12 @@ use Rattle.py_lines.specs.Token.{opens_bracket, closes_bracket}
 use Rattle.py_lines.specs.declared.token.Token.{Token}
 use Rattle.py_lines.specs.declared.token.TokKind.{TokKind}
 use Rattle.py_lines.specs.declared.token.TokKind.TheVariants as kind
-use Rattle.py_imports.specs.Statement.{is_comment, significant, is_semicolon, depth_past, depth_behind, Place, places_from, is_end, statement_at}
+use Rattle.py_imports.specs.Statement.{is_comment, significant, is_semicolon, depth_past, depth_after_tokens, Place, places_from, is_end, statement_at}
 use Rattle.py_imports.specs.Reading.Parsing.{up_to_semicolon}
 use Rattle.py_imports.proofs.TokenLemmas.{depth_behind-snoc, window, significant-cons, significant-comment}
 
 -- the tokens before the first `;` at depth 0, after others
-before_end : (before ts : List Token) → map (λ q. q.token) (take_while (λ q. not (is_end q)) (places_from before ts)) ≡ up_to_semicolon (depth_behind 0 before) ts
+before_end : (before ts : List Token) → map (λ q. q.token) (take_while (λ q. not (is_end q)) (places_from before ts)) ≡ up_to_semicolon (depth_after_tokens 0 before) ts
 before_end before [] = refl
 before_end before (t ∷ ts) =
     ap (map (λ q. q.token)) (take_while-cons (λ q. not (is_end q)) here others) ∙ by_end (before_end (before ++ t ∷ []) ts ∙ ap (λ d. up_to_semicolon d ts) (depth_behind-snoc 0 before t)) (is_end here) refl
@@ -23,7 +23,7 @@ before_end before (t ∷ ts) =
     others : List Place
     others = places_from (before ++ t ∷ []) ts
 
-    by_end : map (λ q. q.token) (take_while (λ q. not (is_end q)) others) ≡ up_to_semicolon (depth_past (depth_behind 0 before) t.kind) ts → (b : Bool) → is_end here ≡ b → map (λ q. q.token) (cond (not (is_end here)) (here ∷ take_while (λ q. not (is_end q)) others) []) ≡ up_to_semicolon (depth_behind 0 before) (t ∷ ts)
+    by_end : map (λ q. q.token) (take_while (λ q. not (is_end q)) others) ≡ up_to_semicolon (depth_past (depth_after_tokens 0 before) t.kind) ts → (b : Bool) → is_end here ≡ b → map (λ q. q.token) (cond (not (is_end here)) (here ∷ take_while (λ q. not (is_end q)) others) []) ≡ up_to_semicolon (depth_after_tokens 0 before) (t ∷ ts)
     by_end rest true e = rw e refl
     by_end rest false e = rw e (ap (λ l. t ∷ l) rest)
 

@@ -7,7 +7,7 @@ use Rattle.py_lines.specs.LogicalLine.{LogicalLine}
 use Rattle.py_lines.specs.declared.token.TokKind.{TokKind}
 use Rattle.py_lines.specs.declared.token.TokKind.TheVariants as kind
 use Rattle.py_lines.specs.declared.token.Token.{Token}
-use Rattle.py_imports.specs.Statement.{is_comment, significant, may_start_behind, Place, places_from}
+use Rattle.py_imports.specs.Statement.{is_comment, significant, may_start_after, Place, places_from}
 use Rattle.py_imports.specs.Grammar.{Terminal, import_word, from_word, as_word, name, dot, comma, star, opening, closing, other, terminal_of, begins_import, is_keyword}
 use Rattle.py_imports.specs.Binds.{terminal_in, nothing, BindEach, Binds}
 use Rattle.py_imports.specs.Reading.Bindings.{is_first_word}
@@ -66,9 +66,9 @@ none_significant test (t ∷ ts) e = by_kind (none_significant test ts (second_f
     by_kind later false c = rw (c, first_fails (test t) (list_any test ts) e) later
 
 -- no statement that starts at one of these tokens binds anything
-none_from : (line : LogicalLine) (before ts : List Token) → list_any (is_first_word line.text) ts ≡ false → BindEach line (filter (λ p. may_start_behind p.before) (places_from before ts)) []
+none_from : (line : LogicalLine) (before ts : List Token) → list_any (is_first_word line.text) ts ≡ false → BindEach line (filter (λ p. may_start_after p.before) (places_from before ts)) []
 none_from line before [] e = refl
-none_from line before (t ∷ ts) e = by_start (none_from line (before ++ t ∷ []) ts (second_fails (is_first_word line.text t) (list_any (is_first_word line.text) ts) e)) (may_start_behind before) refl
+none_from line before (t ∷ ts) e = by_start (none_from line (before ++ t ∷ []) ts (second_fails (is_first_word line.text t) (list_any (is_first_word line.text) ts) e)) (may_start_after before) refl
   where
     here : Place
     here = record { before = before; token = t; behind = ts }
@@ -76,7 +76,7 @@ none_from line before (t ∷ ts) e = by_start (none_from line (before ++ t ∷ [
     begins_none : (us : List Terminal) → begins_import (terminal_in line.text t ∷ us) ≡ false
     begins_none us = begins_by_first (terminal_in line.text t) us [] ∙ first_fails (is_first_word line.text t) (list_any (is_first_word line.text) ts) e
 
-    by_start : BindEach line (filter (λ p. may_start_behind p.before) (places_from (before ++ t ∷ []) ts)) [] → (b : Bool) → may_start_behind before ≡ b → BindEach line (filter (λ p. may_start_behind p.before) (places_from before (t ∷ ts))) []
+    by_start : BindEach line (filter (λ p. may_start_after p.before) (places_from (before ++ t ∷ []) ts)) [] → (b : Bool) → may_start_after before ≡ b → BindEach line (filter (λ p. may_start_after p.before) (places_from before (t ∷ ts))) []
     by_start later true s = rw s ([], [], refl, nothing line here [] (no_import line here begins_none) refl, later)
     by_start later false s = rw s later
 

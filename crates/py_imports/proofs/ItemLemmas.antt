@@ -3,7 +3,7 @@ use Rattle.std.proofs.Common.{◌≡◌, ℕ, Bool, true, false, None, Some, opt
 use Rattle.std.proofs.lemmas.List.{append-nil}
 use Rattle.py_imports.specs.Grammar.{Terminal, import_word, from_word, as_word, name, dot, comma, star, opening, closing, other, spelling, Listed, modules, identifiers, IsPath, Item, IsItem, plain, renamed, AreItems, last, then, AreBracketed, closed, closed_after_comma}
 use Rattle.py_imports.specs.Reading.Lexemes.{begins_dot}
-use Rattle.py_imports.specs.Reading.Parsing.{Read, ItemRead, named_alias, alias_behind, at_identifier, at_path, at_item}
+use Rattle.py_imports.specs.Reading.Parsing.{Read, ItemRead, named_alias, alias_after, at_identifier, at_path, at_item}
 use Rattle.py_imports.proofs.ModuleLemmas.{at_module-whole, at_module-sound, option_and_then-some}
 
 -- whether an item goes on here: by a dot or its alias
@@ -29,7 +29,7 @@ at_path-whole : (k : Listed) (path : List Terminal) → IsPath k path → (rest 
 at_path-whole modules path m rest e = at_module-whole path m rest e
 at_path-whole identifiers path (w, p) rest e = ap (λ x. at_identifier (x ++ rest)) p ∙ ap (λ s. Some (record { spelled = s; rest = rest })) (sym (append-nil w) ∙ ap spelling (sym p))
 
-alias_behind-none : (path : List ℕ) (ts : List Terminal) → goes_on ts ≡ false → alias_behind path ts ≡ Some (record { item = record { path = path; alias = None }; rest = ts })
+alias_behind-none : (path : List ℕ) (ts : List Terminal) → goes_on ts ≡ false → alias_after path ts ≡ Some (record { item = record { path = path; alias = None }; rest = ts })
 alias_behind-none path [] e = refl
 alias_behind-none path (dot ∷ ts) e = refl
 alias_behind-none path (import_word ∷ ts) e = refl
@@ -45,9 +45,9 @@ alias_behind-none path (other ∷ ts) e = refl
 -- an item is read whole, where nothing after it belongs to it
 pub at_item-whole : (k : Listed) (ts : List Terminal) (i : Item) → IsItem k ts i → (rest : List Terminal) → goes_on rest ≡ false → at_item k (ts ++ rest) ≡ Some (record { item = i; rest = rest })
 at_item-whole k ts i (plain l t j p e) rest h =
-    ap (option_and_then (λ r. alias_behind r.spelled r.rest)) (at_path-whole k ts p rest (no_dot_where_ended rest h)) ∙ alias_behind-none (spelling ts) rest h ∙ ap (λ x. Some (record { item = x; rest = rest })) (sym e)
+    ap (option_and_then (λ r. alias_after r.spelled r.rest)) (at_path-whole k ts p rest (no_dot_where_ended rest h)) ∙ alias_behind-none (spelling ts) rest h ∙ ap (λ x. Some (record { item = x; rest = rest })) (sym e)
 at_item-whole k ts i (renamed l t path w j s p e) rest h =
-    ap (at_item k) (ap (λ x. x ++ rest) s ∙ append_assoc path (as_word ∷ name w ∷ []) rest) ∙ ap (option_and_then (λ r. alias_behind r.spelled r.rest)) (at_path-whole k path p (as_word ∷ name w ∷ rest) refl) ∙ ap (λ x. Some (record { item = x; rest = rest })) (sym e)
+    ap (at_item k) (ap (λ x. x ++ rest) s ∙ append_assoc path (as_word ∷ name w ∷ []) rest) ∙ ap (option_and_then (λ r. alias_after r.spelled r.rest)) (at_path-whole k path p (as_word ∷ name w ∷ rest) refl) ∙ ap (λ x. Some (record { item = x; rest = rest })) (sym e)
 
 -- these terminals begin with such a path
 record ReadsOffPath (k : Listed) (ts : List Terminal) (r : Read) : Type 0 where
@@ -98,7 +98,7 @@ aliased k ts path (opening ∷ rest) spelled r split is s e = absurd cc
 aliased k ts path (closing ∷ rest) spelled r split is s e = absurd cc
 aliased k ts path (other ∷ rest) spelled r split is s e = absurd cc
 
-behind_path : (k : Listed) (ts path rest : List Terminal) (spelled : List ℕ) (r : ItemRead) → ts ≡ path ++ rest → IsPath k path → spelled ≡ spelling path → alias_behind spelled rest ≡ Some r → ReadsOffItem k ts r
+behind_path : (k : Listed) (ts path rest : List Terminal) (spelled : List ℕ) (r : ItemRead) → ts ≡ path ++ rest → IsPath k path → spelled ≡ spelling path → alias_after spelled rest ≡ Some r → ReadsOffItem k ts r
 behind_path k ts path (as_word ∷ rest) spelled r split is s e = aliased k ts path rest spelled r split is s e
 behind_path k ts path [] spelled r split is s e = bare k ts path [] spelled r split is s e
 behind_path k ts path (import_word ∷ rest) spelled r split is s e = bare k ts path (import_word ∷ rest) spelled r split is s e
@@ -114,7 +114,7 @@ behind_path k ts path (other ∷ rest) spelled r split is s e = bare k ts path (
 -- what is read of an item is one
 pub at_item-sound : (k : Listed) (ts : List Terminal) (r : ItemRead) → at_item k ts ≡ Some r → ReadsOffItem k ts r
 at_item-sound k ts r e =
-    let inner = option_and_then-some (λ x. alias_behind x.spelled x.rest) (at_path k ts) r e in
+    let inner = option_and_then-some (λ x. alias_after x.spelled x.rest) (at_path k ts) r e in
     let off = at_path-sound k ts inner.0 inner.1 in
     behind_path k ts off.path inner.0.rest inner.0.spelled r off.split off.is off.spelled inner.2
 

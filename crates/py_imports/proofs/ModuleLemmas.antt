@@ -3,7 +3,7 @@ use Rattle.std.proofs.Common.{◌≡◌, ℕ, Bool, true, false, Option, None, S
 use Rattle.std.specs.Option.{option_map}
 use Rattle.py_imports.specs.Grammar.{Terminal, import_word, from_word, as_word, name, dot, comma, star, opening, closing, other, IsModule, one, more, AreDots, no_dot, one_more, IsRelativeModule, dots, named, spelling}
 use Rattle.py_imports.specs.Reading.Lexemes.{begins_dot}
-use Rattle.py_imports.specs.Reading.Parsing.{Read, spelled_before, at_module, after_name, import_behind, at_relative}
+use Rattle.py_imports.specs.Reading.Parsing.{Read, spelled_before, at_module, after_name, import_after, at_relative}
 
 -- from an equation of what was mapped to its parts
 pub option_map-some : {A B : Type 0} (f : A → B) (o : Option A) (y : B) → option_map f o ≡ Some y → (x : A) × (o ≡ Some x) × (f x ≡ y)
@@ -82,7 +82,7 @@ mutual
 at_relative-module : (dotted : Bool) (path : List Terminal) → IsModule path → (rest : List Terminal) → at_relative dotted (path ++ import_word ∷ rest) ≡ Some (record { spelled = spelling path; rest = rest })
 at_relative-module dotted path (one w) rest = refl
 at_relative-module dotted path (more w inner m) rest =
-    ap (option_and_then (λ r. import_behind r.spelled r.rest)) (at_module-whole (name w ∷ dot ∷ inner) (more w inner m) (import_word ∷ rest) refl)
+    ap (option_and_then (λ r. import_after r.spelled r.rest)) (at_module-whole (name w ∷ dot ∷ inner) (more w inner m) (import_word ∷ rest) refl)
 
 at_relative-dots : (before : List Terminal) → AreDots before → (rest : List Terminal) → at_relative true (before ++ import_word ∷ rest) ≡ Some (record { spelled = spelling before; rest = rest })
 at_relative-dots before no_dot rest = refl
@@ -109,7 +109,7 @@ pub record ReadsOffFrom (ts : List Terminal) (r : Read) : Type 0 where
   pub is : IsRelativeModule from
   pub spelled : r.spelled ≡ spelling from
 
-import_behind-some : (spelled : List ℕ) (ts : List Terminal) (r : Read) → import_behind spelled ts ≡ Some r → (ts ≡ import_word ∷ r.rest) × (spelled ≡ r.spelled)
+import_behind-some : (spelled : List ℕ) (ts : List Terminal) (r : Read) → import_after spelled ts ≡ Some r → (ts ≡ import_word ∷ r.rest) × (spelled ≡ r.spelled)
 import_behind-some spelled (import_word ∷ ts) r e =
     let f : record { spelled = spelled; rest = ts } ≡ r = cc in
     (ap (λ x. import_word ∷ x.rest) f, ap (λ x. x.spelled) f)
@@ -128,14 +128,14 @@ pub option_and_then-some : {A B : Type 0} (f : A → Option B) (o : Option A) (y
 option_and_then-some f None y e = absurd cc
 option_and_then-some f (Some x) y e = (x, refl, e)
 
-module_first : (ts : List Terminal) (r : Read) → option_and_then (λ x. import_behind x.spelled x.rest) (at_module ts) ≡ Some r → (path : List Terminal) × (ts ≡ path ++ import_word ∷ r.rest) × IsModule path × (r.spelled ≡ spelling path)
+module_first : (ts : List Terminal) (r : Read) → option_and_then (λ x. import_after x.spelled x.rest) (at_module ts) ≡ Some r → (path : List Terminal) × (ts ≡ path ++ import_word ∷ r.rest) × IsModule path × (r.spelled ≡ spelling path)
 module_first ts r e =
-    let inner = option_and_then-some (λ x. import_behind x.spelled x.rest) (at_module ts) r e in
+    let inner = option_and_then-some (λ x. import_after x.spelled x.rest) (at_module ts) r e in
     let off = at_module-sound ts inner.0 inner.1 in
     let behind = import_behind-some inner.0.spelled inner.0.rest r inner.2 in
     (off.path, off.split ∙ ap (λ x. off.path ++ x) behind.0, off.is, sym behind.1 ∙ off.spelled)
 
-module_behind : (ts : List Terminal) (r : Read) → option_and_then (λ x. import_behind x.spelled x.rest) (at_module ts) ≡ Some r → ReadsFrom ts r
+module_behind : (ts : List Terminal) (r : Read) → option_and_then (λ x. import_after x.spelled x.rest) (at_module ts) ≡ Some r → ReadsFrom ts r
 module_behind ts r e = let m = module_first ts r e in with_module ts [] m.0 r m.1 no_dot m.2 m.3
 
 dot_first : (ts : List Terminal) (r : Read) → ReadsFrom ts r → ReadsFrom (dot ∷ ts) (spelled_before (46 ∷ []) r)
@@ -166,7 +166,7 @@ from_dot : (ts : List Terminal) (r : Read) → ReadsFrom ts r → ReadsOffFrom (
 from_dot ts r (only_dots t before q e d s) = record { from = dot ∷ before; split = ap (λ x. dot ∷ x) e; is = dots before d; spelled = ap (λ x. 46 ∷ x) s }
 from_dot ts r (with_module t before path q e d m s) = record { from = dot ∷ before ++ path; split = ap (λ x. dot ∷ x) e; is = named _ (dot ∷ before) path refl (one_more before d) m; spelled = ap (λ x. 46 ∷ x) s }
 
-from_module : (ts : List Terminal) (r : Read) → option_and_then (λ x. import_behind x.spelled x.rest) (at_module ts) ≡ Some r → ReadsOffFrom ts r
+from_module : (ts : List Terminal) (r : Read) → option_and_then (λ x. import_after x.spelled x.rest) (at_module ts) ≡ Some r → ReadsOffFrom ts r
 from_module ts r e = let m = module_first ts r e in record { from = m.0; split = m.1; is = named m.0 [] m.0 refl no_dot m.2; spelled = m.3 }
 
 -- what is read of a relative module is one

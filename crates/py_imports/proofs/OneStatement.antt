@@ -9,7 +9,7 @@ use Rattle.py_imports.specs.Bound.{bound_at}
 use Rattle.py_imports.specs.Binds.{Binds, BindEach, BindsAt, imports, bounds_at, terminals_at, terminal_in}
 use Rattle.py_imports.specs.Grammar.{Terminal, Imported, IsImport, begins_import}
 use Rattle.py_imports.specs.Shape.{terminals_of}
-use Rattle.py_imports.specs.Statement.{is_semicolon, is_colon, is_divider, depth_past, ends_in_divider, may_start_behind, Place, places_from, starts, is_end, statement_at, significant}
+use Rattle.py_imports.specs.Statement.{is_semicolon, is_colon, is_divider, depth_past, ends_in_divider, may_start_after, Place, places_from, starts, is_end, statement_at, significant}
 
 no_divider_last : (d : ℕ) (t : Token) (ts : List Token) → list_any (λ u. is_divider u.kind) (t ∷ ts) ≡ false → ends_in_divider d (t ∷ ts) ≡ false
 no_divider_last d t [] h = ap (λ b. b && (d == 0)) (or_parts (is_divider t.kind) false h).0
@@ -19,11 +19,11 @@ any_push : (t : Token) (bs : List Token) → list_any (λ u. is_divider u.kind) 
 any_push t [] h k = rw k
 any_push t (b ∷ bs) h k = let parts = or_parts (is_divider b.kind) (list_any (λ u. is_divider u.kind) bs) h in rw (parts.0, any_push t bs parts.1 k)
 
-no_more : (b : Token) (bs ts : List Token) → list_any (λ u. is_divider u.kind) (b ∷ bs) ≡ false → list_any (λ u. is_divider u.kind) ts ≡ false → filter (λ p. may_start_behind p.before) (places_from (b ∷ bs) ts) ≡ []
+no_more : (b : Token) (bs ts : List Token) → list_any (λ u. is_divider u.kind) (b ∷ bs) ≡ false → list_any (λ u. is_divider u.kind) ts ≡ false → filter (λ p. may_start_after p.before) (places_from (b ∷ bs) ts) ≡ []
 no_more b bs [] h k = refl
 no_more b bs (t ∷ ts) h k =
     let parts = or_parts (is_divider t.kind) (list_any (λ u. is_divider u.kind) ts) k in
-    ap (λ (x : Bool). cond x (record { before = b ∷ bs; token = t; behind = ts } ∷ filter (λ p. may_start_behind p.before) (places_from (b ∷ bs ++ t ∷ []) ts)) (filter (λ p. may_start_behind p.before) (places_from (b ∷ bs ++ t ∷ []) ts))) (no_divider_last 0 b bs h)
+    ap (λ (x : Bool). cond x (record { before = b ∷ bs; token = t; behind = ts } ∷ filter (λ p. may_start_after p.before) (places_from (b ∷ bs ++ t ∷ []) ts)) (filter (λ p. may_start_after p.before) (places_from (b ∷ bs ++ t ∷ []) ts))) (no_divider_last 0 b bs h)
     ∙ no_more b (bs ++ t ∷ []) ts (any_push t (b ∷ bs) h parts.0) parts.1
 
 one_start : (t : Token) (ts : List Token) → list_any (λ u. is_divider u.kind) (t ∷ ts) ≡ false → starts (t ∷ ts) ≡ record { before = []; token = t; behind = ts } ∷ []

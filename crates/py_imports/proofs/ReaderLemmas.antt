@@ -8,8 +8,8 @@ use Rattle.py_imports.specs.Grammar.{Terminal, import_word, from_word, comma, st
 use Rattle.py_imports.specs.Statement.{significant}
 use Rattle.py_imports.specs.Reading.Lexemes.{followed_by, rest_of, Follows}
 use Rattle.py_imports.specs.declared.lexemes.Lexemes.{Lexemes}
-use Rattle.py_imports.specs.Reading.Parsing.{at_module, at_relative, ItemRead, alias_behind, at_item}
-use Rattle.py_imports.specs.Reading.Items.{imported_of, ListsOf, AreLeftAt, AreLeft, most_left_at, AreSameLists, StartWith, IsFirst, FollowsItem, begins_closing, IsClosing, by_bracket, by_comma, IsOutOfBrackets, FollowsBracketed, ReadsStar, ListsFrom, path_of}
+use Rattle.py_imports.specs.Reading.Parsing.{at_module, at_relative, ItemRead, alias_after, at_item}
+use Rattle.py_imports.specs.Reading.Items.{item_imported, ListsOf, AreLeftAt, AreLeft, most_left_at, AreSameLists, StartWith, IsFirst, FollowsItem, begins_closing, IsClosing, by_bracket, by_comma, IsOutOfBrackets, FollowsBracketed, ReadsStar, ListsFrom, path_of}
 use Rattle.py_imports.specs.declared.items.ImportItem.{ImportItem}
 use Rattle.py_imports.specs.declared.items.ImportItems.{ImportItems}
 use Rattle.py_imports.specs.declared.items.ModulePath.{ModulePath}
@@ -90,10 +90,10 @@ item_fewer k s next now rest after i e (inr (n, f)) m =
 
 -- a module, and what follows it
 pub module_none : (ts : List Terminal) → at_module ts ≡ None → at_item modules ts ≡ None
-module_none ts e = ap (option_and_then (λ r. alias_behind r.spelled r.rest)) e
+module_none ts e = ap (option_and_then (λ r. alias_after r.spelled r.rest)) e
 
-pub module_then : (ts rest : List Terminal) (w : List ℕ) (o : Option ItemRead) → at_module ts ≡ Some (record { spelled = w; rest = rest }) → alias_behind w rest ≡ o → at_item modules ts ≡ o
-module_then ts rest w o e f = ap (option_and_then (λ r. alias_behind r.spelled r.rest)) e ∙ f
+pub module_then : (ts rest : List Terminal) (w : List ℕ) (o : Option ItemRead) → at_module ts ≡ Some (record { spelled = w; rest = rest }) → alias_after w rest ≡ o → at_item modules ts ≡ o
+module_then ts rest w o e f = ap (option_and_then (λ r. alias_after r.spelled r.rest)) e ∙ f
 
 -- no list of imports, where there is no such list of items
 pub no_lists : (Are : List Item → Type 0) (import : Item → Imported) → ((items : List Item) → ¬ (Are items)) → (is : List Imported) → ¬ (ListsOf import Are is)
@@ -135,7 +135,7 @@ bracketed_fewer m next now rest after i e (inr (n, closes)) =
 -- the same lists have the same first item
 pub first_of_same : (Before Others After : List Imported → Type 0) (o : Option ImportItem) → AreSameLists Before Others → IsFirst Others o After → IsFirst Before o After
 first_of_same Before Others After None same first = λ is a. first is (same.to is a)
-first_of_same Before Others After (Some i) same first = record { puts = λ is a. same.from (imported_of i ∷ is) (first.puts is a); takes = λ is a. first.takes is (same.to is a) }
+first_of_same Before Others After (Some i) same first = record { puts = λ is a. same.from (item_imported i ∷ is) (first.puts is a); takes = λ is a. first.takes is (same.to is a) }
 
 pub same_lists : (Are Others : List Item → Type 0) (import : Item → Imported) → ((is : List Item) → Are is → Others is) → ((is : List Item) → Others is → Are is) → AreSameLists (ListsOf import Are) (ListsOf import Others)
 same_lists Are Others import to from = record { to = goes; from = comes }
@@ -224,7 +224,7 @@ pub first_by_stage : (r : ImportItems) (s : Stage) (o p : Option ImportItem) (af
 first_by_stage r s o p after now e f g h = subst (λ x. IsFirst (AreLeftAt x (rest_of r.tokens)) p (AreLeft now)) (sym e) (subst (λ x. IsFirst (AreLeftAt s (rest_of r.tokens)) x (AreLeft now)) (sym f) (subst (λ x. IsFirst (AreLeftAt s (rest_of r.tokens)) o (AreLeft x)) (sym g) h))
 
 -- the reader's answer, by its next item
-pub next_some : (Before After : List Imported → Type 0) (o : Option ImportItem) (i : ImportItem) → o ≡ Some i → IsFirst Before o After → StartWith Before (imported_of i) After
+pub next_some : (Before After : List Imported → Type 0) (o : Option ImportItem) (i : ImportItem) → o ≡ Some i → IsFirst Before o After → StartWith Before (item_imported i) After
 next_some Before After o i e h = subst (λ x. IsFirst Before x After) e h
 
 pub next_none : (Before After : List Imported → Type 0) (o : Option ImportItem) → o ≡ None → IsFirst Before o After → (is : List Imported) → ¬ (Before is)

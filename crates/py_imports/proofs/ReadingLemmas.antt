@@ -6,7 +6,7 @@ use Rattle.py_imports.specs.Grammar.{Terminal, import_word, from_word, as_word, 
 use Rattle.py_imports.specs.declared.lexeme.Lexeme.{Lexeme}
 use Rattle.py_imports.specs.declared.lexeme.Lexeme.TheVariants as lexeme
 use Rattle.py_imports.specs.Reading.Lexemes.{followed_by, begins_dot, begins_import_word, PassesDots}
-use Rattle.py_imports.specs.Reading.Parsing.{Read, spelled_before, at_module, import_behind, at_relative}
+use Rattle.py_imports.specs.Reading.Parsing.{Read, spelled_before, at_module, import_after, at_relative}
 use Rattle.py_imports.proofs.ModuleLemmas.{after_name-other, at_module-sound, at_relative-sound}
 
 before_twice : (a b : List ℕ) (o : Option Read) → option_map (spelled_before a) (option_map (spelled_before b) o) ≡ option_map (spelled_before (a ++ b)) o
@@ -70,7 +70,7 @@ relative_dots true start now rest read d h e split =
 relative_dots false start now rest read d h e split = absurd (let z : ⊥ = cc in z)
 
 -- after the dots a module is read, except where the word `import` follows some dots
-named_next : (dotted : Bool) (now : List Terminal) → begins_dot now ≡ false → dotted && begins_import_word now ≡ false → at_relative dotted now ≡ option_and_then (λ r. import_behind r.spelled r.rest) (at_module now)
+named_next : (dotted : Bool) (now : List Terminal) → begins_dot now ≡ false → dotted && begins_import_word now ≡ false → at_relative dotted now ≡ option_and_then (λ r. import_after r.spelled r.rest) (at_module now)
 named_next dotted (dot ∷ ts) d h = absurd cc
 named_next true (import_word ∷ ts) d h = absurd cc
 named_next false (import_word ∷ ts) d h = refl
@@ -87,7 +87,7 @@ named_next dotted (other ∷ ts) d h = refl
 -- a module, and the word `import` after it
 pub relative_named : (dotted : Bool) (start now behind rest read : List Terminal) (w : List ℕ) → PassesDots start dotted now → dotted && begins_import_word now ≡ false → at_module now ≡ Some (record { spelled = w; rest = behind }) → behind ≡ import_word ∷ rest → start ≡ read ++ behind → at_relative false start ≡ Some (record { spelled = spelling read; rest = rest })
 relative_named dotted start now behind rest read w d h e f split =
-    relative_is start read (spelled_before d.written (record { spelled = w; rest = rest })) (d.same ∙ ap (option_map (spelled_before d.written)) (named_next dotted now d.ended h ∙ ap (option_and_then (λ r. import_behind r.spelled r.rest)) e ∙ ap (import_behind w) f)) (split ∙ ap (λ x. read ++ x) f)
+    relative_is start read (spelled_before d.written (record { spelled = w; rest = rest })) (d.same ∙ ap (option_map (spelled_before d.written)) (named_next dotted now d.ended h ∙ ap (option_and_then (λ r. import_after r.spelled r.rest)) e ∙ ap (import_after w) f)) (split ∙ ap (λ x. read ++ x) f)
 
 -- no dot is next, where another lexeme is
 pub no_dot-lexeme : (after : Lexeme) (ts : List Terminal) → after ≢ lexeme.Dot → begins_dot (followed_by after ts) ≡ false

@@ -8,7 +8,7 @@ use Rattle.std.specs.List.{list_any, list_all, position, position_or_len}
 use Rattle.py_lines.specs.declared.token.Token.{Token}
 use Rattle.py_lines.specs.declared.token.TokKind.{TokKind}
 use Rattle.py_lines.specs.declared.token.TokKind.TheVariants as kind
-use Rattle.py_imports.specs.Statement.{is_comment, significant, is_semicolon, depth_past, depth_behind, Place, places_from, is_end}
+use Rattle.py_imports.specs.Statement.{is_comment, significant, is_semicolon, depth_past, depth_after_tokens, Place, places_from, is_end}
 use Rattle.py_imports.specs.Reading.Parsing.{up_to_semicolon}
 use Rattle.py_imports.specs.Shape.{terminals_of, begins_so, is_parenthesis, ends_with_opening, is_nothing, stands_well}
 use Rattle.py_lines.specs.LogicalLine.{LogicalLine}
@@ -93,16 +93,16 @@ nat_lt-suc a b = by_order (nat_lt a b) refl
     by_order false e = e ∙ sym (le-ltb (suc a) (suc b) (omega (arith, ltb-false a b e)))
 
 -- a `;` at depth 0 stands among tokens where fewer stand before the first one
-ends_among : (before ts : List Token) → list_any is_end (places_from before ts) ≡ nat_lt (length (up_to_semicolon (depth_behind 0 before) ts)) (length ts)
+ends_among : (before ts : List Token) → list_any is_end (places_from before ts) ≡ nat_lt (length (up_to_semicolon (depth_after_tokens 0 before) ts)) (length ts)
 ends_among before [] = refl
 ends_among before (t ∷ ts) = by_end (ends_among (before ++ t ∷ []) ts ∙ ap (λ d. nat_lt (length (up_to_semicolon d ts)) (length ts)) (depth_behind-snoc 0 before t)) (is_end here) refl
   where
     here : Place
     here = record { before = before; token = t; behind = ts }
 
-    by_end : list_any is_end (places_from (before ++ t ∷ []) ts) ≡ nat_lt (length (up_to_semicolon (depth_past (depth_behind 0 before) t.kind) ts)) (length ts) → (b : Bool) → is_end here ≡ b → is_end here || list_any is_end (places_from (before ++ t ∷ []) ts) ≡ nat_lt (length (up_to_semicolon (depth_behind 0 before) (t ∷ ts))) (length (t ∷ ts))
+    by_end : list_any is_end (places_from (before ++ t ∷ []) ts) ≡ nat_lt (length (up_to_semicolon (depth_past (depth_after_tokens 0 before) t.kind) ts)) (length ts) → (b : Bool) → is_end here ≡ b → is_end here || list_any is_end (places_from (before ++ t ∷ []) ts) ≡ nat_lt (length (up_to_semicolon (depth_after_tokens 0 before) (t ∷ ts))) (length (t ∷ ts))
     by_end others true e = rw e (sym (lt-ltb 0 (length (t ∷ ts)) (omega arith)))
-    by_end others false e = rw e (others ∙ nat_lt-suc (length (up_to_semicolon (depth_past (depth_behind 0 before) t.kind) ts)) (length ts))
+    by_end others false e = rw e (others ∙ nat_lt-suc (length (up_to_semicolon (depth_past (depth_after_tokens 0 before) t.kind) ts)) (length ts))
 
 semicolon_is_code : (k : TokKind) → is_semicolon k ≡ true → is_comment k ≡ false
 semicolon_is_code kind.Remark e = absurd cc

@@ -1,7 +1,7 @@
 -- The terminals of tokens, one token after another.
 use Rattle.std.proofs.Common.{◌≡◌, ℕ, suc, ◌+◌, ◌-◌, ◌<◌, ◌≤◌, false, true, List, [], ◌∷◌, ◌++◌, length, take, drop, get_or, refl, add-one, drop-cons, arith}
 use Rattle.py_lines.specs.declared.token.Token.{Token}
-use Rattle.py_imports.specs.Statement.{is_comment, significant, depth_past, depth_behind}
+use Rattle.py_imports.specs.Statement.{is_comment, significant, depth_past, depth_after_tokens}
 
 -- a token that is no comment stands first
 pub significant-cons : (t : Token) (ts : List Token) → is_comment t.kind ≡ false → significant (t ∷ ts) ≡ t ∷ significant ts
@@ -28,6 +28,6 @@ pub window-comment : (tokens : List Token) (place end : ℕ) (t : Token) → pla
 window-comment tokens place end t before within code = rw (window-cons tokens place end t before within) (significant-comment (get_or tokens place t) (window tokens (place + 1) end) code)
 
 -- one token more
-pub depth_behind-snoc : (depth : ℕ) (ts : List Token) (t : Token) → depth_behind depth (ts ++ t ∷ []) ≡ depth_past (depth_behind depth ts) t.kind
+pub depth_behind-snoc : (depth : ℕ) (ts : List Token) (t : Token) → depth_after_tokens depth (ts ++ t ∷ []) ≡ depth_past (depth_after_tokens depth ts) t.kind
 depth_behind-snoc depth [] t = refl
 depth_behind-snoc depth (u ∷ ts) t = depth_behind-snoc (depth_past depth u.kind) ts t

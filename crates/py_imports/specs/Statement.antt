@@ -25,9 +25,9 @@ abbrev pub depth_past : ℕ → TokKind → ℕ
 depth_past depth k = if opens_bracket k then depth + 1 else (if closes_bracket k then depth - 1 else depth)
 
 -- the depth after tokens that begin at this depth
-abbrev pub depth_behind : ℕ → List Token → ℕ
-depth_behind depth [] = depth
-depth_behind depth (t ∷ ts) = depth_behind (depth_past depth t.kind) ts
+abbrev pub depth_after_tokens : ℕ → List Token → ℕ
+depth_after_tokens depth [] = depth
+depth_after_tokens depth (t ∷ ts) = depth_after_tokens (depth_past depth t.kind) ts
 
 -- whether the last of these tokens, which begin at this depth, is `;` or `:` at depth 0
 abbrev pub ends_in_divider : ℕ → List Token → Bool
@@ -36,9 +36,9 @@ ends_in_divider depth (t ∷ []) = is_divider t.kind && (depth == 0)
 ends_in_divider depth (t ∷ u ∷ ts) = ends_in_divider (depth_past depth t.kind) (u ∷ ts)
 
 -- whether a statement may start after these tokens: after none, or a `;` or `:` at depth 0
-abbrev pub may_start_behind : List Token → Bool
-may_start_behind [] = true
-may_start_behind (t ∷ ts) = ends_in_divider 0 (t ∷ ts)
+abbrev pub may_start_after : List Token → Bool
+may_start_after [] = true
+may_start_after (t ∷ ts) = ends_in_divider 0 (t ∷ ts)
 
 -- a place in a list of tokens: a token, with what stands before and after it
 pub record Place : Type 0 where
@@ -53,11 +53,11 @@ places_from before (t ∷ ts) = record { before = before; token = t; behind = ts
 
 -- the places at which statements start, in order
 abbrev pub starts : List Token → List Place
-starts tokens = filter (λ p. may_start_behind p.before) (places_from [] tokens)
+starts tokens = filter (λ p. may_start_after p.before) (places_from [] tokens)
 
 -- whether a `;` at depth 0 stands at this place
 abbrev pub is_end : Place → Bool
-is_end p = is_semicolon p.token.kind && (depth_behind 0 p.before == 0)
+is_end p = is_semicolon p.token.kind && (depth_after_tokens 0 p.before == 0)
 
 -- the tokens of the statement that starts here: those before the first `;` at depth 0, or all
 abbrev pub statement_at : Place → List Token

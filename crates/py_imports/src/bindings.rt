@@ -10,7 +10,7 @@ ghost use Rattle.py_imports.specs.Grammar.{begins_import};
 ghost use Rattle.py_imports.specs.Statement.{Place};
 ghost use Rattle.py_imports.specs.Binds.{terminal_in, Binds, Refuses};
 ghost use Rattle.py_imports.specs.Bound.{bound_of, bound_at};
-ghost use Rattle.py_imports.specs.Reading.Items.{imported_of, AreLeft};
+ghost use Rattle.py_imports.specs.Reading.Items.{item_imported, AreLeft};
 ghost use Rattle.py_imports.specs.Reading.Bindings.{is_first_word, fault_of, BindsOne, RefusesItems, BindsMoreAt, RefusesAt, IsPlaceAt};
 
 use crate::binding::Binding;
@@ -39,7 +39,7 @@ fn owned(alloc: Global, text: Option<&str>) -> Result<Option<String>, AllocError
 
 /// The binding of an item.
 fn binding_of(alloc: Global, head: Head, item: ImportItem<'_>) -> Result<Binding, AllocError>
-    ensures { IfOk result (λ b. bound_of b ≡ bound_at head.line head.indented (imported_of item.entry)) }
+    ensures { IfOk result (λ b. bound_of b ≡ bound_at head.line head.indented (item_imported item.entry)) }
 {
     let mut module_name = String::new(alloc);
     item.module.push_onto(&mut module_name)?;

@@ -3,7 +3,7 @@ ghost use Rattle.std.specs.Prelude.{◌≡◌, ◌≢◌, ◌≤◌, ◌-◌, �
 ghost use Rattle.std.specs.Option.{option_map};
 ghost use Rattle.py_imports.specs.Statement.{significant};
 ghost use Rattle.py_imports.specs.Binds.{terminal_in};
-ghost use Rattle.py_imports.specs.Reading.Parsing.{at_module, at_relative, alias_behind, at_item};
+ghost use Rattle.py_imports.specs.Reading.Parsing.{at_module, at_relative, alias_after, at_item};
 ghost use Rattle.py_imports.specs.Grammar.{identifiers};
 
 use crate::lexeme::Lexeme;

@@ -36,7 +36,7 @@ abbrev pub EndsLine : List Piece → Type 0
 EndsLine pieces = (pieces ≡ []) ⊎ ((body : List Piece) × (last : Piece) × (pieces ≡ body ++ last ∷ []) × (last.class ≡ line_end) × (depth_through 0 body ≡ 0))
 
 -- the pieces read a prefix of the characters that ends a line, the longest that there is
-pub record IsFront (pieces : List Piece) (characters : List ℕ) : Type 0 where
+pub record IsReadPrefix (pieces : List Piece) (characters : List ℕ) : Type 0 where
   pub rest : List ℕ
   pub spell : spelled pieces ++ rest ≡ characters
   pub reading : IsBalancedReading pieces (spelled pieces)
@@ -48,7 +48,7 @@ abbrev pub IsUnescaped : List ℕ → Type 0
 IsUnescaped last = (last ≡ []) ⊎ ((slash : ℕ) × (last ≡ slash ∷ []) × (is_backslash slash ≡ true))
 
 -- the beginning of a short string, up to where it is still open (2.4.1)
-pub record IsShortFront (text : List ℕ) : Type 0 where
+pub record IsShortPrefix (text : List ℕ) : Type 0 where
   pub prefix : List ℕ
   pub quote : ℕ
   pub items : List (List ℕ)
@@ -60,7 +60,7 @@ pub record IsShortFront (text : List ℕ) : Type 0 where
   pub escapes : IsUnescaped last
 
 -- the beginning of a long string, up to where it is still open (2.4.1)
-pub record IsLongFront (text : List ℕ) : Type 0 where
+pub record IsLongPrefix (text : List ℕ) : Type 0 where
   pub prefix : List ℕ
   pub quote : ℕ
   pub items : List (List ℕ)
@@ -87,15 +87,15 @@ IsSlash front = (slash : ℕ) × (front ≡ slash ∷ []) × (is_backslash slash
 
 -- a short string that starts after `start` is still open
 abbrev pub InShortString : List ℕ → List ℕ → Type 0
-InShortString characters start = Stands IsShortFront characters start
+InShortString characters start = Stands IsShortPrefix characters start
 
 -- a long string that starts after `start` is still open
 abbrev pub InLongString : List ℕ → List ℕ → Type 0
-InLongString characters start = Stands IsLongFront characters start
+InLongString characters start = Stands IsLongPrefix characters start
 
 -- a backslash, which stands in no string and no comment, comes after `start`
-abbrev pub BehindBackslash : List ℕ → List ℕ → Type 0
-BehindBackslash characters start = Stands IsSlash characters start
+abbrev pub AfterBackslash : List ℕ → List ℕ → Type 0
+AfterBackslash characters start = Stands IsSlash characters start
 
 -- pieces that read the characters before `c`, with this many brackets open
 pub record IsAtDepth (characters : List ℕ) (c depth : ℕ) : Type 0 where
@@ -133,7 +133,7 @@ pub record BreaksString (before : List ℕ) (c offset : ℕ) : Type 0 where
 -- a character directly after a backslash outside strings and comments, which stands at this byte
 pub record BreaksJoin (before : List ℕ) (offset : ℕ) : Type 0 where
   pub start : List ℕ
-  pub behind : BehindBackslash before start
+  pub behind : AfterBackslash before start
   pub place : offset ≡ byte_len start
 
 -- a closing bracket
@@ -212,7 +212,7 @@ kind_of_unfinished open_bracket = OpenBracket
 abbrev pub IsOpenAtEnd : Unfinished → List ℕ → List ℕ → Type 0
 IsOpenAtEnd open_short characters start = InShortString characters start
 IsOpenAtEnd open_long characters start = InLongString characters start
-IsOpenAtEnd open_join characters start = BehindBackslash characters start
+IsOpenAtEnd open_join characters start = AfterBackslash characters start
 IsOpenAtEnd open_bracket characters start = InBracket characters start
 
 -- the fault of a text that is UTF-8 and live, but has no reading
@@ -264,7 +264,7 @@ pub record IsLexedToFault (text : List ℕ) (lines : List LogicalLine) (fault : 
   pub tail : List ℕ
   pub pieces : List Piece
   pub decodes : Decodes text characters tail
-  pub front : IsFront pieces characters
+  pub front : IsReadPrefix pieces characters
   pub refused : IsLexicalFault characters tail fault
   pub cut : lines ≡ lines_of pieces
 

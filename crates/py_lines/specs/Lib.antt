@@ -8,7 +8,7 @@ pub mod Neighbours
 pub mod Words
 pub mod Settled
 pub mod Given
-pub mod Scanning
+pub mod ScannerState
 pub mod Reader
 pub mod Token
 pub mod FaultWords

@@ -3,7 +3,7 @@ use Rattle.std.specs.Prelude.{Option, None, Some, Result, Ok, Err, [], ⊤}
 use Rattle.std.specs.Borrow.{follows_so, MutBor, Fml}
 use mathlib.Core.Option.{none}
 use mir.Syntax.{named}
-use Rattle.py_lines.specs.Reader.{Reader, Continues, Ends, Fails, RunsOut}
+use Rattle.py_lines.specs.Reader.{Reader, Continues, Ends, Fails, ReaderRunsOut}
 use Rattle.py_lines.specs.declared.fault.LexError.{LexError}
 use Rattle.py_lines.specs.declared.fault.LexError.TheVariants as lex
 use Rattle.py_lines.specs.declared.unit.Unit as unit
@@ -17,7 +17,7 @@ abbrev pub ReadsNext : Reader → Result (Option unit.Unit) LexError → Reader 
 ReadsNext old (Ok (Some u)) new = Continues old (line_in u) new
 ReadsNext old (Ok None) new = Ends old new
 ReadsNext old (Err (lex.Fault f)) new = Fails old f new
-ReadsNext old (Err lex.Memory) new = RunsOut old new
+ReadsNext old (Err lex.Memory) new = ReaderRunsOut old new
 
 -- what `next_unit` answers, and the reader that it leaves once the unit is given back
 abbrev pub LeavesNext : MutBor lines.Lines → Result (Option unit.Unit) LexError → Fml

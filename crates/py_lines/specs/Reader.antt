@@ -62,7 +62,7 @@ pub record Fails (old : Reader) (fault : Fault) (new : Reader) : Type 0 where
 
 -- There was no memory for the next logical line: nothing changed. It is answered before the text's end alone, and
 -- not where the fault is known.
-pub record RunsOut (old new : Reader) : Type 0 where
+pub record ReaderRunsOut (old new : Reader) : Type 0 where
   pub same : new ≡ old
   pub more : old.place < length old.text
   pub fault : old.fault ≡ None

@@ -14,7 +14,7 @@ abbrev pub EndsForGood : List Piece → List ℕ → Type 0
 EndsForGood pieces rest = EndsLine pieces × (rest ≡ [] → ends is_return (spelled pieces) ≡ false)
 
 -- the pieces read a prefix of the text that ends a line for good, the longest that there is
-pub record IsSettledFront (pieces : List Piece) (characters tail : List ℕ) : Type 0 where
+pub record IsSettledPrefix (pieces : List Piece) (characters tail : List ℕ) : Type 0 where
   pub rest : List ℕ
   pub spell : spelled pieces ++ rest ≡ characters
   pub reading : IsBalancedReading pieces (spelled pieces)
@@ -27,7 +27,7 @@ pub record IsSettled (text : List ℕ) (lines : List LogicalLine) : Type 0 where
   pub tail : List ℕ
   pub pieces : List Piece
   pub decodes : Decodes text characters tail
-  pub front : IsSettledFront pieces characters tail
+  pub front : IsSettledPrefix pieces characters tail
   pub cut : lines ≡ lines_of pieces
 
 -- bytes that begin no character, and that no bytes after them complete

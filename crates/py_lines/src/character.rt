@@ -4,7 +4,7 @@ ghost use Rattle.std.specs.Prelude.{◌≡◌};
 ghost use Rattle.py_lines.specs.Character.{is_mark, is_space, is_word_character, is_word_start, is_digit, is_quote, is_operator, is_line_feed, is_return, is_break, is_hash, is_backslash, is_r, is_b, is_f, is_u};
 ghost use Rattle.py_lines.specs.Balance.{is_opening, is_closing};
 
-use crate::run::is_word_byte;
+use crate::run::is_ascii_word;
 
 /// U+FEFF, the byte order mark.
 #[tactic(auto, unfolding(crate::specs::Character::is_mark))]
@@ -28,7 +28,7 @@ pub fn is_word_character(c: char) -> bool
     ensures { result ≡ is_word_character c }
 {
     if c.is_ascii() {
-        is_word_byte(c as u8)
+        is_ascii_word(c as u8)
     } else {
         unicode_ident::is_xid_continue(c)
     }
@@ -48,7 +48,7 @@ pub fn is_word_start(c: char) -> bool
     ensures { result ≡ is_word_start c }
 {
     if c.is_ascii() {
-        is_word_byte(c as u8)
+        is_ascii_word(c as u8)
     } else {
         unicode_ident::is_xid_start(c) || c == '_' || is_digit(c)
     }

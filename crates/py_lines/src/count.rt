@@ -2,7 +2,7 @@
 
 ghost use Rattle.std.specs.Prelude.{◌≡◌, ℕ, ◌+◌, ◌<◌, ◌^◌, false, List, length, encode_utf8_all};
 ghost use Rattle.py_lines.specs.LogicalLine.{line_ends};
-ghost use Rattle.py_lines.specs.Private.Scan.{counts_behind, Counts};
+ghost use Rattle.py_lines.specs.Private.Scan.{counts_after, Counts};
 
 use crate::character::{is_line_feed, is_return};
 
@@ -26,7 +26,7 @@ impl Count {
     }
 
     /// After one more character.
-    #[tactic(auto, unfolding(crate::specs::Private::Scan::counts_behind))]
+    #[tactic(auto, unfolding(crate::specs::Private::Scan::counts_after))]
     pub fn push(&mut self, c: char)
         requires { self.old.line + 1 < 2 ^ 64 }
         ensures { Counts self.old c self.new }

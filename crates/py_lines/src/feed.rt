@@ -78,8 +78,8 @@ pub struct Feed {
 
 impl Feed {
     ghost use Rattle.std.specs.Prelude.{◌&&◌, not, true, false, None, Some, Ok, Err, List, [], IsUtf8};
-    ghost use Rattle.py_lines.specs.Scanning.{begun_at, Finishes};
-    ghost use Rattle.py_lines.specs.Scanning.View.{ready_of, scanning_of};
+    ghost use Rattle.py_lines.specs.ScannerState.{begun_at, Finishes};
+    ghost use Rattle.py_lines.specs.ScannerState.View.{ready_of, scanning_of};
     ghost use Rattle.py_lines.specs.UnitLine.{line_in};
     ghost use Rattle.py_lines.specs.Private.Scan.{is_returned};
     ghost use Rattle.py_lines.specs.Private.Feed.{HasRoom, IsOpen, FailsAt, ClosesLine, ScansCharacters, ScansHeld, StopsHeld, whole_end, GivesBack, TakesChunk, HasScannedNext, IsScanned, IsReady, IsSoundFeed, FeedsSo, EndsHeld, EndsText, LetsGo};

@@ -1,7 +1,7 @@
 //! The machine that reads a text one character at a time.
 
 ghost use Rattle.std.specs.Prelude.{◌≡◌, ◌<◌, ◌==◌, ◌||◌, ◌&&◌, length};
-ghost use Rattle.py_lines.specs.Private.Machine.{first_spelling, spelling_with, is_prefix_spelling, token_of, short_move, long_move, move_of, start_of, in_short, in_long, is_behind_slash};
+ghost use Rattle.py_lines.specs.Private.Machine.{first_spelling, spelling_with, is_prefix_spelling, token_of, short_move, long_move, move_of, start_of, in_short, in_long, is_after_backslash};
 ghost use Rattle.py_lines.specs.Private.Run.{word_spelling, is_free};
 ghost use Rattle.py_lines.specs.Private.Scan.{is_join_mode, is_return_mode, holds_nothing};
 
@@ -238,8 +238,8 @@ impl Mode {
     }
 
     /// Whether a backslash stands directly before, outside strings and comments.
-    pub fn is_behind_slash(self) -> bool
-        ensures { result ≡ is_behind_slash self }
+    pub fn is_after_backslash(self) -> bool
+        ensures { result ≡ is_after_backslash self }
     {
         matches!(self, Mode::Backslash)
     }

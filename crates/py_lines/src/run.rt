@@ -3,7 +3,7 @@
 ghost use Rattle.std.specs.Prelude.{◌≡◌, ◌<◌, ◌==◌, ℕ, Bool, true, List, length};
 ghost use Rattle.py_lines.specs.Character.{is_space};
 ghost use Rattle.py_lines.specs.Piece.{begins};
-ghost use Rattle.py_lines.specs.Private.Run.{BeginsSo, CountsSet, HasAsciiQuote, IsRunOf, Marks, is_between, is_in_run, is_word_byte, is_comment_byte, is_body_byte, is_text_byte, stays};
+ghost use Rattle.py_lines.specs.Private.Run.{BeginsSo, CountsSet, HasAsciiQuote, IsRunOf, Marks, is_between, is_in_run, is_ascii_word, is_comment_byte, is_body_byte, is_text_byte, stays};
 
 use crate::character::is_break;
 use crate::mode::{Mode, Spelling};
@@ -14,9 +14,9 @@ use crate::run::FirstByte::{
 use std::simd::prelude::*;
 
 /// Whether the byte is an ASCII letter, a digit or the underscore.
-#[tactic(auto, unfolding(crate::specs::Private::Run::is_word_byte))]
-pub fn is_word_byte(b: u8) -> bool
-    ensures { result ≡ is_word_byte b }
+#[tactic(auto, unfolding(crate::specs::Private::Run::is_ascii_word))]
+pub fn is_ascii_word(b: u8) -> bool
+    ensures { result ≡ is_ascii_word b }
 {
     b.is_ascii_lowercase() || matches!(b, b'A'..=b'Z' | b'0'..=b'9' | b'_')
 }
@@ -107,7 +107,7 @@ fn equal(lanes: u8x16, byte: u8) -> u8x16
 /// The lanes that hold bytes of words.
 #[inline(always)]
 fn words(lanes: u8x16) -> u8x16
-    ensures { Marks is_word_byte lanes result }
+    ensures { Marks is_ascii_word lanes result }
 {
     let capital = between(lanes, b'0', b'9') | between(lanes, b'A', b'Z');
     capital | between(lanes, b'a', b'z') | equal(lanes, b'_')
@@ -174,7 +174,7 @@ impl Run {
         ensures { result ≡ is_in_run self b }
     {
         match self {
-            Run::Word => is_word_byte(b),
+            Run::Word => is_ascii_word(b),
             Run::Space => is_space_byte(b),
             Run::Body(quote) => is_body_byte(quote, b),
             Run::Text(quote) => is_text_byte(quote, b),
@@ -237,9 +237,9 @@ pub fn space_run(bytes: &[u8]) -> usize
 
 /// How many bytes of words a text begins with, where it mostly begins with none: after a character of another script.
 fn later_word_run(bytes: &[u8]) -> usize
-    ensures { IsRunOf is_word_byte bytes.now result }
+    ensures { IsRunOf is_ascii_word bytes.now result }
 {
-    if bytes.is_empty() || !is_word_byte(bytes[0]) {
+    if bytes.is_empty() || !is_ascii_word(bytes[0]) {
         return 0;
     }
     Run::Word.len_in(bytes)

@@ -322,7 +322,7 @@ impl Scan {
     {
         let (kind, place) = if self.piece.mode.in_short() {
             (FaultKind::OpenString, self.piece.start)
-        } else if self.piece.mode.is_behind_slash() {
+        } else if self.piece.mode.is_after_backslash() {
             (FaultKind::BadJoin, self.piece.start)
         } else if is_closing(c) {
             (FaultKind::WrongClose, self.stop)
@@ -342,7 +342,7 @@ impl Scan {
             FaultKind::OpenString
         } else if self.piece.mode.in_long() {
             FaultKind::OpenTriple
-        } else if self.piece.mode.is_behind_slash() {
+        } else if self.piece.mode.is_after_backslash() {
             FaultKind::BadJoin
         } else {
             return self.brackets.innermost().map(|bracket| Flaw {

@@ -1,7 +1,7 @@
 //! The logical lines of a text that comes in pieces.
 ghost use Rattle.std.specs.Prelude.{◌≡◌, ℕ, ◌+◌, ◌<◌, ◌≤◌, ◌^◌, false, None, Some, IsSome, List, [], length, IfOk, IfErr};
-ghost use Rattle.py_lines.specs.Scanning.{Scanning, IsScanning, ScansFrom, begun_at, fed_of, Feeds, Releases, Finishes};
-ghost use Rattle.py_lines.specs.Scanning.View.{scanning_of};
+ghost use Rattle.py_lines.specs.ScannerState.{ScannerState, IsScanning, ScansFrom, begun_at, fed_of, Feeds, Releases, Finishes};
+ghost use Rattle.py_lines.specs.ScannerState.View.{scanning_of};
 ghost use Rattle.py_lines.specs.UnitLine.{line_in};
 ghost use Rattle.py_lines.specs.Private.Feed.{IsSoundFeed};
 
@@ -12,7 +12,7 @@ use std::alloc::Global;
 use std::marker::Model;
 
 /// Reads a text that comes in pieces into its logical lines (Python Language Reference, 2.1). It keeps the text of one
-/// line and at most one byte more. Contracts see it as a [`Scanning`]: the byte and line up to which lines were
+/// line and at most one byte more. Contracts see it as a [`ScannerState`]: the byte and line up to which lines were
 /// released, the text fed since, the line that is ready, and the text's fault once it was met.
 #[derive(Drop)]
 pub struct Scanner {
@@ -20,7 +20,7 @@ pub struct Scanner {
 }
 
 impl Model for Scanner {
-    ghost Value = { Scanning };
+    ghost Value = { ScannerState };
 
     ghost view = { λ s. scanning_of s.feed };
 

@@ -4,7 +4,7 @@ ghost use Rattle.std.specs.Prelude.{◌≡◌, ◌+◌, ◌<◌, ◌^◌, true, 
 ghost use Rattle.py_lines.specs.Character.{is_hash, is_operator, is_quote, is_return, is_space};
 ghost use Rattle.py_lines.specs.Piece.{begins};
 ghost use Rattle.py_lines.specs.Private.Scan.{stack_of};
-ghost use Rattle.py_lines.specs.Private.Run.{WhereverReached, is_free, opened, AddsToken, TakesRun, TakesText, TakesBracket, TakesLineFeed, TakesReturn, TakesPiece, TakesRemark, line_ended, word_mode, space_mode, IsNoLonger, LeavesOff, is_word_byte, follows, may_begin};
+ghost use Rattle.py_lines.specs.Private.Run.{WhereverReached, is_free, opened, AddsToken, TakesRun, TakesText, TakesBracket, TakesLineFeed, TakesReturn, TakesPiece, TakesRemark, line_ended, word_mode, space_mode, IsNoLonger, LeavesOff, is_ascii_word, follows, may_begin};
 ghost use Rattle.py_lines.specs.Token.{is_comment};
 
 use crate::character::is_line_feed;
@@ -125,8 +125,8 @@ impl Scan {
     /// Takes the word that the bytes begin with, after closed pieces, and answers its length.
     fn word(&mut self, bytes: &[u8]) -> Result<usize, AllocError>
         requires bytes { self.old.stop + length bytes.now < 2 ^ 64 }
-        requires begins { begins is_word_byte bytes.now ≡ true }
-        ensures { IfOk result (λ len. TakesRun is_word_byte follows word_mode self.old bytes.now len self.new) }
+        requires begins { begins is_ascii_word bytes.now ≡ true }
+        ensures { IfOk result (λ len. TakesRun is_ascii_word follows word_mode self.old bytes.now len self.new) }
     {
         let len = Run::Word.len_in(bytes);
         if !self.is_followed(&bytes[len..]) {

@@ -4,7 +4,7 @@ use Rattle.py_lines.specs.LogicalLine.{LogicalLine}
 use Rattle.py_lines.specs.Reader.{HasGiven, standing_at}
 use Rattle.py_imports.specs.Bound.{Bound, bound_of}
 use Rattle.py_imports.specs.declared.binding.Binding.{Binding}
-use Rattle.isort_find.specs.Finder.{Finding, HasFound, SameTask, FindsNext, FindsNoMemory, text_of, left_of}
+use Rattle.isort_find.specs.Finder.{FinderState, HasFound, SameTask, FindsNext, FinderRunsOut, text_of, left_of}
 use Rattle.isort_find.specs.Steps.Standings.{standing_before}
 use Rattle.isort_find.specs.declared.error.FindError.{FindError}
 use Rattle.isort_find.specs.declared.error.FindError.TheVariants as error
@@ -15,13 +15,13 @@ use Rattle.isort_find.specs.declared.step.Step.{Step}
 use Rattle.isort_find.specs.declared.step.Step.TheVariants as step
 
 -- from one state to another that has given the same
-pub record KeepsGiven (old new : Finding) : Type 0 where
+pub record KeepsGiven (old new : FinderState) : Type 0 where
   pub kept : (bounds : List Bound) → HasFound old bounds → HasFound new bounds
   pub task : SameTask old new
   pub given : new.cursor.given ≡ old.cursor.given
 
 -- nothing is left of the line read last
-pub record LooksThrough (old new : Finding) : Type 0 where
+pub record LooksThrough (old new : FinderState) : Type 0 where
   pub keeps : KeepsGiven old new
   pub none : new.pending.left ≡ []
   pub cursor : new.cursor ≡ old.cursor
@@ -29,13 +29,13 @@ pub record LooksThrough (old new : Finding) : Type 0 where
   pub is_open : new.outcome ≡ outcome.Open
 
 -- the next binding of the line read last with a new key, or that there is none
-abbrev pub GivesNew : Finding → Result (Option Binding) FindError → Finding → Type 0
+abbrev pub GivesNew : FinderState → Result (Option Binding) FindError → FinderState → Type 0
 GivesNew old (Ok (Some b)) new = FindsNext old (bound_of b) new
 GivesNew old (Ok None) new = LooksThrough old new
-GivesNew old (Err e) new = FindsNoMemory old new × (e ≡ error.Memory)
+GivesNew old (Err e) new = FinderRunsOut old new × (e ≡ error.Memory)
 
 -- the reader stands where it has to read again
-pub record GoesBack (old new : Finding) : Type 0 where
+pub record GoesBack (old new : FinderState) : Type 0 where
   pub reader : (lines : List LogicalLine) → HasGiven old.reader lines → new.reader ≡ old.reader
   pub text : text_of new ≡ text_of old
   pub here : new.again ≡ false
@@ -46,19 +46,19 @@ pub record GoesBack (old new : Finding) : Type 0 where
   pub falls : left_of new ≤ left_of old
 
 -- the bindings of the line at this place are to be looked at, except those that were
-abbrev pub with_line : Finding → Place → List Bound → Finding
+abbrev pub with_line : FinderState → Place → List Bound → FinderState
 with_line f place bounds = record f { pending = record { place = place; taken = min f.skip (length bounds); left = drop f.skip bounds }; skip = 0 }
 
 -- the end or a fault was met at this place
-abbrev pub with_outcome : Finding → Place → Outcome → Finding
+abbrev pub with_outcome : FinderState → Place → Outcome → FinderState
 with_outcome f place outcome = record f { outcome = outcome; cursor = standing_before f.cursor place }
 
 -- the line at this place has to be read again
-abbrev pub with_line_again : Finding → Place → Finding
+abbrev pub with_line_again : FinderState → Place → FinderState
 with_line_again f place = record f { reader = standing_at (text_of f) place.offset place.line; again = true }
 
 -- what becomes of a finder by a step that was read at this place
-abbrev pub Follows : Finding → Place → Step → Result (Unit {0}) FindError → Finding → Type 0
+abbrev pub Follows : FinderState → Place → Step → Result (Unit {0}) FindError → FinderState → Type 0
 Follows old place (step.Bindings bindings) result new = (result ≡ Ok tt) × (new ≡ with_line old place (map bound_of bindings.items))
 Follows old place step.End result new = (result ≡ Ok tt) × (new ≡ with_outcome old place outcome.End)
 Follows old place (step.Fault fault) result new = (result ≡ Ok tt) × (new ≡ with_outcome old place (outcome.Fault fault))
@@ -66,18 +66,18 @@ Follows old place step.LineLost result new = (result ≡ Err error.Memory) × (n
 Follows old place step.NoMemory result new = (result ≡ Err error.Memory) × (new ≡ old)
 
 -- the next logical line was read, or the end or a fault was met
-pub record ReadsOn (old new : Finding) : Type 0 where
+pub record ReadsOn (old new : FinderState) : Type 0 where
   pub keeps : KeepsGiven old new
   pub falls : new.outcome ≡ outcome.Open → left_of new < left_of old
   pub cursor : new.outcome ≡ outcome.Open → new.cursor ≡ old.cursor
 
 -- what comes of reading the next logical line
-abbrev pub ReadsLine : Finding → Result (Unit {0}) FindError → Finding → Type 0
+abbrev pub ReadsLine : FinderState → Result (Unit {0}) FindError → FinderState → Type 0
 ReadsLine old (Ok _) new = ReadsOn old new
-ReadsLine old (Err e) new = FindsNoMemory old new × (e ≡ error.Memory)
+ReadsLine old (Err e) new = FinderRunsOut old new × (e ≡ error.Memory)
 
 -- from one state of a call of `next_import` to another
-pub record Goes (old new : Finding) : Type 0 where
+pub record Goes (old new : FinderState) : Type 0 where
   pub keeps : KeepsGiven old new
   pub falls : new.outcome ≡ outcome.Open → left_of new ≤ left_of old
   pub cursor : new.outcome ≡ outcome.Open → new.cursor ≡ old.cursor

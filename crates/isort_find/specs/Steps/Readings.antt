@@ -1,7 +1,7 @@
 -- What is learned from the next logical line.
 use Rattle.std.specs.Prelude.{◌≡◌, ◌⊎◌, true, false, map}
 use Rattle.py_lines.specs.LogicalLine.{LogicalLine}
-use Rattle.py_lines.specs.Reader.{Reader, Continues, Ends, Fails, RunsOut}
+use Rattle.py_lines.specs.Reader.{Reader, Continues, Ends, Fails, ReaderRunsOut}
 use Rattle.py_imports.specs.Bound.{bound_of}
 use Rattle.py_imports.specs.Binds.{Binds, IsBadAt}
 use Rattle.isort_find.specs.Found.{ends_top}
@@ -27,4 +27,4 @@ StepsTo options old (step.Bindings bindings) new = GivesLine old (λ line. Binds
 StepsTo options old step.End new = GivesLine old (λ line. ends_top options line ≡ true) new ⊎ Ends old new
 StepsTo options old (step.Fault fault) new = GivesLine old (λ line. IsBadAt line fault × (ends_top options line ≡ false)) new ⊎ Fails old fault new
 StepsTo options old step.LineLost new = GivesLine old (λ line. Unit {0}) new
-StepsTo options old step.NoMemory new = RunsOut old new
+StepsTo options old step.NoMemory new = ReaderRunsOut old new

@@ -9,7 +9,7 @@ use Rattle.std.proofs.lemmas.List.Elements.{filter-append}
 use Rattle.std.proofs.lemmas.Slice.Eq.{bytes_eq-Decides}
 use Rattle.py_imports.specs.Grammar.{Imported, Item}
 use Rattle.isort_settings.specs.Values.{Values}
-use Rattle.isort_sort.specs.Private.Gathered.{Brought, brings, brought, listed_by, listed_item, Seen, nothing, joined, seen_with, seen_after}
+use Rattle.isort_sort.specs.Private.Gathered.{Brought, brings, brought, listed_by, listed_item, Seen, nothing_seen, joined, seen_with, seen_after}
 use Rattle.isort_sort.specs.Member.{Member, imports_of, name_or_nothing, item_of, belongs, begins_with, owned}
 use Rattle.isort_sort.specs.Statement.{Statement, straight, star, names, single, is_star, stands_alone, statement_of, statement_with, same_statement}
 use Rattle.isort_sort.proofs.Orders.Equality.{is_same}
@@ -33,12 +33,12 @@ gathered-more g b bs = λ i. record {
 }
 
 -- what is seen of a statement is all that belongs to it
-pub seen_is_gathered : (s : Statement) (o : Option Seen) (bs : List Brought) → unwrap_or (seen_after s o bs) nothing ≡ gathered (unwrap_or o nothing) (for s bs)
-seen_is_gathered s o [] = gathered-none (unwrap_or o nothing)
+pub seen_is_gathered : (s : Statement) (o : Option Seen) (bs : List Brought) → unwrap_or (seen_after s o bs) nothing_seen ≡ gathered (unwrap_or o nothing_seen) (for s bs)
+seen_is_gathered s o [] = gathered-none (unwrap_or o nothing_seen)
 seen_is_gathered s o (b ∷ bs) = seen_is_gathered s (seen_with s o b) bs ∙ by (same_statement b.statement s)
   where
-    by : (t : Bool) → gathered (unwrap_or (cond t (Some (joined (unwrap_or o nothing) b)) o) nothing) (for s bs) ≡ gathered (unwrap_or o nothing) (cond t (b ∷ for s bs) (for s bs))
-    by true = gathered-more (unwrap_or o nothing) b (for s bs)
+    by : (t : Bool) → gathered (unwrap_or (cond t (Some (joined (unwrap_or o nothing_seen) b)) o) nothing_seen) (for s bs) ≡ gathered (unwrap_or o nothing_seen) (cond t (b ∷ for s bs) (for s bs))
+    by true = gathered-more (unwrap_or o nothing_seen) b (for s bs)
     by false = refl
 
 -- a statement is seen where an import belongs to it
@@ -47,7 +47,7 @@ is_seen s None [] = refl
 is_seen s (Some g) [] = refl
 is_seen s o (b ∷ bs) = is_seen s (seen_with s o b) bs ∙ by (same_statement b.statement s) o (list_any (λ (t : Statement). same_statement t s) (map (λ b. b.statement) bs))
   where
-    by : (t : Bool) (o : Option Seen) (others : Bool) → is_some (cond t (Some (joined (unwrap_or o nothing) b)) o) || others ≡ is_some o || (t || others)
+    by : (t : Bool) (o : Option Seen) (others : Bool) → is_some (cond t (Some (joined (unwrap_or o nothing_seen) b)) o) || others ≡ is_some o || (t || others)
     by true None others = refl
     by true (Some g) others = refl
     by false None others = refl

@@ -6,7 +6,7 @@ use Rattle.std.proofs.lemmas.List.{map-append}
 use Rattle.std.proofs.lemmas.List.Folds.{list_any-append}
 use Rattle.std.proofs.lemmas.Slice.Eq.{bytes_eq-Decides}
 use Rattle.indexmap.specs.IndexSet.{insert_key, insert_all}
-use Rattle.isort_sort.specs.Member.{firsts}
+use Rattle.isort_sort.specs.Member.{first_texts}
 
 -- one text more, unless it is there
 abbrev with_text : List (List ℕ) → List ℕ → List (List ℕ)
@@ -53,9 +53,9 @@ one_text known t fs false is =
     append_assoc known (t ∷ []) (filter (is_new (known ++ t ∷ [])) fs)
     ∙ ap (λ l. known ++ t ∷ l) (sym (filter-filter (is_new known) (λ u. not (bytes_eq t u)) fs ∙ ap (λ (p : List ℕ → Bool). filter p fs) (λ i u. new_later known t u i)))
 
-all_texts : (known ts : List (List ℕ)) → fold with_text known ts ≡ known ++ filter (is_new known) (firsts ts)
+all_texts : (known ts : List (List ℕ)) → fold with_text known ts ≡ known ++ filter (is_new known) (first_texts ts)
 all_texts known [] = sym (append-nil known)
-all_texts known (t ∷ ts) = all_texts (with_text known t) ts ∙ one_text known t (firsts ts) (list_any (bytes_eq t) known) refl
+all_texts known (t ∷ ts) = all_texts (with_text known t) ts ∙ one_text known t (first_texts ts) (list_any (bytes_eq t) known) refl
 
 filter-all : {X : Type 0} (xs : List X) → filter (λ x. true) xs ≡ xs
 filter-all [] = refl
@@ -75,5 +75,5 @@ module _ (eq : String Global → String Global → Bool) (agree : (a b : String 
   inserted ks (t ∷ ts) = inserted (insert_key eq ks t) ts ∙ ap (λ known. fold with_text known (map string_bytes ts)) (with_bytes (list_any (eq t) ks) ks t ∙ ap (λ (b : Bool). if b then map string_bytes ks else map string_bytes ks ++ string_bytes t ∷ []) (known_bytes t ks))
 
   -- the texts of a set into which these were put
-  pub firsts-insert_all : (ts : List (String Global)) → map string_bytes (insert_all eq [] ts) ≡ firsts (map string_bytes ts)
-  firsts-insert_all ts = inserted [] ts ∙ all_texts [] (map string_bytes ts) ∙ filter-all (firsts (map string_bytes ts))
+  pub firsts-insert_all : (ts : List (String Global)) → map string_bytes (insert_all eq [] ts) ≡ first_texts (map string_bytes ts)
+  firsts-insert_all ts = inserted [] ts ∙ all_texts [] (map string_bytes ts) ∙ filter-all (first_texts (map string_bytes ts))

@@ -5,7 +5,7 @@ use Rattle.std.specs.Map.{lookup}
 use Rattle.std.specs.Option.{option_map, unwrap_or}
 use Rattle.std.specs.String.{string_eq}
 use Rattle.indexmap.specs.IndexMap.{insert_entry}
-use Rattle.isort_sort.specs.Private.Gathered.{Brought, Seen, nothing, joined, seen_with, seen_value, found}
+use Rattle.isort_sort.specs.Private.Gathered.{Brought, Seen, nothing_seen, joined, seen_with, seen_value, found}
 use Rattle.isort_sort.specs.Statement.{Statement, same_statement, same_alias}
 use Rattle.isort_sort.specs.Private.Values.{statement_value}
 use Rattle.isort_sort.specs.contracts.statement.StatementPartialEq.TheImpl as same
@@ -90,18 +90,18 @@ module _ (eq : code.Statement → code.Statement → Bool) (agree : (a b : code.
       by true is more = rw (same_either_way (statement_value e.0) (statement_value k) ∙ sym (agree k e.0) ∙ is) refl
       by false is more = rw (same_either_way (statement_value e.0) (statement_value k) ∙ sym (agree k e.0) ∙ is) more
 
-  seen-unwrap_or : (o : Option code_gathered.Gathered) (fresh : code_gathered.Gathered) → seen_value fresh ≡ nothing → seen_value (unwrap_or o fresh) ≡ unwrap_or (option_map seen_value o) nothing
+  seen-unwrap_or : (o : Option code_gathered.Gathered) (fresh : code_gathered.Gathered) → seen_value fresh ≡ nothing_seen → seen_value (unwrap_or o fresh) ≡ unwrap_or (option_map seen_value o) nothing_seen
   seen-unwrap_or None fresh none = none
   seen-unwrap_or (Some g) fresh none = refl
 
   -- the map after one more import
   pub gathers : (old new : List (code.Statement × code_gathered.Gathered)) (k : code.Statement) (fresh before after : code_gathered.Gathered) (b : Brought)
-      → new ≡ insert_entry eq old k after → before ≡ unwrap_or (lookup (eq k) old) fresh → seen_value fresh ≡ nothing → b.statement ≡ statement_value k → seen_value after ≡ joined (seen_value before) b
+      → new ≡ insert_entry eq old k after → before ≡ unwrap_or (lookup (eq k) old) fresh → seen_value fresh ≡ nothing_seen → b.statement ≡ statement_value k → seen_value after ≡ joined (seen_value before) b
       → (s : Statement) → found s new ≡ seen_with s (found s old) b
   gathers old new k fresh before after b made was none of added s =
-      ap (found s) made ∙ found-insert_entry s k after old ∙ by (same_statement (statement_value k) s) refl ∙ ap (λ (x : Statement). cond (same_statement x s) (Some (joined (unwrap_or (found s old) nothing) b)) (found s old)) (sym of)
+      ap (found s) made ∙ found-insert_entry s k after old ∙ by (same_statement (statement_value k) s) refl ∙ ap (λ (x : Statement). cond (same_statement x s) (Some (joined (unwrap_or (found s old) nothing_seen) b)) (found s old)) (sym of)
     where
-      by : (t : Bool) → same_statement (statement_value k) s ≡ t → cond t (Some (seen_value after)) (found s old) ≡ cond t (Some (joined (unwrap_or (found s old) nothing) b)) (found s old)
+      by : (t : Bool) → same_statement (statement_value k) s ≡ t → cond t (Some (seen_value after)) (found s old) ≡ cond t (Some (joined (unwrap_or (found s old) nothing_seen) b)) (found s old)
       by true is =
-          ap Some (added ∙ ap (λ (x : Seen). joined x b) (ap seen_value was ∙ seen-unwrap_or (lookup (eq k) old) fresh none ∙ ap (λ o. unwrap_or o nothing) (found-lookup k old ∙ ap (λ (x : Statement). found x old) (is_same (statement_value k) s is))))
+          ap Some (added ∙ ap (λ (x : Seen). joined x b) (ap seen_value was ∙ seen-unwrap_or (lookup (eq k) old) fresh none ∙ ap (λ o. unwrap_or o nothing_seen) (found-lookup k old ∙ ap (λ (x : Statement). found x old) (is_same (statement_value k) s is))))
       by false is = refl

@@ -7,9 +7,9 @@ use Rattle.std.specs.List.Sorted.{IsStrictlySortedBy}
 use Rattle.std.specs.Map.{keys_of}
 use Rattle.py_imports.specs.Grammar.{Imported, Item}
 use Rattle.isort_settings.specs.Values.{Values}
-use Rattle.isort_sort.specs.Private.Gathered.{brought, Seen, nothing, seen_after, seen_value, found, IsMade, AreMade}
+use Rattle.isort_sort.specs.Private.Gathered.{brought, Seen, nothing_seen, seen_after, seen_value, found, IsMade, AreMade}
 use Rattle.isort_sort.specs.Private.Group.{group_value, items_with, IsGrouped}
-use Rattle.isort_sort.specs.Member.{Member, imports_of, item_of, belongs, firsts, AreItemsOf}
+use Rattle.isort_sort.specs.Member.{Member, imports_of, item_of, belongs, first_texts, AreItemsOf}
 use Rattle.isort_sort.specs.Order.{AreInOrder}
 use Rattle.isort_sort.specs.Statement.{Statement, straight, star, names, single, item_cmp, statement_of, same_statement}
 use Rattle.isort_sort.specs.Private.Values.{item_value, statement_value}
@@ -110,12 +110,12 @@ made_group : (v : Values) (members : List Member) (k : code_statement.Statement)
 made_group v members k g group there seen made =
     let s = statement_value k in
     let bs = brought v members in
-    let all : seen_value g ≡ gathered nothing (for s bs) = some_is (seen_after s None bs) (seen_value g) nothing (sym seen) ∙ seen_is_gathered s None bs in
+    let all : seen_value g ≡ gathered nothing_seen (for s bs) = some_is (seen_after s None bs) (seen_value g) nothing_seen (sym seen) ∙ seen_is_gathered s None bs in
     subst (λ (t : Statement). IsGrouped v members (record { section = group.section; statement = t; items = items_with t (map item_value group.items.items); comments = map string_bytes group.comments.items; above = map string_bytes group.above.items })) (sym made.statement)
     (record {
       section = made.section;
       items = made_items v members s (map item_value group.items.items) there (subst (λ (xs : List Item). AreInOrder (item_cmp v) xs (map item_value group.items.items)) (ap (λ (x : Seen). x.items) all) made.items);
-      comments = made.comments ∙ ap firsts (ap (λ (x : Seen). x.comments) all ∙ parts_of_members (λ b. b.comments) (λ m. m.comments) (λ t l. refl) (λ t l m. refl) v s members);
+      comments = made.comments ∙ ap first_texts (ap (λ (x : Seen). x.comments) all ∙ parts_of_members (λ b. b.comments) (λ m. m.comments) (λ t l. refl) (λ t l m. refl) v s members);
       above = made.above ∙ ap (λ (x : Seen). x.above) all ∙ parts_of_members (λ b. b.above) (λ m. m.above) (λ t l. refl) (λ t l m. refl) v s members;
     })
 

@@ -211,8 +211,8 @@ something comment word content e f some = rw (← e) (rw (← f) (by content som
     by [] some = absurd (cc)
     by (b ∷ bs) some = refl
 
-pub nothing : (comment word content : List ℕ) → word ≡ comment → content ≡ stripped (without_hash word) → (length content == 0) ≡ true → content_of comment ≡ []
-nothing comment word content e f none = rw (← e) (rw (← f) (by content none))
+pub nothing_seen : (comment word content : List ℕ) → word ≡ comment → content ≡ stripped (without_hash word) → (length content == 0) ≡ true → content_of comment ≡ []
+nothing_seen comment word content e f none = rw (← e) (rw (← f) (by content none))
   where
     by : (content : List ℕ) → (length content == 0) ≡ true → (if is_text content then content ∷ [] else []) ≡ []
     by [] none = refl

@@ -11,7 +11,7 @@ use Rattle.std.proofs.lemmas.List.Concat.{flat_map-append}
 use Rattle.isort_settings.specs.Values.{Values}
 use Rattle.isort_sort.specs.Private.Parts.{part_text, AreTexts, HasMade}
 use Rattle.isort_sort.specs.Sorted.{IsSorted}
-use Rattle.isort_sort.specs.Written.{AppendsFront}
+use Rattle.isort_sort.specs.Written.{AppendsPrefix}
 use Rattle.isort_sort.specs.declared.answer.SortError.{SortError}
 use Rattle.isort_sort.specs.declared.parts.Part.{Part}
 use Rattle.isort_sort.specs.declared.parts.Parts.{Parts}
@@ -74,7 +74,7 @@ checked_early text v p out left part orders split made other =
     ((out ++ part) ++ s.0, inr s.1, differs text ((out ++ part) ++ s.0) out left (part ++ s.0) split (append_assoc out part s.0) (other s.0))
 
 -- a prefix of what is left was written
-pub appends_front : (old mid new : Option (List ℕ)) (all done bytes more : List ℕ) → Appends old mid done → AppendsFront mid new bytes → all ≡ done ++ (bytes ++ more) → AppendsFront old new all
+pub appends_front : (old mid new : Option (List ℕ)) (all done bytes more : List ℕ) → Appends old mid done → AppendsPrefix mid new bytes → all ≡ done ++ (bytes ++ more) → AppendsPrefix old new all
 appends_front old mid new all done bytes more before f is = record {
   front = done ++ f.front;
   rest = f.rest ++ more;

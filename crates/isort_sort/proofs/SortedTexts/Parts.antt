@@ -12,7 +12,7 @@ use Rattle.isort_sort.specs.Blocks.{cut_rows}
 use Rattle.isort_sort.specs.Private.Found.{Found}
 use Rattle.isort_sort.specs.Private.FoundValues.{found_value}
 use Rattle.isort_sort.specs.Private.LineEnd.{end_bytes}
-use Rattle.isort_sort.specs.Private.Parts.{left_of, HasMade}
+use Rattle.isort_sort.specs.Private.Parts.{parts_left, HasMade}
 use Rattle.isort_sort.specs.Private.Reading.{IsFoundIn}
 use Rattle.isort_sort.specs.Sorted.{first_end, mark_of, texts_of, IsLaidOut}
 use Rattle.isort_sort.specs.declared.parts.Parts.{Parts}
@@ -33,7 +33,7 @@ nothing_between : (l : List ℕ) (i : ℕ) → slice_range l i i ≡ []
 nothing_between l i = let none : i - i ≡ 0 = omega arith in ap (λ (n : ℕ). take n (drop i l)) none
 
 -- nothing is made yet
-pub begin_made : (text : List ℕ) (v : Values) (p : Parts) (found : Vec FoundBlock Global) → IsFoundIn text (found_text.Blocks found) → p.text.now ≡ text → values p.settings.now ≡ v → end_bytes p.end ≡ first_end text → p.at ≡ 0 → left_of p ≡ map found_value found.items → HasMade text v p []
+pub begin_made : (text : List ℕ) (v : Values) (p : Parts) (found : Vec FoundBlock Global) → IsFoundIn text (found_text.Blocks found) → p.text.now ≡ text → values p.settings.now ≡ v → end_bytes p.end ≡ first_end text → p.at ≡ 0 → parts_left p ≡ map found_value found.items → HasMade text v p []
 begin_made text v p found is same_text same_values same_end start left =
     let cuts = is.3 in
     let mark = mark_of is.0 in
@@ -50,11 +50,11 @@ begin_made text v p found is same_text same_values same_end start left =
       ordered = omega (arith, start);
       within = omega (arith, ap length cuts.split ∙ length-append mark (texts_of (cut_rows is.1)));
       utf8 = subst IsUtf8 (sym first) cuts.utf8_mark;
-      arranging = begin_at text v (first_end text) mark is.1 (map found_value found.items) (left_of p) (length mark) (slice_range text p.at (length mark)) cuts left refl (ap (λ (n : ℕ). slice_range text n (length mark)) start);
+      arranging = begin_at text v (first_end text) mark is.1 (map found_value found.items) (parts_left p) (length mark) (slice_range text p.at (length mark)) cuts left refl (ap (λ (n : ℕ). slice_range text n (length mark)) start);
     }
 
 -- the text before the next block
-pub made_gap : (text : List ℕ) (v : Values) (p : Parts) (out : List ℕ) (b : Found) (left : List Found) → HasMade text v p out → left_of p ≡ b ∷ left → IsGap text p.at b.start
+pub made_gap : (text : List ℕ) (v : Values) (p : Parts) (out : List ℕ) (b : Found) (left : List Found) → HasMade text v p out → parts_left p ≡ b ∷ left → IsGap text p.at b.start
 made_gap text v p out b left h is =
     let gap = next_gap text v (first_end text) (mark_of h.lines) h.cut b left h.at (out ++ slice_range text p.at h.at) (subst (λ (l : List Found). IsArranging text v (first_end text) (mark_of h.lines) h.cut l h.at (out ++ slice_range text p.at h.at)) is h.arranging) in
     record {
@@ -64,7 +64,7 @@ made_gap text v p out b left h is =
     }
 
 -- one part more is made
-pub next_made : (text : List ℕ) (v : Values) (old new : Parts) (out before own : List ℕ) (b : Found) (left : List Found) → HasMade text v old out → left_of old ≡ b ∷ left → new.text.now ≡ text → values new.settings.now ≡ v → end_bytes new.end ≡ first_end text → new.at ≡ b.stop → left_of new ≡ left → before ≡ slice_range text old.at b.start → IsArranged v (first_end text) b own → HasMade text v new (out ++ (before ++ own))
+pub next_made : (text : List ℕ) (v : Values) (old new : Parts) (out before own : List ℕ) (b : Found) (left : List Found) → HasMade text v old out → parts_left old ≡ b ∷ left → new.text.now ≡ text → values new.settings.now ≡ v → end_bytes new.end ≡ first_end text → new.at ≡ b.stop → parts_left new ≡ left → before ≡ slice_range text old.at b.start → IsArranged v (first_end text) b own → HasMade text v new (out ++ (before ++ own))
 next_made text v old new out before own b left h is same_text same_values same_end place rest gap arranged =
     let end = first_end text in
     let mark = mark_of h.lines in
@@ -94,7 +94,7 @@ next_made text v old new out before own b left h is same_text same_values same_e
     regroup a b c d = simp append_assoc
 
 -- nothing is made where no block is left
-pub same_made : (text : List ℕ) (v : Values) (old new : Parts) (out : List ℕ) → HasMade text v old out → new.text.now ≡ old.text.now → values new.settings.now ≡ values old.settings.now → end_bytes new.end ≡ end_bytes old.end → new.at ≡ old.at → left_of new ≡ left_of old → HasMade text v new out
+pub same_made : (text : List ℕ) (v : Values) (old new : Parts) (out : List ℕ) → HasMade text v old out → new.text.now ≡ old.text.now → values new.settings.now ≡ values old.settings.now → end_bytes new.end ≡ end_bytes old.end → new.at ≡ old.at → parts_left new ≡ parts_left old → HasMade text v new out
 same_made text v old new out h t s e place rest = record {
   lines = h.lines;
   cut = h.cut;
@@ -106,24 +106,24 @@ same_made text v old new out h t s e place rest = record {
   ordered = omega (arith, h.ordered, place);
   within = h.within;
   utf8 = subst (λ (n : ℕ). IsUtf8 (slice_range text n h.at)) (sym place) h.utf8;
-  arranging = subst (λ (l : List Found). IsArranging text v (first_end text) (mark_of h.lines) h.cut l h.at (out ++ slice_range text new.at h.at)) (sym rest) (subst (λ (n : ℕ). IsArranging text v (first_end text) (mark_of h.lines) h.cut (left_of old) h.at (out ++ slice_range text n h.at)) (sym place) h.arranging);
+  arranging = subst (λ (l : List Found). IsArranging text v (first_end text) (mark_of h.lines) h.cut l h.at (out ++ slice_range text new.at h.at)) (sym rest) (subst (λ (n : ℕ). IsArranging text v (first_end text) (mark_of h.lines) h.cut (parts_left old) h.at (out ++ slice_range text n h.at)) (sym place) h.arranging);
 }
 
-last_arranging : (text : List ℕ) (v : Values) (p : Parts) (out : List ℕ) (h : HasMade text v p out) → left_of p ≡ [] → IsArranging text v (first_end text) (mark_of h.lines) h.cut [] h.at (out ++ slice_range text p.at h.at)
+last_arranging : (text : List ℕ) (v : Values) (p : Parts) (out : List ℕ) (h : HasMade text v p out) → parts_left p ≡ [] → IsArranging text v (first_end text) (mark_of h.lines) h.cut [] h.at (out ++ slice_range text p.at h.at)
 last_arranging text v p out h none = subst (λ (l : List Found). IsArranging text v (first_end text) (mark_of h.lines) h.cut l h.at (out ++ slice_range text p.at h.at)) none h.arranging
 
-last_part : (text : List ℕ) (v : Values) (p : Parts) (out : List ℕ) (h : HasMade text v p out) → left_of p ≡ [] → slice_range text p.at (length text) ≡ slice_range text p.at h.at ++ slice_range text h.at (length text)
+last_part : (text : List ℕ) (v : Values) (p : Parts) (out : List ℕ) (h : HasMade text v p out) → parts_left p ≡ [] → slice_range text p.at (length text) ≡ slice_range text p.at h.at ++ slice_range text h.at (length text)
 last_part text v p out h none = sym (slices_join text p.at h.at (length text) h.ordered h.within)
 
 -- with what stays after the last block all is made
-pub all_made : (text : List ℕ) (v : Values) (p : Parts) (out : List ℕ) → HasMade text v p out → left_of p ≡ [] → IsLaidOut text v (out ++ slice_range text p.at (length text))
+pub all_made : (text : List ℕ) (v : Values) (p : Parts) (out : List ℕ) → HasMade text v p out → parts_left p ≡ [] → IsLaidOut text v (out ++ slice_range text p.at (length text))
 all_made text v p out h none =
     let all : out ++ slice_range text p.at (length text) ≡ (out ++ slice_range text p.at h.at) ++ slice_range text h.at (length text) =
     ap (λ (t : List ℕ). out ++ t) (last_part text v p out h none) ∙ sym (append_assoc out (slice_range text p.at h.at) (slice_range text h.at (length text))) in
     let w = all_written text v (first_end text) (mark_of h.lines) h.cut h.at (out ++ slice_range text p.at h.at) (out ++ slice_range text p.at (length text)) (last_arranging text v p out h none) all in
     record { lines = h.lines; cut = h.cut; blocks = h.blocks; body = w.0; layouts = w.2; is = w.1 }
 
-pub rest_utf8 : (text : List ℕ) (v : Values) (p : Parts) (out : List ℕ) → HasMade text v p out → left_of p ≡ [] → IsUtf8 (slice_range text p.at (length text))
+pub rest_utf8 : (text : List ℕ) (v : Values) (p : Parts) (out : List ℕ) → HasMade text v p out → parts_left p ≡ [] → IsUtf8 (slice_range text p.at (length text))
 rest_utf8 text v p out h none =
     let gap = last_gap text v (first_end text) (mark_of h.lines) h.cut h.at (out ++ slice_range text p.at h.at) (last_arranging text v p out h none) in
     subst IsUtf8 (sym (last_part text v p out h none)) (IsUtf8-append _ _ h.utf8 gap.utf8)

@@ -6,7 +6,7 @@ use Rattle.std.specs.Option.{option_map}
 use Rattle.py_imports.specs.Grammar.{Imported, Item}
 use Rattle.isort_settings.specs.Values.{Values}
 use Rattle.isort_sort.specs.Order.{AreInOrder}
-use Rattle.isort_sort.specs.Member.{Member, item_of, firsts}
+use Rattle.isort_sort.specs.Member.{Member, item_of, first_texts}
 use Rattle.isort_sort.specs.Statement.{Statement, names, statement_of, same_statement, section_of, item_cmp}
 use Rattle.isort_sort.specs.Private.Values.{item_value, statement_value}
 use Rattle.isort_sort.specs.declared.group.Gathered as code
@@ -49,8 +49,8 @@ pub record Seen : Type 0 where
   pub comments : List (List ℕ)
   pub above : List (List ℕ)
 
-abbrev pub nothing : Seen
-nothing = record { items = []; comments = []; above = [] }
+abbrev pub nothing_seen : Seen
+nothing_seen = record { items = []; comments = []; above = [] }
 
 -- what was seen, with what an import brings
 abbrev pub joined : Seen → Brought → Seen
@@ -58,7 +58,7 @@ joined s b = record { items = s.items ++ b.listed; comments = s.comments ++ b.co
 
 -- what is seen of a statement after one more import
 abbrev pub seen_with : Statement → Option Seen → Brought → Option Seen
-seen_with s o b = if same_statement b.statement s then Some (joined (unwrap_or o nothing) b) else o
+seen_with s o b = if same_statement b.statement s then Some (joined (unwrap_or o nothing_seen) b) else o
 
 -- what is seen of a statement after more imports
 abbrev pub seen_after : Statement → Option Seen → List Brought → Option Seen
@@ -104,7 +104,7 @@ pub record IsMade (v : Values) (s : code_statement.Statement) (g : code.Gathered
   pub section : group.section ≡ section_of v (statement_value s)
   pub statement : statement_value group.statement ≡ statement_value s
   pub items : AreInOrder (item_cmp v) (seen_value g).items (map item_value group.items.items)
-  pub comments : map string_bytes group.comments.items ≡ firsts (seen_value g).comments
+  pub comments : map string_bytes group.comments.items ≡ first_texts (seen_value g).comments
   pub above : map string_bytes group.above.items ≡ (seen_value g).above
 
 -- the groups that are made of these statements

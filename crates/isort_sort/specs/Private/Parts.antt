@@ -19,8 +19,8 @@ abbrev pub part_text : Part → List ℕ
 part_text p = p.before.now ++ string_bytes p.layout
 
 -- the blocks that are left
-abbrev pub left_of : Parts → List Found
-left_of p = map found_value p.blocks.rest.items
+abbrev pub parts_left : Parts → List Found
+parts_left p = map found_value p.blocks.rest.items
 
 -- the bytes of a sorted text
 abbrev pub sorted_bytes : SortedText → List ℕ
@@ -44,14 +44,14 @@ pub record HasMade (text : List ℕ) (v : Values) (p : Parts) (out : List ℕ) :
   pub ordered : p.at ≤ at
   pub within : at ≤ length text
   pub utf8 : IsUtf8 (slice_range text p.at at)
-  pub arranging : IsArranging text v (first_end text) (mark_of lines) cut (left_of p) at (out ++ slice_range text p.at at)
+  pub arranging : IsArranging text v (first_end text) (mark_of lines) cut (parts_left p) at (out ++ slice_range text p.at at)
 
 -- the next part, after which the parts have made it too, and fewer blocks are left; none where no block is left
 abbrev pub Makes : Parts → Option Part → Parts → Type 0
 Makes old None new =
-    (left_of new ≡ [])
+    (parts_left new ≡ [])
     × ((text : List ℕ) (v : Values) (out : List ℕ) → HasMade text v old out → HasMade text v new out)
 Makes old (Some part) new =
-    (length (left_of new) < length (left_of old))
+    (length (parts_left new) < length (parts_left old))
     × ((text : List ℕ) (v : Values) (out : List ℕ) → HasMade text v old out
     → IsUtf8 part.before.now × HasMade text v new (out ++ part_text part))

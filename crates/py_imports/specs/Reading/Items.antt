@@ -2,7 +2,7 @@
 use Rattle.std.specs.Prelude.{◌≡◌, ◌≢◌, ℕ, suc, ◌<◌, Bool, true, false, Option, None, Some, Result, Ok, Err, List, [], ◌∷◌, length, map, codes, ◌⊎◌}
 use Rattle.std.specs.Option.{option_map}
 use Rattle.py_imports.specs.Grammar.{Terminal, import_word, from_word, comma, closing, begins_import, modules, identifiers, Item, AreItems, AreBracketed, whole_module, attribute_of, Imported, IsImport}
-use Rattle.py_imports.specs.Reading.Lexemes.{rest_of, names_text}
+use Rattle.py_imports.specs.Reading.Lexemes.{rest_of, lexemes_text}
 use Rattle.py_imports.specs.declared.items.BadStatement.{BadStatement}
 use Rattle.py_imports.specs.declared.items.Form.{Form}
 use Rattle.py_imports.specs.declared.items.Form.TheVariants as form
@@ -24,11 +24,11 @@ BeginsForm t (Some f) = (ts : List Terminal) → t ∷ ts ≡ with_first_word f 
 
 -- how a module is spelled
 abbrev pub path_of : ModulePath → List ℕ
-path_of m = names_text m.names
+path_of m = lexemes_text m.names
 
 -- what an item imports
-abbrev pub imported_of : ImportItem → Imported
-imported_of i = record { module_name = path_of i.module; attribute_name = option_map (λ a. a.now) i.attribute; alias_name = option_map (λ a. a.now) i.alias }
+abbrev pub item_imported : ImportItem → Imported
+item_imported i = record { module_name = path_of i.module; attribute_name = option_map (λ a. a.now) i.attribute; alias_name = option_map (λ a. a.now) i.alias }
 
 -- what is imported by the items of some such list
 abbrev pub ListsOf : (Item → Imported) → (List Item → Type 0) → List Imported → Type 0
@@ -74,12 +74,12 @@ pub record StartWith (Before : List Imported → Type 0) (i : Imported) (After :
 -- the first item of the lists before, with those that are left; or there is no such list
 abbrev pub IsFirst : (List Imported → Type 0) → Option ImportItem → (List Imported → Type 0) → Type 0
 IsFirst Before None After = (is : List Imported) → ¬ (Before is)
-IsFirst Before (Some i) After = StartWith Before (imported_of i) After
+IsFirst Before (Some i) After = StartWith Before (item_imported i) After
 
 -- all names of this module are imported by a `*`, behind which nothing is left
 pub record ImportsAll (m : ModulePath) (i : ImportItem) (behind : List Terminal) (next : Stage) : Type 0 where
   pub nothing : behind ≡ []
-  pub star : imported_of i ≡ attribute_of (path_of m) (record { path = codes "*"; alias = None })
+  pub star : item_imported i ≡ attribute_of (path_of m) (record { path = codes "*"; alias = None })
   pub ended : next ≡ stage.End
 
 -- a `*` was read with what it imports; there is no answer where something is left behind it
@@ -89,7 +89,7 @@ ReadsStar m behind (Some i) next = ImportsAll m i behind next
 
 -- an item is next, no item is left, or there is no list
 abbrev pub IsNext : (List Imported → Type 0) → Result (Option ImportItem) BadStatement → (List Imported → Type 0) → Type 0
-IsNext Before (Ok (Some i)) After = StartWith Before (imported_of i) After
+IsNext Before (Ok (Some i)) After = StartWith Before (item_imported i) After
 IsNext Before (Ok None) After = (Before []) × ((is : List Imported) → Before is → is ≡ [])
 IsNext Before (Err e) After = (is : List Imported) → ¬ (Before is)
 

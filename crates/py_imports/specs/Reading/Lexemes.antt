@@ -4,7 +4,7 @@ use Rattle.std.specs.Prelude.{◌≡◌, ℕ, ◌≤◌, ◌-◌, Bool, true, fa
 use Rattle.std.specs.Option.{option_map}
 use Rattle.py_imports.specs.Binds.{terminal_in}
 use Rattle.py_imports.specs.Grammar.{Terminal, import_word, from_word, as_word, name, dot, comma, star, opening, closing, other, spelling, identifiers}
-use Rattle.py_imports.specs.Reading.Parsing.{Read, spelled_before, at_relative, alias_behind, at_item}
+use Rattle.py_imports.specs.Reading.Parsing.{Read, spelled_before, at_relative, alias_after, at_item}
 use Rattle.py_imports.specs.Statement.{significant}
 use Rattle.py_lines.specs.declared.unit.Unit.{Unit}
 use Rattle.py_imports.specs.declared.lexeme.Lexeme.{Lexeme}
@@ -40,19 +40,19 @@ pub record Follows (before after : Lexemes) : Type 0 where
   pub place : before.place ≤ after.place
 
 -- how the names and dots are spelled that are left
-abbrev pub names_text : Lexemes → List ℕ
-names_text s = spelling (rest_of s)
+abbrev pub lexemes_text : Lexemes → List ℕ
+lexemes_text s = spelling (rest_of s)
 
 -- what stands here was read: names and dots, with what follows them; or there are none here, and there is no answer
 abbrev pub ReadsPath : Option Read → Option Lexemes → List Terminal → Type 0
 ReadsPath here None after = here ≡ None
-ReadsPath here (Some path) after = here ≡ Some (record { spelled = names_text path; rest = after })
+ReadsPath here (Some path) after = here ≡ Some (record { spelled = lexemes_text path; rest = after })
 
 -- the alias that stands behind a path was read, if there is one; there is no answer where none may be read
 abbrev pub ReadsAlias : List Terminal → Option (Option (Bor (List ℕ))) → List Terminal → Type 0
-ReadsAlias before None after = (path : List ℕ) → alias_behind path before ≡ None
+ReadsAlias before None after = (path : List ℕ) → alias_after path before ≡ None
 ReadsAlias before (Some alias) after =
-    (path : List ℕ) → alias_behind path before ≡ Some (record { item = record { path = path; alias = option_map (λ a. a.now) alias }; rest = after })
+    (path : List ℕ) → alias_after path before ≡ Some (record { item = record { path = path; alias = option_map (λ a. a.now) alias }; rest = after })
 
 -- an identifier with its alias was read; there is no answer where none stands here
 abbrev pub ReadsName : List Terminal → Option (Bor (List ℕ) × Option (Bor (List ℕ))) → List Terminal → Type 0

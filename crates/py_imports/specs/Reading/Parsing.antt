@@ -26,15 +26,15 @@ abbrev mutual
   after_name ts = Some (record { spelled = []; rest = ts })
 
 -- the word `import`, and what follows it
-abbrev pub import_behind : List ℕ → List Terminal → Option Read
-import_behind spelled (import_word ∷ ts) = Some (record { spelled = spelled; rest = ts })
-import_behind spelled _ = None
+abbrev pub import_after : List ℕ → List Terminal → Option Read
+import_after spelled (import_word ∷ ts) = Some (record { spelled = spelled; rest = ts })
+import_after spelled _ = None
 
 -- a relative module with the word `import` after it, where dots may have been read already
 abbrev pub at_relative : Bool → List Terminal → Option Read
 at_relative dotted (dot ∷ ts) = option_map (spelled_before (byte "." ∷ [])) (at_relative true ts)
 at_relative dotted (import_word ∷ ts) = if dotted then Some (record { spelled = []; rest = ts }) else None
-at_relative dotted ts = option_and_then (λ r. import_behind r.spelled r.rest) (at_module ts)
+at_relative dotted ts = option_and_then (λ r. import_after r.spelled r.rest) (at_module ts)
 
 -- an item that was read, and what follows it
 pub record ItemRead : Type 0 where
@@ -47,9 +47,9 @@ named_alias path (name w ∷ ts) = Some (record { item = record { path = path; a
 named_alias path _ = None
 
 -- the alias after a path, if it has one
-abbrev pub alias_behind : List ℕ → List Terminal → Option ItemRead
-alias_behind path (as_word ∷ ts) = named_alias path ts
-alias_behind path ts = Some (record { item = record { path = path; alias = None }; rest = ts })
+abbrev pub alias_after : List ℕ → List Terminal → Option ItemRead
+alias_after path (as_word ∷ ts) = named_alias path ts
+alias_after path ts = Some (record { item = record { path = path; alias = None }; rest = ts })
 
 -- one name
 abbrev pub at_identifier : List Terminal → Option Read
@@ -62,7 +62,7 @@ at_path identifiers ts = at_identifier ts
 
 -- a path with its alias, if it has one
 abbrev pub at_item : Listed → List Terminal → Option ItemRead
-at_item k ts = option_and_then (λ r. alias_behind r.spelled r.rest) (at_path k ts)
+at_item k ts = option_and_then (λ r. alias_after r.spelled r.rest) (at_path k ts)
 
 -- the tokens up to the next `;` at depth 0, or all; they begin at this depth
 abbrev pub up_to_semicolon : ℕ → List Token → List Token

@@ -15,7 +15,7 @@ use Rattle.py_lines.specs.declared.mode.Mode.{Mode}
 use Rattle.py_lines.specs.declared.mode.Mode.TheVariants as modes
 use Rattle.py_lines.specs.declared.mode.Move.{Move}
 use Rattle.py_lines.specs.declared.mode.Move.TheVariants as moves
-use Rattle.py_lines.specs.Private.Machine.{Scanned, fresh, text_start, class_of, started, moved, step, run_from, move_of, short_move, long_move, is_final, is_prefix_spelling, in_short, in_long, is_behind_slash, character_kind, character_place, end_kind, end_place, top_place, Bracket, brackets_of, brackets_through}
+use Rattle.py_lines.specs.Private.Machine.{Scanned, fresh, text_start, class_of, started, moved, step, run_from, move_of, short_move, long_move, is_final, is_prefix_spelling, in_short, in_long, is_after_backslash, character_kind, character_place, end_kind, end_place, top_place, Bracket, brackets_of, brackets_through}
 use Rattle.py_lines.proofs.Text.CharacterTests.{each_of, not_quote}
 use Rattle.py_lines.proofs.Pieces.PieceLists.{piece, spelled-push, AreReadBefore-first}
 use Rattle.py_lines.proofs.Machine.Starts.{start-operator}
@@ -97,7 +97,7 @@ long_grows : (q c : ℕ) → is_opening c ≡ true → long_move q c ≡ moves.G
 unfolding long_move is_backslash
 long_grows q c h = rw (opening-not is_backslash c refl refl refl h)
 
-opening_how : (m : Mode) (done : List Piece) (held : List ℕ) (c : ℕ) → Holds m done held → in_short m ≡ false → is_behind_slash m ≡ false → is_opening c ≡ true → EndsOrGrows (move_of m c)
+opening_how : (m : Mode) (done : List Piece) (held : List ℕ) (c : ℕ) → Holds m done held → in_short m ≡ false → is_after_backslash m ≡ false → is_opening c ≡ true → EndsOrGrows (move_of m c)
 unfolding move_of is_mark is_space is_break is_line_feed
 opening_how modes.Start done held c holds short slash h = inl (rw (opening-not is_mark c refl refl refl h))
 opening_how modes.Free done held c holds short slash h = inl refl
@@ -118,7 +118,7 @@ opening_how modes.JoinReturn done held c holds short slash h = inl (rw (opening-
 opening_how modes.Return done held c holds short slash h = inl (rw (opening-not is_line_feed c refl refl refl h))
 
 -- an opening bracket that the machine refuses stands at depth 200
-pub opens_deep : (before : List ℕ) (s : Scanned) (st : List Bracket) (c : ℕ) → RunsTo before s st → ¬ (IsLive (before ++ c ∷ [])) → in_short s.mode ≡ false → is_behind_slash s.mode ≡ false → is_opening c ≡ true → IsAtDepth before c 200
+pub opens_deep : (before : List ℕ) (s : Scanned) (st : List Bracket) (c : ℕ) → RunsTo before s st → ¬ (IsLive (before ++ c ∷ [])) → in_short s.mode ≡ false → is_after_backslash s.mode ≡ false → is_opening c ≡ true → IsAtDepth before c 200
 opens_deep before s st c runs dead short slash opens = go (opening_how s.mode s.done s.held c (sound_at before s runs.run).holds short slash opens)
   where
     ends : move_of s.mode c ≡ moves.Breaks → IsAtDepth before c 200
@@ -154,8 +154,8 @@ opens_deep before s st c runs dead short slash opens = go (opening_how s.mode s.
 no_string : (before : List ℕ) (s : Scanned) (c : ℕ) → run_from (Some text_start) before ≡ Some s → in_short s.mode ≡ false → (offset : ℕ) → ¬ (BreaksString before c offset)
 no_string before s c runs short offset breaks = both_ways _ short (such_mode in_short before breaks.start s (stands_in_short before breaks.start breaks.inside) runs)
 
-no_join : (before : List ℕ) (s : Scanned) → run_from (Some text_start) before ≡ Some s → is_behind_slash s.mode ≡ false → (offset : ℕ) → ¬ (BreaksJoin before offset)
-no_join before s runs slash offset breaks = both_ways _ slash (such_mode is_behind_slash before breaks.start s (stands_behind_slash before breaks.start breaks.behind) runs)
+no_join : (before : List ℕ) (s : Scanned) → run_from (Some text_start) before ≡ Some s → is_after_backslash s.mode ≡ false → (offset : ℕ) → ¬ (BreaksJoin before offset)
+no_join before s runs slash offset breaks = both_ways _ slash (such_mode is_after_backslash before breaks.start s (stands_behind_slash before breaks.start breaks.behind) runs)
 
 no_close : (before : List ℕ) (c : ℕ) → is_closing c ≡ false → (offset : ℕ) → ¬ (ClosesWrong before c offset)
 no_close before c closing offset wrong = both_ways _ closing wrong.closes
@@ -168,10 +168,10 @@ break_in before s st c runs dead short =
     ⊎_elim (λ (h : is_break c ≡ true). h)
     (λ (h : is_break c ≡ false). absurd (dead (alive_live before s st c runs (short_goes s.mode s.done s.held c st short h runs.stack)))) (cases_Bool (is_break c))
 
-pub early : (s : Scanned) (before : List ℕ) → in_short s.mode || is_behind_slash s.mode ≡ true → byte_len (spelled s.done) ≡ character_place s before
+pub early : (s : Scanned) (before : List ℕ) → in_short s.mode || is_after_backslash s.mode ≡ true → byte_len (spelled s.done) ≡ character_place s before
 early s before h = sym (ap (λ (b : Bool). cond b (byte_len (spelled s.done)) (byte_len before)) h)
 
-pub late : (s : Scanned) (before : List ℕ) → in_short s.mode ≡ false → is_behind_slash s.mode ≡ false → character_place s before ≡ byte_len before
+pub late : (s : Scanned) (before : List ℕ) → in_short s.mode ≡ false → is_after_backslash s.mode ≡ false → character_place s before ≡ byte_len before
 late s before short slash = ap (λ (b : Bool). cond b (byte_len (spelled s.done)) (byte_len before)) (or_from _ _ short slash)
 
 -- the fault at the first character at which the machine can't go on
@@ -190,7 +190,7 @@ character_fault characters before after c s st spell runs dead =
       fits = record { start = spelled s.done; breaks = break_in before s st c runs dead short; inside = in_short_string s before sound short; place = sym (early s before (or_left _ _ short)) };
       first = tt;
     })
-    (λ short. cond_both (is_behind_slash s.mode) _ _ P
+    (λ short. cond_both (is_after_backslash s.mode) _ _ P
     (λ slash. record {
       cause = breaks_join;
       before = before;
@@ -245,11 +245,11 @@ long_not_end (modes.LongTwo q) h = refl
 long_not_end (modes.LongEscape q) h = refl
 long_not_end m h = absurd (both_ways _ refl h)
 
-pub slash_not_end : (m : Mode) → is_behind_slash m ≡ true → is_final m ≡ false
+pub slash_not_end : (m : Mode) → is_after_backslash m ≡ true → is_final m ≡ false
 slash_not_end modes.Backslash h = refl
 slash_not_end m h = absurd (both_ways _ refl h)
 
-others_end : (m : Mode) → in_short m ≡ false → in_long m ≡ false → is_behind_slash m ≡ false → is_final m ≡ true
+others_end : (m : Mode) → in_short m ≡ false → in_long m ≡ false → is_after_backslash m ≡ false → is_final m ≡ true
 others_end modes.Start a b d = refl
 others_end modes.Free a b d = refl
 others_end modes.Space a b d = refl
@@ -313,7 +313,7 @@ end_fault characters tail s st whole runs unread =
     (λ short. record { unfinished = open_short; start = spelled s.done; is = refl; whole = whole; live = live; ends_in = in_short_string s characters sound short; place = end_place_is s st (short_not_end s.mode short) })
     (λ short. cond_both (in_long s.mode) _ _ P
     (λ long. record { unfinished = open_long; start = spelled s.done; is = refl; whole = whole; live = live; ends_in = in_long_string s characters sound long; place = end_place_is s st (long_not_end s.mode long) })
-    (λ long. cond_both (is_behind_slash s.mode) _ _ P
+    (λ long. cond_both (is_after_backslash s.mode) _ _ P
     (λ slash. record { unfinished = open_join; start = spelled s.done; is = refl; whole = whole; live = live; ends_in = behind_backslash s characters sound slash; place = end_place_is s st (slash_not_end s.mode slash) })
     (λ slash. bracket_fault characters tail s st whole runs unread (others_end s.mode short long slash))))
 

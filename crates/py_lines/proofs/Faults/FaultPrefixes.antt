@@ -8,7 +8,7 @@ use Rattle.py_lines.specs.declared.fault.FaultKind.TheVariants as faults
 use Rattle.py_lines.proofs.Pieces.PieceLists.{spelled-append}
 
 -- the prefix of a text that ends at this byte
-pub record FrontTo (characters : List ℕ) (offset : ℕ) : Type 0 where
+pub record PrefixTo (characters : List ℕ) (offset : ℕ) : Type 0 where
   pub front : List ℕ
   pub rest : List ℕ
   pub spell : front ++ rest ≡ characters
@@ -24,7 +24,7 @@ end_rest open_bracket characters start is =
     (spelled inside, ap (λ t. t ++ spelled inside) (sym is.before) ∙ sym (spelled-append is.outer inside) ∙ is.spell)
 
 -- what is open before a character starts after some characters
-opened_before : (before after start front : List ℕ) (c offset : ℕ) → start ++ front ≡ before → offset ≡ byte_len start → FrontTo (before ++ c ∷ after) offset
+opened_before : (before after start front : List ℕ) (c offset : ℕ) → start ++ front ≡ before → offset ≡ byte_len start → PrefixTo (before ++ c ∷ after) offset
 opened_before before after start front c offset spell place = record {
   front = start;
   rest = front ++ c ∷ after;
@@ -32,20 +32,20 @@ opened_before before after start front c offset spell place = record {
   place = sym place;
 }
 
-directly_before : (before after : List ℕ) (c offset : ℕ) → offset ≡ byte_len before → FrontTo (before ++ c ∷ after) offset
+directly_before : (before after : List ℕ) (c offset : ℕ) → offset ≡ byte_len before → PrefixTo (before ++ c ∷ after) offset
 directly_before before after c offset place = record { front = before; rest = c ∷ after; spell = refl; place = sym place }
 
-explained : (cause : Cause) (before after : List ℕ) (c offset : ℕ) → Explains cause before c offset → FrontTo (before ++ c ∷ after) offset
+explained : (cause : Cause) (before after : List ℕ) (c offset : ℕ) → Explains cause before c offset → PrefixTo (before ++ c ∷ after) offset
 explained breaks_string before after c offset fits = opened_before before after fits.start fits.inside.front c offset fits.inside.spell fits.place
 explained breaks_join before after c offset fits = opened_before before after fits.start fits.behind.front c offset fits.behind.spell fits.place
 explained closes_wrong before after c offset fits = directly_before before after c offset fits.place
 explained opens_too_deep before after c offset fits = directly_before before after c offset fits.place
 explained begins_nothing before after c offset fits = directly_before before after c offset fits
 
-character_front : (kind : FaultKind) (characters : List ℕ) (offset : ℕ) → IsCharacterFault kind characters offset → FrontTo characters offset
-character_front kind characters offset fault = subst (λ (t : List ℕ). FrontTo t offset) fault.dies.spell (explained fault.cause fault.before fault.dies.after fault.c offset fault.fits)
+character_front : (kind : FaultKind) (characters : List ℕ) (offset : ℕ) → IsCharacterFault kind characters offset → PrefixTo characters offset
+character_front kind characters offset fault = subst (λ (t : List ℕ). PrefixTo t offset) fault.dies.spell (explained fault.cause fault.before fault.dies.after fault.c offset fault.fits)
 
-pub fault_front : (kind : FaultKind) (characters tail : List ℕ) (offset : ℕ) → IsFaultAt kind characters tail offset → FrontTo characters offset
+pub fault_front : (kind : FaultKind) (characters tail : List ℕ) (offset : ℕ) → IsFaultAt kind characters tail offset → PrefixTo characters offset
 fault_front kind characters tail offset (at_character fault) = character_front kind characters offset fault
 fault_front kind characters tail offset (at_bytes fault) = record { front = characters; rest = []; spell = append-nil characters; place = sym fault.place }
 fault_front kind characters tail offset (at_end fault) =

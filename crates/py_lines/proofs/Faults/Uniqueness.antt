@@ -10,7 +10,7 @@ use Rattle.py_lines.specs.declared.fault.FaultKind.{FaultKind}
 use Rattle.py_lines.specs.declared.fault.FaultKind.TheVariants as faults
 use Rattle.py_lines.specs.declared.mode.Mode.{Mode}
 use Rattle.py_lines.specs.declared.mode.Mode.TheVariants as modes
-use Rattle.py_lines.specs.Private.Machine.{Scanned, text_start, run_from, is_final, in_short, in_long, is_behind_slash, character_kind, character_place, end_kind, end_place, top_place, Bracket, brackets_of, brackets_through}
+use Rattle.py_lines.specs.Private.Machine.{Scanned, text_start, run_from, is_final, in_short, in_long, is_after_backslash, character_kind, character_place, end_kind, end_place, top_place, Bracket, brackets_of, brackets_through}
 use Rattle.py_lines.proofs.Machine.PieceRuns.{pieces_at}
 use Rattle.py_lines.proofs.Machine.ReadingRuns.{reach, MayBegin}
 use Rattle.py_lines.proofs.Pieces.OpenBrackets.{through-append, opener_pushes, balanced_through, stack_before, stands, depth-opener, IsShallow-parts}
@@ -22,11 +22,11 @@ use Rattle.py_lines.proofs.Faults.FaultPlaces.{early, late, break_in, opens_deep
 use Rattle.py_lines.proofs.Lexings.LinePrefix.{live_prefix, Either, either}
 
 -- a mode is one of these at most
-slash_not_short : (m : Mode) → is_behind_slash m ≡ true → in_short m ≡ false
+slash_not_short : (m : Mode) → is_after_backslash m ≡ true → in_short m ≡ false
 slash_not_short modes.Backslash h = refl
 slash_not_short m h = absurd (both_ways _ refl h)
 
-slash_not_long : (m : Mode) → is_behind_slash m ≡ true → in_long m ≡ false
+slash_not_long : (m : Mode) → is_after_backslash m ≡ true → in_long m ≡ false
 slash_not_long modes.Backslash h = refl
 slash_not_long m h = absurd (both_ways _ refl h)
 
@@ -37,7 +37,7 @@ long_not_short (modes.LongTwo q) h = refl
 long_not_short (modes.LongEscape q) h = refl
 long_not_short m h = absurd (both_ways _ refl h)
 
-ends_not : (m : Mode) → is_final m ≡ true → (in_short m ≡ false) × (in_long m ≡ false) × (is_behind_slash m ≡ false)
+ends_not : (m : Mode) → is_final m ≡ true → (in_short m ≡ false) × (in_long m ≡ false) × (is_after_backslash m ≡ false)
 ends_not m may = (
   false_from_ne_true _ (λ h. both_ways _ (short_not_end m h) may),
   false_from_ne_true _ (λ h. both_ways _ (long_not_end m h) may),
@@ -48,16 +48,16 @@ ends_not m may = (
 kind_string : (m : Mode) (c : ℕ) → in_short m ≡ true → faults.OpenString ≡ character_kind m c
 kind_string m c h = rw h
 
-kind_join : (m : Mode) (c : ℕ) → in_short m ≡ false → is_behind_slash m ≡ true → faults.BadJoin ≡ character_kind m c
+kind_join : (m : Mode) (c : ℕ) → in_short m ≡ false → is_after_backslash m ≡ true → faults.BadJoin ≡ character_kind m c
 kind_join m c h k = rw (h, k)
 
-kind_close : (m : Mode) (c : ℕ) → in_short m ≡ false → is_behind_slash m ≡ false → is_closing c ≡ true → faults.WrongClose ≡ character_kind m c
+kind_close : (m : Mode) (c : ℕ) → in_short m ≡ false → is_after_backslash m ≡ false → is_closing c ≡ true → faults.WrongClose ≡ character_kind m c
 kind_close m c h k l = rw (h, k, l)
 
-kind_deep : (m : Mode) (c : ℕ) → in_short m ≡ false → is_behind_slash m ≡ false → is_closing c ≡ false → is_opening c ≡ true → faults.TooDeep ≡ character_kind m c
+kind_deep : (m : Mode) (c : ℕ) → in_short m ≡ false → is_after_backslash m ≡ false → is_closing c ≡ false → is_opening c ≡ true → faults.TooDeep ≡ character_kind m c
 kind_deep m c h k l n = rw (h, k, l, n)
 
-kind_char : (m : Mode) (c : ℕ) → in_short m ≡ false → is_behind_slash m ≡ false → is_closing c ≡ false → is_opening c ≡ false → faults.BadChar ≡ character_kind m c
+kind_char : (m : Mode) (c : ℕ) → in_short m ≡ false → is_after_backslash m ≡ false → is_closing c ≡ false → is_opening c ≡ false → faults.BadChar ≡ character_kind m c
 kind_char m c h k l n = rw (h, k, l, n)
 
 -- the kind and the byte are those that the machine names
@@ -68,13 +68,13 @@ module _ (before : List ℕ) (c : ℕ) (s : Scanned) (st : List Bracket) (runs :
   short_false : ((offset : ℕ) → ¬ (BreaksString before c offset)) → in_short s.mode ≡ false
   short_false none = false_from_ne_true _ (λ short. none (byte_len (spelled s.done)) (record { start = spelled s.done; breaks = break_in before s st c runs dead short; inside = in_short_string s before (sound_at before s runs.run) short; place = refl }))
 
-  slash_false : ((offset : ℕ) → ¬ (BreaksJoin before offset)) → is_behind_slash s.mode ≡ false
+  slash_false : ((offset : ℕ) → ¬ (BreaksJoin before offset)) → is_after_backslash s.mode ≡ false
   slash_false none = false_from_ne_true _ (λ slash. none (byte_len (spelled s.done)) (record { start = spelled s.done; behind = behind_backslash s before (sound_at before s runs.run) slash; place = refl }))
 
   closing_false : ((offset : ℕ) → ¬ (ClosesWrong before c offset)) → is_closing c ≡ false
   closing_false none = false_from_ne_true _ (λ closing. none (byte_len before) (record { closes = closing; place = refl }))
 
-  opening_false : in_short s.mode ≡ false → is_behind_slash s.mode ≡ false → ((offset : ℕ) → ¬ (OpensTooDeep before c offset)) → is_opening c ≡ false
+  opening_false : in_short s.mode ≡ false → is_after_backslash s.mode ≡ false → ((offset : ℕ) → ¬ (OpensTooDeep before c offset)) → is_opening c ≡ false
   opening_false short slash none = false_from_ne_true _ (λ opening. none (byte_len before) (record { opens = opening; deep = opens_deep before s st c runs dead short slash opening; place = refl }))
 
   named : (cause : Cause) (offset : ℕ) → Explains cause before c offset → NoneExplains (causes_before cause) before c → IsNamed (kind_of_cause cause) offset s before c
@@ -84,8 +84,8 @@ module _ (before : List ℕ) (c : ℕ) (s : Scanned) (st : List Bracket) (runs :
       (kind_string s.mode c short, fits.place ∙ ap byte_len (sym (such_start in_short before fits.start s stands runs.run)) ∙ early s before (or_left _ _ short))
   named breaks_join offset fits none =
       let stands = stands_behind_slash before fits.start fits.behind in
-      let slash = such_mode is_behind_slash before fits.start s stands runs.run in
-      (kind_join s.mode c (slash_not_short s.mode slash) slash, fits.place ∙ ap byte_len (sym (such_start is_behind_slash before fits.start s stands runs.run)) ∙ early s before (or_right _ _ slash))
+      let slash = such_mode is_after_backslash before fits.start s stands runs.run in
+      (kind_join s.mode c (slash_not_short s.mode slash) slash, fits.place ∙ ap byte_len (sym (such_start is_after_backslash before fits.start s stands runs.run)) ∙ early s before (or_right _ _ slash))
   named closes_wrong offset fits none =
       let short = short_false none.0 in
       let slash = slash_false none.1.0 in
@@ -139,10 +139,10 @@ end_string m h = rw h
 end_triple : (m : Mode) → in_short m ≡ false → in_long m ≡ true → faults.OpenTriple ≡ end_kind m
 end_triple m h k = rw (h, k)
 
-end_join : (m : Mode) → in_short m ≡ false → in_long m ≡ false → is_behind_slash m ≡ true → faults.BadJoin ≡ end_kind m
+end_join : (m : Mode) → in_short m ≡ false → in_long m ≡ false → is_after_backslash m ≡ true → faults.BadJoin ≡ end_kind m
 end_join m h k l = rw (h, k, l)
 
-end_bracket : (m : Mode) → in_short m ≡ false → in_long m ≡ false → is_behind_slash m ≡ false → faults.OpenBracket ≡ end_kind m
+end_bracket : (m : Mode) → in_short m ≡ false → in_long m ≡ false → is_after_backslash m ≡ false → faults.OpenBracket ≡ end_kind m
 end_bracket m h k l = rw (h, k, l)
 
 -- the innermost open bracket is on top of the stack
@@ -182,8 +182,8 @@ end_named open_long characters start offset s st runs is place =
     (end_triple s.mode (long_not_short s.mode long) long, place ∙ ap byte_len (sym (such_start in_long characters start s stands runs.run)) ∙ sym (end_place_is s st (long_not_end s.mode long)))
 end_named open_join characters start offset s st runs is place =
     let stands = stands_behind_slash characters start is in
-    let slash = such_mode is_behind_slash characters start s stands runs.run in
-    (end_join s.mode (slash_not_short s.mode slash) (slash_not_long s.mode slash) slash, place ∙ ap byte_len (sym (such_start is_behind_slash characters start s stands runs.run)) ∙ sym (end_place_is s st (slash_not_end s.mode slash)))
+    let slash = such_mode is_after_backslash characters start s stands runs.run in
+    (end_join s.mode (slash_not_short s.mode slash) (slash_not_long s.mode slash) slash, place ∙ ap byte_len (sym (such_start is_after_backslash characters start s stands runs.run)) ∙ sym (end_place_is s st (slash_not_end s.mode slash)))
 end_named open_bracket characters start offset s st runs is place =
     let all = is.outer ++ is.opener ∷ is.inner in
     let found = reach all [] is.fit in

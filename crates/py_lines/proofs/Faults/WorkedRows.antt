@@ -5,7 +5,7 @@ use Rattle.unicode_ident.proofs.Computing.{unicode_ident}
 use Rattle.py_lines.specs.Character.{is_mark, is_space, is_word_character, is_word_start, is_digit, is_quote, is_operator, is_line_feed, is_return, is_break, is_hash, is_backslash, is_r, is_b, is_f, is_u}
 use Rattle.py_lines.specs.Piece.{Class, mark, space, word, string, operator, comment, join, line_end, Piece}
 use Rattle.py_lines.specs.Balance.{is_opening, is_closing}
-use Rattle.py_lines.specs.Private.Machine.{text_start, run_from, move_of, short_move, long_move, start_of, first_spelling, spelling_with, brackets_behind, Scanned}
+use Rattle.py_lines.specs.Private.Machine.{text_start, run_from, move_of, short_move, long_move, start_of, first_spelling, spelling_with, brackets_after, Scanned}
 use Rattle.py_lines.specs.declared.fault.FaultKind.{FaultKind}
 use Rattle.py_lines.specs.declared.fault.FaultKind.TheVariants as faults
 use Rattle.py_lines.proofs.Machine.PieceRuns.{pieces_at}
@@ -13,7 +13,7 @@ use Rattle.py_lines.proofs.Faults.Verdict.{Found, fault_of}
 
 -- what the rows compute with
 unfoldable pub tested : Unit {0}
-unfolding unicode_ident is_mark is_space is_word_character is_word_start is_digit is_quote is_operator is_line_feed is_return is_break is_hash is_backslash is_r is_b is_f is_u is_opening is_closing move_of short_move long_move start_of first_spelling spelling_with brackets_behind lib.Utf8.encode
+unfolding unicode_ident is_mark is_space is_word_character is_word_start is_digit is_quote is_operator is_line_feed is_return is_break is_hash is_backslash is_r is_b is_f is_u is_opening is_closing move_of short_move long_move start_of first_spelling spelling_with brackets_after lib.Utf8.encode
 tested = tt
 
 abbrev piece : Class → List ℕ → Piece

@@ -3,7 +3,7 @@ use Rattle.std.proofs.Common.{◌≡◌, ℕ, List, [], refl, sym, subst, inl, a
 use Rattle.py_lines.specs.Balance as brackets
 use Rattle.py_lines.specs.LogicalLine.{LogicalLine}
 use Rattle.py_lines.specs.Given.{AreFirstLines}
-use Rattle.py_lines.specs.Scanning.{Scanning, IsScanning, begun_at}
+use Rattle.py_lines.specs.ScannerState.{ScannerState, IsScanning, begun_at}
 use Rattle.py_lines.proofs.Text.Decoding.{decoding}
 
 -- no line comes before a text's start
@@ -26,8 +26,8 @@ first_none text =
       cut = refl;
     }
 
-pub begun_scans : (s : Scanning) (place line : ℕ) → s ≡ begun_at place line → (text : List ℕ) (lines : List LogicalLine) → AreFirstLines text place line lines → IsScanning s text lines
-begun_scans s place line is text lines first = subst (λ (t : Scanning). IsScanning t text lines) (sym is) (record {
+pub begun_scans : (s : ScannerState) (place line : ℕ) → s ≡ begun_at place line → (text : List ℕ) (lines : List LogicalLine) → AreFirstLines text place line lines → IsScanning s text lines
+begun_scans s place line is text lines first = subst (λ (t : ScannerState). IsScanning t text lines) (sym is) (record {
   first = first;
   held = refl;
   settled = λ some. absurd (omega (arith, some));

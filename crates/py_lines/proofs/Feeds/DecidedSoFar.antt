@@ -12,7 +12,7 @@ use Rattle.py_lines.specs.declared.fault.Fault.{Fault}
 use Rattle.py_lines.specs.declared.fault.FaultKind.{FaultKind}
 use Rattle.py_lines.specs.declared.fault.FaultKind.TheVariants as faults
 use Rattle.py_lines.specs.declared.mode.Mode.TheVariants as modes
-use Rattle.py_lines.specs.Private.Machine.{Scanned, step, in_short, is_behind_slash, character_kind, character_place, Bracket}
+use Rattle.py_lines.specs.Private.Machine.{Scanned, step, in_short, is_after_backslash, character_kind, character_place, Bracket}
 use Rattle.py_lines.specs.Private.Scan.{EndsNoLine, line_start, none_open, is_return_mode, stack_if}
 use Rattle.py_lines.specs.Private.LineState.{first_mode}
 use Rattle.py_lines.proofs.Text.Utf8Prefixes.{nothing_bad}
@@ -21,7 +21,7 @@ use Rattle.py_lines.proofs.Machine.Advance.{GoesTo}
 use Rattle.py_lines.proofs.Machine.LiveTexts.{runs_live}
 use Rattle.py_lines.proofs.Faults.FaultPlaces.{character_fault}
 use Rattle.py_lines.proofs.Faults.Uniqueness.{not_live}
-use Rattle.py_lines.proofs.Lexings.Answers.{IsLineOf, HasFront, refused_at_character, refused_at_bytes}
+use Rattle.py_lines.proofs.Lexings.Answers.{IsLineOf, HasPrefix, refused_at_character, refused_at_bytes}
 use Rattle.py_lines.proofs.Lexings.GivenLines.{base_lines}
 use Rattle.py_lines.proofs.Lexings.Uniqueness.{decoded}
 use Rattle.py_lines.proofs.LogicalLines.Cuts.{byte_len-append}
@@ -33,8 +33,8 @@ use Rattle.py_lines.proofs.Feeds.Known as of
 use Rattle.py_lines.proofs.Feeds.Known.{IsKnown}
 
 -- where a character is refused in the line that is open
-abbrev pub refused_behind : Scanned → List ℕ → ℕ
-refused_behind s read = if in_short s.mode || is_behind_slash s.mode then byte_len (spelled s.done) else byte_len read
+abbrev pub refused_after : Scanned → List ℕ → ℕ
+refused_after s read = if in_short s.mode || is_after_backslash s.mode then byte_len (spelled s.done) else byte_len read
 
 place_of : (b : Bool) (n done whole first all : ℕ) → (b ≡ true → all ≡ n + done) → first ≡ n + whole → n + (if b then done else whole) ≡ (if b then all else first)
 place_of true n done whole first all one two = sym (one refl)
@@ -51,7 +51,7 @@ module _ (text : List ℕ) (place line : ℕ) (lines : List LogicalLine) (read r
     line = omega (arith, number, k.number, base_lines k.base front (later ++ k.more) (subst (AreReadBefore k.base) (ap (λ t. t ++ k.more) (sym split) ∙ append_assoc front later k.more) k.fit));
   }
 
-  pub front_of : (s : Scanned) (st : List Bracket) (goes : GoesTo (line_start (first_mode place)) read s st) → EndsNoLine 0 s.done → (s.mode ≡ modes.Return → none_open st ≡ false) → HasFront (of.joins text place line lines read rest k s st goes).state k.base
+  pub front_of : (s : Scanned) (st : List Bracket) (goes : GoesTo (line_start (first_mode place)) read s st) → EndsNoLine 0 s.done → (s.mode ≡ modes.Return → none_open st ≡ false) → HasPrefix (of.joins text place line lines read rest k s st goes).state k.base
   front_of s st goes one_line open_yet = record {
     others = pieces_at s;
     spell = (of.joins text place line lines read rest k s st goes).pieces;
@@ -100,7 +100,7 @@ module _ (text : List ℕ) (place line : ℕ) (lines : List LogicalLine) (read :
   joins_before : (s : Scanned) (st : List Bracket) → GoesTo (line_start (first_mode place)) read s st → Joined k.base read s st (c ∷ k.more)
   joins_before s st goes = joined place k.base (c ∷ k.more) (of.level text place line lines (read ++ c ∷ []) [] k) read s st before_fit (base_of place k.base (read ++ c ∷ k.more) before_fit k.ended k.here) goes
 
-  pub decided_character : (s : Scanned) (st : List Bracket) → GoesTo (line_start (first_mode place)) read s st → EndsNoLine 0 s.done → stack_if (step s c) ≡ None → (is_return_mode s.mode && none_open st) && not (is_line_feed c) ≡ false → (fault : Fault) → fault.kind ≡ character_kind s.mode c → fault.offset ≡ place + refused_behind s read → (w : Within read (refused_behind s read)) → fault.line ≡ line + line_ends w.front → Decides all_known fault × IsLexed all_known lines (Some fault)
+  pub decided_character : (s : Scanned) (st : List Bracket) → GoesTo (line_start (first_mode place)) read s st → EndsNoLine 0 s.done → stack_if (step s c) ≡ None → (is_return_mode s.mode && none_open st) && not (is_line_feed c) ≡ false → (fault : Fault) → fault.kind ≡ character_kind s.mode c → fault.offset ≡ place + refused_after s read → (w : Within read (refused_after s read)) → fault.line ≡ line + line_ends w.front → Decides all_known fault × IsLexed all_known lines (Some fault)
   decided_character s st goes one_line refuses not_yet fault kind at w number =
       let j = joins_before s st goes in
       let level = of.level text place line lines (read ++ c ∷ []) [] k in
@@ -109,15 +109,15 @@ module _ (text : List ℕ) (place line : ℕ) (lines : List LogicalLine) (read :
       let decodes : Decodes all_known characters [] = of.decodes text place line lines (read ++ c ∷ []) [] k nothing_bad in
       let dead = dead_at k.base read (c ∷ k.more) k.more s st c j level refl refuses in
       let open_yet = open_return s.mode s.done s.held c st goes.stack refuses not_yet in
-      let front : HasFront j.state k.base = record { others = pieces_at s; spell = j.pieces; ended = k.ended; none = closed_one_line s.mode s.done s.held st goes.stack one_line open_yet } in
+      let front : HasPrefix j.state k.base = record { others = pieces_at s; spell = j.pieces; ended = k.ended; none = closed_one_line s.mode s.done s.held st goes.stack one_line open_yet } in
       let kind_is : fault.kind ≡ character_kind j.state.mode c = kind ∙ same_kind s.mode j.state.mode c (sym j.short) (sym j.slash) in
-      let flags : in_short s.mode || is_behind_slash s.mode ≡ in_short j.state.mode || is_behind_slash j.state.mode = ap (λ (b : Bool). b || is_behind_slash s.mode) (sym j.short) ∙ ap (λ (b : Bool). in_short j.state.mode || b) (sym j.slash) in
+      let flags : in_short s.mode || is_after_backslash s.mode ≡ in_short j.state.mode || is_after_backslash j.state.mode = ap (λ (b : Bool). b || is_after_backslash s.mode) (sym j.short) ∙ ap (λ (b : Bool). in_short j.state.mode || b) (sym j.slash) in
       let here : fault.offset ≡ character_place j.state (spelled k.base ++ read) =
-      at ∙ ap (λ (n : ℕ). n + refused_behind s read) k.here
-      ∙ place_of (in_short s.mode || is_behind_slash s.mode) (byte_len (spelled k.base)) (byte_len (spelled s.done)) (byte_len read) (byte_len (spelled k.base ++ read)) (byte_len (spelled j.state.done)) j.start (byte_len-append (spelled k.base) read)
+      at ∙ ap (λ (n : ℕ). n + refused_after s read) k.here
+      ∙ place_of (in_short s.mode || is_after_backslash s.mode) (byte_len (spelled k.base)) (byte_len (spelled s.done)) (byte_len read) (byte_len (spelled k.base ++ read)) (byte_len (spelled j.state.done)) j.start (byte_len-append (spelled k.base) read)
       ∙ ap (λ (b : Bool). if b then byte_len (spelled j.state.done) else byte_len (spelled k.base ++ read)) flags in
       let lexed = refused_at_character all_known characters [] (spelled k.base ++ read) [] c j.state j.st k.base fault decodes spell j.runs dead front kind_is here
-      (line_behind text place line lines (read ++ c ∷ []) [] k fault.kind (refused_behind s read) w.front (w.later ++ c ∷ []) fault (sym (append_assoc w.front w.later (c ∷ [])) ∙ ap (λ t. t ++ c ∷ []) w.split) w.size at number characters [] (append-nil _)) in
+      (line_behind text place line lines (read ++ c ∷ []) [] k fault.kind (refused_after s read) w.front (w.later ++ c ∷ []) fault (sym (append_assoc w.front w.later (c ∷ [])) ∙ ap (λ t. t ++ c ∷ []) w.split) w.size at number characters [] (append-nil _)) in
       let found = character_fault characters (spelled k.base ++ read) [] c j.state j.st spell j.runs dead in (
         record {
           characters = characters;

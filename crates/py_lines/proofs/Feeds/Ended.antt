@@ -31,8 +31,8 @@ use Rattle.py_lines.proofs.Feeds.Known.{IsKnown}
 use Rattle.py_lines.proofs.Feeds.DecidedSoFar as decided
 
 -- where something is open at the end of what was read
-abbrev pub open_behind : Scanned → List Bracket → ℕ
-open_behind s st = if is_final s.mode then top_place st else byte_len (spelled s.done)
+abbrev pub open_after : Scanned → List Bracket → ℕ
+open_after s st = if is_final s.mode then top_place st else byte_len (spelled s.done)
 
 -- nothing was fed after the lines released: they are all of the text
 pub ended_empty : (text : List ℕ) (place line : ℕ) (lines : List LogicalLine) → AreFirstLines text place line lines → place ≡ length text → IsLexed text lines None
@@ -88,7 +88,7 @@ module _ (text : List ℕ) (place line : ℕ) (lines : List LogicalLine) (read r
   place_at s st true final (inl unfinal) = absurd (let clash = sym final ∙ unfinal in cc)
   place_at s st true final (inr (c, others, top)) = ap (λ l. place + top_place l) top ∙ ap (λ (n : ℕ). n + c.place) k.here ∙ ap (λ l. top_place (shift (byte_len (spelled k.base)) l)) (sym top)
 
-  pub ended_unfinished : rest ≡ [] → (s : Scanned) (st : List Bracket) (goes : GoesTo (line_start (first_mode place)) read s st) → EndsNoLine 0 s.done → (s.mode ≡ modes.Return → none_open st ≡ false) → 0 < byte_len read → (is_final s.mode ≡ false) ⊎ ((b : Bracket) × (others : List Bracket) × (st ≡ b ∷ others)) → (fault : Fault) → fault.kind ≡ end_kind s.mode → fault.offset ≡ place + open_behind s st → (w : Within read (open_behind s st)) → fault.line ≡ line + line_ends w.front → IsLexed text lines (Some fault)
+  pub ended_unfinished : rest ≡ [] → (s : Scanned) (st : List Bracket) (goes : GoesTo (line_start (first_mode place)) read s st) → EndsNoLine 0 s.done → (s.mode ≡ modes.Return → none_open st ≡ false) → 0 < byte_len read → (is_final s.mode ≡ false) ⊎ ((b : Bracket) × (others : List Bracket) × (st ≡ b ∷ others)) → (fault : Fault) → fault.kind ≡ end_kind s.mode → fault.offset ≡ place + open_after s st → (w : Within read (open_after s st)) → fault.line ≡ line + line_ends w.front → IsLexed text lines (Some fault)
   ended_unfinished none s st goes one_line open_yet some unfinished fault kind at w number =
       let j = of.joins text place line lines read rest k s st goes in
       let characters = spelled k.base ++ read in
@@ -98,7 +98,7 @@ module _ (text : List ℕ) (place line : ℕ) (lines : List LogicalLine) (read r
       (decided.front_of text place line lines read rest k s st goes one_line open_yet)
       (kind ∙ ap (λ (t : Scanned). end_kind t.mode) (sym (j.same some).0))
       here
-      (decided.line_behind text place line lines read rest k fault.kind (open_behind s st) w.front w.later fault w.split w.size at number characters [] (append-nil _)))
+      (decided.line_behind text place line lines read rest k fault.kind (open_after s st) w.front w.later fault w.split w.size at number characters [] (append-nil _)))
 
   -- the text's last line
   pub ended_line : rest ≡ [] → (s : Scanned) → GoesTo (line_start (first_mode place)) read s [] → is_final s.mode ≡ true → 0 < byte_len read → cut 0 (pieces_at s) ≡ pieces_at s ∷ [] → IsLexed text (lines ++ line_of place line (pieces_at s) ∷ []) None

@@ -8,8 +8,8 @@ use Rattle.std.proofs.lemmas.List.{nil_from_length}
 use Rattle.py_lines.specs.Piece.{spelled}
 use Rattle.py_lines.specs.LogicalLine.{LogicalLine, byte_len, line_of}
 use Rattle.py_lines.specs.Lexed.{IsLexed}
-use Rattle.py_lines.specs.Scanning.{GoesOnWith}
-use Rattle.py_lines.specs.Scanning.View.{line_of_feed}
+use Rattle.py_lines.specs.ScannerState.{GoesOnWith}
+use Rattle.py_lines.specs.ScannerState.View.{line_of_feed}
 use Rattle.py_lines.specs.declared.fault.Fault.{Fault}
 use Rattle.py_lines.specs.declared.fault.FaultKind.{FaultKind}
 use Rattle.py_lines.specs.declared.fault.FaultKind.TheVariants.{BadUtf8}
@@ -30,7 +30,7 @@ use Rattle.py_lines.proofs.LineScan.TextRun.{way_goes}
 use Rattle.py_lines.proofs.Readers.LineAnswers.{IsLine, Within}
 use Rattle.py_lines.proofs.Readers.EndAnswers.{end_return, within_open, line_at_text_end, line_at_return}
 use Rattle.py_lines.proofs.Feeds.Known.{IsKnown, is_known}
-use Rattle.py_lines.proofs.Feeds.Ended.{open_behind, ended_bytes, ended_unfinished, ended_line}
+use Rattle.py_lines.proofs.Feeds.Ended.{open_after, ended_bytes, ended_unfinished, ended_line}
 use Rattle.py_lines.proofs.Feeds.Loops.{fails_keep}
 use Rattle.py_lines.proofs.Feeds.Steps.{open_sound, open_stop, open_size, within_held}
 use Rattle.py_lines.proofs.Feeds.ReadyLines.{line_of_ready, ready_line}
@@ -71,7 +71,7 @@ module _ (f : Feed) (read rest : List ℕ) (o : IsOpen f read rest) where
           (ap (λ (x : Fault). x.line) same ∙ fails.keeps.at.line read (sym taken))
 
   -- where something is open
-  open_place : (behind : ℕ) → IsOpenFrom f.state.scan behind → behind ≡ open_behind o.way.state (stack_of f.state.scan.brackets)
+  open_place : (behind : ℕ) → IsOpenFrom f.state.scan behind → behind ≡ open_after o.way.state (stack_of f.state.scan.brackets)
   open_place behind (inl (unfinal, is)) =
       is ∙ o.way.tallies.start ∙ ap (λ (b : Bool). if b then top_place (stack_of f.state.scan.brackets) else byte_len (spelled o.way.state.done)) (sym unfinal ∙ ap is_final o.way.tallies.mode)
   open_place behind (inr (final, (b, others, top, is))) =
@@ -95,8 +95,8 @@ module _ (f : Feed) (read rest : List ℕ) (o : IsOpen f read rest) where
         kept = ap (λ (s : LineState). s.fault) fails.keeps.same ∙ ap Some (sym same);
         lexed = λ text lines ends.
             let k = known_at text lines ends some in
-            let w : Within read (open_behind o.way.state (stack_of f.state.scan.brackets)) = subst (Within read) place_is (unfinished_within behind unfinished) in
-            let taken : take behind f.held.items ≡ encode_utf8_all w.front = ap (λ (n : ℕ). take n f.held.items) place_is ∙ (within_held f read rest o (open_behind o.way.state (stack_of f.state.scan.brackets)) w).1 in
+            let w : Within read (open_after o.way.state (stack_of f.state.scan.brackets)) = subst (Within read) place_is (unfinished_within behind unfinished) in
+            let taken : take behind f.held.items ≡ encode_utf8_all w.front = ap (λ (n : ℕ). take n f.held.items) place_is ∙ (within_held f read rest o (open_after o.way.state (stack_of f.state.scan.brackets)) w).1 in
             ended_unfinished text f.state.place f.state.line lines read rest k (whole_at text lines ends) none o.way.state (stack_of f.state.scan.brackets) (way_goes o.way) o.way.one_line (open_yet not_yet) (omega (arith, some, open_size f read rest o, ap length none)) (open_so behind unfinished) fault
             (ap (λ (x : Fault). x.kind) same ∙ fails.keeps.at.is ∙ ap end_kind o.way.tallies.mode)
             (ap (λ (x : Fault). x.offset) same ∙ fails.keeps.at.place ∙ ap (λ (n : ℕ). f.state.place + n) place_is)

@@ -12,14 +12,14 @@ use Rattle.py_lines.specs.LogicalLine.{LogicalLine, byte_len}
 use Rattle.py_lines.specs.Lexed.{IsLexed}
 use Rattle.py_lines.specs.Settled.{IsHopeless, Decides}
 use Rattle.py_lines.specs.Given.{AreFirstLines}
-use Rattle.py_lines.specs.Scanning.{GoesOnWith}
+use Rattle.py_lines.specs.ScannerState.{GoesOnWith}
 use Rattle.py_lines.specs.declared.fault.Fault.{Fault}
 use Rattle.py_lines.specs.declared.fault.FaultKind.TheVariants.{BadUtf8}
 use Rattle.py_lines.specs.declared.fault.LexError.TheVariants as lex
 use Rattle.py_lines.specs.declared.feed.Feed.{Feed}
 use Rattle.py_lines.specs.declared.line_state.LineState.{LineState}
 use Rattle.py_lines.specs.declared.mode.Mode.{Mode}
-use Rattle.py_lines.specs.Private.Machine.{in_short, is_behind_slash, character_kind}
+use Rattle.py_lines.specs.Private.Machine.{in_short, is_after_backslash, character_kind}
 use Rattle.py_lines.specs.Private.Scan.{IsUnderWay, is_returned, is_return_mode, none_open, stack_of, refused_place}
 use Rattle.py_lines.specs.Private.LineState.{first_mode}
 use Rattle.py_lines.specs.declared.fault.FaultKind.{FaultKind}
@@ -30,7 +30,7 @@ use Rattle.py_lines.proofs.Readers.LineAnswers.{Within}
 use Rattle.py_lines.proofs.Readers.EndAnswers.{end_return}
 use Rattle.py_lines.proofs.LineScan.TextRun.{way_goes}
 use Rattle.py_lines.proofs.Feeds.Known.{is_known}
-use Rattle.py_lines.proofs.Feeds.DecidedSoFar.{refused_behind, decided_character, decided_bytes}
+use Rattle.py_lines.proofs.Feeds.DecidedSoFar.{refused_after, decided_character, decided_bytes}
 use Rattle.py_lines.proofs.Text.Utf8Prefixes.{scalars_more, spell_more}
 use Rattle.py_lines.proofs.Feeds.Loops.{keeps_on, fails_keep}
 use Rattle.py_lines.proofs.Feeds.Steps.{open_stop, within_held, refused_held}
@@ -57,11 +57,11 @@ decided_whole text place lines n most fault within both = record {
 }
 
 -- where the fault of a refused character stands
-place_of_refused : (f : Feed) (read rest : List ℕ) (o : IsOpen f read rest) (way : IsUnderWay (first_mode f.state.place) f.state.scan read) → refused_place f.state.scan ≡ refused_behind way.state read
+place_of_refused : (f : Feed) (read rest : List ℕ) (o : IsOpen f read rest) (way : IsUnderWay (first_mode f.state.place) f.state.scan read) → refused_place f.state.scan ≡ refused_after way.state read
 place_of_refused f read rest o way =
-    ap (λ (m : Mode). if in_short m || is_behind_slash m then f.state.scan.piece.start else f.state.scan.stop) way.tallies.mode
-    ∙ ap (λ (n : ℕ). if in_short way.state.mode || is_behind_slash way.state.mode then n else f.state.scan.stop) way.tallies.start
-    ∙ ap (λ (n : ℕ). if in_short way.state.mode || is_behind_slash way.state.mode then byte_len (spelled way.state.done) else n) (open_stop f read rest o)
+    ap (λ (m : Mode). if in_short m || is_after_backslash m then f.state.scan.piece.start else f.state.scan.stop) way.tallies.mode
+    ∙ ap (λ (n : ℕ). if in_short way.state.mode || is_after_backslash way.state.mode then n else f.state.scan.stop) way.tallies.start
+    ∙ ap (λ (n : ℕ). if in_short way.state.mode || is_after_backslash way.state.mode then byte_len (spelled way.state.done) else n) (open_stop f read rest o)
 
 -- a refused character
 by_character : (f new : Feed) (read rest : List ℕ) (o : IsOpen f read rest) (fault : Fault) (c : ℕ) (after : List ℕ) → IsScalar c → rest ≡ encode_utf8 c ++ after → Refuses f read c (lex.Fault fault) new → (text : List ℕ) (lines : List LogicalLine) → AreFirstLines text f.state.place f.state.line lines → GoesOnWith text f.state.place f.held.items → IsDecidedAt text f.state.place lines (length f.held.items) fault
@@ -78,8 +78,8 @@ by_character f new read rest o fault c after scalar is r text lines first goes =
     let fails = r.fails in
     let same : fault ≡ fails.keeps.fault = (let e = fails.keeps.error_is in cc) in
     let place_is = place_of_refused f read rest o way in
-    let w : Within read (refused_behind way.state read) = subst (Within read) place_is (refused_held f read rest o) in
-    let taken : take (refused_place f.state.scan) f.held.items ≡ encode_utf8_all w.front = ap (λ (n : ℕ). take n f.held.items) place_is ∙ (within_held f read rest o (refused_behind way.state read) w).1 in
+    let w : Within read (refused_after way.state read) = subst (Within read) place_is (refused_held f read rest o) in
+    let taken : take (refused_place f.state.scan) f.held.items ≡ encode_utf8_all w.front = ap (λ (n : ℕ). take n f.held.items) place_is ∙ (within_held f read rest o (refused_after way.state read) w).1 in
     let not_yet : (is_return_mode way.state.mode && none_open (stack_of f.state.scan.brackets)) && not (is_line_feed c) ≡ false = ap (λ (m : Mode). (is_return_mode m && none_open (stack_of f.state.scan.brackets)) && not (is_line_feed c)) (sym way.tallies.mode) ∙ r.not_yet in
     let both = decided_character text f.state.place f.state.line lines read c k way.state (stack_of f.state.scan.brackets) (way_goes way) way.one_line r.refuses not_yet fault
     (ap (λ (x : Fault). x.kind) same ∙ fails.keeps.at.is ∙ ap (λ (m : Mode). character_kind m c) way.tallies.mode)

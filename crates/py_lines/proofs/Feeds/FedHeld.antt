@@ -11,8 +11,8 @@ use Rattle.py_lines.specs.PieceGrammar.{AreReadBefore}
 use Rattle.py_lines.specs.Lexed.{Decodes, IsBalancedReading, IsLive, EndsLine}
 use Rattle.py_lines.specs.Settled.{IsHopeless, IsSettled, Decides}
 use Rattle.py_lines.specs.Given.{AreFirstLines}
-use Rattle.py_lines.specs.Scanning.{GoesOnWith, HoldsReady}
-use Rattle.py_lines.specs.Scanning.View.{line_of_feed}
+use Rattle.py_lines.specs.ScannerState.{GoesOnWith, HoldsReady}
+use Rattle.py_lines.specs.ScannerState.View.{line_of_feed}
 use Rattle.py_lines.specs.declared.fault.Fault.{Fault}
 use Rattle.py_lines.specs.declared.feed.Feed.{Feed}
 use Rattle.py_lines.specs.declared.mode.Mode.{Mode}

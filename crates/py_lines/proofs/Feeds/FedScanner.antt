@@ -8,8 +8,8 @@ use Rattle.py_lines.specs.LogicalLine.{LogicalLine}
 use Rattle.py_lines.specs.Lexed.{IsLexed}
 use Rattle.py_lines.specs.Settled.{IsSettled, Decides}
 use Rattle.py_lines.specs.Given.{AreFirstLines}
-use Rattle.py_lines.specs.Scanning.{Scanning, ready_lines, fed_of, HoldsReady, GoesOnWith, IsScanning, TakesBytes, MeetsFault, RunsShort, Feeds}
-use Rattle.py_lines.specs.Scanning.View.{line_of_feed, ready_of, scanning_of}
+use Rattle.py_lines.specs.ScannerState.{ScannerState, ready_lines, fed_of, HoldsReady, GoesOnWith, IsScanning, TakesBytes, MeetsFault, ScannerRunsOut, Feeds}
+use Rattle.py_lines.specs.ScannerState.View.{line_of_feed, ready_of, scanning_of}
 use Rattle.py_lines.specs.declared.fault.Fault.{Fault}
 use Rattle.py_lines.specs.declared.fault.LexError.{LexError}
 use Rattle.py_lines.specs.declared.fault.LexError.TheVariants as lex
@@ -142,8 +142,8 @@ takes_bytes old new piece n fault t = record {
 }
 
 -- where a line is ready
-same_text : (text : List ℕ) (lines : List LogicalLine) (old new : Scanning) → new ≡ old → IsScanning old text lines → IsScanning new text lines
-same_text text lines old new same s = subst (λ (x : Scanning). IsScanning x text lines) (sym same) s
+same_text : (text : List ℕ) (lines : List LogicalLine) (old new : ScannerState) → new ≡ old → IsScanning old text lines → IsScanning new text lines
+same_text text lines old new same s = subst (λ (x : ScannerState). IsScanning x text lines) (sym same) s
 
 waits_so : (old new : Feed) (piece : List ℕ) (n : ℕ) → old.state.fault ≡ None → Waits old n new → TakesBytes (scanning_of old) piece n (scanning_of new)
 waits_so old new piece n fault w =
@@ -152,15 +152,15 @@ waits_so old new piece n fault w =
     record {
       within = omega (arith, w.none);
       scans = λ text lines s go. same_text text lines (scanning_of old) (scanning_of new) same s;
-      undecided = λ text lines s go none fault d. no_line new new.ready (line_of_feed old w.end_len) (none_ready new.ready none) (ap (λ (x : Scanning). x.ready) same ∙ ready);
+      undecided = λ text lines s go none fault d. no_line new new.ready (line_of_feed old w.end_len) (none_ready new.ready none) (ap (λ (x : ScannerState). x.ready) same ∙ ready);
       some = λ zero. inr (line_of_feed old w.end_len, ready);
       waits = λ u is. (w.none, same);
-      held = ap (λ (x : Scanning). x.held) same ∙ sym (append-nil old.held.items) ∙ ap (λ (m : ℕ). old.held.items ++ take m piece) (sym w.none);
-      place = ap (λ (x : Scanning). x.place) same;
-      line = ap (λ (x : Scanning). x.line) same;
+      held = ap (λ (x : ScannerState). x.held) same ∙ sym (append-nil old.held.items) ∙ ap (λ (m : ℕ). old.held.items ++ take m piece) (sym w.none);
+      place = ap (λ (x : ScannerState). x.place) same;
+      line = ap (λ (x : ScannerState). x.line) same;
       fault = fault;
-      open_yet = ap (λ (x : Scanning). x.ended) same;
-      no_fault = ap (λ (x : Scanning). x.fault) same ∙ fault;
+      open_yet = ap (λ (x : ScannerState). x.ended) same;
+      no_fault = ap (λ (x : ScannerState). x.fault) same ∙ fault;
     }
   where
     none_ready : (r : Option ℕ) → ready_of new r ≡ None → r ≡ None
@@ -215,7 +215,7 @@ meets_again old new piece fault was same = record {
 }
 
 -- where a growth was refused
-runs_short : (old new : Feed) → old.state.fault ≡ None → old.ready ≡ None → IsUnchanged old new → RunsShort (scanning_of old) (scanning_of new)
+runs_short : (old new : Feed) → old.state.fault ≡ None → old.ready ≡ None → IsUnchanged old new → ScannerRunsOut (scanning_of old) (scanning_of new)
 runs_short old new fault ready u =
     let place = u.same.place in
     let line = u.same.line in

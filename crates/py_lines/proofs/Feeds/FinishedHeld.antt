@@ -10,8 +10,8 @@ use Rattle.py_lines.specs.LogicalLine.{LogicalLine}
 use Rattle.py_lines.specs.Lexed.{IsLexed}
 use Rattle.py_lines.specs.Settled.{IsSettled}
 use Rattle.py_lines.specs.Given.{AreFirstLines}
-use Rattle.py_lines.specs.Scanning.{GoesOnWith, IsScanning, HoldsReady, EndsScan, EndsFaulty, Finishes, fed_of, ready_lines}
-use Rattle.py_lines.specs.Scanning.View.{ready_of, scanning_of}
+use Rattle.py_lines.specs.ScannerState.{GoesOnWith, IsScanning, HoldsReady, EndsScan, EndsFaulty, Finishes, fed_of, ready_lines}
+use Rattle.py_lines.specs.ScannerState.View.{ready_of, scanning_of}
 use Rattle.py_lines.specs.declared.fault.Fault.{Fault}
 use Rattle.py_lines.specs.declared.fault.LexError.{LexError}
 use Rattle.py_lines.specs.declared.fault.LexError.TheVariants as lex

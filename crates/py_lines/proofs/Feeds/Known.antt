@@ -12,7 +12,7 @@ use Rattle.py_lines.specs.Balance.{IsBalanced, IsShallow}
 use Rattle.py_lines.specs.LogicalLine.{LogicalLine, lines_of, byte_len, line_ends}
 use Rattle.py_lines.specs.Lexed.{Decodes, EndsLine}
 use Rattle.py_lines.specs.Given.{AreFirstLines}
-use Rattle.py_lines.specs.Scanning.{GoesOnWith}
+use Rattle.py_lines.specs.ScannerState.{GoesOnWith}
 use Rattle.py_lines.specs.Private.Machine.{Scanned, Bracket, brackets_of}
 use Rattle.py_lines.specs.Private.Scan.{line_start}
 use Rattle.py_lines.specs.Private.LineState.{first_mode}

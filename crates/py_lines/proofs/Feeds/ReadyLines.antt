@@ -7,7 +7,7 @@ use Rattle.py_lines.specs.Character.{is_line_feed, is_return}
 use Rattle.py_lines.specs.Piece.{Piece, begins, ends, spelled}
 use Rattle.py_lines.specs.LogicalLine.{LogicalLine, byte_len, line_ends, line_of, tokens_from}
 use Rattle.py_lines.specs.Token.{EachLiesIn}
-use Rattle.py_lines.specs.Scanning.View.{line_of_feed}
+use Rattle.py_lines.specs.ScannerState.View.{line_of_feed}
 use Rattle.py_lines.specs.declared.feed.Feed.{Feed}
 use Rattle.py_lines.specs.Private.Scan.{line_start}
 use Rattle.py_lines.specs.Private.LineState.{first_mode}

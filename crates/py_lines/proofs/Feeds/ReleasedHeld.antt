@@ -8,8 +8,8 @@ use Rattle.py_lines.specs.LogicalLine.{LogicalLine, byte_len, line_ends}
 use Rattle.py_lines.specs.Lexed.{IsLexed, IsLexedWhole}
 use Rattle.py_lines.specs.Settled.{IsSettled}
 use Rattle.py_lines.specs.Given.{AreFirstLines}
-use Rattle.py_lines.specs.Scanning.{Scanning, GoesOnWith, IsScanning, HasEnded, HoldsReady, Releases, fed_of, ready_lines}
-use Rattle.py_lines.specs.Scanning.View.{line_of_feed, ready_of, scanning_of}
+use Rattle.py_lines.specs.ScannerState.{ScannerState, GoesOnWith, IsScanning, HasEnded, HoldsReady, Releases, fed_of, ready_lines}
+use Rattle.py_lines.specs.ScannerState.View.{line_of_feed, ready_of, scanning_of}
 use Rattle.py_lines.specs.declared.feed.Feed.{Feed}
 use Rattle.py_lines.specs.Private.Feed.{IsReady, StandsSo, IsSoundFeed, LetsGo}
 use Rattle.py_lines.proofs.LineScan.LineCount.{line_ends-bytes}
@@ -113,7 +113,7 @@ module _ (old new : Feed) (n : ℕ) (ready : old.ready ≡ Some n) (r : IsReady 
   }
 
 -- both, where a caller sees a line that is ready
-pub release_seen : (old new : Feed) (seen : Scanning) → scanning_of old ≡ seen → IsSoundFeed old → IsSome seen.ready → LetsGo old new → Releases seen (scanning_of new) × IsSoundFeed new
+pub release_seen : (old new : Feed) (seen : ScannerState) → scanning_of old ≡ seen → IsSoundFeed old → IsSome seen.ready → LetsGo old new → Releases seen (scanning_of new) × IsSoundFeed new
 release_seen old new seen is sound some go =
-    let at = ready_from old sound (subst (λ (s : Scanning). IsSome s.ready) (sym is) some) in
-    (subst (λ (s : Scanning). Releases s (scanning_of new)) is (releases old new at.0 at.1 at.2 go), released_sound old new at.0 at.1 at.2 go sound)
+    let at = ready_from old sound (subst (λ (s : ScannerState). IsSome s.ready) (sym is) some) in
+    (subst (λ (s : ScannerState). Releases s (scanning_of new)) is (releases old new at.0 at.1 at.2 go), released_sound old new at.0 at.1 at.2 go sound)

@@ -10,7 +10,7 @@ use Rattle.py_lines.specs.Character.{is_line_feed}
 use Rattle.py_lines.specs.Piece.{begins, spelled}
 use Rattle.py_lines.specs.LogicalLine.{byte_len, line_ends}
 use Rattle.py_lines.specs.declared.feed.Feed.{Feed}
-use Rattle.py_lines.specs.Private.Machine.{in_short, is_behind_slash, IsSound}
+use Rattle.py_lines.specs.Private.Machine.{in_short, is_after_backslash, IsSound}
 use Rattle.std.specs.Global.{Vec}
 use Rattle.py_lines.specs.Private.Scan.{Closes, is_return_mode, IsAtLineEnd, is_returned, refused_place}
 use Rattle.py_lines.specs.Private.LineState.{first_mode}
@@ -53,7 +53,7 @@ module _ (f : Feed) (read rest : List ℕ) (o : IsOpen f read rest) where
 
   pub refused_held : Within read (refused_place f.state.scan)
   refused_held =
-      cond_both (in_short f.state.scan.piece.mode || is_behind_slash f.state.scan.piece.mode) f.state.scan.piece.start f.state.scan.stop (Within read)
+      cond_both (in_short f.state.scan.piece.mode || is_after_backslash f.state.scan.piece.mode) f.state.scan.piece.start f.state.scan.stop (Within read)
       (λ h. record { front = spelled o.way.state.done; later = o.way.state.held; split = open_sound.spell; size = o.way.tallies.start })
       (λ h. all_within read f.state.scan.stop open_stop)
 

@@ -51,14 +51,14 @@ pub read_at : (text characters : List ℕ) (s : Scanned) → Decodes text charac
 read_at text characters s decodes runs may = record { characters = characters; pieces = pieces_at s; decodes = decodes; reading = reading_at characters s runs may; cut = refl }
 
 -- the prefix that a reader has given: up to the last line end at depth 0
-pub record HasFront (s : Scanned) (front : List Piece) : Type 0 where
+pub record HasPrefix (s : Scanned) (front : List Piece) : Type 0 where
   pub others : List Piece
   pub spell : pieces_at s ≡ front ++ others
   pub ended : EndsLine front
   pub none : EndsNoLine 0 others
 
 -- the text is refused at a character
-pub refused_at_character : (text characters tail before after : List ℕ) (c : ℕ) (s : Scanned) (st : List Bracket) (front : List Piece) (fault : Fault) → Decodes text characters tail → before ++ c ∷ after ≡ characters → RunsTo before s st → ¬ (IsLive (before ++ c ∷ [])) → HasFront s front → fault.kind ≡ character_kind s.mode c → fault.offset ≡ character_place s before → IsLineOf fault characters → IsLexedToFault text (lines_of front) fault
+pub refused_at_character : (text characters tail before after : List ℕ) (c : ℕ) (s : Scanned) (st : List Bracket) (front : List Piece) (fault : Fault) → Decodes text characters tail → before ++ c ∷ after ≡ characters → RunsTo before s st → ¬ (IsLive (before ++ c ∷ [])) → HasPrefix s front → fault.kind ≡ character_kind s.mode c → fault.offset ≡ character_place s before → IsLineOf fault characters → IsLexedToFault text (lines_of front) fault
 refused_at_character text characters tail before after c s st front fault decodes spell runs dead has kind place line =
     let found = character_fault characters before after c s st spell runs dead in
     let at : IsFaultAt (character_kind s.mode c) characters tail (character_place s before) = at_character found in
@@ -83,7 +83,7 @@ nothing_later : (characters : List ℕ) (c : ℕ) (after : List ℕ) → [] ≡ 
 nothing_later characters c after same = absurd (cc)
 
 -- the text is refused at its end
-pub refused_at_end : (text characters : List ℕ) (s : Scanned) (st : List Bracket) (front : List Piece) (fault : Fault) → Decodes text characters [] → RunsTo characters s st → ((pieces : List Piece) → ¬ (IsBalancedReading pieces characters)) → HasFront s front → fault.kind ≡ end_kind s.mode → fault.offset ≡ end_place s st → IsLineOf fault characters → IsLexedToFault text (lines_of front) fault
+pub refused_at_end : (text characters : List ℕ) (s : Scanned) (st : List Bracket) (front : List Piece) (fault : Fault) → Decodes text characters [] → RunsTo characters s st → ((pieces : List Piece) → ¬ (IsBalancedReading pieces characters)) → HasPrefix s front → fault.kind ≡ end_kind s.mode → fault.offset ≡ end_place s st → IsLineOf fault characters → IsLexedToFault text (lines_of front) fault
 refused_at_end text characters s st front fault decodes runs unread has kind place line =
     let at : IsFaultAt (end_kind s.mode) characters [] (end_place s st) = at_end (end_fault characters [] s st refl runs unread) in
     record {
@@ -101,7 +101,7 @@ refused_at_end text characters s st front fault decodes runs unread has kind pla
     }
 
 -- the text is refused at bytes that begin no character
-pub refused_at_bytes : (text characters : List ℕ) (d : ℕ) (ds : List ℕ) (s : Scanned) (st : List Bracket) (front : List Piece) (fault : Fault) → Decodes text characters (d ∷ ds) → RunsTo characters s st → HasFront s front → fault.kind ≡ faults.BadUtf8 → fault.offset ≡ byte_len characters → IsLineOf fault characters → IsLexedToFault text (lines_of front) fault
+pub refused_at_bytes : (text characters : List ℕ) (d : ℕ) (ds : List ℕ) (s : Scanned) (st : List Bracket) (front : List Piece) (fault : Fault) → Decodes text characters (d ∷ ds) → RunsTo characters s st → HasPrefix s front → fault.kind ≡ faults.BadUtf8 → fault.offset ≡ byte_len characters → IsLineOf fault characters → IsLexedToFault text (lines_of front) fault
 refused_at_bytes text characters d ds s st front fault decodes runs has kind place line = record {
   characters = characters;
   tail = d ∷ ds;

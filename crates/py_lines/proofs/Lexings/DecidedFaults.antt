@@ -4,7 +4,7 @@ use Rattle.std.specs.Prelude.{encode_utf8_all}
 use Rattle.std.specs.Str.{StartsWithNoChar}
 use Rattle.py_lines.specs.Piece.{Piece, spelled}
 use Rattle.py_lines.specs.LogicalLine.{LogicalLine, byte_len, line_ends}
-use Rattle.py_lines.specs.Lexed.{Decodes, IsBalancedReading, IsLive, EndsLine, IsFront, IsCharacterFault, IsFaultAt, at_character, at_bytes, IsLexicalFault, IsLexed}
+use Rattle.py_lines.specs.Lexed.{Decodes, IsBalancedReading, IsLive, EndsLine, IsReadPrefix, IsCharacterFault, IsFaultAt, at_character, at_bytes, IsLexicalFault, IsLexed}
 use Rattle.py_lines.specs.Settled.{StaysFaulty, Decides}
 use Rattle.py_lines.specs.declared.fault.FaultKind.{FaultKind}
 use Rattle.py_lines.specs.declared.fault.FaultKind.TheVariants as faults
@@ -34,7 +34,7 @@ goes_on_faulty kind characters rest offset fault = record {
 }
 
 -- the same prefix of a text that goes on ends a line, and is the longest
-front_on : (kind : FaultKind) (characters rest : List ℕ) (offset : ℕ) (pieces : List Piece) → IsCharacterFault kind characters offset → IsFront pieces characters → IsFront pieces (characters ++ rest)
+front_on : (kind : FaultKind) (characters rest : List ℕ) (offset : ℕ) (pieces : List Piece) → IsCharacterFault kind characters offset → IsReadPrefix pieces characters → IsReadPrefix pieces (characters ++ rest)
 front_on kind characters rest offset pieces fault front = record {
   rest = front.rest ++ rest;
   spell = sym (append_assoc (spelled pieces) front.rest rest) ∙ ap (λ t. t ++ rest) front.spell;
@@ -66,7 +66,7 @@ pub record Continued (text more : List ℕ) (fault : Fault) (characters tail : L
   pub decodes : Decodes (text ++ more) whole left
   pub refused : IsLexicalFault whole left fault
   pub stays : StaysFaulty fault.kind whole left fault.offset
-  pub front : (pieces : List Piece) → IsFront pieces characters → IsFront pieces whole
+  pub front : (pieces : List Piece) → IsReadPrefix pieces characters → IsReadPrefix pieces whole
 
 by_character : (text more : List ℕ) (fault : Fault) (d : Decides text fault) → IsCharacterFault fault.kind d.characters fault.offset → Continued text more fault d.characters d.tail
 by_character text more fault d stays =
@@ -125,7 +125,7 @@ decided_lexing text more fault lines d lexed =
       tail = on.left;
       pieces = lexed.pieces;
       decodes = on.decodes;
-      front = on.front lexed.pieces (subst (IsFront lexed.pieces) same.0 lexed.front);
+      front = on.front lexed.pieces (subst (IsReadPrefix lexed.pieces) same.0 lexed.front);
       refused = on.refused;
       cut = lexed.cut;
     }

@@ -13,9 +13,9 @@ use Rattle.py_lines.specs.declared.fault.FaultKind.{FaultKind}
 use Rattle.py_lines.specs.declared.fault.FaultKind.TheVariants as faults
 use Rattle.py_lines.specs.declared.fault.Fault.{Fault}
 use Rattle.py_lines.specs.declared.mode.Mode.TheVariants as modes
-use Rattle.py_lines.specs.Private.Machine.{Scanned, text_start, run_from, is_final, in_short, is_behind_slash, character_kind, character_place, end_kind, end_place, Bracket}
+use Rattle.py_lines.specs.Private.Machine.{Scanned, text_start, run_from, is_final, in_short, is_after_backslash, character_kind, character_place, end_kind, end_place, Bracket}
 use Rattle.py_lines.specs.Private.Scan.{line_start, EndsNoLine}
-use Rattle.py_lines.proofs.Faults.FaultPrefixes.{FrontTo, end_rest}
+use Rattle.py_lines.proofs.Faults.FaultPrefixes.{PrefixTo, end_rest}
 use Rattle.py_lines.proofs.Machine.PieceRuns.{pieces_at, run_from-append}
 use Rattle.py_lines.proofs.Machine.ReadingRuns.{reach}
 use Rattle.py_lines.proofs.Pieces.OpenBrackets.{depth_through-append}
@@ -30,7 +30,7 @@ use Rattle.py_lines.proofs.LogicalLines.Cuts.{line_depth}
 use Rattle.py_lines.proofs.LogicalLines.NextLine.{lines_of-more}
 use Rattle.py_lines.proofs.Machine.EarlierPieces.{behind, behind_if, closed-behind}
 use Rattle.py_lines.proofs.LineScan.TextRun.{Base, base_of, from_base}
-use Rattle.py_lines.proofs.Lexings.Answers.{IsLineOf, HasFront, read_at, refused_at_character, refused_at_end, refused_at_bytes}
+use Rattle.py_lines.proofs.Lexings.Answers.{IsLineOf, HasPrefix, read_at, refused_at_character, refused_at_end, refused_at_bytes}
 use Rattle.py_lines.proofs.Lexings.GivenLines.{none_both, all_given}
 
 -- how far the machine goes along a text
@@ -101,7 +101,7 @@ last_end d (p ∷ ps) = go (last_end (depth_after d p) ps)
 -- from pieces that end a line, the machine has come here: the prefix of the text, and all of it, have more lines
 record Onward (base : List Piece) (s : Scanned) : Type 0 where
   front : List Piece
-  has : HasFront s front
+  has : HasPrefix s front
   more : List LogicalLine
   lines : lines_of front ≡ lines_of base ++ more
   others : List LogicalLine
@@ -139,12 +139,12 @@ onward base others s ended is = go (last_end 0 others)
           whole = ap lines_of is ∙ all.1;
         }
 
-fault_behind : (kind : FaultKind) (characters : List ℕ) (offset : ℕ) → FrontTo characters offset → (fault : Fault) × (fault.kind ≡ kind) × (fault.offset ≡ offset) × IsLineOf fault characters
+fault_behind : (kind : FaultKind) (characters : List ℕ) (offset : ℕ) → PrefixTo characters offset → (fault : Fault) × (fault.kind ≡ kind) × (fault.offset ≡ offset) × IsLineOf fault characters
 fault_behind kind characters offset f = (record { kind = kind; offset = offset; line = 1 + line_ends f.front }, refl, refl, record { front = f.front; rest = f.rest; spell = f.spell; place = f.place; line = refl })
 
-character_front : (characters before after : List ℕ) (c : ℕ) (s : Scanned) (st : List Bracket) → before ++ c ∷ after ≡ characters → RunsTo before s st → FrontTo characters (character_place s before)
+character_front : (characters before after : List ℕ) (c : ℕ) (s : Scanned) (st : List Bracket) → before ++ c ∷ after ≡ characters → RunsTo before s st → PrefixTo characters (character_place s before)
 character_front characters before after c s st spell runs =
-    cond_both (in_short s.mode || is_behind_slash s.mode) (byte_len (spelled s.done)) (byte_len before) (FrontTo characters)
+    cond_both (in_short s.mode || is_after_backslash s.mode) (byte_len (spelled s.done)) (byte_len before) (PrefixTo characters)
     (λ h. record {
       front = spelled s.done;
       rest = s.held ++ c ∷ after;
@@ -153,7 +153,7 @@ character_front characters before after c s st spell runs =
     })
     (λ h. record { front = before; rest = c ∷ after; spell = spell; place = refl })
 
-end_front : (characters : List ℕ) (s : Scanned) (st : List Bracket) → RunsTo characters s st → ((pieces : List Piece) → ¬ (IsBalancedReading pieces characters)) → FrontTo characters (end_place s st)
+end_front : (characters : List ℕ) (s : Scanned) (st : List Bracket) → RunsTo characters s st → ((pieces : List Piece) → ¬ (IsBalancedReading pieces characters)) → PrefixTo characters (end_place s st)
 end_front characters s st runs unread =
     let fault = end_fault characters [] s st refl runs unread in
     let rest = end_rest fault.unfinished characters fault.start fault.ends_in in

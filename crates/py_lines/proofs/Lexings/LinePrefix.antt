@@ -7,7 +7,7 @@ use Rattle.py_lines.specs.Piece.{Class, mark, space, word, string, operator, com
 use Rattle.py_lines.specs.PieceGrammar.{InClass, IsLineEnd, feed, return_feed, return, MayPrecede, AreReadBefore}
 use Rattle.py_lines.specs.Balance.{depth_after, depth_through}
 use Rattle.py_lines.specs.LogicalLine.{is_line_end_class}
-use Rattle.py_lines.specs.Lexed.{IsBalancedReading, IsLive, EndsLine, IsFront}
+use Rattle.py_lines.specs.Lexed.{IsBalancedReading, IsLive, EndsLine, IsReadPrefix}
 pub use Rattle.py_lines.specs.Private.Scan.{EndsNoLine}
 use Rattle.py_lines.specs.declared.mode.Mode.{Mode}
 use Rattle.py_lines.specs.declared.mode.Mode.TheVariants as modes
@@ -292,7 +292,7 @@ no_longer before later characters s front others runs spell dead pieces ended no
         within front others rivals body last (pieces_at s) pieces ended none is deep (line_stays found.to.mode found.to.done found.to.held k s body last run (found.pieces_are ∙ is) class)
 
 -- the prefix of a text that isn't read further
-pub front_is : (before later characters : List ℕ) (s : Scanned) (st : List Bracket) (front others : List Piece) → RunsTo before s st → before ++ later ≡ characters → ((c : ℕ) (after : List ℕ) → later ≡ c ∷ after → ¬ (IsLive (before ++ c ∷ []))) → pieces_at s ≡ front ++ others → EndsLine front → EndsNoLine 0 others → IsFront front characters
+pub front_is : (before later characters : List ℕ) (s : Scanned) (st : List Bracket) (front others : List Piece) → RunsTo before s st → before ++ later ≡ characters → ((c : ℕ) (after : List ℕ) → later ≡ c ∷ after → ¬ (IsLive (before ++ c ∷ []))) → pieces_at s ≡ front ++ others → EndsLine front → EndsNoLine 0 others → IsReadPrefix front characters
 front_is before later characters s st front others runs spell dead pieces ended none =
     let stack = stack_closed s.mode s.done s.held st runs.stack in
     let level = balanced-from_stack front (front_stack front others st (ap brackets_of (sym pieces) ∙ stack) ended) in

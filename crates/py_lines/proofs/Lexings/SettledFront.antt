@@ -7,7 +7,7 @@ use Rattle.py_lines.specs.Piece.{line_end, Piece, ends, spelled}
 use Rattle.py_lines.specs.PieceGrammar.{InClass, IsLineEnd, feed, return_feed, return}
 use Rattle.py_lines.specs.Balance.{depth_through}
 use Rattle.py_lines.specs.Lexed.{IsBalancedReading}
-use Rattle.py_lines.specs.Settled.{EndsForGood, IsSettledFront}
+use Rattle.py_lines.specs.Settled.{EndsForGood, IsSettledPrefix}
 use Rattle.py_lines.specs.Private.Machine.{Scanned, text_start, run_from, Bracket, brackets_of}
 use Rattle.py_lines.proofs.Pieces.PieceLists.{piece, spelled-append, AreReadBefore-second}
 use Rattle.py_lines.proofs.Pieces.OpenBrackets.{balanced-from_stack, depth_through-append}
@@ -42,7 +42,7 @@ unfolding is_return
 thirteen text same = ap (ends is_return) same
 
 -- the machine has read the known characters: the lines given are settled, and no more
-pub settled_at : (characters tail : List ℕ) (s : Scanned) (st : List Bracket) (base others : List Piece) (rest : List ℕ) → RunsTo characters s st → pieces_at s ≡ base ++ others → EndsForGood base (rest ++ tail) → EndsNoneYet others tail → spelled base ++ rest ≡ characters → IsSettledFront base characters tail
+pub settled_at : (characters tail : List ℕ) (s : Scanned) (st : List Bracket) (base others : List Piece) (rest : List ℕ) → RunsTo characters s st → pieces_at s ≡ base ++ others → EndsForGood base (rest ++ tail) → EndsNoneYet others tail → spelled base ++ rest ≡ characters → IsSettledPrefix base characters tail
 settled_at characters tail s st base others rest runs pieces good yet spell =
     let stack = stack_closed s.mode s.done s.held st runs.stack in
     let level = balanced-from_stack base (front_stack base others st (ap brackets_of (sym pieces) ∙ stack) good.0) in
@@ -115,7 +115,7 @@ line_end-breaks text (return_feed same) h = ap (ends is_line_feed) same
 line_end-breaks text (return same) h = absurd (both_ways _ h (ap (ends is_return) same))
 
 -- a line has just ended, and at most one character that is no LF follows it: it is settled, and nothing after it
-pub settled_line : (characters tail : List ℕ) (front : List Piece) (rest : List ℕ) → spelled front ++ rest ≡ characters → IsBalancedReading front (spelled front) → EndsForGood front (rest ++ tail) → (rest ≡ []) ⊎ ((c : ℕ) × (rest ≡ c ∷ []) × (is_line_feed c ≡ false) × (tail ≡ [])) → IsSettledFront front characters tail
+pub settled_line : (characters tail : List ℕ) (front : List Piece) (rest : List ℕ) → spelled front ++ rest ≡ characters → IsBalancedReading front (spelled front) → EndsForGood front (rest ++ tail) → (rest ≡ []) ⊎ ((c : ℕ) × (rest ≡ c ∷ []) × (is_line_feed c ≡ false) × (tail ≡ [])) → IsSettledPrefix front characters tail
 settled_line characters tail front rest spell reading good near = record { rest = rest; spell = spell; reading = reading; ended = good; longest = λ others after spells read ended. longest near others after spells read ended }
   where
     total : (others : List Piece) (after : List ℕ) → spelled others ++ after ≡ characters → length (spelled others) + length after ≡ length (spelled front) + length rest

@@ -10,7 +10,7 @@ use Rattle.py_lines.specs.Balance.{depth_through}
 use Rattle.py_lines.specs.LogicalLine.{LogicalLine, byte_len, line_ends}
 use Rattle.py_lines.specs.Lexed.{IsBalancedReading, EndsLine, BeginsLexing}
 use Rattle.py_lines.specs.Reader.{standing_at}
-use Rattle.py_lines.specs.Settled.{EndsForGood, IsSettledFront, IsSettled}
+use Rattle.py_lines.specs.Settled.{EndsForGood, IsSettledPrefix, IsSettled}
 use Rattle.py_lines.specs.Private.Machine.{Bracket, brackets_of}
 use Rattle.py_lines.proofs.Text.CharacterTests.{feed_is, feed-not-return}
 use Rattle.py_lines.proofs.Text.Continued.{GoesOn, goes_on}
@@ -84,7 +84,7 @@ another_end body last other is also holds c cs ds one two deep reading =
     }
 
 -- the text goes on: what follows the settled pieces doesn't begin with LF where they end in CR
-module _ (characters tail more : List ℕ) (pieces : List Piece) (front : IsSettledFront pieces characters tail) (fine : all_scalars front.rest ≡ true) (bad : StartsWithNoChar tail) (after t : List ℕ) (are : all_scalars after ≡ true) (none : StartsWithNoChar t) (same : encode_utf8_all after ++ t ≡ (encode_utf8_all front.rest ++ tail) ++ more) where
+module _ (characters tail more : List ℕ) (pieces : List Piece) (front : IsSettledPrefix pieces characters tail) (fine : all_scalars front.rest ≡ true) (bad : StartsWithNoChar tail) (after t : List ℕ) (are : all_scalars after ≡ true) (none : StartsWithNoChar t) (same : encode_utf8_all after ++ t ≡ (encode_utf8_all front.rest ++ tail) ++ more) where
   -- a longer prefix would end a line, if LF followed
   no_feed : (body : List Piece) (last : Piece) → pieces ≡ body ++ last ∷ [] → last.class ≡ line_end → depth_through 0 body ≡ 0 → ends is_return last.text ≡ true → (c : ℕ) (cs : List ℕ) → front.rest ≡ c ∷ cs → is_line_feed c ≡ false
   no_feed body last is class deep cr c cs rest = ⊎_elim (λ (feeds : is_line_feed c ≡ true). absurd (too_long feeds)) (λ h. h) (cases_Bool (is_line_feed c))

@@ -3,8 +3,8 @@ use Rattle.std.proofs.Common.{◌≡◌, ℕ, Option, None, Some, List, [], ◌+
 use Rattle.std.proofs.Math.Seq.{take-append_seam}
 use Rattle.py_lines.specs.Piece.{Piece, spelled}
 use Rattle.py_lines.specs.LogicalLine.{LogicalLine, lines_of}
-use Rattle.py_lines.specs.Lexed.{Decodes, IsBalancedReading, IsFront, IsLexicalFault, IsLexedWhole, IsLexedToFault, IsLexed}
-use Rattle.py_lines.specs.Settled.{IsSettledFront, IsSettled}
+use Rattle.py_lines.specs.Lexed.{Decodes, IsBalancedReading, IsReadPrefix, IsLexicalFault, IsLexedWhole, IsLexedToFault, IsLexed}
+use Rattle.py_lines.specs.Settled.{IsSettledPrefix, IsSettled}
 use Rattle.py_lines.specs.declared.fault.Fault.{Fault}
 use Rattle.py_lines.proofs.Machine.ReadingRuns.{one_reading_of}
 use Rattle.py_lines.proofs.Faults.Uniqueness.{one_fault_of}
@@ -21,7 +21,7 @@ same_reading p q characters r s = one_reading_of p q characters (record { spell 
 same_front : (a b x y : List ℕ) → a ++ x ≡ b ++ y → length a ≡ length b → a ≡ b
 same_front a b x y e len = sym (take-append_seam a x) ∙ (λ i. take (len i) (e i)) ∙ take-append_seam b y
 
-one_front : (p q : List Piece) (characters : List ℕ) → IsFront p characters → IsFront q characters → p ≡ q
+one_front : (p q : List Piece) (characters : List ℕ) → IsReadPrefix p characters → IsReadPrefix q characters → p ≡ q
 one_front p q characters f g =
     let shorter = f.longest q g.rest g.spell g.reading g.ended in
     let longer = g.longest p f.rest f.spell f.reading f.ended in
@@ -42,7 +42,7 @@ one_lexing_of text lines others None (Some fault) r s = absurd (never_both text 
 one_lexing_of text lines others (Some fault) None r s = absurd (never_both text others lines fault s r)
 one_lexing_of text lines others (Some fault) (Some second) r s =
     let same = decoded text r.characters s.characters r.tail s.tail r.decodes s.decodes in
-    r.cut ∙ ap lines_of (one_front r.pieces s.pieces s.characters (subst (λ (t : List ℕ). IsFront r.pieces t) same.0 r.front) s.front) ∙ sym s.cut
+    r.cut ∙ ap lines_of (one_front r.pieces s.pieces s.characters (subst (λ (t : List ℕ). IsReadPrefix r.pieces t) same.0 r.front) s.front) ∙ sym s.cut
 
 -- its fault is of one kind, at one byte, on one line
 pub same_fault : (characters tail : List ℕ) (fault second : Fault) → IsLexicalFault characters tail fault → IsLexicalFault characters tail second → fault ≡ second
@@ -61,7 +61,7 @@ one_end_of text lines others (Some fault) (Some second) r s =
     ap Some (same_fault s.characters s.tail fault second (subst (λ (t : List ℕ). IsLexicalFault t s.tail fault) same.0 (subst (λ (t : List ℕ). IsLexicalFault r.characters t fault) same.1 r.refused)) s.refused)
 
 -- the known bytes settle one list of lines
-one_settled_front : (p q : List Piece) (characters tail : List ℕ) → IsSettledFront p characters tail → IsSettledFront q characters tail → p ≡ q
+one_settled_front : (p q : List Piece) (characters tail : List ℕ) → IsSettledPrefix p characters tail → IsSettledPrefix q characters tail → p ≡ q
 one_settled_front p q characters tail f g =
     let shorter = f.longest q g.rest g.spell g.reading g.ended in
     let longer = g.longest p f.rest f.spell f.reading f.ended in
@@ -72,4 +72,4 @@ one_settled_front p q characters tail f g =
 pub one_settled : (text : List ℕ) (lines others : List LogicalLine) → IsSettled text lines → IsSettled text others → lines ≡ others
 one_settled text lines others r s =
     let same = decoded text r.characters s.characters r.tail s.tail r.decodes s.decodes in
-    r.cut ∙ ap lines_of (one_settled_front r.pieces s.pieces s.characters s.tail (subst (λ (t : List ℕ). IsSettledFront r.pieces s.characters t) same.1 (subst (λ (t : List ℕ). IsSettledFront r.pieces t r.tail) same.0 r.front)) s.front) ∙ sym s.cut
+    r.cut ∙ ap lines_of (one_settled_front r.pieces s.pieces s.characters s.tail (subst (λ (t : List ℕ). IsSettledPrefix r.pieces s.characters t) same.1 (subst (λ (t : List ℕ). IsSettledPrefix r.pieces t r.tail) same.0 r.front)) s.front) ∙ sym s.cut

@@ -4,7 +4,7 @@ use Rattle.std.specs.Prelude.{option_to_list, nat_lt, is_some, if◌then◌else�
 use Rattle.std.proofs.lemmas.Bool.{false_from_ne_true, ltb-true, eqb-true, eq-eqb}
 use Rattle.py_lines.specs.Piece.{operator, Piece}
 use Rattle.py_lines.specs.Balance.{is_opening, is_closing, closing_of}
-use Rattle.py_lines.specs.Private.Machine.{Bracket, brackets_behind, opened_by, closed_by}
+use Rattle.py_lines.specs.Private.Machine.{Bracket, brackets_after, opened_by, closed_by}
 use Rattle.py_lines.specs.Private.Run.{may_stand}
 use Rattle.py_lines.specs.Private.Scan.{stack, none_open, IsInnermost}
 use Rattle.py_lines.specs.declared.brackets.OpenBracket.{OpenBracket}
@@ -52,30 +52,30 @@ one : ℕ → Piece
 one c = record { class = operator; text = c ∷ [] }
 
 -- an operator at a byte
-pub too_deep : (st : List Bracket) (place c : ℕ) → is_opening c ≡ true → 200 ≤ length st → brackets_behind st place (record { class = operator; text = c ∷ [] }) ≡ None
-unfolding brackets_behind
+pub too_deep : (st : List Bracket) (place c : ℕ) → is_opening c ≡ true → 200 ≤ length st → brackets_after st place (record { class = operator; text = c ∷ [] }) ≡ None
+unfolding brackets_after
 too_deep st place c opens deep = rw (opens, false_from_ne_true (nat_lt (length st) 200) (λ (less : nat_lt (length st) 200 ≡ true). omega (arith, ltb-true (length st) 200 less, deep)))
 
-pub opens_at : (st : List Bracket) (place c : ℕ) → is_opening c ≡ true → length st < 200 → brackets_behind st place (record { class = operator; text = c ∷ [] }) ≡ Some (record { opener = c; place = place } ∷ st)
+pub opens_at : (st : List Bracket) (place c : ℕ) → is_opening c ≡ true → length st < 200 → brackets_after st place (record { class = operator; text = c ∷ [] }) ≡ Some (record { opener = c; place = place } ∷ st)
 opens_at st place c opens room = opener_pushes st place (piece operator (c ∷ [])) opens room
 
-pub closes_none : (st : List Bracket) (place c : ℕ) → st ≡ [] → is_opening c ≡ false → is_closing c ≡ true → brackets_behind st place (record { class = operator; text = c ∷ [] }) ≡ None
-unfolding brackets_behind
+pub closes_none : (st : List Bracket) (place c : ℕ) → st ≡ [] → is_opening c ≡ false → is_closing c ≡ true → brackets_after st place (record { class = operator; text = c ∷ [] }) ≡ None
+unfolding brackets_after
 closes_none st place c none other closes = rw (none, other, closes) refl
 
-pub closes_wrong : (st : List Bracket) (place c : ℕ) (b : Bracket) (others : List Bracket) → st ≡ b ∷ others → is_opening c ≡ false → is_closing c ≡ true → (c ≡ closing_of b.opener → ⊥) → brackets_behind st place (record { class = operator; text = c ∷ [] }) ≡ None
-unfolding brackets_behind
+pub closes_wrong : (st : List Bracket) (place c : ℕ) (b : Bracket) (others : List Bracket) → st ≡ b ∷ others → is_opening c ≡ false → is_closing c ≡ true → (c ≡ closing_of b.opener → ⊥) → brackets_after st place (record { class = operator; text = c ∷ [] }) ≡ None
+unfolding brackets_after
 closes_wrong st place c b others top other closes unlike = rw (top, other, closes, false_from_ne_true (eqb c (closing_of b.opener)) (λ h. unlike (eqb-true c (closing_of b.opener) h))) refl
 
-pub closes_top : (st : List Bracket) (place c : ℕ) (b : Bracket) (others : List Bracket) → st ≡ b ∷ others → is_opening c ≡ false → is_closing c ≡ true → eqb c (closing_of b.opener) ≡ true → brackets_behind st place (record { class = operator; text = c ∷ [] }) ≡ Some others
-closes_top st place c b others top other closes like = ap (λ s. brackets_behind s place (piece operator (c ∷ []))) top ∙ closer_pops others place b (piece operator (c ∷ [])) closes like
+pub closes_top : (st : List Bracket) (place c : ℕ) (b : Bracket) (others : List Bracket) → st ≡ b ∷ others → is_opening c ≡ false → is_closing c ≡ true → eqb c (closing_of b.opener) ≡ true → brackets_after st place (record { class = operator; text = c ∷ [] }) ≡ Some others
+closes_top st place c b others top other closes like = ap (λ s. brackets_after s place (piece operator (c ∷ []))) top ∙ closer_pops others place b (piece operator (c ∷ [])) closes like
 
-pub keeps_at : (st : List Bracket) (place c : ℕ) → is_opening c ≡ false → is_closing c ≡ false → brackets_behind st place (record { class = operator; text = c ∷ [] }) ≡ Some st
+pub keeps_at : (st : List Bracket) (place c : ℕ) → is_opening c ≡ false → is_closing c ≡ false → brackets_after st place (record { class = operator; text = c ∷ [] }) ≡ Some st
 keeps_at st place c opens closes = other_keeps st place (piece operator (c ∷ [])) opens closes
 
 -- whether an operator may stand next
 pub opens_so : (st : List Bracket) (c : ℕ) → is_opening c ≡ true → nat_lt (length st) 200 ≡ may_stand st c
-unfolding brackets_behind
+unfolding brackets_after
 opens_so st c opens = rw opens (go (nat_lt (length st) 200))
   where
     go : (b : Bool) → b ≡ is_some (if b then Some (record { opener = c; place = 0 } ∷ st) else None)
@@ -83,7 +83,7 @@ opens_so st c opens = rw opens (go (nat_lt (length st) 200))
     go false = refl
 
 pub closes_so : (st : List Bracket) (c : ℕ) (b : Bracket) (others : List Bracket) → st ≡ b ∷ others → is_opening c ≡ false → is_closing c ≡ true → c == closing_of b.opener ≡ may_stand st c
-unfolding brackets_behind
+unfolding brackets_after
 closes_so st c b others top other closes = rw (top, other, closes) (go (c == closing_of b.opener))
   where
     go : (k : Bool) → k ≡ is_some (if k then Some others else None)
@@ -97,8 +97,8 @@ pub stands_anywhere : (st : List Bracket) (c : ℕ) → is_opening c ≡ false �
 stands_anywhere st c opens closes = ap is_some (sym (keeps_at st 0 c opens closes))
 
 -- an operator that may not stand at a byte may not stand next
-pub refused_anywhere : (st : List Bracket) (place c : ℕ) → brackets_behind st place (record { class = operator; text = c ∷ [] }) ≡ None → may_stand st c ≡ false
-unfolding brackets_behind
+pub refused_anywhere : (st : List Bracket) (place c : ℕ) → brackets_after st place (record { class = operator; text = c ∷ [] }) ≡ None → may_stand st c ≡ false
+unfolding brackets_after
 refused_anywhere st place c none = go (is_opening c) (is_closing c) none
   where
     go : (o k : Bool) → (if o then opened_by c place st else (if k then closed_by c st else Some st)) ≡ None → is_some (if o then opened_by c 0 st else (if k then closed_by c st else Some st)) ≡ false

@@ -6,11 +6,11 @@ use Rattle.py_lines.specs.Balance.{is_opening, is_closing}
 use Rattle.py_lines.specs.Character.{is_space, is_operator, is_quote, is_line_feed, is_return, is_hash, is_backslash}
 use Rattle.py_lines.specs.declared.run.FirstByte.{FirstByte}
 use Rattle.py_lines.specs.declared.run.FirstByte.TheVariants as first
-use Rattle.py_lines.specs.Private.Run.{BeginsSo, is_word_byte}
+use Rattle.py_lines.specs.Private.Run.{BeginsSo, is_ascii_word}
 
 -- whether a byte begins so
 abbrev pub fits : FirstByte → ℕ → Bool
-fits first.Word b = is_word_byte b
+fits first.Word b = is_ascii_word b
 fits first.Space b = is_space b
 fits first.Operator b = is_operator b && (not (is_opening b) && not (is_closing b))
 fits first.Bracket b = is_operator b
@@ -56,7 +56,7 @@ table_begins table b all less = let same : 0 + b ≡ b = omega arith in subst (B
 -- what a byte begins
 abbrev pub begun : ℕ → FirstByte
 begun b =
-    if is_word_byte b then first.Word
+    if is_ascii_word b then first.Word
     else (if is_space b then first.Space
     else (if is_opening b || is_closing b then first.Bracket
     else (if is_operator b then first.Operator

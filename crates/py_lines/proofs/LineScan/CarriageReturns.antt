@@ -15,7 +15,7 @@ use Rattle.py_lines.specs.declared.scan.Scan.{Scan}
 use Rattle.py_lines.specs.declared.scan.Stop.TheVariants as stops
 use Rattle.py_lines.specs.declared.whole_pieces.Taken.TheVariants as taken
 use Rattle.py_lines.specs.Private.Machine.{move_of}
-use Rattle.py_lines.specs.Private.Scan.{Begins, Closes, ReadsCharacter, counts_behind, is_return_mode, is_returned, line_end_progress, none_open, stack_of}
+use Rattle.py_lines.specs.Private.Scan.{Begins, Closes, ReadsCharacter, counts_after, is_return_mode, is_returned, line_end_progress, none_open, stack_of}
 use Rattle.py_lines.specs.Private.Run.{Reached, TakesReturn, TakesReturnAlone, TakesReturnFeed, is_free, line_ended}
 use Rattle.py_lines.proofs.Machine.Starts.{start-return}
 use Rattle.py_lines.proofs.Text.CharacterTests.{feed_from, feed_is, return_is}
@@ -28,12 +28,12 @@ abbrev with_end : Scan → ℕ → Scan
 with_end old len = record old { piece = record { mode = modes.Return; start = old.stop; line = old.count.line }; stop = old.stop + len; count = record { line = old.count.line + 1; after_return = len == 1 } }
 
 -- what CR and LF count
-return_counts : (after_return : Bool) → (counts_behind after_return 13 ≡ 1) × (is_return 13 ≡ true)
-unfolding counts_behind is_return
+return_counts : (after_return : Bool) → (counts_after after_return 13 ≡ 1) × (is_return 13 ≡ true)
+unfolding counts_after is_return
 return_counts after_return = (refl, refl)
 
-feed_counts : (counts_behind true 10 ≡ 0) × (is_return 10 ≡ false)
-unfolding counts_behind is_return is_line_feed
+feed_counts : (counts_after true 10 ≡ 0) × (is_return 10 ≡ false)
+unfolding counts_after is_return is_line_feed
 feed_counts = (refl, refl)
 
 -- CR opens

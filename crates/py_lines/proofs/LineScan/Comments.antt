@@ -13,7 +13,7 @@ use Rattle.py_lines.specs.declared.mode.Move.TheVariants as moves
 use Rattle.py_lines.specs.declared.scan.Scan.{Scan}
 use Rattle.py_lines.specs.Private.Machine.{Bracket, IsSound, move_of}
 use Rattle.py_lines.specs.Private.Scan.{line_start, stack_of}
-use Rattle.py_lines.specs.Private.Run.{IsRunOf, ReadsRun, ReachedShut, TakesComment, follows, is_apart, is_comment_byte, is_word_byte, may_begin, opened}
+use Rattle.py_lines.specs.Private.Run.{IsRunOf, ReadsRun, ReachedShut, TakesComment, follows, is_apart, is_comment_byte, is_ascii_word, may_begin, opened}
 use Rattle.py_lines.proofs.Machine.Starts.{start-hash}
 use Rattle.py_lines.proofs.Text.CharacterTests.{the_one}
 use Rattle.py_lines.proofs.LineScan.FirstBytes.{or_more}
@@ -68,7 +68,7 @@ break_of c h = go (is_break c) h
 break_follows : (st : List Bracket) (c : ℕ) → is_break c ≡ true → follows st c ≡ true
 break_follows st c h =
     let apart : is_apart c ≡ true = rw h refl in
-    or_more (is_word_byte c) _ (or_more (is_space c) _ (rw apart refl))
+    or_more (is_ascii_word c) _ (or_more (is_space c) _ (rw apart refl))
 
 comment_next : (st : List Bracket) (rest : List ℕ) → 0 < length rest → begins is_comment_byte rest ≡ false → begins (may_begin st) rest ≡ true
 comment_next st [] some ends = absurd (omega (arith, some))

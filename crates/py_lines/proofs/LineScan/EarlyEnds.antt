@@ -15,7 +15,7 @@ use Rattle.py_lines.specs.declared.mode.Start.TheVariants as starts
 use Rattle.py_lines.specs.declared.scan.Progress.{Progress}
 use Rattle.py_lines.specs.declared.scan.Progress.TheVariants as progress
 use Rattle.py_lines.specs.declared.scan.Scan.{Scan}
-use Rattle.py_lines.specs.Private.Machine.{Scanned, move_of, start_of, IsSound, Bracket, brackets_behind, token_of}
+use Rattle.py_lines.specs.Private.Machine.{Scanned, move_of, start_of, IsSound, Bracket, brackets_after, token_of}
 use Rattle.py_lines.specs.Private.Scan.{Closes, Begins, ClosesAndAdds, Tallies, IsStacked, Takes, EndsNoLine, line_start, stack_of, none_open, is_returned, is_return_mode, line_end_progress, tokens_with, with_brackets, kind_closed, indent_closed, holds_nothing}
 use Rattle.py_lines.specs.Private.Run.{is_free, may_stand, may_begin, follows, Reached, ReachedShut, IsShut}
 use Rattle.py_lines.proofs.Text.Incomplete.{one_char}
@@ -82,7 +82,7 @@ begins_shut : (before scan new : Scan) (c : ℕ) (st : Start) (p : Progress) →
 begins_shut before scan new c (starts.Open m) p closes free begun is (going, opens) = (going, record { mid = opens.mid; read = opens.read; closes = closes_through before scan opens.mid closes free opens.closes; reads = opens.reads; is = opens.is })
 begins_shut before scan new c starts.Operator progress.Going closes free begun is (met, stands, behind) = (
   met,
-  ap (λ b. brackets_behind (stack_of b) before.stop (record { class = operator; text = c ∷ [] })) (sym closes.brackets) ∙ ap (λ (n : ℕ). brackets_behind (stack_of scan.brackets) n (record { class = operator; text = c ∷ [] })) (sym closes.stop) ∙ stands,
+  ap (λ b. brackets_after (stack_of b) before.stop (record { class = operator; text = c ∷ [] })) (sym closes.brackets) ∙ ap (λ (n : ℕ). brackets_after (stack_of scan.brackets) n (record { class = operator; text = c ∷ [] })) (sym closes.stop) ∙ stands,
   record { mid = behind.mid; closes = closes_through (with_brackets before met) (with_brackets scan met) behind.mid (with_met before scan met closes) free behind.closes; stands = behind.stands },
 )
 begins_shut before scan new c starts.Operator progress.Refused closes free begun is (none, same) = absurd (both_ways _ (refused_anywhere (stack_of scan.brackets) scan.stop c none) (begun.stands is))

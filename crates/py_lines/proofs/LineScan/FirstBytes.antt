@@ -9,7 +9,7 @@ use Rattle.py_lines.specs.declared.scan.Scan.{Scan}
 use Rattle.py_lines.specs.declared.token.TokKind.TheVariants as kind
 use Rattle.py_lines.specs.Private.Machine.{Bracket}
 use Rattle.py_lines.specs.Private.Scan.{stack_of}
-use Rattle.py_lines.specs.Private.Run.{BeginsSo, is_word_byte, is_apart, may_stand, follows, AddsToken, TakesOperator}
+use Rattle.py_lines.specs.Private.Run.{BeginsSo, is_ascii_word, is_apart, may_stand, follows, AddsToken, TakesOperator}
 use Rattle.py_lines.proofs.Text.CharacterTests.{feed_is, return_is}
 use Rattle.py_lines.proofs.LineScan.BracketStack.{keeps_at, stands_anywhere}
 use Rattle.py_lines.proofs.LineScan.ShortPieces.{begins_with}
@@ -35,17 +35,17 @@ always_follows st b f so how =
     (λ is. space (subst (λ (k : FirstByte). BeginsSo k b) is so))
     (λ is. stands (subst (λ (k : FirstByte). BeginsSo k b) is so)) other) how
   where
-    word : is_word_byte b ≡ true → follows st b ≡ true
+    word : is_ascii_word b ≡ true → follows st b ≡ true
     word h = rw h refl
 
     space : is_space b ≡ true → follows st b ≡ true
-    space h = or_more (is_word_byte b) _ (rw h refl)
+    space h = or_more (is_ascii_word b) _ (rw h refl)
 
     stands : (is_operator b ≡ true) × (is_opening b ≡ false) × (is_closing b ≡ false) → follows st b ≡ true
-    stands (h, opens, closes) = or_more (is_word_byte b) _ (or_more (is_space b) _ (or_more (is_apart b) _ (and_from (is_operator b) (may_stand st b) h (sym (stands_anywhere st b opens closes)))))
+    stands (h, opens, closes) = or_more (is_ascii_word b) _ (or_more (is_space b) _ (or_more (is_apart b) _ (and_from (is_operator b) (may_stand st b) h (sym (stands_anywhere st b opens closes)))))
 
 apart_next : (st : List Bracket) (b : ℕ) → is_apart b ≡ true → follows st b ≡ true
-apart_next st b h = or_more (is_word_byte b) _ (or_more (is_space b) _ (rw h refl))
+apart_next st b h = or_more (is_ascii_word b) _ (or_more (is_space b) _ (rw h refl))
 
 pub apart_follows : (st : List Bracket) (b : ℕ) (f : FirstByte) → BeginsSo f b → (f ≡ first.Hash) ⊎ (f ≡ first.Backslash) → follows st b ≡ true
 apart_follows st b f so how =

@@ -9,8 +9,8 @@ use Rattle.py_lines.specs.Balance.{depth_after, depth_through}
 use Rattle.py_lines.specs.LogicalLine.{is_line_end_class, byte_len, ends_line, line_ends}
 use Rattle.py_lines.specs.Lexed.{EndsLine}
 use Rattle.py_lines.specs.declared.mode.Mode.TheVariants as modes
-use Rattle.py_lines.specs.Private.Scan.{counts_behind}
-use Rattle.py_lines.specs.Private.Machine.{text_start, run_from, Bracket, brackets_behind, brackets_through, brackets_of}
+use Rattle.py_lines.specs.Private.Scan.{counts_after}
+use Rattle.py_lines.specs.Private.Machine.{text_start, run_from, Bracket, brackets_after, brackets_through, brackets_of}
 use Rattle.py_lines.proofs.Text.CharacterTests.{return_is, feed-not-return}
 use Rattle.py_lines.proofs.Pieces.PieceLists.{piece, AreReadBefore-push, follows_any}
 use Rattle.py_lines.proofs.Pieces.OpenBrackets.{through-append, stands, depth_through-append}
@@ -18,8 +18,8 @@ use Rattle.py_lines.proofs.Machine.Soundness.{sound_at}
 use Rattle.py_lines.proofs.Lexings.LinePrefix.{EndsNoLine, depth_front}
 
 -- the stack after one more piece
-pub stack_push : (done : List Piece) (p : Piece) (st : List Bracket) → brackets_of done ≡ Some st → brackets_of (done ++ p ∷ []) ≡ brackets_behind st (byte_len (spelled done)) p
-stack_push done p st stack = through-append (Some []) [] done (p ∷ []) ∙ ap (λ o. brackets_through o done (p ∷ [])) stack ∙ go (brackets_behind st (byte_len (spelled done)) p)
+pub stack_push : (done : List Piece) (p : Piece) (st : List Bracket) → brackets_of done ≡ Some st → brackets_of (done ++ p ∷ []) ≡ brackets_after st (byte_len (spelled done)) p
+stack_push done p st stack = through-append (Some []) [] done (p ∷ []) ∙ ap (λ o. brackets_through o done (p ∷ [])) stack ∙ go (brackets_after st (byte_len (spelled done)) p)
   where
     go : (o : Option (List Bracket)) → brackets_through o (done ++ p ∷ []) [] ≡ o
     go None = refl
@@ -44,8 +44,8 @@ return_read before done held c more runs other =
 counted : Bool → ℕ
 counted b = if b then 1 else 0
 
-counts_alone : (c : ℕ) → counted (ends_line c []) ≡ counts_behind false c
-unfolding counted counts_behind
+counts_alone : (c : ℕ) → counted (ends_line c []) ≡ counts_after false c
+unfolding counted counts_after
 counts_alone c = go (is_return c) (is_line_feed c)
   where
     go : (r f : Bool) → counted (f || (r && true)) ≡ (if r then 1 else (if f && true then 1 else 0))
@@ -54,8 +54,8 @@ counts_alone c = go (is_return c) (is_line_feed c)
     go false true = refl
     go false false = refl
 
-counts_two : (x c : ℕ) → counted (ends_line x (c ∷ [])) + counted (ends_line c []) ≡ counted (ends_line x []) + counts_behind (is_return x) c
-unfolding counted counts_behind
+counts_two : (x c : ℕ) → counted (ends_line x (c ∷ [])) + counted (ends_line c []) ≡ counted (ends_line x []) + counts_after (is_return x) c
+unfolding counted counts_after
 counts_two x c = go (is_return x) (is_line_feed x) (is_return c) (is_line_feed c) (λ h. feed-not-return x h) (λ h. feed-not-return c h)
   where
     go : (rx fx rc fc : Bool) → (fx ≡ true → rx ≡ false) → (fc ≡ true → rc ≡ false) → counted (fx || (rx && not fc)) + counted (fc || (rc && true)) ≡ counted (fx || (rx && true)) + (if rc then 1 else (if fc && not rx then 1 else 0))
@@ -71,7 +71,7 @@ counts_two x c = go (is_return x) (is_line_feed x) (is_return c) (is_line_feed c
     go false false false true a b = refl
     go false false false false a b = refl
 
-pub line_ends-step : (xs : List ℕ) (c : ℕ) → line_ends (xs ++ c ∷ []) ≡ line_ends xs + counts_behind (ends is_return xs) c
+pub line_ends-step : (xs : List ℕ) (c : ℕ) → line_ends (xs ++ c ∷ []) ≡ line_ends xs + counts_after (ends is_return xs) c
 unfolding counted
 line_ends-step [] c =
     let one = counts_alone c in

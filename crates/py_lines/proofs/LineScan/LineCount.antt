@@ -7,7 +7,7 @@ use Rattle.std.proofs.lemmas.Bool.{cond_both}
 use Rattle.py_lines.specs.Character.{is_return}
 use Rattle.py_lines.specs.Piece.{ends}
 use Rattle.py_lines.specs.LogicalLine.{byte_len, ends_line, line_ends}
-use Rattle.py_lines.specs.Private.Scan.{counts_behind, Counts}
+use Rattle.py_lines.specs.Private.Scan.{counts_after, Counts}
 use Rattle.py_lines.specs.declared.count.Count.{Count}
 use Rattle.py_lines.specs.declared.token.Token.{Token}
 use Rattle.py_lines.specs.declared.token.TokKind.{TokKind}
@@ -42,7 +42,7 @@ pub record Counted (line : ℕ) (count : Count) (read : List ℕ) : Type 0 where
 
 pub counted_push : (line : ℕ) (old new : Count) (read : List ℕ) (c : ℕ) → Counted line old read → Counts old c new → Counted line new (read ++ c ∷ [])
 counted_push line old new read c is counts = record {
-  here = counts.line ∙ ap (λ (b : Bool). old.line + counts_behind b c) is.after ∙ omega (arith, is.here, line_ends-step read c);
+  here = counts.line ∙ ap (λ (b : Bool). old.line + counts_after b c) is.after ∙ omega (arith, is.here, line_ends-step read c);
   after = counts.after ∙ sym (ends-last is_return read c);
 }
 

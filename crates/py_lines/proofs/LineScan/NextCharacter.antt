@@ -21,7 +21,7 @@ use Rattle.py_lines.specs.declared.brackets.Brackets.{Brackets}
 use Rattle.py_lines.specs.declared.scan.Progress.{Progress}
 use Rattle.py_lines.specs.declared.scan.Progress.TheVariants as progress
 use Rattle.py_lines.specs.declared.scan.Scan.{Scan}
-use Rattle.py_lines.specs.Private.Machine.{Scanned, fresh, class_of, closed, token_of, step, moved, started, move_of, start_of, Holds, IsSound, is_prefix_spelling, Bracket, brackets_behind, brackets_of}
+use Rattle.py_lines.specs.Private.Machine.{Scanned, fresh, class_of, closed, token_of, step, moved, started, move_of, start_of, Holds, IsSound, is_prefix_spelling, Bracket, brackets_after, brackets_of}
 use Rattle.py_lines.specs.Private.Scan.{tokens_with, kind_through, Closes, ReadsCharacter, AddsPiece, ClosesAndAdds, ClosesAndOpens, Operates, Begins, Tallies, IsStacked, EndsNoLine, Takes, stack_if, stack_of, none_open, is_returned, is_return_mode, in_mode, with_brackets, line_end_progress}
 use Rattle.py_lines.proofs.Pieces.PieceLists.{piece, spelled-push, AreReadBefore-first}
 use Rattle.py_lines.proofs.Text.CharacterTests.{feed_is, return_is}
@@ -230,8 +230,8 @@ module _ (old new : Scan) (done : List Piece) (m : Mode) (held read : List ℕ) 
   place : old.stop ≡ byte_len (spelled (closed m done held))
   place = tallies.stop ∙ ap byte_len (sym (closed_spells m done held sound.holds))
 
-  operator_stack : brackets_of (closed m done held ++ piece operator (c ∷ []) ∷ []) ≡ brackets_behind (stack_of old.brackets) old.stop (piece operator (c ∷ []))
-  operator_stack = stack_push (closed m done held) (piece operator (c ∷ [])) (stack_of old.brackets) closed_stack ∙ ap (λ (n : ℕ). brackets_behind (stack_of old.brackets) n (piece operator (c ∷ []))) (sym place)
+  operator_stack : brackets_of (closed m done held ++ piece operator (c ∷ []) ∷ []) ≡ brackets_after (stack_of old.brackets) old.stop (piece operator (c ∷ []))
+  operator_stack = stack_push (closed m done held) (piece operator (c ∷ [])) (stack_of old.brackets) closed_stack ∙ ap (λ (n : ℕ). brackets_after (stack_of old.brackets) n (piece operator (c ∷ []))) (sym place)
 
   takes_open : (n : Mode) → start_of c ≡ starts.Open n → ClosesAndOpens old c n new → Takes old (scanned done m held) c (Ok progress.Going) new
   takes_open n starts_as opens =

@@ -13,8 +13,8 @@ use Rattle.py_lines.specs.declared.scan.Progress.TheVariants as progress
 use Rattle.py_lines.specs.declared.scan.Scan.{Scan}
 use Rattle.py_lines.specs.declared.scan.Stop.TheVariants as stops
 use Rattle.py_lines.specs.declared.whole_pieces.Taken.TheVariants as taken
-use Rattle.py_lines.specs.Private.Scan.{Begins, Counts, counts_behind, is_returned}
-use Rattle.py_lines.specs.Private.Run.{BeginsWithFeed, Reached, TakesLineFeed, TakesPiece, is_free, is_word_byte, follows, may_begin, space_mode, word_mode}
+use Rattle.py_lines.specs.Private.Scan.{Begins, Counts, counts_after, is_returned}
+use Rattle.py_lines.specs.Private.Run.{BeginsWithFeed, Reached, TakesLineFeed, TakesPiece, is_free, is_ascii_word, follows, may_begin, space_mode, word_mode}
 use Rattle.py_lines.proofs.Machine.Starts.{start-feed}
 use Rattle.py_lines.proofs.Text.CharacterTests.{feed_is, feed_from}
 use Rattle.py_lines.proofs.LineScan.CarriageReturns.{return_ends_line, return_far, return_goes}
@@ -77,8 +77,8 @@ module _ (first : Scan) (text : List ℕ) (old new : Scan) (bytes : List ℕ) (f
       (λ returns. return_ends_line first text old bytes free shuts new len returns) takes
 
 -- how far LF goes
-one_line : (after_return : Bool) → counts_behind after_return 10 ≤ 1
-unfolding counts_behind is_return is_line_feed
+one_line : (after_return : Bool) → counts_after after_return 10 ≤ 1
+unfolding counts_after is_return is_line_feed
 one_line true = omega arith
 one_line false = omega arith
 
@@ -99,7 +99,7 @@ feed_far old new bytes len feeds (one, begun) =
 pub piece_far : (old new : Scan) (bytes : List ℕ) (len : ℕ) → TakesPiece old bytes (Ok (taken.Bytes len)) new → Goes old bytes len new
 piece_far old new bytes len takes =
     ⊎_elim
-    (λ word. run_goes is_word_byte follows word_mode old new bytes len word_byte_low word)
+    (λ word. run_goes is_ascii_word follows word_mode old new bytes len word_byte_low word)
     (λ second. ⊎_elim
     (λ space. run_goes is_space may_begin space_mode old new bytes len space_low space)
     (λ third. ⊎_elim

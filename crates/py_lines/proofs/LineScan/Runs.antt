@@ -18,8 +18,8 @@ use Rattle.py_lines.specs.declared.mode.Move.TheVariants as moves
 use Rattle.py_lines.specs.declared.scan.Scan.{Scan}
 use Rattle.py_lines.specs.Piece.{Piece}
 use Rattle.py_lines.specs.Private.Machine.{Scanned, run_from, move_of, short_move, long_move, spelling_with, IsFull, Holds as HoldsOpen}
-use Rattle.py_lines.specs.Private.Scan.{Tallies, IsStacked, IsUnderWay, line_start, stack_of, counts_behind}
-use Rattle.py_lines.specs.Private.Run.{IsRunOf, is_word_byte, is_body_byte, stays, ReadsRun, Holds, HasAsciiQuote, Reached}
+use Rattle.py_lines.specs.Private.Scan.{Tallies, IsStacked, IsUnderWay, line_start, stack_of, counts_after}
+use Rattle.py_lines.specs.Private.Run.{IsRunOf, is_ascii_word, is_body_byte, stays, ReadsRun, Holds, HasAsciiQuote, Reached}
 use Rattle.unicode_ident.proofs.IdentLemmas.{is_xid_continue-ascii, is_xid_start-ascii}
 use Rattle.py_lines.specs.Character.{is_one_of}
 use Rattle.std.specs.Prelude.{codes, nat_le}
@@ -40,17 +40,17 @@ use Rattle.py_lines.specs.LogicalLine.{tokens_from}
 use Rattle.py_lines.proofs.Machine.PieceRuns.{scanned, run_from-append, grown, longer, all_held}
 
 -- a byte of words continues a word
-pub word_byte_low : (c : ℕ) → is_word_byte c ≡ true → c < 128
-unfolding is_word_byte
+pub word_byte_low : (c : ℕ) → is_ascii_word c ≡ true → c < 128
+unfolding is_ascii_word
 word_byte_low c h = grind (arith, nat_tests)
 
-pub word_byte_continues : (c : ℕ) → c < 128 → is_word_character c ≡ is_word_byte c
-unfolding is_word_byte is_word_character
+pub word_byte_continues : (c : ℕ) → c < 128 → is_word_character c ≡ is_ascii_word c
+unfolding is_ascii_word is_word_character
 word_byte_continues c low = is_xid_continue-ascii c low
 
 -- and begins one
-pub word_byte_starts : (c : ℕ) → c < 128 → is_word_start c ≡ is_word_byte c
-unfolding is_word_byte is_word_start is_digit
+pub word_byte_starts : (c : ℕ) → c < 128 → is_word_start c ≡ is_ascii_word c
+unfolding is_ascii_word is_word_start is_digit
 word_byte_starts c low = ap (λ (b : Bool). (b || (c == 95)) || (nat_le 48 c && nat_le c 57)) (is_xid_start-ascii c low) ∙ go (nat_le 48 c && nat_le c 57) (nat_le 65 c && nat_le c 90) (nat_le 97 c && nat_le c 122) (c == 95)
   where
     go : (d u l e : Bool) → ((u || l) || e) || d ≡ ((d || u) || l) || e
@@ -63,9 +63,9 @@ word_byte_starts c low = ap (λ (b : Bool). (b || (c == 95)) || (nat_le 48 c && 
     go false false false true = refl
     go false false false false = refl
 
-word_byte-no_break : (c : ℕ) → is_break c ≡ true → is_word_byte c ≡ false
-unfolding is_word_byte is_break
-word_byte-no_break c h = none_of is_word_byte (codes "\n\r") c refl h
+word_byte-no_break : (c : ℕ) → is_break c ≡ true → is_ascii_word c ≡ false
+unfolding is_ascii_word is_break
+word_byte-no_break c h = none_of is_ascii_word (codes "\n\r") c refl h
 
 space-no_break : (c : ℕ) → is_break c ≡ true → is_space c ≡ false
 unfolding is_space is_break
@@ -99,8 +99,8 @@ stays-grows m c h = absurd (both_ways _ refl h)
 -- and ends no line
 pub stays-no_break : (m : Mode) (c : ℕ) → stays m c ≡ true → is_break c ≡ false
 stays-no_break modes.Space c h = excluded is_space is_break c (space-no_break c) h
-stays-no_break (modes.Word spellings.Number) c h = excluded is_word_byte is_break c (word_byte-no_break c) h
-stays-no_break (modes.Word spellings.Name) c h = excluded is_word_byte is_break c (word_byte-no_break c) h
+stays-no_break (modes.Word spellings.Number) c h = excluded is_ascii_word is_break c (word_byte-no_break c) h
+stays-no_break (modes.Word spellings.Name) c h = excluded is_ascii_word is_break c (word_byte-no_break c) h
 stays-no_break modes.Comment c h = no_longer (is_break c) h
 stays-no_break (modes.Inside q) c h = (body_parts q c h).2
 stays-no_break (modes.Long q) c h = (body_parts q c h).2
@@ -214,8 +214,8 @@ holds_run old new text n held how = record {
 }
 
 -- no line ends in a run
-pub counts_none : (after : Bool) (c : ℕ) → is_break c ≡ false → counts_behind after c ≡ 0
-unfolding counts_behind is_break is_return is_line_feed
+pub counts_none : (after : Bool) (c : ℕ) → is_break c ≡ false → counts_after after c ≡ 0
+unfolding counts_after is_break is_return is_line_feed
 counts_none after c none = go (c == 10) (c == 13) none
   where
     go : (f r : Bool) → f || (r || false) ≡ false → ◌≡◌ {A = ℕ} (if (r || false) then 1 else (if (f || false) && not after then 1 else 0)) 0

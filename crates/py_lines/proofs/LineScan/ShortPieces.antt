@@ -29,9 +29,9 @@ use Rattle.py_lines.specs.declared.mode.Start.{Start}
 use Rattle.py_lines.specs.declared.mode.Start.TheVariants as starts
 use Rattle.py_lines.specs.declared.scan.Progress.TheVariants as progress
 use Rattle.py_lines.specs.declared.scan.Scan.{Scan}
-use Rattle.py_lines.specs.Private.Machine.{fresh, closed, moved, started, run_from, token_of, move_of, start_of, short_move, first_spelling, spelling_with, spelling_on, is_prefix_spelling, IsFull, IsSound, Bracket, brackets_behind}
+use Rattle.py_lines.specs.Private.Machine.{fresh, closed, moved, started, run_from, token_of, move_of, start_of, short_move, first_spelling, spelling_with, spelling_on, is_prefix_spelling, IsFull, IsSound, Bracket, brackets_after}
 use Rattle.py_lines.specs.Private.Scan.{Closes, ReadsCharacter, Meets, Begins, ClosesAndAdds, Tallies, line_start, stack_of, none_open, is_return_mode, indent_closed, with_brackets, tokens_with, kind_through, kind_closed, holds_nothing, in_mode}
-use Rattle.py_lines.specs.Private.Run.{IsRunOf, is_word_byte, may_stand, follows, is_free, word_spelling, word_mode, space_mode, opened, ReadsRun, AddsToken, TakesRun, TakesOperator, Reached, ReachedShut, is_apart, may_begin, is_text_byte, is_body_byte, TakesString}
+use Rattle.py_lines.specs.Private.Run.{IsRunOf, is_ascii_word, may_stand, follows, is_free, word_spelling, word_mode, space_mode, opened, ReadsRun, AddsToken, TakesRun, TakesOperator, Reached, ReachedShut, is_apart, may_begin, is_text_byte, is_body_byte, TakesString}
 use Rattle.py_lines.proofs.Text.CharacterTests.{operator_ascii, none_of, the_one}
 use Rattle.py_lines.proofs.Machine.PieceRuns.{scanned, run_from-append, run_word, run_space, grown}
 use Rattle.py_lines.proofs.Machine.Starts.{start-word, start-space, start-operator, start-quote}
@@ -151,12 +151,12 @@ begin_take passes [] (suc n) full = absurd full
 begin_take passes (b ∷ bs) (suc n) full = refl
 
 -- a word whose end shows became a token
-pub takes_word : (old new : Scan) (bytes : List ℕ) (len : ℕ) (digit : Bool) → IsRunOf is_word_byte bytes len → begins is_word_byte bytes ≡ true → begins (follows (stack_of old.brackets)) (drop len bytes) ≡ true → is_ascii_digit (slice_index bytes 0) ≡ digit → AddsToken old (cond digit kind.Number kind.Name) len new → TakesRun is_word_byte follows word_mode old bytes len new
+pub takes_word : (old new : Scan) (bytes : List ℕ) (len : ℕ) (digit : Bool) → IsRunOf is_ascii_word bytes len → begins is_ascii_word bytes ≡ true → begins (follows (stack_of old.brackets)) (drop len bytes) ≡ true → is_ascii_digit (slice_index bytes 0) ≡ digit → AddsToken old (cond digit kind.Number kind.Name) len new → TakesRun is_ascii_word follows word_mode old bytes len new
 takes_word old new bytes len digit is some next digits adds =
-    let full = (run_of is_word_byte bytes len is some).full in
+    let full = (run_of is_ascii_word bytes len is some).full in
     let token : token_of (word_mode (take len bytes)) ≡ Some (cond digit kind.Number kind.Name)
     = word_kind (take len bytes) full ∙ ap (λ (b : Bool). Some (cond b kind.Number kind.Name)) (begin_take is_digit bytes len full ∙ sym (digit_same (slice_index bytes 0)) ∙ digits) in
-    takes_run is_word_byte follows word_mode old bytes len new is some (inr (token_closes old new (word_spelling (take len bytes)) (cond digit kind.Number kind.Name) len token (no_remark digit) adds, next))
+    takes_run is_ascii_word follows word_mode old bytes len new is some (inr (token_closes old new (word_spelling (take len bytes)) (cond digit kind.Number kind.Name) len token (no_remark digit) adds, next))
   where
     no_remark : (b : Bool) → cond b kind.Number kind.Name ≡ kind.Remark → ⊥
     no_remark true e = cc
@@ -321,14 +321,14 @@ run_reached passes next wider mode_of low whole first starts_as runs stops unret
     }) how
 
 -- a word
-pub word_starts : (c : ℕ) → is_word_byte c ≡ true → is_word_start c ≡ true
+pub word_starts : (c : ℕ) → is_ascii_word c ≡ true → is_word_start c ≡ true
 word_starts c h = word_byte_starts c (word_byte_low c h) ∙ h
 
-word_whole : (c : ℕ) → is_word_byte c ≡ true → not (is_break c) ≡ true
+word_whole : (c : ℕ) → is_ascii_word c ≡ true → not (is_break c) ≡ true
 word_whole c h = ap not (stays-no_break (modes.Word spellings.Name) c h)
 
-all_words : (cs : List ℕ) → list_all is_word_byte cs ≡ true → list_all is_word_character cs ≡ true
-all_words = list_all_more is_word_byte is_word_character (λ c h. word_byte_continues c (word_byte_low c h) ∙ h)
+all_words : (cs : List ℕ) → list_all is_ascii_word cs ≡ true → list_all is_word_character cs ≡ true
+all_words = list_all_more is_ascii_word is_word_character (λ c h. word_byte_continues c (word_byte_low c h) ∙ h)
 
 operator-not-quote : (c : ℕ) → is_operator c ≡ true → is_quote c ≡ false
 unfolding is_operator is_quote
@@ -349,13 +349,13 @@ apart-not-quote : (c : ℕ) → is_apart c ≡ true → is_quote c ≡ false
 unfolding is_break is_hash is_backslash is_quote
 apart-not-quote c h = ⊎_elim (λ breaks. none_of is_quote (codes "\n\r") c refl breaks) (λ other. ⊎_elim (λ hash. none_of is_quote (35 ∷ []) c refl hash) (λ slash. none_of is_quote (92 ∷ []) c refl slash) (or_cases (is_hash c) (is_backslash c) other)) (or_cases (is_break c) (is_hash c || is_backslash c) h)
 
-pub follows_cases : (P : Type 0) (st : List Bracket) (c : ℕ) → follows st c ≡ true → (is_word_byte c ≡ true → P) → (is_space c ≡ true → P) → (is_apart c ≡ true → P) → (is_operator c ≡ true → may_stand st c ≡ true → P) → P
+pub follows_cases : (P : Type 0) (st : List Bracket) (c : ℕ) → follows st c ≡ true → (is_ascii_word c ≡ true → P) → (is_space c ≡ true → P) → (is_apart c ≡ true → P) → (is_operator c ≡ true → may_stand st c ≡ true → P) → P
 follows_cases P st c h word space apart stands =
     ⊎_elim word
     (λ other. ⊎_elim space
     (λ third. ⊎_elim apart (λ both. let parts = and_parts (is_operator c) (may_stand st c) both in stands parts.0 parts.1) (or_cases (is_apart c) (is_operator c && may_stand st c) third))
     (or_cases (is_space c) (is_apart c || (is_operator c && may_stand st c)) other))
-    (or_cases (is_word_byte c) (is_space c || (is_apart c || (is_operator c && may_stand st c))) h)
+    (or_cases (is_ascii_word c) (is_space c || (is_apart c || (is_operator c && may_stand st c))) h)
 
 follows_low : (st : List Bracket) (c : ℕ) → follows st c ≡ true → c < 128
 follows_low st c h = follows_cases (c < 128) st c h (word_byte_low c) (space_low c) (apart-low c) (λ stands so. operator_ascii c stands)
@@ -370,7 +370,7 @@ follows_begin st c h = ap (λ b. is_quote c || b) h ∙ or_right (is_quote c)
     or_right true = refl
     or_right false = refl
 
-word_stops : (run : List ℕ) (d : ℕ) (st : List Bracket) → is_word_byte d ≡ false → follows st d ≡ true → move_of (word_mode run) d ≡ moves.Breaks
+word_stops : (run : List ℕ) (d : ℕ) (st : List Bracket) → is_ascii_word d ≡ false → follows st d ≡ true → move_of (word_mode run) d ≡ moves.Breaks
 unfolding move_of
 word_stops run d st other next =
     let no_word : is_word_character d ≡ false = word_byte_continues d (follows_low st d next) ∙ other in
@@ -385,15 +385,15 @@ unfolding move_of
 space_stops run d st other next = rw other refl
 
 -- the run of a piece from its first character
-pub word_reached : (m : Mode) (at : ℕ) (text : List ℕ) (scan new : Scan) (bytes : List ℕ) (len : ℕ) → scan.piece.mode ≡ modes.Free → ReachedShut m at text scan bytes → IsSound (line_start m) [] → TakesRun is_word_byte follows word_mode scan bytes len new → ReachedShut m at text new (drop len bytes)
+pub word_reached : (m : Mode) (at : ℕ) (text : List ℕ) (scan new : Scan) (bytes : List ℕ) (len : ℕ) → scan.piece.mode ≡ modes.Free → ReachedShut m at text scan bytes → IsSound (line_start m) [] → TakesRun is_ascii_word follows word_mode scan bytes len new → ReachedShut m at text new (drop len bytes)
 word_reached m at text scan new bytes len free r start takes = go takes.run takes.spell takes.size takes.full takes.all takes.how
   where
-    go : (run : List ℕ) → run ++ takes.after ≡ bytes → length run ≡ len → IsFull run → list_all is_word_byte run ≡ true → (new ≡ opened scan (word_mode run) len) ⊎ (Closes (opened scan (word_mode run) len) new × (begins (follows (stack_of scan.brackets)) takes.after ≡ true)) → ReachedShut m at text new (drop len bytes)
+    go : (run : List ℕ) → run ++ takes.after ≡ bytes → length run ≡ len → IsFull run → list_all is_ascii_word run ≡ true → (new ≡ opened scan (word_mode run) len) ⊎ (Closes (opened scan (word_mode run) len) new × (begins (follows (stack_of scan.brackets)) takes.after ≡ true)) → ReachedShut m at text new (drop len bytes)
     go [] spell size full all how = absurd full
     go (c ∷ cs) spell size full all how =
         let meet = meets m at text scan c (cs ++ takes.after) free (subst (ReachedShut m at text scan) (sym spell) r) in
         subst (ReachedShut m at text new) (sym (ap (drop len) (sym spell) ∙ ap (λ (n : ℕ). drop n (c ∷ cs ++ takes.after)) (sym size) ∙ drop-append_seam (c ∷ cs) takes.after))
-        (run_reached is_word_byte follows follows_begin word_mode word_byte_low word_whole (λ d. modes.Word (first_spelling d)) (λ d h. start-word d (word_starts d h)) (λ done d ds h. run_word done (first_spelling d) (d ∷ []) ds (all_words ds h)) word_stops (λ run. refl) m at text scan new c cs takes.after meet start all takes.ends (subst (λ (n : ℕ). (new ≡ opened scan (word_mode (c ∷ cs)) n) ⊎ (Closes (opened scan (word_mode (c ∷ cs)) n) new × (begins (follows (stack_of scan.brackets)) takes.after ≡ true))) (sym size) how))
+        (run_reached is_ascii_word follows follows_begin word_mode word_byte_low word_whole (λ d. modes.Word (first_spelling d)) (λ d h. start-word d (word_starts d h)) (λ done d ds h. run_word done (first_spelling d) (d ∷ []) ds (all_words ds h)) word_stops (λ run. refl) m at text scan new c cs takes.after meet start all takes.ends (subst (λ (n : ℕ). (new ≡ opened scan (word_mode (c ∷ cs)) n) ⊎ (Closes (opened scan (word_mode (c ∷ cs)) n) new × (begins (follows (stack_of scan.brackets)) takes.after ≡ true))) (sym size) how))
 
 pub space_reached : (m : Mode) (at : ℕ) (text : List ℕ) (scan new : Scan) (bytes : List ℕ) (len : ℕ) → scan.piece.mode ≡ modes.Free → ReachedShut m at text scan bytes → IsSound (line_start m) [] → TakesRun is_space may_begin space_mode scan bytes len new → ReachedShut m at text new (drop len bytes)
 space_reached m at text scan new bytes len free r start takes = go takes.run takes.spell takes.size takes.full takes.all takes.how
@@ -456,8 +456,8 @@ operator_reached m at text scan new bytes len free r start takes =
     let before = meet.unshut in
     let breaks : move_of s.mode c ≡ moves.Breaks = ap (λ n. move_of n c) (sym way.tallies.mode) ∙ meet.breaks in
     let not_yet : (is_return_mode before.piece.mode && none_open (stack_of before.brackets)) && not (is_line_feed c) ≡ false = ap (λ (b : Bool). (b && none_open (stack_of before.brackets)) && not (is_line_feed c)) meet.unreturned in
-    let stands : brackets_behind (stack_of before.brackets) before.stop (piece operator (c ∷ [])) ≡ Some (stack_of takes.met)
-    = ap (λ b. brackets_behind (stack_of b) before.stop (piece operator (c ∷ []))) (sym meet.closes.brackets) ∙ ap (λ (n : ℕ). brackets_behind (stack_of scan.brackets) n (piece operator (c ∷ []))) (sym meet.closes.stop) ∙ takes.stands in
+    let stands : brackets_after (stack_of before.brackets) before.stop (piece operator (c ∷ [])) ≡ Some (stack_of takes.met)
+    = ap (λ b. brackets_after (stack_of b) before.stop (piece operator (c ∷ []))) (sym meet.closes.brackets) ∙ ap (λ (n : ℕ). brackets_after (stack_of scan.brackets) n (piece operator (c ∷ []))) (sym meet.closes.stop) ∙ takes.stands in
     let begins_so : Begins before c (start_of c) (Ok progress.Going) new = subst (λ (st : Start). Begins before c st (Ok progress.Going) new) (sym (start-operator c takes.passes))
     (takes.met, stands, adds_operator before scan new takes.met c takes.passes meet.closes takes.adds) in
     let took = takes_broken before new s.done s.mode s.held meet.reached.read c breaks (sound_run m meet.reached.read s start way.runs) way.one_line not_yet way.tallies way.stacked (Ok progress.Going) begins_so in

@@ -9,7 +9,7 @@ use Rattle.py_lines.specs.LogicalLine.{byte_len}
 use Rattle.py_lines.specs.Lexed.{EndsLine, IsLive}
 use Rattle.py_lines.specs.declared.mode.Mode.{Mode}
 use Rattle.py_lines.specs.declared.mode.Mode.TheVariants as modes
-use Rattle.py_lines.specs.Private.Machine.{Scanned, fresh, text_start, class_of, closed, started, step, run_from, start_of, IsSound, Bracket, brackets_of, in_short, is_behind_slash}
+use Rattle.py_lines.specs.Private.Machine.{Scanned, fresh, text_start, class_of, closed, started, step, run_from, start_of, IsSound, Bracket, brackets_of, in_short, is_after_backslash}
 use Rattle.py_lines.specs.declared.scan.Scan.{Scan}
 use Rattle.py_lines.specs.Private.Scan.{line_start, stack_of, stack_if, IsUnderWay}
 use Rattle.py_lines.specs.Private.LineState.{first_mode}
@@ -54,7 +54,7 @@ base_of n base rest fit (inr (body, last, is, class, level)) size =
     Base.lined body last is class (λ x. subst (λ l. MayBegin l x) (sym is) (begins_any body last x)) (free_mode n (omega (arith, size, total, bytes)))
 
 -- where the machine stands after pieces that end a line, nothing is open but perhaps a CR
-ended_mode : (m : Mode) (done : List Piece) (held : List ℕ) (body : List Piece) (last : Piece) → closed m done held ≡ body ++ last ∷ [] → last.class ≡ line_end → (in_short m ≡ false) × (is_behind_slash m ≡ false)
+ended_mode : (m : Mode) (done : List Piece) (held : List ℕ) (body : List Piece) (last : Piece) → closed m done held ≡ body ++ last ∷ [] → last.class ≡ line_end → (in_short m ≡ false) × (is_after_backslash m ≡ false)
 ended_mode modes.Start done held body last is class = (refl, refl)
 ended_mode modes.Free done held body last is class = (refl, refl)
 ended_mode modes.Return done held body last is class = (refl, refl)
@@ -75,8 +75,8 @@ pub record Joined (base : List Piece) (read : List ℕ) (s : Scanned) (first : L
   pub pieces : pieces_at state ≡ base ++ pieces_at s
   pub next : (c : ℕ) (more : List ℕ) → after ≡ c ∷ more → step state c ≡ behind_if base (step s c)
   pub short : in_short state.mode ≡ in_short s.mode
-  pub slash : is_behind_slash state.mode ≡ is_behind_slash s.mode
-  pub start : in_short s.mode || is_behind_slash s.mode ≡ true → byte_len (spelled state.done) ≡ byte_len (spelled base) + byte_len (spelled s.done)
+  pub slash : is_after_backslash state.mode ≡ is_after_backslash s.mode
+  pub start : in_short s.mode || is_after_backslash s.mode ≡ true → byte_len (spelled state.done) ≡ byte_len (spelled base) + byte_len (spelled s.done)
   pub same : 0 < byte_len read → (state ≡ behind base s) × (st ≡ shift (byte_len (spelled base)) first)
 
 paired : (base : List Piece) (m : Mode) (done : List Piece) (held : List ℕ) → brackets_of base ≡ Some [] → closed m done held ≡ base → brackets_of done ≡ Some []
@@ -159,9 +159,9 @@ module _ (n : ℕ) (base : List Piece) (after : List ℕ) (level : brackets_of b
         pieces = reached.pieces_are ∙ sym (append-nil base) ∙ ap (λ (t : Scanned). base ++ pieces_at t) here;
         next = λ d more follows. sym (step_as_run to d) ∙ from_base base to d [] more reached.pieces_are (subst (StopsBefore to.mode) follows (reached.stops (any after))) ∙ ap (behind_if base) (step_as_run (line_start modes.Free) d) ∙ ap (λ (t : Scanned). behind_if base (step t d)) here;
         short = closed_mode.0 ∙ ap (λ (t : Scanned). in_short t.mode) here;
-        slash = closed_mode.1 ∙ ap (λ (t : Scanned). is_behind_slash t.mode) here;
+        slash = closed_mode.1 ∙ ap (λ (t : Scanned). is_after_backslash t.mode) here;
         same = λ full_text. absurd (omega (arith, full_text));
-        start = λ open_yet. absurd (both_ways _ (sym (ap (λ (t : Scanned). in_short t.mode || is_behind_slash t.mode) here)) open_yet);
+        start = λ open_yet. absurd (both_ways _ (sym (ap (λ (t : Scanned). in_short t.mode || is_after_backslash t.mode) here)) open_yet);
       }
 
   -- the machine where the line has come

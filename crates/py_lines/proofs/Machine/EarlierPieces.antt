@@ -10,7 +10,7 @@ use Rattle.py_lines.specs.declared.mode.Move.{Move}
 use Rattle.py_lines.specs.declared.mode.Move.TheVariants as moves
 use Rattle.py_lines.specs.declared.mode.Start.{Start}
 use Rattle.py_lines.specs.declared.mode.Start.TheVariants as starts
-use Rattle.py_lines.specs.Private.Machine.{Scanned, fresh, class_of, closed, step, moved, started, run_from, move_of, start_of, Bracket, opened_by, closed_by, brackets_behind, brackets_through, brackets_of}
+use Rattle.py_lines.specs.Private.Machine.{Scanned, fresh, class_of, closed, step, moved, started, run_from, move_of, start_of, Bracket, opened_by, closed_by, brackets_after, brackets_through, brackets_of}
 use Rattle.py_lines.proofs.Pieces.PieceLists.{piece, spelled-append}
 use Rattle.py_lines.proofs.Pieces.OpenBrackets.{through-append}
 use Rattle.py_lines.proofs.LogicalLines.Cuts.{byte_len-append}
@@ -76,8 +76,8 @@ closed-shift k c (b ∷ bs) = go (c == closing_of b.opener)
     go true = refl
     go false = refl
 
-behind-shift : (k place n : ℕ) (st : List Bracket) (p : Piece) → n ≡ k + place → brackets_behind (shift k st) n p ≡ shift_if k (brackets_behind st place p)
-unfolding brackets_behind
+behind-shift : (k place n : ℕ) (st : List Bracket) (p : Piece) → n ≡ k + place → brackets_after (shift k st) n p ≡ shift_if k (brackets_after st place p)
+unfolding brackets_after
 behind-shift k place n st p is = go (is_opener p) (is_closer p)
   where
     go : (x y : Bool) → (if x then opened_by (first_or_zero p.text) n (shift k st) else (if y then closed_by (first_or_zero p.text) (shift k st) else Some (shift k st))) ≡ shift_if k (if x then opened_by (first_or_zero p.text) place st else (if y then closed_by (first_or_zero p.text) st else Some st))
@@ -91,8 +91,8 @@ through-shift base [] done (Some st) = refl
 through-shift base (p ∷ ps) done (Some st) =
     let k = byte_len (spelled base) in
     ap (λ o. brackets_through o ((base ++ done) ++ p ∷ []) ps) (behind-shift k (byte_len (spelled done)) (byte_len (spelled (base ++ done))) st p (ap byte_len (spelled-append base done) ∙ byte_len-append (spelled base) (spelled done)))
-    ∙ ap (λ l. brackets_through (shift_if k (brackets_behind st (byte_len (spelled done)) p)) l ps) (append_assoc base done (p ∷ []))
-    ∙ through-shift base ps (done ++ p ∷ []) (brackets_behind st (byte_len (spelled done)) p)
+    ∙ ap (λ l. brackets_through (shift_if k (brackets_after st (byte_len (spelled done)) p)) l ps) (append_assoc base done (p ∷ []))
+    ∙ through-shift base ps (done ++ p ∷ []) (brackets_after st (byte_len (spelled done)) p)
 
 -- the brackets after pieces with none open
 pub stack-behind : (base local : List Piece) → brackets_of base ≡ Some [] → brackets_of (base ++ local) ≡ shift_if (byte_len (spelled base)) (brackets_of local)

@@ -6,7 +6,7 @@ use Rattle.std.proofs.lemmas.Bool.{and_parts, and_from, or_from, eqb-true, both_
 use Rattle.py_lines.specs.Character.{is_word_character, is_word_start, is_quote, is_backslash}
 use Rattle.py_lines.specs.Piece.{string}
 use Rattle.py_lines.specs.PieceGrammar.{IsPrefix, is_item, is_bare, is_short_item, joined, has_triple, IsShortString, IsLongString, MayPrecede}
-use Rattle.py_lines.specs.Private.Machine.{IsFull, HoldsItems, HoldsSome, HoldsQuotes, HoldsFront, HoldsLong}
+use Rattle.py_lines.specs.Private.Machine.{IsFull, HoldsItems, HoldsSome, HoldsQuotes, HoldsPrefix, HoldsLong}
 use Rattle.py_lines.proofs.Pieces.PieceLists.{joined-append}
 use Rattle.py_lines.proofs.Text.CharacterTests.{prefix_word, quote-not-start, quote-not-word, slash-not-quote}
 use Rattle.py_lines.proofs.Pieces.TripleQuotes.{triple-left, triple-other}
@@ -90,7 +90,7 @@ items_push q held item before is full = record {
 }
 
 -- one more item of a long string, which is no quote
-pub front_push : (q : ℕ) (held item : List ℕ) → HoldsFront q held → is_item item ≡ true → is_bare (λ d. d == q) item ≡ false → HoldsLong q (held ++ item)
+pub front_push : (q : ℕ) (held item : List ℕ) → HoldsPrefix q held → is_item item ≡ true → is_bare (λ d. d == q) item ≡ false → HoldsLong q (held ++ item)
 front_push q held item before is other = record {
   prefix = before.prefix;
   items = before.items ++ item ∷ [];
@@ -110,7 +110,7 @@ quote_item q quotes = not_from_false _ (go q quotes)
     go q quotes = false_from_ne_true _ (λ slash. both_ways _ (slash-not-quote q slash) quotes)
 
 -- after none, one or two quotes, a long string is open
-pub front_none : (q : ℕ) (held : List ℕ) → HoldsLong q held → HoldsFront q held
+pub front_none : (q : ℕ) (held : List ℕ) → HoldsLong q held → HoldsPrefix q held
 front_none q held long = record {
   prefix = long.prefix;
   items = long.items;
@@ -121,7 +121,7 @@ front_none q held long = record {
   open_yet = triple-left q long.items ((q ∷ []) ∷ (q ∷ []) ∷ []) long.open_yet;
 }
 
-pub front_one : (q : ℕ) (held : List ℕ) → HoldsLong q held → HoldsFront q (held ++ q ∷ [])
+pub front_one : (q : ℕ) (held : List ℕ) → HoldsLong q held → HoldsPrefix q (held ++ q ∷ [])
 front_one q held long = record {
   prefix = long.prefix;
   items = long.items ++ (q ∷ []) ∷ [];
@@ -132,7 +132,7 @@ front_one q held long = record {
   open_yet = triple-left q (long.items ++ (q ∷ []) ∷ []) ((q ∷ []) ∷ []) (ap (has_triple q) (append_assoc long.items ((q ∷ []) ∷ []) ((q ∷ []) ∷ [])) ∙ long.open_yet);
 }
 
-pub front_two : (q : ℕ) (held : List ℕ) → HoldsLong q held → HoldsFront q (held ++ q ∷ q ∷ [])
+pub front_two : (q : ℕ) (held : List ℕ) → HoldsLong q held → HoldsPrefix q (held ++ q ∷ q ∷ [])
 front_two q held long = record {
   prefix = long.prefix;
   items = long.items ++ (q ∷ []) ∷ (q ∷ []) ∷ [];

@@ -6,23 +6,23 @@ use Rattle.unicode_ident.proofs.Computing.{unicode_ident}
 use Rattle.py_lines.specs.Character.{is_mark, is_quote, is_word_start, is_digit, is_backslash}
 use Rattle.py_lines.specs.Piece.{Piece, begins, spelled}
 use Rattle.py_lines.specs.PieceGrammar.{IsPrefix, is_item, is_short_item, joined, has_triple, AreReadBefore}
-use Rattle.py_lines.specs.Lexed.{IsUnescaped, IsShortFront, IsLongFront, IsSlash, InShortString, InLongString, BehindBackslash}
+use Rattle.py_lines.specs.Lexed.{IsUnescaped, IsShortPrefix, IsLongPrefix, IsSlash, InShortString, InLongString, AfterBackslash}
 use Rattle.py_lines.specs.declared.mode.Mode.{Mode}
 use Rattle.py_lines.specs.declared.mode.Mode.TheVariants as modes
-use Rattle.py_lines.specs.Private.Machine.{Scanned, text_start, run_from, in_short, in_long, is_behind_slash}
+use Rattle.py_lines.specs.Private.Machine.{Scanned, text_start, run_from, in_short, in_long, is_after_backslash}
 use Rattle.py_lines.proofs.Text.CharacterTests.{none_of, prefix_word}
 use Rattle.py_lines.proofs.Machine.Starts.{start-slash}
 use Rattle.py_lines.proofs.Machine.PieceRuns.{scanned, pieces_at, StopsBefore, run_from-append, begun, grown}
 use Rattle.py_lines.proofs.Machine.StringRuns.{IsShortMode, short_escapes, short_body, opened_run, long_opened, run_long, mode_at, Seen, seen_after, long_escapes}
 use Rattle.py_lines.proofs.Machine.ReadingRuns.{Reaches, reach, MayBegin}
-use Rattle.py_lines.specs.Private.Machine.{Holds, HoldsItems, HoldsFront, IsSound}
+use Rattle.py_lines.specs.Private.Machine.{Holds, HoldsItems, HoldsPrefix, IsSound}
 use Rattle.py_lines.proofs.Machine.OpenPieces.{opened_items, front_none, front_one, front_two}
 use Rattle.py_lines.proofs.Machine.Soundness.{returned_items}
 
 fit_held : (s : Scanned) (read : List ℕ) → IsSound s read → AreReadBefore s.done s.held
 fit_held s read sound = subst (AreReadBefore s.done) (append-nil s.held) (sound.fit [])
 
-short_front : (q : ℕ) (held : List ℕ) → HoldsItems q held → IsShortFront held
+short_front : (q : ℕ) (held : List ℕ) → HoldsItems q held → IsShortPrefix held
 short_front q held items = record {
   prefix = items.prefix;
   quote = q;
@@ -35,7 +35,7 @@ short_front q held items = record {
   escapes = inl refl;
 }
 
-short_escaped : (q : ℕ) (before : List ℕ) (slash : ℕ) → HoldsItems q before → is_backslash slash ≡ true → IsShortFront (before ++ slash ∷ [])
+short_escaped : (q : ℕ) (before : List ℕ) (slash : ℕ) → HoldsItems q before → is_backslash slash ≡ true → IsShortPrefix (before ++ slash ∷ [])
 short_escaped q before slash items slashes = record {
   prefix = items.prefix;
   quote = q;
@@ -48,7 +48,7 @@ short_escaped q before slash items slashes = record {
   escapes = inr (slash, refl, slashes);
 }
 
-long_front : (q : ℕ) (held : List ℕ) → HoldsFront q held → IsLongFront held
+long_front : (q : ℕ) (held : List ℕ) → HoldsPrefix q held → IsLongPrefix held
 long_front q held front = record {
   prefix = front.prefix;
   quote = q;
@@ -62,7 +62,7 @@ long_front q held front = record {
   escapes = inl refl;
 }
 
-long_escaped : (q : ℕ) (before : List ℕ) (slash : ℕ) → HoldsFront q before → is_backslash slash ≡ true → IsLongFront (before ++ slash ∷ [])
+long_escaped : (q : ℕ) (before : List ℕ) (slash : ℕ) → HoldsPrefix q before → is_backslash slash ≡ true → IsLongPrefix (before ++ slash ∷ [])
 long_escaped q before slash front slashes = record {
   prefix = front.prefix;
   quote = q;
@@ -76,18 +76,18 @@ long_escaped q before slash front slashes = record {
   escapes = inr (slash, refl, slashes);
 }
 
-short_held : (m : Mode) (done : List Piece) (held : List ℕ) → Holds m done held → in_short m ≡ true → IsShortFront held
+short_held : (m : Mode) (done : List Piece) (held : List ℕ) → Holds m done held → in_short m ≡ true → IsShortPrefix held
 short_held (modes.Opened q) done held holds is = short_front q held (opened_items q held holds)
 short_held (modes.Inside q) done held holds is = short_front q held holds.all
-short_held (modes.Escape q) done held holds is = subst IsShortFront (sym holds.2) (short_escaped q holds.0 holds.1 holds.3 holds.4)
+short_held (modes.Escape q) done held holds is = subst IsShortPrefix (sym holds.2) (short_escaped q holds.0 holds.1 holds.3 holds.4)
 short_held (modes.EscapeReturn q) done held holds is = short_front q held (returned_items q done held holds).all
 short_held m done held holds is = absurd (both_ways _ refl is)
 
-long_held : (m : Mode) (done : List Piece) (held : List ℕ) → Holds m done held → in_long m ≡ true → IsLongFront held
+long_held : (m : Mode) (done : List Piece) (held : List ℕ) → Holds m done held → in_long m ≡ true → IsLongPrefix held
 long_held (modes.Long q) done held holds is = long_front q held (front_none q held holds)
-long_held (modes.LongOne q) done held holds is = long_front q held (subst (HoldsFront q) (sym holds.1) (front_one q holds.0 holds.2))
-long_held (modes.LongTwo q) done held holds is = long_front q held (subst (HoldsFront q) (sym holds.1) (front_two q holds.0 holds.2))
-long_held (modes.LongEscape q) done held holds is = subst IsLongFront (sym holds.2) (long_escaped q holds.0 holds.1 holds.3 holds.4)
+long_held (modes.LongOne q) done held holds is = long_front q held (subst (HoldsPrefix q) (sym holds.1) (front_one q holds.0 holds.2))
+long_held (modes.LongTwo q) done held holds is = long_front q held (subst (HoldsPrefix q) (sym holds.1) (front_two q holds.0 holds.2))
+long_held (modes.LongEscape q) done held holds is = subst IsLongPrefix (sym holds.2) (long_escaped q holds.0 holds.1 holds.3 holds.4)
 long_held m done held holds is = absurd (both_ways _ refl is)
 
 -- where the machine stands in a short string, the characters do
@@ -97,11 +97,11 @@ in_short_string s read sound is = record { pieces = s.done; front = s.held; spel
 pub in_long_string : (s : Scanned) (read : List ℕ) → IsSound s read → in_long s.mode ≡ true → InLongString read (spelled s.done)
 in_long_string s read sound is = record { pieces = s.done; front = s.held; spell = sound.spell; before = refl; fit = fit_held s read sound; inside = long_held s.mode s.done s.held sound.holds is }
 
-slash_held : (m : Mode) (done : List Piece) (held : List ℕ) → Holds m done held → is_behind_slash m ≡ true → (slash : ℕ) × (held ≡ slash ∷ []) × (is_backslash slash ≡ true)
+slash_held : (m : Mode) (done : List Piece) (held : List ℕ) → Holds m done held → is_after_backslash m ≡ true → (slash : ℕ) × (held ≡ slash ∷ []) × (is_backslash slash ≡ true)
 slash_held modes.Backslash done held holds is = holds
 slash_held m done held holds is = absurd (both_ways _ refl is)
 
-pub behind_backslash : (s : Scanned) (read : List ℕ) → IsSound s read → is_behind_slash s.mode ≡ true → BehindBackslash read (spelled s.done)
+pub behind_backslash : (s : Scanned) (read : List ℕ) → IsSound s read → is_after_backslash s.mode ≡ true → AfterBackslash read (spelled s.done)
 behind_backslash s read sound is = record { pieces = s.done; front = s.held; spell = sound.spell; before = refl; fit = fit_held s read sound; inside = slash_held s.mode s.done s.held sound.holds is }
 
 -- a string and a backslash don't begin with a mark
@@ -226,14 +226,14 @@ stands_in_long characters start long =
     stands_in in_long characters start long.pieces long.front reached inner.to _ long.spell long.before inner.long
     (ap (run_from (Some reached.to)) front.spell ∙ long_opened reached.to front.prefix q body front.begun front.opens stops ∙ inner.runs)
 
-pub stands_behind_slash : (characters start : List ℕ) → BehindBackslash characters start → StandsIn is_behind_slash characters start
+pub stands_behind_slash : (characters start : List ℕ) → AfterBackslash characters start → StandsIn is_after_backslash characters start
 stands_behind_slash characters start behind = go behind.inside
   where
-    go : IsSlash behind.front → StandsIn is_behind_slash characters start
+    go : IsSlash behind.front → StandsIn is_after_backslash characters start
     go (slash, is, slashes) =
         let reached = reach behind.pieces (slash ∷ []) (subst (AreReadBefore behind.pieces) is behind.fit) in
         let stops = reached.stops (may_begin behind.pieces (slash ∷ []) (slash-not-mark slash slashes)) in
-        stands_in is_behind_slash characters start behind.pieces (slash ∷ []) reached modes.Backslash (slash ∷ []) (ap (λ t. start ++ t) (sym is) ∙ behind.spell) behind.before refl
+        stands_in is_after_backslash characters start behind.pieces (slash ∷ []) reached modes.Backslash (slash ∷ []) (ap (λ t. start ++ t) (sym is) ∙ behind.spell) behind.before refl
         (begun reached.to slash [] [] _ stops (start-slash slash slashes))
 
 -- so the mode says what is open

@@ -10,7 +10,7 @@ use Rattle.py_lines.specs.declared.mode.Mode.TheVariants as modes
 use Rattle.py_lines.specs.declared.mode.Move.{Move}
 use Rattle.py_lines.specs.declared.mode.Start.{Start}
 use Rattle.py_lines.specs.declared.mode.Start.TheVariants as starts
-use Rattle.py_lines.specs.Private.Machine.{IsSound, Holds, HoldsItems, HoldsSome, HoldsQuotes, HoldsFront, HoldsLong, Scanned, fresh, text_start, closed, started, moved, step, run_from, move_of, short_move, long_move, start_of, first_spelling, spelling_with, is_prefix_spelling, is_final}
+use Rattle.py_lines.specs.Private.Machine.{IsSound, Holds, HoldsItems, HoldsSome, HoldsQuotes, HoldsPrefix, HoldsLong, Scanned, fresh, text_start, closed, started, moved, step, run_from, move_of, short_move, long_move, start_of, first_spelling, spelling_with, is_prefix_spelling, is_final}
 use Rattle.py_lines.proofs.Pieces.PieceLists.{piece, spelled-push, AreReadBefore-push, MayFollow, follows_any}
 use Rattle.py_lines.proofs.Machine.Starts.{StartsSo, starts_so}
 use Rattle.py_lines.proofs.Machine.Spellings.{spelling_on-push, prefix_spelling}
@@ -104,7 +104,7 @@ close_sound done m held read q c sound holds same =
     (follows_any done string (held ++ c ∷ []) refl)
 
 -- a character in a long string, which isn't its quote
-long_sound : (done : List Piece) (m : Mode) (held read : List ℕ) (q c : ℕ) → IsSound (scanned done m held) read → HoldsFront q held → eqb c q ≡ false → SoundIf (moved (scanned done m held) c (long_move q c)) (read ++ c ∷ [])
+long_sound : (done : List Piece) (m : Mode) (held read : List ℕ) (q c : ℕ) → IsSound (scanned done m held) read → HoldsPrefix q held → eqb c q ≡ false → SoundIf (moved (scanned done m held) c (long_move q c)) (read ++ c ∷ [])
 unfolding long_move
 long_sound done m held read q c sound front other =
     let P : Move → Type 0 = λ v. SoundIf (moved (scanned done m held) c v) (read ++ c ∷ []) in
@@ -238,7 +238,7 @@ long_one_step q done held read c sound =
     let before = sound.holds.0 in
     cond_both (eqb c q) _ _ (λ (v : Move). SoundIf (moved (scanned done (modes.LongOne q) held) c v) (read ++ c ∷ []))
     (λ h. grew done held read c (modes.LongOne q) (modes.LongTwo q) sound (before, ap (λ t. t ++ c ∷ []) sound.holds.1 ∙ append_assoc before (q ∷ []) (c ∷ []) ∙ ap (λ (d : ℕ). before ++ q ∷ d ∷ []) (eqb-true c q h), sound.holds.2))
-    (λ h. long_sound done (modes.LongOne q) held read q c sound (subst (HoldsFront q) (sym sound.holds.1) (front_one q before sound.holds.2)) h)
+    (λ h. long_sound done (modes.LongOne q) held read q c sound (subst (HoldsPrefix q) (sym sound.holds.1) (front_one q before sound.holds.2)) h)
 
 long_two_step : (q : ℕ) (done : List Piece) (held read : List ℕ) (c : ℕ) → IsSound (scanned done (modes.LongTwo q) held) read → SoundIf (step (scanned done (modes.LongTwo q) held) c) (read ++ c ∷ [])
 unfolding move_of long_string
@@ -252,7 +252,7 @@ long_two_step q done held read c sound =
     closed_by_one done (modes.LongTwo q) held read c string sound (subst (InClass string) (sym spell) (inr whole))
     (λ more. long_something long.prefix (joined long.items ++ q ∷ q ∷ q ∷ []) q (held ++ c ∷ []) more (spell ∙ whole.spell) long.begun long.opens)
     (follows_any done string (held ++ c ∷ []) refl))
-    (λ h. long_sound done (modes.LongTwo q) held read q c sound (subst (HoldsFront q) (sym sound.holds.1) (front_two q before long)) h)
+    (λ h. long_sound done (modes.LongTwo q) held read q c sound (subst (HoldsPrefix q) (sym sound.holds.1) (front_two q before long)) h)
 
 long_escape_step : (q : ℕ) (done : List Piece) (held read : List ℕ) (c : ℕ) → IsSound (scanned done (modes.LongEscape q) held) read → SoundIf (step (scanned done (modes.LongEscape q) held) c) (read ++ c ∷ [])
 unfolding move_of

@@ -5,7 +5,7 @@ use Rattle.py_lines.specs.Piece.{Class, mark, space, word, string, operator, com
 use Rattle.py_lines.specs.Balance as balance
 use Rattle.py_lines.specs.Balance.{is_opening, is_closing, closing_of, is_operator_that, is_opener, is_closer, ArePair, IsBalanced, depth_after, depth_through, IsShallow}
 use Rattle.py_lines.specs.LogicalLine.{first_or_zero, byte_len}
-use Rattle.py_lines.specs.Private.Machine.{Bracket, closed_by, opened_by, brackets_behind, brackets_through, brackets_of}
+use Rattle.py_lines.specs.Private.Machine.{Bracket, closed_by, opened_by, brackets_after, brackets_through, brackets_of}
 use Rattle.py_lines.proofs.Text.CharacterTests.{none_of}
 
 -- a closing bracket is no opening one
@@ -96,22 +96,22 @@ pub through-append : (o : Option (List Bracket)) (done ps qs : List Piece) → b
 through-append None done ps qs = refl
 through-append (Some st) done [] qs = ap (λ l. brackets_through (Some st) l qs) (sym (append-nil done))
 through-append (Some st) done (p ∷ ps) qs =
-    through-append (brackets_behind st (byte_len (spelled done)) p) (done ++ p ∷ []) ps qs
-    ∙ ap (λ l. brackets_through (brackets_through (brackets_behind st (byte_len (spelled done)) p) (done ++ p ∷ []) ps) l qs) (append_assoc done (p ∷ []) ps)
+    through-append (brackets_after st (byte_len (spelled done)) p) (done ++ p ∷ []) ps qs
+    ∙ ap (λ l. brackets_through (brackets_through (brackets_after st (byte_len (spelled done)) p) (done ++ p ∷ []) ps) l qs) (append_assoc done (p ∷ []) ps)
 
 bracket : ℕ → ℕ → Bracket
 bracket opener place = record { opener = opener; place = place }
 
-pub opener_pushes : (st : List Bracket) (place : ℕ) (p : Piece) → is_opener p ≡ true → length st < 200 → brackets_behind st place p ≡ Some (record { opener = first_or_zero p.text; place = place } ∷ st)
-unfolding brackets_behind
+pub opener_pushes : (st : List Bracket) (place : ℕ) (p : Piece) → is_opener p ≡ true → length st < 200 → brackets_after st place p ≡ Some (record { opener = first_or_zero p.text; place = place } ∷ st)
+unfolding brackets_after
 opener_pushes st place p h deep = rw (h, lt-ltb (length st) 200 deep)
 
-pub closer_pops : (st : List Bracket) (place : ℕ) (b : Bracket) (p : Piece) → is_closer p ≡ true → first_or_zero p.text == closing_of b.opener ≡ true → brackets_behind (b ∷ st) place p ≡ Some st
-unfolding brackets_behind
+pub closer_pops : (st : List Bracket) (place : ℕ) (b : Bracket) (p : Piece) → is_closer p ≡ true → first_or_zero p.text == closing_of b.opener ≡ true → brackets_after (b ∷ st) place p ≡ Some st
+unfolding brackets_after
 closer_pops st place b p h kind = rw (closer-not-opener p h, h, kind)
 
-pub other_keeps : (st : List Bracket) (place : ℕ) (p : Piece) → is_opener p ≡ false → is_closer p ≡ false → brackets_behind st place p ≡ Some st
-unfolding brackets_behind
+pub other_keeps : (st : List Bracket) (place : ℕ) (p : Piece) → is_opener p ≡ false → is_closer p ≡ false → brackets_after st place p ≡ Some st
+unfolding brackets_after
 other_keeps st place p h k = rw (h, k)
 
 pair_kind : (a b : Piece) → ArePair a b → first_or_zero b.text == closing_of (first_or_zero a.text) ≡ true
@@ -207,8 +207,8 @@ stands-closer (b ∷ bs) ps p stands closes =
     (λ other. tt)
 
 -- one more piece
-pub stands-push : (bs : List Bracket) (ps : List Piece) (p : Piece) → Stands bs ps → StandsIf (brackets_behind bs (byte_len (spelled ps)) p) (ps ++ p ∷ [])
-unfolding brackets_behind
+pub stands-push : (bs : List Bracket) (ps : List Piece) (p : Piece) → Stands bs ps → StandsIf (brackets_after bs (byte_len (spelled ps)) p) (ps ++ p ∷ [])
+unfolding brackets_after
 stands-push bs ps p stands =
     cond_both (is_opener p) _ _ (λ o. StandsIf o (ps ++ p ∷ []))
     (λ opens. stands-opener bs ps p stands opens)
@@ -225,8 +225,8 @@ pub stands-through : (ps done : List Piece) (o : Option (List Bracket)) → Stan
 stands-through ps done None stands = tt
 stands-through [] done (Some bs) stands = subst (Stands bs) (sym (append-nil done)) stands
 stands-through (p ∷ ps) done (Some bs) stands =
-    subst (StandsIf (brackets_through (brackets_behind bs (byte_len (spelled done)) p) (done ++ p ∷ []) ps)) (append_assoc done (p ∷ []) ps)
-    (stands-through ps (done ++ p ∷ []) (brackets_behind bs (byte_len (spelled done)) p) (stands-push bs done p stands))
+    subst (StandsIf (brackets_through (brackets_after bs (byte_len (spelled done)) p) (done ++ p ∷ []) ps)) (append_assoc done (p ∷ []) ps)
+    (stands-through ps (done ++ p ∷ []) (brackets_after bs (byte_len (spelled done)) p) (stands-push bs done p stands))
 
 stands-none : Stands [] []
 stands-none = record { at = level [] [] refl (balance.none [] refl); shallow = tt; depth = refl }
@@ -267,8 +267,8 @@ room-closer : (c : ℕ) (bs : List Bracket) → length bs ≤ 200 → HasRoom (c
 room-closer c [] room = tt
 room-closer c (b ∷ bs) room = cond_both (c == closing_of b.opener) (Some bs) None HasRoom (λ same. omega arith) (λ other. tt)
 
-room-push : (bs : List Bracket) (place : ℕ) (p : Piece) → length bs ≤ 200 → HasRoom (brackets_behind bs place p)
-unfolding brackets_behind
+room-push : (bs : List Bracket) (place : ℕ) (p : Piece) → length bs ≤ 200 → HasRoom (brackets_after bs place p)
+unfolding brackets_after
 room-push bs place p room =
     cond_both (is_opener p) _ _ HasRoom
     (λ opens. cond_both (nat_lt (length bs) 200) _ _ HasRoom (λ less. ltb-true (length bs) 200 less) (λ full. tt))
@@ -277,7 +277,7 @@ room-push bs place p room =
 room-through : (ps done : List Piece) (o : Option (List Bracket)) → HasRoom o → HasRoom (brackets_through o done ps)
 room-through ps done None room = tt
 room-through [] done (Some bs) room = room
-room-through (p ∷ ps) done (Some bs) room = room-through ps (done ++ p ∷ []) (brackets_behind bs (byte_len (spelled done)) p) (room-push bs (byte_len (spelled done)) p room)
+room-through (p ∷ ps) done (Some bs) room = room-through ps (done ++ p ∷ []) (brackets_after bs (byte_len (spelled done)) p) (room-push bs (byte_len (spelled done)) p room)
 
 pub room_in : (ps : List Piece) (bs : List Bracket) → brackets_of ps ≡ Some bs → length bs ≤ 200
 room_in ps bs runs = subst HasRoom runs (room-through ps [] (Some []) (omega arith))

@@ -21,7 +21,7 @@ use Rattle.py_lines.specs.declared.mode.Move.{Move}
 use Rattle.py_lines.specs.declared.scan.Stop.{Stop}
 use Rattle.py_lines.specs.declared.scan.Stop.TheVariants as stops
 use Rattle.py_lines.specs.declared.source.Source.{Source}
-use Rattle.py_lines.specs.Private.Machine.{step, moved, move_of, in_short, is_behind_slash, character_kind, character_place, Bracket, brackets_of, IsSound}
+use Rattle.py_lines.specs.Private.Machine.{step, moved, move_of, in_short, is_after_backslash, character_kind, character_place, Bracket, brackets_of, IsSound}
 use Rattle.py_lines.specs.Private.Scan.{line_start, IsUnderWay, none_open, is_return_mode, stack_of, stack_if, refused_place}
 use Rattle.py_lines.specs.Reader.View.{reader_of}
 use Rattle.py_lines.specs.Private.LineState.{IsFaultAfter, first_mode}
@@ -30,7 +30,7 @@ use Rattle.py_lines.proofs.Pieces.PieceLists.{piece}
 use Rattle.py_lines.proofs.Machine.PieceRuns.{scanned, pieces_at}
 use Rattle.py_lines.proofs.Machine.LiveTexts.{keeps}
 use Rattle.py_lines.proofs.Pieces.OpenBrackets.{stack-from_balanced}
-use Rattle.py_lines.proofs.Lexings.Answers.{IsLineOf, HasFront, refused_at_character}
+use Rattle.py_lines.proofs.Lexings.Answers.{IsLineOf, HasPrefix, refused_at_character}
 use Rattle.py_lines.proofs.LogicalLines.Cuts.{byte_len-append}
 use Rattle.py_lines.proofs.LineScan.NextCharacter.{closed_one_line}
 use Rattle.py_lines.proofs.LineScan.LineRun.{sound_run, way_stop}
@@ -60,7 +60,7 @@ open_return modes.Return done held c [] stacked refuses not_yet is =
     (λ other none. both_ways _ not_yet (ap not other)) refuses)
 open_return m done held c st stacked refuses not_yet is = absurd (cc)
 
-pub same_kind : (m n : Mode) (c : ℕ) → in_short m ≡ in_short n → is_behind_slash m ≡ is_behind_slash n → character_kind m c ≡ character_kind n c
+pub same_kind : (m n : Mode) (c : ℕ) → in_short m ≡ in_short n → is_after_backslash m ≡ is_after_backslash n → character_kind m c ≡ character_kind n c
 same_kind m n c short slash = rw (short, slash) refl
 
 place_by : (b : Bool) (place k start stop done whole : ℕ) → place ≡ k → (b ≡ true → done ≡ k + start) → whole ≡ k + stop → place + (if b then start else stop) ≡ (if b then done else whole)
@@ -109,7 +109,7 @@ module _ (old : Source) (stop : Stop) (has : HasScanned old stop) where
       }
 
   -- the lines given are the prefix
-  pub has_front : (lines : List LogicalLine) (given : HasGiven (reader_of old) lines) (way : IsUnderWay (first_mode old.state.place) old.state.scan has.scans.read) → (way.state.mode ≡ modes.Return → none_open (stack_of old.state.scan.brackets) ≡ false) → HasFront (joins lines given way).state (here lines given).given.first.pieces
+  pub has_front : (lines : List LogicalLine) (given : HasGiven (reader_of old) lines) (way : IsUnderWay (first_mode old.state.place) old.state.scan has.scans.read) → (way.state.mode ≡ modes.Return → none_open (stack_of old.state.scan.brackets) ≡ false) → HasPrefix (joins lines given way).state (here lines given).given.first.pieces
   has_front lines given way open_yet = record {
     others = pieces_at way.state;
     spell = (joins lines given way).pieces;
@@ -120,7 +120,7 @@ module _ (old : Source) (stop : Stop) (has : HasScanned old stop) where
   pub refused_within : (way : IsUnderWay (first_mode old.state.place) old.state.scan has.scans.read) → Within has.scans.read (refused_place old.state.scan)
   refused_within way =
       let sound = sound_run (first_mode old.state.place) has.scans.read way.state start_sound way.runs in
-      cond_both (in_short old.state.scan.piece.mode || is_behind_slash old.state.scan.piece.mode) old.state.scan.piece.start old.state.scan.stop (Within has.scans.read)
+      cond_both (in_short old.state.scan.piece.mode || is_after_backslash old.state.scan.piece.mode) old.state.scan.piece.start old.state.scan.stop (Within has.scans.read)
       (λ h. record { front = spelled way.state.done; later = way.state.held; split = sound.spell; size = way.tallies.start })
       (λ h. all_within has.scans.read old.state.scan.stop (way_stop (first_mode old.state.place) old.state.scan has.scans.read way start_sound))
 
@@ -129,10 +129,10 @@ module _ (old : Source) (stop : Stop) (has : HasScanned old stop) where
       let j = joins lines given way in
       let s = here lines given in
       let base = s.given.first.pieces in
-      let flags : in_short old.state.scan.piece.mode || is_behind_slash old.state.scan.piece.mode ≡ in_short way.state.mode || is_behind_slash way.state.mode = ap (λ (m : Mode). in_short m || is_behind_slash m) way.tallies.mode in
-      let state_flags : in_short way.state.mode || is_behind_slash way.state.mode ≡ in_short j.state.mode || is_behind_slash j.state.mode = ap (λ (b : Bool). b || is_behind_slash way.state.mode) (sym j.short) ∙ ap (λ (b : Bool). in_short j.state.mode || b) (sym j.slash) in
+      let flags : in_short old.state.scan.piece.mode || is_after_backslash old.state.scan.piece.mode ≡ in_short way.state.mode || is_after_backslash way.state.mode = ap (λ (m : Mode). in_short m || is_after_backslash m) way.tallies.mode in
+      let state_flags : in_short way.state.mode || is_after_backslash way.state.mode ≡ in_short j.state.mode || is_after_backslash j.state.mode = ap (λ (b : Bool). b || is_after_backslash way.state.mode) (sym j.short) ∙ ap (λ (b : Bool). in_short j.state.mode || b) (sym j.slash) in
       ap (λ (b : Bool). old.state.place + (if b then old.state.scan.piece.start else old.state.scan.stop)) flags
-      ∙ place_by (in_short way.state.mode || is_behind_slash way.state.mode) old.state.place (byte_len (spelled base)) old.state.scan.piece.start old.state.scan.stop (byte_len (spelled j.state.done)) (byte_len (spelled base ++ has.scans.read)) s.given.first.here
+      ∙ place_by (in_short way.state.mode || is_after_backslash way.state.mode) old.state.place (byte_len (spelled base)) old.state.scan.piece.start old.state.scan.stop (byte_len (spelled j.state.done)) (byte_len (spelled base ++ has.scans.read)) s.given.first.here
       (λ h. j.start h ∙ ap (λ (n : ℕ). byte_len (spelled base) + n) (sym way.tallies.start))
       (byte_len-append (spelled base) has.scans.read ∙ ap (λ (n : ℕ). byte_len (spelled base) + n) (sym (way_stop (first_mode old.state.place) old.state.scan has.scans.read way start_sound)))
       ∙ ap (λ (b : Bool). if b then byte_len (spelled j.state.done) else byte_len (spelled base ++ has.scans.read)) state_flags

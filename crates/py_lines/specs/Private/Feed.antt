@@ -8,8 +8,8 @@ use Rattle.py_lines.specs.LogicalLine.{LogicalLine, byte_len, line_ends, line_of
 use Rattle.py_lines.specs.Lexed.{IsLexed}
 use Rattle.py_lines.specs.Settled.{IsHopeless}
 use Rattle.py_lines.specs.Given.{AreFirstLines}
-use Rattle.py_lines.specs.Scanning.{GoesOnWith, IsScanning, HoldsReady, fed_of, ready_lines}
-use Rattle.py_lines.specs.Scanning.View.{line_of_feed, ready_of, scanning_of}
+use Rattle.py_lines.specs.ScannerState.{GoesOnWith, IsScanning, HoldsReady, fed_of, ready_lines}
+use Rattle.py_lines.specs.ScannerState.View.{line_of_feed, ready_of, scanning_of}
 use Rattle.py_lines.specs.Private.Machine.{step, character_kind}
 use Rattle.py_lines.specs.Private.Scan.{ScansIn, Closes, IsUnderWay, stack_if, is_returned, refused_place, EndsWhole, IsLineBefore, IsNotEnded}
 use Rattle.py_lines.specs.Private.LineState.{BeginsAnew, KeepsFault, first_mode}

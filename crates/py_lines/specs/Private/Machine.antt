@@ -216,29 +216,29 @@ in_long (modes.LongEscape q) = true
 in_long other = false
 
 -- whether a backslash stands directly before, outside strings and comments
-abbrev pub is_behind_slash : Mode → Bool
-is_behind_slash modes.Backslash = true
-is_behind_slash other = false
+abbrev pub is_after_backslash : Mode → Bool
+is_after_backslash modes.Backslash = true
+is_after_backslash other = false
 
 -- the fault of a character that the machine refuses in this mode
 abbrev pub character_kind : Mode → ℕ → FaultKind
 character_kind m c =
     if in_short m then faults.OpenString
-    else (if is_behind_slash m then faults.BadJoin
+    else (if is_after_backslash m then faults.BadJoin
     else (if is_closing c then faults.WrongClose
     else (if is_opening c then faults.TooDeep
     else faults.BadChar)))
 
 -- its place, where the machine has read these characters before
 abbrev pub character_place : Scanned → List ℕ → ℕ
-character_place s before = if in_short s.mode || is_behind_slash s.mode then byte_len (spelled s.done) else byte_len before
+character_place s before = if in_short s.mode || is_after_backslash s.mode then byte_len (spelled s.done) else byte_len before
 
 -- the fault of a text that ends where it may not
 abbrev pub end_kind : Mode → FaultKind
 end_kind m =
     if in_short m then faults.OpenString
     else (if in_long m then faults.OpenTriple
-    else (if is_behind_slash m then faults.BadJoin
+    else (if is_after_backslash m then faults.BadJoin
     else faults.OpenBracket))
 
 -- an open bracket, and the byte where it stands
@@ -256,8 +256,8 @@ abbrev pub opened_by : ℕ → ℕ → List Bracket → Option (List Bracket)
 opened_by c place brackets = if nat_lt (length brackets) 200 then Some (record { opener = c; place = place } ∷ brackets) else None
 
 -- the open brackets after a piece that begins at this byte
-unfoldable pub brackets_behind : List Bracket → ℕ → Piece → Option (List Bracket)
-brackets_behind brackets place p =
+unfoldable pub brackets_after : List Bracket → ℕ → Piece → Option (List Bracket)
+brackets_after brackets place p =
     if is_opener p then opened_by (first_or_zero p.text) place brackets
     else (if is_closer p then closed_by (first_or_zero p.text) brackets
     else Some brackets)
@@ -266,7 +266,7 @@ brackets_behind brackets place p =
 abbrev pub brackets_through : Option (List Bracket) → List Piece → List Piece → Option (List Bracket)
 brackets_through None done ps = None
 brackets_through (Some brackets) done [] = Some brackets
-brackets_through (Some brackets) done (p ∷ ps) = brackets_through (brackets_behind brackets (byte_len (spelled done)) p) (done ++ p ∷ []) ps
+brackets_through (Some brackets) done (p ∷ ps) = brackets_through (brackets_after brackets (byte_len (spelled done)) p) (done ++ p ∷ []) ps
 
 -- the open brackets after a text's first pieces
 abbrev pub brackets_of : List Piece → Option (List Bracket)
@@ -308,7 +308,7 @@ pub record HoldsQuotes (quotes : List ℕ) (q : ℕ) (held : List ℕ) : Type 0 
   pub opens : is_quote q ≡ true
 
 -- a prefix, three quotes, and whole items of a long string that isn't closed
-pub record HoldsFront (q : ℕ) (held : List ℕ) : Type 0 where
+pub record HoldsPrefix (q : ℕ) (held : List ℕ) : Type 0 where
   pub prefix : List ℕ
   pub items : List (List ℕ)
   pub spell : held ≡ prefix ++ (q ∷ q ∷ q ∷ joined items)
@@ -349,7 +349,7 @@ Holds (modes.Long q) done held = HoldsLong q held
 Holds (modes.LongOne q) done held = (before : List ℕ) × (held ≡ before ++ q ∷ []) × HoldsLong q before
 Holds (modes.LongTwo q) done held = (before : List ℕ) × (held ≡ before ++ q ∷ q ∷ []) × HoldsLong q before
 Holds (modes.LongEscape q) done held =
-    (before : List ℕ) × (slash : ℕ) × (held ≡ before ++ slash ∷ []) × HoldsFront q before
+    (before : List ℕ) × (slash : ℕ) × (held ≡ before ++ slash ∷ []) × HoldsPrefix q before
     × (is_backslash slash ≡ true)
 Holds modes.Backslash done held = (slash : ℕ) × (held ≡ slash ∷ []) × (is_backslash slash ≡ true)
 Holds modes.JoinReturn done held = (slash : ℕ) × (r : ℕ) × (held ≡ slash ∷ r ∷ []) × (is_backslash slash ≡ true) × (is_return r ≡ true)

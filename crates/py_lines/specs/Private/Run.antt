@@ -8,7 +8,7 @@ use Rattle.py_lines.specs.Balance.{is_opening, is_closing}
 use Rattle.py_lines.specs.LogicalLine.{byte_len}
 use Rattle.std.specs.declared.alloc.AllocError.{AllocError}
 use Rattle.py_lines.specs.Piece.{operator, begins}
-use Rattle.py_lines.specs.Private.Machine.{Bracket, IsSound, brackets_behind, IsFull, first_spelling, spelling_on, move_of}
+use Rattle.py_lines.specs.Private.Machine.{Bracket, IsSound, brackets_after, IsFull, first_spelling, spelling_on, move_of}
 use Rattle.py_lines.specs.Private.Scan.{Begins, Closes, IsUnderWay, ScansIn, line_start, stack_of, none_open, with_brackets, is_return_mode, stack_with}
 use Rattle.py_lines.specs.declared.brackets.Brackets.{Brackets}
 use Rattle.py_lines.specs.declared.token.Token.{Token}
@@ -53,8 +53,8 @@ abbrev pub CountsSet : List ℕ → ℕ → Type 0
 CountsSet mask n = (passes : ℕ → Bool) (lanes : List ℕ) → length lanes ≡ 16 → Marks passes lanes mask → n ≡ prefix_len passes lanes
 
 -- the letters and digits of ASCII, and the underscore
-unfoldable pub is_word_byte : ℕ → Bool
-is_word_byte c = is_ascii_alphanumeric c || (c == byte "_")
+unfoldable pub is_ascii_word : ℕ → Bool
+is_ascii_word c = is_ascii_alphanumeric c || (c == byte "_")
 
 -- what stands in the body of a string between these quotes, and neither escapes nor ends a line
 unfoldable pub is_body_byte : ℕ → ℕ → Bool
@@ -66,7 +66,7 @@ is_text_byte quote c = is_body_byte quote c && nat_lt c 128
 
 -- whether a byte is one of a run's
 abbrev pub is_in_run : Run → ℕ → Bool
-is_in_run runs.Word = is_word_byte
+is_in_run runs.Word = is_ascii_word
 is_in_run runs.Space = is_space
 is_in_run (runs.Body q) = is_body_byte q
 is_in_run (runs.Text q) = is_text_byte q
@@ -78,8 +78,8 @@ is_comment_byte c = not (is_break c)
 -- whether a byte, or a character, leaves the open piece as it is, and ends no line
 abbrev pub stays : Mode → ℕ → Bool
 stays modes.Space c = is_space c
-stays (modes.Word spellings.Number) c = is_word_byte c
-stays (modes.Word spellings.Name) c = is_word_byte c
+stays (modes.Word spellings.Number) c = is_ascii_word c
+stays (modes.Word spellings.Name) c = is_ascii_word c
 stays modes.Comment c = is_comment_byte c
 stays (modes.Inside q) c = is_body_byte q c
 stays (modes.Long q) c = is_body_byte q c
@@ -143,7 +143,7 @@ is_apart c = is_break c || (is_hash c || is_backslash c)
 
 -- what a byte passes that is of this kind
 abbrev pub BeginsSo : FirstByte → ℕ → Type 0
-BeginsSo first.Word b = is_word_byte b ≡ true
+BeginsSo first.Word b = is_ascii_word b ≡ true
 BeginsSo first.Space b = is_space b ≡ true
 BeginsSo first.Operator b = (is_operator b ≡ true) × (is_opening b ≡ false) × (is_closing b ≡ false)
 BeginsSo first.Bracket b = is_operator b ≡ true
@@ -161,11 +161,11 @@ is_free other = false
 
 -- whether an operator may stand next where these brackets are open
 abbrev pub may_stand : List Bracket → ℕ → Bool
-may_stand st c = is_some (brackets_behind st 0 (record { class = operator; text = c ∷ [] }))
+may_stand st c = is_some (brackets_after st 0 (record { class = operator; text = c ∷ [] }))
 
 -- what a piece that may stand next begins with, where it is ASCII and no string
 abbrev pub follows : List Bracket → ℕ → Bool
-follows st c = is_word_byte c || (is_space c || (is_apart c || (is_operator c && may_stand st c)))
+follows st c = is_ascii_word c || (is_space c || (is_apart c || (is_operator c && may_stand st c)))
 
 -- the same, with strings
 abbrev pub may_begin : List Bracket → ℕ → Bool
@@ -324,7 +324,7 @@ TakesLineEnd old bytes taken new = (BeginsWithFeed bytes × TakesLineFeed old ta
 
 -- a word came after closed pieces, or space
 abbrev pub TakesWord : Scan → List ℕ → ℕ → Scan → Type 0
-TakesWord = TakesRun is_word_byte follows word_mode
+TakesWord = TakesRun is_ascii_word follows word_mode
 
 abbrev pub TakesSpace : Scan → List ℕ → ℕ → Scan → Type 0
 TakesSpace = TakesRun is_space may_begin space_mode

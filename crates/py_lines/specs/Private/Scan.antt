@@ -8,7 +8,7 @@ use Rattle.py_lines.specs.Piece.{operator, line_end, Piece, ends, is_mark_class,
 use Rattle.py_lines.specs.PieceGrammar.{AreReadBefore}
 use Rattle.py_lines.specs.Balance.{depth_after, depth_through}
 use Rattle.py_lines.specs.LogicalLine.{byte_len, line_ends, tokens_from, indent_of, kind_of, is_line_end_class}
-use Rattle.py_lines.specs.Private.Machine.{Scanned, IsSound, fresh, step, run_from, token_of, Bracket, brackets_behind, brackets_of, in_short, is_behind_slash, is_final, end_kind}
+use Rattle.py_lines.specs.Private.Machine.{Scanned, IsSound, fresh, step, run_from, token_of, Bracket, brackets_after, brackets_of, in_short, is_after_backslash, is_final, end_kind}
 use Rattle.py_lines.specs.declared.token.Token.{Token}
 use Rattle.py_lines.specs.declared.mode.Mode.{Mode}
 use Rattle.py_lines.specs.declared.mode.Mode.TheVariants as modes
@@ -29,8 +29,8 @@ use Rattle.py_lines.specs.declared.scan.Flaw.{Flaw}
 use Rattle.py_lines.specs.declared.scan.Scan.{Scan}
 
 -- what one more character counts after others: CR counts at once, and LF unless CR stands before it
-unfoldable pub counts_behind : Bool → ℕ → ℕ
-counts_behind after_return c = if is_return c then 1 else (if is_line_feed c && not after_return then 1 else 0)
+unfoldable pub counts_after : Bool → ℕ → ℕ
+counts_after after_return c = if is_return c then 1 else (if is_line_feed c && not after_return then 1 else 0)
 
 -- no line end stands at depth 0 in the pieces, which begin at this depth
 abbrev pub EndsNoLine : ℕ → List Piece → Type 0
@@ -53,7 +53,7 @@ IsInnermost (Some b) st = (others : List Bracket) × (st ≡ record { opener = b
 
 -- the open brackets after an operator at this byte, if it may stand there
 abbrev pub stack_with : Brackets → ℕ → ℕ → Option (List Bracket)
-stack_with b place c = brackets_behind (stack_of b) place (record { class = operator; text = c ∷ [] })
+stack_with b place c = brackets_after (stack_of b) place (record { class = operator; text = c ∷ [] })
 
 -- an operator at this byte goes into the stack, or may not stand there
 abbrev pub Meets : Brackets → ℕ → ℕ → Result Bool AllocError → Brackets → Type 0
@@ -136,7 +136,7 @@ freed old = record old { piece = record { mode = modes.Free; start = old.stop; l
 
 -- the count of lines after one more character
 pub record Counts (old : Count) (c : ℕ) (new : Count) : Type 0 where
-  pub line : new.line ≡ old.line + counts_behind old.after_return c
+  pub line : new.line ≡ old.line + counts_after old.after_return c
   pub after : new.after_return ≡ is_return c
 
 -- one more character is read
@@ -363,7 +363,7 @@ pub record ScansIn (m : Mode) (line : ℕ) (whole : List ℕ) (scan : Scan) (sto
 
 -- where the fault of a refused character stands
 abbrev pub refused_place : Scan → ℕ
-refused_place scan = if in_short scan.piece.mode || is_behind_slash scan.piece.mode then scan.piece.start else scan.stop
+refused_place scan = if in_short scan.piece.mode || is_after_backslash scan.piece.mode then scan.piece.start else scan.stop
 
 -- the innermost open bracket stands at this byte
 abbrev pub HasInnermostAt : List Bracket → ℕ → Type 0

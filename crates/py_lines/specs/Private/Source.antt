@@ -2,7 +2,7 @@
 use Rattle.std.specs.Prelude.{◌≡◌, ℕ, ◌+◌, ◌-◌, ◌<◌, None, Result, Ok, Err, Bool, true, false, length, take, drop}
 use Rattle.py_lines.specs.LogicalLine.{LogicalLine}
 use Rattle.py_lines.specs.Token.{EachLiesIn}
-use Rattle.py_lines.specs.Reader.{Continues, Ends, Fails, RunsOut}
+use Rattle.py_lines.specs.Reader.{Continues, Ends, Fails, ReaderRunsOut}
 use Rattle.py_lines.specs.Reader.View.{reader_of}
 use Rattle.py_lines.specs.declared.fault.LexError.{LexError}
 use Rattle.py_lines.specs.declared.fault.LexError.TheVariants as lex
@@ -42,4 +42,4 @@ Advances old (Ok true) new =
     Continues (reader_of old) (line_of_source new) (reader_of new) × EachLiesIn (line_of_source new).text new.state.scan.tokens.items
 Advances old (Ok false) new = Ends (reader_of old) (reader_of new)
 Advances old (Err (lex.Fault f)) new = Fails (reader_of old) f (reader_of new)
-Advances old (Err lex.Memory) new = RunsOut (reader_of old) (reader_of new)
+Advances old (Err lex.Memory) new = ReaderRunsOut (reader_of old) (reader_of new)

@@ -4,7 +4,7 @@ use Rattle.std.proofs.lemmas.List.{map-append}
 use Rattle.std.proofs.lemmas.Option.{slice_get-get_or}
 use Rattle.py_lines.specs.declared.token.Token.{Token}
 use Rattle.py_lines.specs.declared.token.TokKind.TheVariants as kind
-use Rattle.isort_sort.proofs.Rows.Comments.{contents_on, content_of, something, nothing}
+use Rattle.isort_sort.proofs.Rows.Comments.{contents_on, content_of, something, nothing_seen}
 use Rattle.isort_sort.proofs.comment.own_comments.Goals as goal
 use Rattle.isort_sort.proofs.comment.own_comments.Goals.{then-is_comment+then-not-is_empty+in_ok-to_string+in_ok-push, then-is_comment+else-not-is_empty, else-is_comment}
 
@@ -28,7 +28,7 @@ tokens-preserved c =
       | then-is_comment+else-not-is_empty w ↦
           ap (λ v. map string_bytes v.items) w.comments-is
           ∙ sym (append-nil so_far)
-          ∙ ap (λ l. so_far ++ l) (sym (nothing comment w.word.result.now w.content-content.result.now (w.word.ensures t here) w.content-content.ensures (sym w.is_empty.ensures ∙ w.if-not-is_empty.false)))
+          ∙ ap (λ l. so_far ++ l) (sym (nothing_seen comment w.word.result.now w.content-content.result.now (w.word.ensures t here) w.content-content.ensures (sym w.is_empty.ensures ∙ w.if-not-is_empty.false)))
           ∙ ap (λ b. so_far ++ (if b then content_of comment else [])) (sym (sym c.is_comment.ensures ∙ w.if-is_comment.true))
       | else-is_comment w ↦
           ap (λ v. map string_bytes v.items) w.comments-is

@@ -1,7 +1,7 @@
 -- The text begins with what was made, and blocks become fewer.
 use Rattle.std.proofs.Common.{◌≡◌, ◌++◌, ℕ, List, length}
 use Rattle.isort_settings.specs.Values.{values}
-use Rattle.isort_sort.specs.Private.Parts.{left_of, HasMade}
+use Rattle.isort_sort.specs.Private.Parts.{parts_left, HasMade}
 use Rattle.isort_sort.proofs.sort.check_code.Given as goal
 
 abbrev pub invariant-parts : goal.invariant-parts
@@ -12,4 +12,4 @@ invariant-parts l = record {
 }
 
 abbrev pub decreases-parts : goal.decreases-parts
-decreases-parts l = length (left_of l.parts)
+decreases-parts l = length (parts_left l.parts)

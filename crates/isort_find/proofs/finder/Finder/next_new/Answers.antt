@@ -1,5 +1,5 @@
 use Rattle.std.proofs.Common.{◌∙◌, ap}
-use Rattle.isort_find.specs.Finder.{Finding, finding}
+use Rattle.isort_find.specs.Finder.{FinderState, finding}
 use Rattle.isort_find.proofs.TakingLemmas.{gives_new}
 use Rattle.isort_find.proofs.finder.Finder.next_new.Goals as goal
 
@@ -7,4 +7,4 @@ pub returns : goal.returns
 returns c =
     let s = c.self.inside in
     let f = finding s.lines s.text.now s.again s.skip s.pending s.outcome s.cursor in
-    rw (← c.self.view_is) (gives_new c.given_lines_begin_the_text.ensures.begin f _ _ _ (ap (λ (x : Finding). x.outcome) c.self.view_is ∙ c.requires) c.take_new.ensures)
+    rw (← c.self.view_is) (gives_new c.given_lines_begin_the_text.ensures.begin f _ _ _ (ap (λ (x : FinderState). x.outcome) c.self.view_is ∙ c.requires) c.take_new.ensures)

@@ -1,5 +1,5 @@
 use Rattle.std.proofs.Common.{◌∙◌, sym, ap, subst}
-use Rattle.isort_find.specs.Finder.{Finding, finding}
+use Rattle.isort_find.specs.Finder.{FinderState, finding}
 use Rattle.isort_find.specs.Steps.Findings.{GoesBack}
 use Rattle.isort_find.proofs.LexingLemmas.{Laws}
 use Rattle.isort_find.proofs.StepLemmas.{IsAbout, reads_line}
@@ -14,8 +14,8 @@ returns c =
       is_open = c.requires.is_open;
       none = c.requires.none_left;
       back = subst (GoesBack c.args.self.now) (sym c.self.view_is) c.in_ok-go_back.ensures.ok;
-      offset = c.place-place.ensures.offset ∙ ap (λ (x : Finding). x.reader.place) (sym c.self.view_is);
-      number = c.place-place.ensures.line ∙ ap (λ (x : Finding). x.reader.line) (sym c.self.view_is);
+      offset = c.place-place.ensures.offset ∙ ap (λ (x : FinderState). x.reader.place) (sym c.self.view_is);
+      number = c.place-place.ensures.line ∙ ap (λ (x : FinderState). x.reader.line) (sym c.self.view_is);
       options_are = c.options.ensures;
     } in
     reads_line laws c.args.self.now s.lines c.next_step-step.new.lines s.text.now s.again s.skip s.pending s.outcome s.cursor c.place-place.result c.options.result c.next_step-step.result c.follow.result c.follow.new.self about c.next_step-step.ensures.step c.follow.ensures

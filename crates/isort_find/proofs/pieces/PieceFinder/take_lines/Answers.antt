@@ -1,6 +1,6 @@
 use Rattle.std.proofs.Common.{Err, List, ℕ, length, take, drop, inr, sym, ◌∙◌, subst, ◌-◌, arith}
 use Rattle.std.proofs.lemmas.List.{take_rest, length-drop}
-use Rattle.isort_find.specs.Pieces.{PieceFinding, MeetsFaultIn}
+use Rattle.isort_find.specs.Pieces.{PieceFinderState, MeetsFaultIn}
 use Rattle.isort_find.specs.Steps.Feedings.{TakesSome, TakesBytesOf, with_unread}
 use Rattle.isort_find.specs.declared.error.FindError.{FindError}
 use Rattle.isort_find.proofs.PieceLines.{takes_next, fault_next, unread_next, keeps_next}
@@ -47,4 +47,4 @@ returns-in-Err-Memory-2-clause-takes c =
     let bytes = take (length c.args.piece.now - c.lines.taken) (drop c.lines.taken c.args.piece.now) in
     let keeps = subst (λ (e : FindError). TakesBytesOf c.lines.self bytes (Err e) last) c.in-Err-Memory.field-0-is c.in-Err-Memory.ensures in
     let all = unread_next c.args.self.now c.lines.self last c.args.piece.now c.lines.taken c.if-taken-eq0.false c.lines.invariant.takes keeps.0 keeps.1 keeps.2 in
-    subst (λ (f : PieceFinding). TakesSome c.args.self.now c.args.piece.now c.lines.taken (with_unread f)) (sym c.self.view_is) all
+    subst (λ (f : PieceFinderState). TakesSome c.args.self.now c.args.piece.now c.lines.taken (with_unread f)) (sym c.self.view_is) all

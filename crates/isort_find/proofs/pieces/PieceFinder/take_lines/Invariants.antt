@@ -1,6 +1,6 @@
 -- Bytes were taken up to here, as by one call, and nothing is ready.
 use Rattle.std.proofs.Common.{◌≡◌, ◌+◌, ◌-◌, ◌*◌, ◌≤◌, false, length}
-use Rattle.py_lines.specs.Scanning.{ready_lines}
+use Rattle.py_lines.specs.ScannerState.{ready_lines}
 use Rattle.isort_find.specs.Pieces.{fed_by, has_ready}
 use Rattle.isort_find.specs.declared.finder.Outcome.TheVariants as outcome
 use Rattle.isort_find.proofs.PieceLines.{HasTaken}

@@ -1,7 +1,7 @@
 -- The parts so far were made, and blocks become fewer.
 use Rattle.std.proofs.Common.{length, flat_map}
 use Rattle.isort_settings.specs.Values.{values}
-use Rattle.isort_sort.specs.Private.Parts.{part_text, left_of, AreTexts, HasMade}
+use Rattle.isort_sort.specs.Private.Parts.{part_text, parts_left, AreTexts, HasMade}
 use Rattle.isort_sort.proofs.sorted_text.SortedText.new.Given as goal
 
 abbrev pub invariant-parts : goal.invariant-parts
@@ -11,4 +11,4 @@ invariant-parts l = record {
 }
 
 abbrev pub decreases-parts : goal.decreases-parts
-decreases-parts l = length (left_of l.made)
+decreases-parts l = length (parts_left l.made)

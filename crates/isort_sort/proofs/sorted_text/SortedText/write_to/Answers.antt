@@ -2,7 +2,7 @@ use Rattle.std.proofs.Common.{[], ◌++◌, ◌∙◌, ◌+◌, ap, sym, subst, 
 use Rattle.std.specs.Io.KnownBytes.{Appends}
 use Rattle.std.proofs.KnownBytes.{Appends-trans}
 use Rattle.isort_sort.specs.Private.Parts.{part_text, sorted_bytes}
-use Rattle.isort_sort.specs.Written.{AppendsFront}
+use Rattle.isort_sort.specs.Written.{AppendsPrefix}
 use Rattle.isort_sort.proofs.SortedTexts.OfParts.{bytes_from, bytes_last, regrouped, appends_front, on_err, on_err_map}
 use Rattle.isort_sort.proofs.sorted_text.SortedText.write_to.Goals as goal
 
@@ -25,7 +25,7 @@ returns-in_err-write_whole-2-clause-front g c =
     let all = bytes_from (sorted_bytes c.args.self.now) i.done c.args.self.now.rest.now items c.parts.part-index part i.sorted c.parts-test.true c.part-item.is in
     on_err c.from_residual-in_err-write_whole-2.result _
     (appends_front _ _ _ (sorted_bytes c.args.self.now) (i.done ++ part.before.now) (string_bytes part.layout) more (Appends-trans _ _ _ _ _ i.written c.in_ok-write_whole.ensures.ok)
-    (subst (AppendsFront _ _) c.as_bytes.ensures.value c.in_err-write_whole-2.ensures.front)
+    (subst (AppendsPrefix _ _) c.as_bytes.ensures.value c.in_err-write_whole-2.ensures.front)
     (all ∙ ap (λ (t : List ℕ). i.done ++ t) (append_assoc part.before.now (string_bytes part.layout) more) ∙ sym (append_assoc i.done part.before.now (string_bytes part.layout ++ more))))
 
 pub parts-preserved : goal.parts-preserved

@@ -1,7 +1,7 @@
 use Rattle.std.proofs.Common.{◌≡◌, Some, None, refl}
 use Rattle.std.specs.Option.{option_map}
 use Rattle.py_imports.specs.Grammar.{modules, Item, AreItems, whole_module}
-use Rattle.py_imports.specs.Reading.Lexemes.{rest_of, names_text}
+use Rattle.py_imports.specs.Reading.Lexemes.{rest_of, lexemes_text}
 use Rattle.py_imports.specs.Reading.Parsing.{at_item}
 use Rattle.py_imports.specs.declared.items.Stage.TheVariants as stage
 use Rattle.py_imports.proofs.ListLemmas.{items_none, items_bad}
@@ -16,27 +16,27 @@ returns-in_err-names-clause-item c =
 pub returns-in_err-alias-clause-item : goal.returns-in_err-alias-clause-item
 returns-in_err-alias-clause-item c =
     let ts = rest_of c.args.self.now.tokens in
-    let w = names_text c.in_ok-names.names in
+    let w = lexemes_text c.in_ok-names.names in
     rw c.from_residual-in_err-alias.ensures (no_lists (AreItems modules ts) whole_module (items_none modules ts (module_then ts (rest_of c.module.new.self) w None c.in_ok-names.ensures.path (c.in_err-alias.ensures w))))
 
 pub returns-in_err-self-clause-item : goal.returns-in_err-self-clause-item
 returns-in_err-self-clause-item c =
     let ts = rest_of c.args.self.now.tokens in
-    let w = names_text c.in_ok-names.names in
+    let w = lexemes_text c.in_ok-names.names in
     rw c.from_residual-in_err-self.ensures (no_lists (AreItems modules ts) whole_module (items_bad modules ts (rest_of c.alias.new.self) _ (module_then ts (rest_of c.module.new.self) w _ c.in_ok-names.ensures.path (c.in_ok-alias.ensures w)) c.in_err-self.ensures))
 
 pub returns-clause-item : goal.returns-clause-item
 returns-clause-item c =
     let ts = rest_of c.args.self.now.tokens in
     let rest = rest_of c.alias.new.self in
-    let item : Item = record { path = names_text c.in_ok-names.names; alias = option_map (λ a. a.now) c.in_ok-alias.alias } in
-    let read : at_item modules ts ≡ Some (record { item = item; rest = rest }) = module_then ts (rest_of c.module.new.self) (names_text c.in_ok-names.names) _ c.in_ok-names.ensures.path (c.in_ok-alias.ensures (names_text c.in_ok-names.names)) in
+    let item : Item = record { path = lexemes_text c.in_ok-names.names; alias = option_map (λ a. a.now) c.in_ok-alias.alias } in
+    let read : at_item modules ts ≡ Some (record { item = item; rest = rest }) = module_then ts (rest_of c.module.new.self) (lexemes_text c.in_ok-names.names) _ c.in_ok-names.ensures.path (c.in_ok-alias.ensures (lexemes_text c.in_ok-names.names)) in
     item_first modules whole_module stage.Modules c.in_ok-self.field-0 ts rest (rest_of c.after_item.new.self.tokens) item read c.in_ok-self.ensures (λ is a. a) (λ is a. a)
 
 pub returns-clause-fewer : goal.returns-clause-fewer
 returns-clause-fewer c =
     let ts = rest_of c.args.self.now.tokens in
     let rest = rest_of c.alias.new.self in
-    let item : Item = record { path = names_text c.in_ok-names.names; alias = option_map (λ a. a.now) c.in_ok-alias.alias } in
-    let read : at_item modules ts ≡ Some (record { item = item; rest = rest }) = module_then ts (rest_of c.module.new.self) (names_text c.in_ok-names.names) _ c.in_ok-names.ensures.path (c.in_ok-alias.ensures (names_text c.in_ok-names.names)) in
+    let item : Item = record { path = lexemes_text c.in_ok-names.names; alias = option_map (λ a. a.now) c.in_ok-alias.alias } in
+    let read : at_item modules ts ≡ Some (record { item = item; rest = rest }) = module_then ts (rest_of c.module.new.self) (lexemes_text c.in_ok-names.names) _ c.in_ok-names.ensures.path (c.in_ok-alias.ensures (lexemes_text c.in_ok-names.names)) in
     item_fewer modules stage.Modules c.in_ok-self.field-0 ts rest (rest_of c.after_item.new.self.tokens) item read c.in_ok-self.ensures refl

@@ -1,5 +1,5 @@
 use Rattle.std.proofs.Common.{◌≡◌, ◌&&◌, ◌++◌, Some, sym, ap, ◌∙◌}
-use Rattle.py_imports.specs.Reading.Lexemes.{rest_of, names_text, begins_import_word}
+use Rattle.py_imports.specs.Reading.Lexemes.{rest_of, lexemes_text, begins_import_word}
 use Rattle.py_imports.proofs.ReadingLemmas.{relative_dots, relative_named}
 use Rattle.py_imports.proofs.lexemes.Lexemes.relative_module.Goals as goal
 use Rattle.py_imports.proofs.lexemes.Lexemes.relative_module.Goals.{then-dotted, else-dotted, then-not-is_at_import+in_ok-module, else-not-is_at_import}
@@ -13,6 +13,6 @@ returns-in-Import c =
       | else-dotted w ↦ w.value-is ∙ w.if-dotted.false ∙ ap (λ b. b && begins_import_word now) (sym w.if-dotted.false)
     ] in
     elim c.if-not-is_at_import.branch [
-      | then-not-is_at_import+in_ok-module w ↦ relative_named dotted _ now (rest_of c.if-not-is_at_import.self) (rest_of c.next.new.self) (rest_of c.since-path.result) (names_text w.in_ok-module.field-0) c.pass_dots-dotted.ensures.dots (sym at ∙ w.if-not-is_at_import.true) (w.in_ok-module.ensures.path ∙ ap (λ s. Some (record { spelled = names_text w.in_ok-module.field-0; rest = rest_of s })) (sym w.self-is)) c.in-Import.ensures.lexeme c.since-path.ensures
+      | then-not-is_at_import+in_ok-module w ↦ relative_named dotted _ now (rest_of c.if-not-is_at_import.self) (rest_of c.next.new.self) (rest_of c.since-path.result) (lexemes_text w.in_ok-module.field-0) c.pass_dots-dotted.ensures.dots (sym at ∙ w.if-not-is_at_import.true) (w.in_ok-module.ensures.path ∙ ap (λ s. Some (record { spelled = lexemes_text w.in_ok-module.field-0; rest = rest_of s })) (sym w.self-is)) c.in-Import.ensures.lexeme c.since-path.ensures
       | else-not-is_at_import w ↦ relative_dots dotted _ now (rest_of c.next.new.self) (rest_of c.since-path.result) c.pass_dots-dotted.ensures.dots (sym at ∙ w.if-not-is_at_import.false) (ap rest_of (sym w.self-is) ∙ c.in-Import.ensures.lexeme) (c.since-path.ensures ∙ ap (λ s. rest_of c.since-path.result ++ rest_of s) w.self-is)
     ]

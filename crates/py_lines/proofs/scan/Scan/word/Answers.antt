@@ -3,13 +3,13 @@ use Rattle.py_lines.specs.declared.mode.Mode.TheVariants as modes
 use Rattle.py_lines.specs.declared.mode.Spelling.{Spelling}
 use Rattle.py_lines.specs.declared.token.TokKind.{TokKind}
 use Rattle.py_lines.specs.Private.Scan.{stack_of}
-use Rattle.py_lines.specs.Private.Run.{opened, is_word_byte, word_mode, follows, AddsToken}
+use Rattle.py_lines.specs.Private.Run.{opened, is_ascii_word, word_mode, follows, AddsToken}
 use Rattle.py_lines.proofs.LineScan.ShortPieces.{takes_run, takes_word, followed_by}
 use Rattle.py_lines.proofs.scan.Scan.word.Goals as goal
 use Rattle.py_lines.proofs.scan.Scan.word.Goals.{then-is_ascii_digit, else-is_ascii_digit}
 
 pub returns-then-not-is_followed : goal.returns-then-not-is_followed
-returns-then-not-is_followed c = takes_run is_word_byte follows word_mode c.args.self.now c.args.bytes.now c.len_in-len.result c.open.new.self c.len_in-len.ensures c.requires.begins (inl (c.open.ensures ∙ ap (λ (s : Spelling). opened c.args.self.now (modes.Word s) c.len_in-len.result) c.of_word.ensures))
+returns-then-not-is_followed c = takes_run is_ascii_word follows word_mode c.args.self.now c.args.bytes.now c.len_in-len.result c.open.new.self c.len_in-len.ensures c.requires.begins (inl (c.open.ensures ∙ ap (λ (s : Spelling). opened c.args.self.now (modes.Word s) c.len_in-len.result) c.of_word.ensures))
 
 pub returns : goal.returns
 returns c =

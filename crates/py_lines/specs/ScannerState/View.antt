@@ -1,7 +1,7 @@
 -- What contracts see of a `Scanner`.
 use Rattle.std.specs.Prelude.{ℕ, Option, None, Some, take}
 use Rattle.py_lines.specs.LogicalLine.{LogicalLine}
-use Rattle.py_lines.specs.Scanning.{Scanning}
+use Rattle.py_lines.specs.ScannerState.{ScannerState}
 use Rattle.py_lines.specs.Private.LineState.{scanned_line}
 use Rattle.py_lines.specs.declared.feed.Feed.{Feed}
 
@@ -15,5 +15,5 @@ ready_of f None = None
 ready_of f (Some end_len) = Some (line_of_feed f end_len)
 
 -- the byte and line up to which lines were released, the text since, the line that is ready, and the fault
-abbrev pub scanning_of : Feed → Scanning
+abbrev pub scanning_of : Feed → ScannerState
 scanning_of f = record { place = f.state.place; line = f.state.line; held = f.held.items; ready = ready_of f f.ready; ended = f.ended; fault = f.state.fault }

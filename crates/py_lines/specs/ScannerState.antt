@@ -10,7 +10,7 @@ use Rattle.py_lines.specs.declared.fault.LexError.{LexError}
 use Rattle.py_lines.specs.declared.fault.LexError.TheVariants as lex
 
 -- `place` is the byte up to which lines were released, `line` is its line, and `held` is the text fed since
-pub record Scanning : Type 0 where
+pub record ScannerState : Type 0 where
   pub place : ℕ
   pub line : ℕ
   pub held : List ℕ
@@ -19,11 +19,11 @@ pub record Scanning : Type 0 where
   pub fault : Option Fault
 
 -- a scanner that stands at this byte of a text, on this line, and was fed nothing yet
-abbrev pub begun_at : ℕ → ℕ → Scanning
+abbrev pub begun_at : ℕ → ℕ → ScannerState
 begun_at place line = record { place = place; line = line; held = []; ready = None; ended = false; fault = None }
 
 -- the byte of the text up to which it was fed
-abbrev pub fed_of : Scanning → ℕ
+abbrev pub fed_of : ScannerState → ℕ
 fed_of s = s.place + length s.held
 
 -- the line that is ready, if there is one
@@ -42,7 +42,7 @@ GoesOnWith text place bytes = take (length bytes) (drop place text) ≡ bytes
 
 -- The scanner was fed so much of this text and has released these lines of it. They are the text's first, and with the
 -- line that is ready they are those that the bytes fed settle, no fewer and no more; `held` is the text fed since.
-pub record IsScanning (s : Scanning) (text : List ℕ) (lines : List LogicalLine) : Type 0 where
+pub record IsScanning (s : ScannerState) (text : List ℕ) (lines : List LogicalLine) : Type 0 where
   pub first : AreFirstLines text s.place s.line lines
   pub held : GoesOnWith text s.place s.held
   pub settled : 0 < length s.held → IsSettled (take (fed_of s) text) (lines ++ ready_lines s.ready)
@@ -51,13 +51,13 @@ pub record IsScanning (s : Scanning) (text : List ℕ) (lines : List LogicalLine
   pub no_fault : s.fault ≡ None
 
 -- where a text's first logical lines reach to this byte, which is on this line, the scanner scans it from there on
-abbrev pub ScansFrom : ℕ → ℕ → Scanning → Type 0
+abbrev pub ScansFrom : ℕ → ℕ → ScannerState → Type 0
 ScansFrom offset line s =
     (text : List ℕ) (lines : List LogicalLine) → AreFirstLines text offset line lines → IsScanning s text lines
 
 -- The text was fed whole, and has no fault. The lines released are its first, and with the one that is ready they are
 -- all its lines.
-pub record HasEnded (s : Scanning) (text : List ℕ) (lines : List LogicalLine) : Type 0 where
+pub record HasEnded (s : ScannerState) (text : List ℕ) (lines : List LogicalLine) : Type 0 where
   pub first : AreFirstLines text s.place s.line lines
   pub lexed : IsLexed text (lines ++ ready_lines s.ready) None
   pub held : s.held ≡ drop s.place text
@@ -67,7 +67,7 @@ pub record HasEnded (s : Scanning) (text : List ℕ) (lines : List LogicalLine) 
 
 -- The scanner took so many bytes of a piece. It takes none of some only where a line is ready, and where none is ready
 -- in the end, the bytes fed decide no fault.
-pub record TakesBytes (old : Scanning) (piece : List ℕ) (n : ℕ) (new : Scanning) : Type 0 where
+pub record TakesBytes (old : ScannerState) (piece : List ℕ) (n : ℕ) (new : ScannerState) : Type 0 where
   pub within : n ≤ length piece
   pub scans : (text : List ℕ) (lines : List LogicalLine) → IsScanning old text lines → GoesOnWith text (fed_of old) (take n piece) → IsScanning new text lines
   pub undecided : (text : List ℕ) (lines : List LogicalLine) → IsScanning old text lines → GoesOnWith text (fed_of old) (take n piece) → new.ready ≡ None → (fault : Fault) → ¬ (Decides (take (fed_of new) text) fault)
@@ -82,7 +82,7 @@ pub record TakesBytes (old : Scanning) (piece : List ℕ) (n : ℕ) (new : Scann
 
 -- The text fed, with some of the piece, decides this fault, after the lines released; no line was ready. It is kept, and
 -- the scanner may be called again.
-pub record MeetsFault (old : Scanning) (piece : List ℕ) (fault : Fault) (new : Scanning) : Type 0 where
+pub record MeetsFault (old : ScannerState) (piece : List ℕ) (fault : Fault) (new : ScannerState) : Type 0 where
   pub decided : (text : List ℕ) (lines : List LogicalLine) → IsScanning old text lines → GoesOnWith text (fed_of old) piece → (n : ℕ) × (n ≤ length piece) × Decides (take (fed_of old + n) text) fault × IsLexed text lines (Some fault)
   pub again : (first : Fault) → old.fault ≡ Some first → fault ≡ first
   pub none_ready : old.fault ≡ None → old.ready ≡ None
@@ -94,19 +94,19 @@ pub record MeetsFault (old : Scanning) (piece : List ℕ) (fault : Fault) (new :
   pub kept : new.fault ≡ Some fault
 
 -- A growth was refused, and nothing changed. It is answered only where no line is ready and no fault is known.
-pub record RunsShort (old new : Scanning) : Type 0 where
+pub record ScannerRunsOut (old new : ScannerState) : Type 0 where
   pub same : new ≡ old
   pub none_ready : old.ready ≡ None
   pub no_fault : old.fault ≡ None
 
 -- what a call that is fed a piece answers
-abbrev pub Feeds : Scanning → List ℕ → Result ℕ LexError → Scanning → Type 0
+abbrev pub Feeds : ScannerState → List ℕ → Result ℕ LexError → ScannerState → Type 0
 Feeds old piece (Ok n) new = TakesBytes old piece n new
 Feeds old piece (Err (lex.Fault f)) new = MeetsFault old piece f new
-Feeds old piece (Err lex.Memory) new = RunsShort old new
+Feeds old piece (Err lex.Memory) new = ScannerRunsOut old new
 
 -- the line that was ready is released
-pub record Releases (old new : Scanning) : Type 0 where
+pub record Releases (old new : ScannerState) : Type 0 where
   pub unit : LogicalLine
   pub was : old.ready ≡ Some unit
   pub scans : (text : List ℕ) (lines : List LogicalLine) → IsScanning old text lines → IsScanning new text (lines ++ unit ∷ []) × IsSettled (take (fed_of new) text) (lines ++ unit ∷ [])
@@ -118,7 +118,7 @@ pub record Releases (old new : Scanning) : Type 0 where
   pub fault : new.fault ≡ old.fault
 
 -- the text ends here: what is left is its last line, if anything is left
-pub record EndsScan (old new : Scanning) : Type 0 where
+pub record EndsScan (old new : ScannerState) : Type 0 where
   pub scans : (text : List ℕ) (lines : List LogicalLine) → IsScanning old text lines → length text ≡ fed_of old → HasEnded new text lines
   pub place : new.place ≡ old.place
   pub held : new.held ≡ old.held
@@ -127,7 +127,7 @@ pub record EndsScan (old new : Scanning) : Type 0 where
   pub no_fault : new.fault ≡ None
 
 -- The text that ends here has this fault, after the lines released. It is kept, and the scanner may be called again.
-pub record EndsFaulty (old : Scanning) (fault : Fault) (new : Scanning) : Type 0 where
+pub record EndsFaulty (old : ScannerState) (fault : Fault) (new : ScannerState) : Type 0 where
   pub all : (text : List ℕ) (lines : List LogicalLine) → IsScanning old text lines → length text ≡ fed_of old → IsLexed text lines (Some fault)
   pub again : (first : Fault) → old.fault ≡ Some first → fault ≡ first
   pub place : new.place ≡ old.place
@@ -139,7 +139,7 @@ pub record EndsFaulty (old : Scanning) (fault : Fault) (new : Scanning) : Type 0
   pub kept : new.fault ≡ Some fault
 
 -- what a call that ends the text answers
-abbrev pub Finishes : Scanning → Result (Unit {0}) LexError → Scanning → Type 0
+abbrev pub Finishes : ScannerState → Result (Unit {0}) LexError → ScannerState → Type 0
 Finishes old (Ok done) new = EndsScan old new
 Finishes old (Err (lex.Fault f)) new = EndsFaulty old f new
-Finishes old (Err lex.Memory) new = RunsShort old new
+Finishes old (Err lex.Memory) new = ScannerRunsOut old new
