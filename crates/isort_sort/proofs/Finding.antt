@@ -3,4 +3,5 @@ pub mod Steps
 pub mod Rows
 pub mod SomeBlocks
 pub mod OneBlocks
+pub mod Replaced
 pub mod Spans

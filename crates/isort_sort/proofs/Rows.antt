@@ -7,3 +7,4 @@ pub mod Texts
 pub mod Silence
 pub mod SomeRows
 pub mod OneRows
+pub mod ReadBack

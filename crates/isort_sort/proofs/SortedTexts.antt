@@ -6,3 +6,4 @@ pub mod Written
 pub mod SortedCuts
 pub mod OneSorted
 pub mod BlockSpans
+pub mod LaidAgain

@@ -4,9 +4,11 @@ pub mod Statement
 pub mod Member
 pub mod Wrapping
 pub mod Layout
+pub mod LaidAgain
 pub mod Line
 pub mod Row
 pub mod Blocks
+pub mod BlocksReplaced
 pub mod Sorted
 pub mod Answers
 pub mod Errors

@@ -1,5 +1,5 @@
 -- A logical line as sorting sees it: its comments, and what it imports.
-use Rattle.std.specs.Prelude.{ℕ, ◌==◌, Bool, true, false, List, [], ◌∷◌, map, filter, slice_range, if◌then◌else◌}
+use Rattle.std.specs.Prelude.{◌≡◌, ℕ, ◌==◌, Bool, true, false, List, [], ◌∷◌, map, filter, slice_range, if◌then◌else◌}
 use Rattle.std.specs.List.{list_all}
 use Rattle.std.specs.Str.{byte}
 use Rattle.py_lines.specs.Character.{is_space}
@@ -44,6 +44,14 @@ without_hash (b ∷ text) = if b == byte "#" then text else b ∷ text
 -- the line's comments as a statement joins them: each without its `#`, stripped, without the empty ones
 abbrev pub own_comments : LogicalLine → List (List ℕ)
 own_comments line = filter is_text (map (λ t. stripped (without_hash t)) (comment_texts line))
+
+-- a comment as a statement joins it: there is a byte, and no space at either end
+abbrev pub IsOwnComment : List ℕ → Type 0
+IsOwnComment text = (is_text text ≡ true) × (stripped text ≡ text)
+
+abbrev pub AreOwnComments : List (List ℕ) → Type 0
+AreOwnComments [] = Unit {0}
+AreOwnComments (c ∷ cs) = IsOwnComment c × AreOwnComments cs
 
 -- what a binding imports
 abbrev pub imported_of : Bound → Imported

@@ -1,10 +1,15 @@
 //! Laws of the definitions, each proved as the contract of a function that does nothing.
-ghost use Rattle.std.specs.Prelude.{◌≡◌, ℕ, List, length};
+ghost use Rattle.std.specs.Prelude.{◌≡◌, ◌∷◌, ◌++◌, ℕ, List, codes, length, map};
+ghost use Rattle.std.specs.List.{join_by};
 ghost use Rattle.py_lines.specs.LogicalLine.{LogicalLine};
 ghost use Rattle.py_imports.specs.Grammar.{Item};
 ghost use Rattle.isort_settings.specs.Values.{Values};
 ghost use Rattle.isort_sort.specs.Answers.{AreBlocksOf, StandBetween, with_layouts};
-ghost use Rattle.isort_sort.specs.Blocks.{Cut, IsCutAtBlocks};
+ghost use Rattle.isort_sort.specs.Blocks.{Cut, AreBlocks, IsCutAtBlocks};
+ghost use Rattle.isort_sort.specs.BlocksReplaced.{AreReplaced};
+ghost use Rattle.isort_sort.specs.LaidAgain.{as_member, with_joined_comments};
+ghost use Rattle.isort_sort.specs.Layout.{Laid, AreLaid, block_lines};
+ghost use Rattle.isort_sort.specs.Line.{stripped, without_hash, own_comments, AreOwnComments};
 ghost use Rattle.isort_sort.specs.Member.{Member, AreStatements, AreItemsOf};
 ghost use Rattle.isort_sort.specs.Row.{Row};
 ghost use Rattle.isort_sort.specs.Sorted.{IsAccepted, IsSorted};
@@ -34,6 +39,28 @@ pub fn one_order_of_items()
     names_are_totally_ordered();
 }
 
+/// A block that was laid out, with each statement as a member of its own, is laid out as it was: the same statements with the
+/// same items, each with its joined comments as one and the comments above it, and the same lines.
+pub fn written_blocks_stay()
+    ensures laid { (v : Values) (indentation : List ℕ) (members : List Member) (laid : List Laid)
+        → AreLaid v indentation members laid
+        → AreLaid v indentation (map as_member laid) (map with_joined_comments laid) }
+    ensures lines { (v : Values) (indentation : List ℕ) (laid : List Laid)
+        → block_lines v indentation (map with_joined_comments laid) ≡ block_lines v indentation laid }
+{
+    modules_are_totally_ordered();
+    names_are_totally_ordered();
+}
+
+/// The comments of a line are not empty and have no space at their ends. Such comments, joined and written, are read back as
+/// they were joined.
+pub fn joined_comments_are_read_back()
+    ensures own { (line : LogicalLine) → AreOwnComments (own_comments line) }
+    ensures joined { (c : List ℕ) (cs : List (List ℕ)) → AreOwnComments (c ∷ cs)
+        → stripped (without_hash (codes "# " ++ join_by (λ (t : List ℕ). t) (codes "; ") (c ∷ cs)))
+        ≡ join_by (λ (t : List ℕ). t) (codes "; ") (c ∷ cs) }
+{}
+
 /// Items have one cut into lines.
 pub fn one_cut()
     ensures some { (v : Values) (indentation m : List ℕ) (items : List Item) → (lines : List (List Item)) × IsCut (fits_line v indentation m) items lines }
@@ -44,6 +71,11 @@ pub fn one_cut()
 pub fn one_cut_at_blocks()
     ensures some { (rows : List Row) → (cut : Cut) × IsCutAtBlocks rows cut }
     ensures one { (rows : List Row) (a b : Cut) → IsCutAtBlocks rows a → IsCutAtBlocks rows b → a ≡ b }
+{}
+
+/// Where each block is replaced by another of the same indentation, those that come are the blocks.
+pub fn replaced_blocks_are_blocks()
+    ensures { (a b : Cut) → AreBlocks a → AreReplaced a b → AreBlocks b }
 {}
 
 /// A text that is accepted has a sorted text. No text has two.
