@@ -53,6 +53,7 @@ pub mod ActionLemmas
 pub mod JoinedTexts
 pub mod OneStatement
 pub mod Names
+pub mod ImportedNames
 pub mod ShapeLemmas
 pub mod ShapeRows
 pub mod SortableLemmas

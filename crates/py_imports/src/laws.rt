@@ -10,7 +10,7 @@ ghost use Rattle.py_lines.specs.declared.fault.Fault.{Fault};
 ghost use Rattle.py_lines.specs.declared.token.Token.{Token};
 ghost use Rattle.py_imports.specs.Grammar.{Terminal, Imported, IsImport, begins_import};
 ghost use Rattle.py_imports.specs.Bound.{Bound, bound_at};
-ghost use Rattle.py_imports.specs.Names.{HaveNames, terminals_in};
+ghost use Rattle.py_imports.specs.Names.{AreNamed, HaveNames, terminals_in};
 ghost use Rattle.py_imports.specs.Shape.{terminals_of};
 ghost use Rattle.py_imports.specs.Statement.{is_divider, significant};
 ghost use Rattle.py_imports.specs.Action.{says};
@@ -43,6 +43,11 @@ pub fn names_are_words()
 {
     tokens_are_words();
 }
+
+/// An import statement whose names are words imports modules of such names, with dots, under such names.
+pub fn imports_of_words_are_named()
+    ensures { (statement : List Terminal) (is : List Imported) → IsImport statement is → HaveNames statement → AreNamed is }
+{}
 
 /// A logical line with neither `;` nor `:` outside its comments binds what it imports as one statement, if it is one in the
 /// grammar.
