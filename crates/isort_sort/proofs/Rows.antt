@@ -8,3 +8,6 @@ pub mod Silence
 pub mod SomeRows
 pub mod OneRows
 pub mod ReadBack
+pub mod Switches
+pub mod Moved
+pub mod MovedRoles

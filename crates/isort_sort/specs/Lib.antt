@@ -4,12 +4,12 @@ pub mod Statement
 pub mod Member
 pub mod Wrapping
 pub mod Layout
-pub mod LaidAgain
 pub mod Line
 pub mod Row
 pub mod Blocks
 pub mod BlocksReplaced
 pub mod Sorted
+pub mod LaidAgain
 pub mod Answers
 pub mod Errors
 pub mod Metered

@@ -1,18 +1,20 @@
 //! Laws of the definitions, each proved as the contract of a function that does nothing.
-ghost use Rattle.std.specs.Prelude.{◌≡◌, ◌∷◌, ◌++◌, ℕ, List, codes, length, map};
+ghost use Rattle.std.specs.Prelude.{◌≡◌, ◌∷◌, ◌++◌, ℕ, Bool, List, codes, length, map};
 ghost use Rattle.std.specs.List.{join_by};
 ghost use Rattle.py_lines.specs.LogicalLine.{LogicalLine};
+ghost use Rattle.py_imports.specs.Binds.{Binds};
+ghost use Rattle.py_imports.specs.Bound.{Bound};
 ghost use Rattle.py_imports.specs.Grammar.{Item};
 ghost use Rattle.isort_settings.specs.Values.{Values};
 ghost use Rattle.isort_sort.specs.Answers.{AreBlocksOf, StandBetween, with_layouts};
-ghost use Rattle.isort_sort.specs.Blocks.{Cut, AreBlocks, IsCutAtBlocks};
+ghost use Rattle.isort_sort.specs.Blocks.{Cut, Run, AreBlocks, IsCutAtBlocks};
 ghost use Rattle.isort_sort.specs.BlocksReplaced.{AreReplaced};
-ghost use Rattle.isort_sort.specs.LaidAgain.{as_member, with_joined_comments};
+ghost use Rattle.isort_sort.specs.LaidAgain.{IsMoved, SwitchNothing, as_member, asked_by, with_joined_comments};
 ghost use Rattle.isort_sort.specs.Layout.{Laid, AreLaid, block_lines};
-ghost use Rattle.isort_sort.specs.Line.{stripped, without_hash, own_comments, AreOwnComments};
+ghost use Rattle.isort_sort.specs.Line.{stripped, without_hash, own_comments, imported_of, AreOwnComments};
 ghost use Rattle.isort_sort.specs.Member.{Member, AreStatements, AreItemsOf};
-ghost use Rattle.isort_sort.specs.Row.{Row};
-ghost use Rattle.isort_sort.specs.Sorted.{IsAccepted, IsSorted};
+ghost use Rattle.isort_sort.specs.Row.{Role, Row, HasRole, is_off_after};
+ghost use Rattle.isort_sort.specs.Sorted.{IsAccepted, IsSorted, blanks_after};
 ghost use Rattle.isort_sort.specs.Statement.{Statement};
 ghost use Rattle.isort_sort.specs.Wrapping.{fits_line, IsCut};
 ghost use Rattle.isort_sort.specs.declared.answer.Block.{Block};
@@ -52,6 +54,13 @@ pub fn written_blocks_stay()
     names_are_totally_ordered();
 }
 
+/// The blank lines that are written after a block are those that would be written again, before rows that ask for the same.
+pub fn blank_lines_after_a_block_stay()
+    ensures { (v : Values) (run new : Run) (kept : ℕ) (rows others : List Row)
+        → new.first.indentation ≡ run.first.indentation → asked_by others ≡ asked_by rows
+        → blanks_after v new (blanks_after v run kept rows) others ≡ blanks_after v run kept rows }
+{}
+
 /// The comments of a line are not empty and have no space at their ends. Such comments, joined and written, are read back as
 /// they were joined.
 pub fn joined_comments_are_read_back()
@@ -65,6 +74,21 @@ pub fn joined_comments_are_read_back()
 pub fn one_cut()
     ensures some { (v : Values) (indentation m : List ℕ) (items : List Item) → (lines : List (List Item)) × IsCut (fits_line v indentation m) items lines }
     ensures one { (v : Values) (indentation m : List ℕ) (items : List Item) (a b : List (List Item)) → IsCut (fits_line v indentation m) items a → IsCut (fits_line v indentation m) items b → a ≡ b }
+{}
+
+/// Lines that turn sorting neither off nor on, as those of a block, change nothing for the lines after them.
+pub fn silent_lines_switch_nothing()
+    ensures { (before lines after : List LogicalLine)
+        → SwitchNothing lines → is_off_after (before ++ (lines ++ after)) ≡ is_off_after (before ++ after) }
+{}
+
+/// A logical line imports the same, and is the same to sorting, wherever it stands.
+pub fn moved_lines_stay_the_same()
+    ensures imports { (line other : LogicalLine) → IsMoved line other
+        → (bounds : List Bound) → Binds line bounds
+        → (others : List Bound) × Binds other others × (map imported_of others ≡ map imported_of bounds) }
+    ensures role { (off : Bool) (line other : LogicalLine) (role : Role)
+        → IsMoved line other → HasRole off line role → HasRole off other role }
 {}
 
 /// Rows have one cut at blocks.

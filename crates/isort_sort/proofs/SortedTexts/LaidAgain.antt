@@ -1,6 +1,6 @@
 -- A block that was laid out and is seen as members again has the same layout.
 use Rattle.std.proofs.Common.{◌≡◌, ℕ, Bool, true, false, cond, ◌&&◌, Option, None, Some, List, [], ◌∷◌, ◌++◌, map, flat_map, codes, ◌↔◌, ⊎_elim, Ordering, Less, refl, sym, ap, ◌∙◌, subst, append-nil}
-use Rattle.std.specs.Prelude.{filter, bytes_eq, max, replicate}
+use Rattle.std.specs.Prelude.{if◌then◌else◌, nat_lt, length, ℤ, pos, negsuc, filter, bytes_eq, max, replicate}
 use Rattle.std.specs.List.{Contains, join_by}
 use Rattle.std.specs.List.Sorted.{IsStrictlySortedBy}
 use Rattle.std.proofs.lemmas.Bool.{false_from_ne_true}
@@ -11,9 +11,12 @@ use Rattle.isort_settings.specs.Values.{Values}
 use Rattle.isort_sort.specs.Layout.{Laid, IsLaid, EachIsLaid, AreLaid, gap_by_kind, gap_by_comment, own_lines, lines_after, block_lines}
 use Rattle.isort_sort.specs.Member.{Member, imports_of, item_of, belongs, begins_with, owned, first_texts, AreStatements, AreItemsOf}
 use Rattle.isort_sort.specs.Order.{AreInOrder}
+use Rattle.isort_sort.specs.Blocks.{Run}
+use Rattle.isort_sort.specs.Row.{Before, two, as_many, one, Row}
+use Rattle.isort_sort.specs.Sorted.{before_role, number_before, asked, is_indented, blanks_after}
 use Rattle.isort_sort.specs.Statement.{Statement, star, names, single, stands_alone, statement_of, statement_with, statement_cmp, same_statement}
 use Rattle.isort_sort.specs.Wrapping.{remark, statement_lines}
-use Rattle.isort_sort.specs.LaidAgain.{import_of, joined_comments, as_member, with_joined_comments}
+use Rattle.isort_sort.specs.LaidAgain.{asked_by, import_of, joined_comments, as_member, with_joined_comments}
 use Rattle.isort_sort.proofs.Orders.Contained.{in_map, map_in, in_filter, filter_in}
 use Rattle.isort_sort.proofs.Orders.Equality.{is_same, itself}
 use Rattle.isort_sort.proofs.Orders.InOrder.{nothing_in, in_cons, head_in, tail_in, all_in, never_less}
@@ -201,3 +204,33 @@ same_lines_after v indentation a (b ∷ ss) =
 pub lines_again : (v : Values) (indentation : List ℕ) (laid : List Laid) → block_lines v indentation (map with_joined_comments laid) ≡ block_lines v indentation laid
 lines_again v indentation [] = refl
 lines_again v indentation (s ∷ ss) = λ i. same_own_lines v indentation s i ++ same_lines_after v indentation s ss i
+
+-- the blank lines that are written after a block are those that would be written again
+same_number : (kept : ℕ) (b : Before) → number_before (number_before kept b) b ≡ number_before kept b
+same_number kept two = refl
+same_number kept as_many = refl
+same_number kept one = refl
+
+same_asked : (after : ℤ) (kept : ℕ) (b : Before) → asked after (number_before (asked after (number_before kept b)) b) ≡ asked after (number_before kept b)
+same_asked (pos n) kept b = refl
+same_asked (negsuc n) kept b = same_number kept b
+
+same_before : (a b : Before) → Some a ≡ Some b → a ≡ b
+same_before a b h = cc
+
+pub blanks_again : (v : Values) (run new : Run) (kept : ℕ) (rows others : List Row) → new.first.indentation ≡ run.first.indentation → asked_by others ≡ asked_by rows → blanks_after v new (blanks_after v run kept rows) others ≡ blanks_after v run kept rows
+blanks_again v run new kept [] [] same asks = refl
+blanks_again v run new kept [] (o ∷ os) same asks = absurd (cc)
+blanks_again v run new kept (r ∷ rs) [] same asks = absurd (cc)
+blanks_again v run new kept (r ∷ rs) (o ∷ os) same asks =
+    let b = same_before (before_role o.role) (before_role r.role) asks in
+    let indented : is_indented new ≡ is_indented run = ap (λ (t : List ℕ). nat_lt 0 (length t)) same in
+    (λ i. if indented i then blanks_after v run kept (r ∷ rs) else asked v.lines_after_imports (number_before (blanks_after v run kept (r ∷ rs)) (b i)))
+    ∙ by (is_indented run)
+  where
+    written : Bool → ℕ
+    written x = if x then kept else asked v.lines_after_imports (number_before kept (before_role r.role))
+
+    by : (x : Bool) → (if x then written x else asked v.lines_after_imports (number_before (written x) (before_role r.role))) ≡ written x
+    by true = refl
+    by false = same_asked v.lines_after_imports kept (before_role r.role)
