@@ -2,7 +2,7 @@
 
 ghost use Rattle.std.specs.Prelude.{◌≡◌, ℕ, ◌+◌, ◌<◌, ◌^◌, false, List, length, encode_utf8_all};
 ghost use Rattle.py_lines.specs.LogicalLine.{line_ends};
-ghost use Rattle.py_lines.specs.Private.Scan.{counts_after, Counts};
+ghost use Rattle.py_lines.specs.Private.Scan.{counts_after, count_with};
 
 use crate::character::{is_line_feed, is_return};
 
@@ -29,7 +29,7 @@ impl Count {
     #[tactic(auto, unfolding(crate::specs::Private::Scan::counts_after))]
     pub fn push(&mut self, c: char)
         requires { self.old.line + 1 < 2 ^ 64 }
-        ensures { Counts self.old c self.new }
+        ensures { self.new ≡ count_with self.old c }
     {
         let returns = is_return(c);
         if returns || is_line_feed(c) && !self.after_return {

@@ -5,7 +5,7 @@ ghost use Rattle.std.specs.Char.{len_utf8};
 ghost use Rattle.py_lines.specs.Character.{is_line_feed};
 ghost use Rattle.py_lines.specs.Piece.{begins};
 ghost use Rattle.py_lines.specs.Private.Machine.{IsSound, start_of, character_kind};
-ghost use Rattle.py_lines.specs.Private.Scan.{TakesNext, AddsTo, Emits, Closes, ReadsCharacter, Begins, Tallies, IsStacked, Scans, ScansIn, line_start, is_returned, none_open, stack_of, line_end_progress, ClosesAndAdds, freed, refused_place, IsUnfinished};
+ghost use Rattle.py_lines.specs.Private.Scan.{TakesNext, AddsTo, Emits, Closes, with_character, Begins, Tallies, IsStacked, Scans, ScansIn, line_start, is_returned, none_open, stack_of, line_end_progress, ClosesAndAdds, freed, refused_place, IsUnfinished};
 ghost use Rattle.py_lines.specs.Private.Run.{WhereverReached, is_free, Holds, HasAsciiQuote, StandsBefore};
 ghost use Rattle.py_lines.specs.declared.token.TokKind.TheVariants.{Op};
 ghost use Rattle.py_lines.specs.declared.mode.Mode.{Mode};
@@ -120,7 +120,7 @@ impl Scan {
     pub fn read(&mut self, c: char)
         requires bytes { self.old.stop + len_utf8 c < 2 ^ 64 }
         requires lines { self.old.count.line + 1 < 2 ^ 64 }
-        ensures { ReadsCharacter self.old c self.new }
+        ensures { self.new ≡ with_character self.old c }
     {
         self.stop += c.len_utf8();
         self.count.push(c);

@@ -10,6 +10,7 @@ use Rattle.py_lines.specs.LogicalLine.{LogicalLine, byte_len, line_of}
 use Rattle.py_lines.specs.Lexed.{IsLexed}
 use Rattle.py_lines.specs.ScannerState.{GoesOnWith}
 use Rattle.py_lines.specs.ScannerState.View.{line_of_feed}
+use Rattle.py_lines.specs.declared.scan.Scan.{Scan}
 use Rattle.py_lines.specs.declared.fault.Fault.{Fault}
 use Rattle.py_lines.specs.declared.fault.FaultKind.{FaultKind}
 use Rattle.py_lines.specs.declared.fault.FaultKind.TheVariants.{BadUtf8}
@@ -133,7 +134,7 @@ module _ (f : Feed) (read rest : List ℕ) (o : IsOpen f read rest) where
   -- the last line, which no line end closes
   pub ends_plain : (new : Feed) → rest ≡ [] → 0 < length f.held.items → is_returned f.state.scan ≡ false → IsUnfinished f.state.scan None → KeepsText f new → new.state.fault ≡ f.state.fault → new.ready ≡ Some 0 → Closes f.state.scan new.state.scan → IsLastLine f new
   ends_plain new none some not_yet (final, empty) keeps fault ready closes =
-      last_line new 0 none some keeps fault ready closes.line final empty
+      last_line new 0 none some keeps fault ready (ap (λ (s : Scan). s.line) closes.same) final empty
       (line_at_text_end (first_mode f.state.place) f.state.scan new.state.scan read o.way (open_sound f read rest o) (open_yet not_yet) (closed_tallies new closes) empty (read_some none some))
 
   -- the last line, which CR closes
@@ -141,7 +142,7 @@ module _ (f : Feed) (read rest : List ℕ) (o : IsOpen f read rest) where
   ends_returned_line new none some returned keeps fault ready closes =
       let parts = and_parts (is_return_mode f.state.scan.piece.mode) (none_open (stack_of f.state.scan.brackets)) returned in
       let empty = open_nothing (stack_of f.state.scan.brackets) parts.1 in
-      last_line new 1 none some keeps fault ready closes.line (final_return f.state.scan.piece.mode parts.0) empty
+      last_line new 1 none some keeps fault ready (ap (λ (s : Scan). s.line) closes.same) (final_return f.state.scan.piece.mode parts.0) empty
       (line_at_return (first_mode f.state.place) f.state.scan new.state.scan read o.way (open_sound f read rest o) parts.0 (closed_tallies new closes) empty (read_some none some))
     where
       open_nothing : (st : List Bracket) → none_open st ≡ true → st ≡ []

@@ -1,12 +1,12 @@
 -- Whole lines before pieces: together they are read exactly if each is.
-use Rattle.std.proofs.Common.{◌≡◌, ℕ, Bool, true, false, ◌&&◌, Option, None, Some, List, [], ◌∷◌, ◌++◌, refl, sym, ap, ◌∙◌, subst, inl, inr, append_assoc, append-nil}
+use Rattle.std.proofs.Common.{◌≡◌, ℕ, Bool, false, ◌&&◌, Option, None, Some, List, [], ◌∷◌, ◌++◌, refl, sym, ap, ◌∙◌, subst, inl, inr, append-nil}
 use Rattle.py_lines.specs.Character.{is_line_feed, is_return}
 use Rattle.py_lines.specs.Piece.{line_end, Piece, begins, ends, begins_marked, is_mark_class, spelled}
 use Rattle.py_lines.specs.PieceGrammar.{MayPrecede, AreReadBefore}
-use Rattle.py_lines.specs.Balance.{IsBalanced, IsShallow, depth_through, IsBalanced as balance}
+use Rattle.py_lines.specs.Balance.{IsShallow, IsBalanced as balance}
 use Rattle.py_lines.specs.Lexed.{IsBalancedReading, EndsLine}
 use Rattle.py_lines.specs.Neighbours.{MayFollowLines}
-use Rattle.py_lines.specs.Private.Machine.{Bracket, brackets_of}
+use Rattle.py_lines.specs.Private.Machine.{Bracket}
 use Rattle.py_lines.proofs.Pieces.PieceLists.{MayFollow, spelled-append, AreReadBefore-append, AreReadBefore-first, AreReadBefore-second, follows_any}
 use Rattle.py_lines.proofs.Pieces.OpenBrackets.{IsShallow-append, balanced-from_stack, stack-from_balanced}
 use Rattle.py_lines.proofs.Machine.EarlierPieces.{shift_if, stack-behind}

@@ -1,6 +1,7 @@
 -- A line end that CR begins is taken whole: CR opens a piece, and LF, or what follows, closes it.
 use Rattle.std.proofs.Common.{◌≡◌, ℕ, ◌+◌, ◌==◌, ◌<◌, Bool, true, false, not, ◌&&◌, inr, Ok, List, [], ◌∷◌, ◌++◌, length, drop, get_or, refl, sym, ap, ◌∙◌, subst, append-nil, arith, ⊎_elim, lit<}
 use Rattle.std.specs.Prelude.{encode_utf8}
+use Rattle.std.specs.Char.{len_utf8}
 use Rattle.std.proofs.lemmas.Bool.{and_right, both_ways}
 use Rattle.std.proofs.lemmas.Str.{encode_ascii, len_utf8_ascii}
 use Rattle.py_lines.specs.Character.{is_line_feed, is_return}
@@ -15,7 +16,7 @@ use Rattle.py_lines.specs.declared.scan.Scan.{Scan}
 use Rattle.py_lines.specs.declared.scan.Stop.TheVariants as stops
 use Rattle.py_lines.specs.declared.whole_pieces.Taken.TheVariants as taken
 use Rattle.py_lines.specs.Private.Machine.{move_of}
-use Rattle.py_lines.specs.Private.Scan.{Begins, Closes, ReadsCharacter, counts_after, is_return_mode, is_returned, line_end_progress, none_open, stack_of}
+use Rattle.py_lines.specs.Private.Scan.{Begins, Closes, with_character, counts_after, is_return_mode, is_returned, line_end_progress, none_open, stack_of}
 use Rattle.py_lines.specs.Private.Run.{Reached, TakesReturn, TakesReturnAlone, TakesReturnFeed, is_free, line_ended}
 use Rattle.py_lines.proofs.Machine.Starts.{start-return}
 use Rattle.py_lines.proofs.Text.CharacterTests.{feed_from, feed_is, return_is}
@@ -44,22 +45,8 @@ return_begins old free =
       refl,
       record {
         mid = settled old;
-        read = record (with_end old 1) { piece = record { mode = old.piece.mode; start = old.stop; line = old.count.line } };
         closes = settles old (free_is old.piece.mode free);
-        reads = record {
-          stop = ap (λ (n : ℕ). old.stop + n) (sym size);
-          count = record { line = ap (λ (n : ℕ). old.count.line + n) (sym counts.0); after = sym counts.1 };
-          mode = refl;
-          start = refl;
-          piece_line = refl;
-          line = refl;
-          margin = refl;
-          indent = refl;
-          kind = refl;
-          tokens = refl;
-          brackets = refl;
-        };
-        is = refl;
+        is = λ i. record (with_end old 1) { stop = old.stop + sym size i; count = record { line = old.count.line + sym counts.0 i; after_return = sym counts.1 i } };
       },
     )
 
@@ -70,37 +57,14 @@ return_takes old free = record {
 }
 
 -- LF closes it
-feed_reads : (old : Scan) → ReadsCharacter (with_end old 1) 10 (with_end old 2)
+feed_reads : (old : Scan) → with_end old 2 ≡ with_character (with_end old 1) 10
 feed_reads old =
-    let size = len_utf8_ascii 10 (lit< tt) in
-    record {
-      stop = omega (arith, size);
-      count = record { line = omega (arith, feed_counts.0); after = sym feed_counts.1 };
-      mode = refl;
-      start = refl;
-      piece_line = refl;
-      line = refl;
-      margin = refl;
-      indent = refl;
-      kind = refl;
-      tokens = refl;
-      brackets = refl;
-    }
+    let stop : old.stop + 2 ≡ old.stop + 1 + len_utf8 10 = omega (arith, len_utf8_ascii 10 (lit< tt)) in
+    let line : old.count.line + 1 ≡ old.count.line + 1 + counts_after true 10 = omega (arith, feed_counts.0) in
+    λ i. record (with_end old 1) { stop = stop i; count = record { line = line i; after_return = sym feed_counts.1 i } }
 
 end_closes : (old : Scan) (len : ℕ) → Closes (with_end old len) (line_ended old len)
-end_closes old len = record {
-  tokens = sym (append-nil old.tokens.items);
-  kind = refl;
-  indent = refl;
-  margin = sym (and_right old.margin false refl);
-  mode = refl;
-  start = refl;
-  stop = refl;
-  piece_line = refl;
-  line = refl;
-  count = refl;
-  brackets = refl;
-}
+end_closes old len = record { tokens = sym (append-nil old.tokens.items); same = ap (λ (b : Bool). record (line_ended old len) { margin = b }) (sym (and_right old.margin false refl)) }
 
 feed_move : move_of modes.Return 10 ≡ moves.Closes
 unfolding move_of
@@ -110,7 +74,7 @@ feed_takes : (old : Scan) (p : Progress) → p ≡ line_end_progress (none_open 
 feed_takes old p is = record {
   begun = λ is. absurd (both_ways _ refl is);
   taken = λ other s read sound none not_yet tallies stacked.
-      takes_returned (with_end old 1) (with_end old 2) (line_ended old 2) s.done s.mode s.held read 10 p (ap is_return_mode (sym tallies.mode)) (ap (λ m. move_of m 10) (sym tallies.mode) ∙ feed_move) sound tallies stacked none (feed_reads old) (end_closes old 2) is;
+      takes_returned (with_end old 1) (line_ended old 2) s.done s.mode s.held read 10 p (ap is_return_mode (sym tallies.mode)) (ap (λ m. move_of m 10) (sym tallies.mode) ∙ feed_move) sound tallies stacked none (subst (λ (s : Scan). Closes s (line_ended old 2)) (feed_reads old) (end_closes old 2)) is;
 }
 
 -- a character that ended no line before it

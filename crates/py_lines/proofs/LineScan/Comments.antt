@@ -5,15 +5,13 @@ use Rattle.std.proofs.lemmas.Str.{IsCharBoundary-after_ascii, IsUtf8-drop, encod
 use Rattle.std.proofs.Math.Utf8.{low_scalar}
 use Rattle.py_lines.specs.Character.{is_break, is_hash, is_space}
 use Rattle.py_lines.specs.Piece.{begins}
-use Rattle.py_lines.specs.LogicalLine.{byte_len}
-use Rattle.py_lines.specs.declared.count.Count.{Count}
 use Rattle.py_lines.specs.declared.mode.Mode.{Mode}
 use Rattle.py_lines.specs.declared.mode.Mode.TheVariants as modes
 use Rattle.py_lines.specs.declared.mode.Move.TheVariants as moves
 use Rattle.py_lines.specs.declared.scan.Scan.{Scan}
 use Rattle.py_lines.specs.Private.Machine.{Bracket, IsSound, move_of}
 use Rattle.py_lines.specs.Private.Scan.{line_start, stack_of}
-use Rattle.py_lines.specs.Private.Run.{IsRunOf, ReadsRun, ReachedShut, TakesComment, follows, is_apart, is_comment_byte, is_ascii_word, may_begin, opened}
+use Rattle.py_lines.specs.Private.Run.{IsRunOf, ReachedShut, TakesComment, follows, is_apart, is_comment_byte, is_ascii_word, may_begin, opened, with_bytes}
 use Rattle.py_lines.proofs.Machine.Starts.{start-hash}
 use Rattle.py_lines.proofs.Text.CharacterTests.{the_one}
 use Rattle.py_lines.proofs.LineScan.FirstBytes.{or_more}
@@ -37,25 +35,9 @@ run_tail passes b bs n run = record {
 }
 
 -- more of the comment is read
-reads_more : (old : Scan) (n : ℕ) → ((0 < n) × ((run : List ℕ) → byte_len run ≡ n → ReadsRun (opened old modes.Comment 1) run (opened old modes.Comment (suc n)))) ⊎ ((n ≤ 0) × (opened old modes.Comment (suc n) ≡ opened old modes.Comment 1))
+reads_more : (old : Scan) (n : ℕ) → ((0 < n) × (opened old modes.Comment (suc n) ≡ with_bytes (opened old modes.Comment 1) n)) ⊎ ((n ≤ 0) × (opened old modes.Comment (suc n) ≡ opened old modes.Comment 1))
 reads_more old zero = inr (omega arith, refl)
-reads_more old (suc n) = inl (
-  omega arith,
-  λ run size. record {
-    stop = omega (arith, size);
-    here = refl;
-    after = refl;
-    mode = refl;
-    start = refl;
-    piece_line = refl;
-    line = refl;
-    margin = refl;
-    indent = refl;
-    kind = refl;
-    tokens = refl;
-    brackets = refl;
-  },
-)
+reads_more old (suc n) = inl (omega arith, ap (λ (k : ℕ). record (opened old modes.Comment 1) { stop = k }) (omega arith))
 
 -- what follows the comment
 break_of : (c : ℕ) → is_comment_byte c ≡ false → is_break c ≡ true
@@ -104,8 +86,8 @@ pub comment_goes : (old new : Scan) (bytes : List ℕ) (len : ℕ) → TakesComm
 comment_goes old new [] len takes = absurd (both_ways _ refl takes.hash)
 comment_goes old new (b ∷ bs) zero takes = absurd (both_ways _ (takes.run.ends (omega arith)) (hash_stays b takes.hash))
 comment_goes old new (b ∷ bs) (suc n) takes = record {
-  stop = takes.closes.stop;
+  stop = ap (λ (s : Scan). s.stop) takes.closes.same;
   some = omega arith;
   within = takes.run.within;
-  lines = omega (arith, ap (λ (k : Count). k.line) takes.closes.count);
+  lines = omega (arith, ap (λ (s : Scan). s.count.line) takes.closes.same);
 }

@@ -1,12 +1,11 @@
 -- Where the open piece was closed early, what follows begins as it does after the open piece.
-use Rattle.std.proofs.Common.{◌≡◌, ℕ, ◌+◌, ◌-◌, ◌==◌, ◌≤◌, Bool, true, false, not, ◌||◌, ◌&&◌, None, Ok, List, [], ◌∷◌, ◌++◌, length, refl, sym, ap, ◌∙◌, subst, append-nil, arith, ⊎_elim, length-append}
+use Rattle.std.proofs.Common.{◌≡◌, ℕ, ◌+◌, ◌==◌, ◌≤◌, Bool, true, false, not, ◌||◌, ◌&&◌, None, Ok, List, [], ◌∷◌, ◌++◌, length, refl, sym, ap, ◌∙◌, subst, append-nil, arith, ⊎_elim, length-append}
 use Rattle.std.specs.Prelude.{encode_utf8, encode_utf8_all}
 use Rattle.std.specs.Str.{StartsWithNoChar}
 use Rattle.std.proofs.lemmas.Bool.{or_cases, both_ways}
 use Rattle.std.proofs.lemmas.Str.{char_from_byte}
 use Rattle.py_lines.specs.Character.{is_line_feed, is_break, is_hash, is_backslash, is_quote, is_return, is_one_of}
-use Rattle.py_lines.specs.Piece.{operator, begins}
-use Rattle.py_lines.specs.declared.count.Count.{Count}
+use Rattle.py_lines.specs.Piece.{begins}
 use Rattle.py_lines.specs.declared.mode.Mode.{Mode}
 use Rattle.py_lines.specs.declared.mode.Mode.TheVariants as modes
 use Rattle.py_lines.specs.declared.mode.Move.TheVariants as moves
@@ -15,8 +14,8 @@ use Rattle.py_lines.specs.declared.mode.Start.TheVariants as starts
 use Rattle.py_lines.specs.declared.scan.Progress.{Progress}
 use Rattle.py_lines.specs.declared.scan.Progress.TheVariants as progress
 use Rattle.py_lines.specs.declared.scan.Scan.{Scan}
-use Rattle.py_lines.specs.Private.Machine.{Scanned, move_of, start_of, IsSound, Bracket, brackets_after, token_of}
-use Rattle.py_lines.specs.Private.Scan.{Closes, Begins, ClosesAndAdds, Tallies, IsStacked, Takes, EndsNoLine, line_start, stack_of, none_open, is_returned, is_return_mode, line_end_progress, tokens_with, with_brackets, kind_closed, indent_closed, holds_nothing}
+use Rattle.py_lines.specs.Private.Machine.{Scanned, move_of, start_of, IsSound, Bracket, token_of}
+use Rattle.py_lines.specs.Private.Scan.{Closes, Begins, ClosesAndAdds, Tallies, IsStacked, Takes, EndsNoLine, line_start, stack_of, none_open, is_returned, is_return_mode, line_end_progress, tokens_with, with_brackets, stack_with, closed_with, holds_nothing}
 use Rattle.py_lines.specs.Private.Run.{is_free, may_stand, may_begin, follows, Reached, ReachedShut, IsShut}
 use Rattle.py_lines.proofs.Text.Incomplete.{one_char}
 use Rattle.py_lines.proofs.Machine.Starts.{start-word, start-space, start-operator, start-feed, start-return, start-quote, start-hash, start-slash}
@@ -26,20 +25,12 @@ use Rattle.py_lines.proofs.LineScan.LineRun.{sound_run, way_order, way_stop, way
 use Rattle.py_lines.proofs.LineScan.NextCharacter.{takes_broken}
 use Rattle.py_lines.proofs.LineScan.ShortPieces.{follows_cases, begin_low, word_starts, with_met, free_breaks, open_reached}
 
--- closing goes on from a scan with no open piece
-closes_through : (before scan mid : Scan) → Closes before scan → scan.piece.mode ≡ modes.Free → Closes scan mid → Closes before mid
-closes_through before scan mid first free second = record {
-  tokens = second.tokens ∙ ap (λ m. scan.tokens.items ++ tokens_with (token_of m) scan.piece.start scan.stop scan.piece.line) free ∙ append-nil scan.tokens.items ∙ first.tokens;
-  kind = second.kind ∙ ap (λ m. kind_closed scan.kind m) free ∙ first.kind;
-  indent = second.indent ∙ ap (λ m. indent_closed scan.indent m scan.margin (scan.stop - scan.piece.start)) free ∙ first.indent;
-  margin = second.margin ∙ ap (λ m. scan.margin && holds_nothing m) free ∙ and_true scan.margin ∙ first.margin;
-  mode = second.mode;
-  start = second.start ∙ first.stop;
-  stop = second.stop ∙ first.stop;
-  piece_line = second.piece_line ∙ ap (λ (k : Count). k.line) first.count;
-  line = second.line ∙ first.line;
-  count = second.count ∙ first.count;
-  brackets = second.brackets ∙ first.brackets;
+-- closing goes on from a closed piece
+closes_through : (before scan mid : Scan) → Closes before scan → Closes scan mid → Closes before mid
+closes_through before scan mid first second = record {
+  tokens = second.tokens ∙ ap (λ (s : Scan). scan.tokens.items ++ tokens_with (token_of s.piece.mode) s.piece.start s.stop s.piece.line) first.same ∙ append-nil scan.tokens.items ∙ first.tokens;
+  same = second.same ∙ ap (λ (s : Scan). closed_with s mid.tokens) first.same
+      ∙ ap (λ (b : Bool). record (closed_with before mid.tokens) { margin = b }) (and_true (before.margin && holds_nothing before.piece.mode));
 }
   where
     and_true : (b : Bool) → b && true ≡ b
@@ -74,21 +65,21 @@ begun_so st c h =
     (λ stands so. record { some = λ e. let clash = sym (start-operator c stands) ∙ e in cc; stands = λ e. so }))
     (or_cases (is_quote c) (follows st c) h)
 
-adds_through : (before scan new : Scan) (c : ℕ) → Closes before scan → scan.piece.mode ≡ modes.Free → ClosesAndAdds scan c None new → ClosesAndAdds before c None new
-adds_through before scan new c closes free adds = record { mid = adds.mid; closes = closes_through before scan adds.mid closes free adds.closes; stands = adds.stands }
+adds_through : (before scan new : Scan) (c : ℕ) → Closes before scan → ClosesAndAdds scan c None new → ClosesAndAdds before c None new
+adds_through before scan new c closes adds = record { mid = adds.mid; closes = closes_through before scan adds.mid closes adds.closes; stands = adds.stands }
 
 -- the piece begins as it does after the open one, and isn't refused
-begins_shut : (before scan new : Scan) (c : ℕ) (st : Start) (p : Progress) → Closes before scan → scan.piece.mode ≡ modes.Free → IsBegun (stack_of scan.brackets) c → start_of c ≡ st → Begins scan c st (Ok p) new → Begins before c st (Ok p) new
-begins_shut before scan new c (starts.Open m) p closes free begun is (going, opens) = (going, record { mid = opens.mid; read = opens.read; closes = closes_through before scan opens.mid closes free opens.closes; reads = opens.reads; is = opens.is })
-begins_shut before scan new c starts.Operator progress.Going closes free begun is (met, stands, behind) = (
+begins_shut : (before scan new : Scan) (c : ℕ) (st : Start) (p : Progress) → Closes before scan → IsBegun (stack_of scan.brackets) c → start_of c ≡ st → Begins scan c st (Ok p) new → Begins before c st (Ok p) new
+begins_shut before scan new c (starts.Open m) p closes begun is (going, opens) = (going, record { mid = opens.mid; closes = closes_through before scan opens.mid closes opens.closes; is = opens.is })
+begins_shut before scan new c starts.Operator progress.Going closes begun is (met, stands, behind) = (
   met,
-  ap (λ b. brackets_after (stack_of b) before.stop (record { class = operator; text = c ∷ [] })) (sym closes.brackets) ∙ ap (λ (n : ℕ). brackets_after (stack_of scan.brackets) n (record { class = operator; text = c ∷ [] })) (sym closes.stop) ∙ stands,
-  record { mid = behind.mid; closes = closes_through (with_brackets before met) (with_brackets scan met) behind.mid (with_met before scan met closes) free behind.closes; stands = behind.stands },
+  ap (λ (x : Scan). stack_with x.brackets x.stop c) (sym closes.same) ∙ stands,
+  record { mid = behind.mid; closes = closes_through (with_brackets before met) (with_brackets scan met) behind.mid (with_met before scan met closes) behind.closes; stands = behind.stands },
 )
-begins_shut before scan new c starts.Operator progress.Refused closes free begun is (none, same) = absurd (both_ways _ (refused_anywhere (stack_of scan.brackets) scan.stop c none) (begun.stands is))
-begins_shut before scan new c starts.Operator (progress.LineEnded len) closes free begun is never = absurd never
-begins_shut before scan new c starts.LineEnd p closes free begun is (ends, adds) = (ends ∙ ap (λ b. Ok (line_end_progress (none_open (stack_of b)) 1)) closes.brackets, adds_through before scan new c closes free adds)
-begins_shut before scan new c starts.Nothing p closes free begun is (refuses, same) = absurd (begun.some is)
+begins_shut before scan new c starts.Operator progress.Refused closes begun is (none, same) = absurd (both_ways _ (refused_anywhere (stack_of scan.brackets) scan.stop c none) (begun.stands is))
+begins_shut before scan new c starts.Operator (progress.LineEnded len) closes begun is never = absurd never
+begins_shut before scan new c starts.LineEnd p closes begun is (ends, adds) = (ends ∙ ap (λ (x : Scan). Ok (line_end_progress (none_open (stack_of x.brackets)) 1)) closes.same, adds_through before scan new c closes adds)
+begins_shut before scan new c starts.Nothing p closes begun is (refuses, same) = absurd (begun.some is)
 
 -- a character is taken from where the machine stands
 pub record TakesFrom (m : Mode) (at : ℕ) (text before : List ℕ) (c : ℕ) (p : Progress) (new : Scan) : Type 0 where
@@ -116,7 +107,7 @@ module _ (m : Mode) (at : ℕ) (text before : List ℕ) (c : ℕ) (p : Progress)
       let low = begin_low (stack_of scan.brackets) b shut.next in
       let c_is : c ≡ b = char_from_byte (b ∷ more) rest c (same ∙ is) low (omega arith) in
       broken_from from o (ap (λ (n : ℕ). move_of from.piece.mode n) c_is ∙ shut.breaks b more refl) shut.unreturned
-      (begins_shut from scan new c (start_of c) p shut.closes free (begun_so (stack_of scan.brackets) c (subst (λ (n : ℕ). may_begin (stack_of scan.brackets) n ≡ true) (sym c_is) shut.next)) refl begun)
+      (begins_shut from scan new c (start_of c) p shut.closes (begun_so (stack_of scan.brackets) c (subst (λ (n : ℕ). may_begin (stack_of scan.brackets) n ≡ true) (sym c_is) shut.next)) refl begun)
 
   -- after closed pieces
   pub taken_free : (scan : Scan) (rest : List ℕ) → ReachedShut m at text scan before → before ≡ encode_utf8 c ++ rest → scan.piece.mode ≡ modes.Free → Begins scan c (start_of c) (Ok p) new → TakesFrom m at text before c p new
@@ -152,10 +143,10 @@ stands_shut m at text scan rest start r =
     ⊎_elim
     (λ same. subst (λ (s : Scan). Stands at text s rest) (sym same) stood)
     (λ shut. record {
-      order = omega (arith, shut.closes.start, shut.closes.stop);
-      room = omega (arith, shut.closes.stop, stood.room);
-      lines = omega (arith, ap (λ (k : Count). k.line) shut.closes.count, shut.closes.line, shut.closes.stop, stood.lines);
-      line = shut.closes.line ∙ stood.line;
+      order = omega (arith, ap (λ (s : Scan). s.piece.start) shut.closes.same, ap (λ (s : Scan). s.stop) shut.closes.same);
+      room = omega (arith, ap (λ (s : Scan). s.stop) shut.closes.same, stood.room);
+      lines = omega (arith, ap (λ (s : Scan). s.count.line) shut.closes.same, ap (λ (s : Scan). s.line) shut.closes.same, ap (λ (s : Scan). s.stop) shut.closes.same, stood.lines);
+      line = ap (λ (s : Scan). s.line) shut.closes.same ∙ stood.line;
     }) r.how
 
 -- before bytes that begin no character nothing was closed early

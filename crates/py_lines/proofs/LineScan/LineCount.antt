@@ -1,5 +1,5 @@
 -- The count of lines follows the line ends of the characters.
-use Rattle.std.proofs.Common.{◌≡◌, ℕ, ◌+◌, ◌≤◌, Bool, cond, List, [], ◌∷◌, ◌++◌, length, refl, sym, ap, ◌∙◌, subst, append-nil, arith}
+use Rattle.std.proofs.Common.{◌≡◌, ℕ, ◌+◌, ◌≤◌, Bool, cond, List, [], ◌∷◌, ◌++◌, length, refl, sym, ap, ◌∙◌, append-nil, arith}
 use Rattle.std.specs.Prelude.{encode_utf8}
 use Rattle.std.specs.Char.{len_utf8}
 use Rattle.std.proofs.lemmas.Str.{length-encode, length-le-encodes}
@@ -7,21 +7,10 @@ use Rattle.std.proofs.lemmas.Bool.{cond_both}
 use Rattle.py_lines.specs.Character.{is_return}
 use Rattle.py_lines.specs.Piece.{ends}
 use Rattle.py_lines.specs.LogicalLine.{byte_len, ends_line, line_ends}
-use Rattle.py_lines.specs.Private.Scan.{counts_after, Counts}
+use Rattle.py_lines.specs.Private.Scan.{counts_after, count_with}
 use Rattle.py_lines.specs.declared.count.Count.{Count}
-use Rattle.py_lines.specs.declared.token.Token.{Token}
-use Rattle.py_lines.specs.declared.token.TokKind.{TokKind}
 use Rattle.py_lines.proofs.LogicalLines.Cuts.{byte_len-append}
 use Rattle.py_lines.proofs.LineScan.Increments.{line_ends-step}
-
-abbrev pub token : TokKind → ℕ → ℕ → ℕ → Token
-token k start stop line = record { kind = k; start = start; stop = stop; line = line }
-
-pub same_token : (k : TokKind) (a b m n x y : ℕ) → a ≡ b → m ≡ n → x ≡ y → token k a m x ≡ token k b n y
-same_token k a b m n x y first second third = λ i. record { kind = k; start = first i; stop = second i; line = third i }
-
-pub counts_from : (old : Count) (c : ℕ) (mid new : Count) → new ≡ mid → Counts old c mid → Counts old c new
-counts_from old c mid new is counts = subst (Counts old c) (sym is) counts
 
 pub byte_len-one : (c : ℕ) → byte_len (c ∷ []) ≡ len_utf8 c
 byte_len-one c = ap length (append-nil (encode_utf8 c)) ∙ length-encode c
@@ -40,10 +29,10 @@ pub record Counted (line : ℕ) (count : Count) (read : List ℕ) : Type 0 where
   pub here : count.line ≡ line + line_ends read
   pub after : count.after_return ≡ ends is_return read
 
-pub counted_push : (line : ℕ) (old new : Count) (read : List ℕ) (c : ℕ) → Counted line old read → Counts old c new → Counted line new (read ++ c ∷ [])
-counted_push line old new read c is counts = record {
-  here = counts.line ∙ ap (λ (b : Bool). old.line + counts_after b c) is.after ∙ omega (arith, is.here, line_ends-step read c);
-  after = counts.after ∙ sym (ends-last is_return read c);
+pub counted_push : (line : ℕ) (old : Count) (read : List ℕ) (c : ℕ) → Counted line old read → Counted line (count_with old c) (read ++ c ∷ [])
+counted_push line old read c is = record {
+  here = ap (λ (b : Bool). old.line + counts_after b c) is.after ∙ omega (arith, is.here, line_ends-step read c);
+  after = sym (ends-last is_return read c);
 }
 
 -- a text has no more line ends than characters

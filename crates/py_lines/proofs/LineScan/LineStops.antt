@@ -139,7 +139,7 @@ module _ (first : Scan) (text : List ℕ) (old : Scan) (before : List ℕ) (shut
         scalars = o.scalars;
         spell = o.spell;
         stops = ((λ after apart. returned m old new o.read (encode_utf8_all after) o.way start parts.0 parts.1 closes (λ a spells. ap (begins is_line_feed) (encodes_same a after spells) ∙ apart returns)), apart_from_it o.read);
-        number = closes.line ∙ o.line;
+        number = ap (λ (s : Scan). s.line) closes.same ∙ o.line;
       }
     where
       return_open : (n : Mode) → is_return_mode n ≡ true → is_free n ≡ false

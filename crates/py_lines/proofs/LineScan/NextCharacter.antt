@@ -22,7 +22,7 @@ use Rattle.py_lines.specs.declared.scan.Progress.{Progress}
 use Rattle.py_lines.specs.declared.scan.Progress.TheVariants as progress
 use Rattle.py_lines.specs.declared.scan.Scan.{Scan}
 use Rattle.py_lines.specs.Private.Machine.{Scanned, fresh, class_of, closed, token_of, step, moved, started, move_of, start_of, Holds, IsSound, is_prefix_spelling, Bracket, brackets_after, brackets_of}
-use Rattle.py_lines.specs.Private.Scan.{tokens_with, kind_through, Closes, ReadsCharacter, AddsPiece, ClosesAndAdds, ClosesAndOpens, Operates, Begins, Tallies, IsStacked, EndsNoLine, Takes, stack_if, stack_of, none_open, is_returned, is_return_mode, in_mode, with_brackets, line_end_progress}
+use Rattle.py_lines.specs.Private.Scan.{tokens_with, kind_through, Closes, with_character, count_with, AddsPiece, ClosesAndAdds, ClosesAndOpens, Operates, Begins, Tallies, IsStacked, EndsNoLine, Takes, stack_if, stack_of, none_open, is_returned, is_return_mode, in_mode, with_brackets, line_end_progress}
 use Rattle.py_lines.proofs.Pieces.PieceLists.{piece, spelled-push, AreReadBefore-first}
 use Rattle.py_lines.proofs.Text.CharacterTests.{feed_is, return_is}
 use Rattle.py_lines.proofs.Machine.Starts.{starts_so, StartsSo}
@@ -38,28 +38,26 @@ use Rattle.py_lines.proofs.LineScan.BracketStack.{none_length}
 use Rattle.py_lines.proofs.LineScan.PieceEnd.{shut_as, closes_shut, margin_push, indent_other, no_bracket, tokens_push, kind_operator, kind_line_end}
 
 -- one more character in the piece that is open
-pub tallies_read : (old mid : Scan) (s : Scanned) (c : ℕ) (m : Mode) → Tallies old s → ReadsCharacter old c mid → Tallies (in_mode mid m) (scanned s.done m (s.held ++ c ∷ []))
-tallies_read old mid s c m tallies reads =
+pub tallies_read : (old : Scan) (s : Scanned) (c : ℕ) (m : Mode) → Tallies old s → Tallies (in_mode (with_character old c) m) (scanned s.done m (s.held ++ c ∷ []))
+tallies_read old s c m tallies =
     let longer : (spelled s.done ++ s.held) ++ c ∷ [] ≡ spelled s.done ++ (s.held ++ c ∷ []) = append_assoc (spelled s.done) s.held (c ∷ []) in
-    let counted = counted_push old.line old.count mid.count (spelled s.done ++ s.held) c (record { here = tallies.here; after = tallies.after }) reads.count in
+    let counted = counted_push old.line old.count (spelled s.done ++ s.held) c (record { here = tallies.here; after = tallies.after }) in
     record {
       mode = refl;
-      start = reads.start ∙ tallies.start;
-      stop = reads.stop ∙ ap (λ (n : ℕ). n + len_utf8 c) tallies.stop ∙ sym (byte_len-push (spelled s.done ++ s.held) c) ∙ ap byte_len longer;
-      piece_line = reads.piece_line ∙ tallies.piece_line ∙ ap (λ (n : ℕ). n + line_ends (spelled s.done)) (sym reads.line);
-      here = counted.here ∙ ap (λ t. old.line + line_ends t) longer ∙ ap (λ (n : ℕ). n + line_ends (spelled s.done ++ (s.held ++ c ∷ []))) (sym reads.line);
+      start = tallies.start;
+      stop = ap (λ (n : ℕ). n + len_utf8 c) tallies.stop ∙ sym (byte_len-push (spelled s.done ++ s.held) c) ∙ ap byte_len longer;
+      piece_line = tallies.piece_line;
+      here = counted.here ∙ ap (λ t. old.line + line_ends t) longer;
       after = counted.after ∙ ap (ends is_return) longer;
-      margin = reads.margin ∙ tallies.margin;
-      indent = reads.indent ∙ tallies.indent;
-      kind = reads.kind ∙ tallies.kind;
-      tokens = ap (λ v. v.items) reads.tokens ∙ tallies.tokens ∙ ap (λ (n : ℕ). tokens_from 0 n s.done) (sym reads.line);
+      margin = tallies.margin;
+      indent = tallies.indent;
+      kind = tallies.kind;
+      tokens = tallies.tokens;
     }
 
-in_its_mode : (mid : Scan) (s : Scanned) → mid.piece.mode ≡ s.mode → Tallies (in_mode mid s.mode) s → Tallies mid s
-in_its_mode mid s same t = record { mode = same; start = t.start; stop = t.stop; piece_line = t.piece_line; here = t.here; after = t.after; margin = t.margin; indent = t.indent; kind = t.kind; tokens = t.tokens }
-
-other_brackets : (old : Scan) (met : Brackets) (s : Scanned) → Tallies old s → Tallies (with_brackets old met) s
-other_brackets old met s t = record { mode = t.mode; start = t.start; stop = t.stop; piece_line = t.piece_line; here = t.here; after = t.after; margin = t.margin; indent = t.indent; kind = t.kind; tokens = t.tokens }
+-- what is counted says nothing of the brackets, and of the mode that it is the machine's
+pub tallies_in : (scan : Scan) (s : Scanned) (m n : Mode) (b : Brackets) → m ≡ n → Tallies scan s → Tallies (with_brackets (in_mode scan m) b) (scanned s.done n s.held)
+tallies_in scan s m n b same t = record { mode = same; start = t.start; stop = t.stop; piece_line = t.piece_line; here = t.here; after = t.after; margin = t.margin; indent = t.indent; kind = t.kind; tokens = t.tokens }
 
 -- what closes with a character has its class's token
 closing_token : (m : Mode) (c : ℕ) → move_of m c ≡ moves.Closes → (m ≡ modes.Free → ⊥) × ((held : List ℕ) (start stop line : ℕ) → tokens_of_piece start stop line (class_of m) held ≡ tokens_with (token_of m) start stop line)
@@ -73,11 +71,11 @@ start_done modes.Start done held holds is = holds.0
 start_done m done held holds is = absurd (cc)
 
 -- a piece closed with a character
-tallies_closed : (old mid new : Scan) (s : Scanned) (read : List ℕ) (c : ℕ) → move_of s.mode c ≡ moves.Closes → IsSound s read → Tallies old s → ReadsCharacter old c mid → Closes mid new → Tallies new (fresh (s.done ++ piece (class_of s.mode) (s.held ++ c ∷ []) ∷ []))
-tallies_closed old mid new s read c move sound tallies reads closes =
-    let longer : Scanned = scanned s.done s.mode (s.held ++ c ∷ []) in
+tallies_closed : (old new : Scan) (s : Scanned) (read : List ℕ) (c : ℕ) → move_of s.mode c ≡ moves.Closes → IsSound s read → Tallies old s → Closes (with_character old c) new → Tallies new (fresh (s.done ++ piece (class_of s.mode) (s.held ++ c ∷ []) ∷ []))
+tallies_closed old new s read c move sound tallies closes =
     let token = closing_token s.mode c move in
-    shut_as mid new s.done s.mode (s.held ++ c ∷ []) (s.held ++ []) closes (sound.fit []) (in_its_mode mid longer (reads.mode ∙ tallies.mode) (tallies_read old mid s c s.mode tallies reads)) (token.1 (s.held ++ c ∷ [])) (start_done s.mode s.done s.held sound.holds) token.0
+    let reads = tallies_in (in_mode (with_character old c) s.mode) (scanned s.done s.mode (s.held ++ c ∷ [])) old.piece.mode s.mode old.brackets tallies.mode (tallies_read old s c s.mode tallies) in
+    shut_as (with_character old c) new s.done s.mode (s.held ++ c ∷ []) (s.held ++ []) closes (sound.fit []) reads (token.1 (s.held ++ c ∷ [])) (start_done s.mode s.done s.held sound.holds) token.0
 
 -- the depth says whether a bracket is open
 depth_none : (ps : List Piece) (st : List Bracket) → brackets_of ps ≡ Some st → depth_through 0 ps == 0 ≡ none_open st
@@ -107,35 +105,27 @@ takes_end old new s c len body text st goes tallies stacked none size same line 
 )
 
 -- a character in the open piece
-pub takes_grown : (old mid : Scan) (s : Scanned) (c : ℕ) (m : Mode) → move_of s.mode c ≡ moves.Grows m → Tallies old s → IsStacked old s → EndsNoLine 0 s.done → ReadsCharacter old c mid → Takes old s c (Ok progress.Going) (in_mode mid m)
-takes_grown old mid s c m move tallies stacked none reads = (
-  record {
-    next = scanned s.done m (s.held ++ c ∷ []);
-    goes = ap (moved s c) move;
-    tallies = tallies_read old mid s c m tallies reads;
-    stacked = stacked ∙ ap (λ b. Some (stack_of b)) (sym reads.brackets);
-    one_line = none;
-  },
-  reads.line,
-)
+pub takes_grown : (old : Scan) (s : Scanned) (c : ℕ) (m : Mode) → move_of s.mode c ≡ moves.Grows m → Tallies old s → IsStacked old s → EndsNoLine 0 s.done → Takes old s c (Ok progress.Going) (in_mode (with_character old c) m)
+takes_grown old s c m move tallies stacked none =
+    (record { next = scanned s.done m (s.held ++ c ∷ []); goes = ap (moved s c) move; tallies = tallies_read old s c m tallies; stacked = stacked; one_line = none }, refl)
 
 class_closed : (m : Mode) → (m ≡ modes.Return → ⊥) → is_line_end_class (class_of m) ≡ false
 class_closed modes.Return other = absurd (other refl)
 class_closed m other = refl
 
 -- a character that closes a piece other than CR LF
-pub takes_closed : (old mid new : Scan) (s : Scanned) (read : List ℕ) (c : ℕ) → move_of s.mode c ≡ moves.Closes → (s.mode ≡ modes.Return → ⊥) → IsSound s read → Tallies old s → IsStacked old s → EndsNoLine 0 s.done → ReadsCharacter old c mid → Closes mid new → Takes old s c (Ok progress.Going) new
-takes_closed old mid new s read c move other sound tallies stacked none reads closes =
+pub takes_closed : (old new : Scan) (s : Scanned) (read : List ℕ) (c : ℕ) → move_of s.mode c ≡ moves.Closes → (s.mode ≡ modes.Return → ⊥) → IsSound s read → Tallies old s → IsStacked old s → EndsNoLine 0 s.done → Closes (with_character old c) new → Takes old s c (Ok progress.Going) new
+takes_closed old new s read c move other sound tallies stacked none closes =
     let p : Piece = piece (class_of s.mode) (s.held ++ c ∷ []) in
     let brackets = no_bracket s.mode (s.held ++ c ∷ []) (closing_token s.mode c move).0 in (
       record {
         next = fresh (s.done ++ p ∷ []);
         goes = ap (moved s c) move;
-        tallies = tallies_closed old mid new s read c move sound tallies reads closes;
-        stacked = keeps s.done p (stack_of old.brackets) brackets.0 brackets.1 stacked ∙ ap (λ b. Some (stack_of b)) (sym (closes.brackets ∙ reads.brackets));
+        tallies = tallies_closed old new s read c move sound tallies closes;
+        stacked = keeps s.done p (stack_of old.brackets) brackets.0 brackets.1 stacked ∙ ap (λ (x : Scan). Some (stack_of x.brackets)) (sym closes.same);
         one_line = EndsNoLine-push 0 s.done p none (ap (λ (b : Bool). b && (depth_through 0 s.done == 0)) (class_closed s.mode other));
       },
-      closes.line ∙ reads.line,
+      ap (λ (x : Scan). x.line) closes.same,
     )
 
 -- LF after CR
@@ -158,16 +148,16 @@ one_return c is = sym (ap (λ (d : ℕ). byte_len (d ∷ [])) (return_is c is) �
 both_ends : (held : List ℕ) (r c : ℕ) → held ≡ r ∷ [] → is_return r ≡ true → is_line_feed c ≡ true → 2 ≡ byte_len (held ++ c ∷ [])
 both_ends held r c is returns feeds = omega (arith, ap (λ t. byte_len (t ++ c ∷ [])) is, byte_len-append (r ∷ []) (c ∷ []), one_return r returns, one_feed c feeds)
 
-pub takes_ended : (old mid new : Scan) (done : List Piece) (held read : List ℕ) (c : ℕ) (p : Progress) → move_of modes.Return c ≡ moves.Closes → IsSound (scanned done modes.Return held) read → Tallies old (scanned done modes.Return held) → IsStacked old (scanned done modes.Return held) → EndsNoLine 0 done → ReadsCharacter old c mid → Closes mid new → p ≡ line_end_progress (none_open (stack_of new.brackets)) 2 → Takes old (scanned done modes.Return held) c (Ok p) new
-takes_ended old mid new done held read c p move sound tallies stacked none reads closes is =
-    let same : stack_of new.brackets ≡ stack_of old.brackets = ap stack_of (closes.brackets ∙ reads.brackets) in
+pub takes_ended : (old new : Scan) (done : List Piece) (held read : List ℕ) (c : ℕ) (p : Progress) → move_of modes.Return c ≡ moves.Closes → IsSound (scanned done modes.Return held) read → Tallies old (scanned done modes.Return held) → IsStacked old (scanned done modes.Return held) → EndsNoLine 0 done → Closes (with_character old c) new → p ≡ line_end_progress (none_open (stack_of new.brackets)) 2 → Takes old (scanned done modes.Return held) c (Ok p) new
+takes_ended old new done held read c p move sound tallies stacked none closes is =
+    let same : stack_of new.brackets ≡ stack_of old.brackets = ap (λ (x : Scan). stack_of x.brackets) closes.same in
     let s : Scanned = scanned done modes.Return held in
     subst (λ (q : Progress). Takes old s c (Ok q) new) (sym is)
-    (takes_end old new s c 2 done (held ++ c ∷ []) (stack_of old.brackets) (ap (moved s c) move) (tallies_closed old mid new s read c move sound tallies reads closes) stacked none (both_ends held sound.holds.0 c sound.holds.1 sound.holds.2 (return_feeds c move)) same (closes.line ∙ reads.line) (none_open (stack_of new.brackets)) (ap none_open (sym same)))
+    (takes_end old new s c 2 done (held ++ c ∷ []) (stack_of old.brackets) (ap (moved s c) move) (tallies_closed old new s read c move sound tallies closes) stacked none (both_ends held sound.holds.0 c sound.holds.1 sound.holds.2 (return_feeds c move)) same (ap (λ (x : Scan). x.line) closes.same) (none_open (stack_of new.brackets)) (ap none_open (sym same)))
 
-pub takes_returned : (old mid new : Scan) (done : List Piece) (m : Mode) (held read : List ℕ) (c : ℕ) (p : Progress) → is_return_mode m ≡ true → move_of m c ≡ moves.Closes → IsSound (scanned done m held) read → Tallies old (scanned done m held) → IsStacked old (scanned done m held) → EndsNoLine 0 done → ReadsCharacter old c mid → Closes mid new → p ≡ line_end_progress (none_open (stack_of new.brackets)) 2 → Takes old (scanned done m held) c (Ok p) new
-takes_returned old mid new done modes.Return held read c p returns move sound tallies stacked none reads closes is = takes_ended old mid new done held read c p move sound tallies stacked none reads closes is
-takes_returned old mid new done m held read c p returns move sound tallies stacked none reads closes is = absurd (both_ways _ refl returns)
+pub takes_returned : (old new : Scan) (done : List Piece) (m : Mode) (held read : List ℕ) (c : ℕ) (p : Progress) → is_return_mode m ≡ true → move_of m c ≡ moves.Closes → IsSound (scanned done m held) read → Tallies old (scanned done m held) → IsStacked old (scanned done m held) → EndsNoLine 0 done → Closes (with_character old c) new → p ≡ line_end_progress (none_open (stack_of new.brackets)) 2 → Takes old (scanned done m held) c (Ok p) new
+takes_returned old new done modes.Return held read c p returns move sound tallies stacked none closes is = takes_ended old new done held read c p move sound tallies stacked none closes is
+takes_returned old new done m held read c p returns move sound tallies stacked none closes is = absurd (both_ways _ refl returns)
 
 -- a character of its own after closed pieces
 tallies_standing : (mid new : Scan) (pieces : List Piece) (c : ℕ) (class : Class) (k : Option TokKind) (rest : List ℕ) → ((start stop line : ℕ) → tokens_of_piece start stop line class (c ∷ []) ≡ tokens_with k start stop line) → kind_of (pieces ++ piece class (c ∷ []) ∷ []) ≡ kind_through (kind_of pieces) k → space_len class (c ∷ []) ≡ 0 → is_mark_class class ≡ false → AreReadBefore pieces rest → Tallies mid (fresh pieces) → AddsPiece mid new c k → Tallies new (fresh (pieces ++ piece class (c ∷ []) ∷ []))
@@ -175,24 +165,31 @@ tallies_standing mid new pieces c class k rest token kinds no_space unmarked fit
     let p : Piece = piece class (c ∷ []) in
     let spells = spelled-push pieces class (c ∷ []) in
     let before : mid.stop ≡ byte_len (spelled pieces) = tallies.stop ∙ ap byte_len (append-nil (spelled pieces)) in
-    let stop : new.stop ≡ byte_len (spelled pieces ++ c ∷ []) = stands.stop ∙ ap (λ (n : ℕ). n + len_utf8 c) before ∙ sym (byte_len-push (spelled pieces) c) in
-    let counted = counted_push mid.line mid.count new.count (spelled pieces ++ []) c (record { here = tallies.here; after = tallies.after }) stands.count in
+    let stop : mid.stop + len_utf8 c ≡ byte_len (spelled pieces ++ c ∷ []) = ap (λ (n : ℕ). n + len_utf8 c) before ∙ sym (byte_len-push (spelled pieces) c) in
+    let counted = counted_push mid.line mid.count (spelled pieces ++ []) c (record { here = tallies.here; after = tallies.after }) in
     let whole : (spelled pieces ++ []) ++ c ∷ [] ≡ spelled (pieces ++ p ∷ []) = ap (λ t. t ++ c ∷ []) (append-nil (spelled pieces)) ∙ sym spells in
-    let here : new.count.line ≡ new.line + line_ends (spelled (pieces ++ p ∷ [])) = counted.here ∙ ap (λ t. mid.line + line_ends t) whole ∙ ap (λ (n : ℕ). n + line_ends (spelled (pieces ++ p ∷ []))) (sym stands.line) in
-    let in_line : tokens_from 0 new.line (pieces ++ p ∷ []) ≡ tokens_from 0 mid.line pieces ++ tokens_of_piece (byte_len (spelled pieces)) (byte_len (spelled pieces) + len_utf8 c) (mid.line + line_ends (spelled pieces)) class (c ∷ [])
-    = rw stands.line (tokens_push mid.line pieces p rest fit ∙ rw (byte_len-one c) refl) in
-    record {
-      mode = stands.mode;
-      start = stands.start ∙ sym stands.stop ∙ stop ∙ ap byte_len (sym spells);
+    let here : (count_with mid.count c).line ≡ mid.line + line_ends (spelled (pieces ++ p ∷ [])) = counted.here ∙ ap (λ t. mid.line + line_ends t) whole in
+    let in_line : tokens_from 0 mid.line (pieces ++ p ∷ []) ≡ tokens_from 0 mid.line pieces ++ tokens_of_piece (byte_len (spelled pieces)) (byte_len (spelled pieces) + len_utf8 c) (mid.line + line_ends (spelled pieces)) class (c ∷ [])
+    = tokens_push mid.line pieces p rest fit ∙ rw (byte_len-one c) refl in
+    subst (λ (s : Scan). Tallies s (fresh (pieces ++ p ∷ []))) (sym stands.same) (record {
+      mode = refl;
+      start = stop ∙ ap byte_len (sym spells);
       stop = stop ∙ ap byte_len (sym spells ∙ sym (append-nil _));
-      piece_line = stands.piece_line ∙ here;
-      here = here ∙ ap (λ t. new.line + line_ends t) (sym (append-nil _));
+      piece_line = here;
+      here = here ∙ ap (λ t. mid.line + line_ends t) (sym (append-nil _));
       after = counted.after ∙ ap (ends is_return) (whole ∙ sym (append-nil _));
-      margin = stands.margin ∙ sym (margin_push pieces p unmarked);
-      indent = stands.indent ∙ tallies.indent ∙ sym (indent_other pieces p no_space);
-      kind = stands.kind ∙ ap (λ u. kind_through u k) tallies.kind ∙ sym kinds;
+      margin = sym (margin_push pieces p unmarked);
+      indent = tallies.indent ∙ sym (indent_other pieces p no_space);
+      kind = ap (λ u. kind_through u k) tallies.kind ∙ sym kinds;
       tokens = stands.tokens ∙ rw (tallies.tokens, tallies.start, before, tallies.piece_line) (ap (λ l. tokens_from 0 mid.line pieces ++ l) (sym (token _ _ _)) ∙ sym in_line);
-    }
+    })
+
+-- what stays the same where it follows the open piece
+adds_line : (old new : Scan) (c : ℕ) (k : Option TokKind) → ClosesAndAdds old c k new → new.line ≡ old.line
+adds_line old new c k adds = ap (λ (x : Scan). x.line) adds.stands.same ∙ ap (λ (x : Scan). x.line) adds.closes.same
+
+adds_stack : (old new : Scan) (c : ℕ) (k : Option TokKind) → ClosesAndAdds old c k new → stack_of new.brackets ≡ stack_of old.brackets
+adds_stack old new c k adds = ap (λ (x : Scan). stack_of x.brackets) adds.stands.same ∙ ap (λ (x : Scan). stack_of x.brackets) adds.closes.same
 
 -- CR outside brackets is no part of a line that goes on
 pub closed_one_line : (m : Mode) (done : List Piece) (held : List ℕ) (st : List Bracket) → brackets_of done ≡ Some st → EndsNoLine 0 done → (m ≡ modes.Return → none_open st ≡ false) → EndsNoLine 0 (closed m done held)
@@ -241,25 +238,25 @@ module _ (old new : Scan) (done : List Piece) (m : Mode) (held read : List ℕ) 
         record {
           next = scanned (closed m done held) n (c ∷ []);
           goes = goes_as (starts.Open n) starts_as;
-          tallies = tallies_read opens.mid opens.read (fresh (closed m done held)) c n shut opens.reads;
-          stacked = closed_stack ∙ ap (λ b. Some (stack_of b)) (sym (opens.reads.brackets ∙ opens.closes.brackets));
+          tallies = tallies_read opens.mid (fresh (closed m done held)) c n shut;
+          stacked = closed_stack ∙ ap (λ (x : Scan). Some (stack_of x.brackets)) (sym opens.closes.same);
           one_line = closed_line;
         },
-        opens.reads.line ∙ opens.closes.line,
+        ap (λ (x : Scan). x.line) opens.closes.same,
       )
 
   takes_operator : (r : Result Progress AllocError) → start_of c ≡ starts.Operator → Operates old c r new → Takes old (scanned done m held) c r new
   takes_operator (Ok progress.Going) starts_as (met, is, behind) =
       let fit = AreReadBefore-first (closed m done held) (piece operator (c ∷ []) ∷ []) [] ((next_sound starts.Operator starts_as).fit []) in
-      let shut = closes_shut (with_brackets old met) behind.mid done m held read behind.closes sound (other_brackets old met (scanned done m held) tallies) in (
+      let shut = closes_shut (with_brackets old met) behind.mid done m held read behind.closes sound (tallies_in old (scanned done m held) old.piece.mode m met tallies.mode tallies) in (
         record {
           next = fresh (closed m done held ++ piece operator (c ∷ []) ∷ []);
           goes = goes_as starts.Operator starts_as;
           tallies = tallies_standing behind.mid new (closed m done held) c operator (Some (kind.Op c)) _ (λ a b l. refl) (kind_operator (closed m done held) (c ∷ []) c) refl refl fit shut behind.stands;
-          stacked = operator_stack ∙ is ∙ ap (λ b. Some (stack_of b)) (sym (behind.stands.brackets ∙ behind.closes.brackets));
+          stacked = operator_stack ∙ is ∙ ap Some (sym (adds_stack (with_brackets old met) new c (Some (kind.Op c)) behind));
           one_line = EndsNoLine-push 0 (closed m done held) (piece operator (c ∷ [])) closed_line refl;
         },
-        behind.stands.line ∙ behind.closes.line,
+        adds_line (with_brackets old met) new c (Some (kind.Op c)) behind,
       )
   takes_operator (Ok (progress.LineEnded len)) starts_as never = absurd never
   takes_operator (Ok progress.Refused) starts_as (is, same) = (ap stack_if (goes_as starts.Operator starts_as) ∙ operator_stack ∙ is, same)
@@ -274,7 +271,7 @@ module _ (old new : Scan) (done : List Piece) (m : Mode) (held read : List ℕ) 
       subst P (sym is)
       (takes_end old new (scanned done m held) c 1 (closed m done held) (c ∷ []) (stack_of old.brackets) (goes_as starts.LineEnd starts_as)
       (tallies_standing behind.mid new (closed m done held) c line_end None _ (λ a b l. refl) (kind_line_end (closed m done held) (c ∷ [])) refl refl fit shut behind.stands)
-      closed_stack closed_line (one_feed c feeds) (ap stack_of (behind.stands.brackets ∙ behind.closes.brackets)) (behind.stands.line ∙ behind.closes.line) (none_open (stack_of old.brackets)) refl)
+      closed_stack closed_line (one_feed c feeds) (adds_stack old new c None behind) (adds_line old new c None behind) (none_open (stack_of old.brackets)) refl)
 
   takes_start : (st : Start) (r : Result Progress AllocError) → start_of c ≡ st → Begins old c st r new → Takes old (scanned done m held) c r new
   takes_start (starts.Open n) r starts_as (is, opens) =

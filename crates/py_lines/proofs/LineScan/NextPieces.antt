@@ -1,10 +1,9 @@
 -- What the scan comes to after one more piece.
-use Rattle.std.proofs.Common.{◌≡◌, ℕ, ◌+◌, ◌≤◌, Bool, true, false, not, ◌&&◌, Ok, List, [], ◌∷◌, ◌++◌, length, drop, refl, sym, ap, ◌∙◌, subst, arith, ⊎_elim, lit<}
+use Rattle.std.proofs.Common.{◌≡◌, ℕ, ◌≤◌, Bool, true, false, not, ◌&&◌, Ok, List, [], ◌∷◌, ◌++◌, length, drop, refl, sym, ap, ◌∙◌, subst, arith, ⊎_elim, lit<}
 use Rattle.std.specs.Prelude.{encode_utf8}
 use Rattle.std.proofs.lemmas.Bool.{and_right, both_ways}
-use Rattle.std.proofs.lemmas.Str.{encode_ascii}
+use Rattle.std.proofs.lemmas.Str.{encode_ascii, len_utf8_ascii}
 use Rattle.py_lines.specs.Character.{is_space, is_line_feed, is_return}
-use Rattle.py_lines.specs.declared.count.Count.{Count}
 use Rattle.py_lines.specs.declared.mode.Mode.TheVariants as modes
 use Rattle.py_lines.specs.declared.mode.Start.{Start}
 use Rattle.py_lines.specs.declared.mode.Start.TheVariants as starts
@@ -13,7 +12,7 @@ use Rattle.py_lines.specs.declared.scan.Progress.TheVariants as progress
 use Rattle.py_lines.specs.declared.scan.Scan.{Scan}
 use Rattle.py_lines.specs.declared.scan.Stop.TheVariants as stops
 use Rattle.py_lines.specs.declared.whole_pieces.Taken.TheVariants as taken
-use Rattle.py_lines.specs.Private.Scan.{Begins, Counts, counts_after, is_returned}
+use Rattle.py_lines.specs.Private.Scan.{Begins, counts_after, is_returned}
 use Rattle.py_lines.specs.Private.Run.{BeginsWithFeed, Reached, TakesLineFeed, TakesPiece, is_free, is_ascii_word, follows, may_begin, space_mode, word_mode}
 use Rattle.py_lines.proofs.Machine.Starts.{start-feed}
 use Rattle.py_lines.proofs.Text.CharacterTests.{feed_is, feed_from}
@@ -82,18 +81,15 @@ unfolding counts_after is_return is_line_feed
 one_line true = omega arith
 one_line false = omega arith
 
-feed_counts : (old new : Count) → Counts old 10 new → new.line ≤ old.line + 1
-feed_counts old new counts = omega (arith, counts.line, one_line old.after_return)
-
 feed_far : (old new : Scan) (bytes : List ℕ) (len : ℕ) → BeginsWithFeed bytes → TakesLineFeed old (taken.Bytes len) new → Goes old bytes len new
 feed_far old new bytes len feeds (one, begun) =
     let adds = begun.1 in
     let spell : (10 ∷ []) ++ drop 1 bytes ≡ bytes = feed_spell bytes feeds in
     record {
-      stop = omega (arith, one, adds.stands.stop, adds.closes.stop);
+      stop = omega (arith, one, len_utf8_ascii 10 (lit< tt), ap (λ (s : Scan). s.stop) adds.stands.same, ap (λ (s : Scan). s.stop) adds.closes.same);
       some = omega (arith, one);
       within = omega (arith, one, ap length spell);
-      lines = omega (arith, one, feed_counts adds.mid.count new.count adds.stands.count, ap (λ (k : Count). k.line) adds.closes.count);
+      lines = omega (arith, one, one_line adds.mid.count.after_return, ap (λ (s : Scan). s.count.line) adds.stands.same, ap (λ (s : Scan). s.count.line) adds.closes.same);
     }
 
 pub piece_far : (old new : Scan) (bytes : List ℕ) (len : ℕ) → TakesPiece old bytes (Ok (taken.Bytes len)) new → Goes old bytes len new

@@ -1,5 +1,5 @@
 -- The scan follows the machine where the open piece is closed.
-use Rattle.std.proofs.Common.{◌≡◌, ℕ, ◌+◌, ◌-◌, Bool, true, false, cond, ◌&&◌, ◌||◌, None, Some, List, [], ◌∷◌, ◌++◌, refl, sym, ap, ◌∙◌, append-nil, zero-add, arith}
+use Rattle.std.proofs.Common.{◌≡◌, ℕ, ◌+◌, ◌-◌, Bool, true, false, cond, ◌&&◌, ◌||◌, None, Some, List, [], ◌∷◌, ◌++◌, refl, sym, ap, ◌∙◌, append-nil, subst, zero-add, arith}
 use Rattle.std.specs.Prelude.{if◌then◌else◌}
 use Rattle.std.specs.List.{list_any}
 use Rattle.std.proofs.lemmas.List.Folds.{list_any-append}
@@ -18,7 +18,7 @@ use Rattle.py_lines.specs.declared.mode.Mode.{Mode}
 use Rattle.py_lines.specs.declared.mode.Mode.TheVariants as modes
 use Rattle.py_lines.specs.declared.scan.Scan.{Scan}
 use Rattle.py_lines.specs.Private.Machine.{fresh, class_of, closed, token_of, Holds, IsSound, brackets_of}
-use Rattle.py_lines.specs.Private.Scan.{kind_with, tokens_with, kind_closed, indent_closed, holds_nothing, is_margin, Closes, Tallies}
+use Rattle.py_lines.specs.Private.Scan.{kind_with, tokens_with, kind_closed, indent_closed, holds_nothing, is_margin, Closes, ClosesAndAdds, Tallies, freed, with_character}
 use Rattle.py_lines.proofs.Pieces.PieceLists.{piece, spelled-push}
 use Rattle.py_lines.proofs.Machine.WordTokens.{word_token}
 use Rattle.py_lines.proofs.Machine.PieceRuns.{scanned}
@@ -155,37 +155,37 @@ shut_as old new done m held rest closes fit tallies token starts other =
     let spells = spelled-push done (class_of m) held in
     let whole : spelled done ++ held ≡ spelled (done ++ piece (class_of m) held ∷ []) ++ [] = sym (append-nil _ ∙ spells) in
     let size : old.stop - old.piece.start ≡ byte_len held = omega (arith, tallies.start, tallies.stop, byte_len-append (spelled done) held) in
-    let in_line : tokens_from 0 new.line (done ++ piece (class_of m) held ∷ []) ≡ tokens_from 0 old.line done ++ tokens_of_piece (byte_len (spelled done)) (byte_len (spelled done ++ held)) (old.line + line_ends (spelled done)) (class_of m) held
-    = rw closes.line (tokens_push old.line done (piece (class_of m) held) rest fit ∙ rw (sym (byte_len-append (spelled done) held)) refl) in
-    record {
-      mode = closes.mode;
-      start = closes.start ∙ tallies.stop ∙ ap byte_len (sym spells);
-      stop = closes.stop ∙ tallies.stop ∙ ap byte_len whole;
-      piece_line = closes.piece_line ∙ tallies.here ∙ ap (λ t. old.line + line_ends t) (sym spells) ∙ ap (λ (n : ℕ). n + line_ends (spelled (done ++ piece (class_of m) held ∷ []))) (sym closes.line);
-      here = ap (λ k. k.line) closes.count ∙ tallies.here ∙ ap (λ t. old.line + line_ends t) whole ∙ ap (λ (n : ℕ). n + line_ends (spelled (done ++ piece (class_of m) held ∷ []) ++ [])) (sym closes.line);
-      after = ap (λ k. k.after_return) closes.count ∙ tallies.after ∙ ap (ends is_return) whole;
-      margin = closes.margin ∙ rw (tallies.margin, tallies.mode) (sym (margin_shut m done held starts other));
-      indent = closes.indent ∙ rw (size, tallies.indent, tallies.mode, tallies.margin) (sym (indent_shut m done held other));
-      kind = closes.kind ∙ rw (tallies.kind, tallies.mode) (sym (kind_shut done m held other));
+    let in_line : tokens_from 0 old.line (done ++ piece (class_of m) held ∷ []) ≡ tokens_from 0 old.line done ++ tokens_of_piece (byte_len (spelled done)) (byte_len (spelled done ++ held)) (old.line + line_ends (spelled done)) (class_of m) held
+    = tokens_push old.line done (piece (class_of m) held) rest fit ∙ rw (sym (byte_len-append (spelled done) held)) refl in
+    subst (λ (s : Scan). Tallies s (fresh (done ++ piece (class_of m) held ∷ []))) (sym closes.same) (record {
+      mode = refl;
+      start = tallies.stop ∙ ap byte_len (sym spells);
+      stop = tallies.stop ∙ ap byte_len whole;
+      piece_line = tallies.here ∙ ap (λ t. old.line + line_ends t) (sym spells);
+      here = tallies.here ∙ ap (λ t. old.line + line_ends t) whole;
+      after = tallies.after ∙ ap (ends is_return) whole;
+      margin = rw (tallies.margin, tallies.mode) (sym (margin_shut m done held starts other));
+      indent = rw (size, tallies.indent, tallies.mode, tallies.margin) (sym (indent_shut m done held other));
+      kind = rw (tallies.kind, tallies.mode) (sym (kind_shut done m held other));
       tokens = closes.tokens ∙ rw (tallies.tokens, tallies.mode, tallies.start, tallies.stop, tallies.piece_line) (ap (λ l. tokens_from 0 old.line done ++ l) (sym (token _ _ _)) ∙ sym in_line);
-    }
+    })
 
 -- nothing is open
 shut_nothing : (old new : Scan) (done : List Piece) (m : Mode) (held : List ℕ) → Closes old new → Tallies old (scanned done m held) → held ≡ [] → holds_nothing m ≡ true → token_of m ≡ None → kind_closed (kind_of done) m ≡ kind_of done → ((old size : ℕ) (b : Bool) → indent_closed old m b size ≡ old) → Tallies new (fresh done)
 shut_nothing old new done m held closes tallies none nothing token same indents =
     let whole : spelled done ++ held ≡ spelled done ++ [] = ap (λ t. spelled done ++ t) none in
-    record {
-      mode = closes.mode;
-      start = closes.start ∙ tallies.stop ∙ ap byte_len (whole ∙ append-nil _);
-      stop = closes.stop ∙ tallies.stop ∙ ap byte_len whole;
-      piece_line = closes.piece_line ∙ tallies.here ∙ ap (λ t. old.line + line_ends t) (whole ∙ append-nil _) ∙ ap (λ (n : ℕ). n + line_ends (spelled done)) (sym closes.line);
-      here = ap (λ k. k.line) closes.count ∙ tallies.here ∙ ap (λ t. old.line + line_ends t) whole ∙ ap (λ (n : ℕ). n + line_ends (spelled done ++ [])) (sym closes.line);
-      after = ap (λ k. k.after_return) closes.count ∙ tallies.after ∙ ap (ends is_return) whole;
-      margin = closes.margin ∙ rw (tallies.margin, tallies.mode, nothing) (all_true (is_margin done));
-      indent = closes.indent ∙ rw (tallies.indent, tallies.mode) (indents _ _ _);
-      kind = closes.kind ∙ rw (tallies.kind, tallies.mode) same;
-      tokens = closes.tokens ∙ rw (tallies.mode, token, closes.line) (append-nil _ ∙ tallies.tokens);
-    }
+    subst (λ (s : Scan). Tallies s (fresh done)) (sym closes.same) (record {
+      mode = refl;
+      start = tallies.stop ∙ ap byte_len (whole ∙ append-nil _);
+      stop = tallies.stop ∙ ap byte_len whole;
+      piece_line = tallies.here ∙ ap (λ t. old.line + line_ends t) (whole ∙ append-nil _);
+      here = tallies.here ∙ ap (λ t. old.line + line_ends t) whole;
+      after = tallies.after ∙ ap (ends is_return) whole;
+      margin = rw (tallies.margin, tallies.mode, nothing) (all_true (is_margin done));
+      indent = rw (tallies.indent, tallies.mode) (indents _ _ _);
+      kind = rw (tallies.kind, tallies.mode) same;
+      tokens = closes.tokens ∙ rw (tallies.mode, token) (append-nil _ ∙ tallies.tokens);
+    })
   where
     all_true : (b : Bool) → b && true ≡ b
     all_true true = refl
@@ -196,6 +196,10 @@ pub closes_shut : (old new : Scan) (done : List Piece) (m : Mode) (held read : L
 closes_shut old new done modes.Start held read closes sound tallies = shut_nothing old new done modes.Start held closes tallies sound.holds.1 refl refl refl (λ a b c. refl)
 closes_shut old new done modes.Free held read closes sound tallies = shut_nothing old new done modes.Free held closes tallies sound.holds refl refl refl (λ a b c. refl)
 closes_shut old new done m held read closes sound tallies = shut_as old new done m held (held ++ []) closes (sound.fit []) tallies (λ start stop line. class_token m done held start stop line sound.holds (λ e. cc)) (λ e. absurd (cc)) (λ e. cc)
+
+-- a line end that is one character stands after closed pieces
+pub feed_adds : (old mid new : Scan) (c : ℕ) → Closes old mid → new ≡ freed (record (with_character mid c) { margin = false }) → ClosesAndAdds old c None new
+feed_adds old mid new c closes is = subst (ClosesAndAdds old c None) (sym is) (record { mid = mid; closes = closes; stands = record { tokens = sym (append-nil mid.tokens.items); same = refl } })
 
 -- an operator makes code, and a line end leaves the kind
 pub kind_operator : (ps : List Piece) (text : List ℕ) (c : ℕ) → kind_of (ps ++ piece operator text ∷ []) ≡ kind_with (kind_of ps) (kind.Op c)

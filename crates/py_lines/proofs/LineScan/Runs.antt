@@ -19,7 +19,7 @@ use Rattle.py_lines.specs.declared.scan.Scan.{Scan}
 use Rattle.py_lines.specs.Piece.{Piece}
 use Rattle.py_lines.specs.Private.Machine.{Scanned, run_from, move_of, short_move, long_move, spelling_with, IsFull, Holds as HoldsOpen}
 use Rattle.py_lines.specs.Private.Scan.{Tallies, IsStacked, IsUnderWay, line_start, stack_of, counts_after}
-use Rattle.py_lines.specs.Private.Run.{IsRunOf, is_ascii_word, is_body_byte, stays, ReadsRun, Holds, HasAsciiQuote, Reached}
+use Rattle.py_lines.specs.Private.Run.{IsRunOf, is_ascii_word, is_body_byte, stays, Holds, with_bytes, HasAsciiQuote, Reached}
 use Rattle.unicode_ident.proofs.IdentLemmas.{is_xid_continue-ascii, is_xid_start-ascii}
 use Rattle.py_lines.specs.Character.{is_one_of}
 use Rattle.std.specs.Prelude.{codes, nat_le}
@@ -36,7 +36,6 @@ use Rattle.std.proofs.Common.{Ok}
 use Rattle.py_lines.proofs.Text.Utf8Prefixes.{all_scalars-append, scalars_more, spell_more}
 use Rattle.py_lines.specs.Private.Machine.{IsSound}
 use Rattle.py_lines.proofs.LogicalLines.Cuts.{byte_len-append}
-use Rattle.py_lines.specs.LogicalLine.{tokens_from}
 use Rattle.py_lines.proofs.Machine.PieceRuns.{scanned, run_from-append, grown, longer, all_held}
 
 -- a byte of words continues a word
@@ -204,13 +203,13 @@ none_from [] none = refl
 none_from (c ∷ cs) none = absurd (omega (arith, none, length-append (encode_utf8 c) (encode_utf8_all cs), length-encode c, len_utf8_bounds c))
 
 -- a run was read, or none
-pub holds_run : (old new : Scan) (text : List ℕ) (n : ℕ) → HeldIn old.piece.mode text n → ((0 < n) × ((run : List ℕ) → byte_len run ≡ n → ReadsRun old run new)) ⊎ ((n ≤ 0) × (new ≡ old)) → Holds old text (drop n text) new
+pub holds_run : (old new : Scan) (text : List ℕ) (n : ℕ) → HeldIn old.piece.mode text n → ((0 < n) × (new ≡ with_bytes old n)) ⊎ ((n ≤ 0) × (new ≡ old)) → Holds old text (drop n text) new
 holds_run old new text n held how = record {
   run = held.run;
   spell = held.spell;
   scalars = held.scalars;
   stay = held.stay;
-  reads = ⊎_elim (λ some. inr (full_from held.run (omega (arith, held.size, some.0)), some.1 held.run held.size)) (λ none. inl (none_from held.run (omega (arith, held.size, none.0)), none.1)) how;
+  reads = ⊎_elim (λ some. inr (full_from held.run (omega (arith, held.size, some.0)), some.1 ∙ ap (with_bytes old) (sym held.size))) (λ none. inl (none_from held.run (omega (arith, held.size, none.0)), none.1)) how;
 }
 
 -- no line ends in a run
@@ -248,20 +247,20 @@ all_no_break m (c ∷ cs) all =
     and_from (not (is_break c)) (list_all (λ d. not (is_break d)) cs) (ap not (stays-no_break m c parts.0)) (all_no_break m cs parts.1)
 
 -- the scan keeps count over a run
-pub tallies_run : (old new : Scan) (s : Scanned) (run : List ℕ) → list_all (λ d. not (is_break d)) run ≡ true → IsFull run → Tallies old s → ReadsRun old run new → Tallies new (scanned s.done s.mode (s.held ++ run))
-tallies_run old new s run all full tallies reads =
+pub tallies_run : (old : Scan) (s : Scanned) (run : List ℕ) → list_all (λ d. not (is_break d)) run ≡ true → IsFull run → Tallies old s → Tallies (with_bytes old (byte_len run)) (scanned s.done s.mode (s.held ++ run))
+tallies_run old s run all full tallies =
     let longer : (spelled s.done ++ s.held) ++ run ≡ spelled s.done ++ (s.held ++ run) = append_assoc (spelled s.done) s.held run in
     record {
-      mode = reads.mode ∙ tallies.mode;
-      start = reads.start ∙ tallies.start;
-      stop = reads.stop ∙ ap (λ (n : ℕ). n + byte_len run) tallies.stop ∙ sym (byte_len-append (spelled s.done ++ s.held) run) ∙ ap byte_len longer;
-      piece_line = reads.piece_line ∙ tallies.piece_line ∙ ap (λ (n : ℕ). n + line_ends (spelled s.done)) (sym reads.line);
-      here = reads.here ∙ tallies.here ∙ ap (λ (n : ℕ). old.line + n) (sym (line_ends-run (spelled s.done ++ s.held) run all) ∙ ap line_ends longer) ∙ ap (λ (n : ℕ). n + line_ends (spelled s.done ++ (s.held ++ run))) (sym reads.line);
-      after = reads.after ∙ sym (ends-run (spelled s.done ++ s.held) run full all) ∙ ap (ends is_return) longer;
-      margin = reads.margin ∙ tallies.margin;
-      indent = reads.indent ∙ tallies.indent;
-      kind = reads.kind ∙ tallies.kind;
-      tokens = ap (λ v. v.items) reads.tokens ∙ tallies.tokens ∙ ap (λ (n : ℕ). tokens_from 0 n s.done) (sym reads.line);
+      mode = tallies.mode;
+      start = tallies.start;
+      stop = ap (λ (n : ℕ). n + byte_len run) tallies.stop ∙ sym (byte_len-append (spelled s.done ++ s.held) run) ∙ ap byte_len longer;
+      piece_line = tallies.piece_line;
+      here = tallies.here ∙ ap (λ (n : ℕ). old.line + n) (sym (line_ends-run (spelled s.done ++ s.held) run all) ∙ ap line_ends longer);
+      after = sym (ends-run (spelled s.done ++ s.held) run full all) ∙ ap (ends is_return) longer;
+      margin = tallies.margin;
+      indent = tallies.indent;
+      kind = tallies.kind;
+      tokens = tallies.tokens;
     }
 
 -- and follows the machine
@@ -280,8 +279,8 @@ way_held m old new read text rest way holds =
     record {
       state = scanned way.state.done way.state.mode (way.state.held ++ holds.run);
       runs = run_from-append (Some (line_start m)) read holds.run ∙ ap (λ o. run_from o holds.run) way.runs ∙ held_run way.state.done way.state.mode way.state.held holds.run all;
-      tallies = tallies_run old new way.state holds.run (all_no_break way.state.mode holds.run all) some.0 way.tallies some.1;
-      stacked = way.stacked ∙ ap (λ b. Some (stack_of b)) (sym some.1.brackets);
+      tallies = subst (λ (n : Scan). Tallies n (scanned way.state.done way.state.mode (way.state.held ++ holds.run))) (sym some.1) (tallies_run old way.state holds.run (all_no_break way.state.mode holds.run all) some.0 way.tallies);
+      stacked = way.stacked ∙ ap (λ (n : Scan). Some (stack_of n.brackets)) (sym some.1);
       one_line = way.one_line;
     }) holds.reads
 
@@ -292,7 +291,7 @@ reached_run m at text old new mid rest r holds = record {
   way = way_held m old new r.read mid rest r.way holds;
   spell = ap (λ t. t ++ rest) (encodes-append r.read holds.run) ∙ append_assoc (encode_utf8_all r.read) (encode_utf8_all holds.run) rest ∙ ap (λ t. encode_utf8_all r.read ++ t) holds.spell ∙ r.spell;
   scalars = all_scalars-append r.read holds.run r.scalars holds.scalars;
-  line = ⊎_elim (λ none. ap (λ (s : Scan). s.line) none.1) (λ some. some.1.line) holds.reads ∙ r.line;
+  line = ⊎_elim (λ none. ap (λ (s : Scan). s.line) none.1) (λ some. ap (λ (s : Scan). s.line) some.1) holds.reads ∙ r.line;
 }
 
 -- the mode's quote is one byte on the way

@@ -3,7 +3,7 @@ use Rattle.std.proofs.Common.{◌≡◌, ℕ, zero, suc, ◌+◌, ◌-◌, ◌<�
 use Rattle.std.specs.Prelude.{encode_utf8_all, encode_utf8, codes, nat_lt}
 use Rattle.std.specs.Str.{all_scalars}
 use Rattle.std.specs.List.{list_all}
-use Rattle.std.specs.Char.{is_ascii_digit, len_utf8, IsScalar}
+use Rattle.std.specs.Char.{is_ascii_digit, IsScalar}
 use Rattle.std.proofs.lemmas.Bool.{and_parts, and_from, and_right, or_cases, both_ways, eq-eqb}
 use Rattle.std.proofs.lemmas.Bool.Decides.{nat_tests}
 use Rattle.std.proofs.lemmas.List.Folds.{list_all-append}
@@ -17,9 +17,9 @@ use Rattle.py_lines.proofs.Pieces.PieceLists.{piece}
 use Rattle.py_lines.specs.declared.brackets.Brackets.{Brackets}
 use Rattle.py_lines.specs.Piece.{operator, Piece, begins, ends}
 use Rattle.py_lines.specs.LogicalLine.{byte_len}
-use Rattle.py_lines.specs.declared.count.Count.{Count}
 use Rattle.py_lines.specs.declared.token.TokKind.{TokKind}
 use Rattle.py_lines.specs.declared.token.TokKind.TheVariants as kind
+use Rattle.py_lines.specs.declared.unit.UnitKind.TheVariants as unit_kind
 use Rattle.py_lines.specs.declared.mode.Spelling.{Spelling}
 use Rattle.py_lines.specs.declared.mode.Spelling.TheVariants as spellings
 use Rattle.py_lines.specs.declared.mode.Mode.{Mode}
@@ -30,15 +30,15 @@ use Rattle.py_lines.specs.declared.mode.Start.TheVariants as starts
 use Rattle.py_lines.specs.declared.scan.Progress.TheVariants as progress
 use Rattle.py_lines.specs.declared.scan.Scan.{Scan}
 use Rattle.py_lines.specs.Private.Machine.{fresh, closed, moved, started, run_from, token_of, move_of, start_of, short_move, first_spelling, spelling_with, spelling_on, is_prefix_spelling, IsFull, IsSound, Bracket, brackets_after}
-use Rattle.py_lines.specs.Private.Scan.{Closes, ReadsCharacter, Meets, Begins, ClosesAndAdds, Tallies, line_start, stack_of, none_open, is_return_mode, indent_closed, with_brackets, tokens_with, kind_through, kind_closed, holds_nothing, in_mode}
-use Rattle.py_lines.specs.Private.Run.{IsRunOf, is_ascii_word, may_stand, follows, is_free, word_spelling, word_mode, space_mode, opened, ReadsRun, AddsToken, TakesRun, TakesOperator, Reached, ReachedShut, is_apart, may_begin, is_text_byte, is_body_byte, TakesString}
+use Rattle.py_lines.specs.Private.Scan.{Closes, Meets, Begins, ClosesAndAdds, Tallies, line_start, stack_of, none_open, is_return_mode, indent_closed, with_brackets, tokens_with, kind_through, in_mode, counts_after, freed, closed_with, with_character}
+use Rattle.py_lines.specs.Private.Run.{IsRunOf, is_ascii_word, may_stand, follows, is_free, word_spelling, word_mode, space_mode, opened, with_bytes, AddsToken, TakesRun, TakesOperator, Reached, ReachedShut, is_apart, may_begin, is_text_byte, is_body_byte, TakesString}
 use Rattle.py_lines.proofs.Text.CharacterTests.{operator_ascii, none_of, the_one}
 use Rattle.py_lines.proofs.Machine.PieceRuns.{scanned, run_from-append, run_word, run_space, grown}
 use Rattle.py_lines.proofs.Machine.Starts.{start-word, start-space, start-operator, start-quote}
 use Rattle.py_lines.proofs.Machine.WordTokens.{word_token}
 use Rattle.py_lines.proofs.Machine.LiveTexts.{stack_closed}
 use Rattle.py_lines.proofs.LineScan.PieceEnd.{closes_shut, to_code}
-use Rattle.py_lines.proofs.LineScan.NextCharacter.{closed_one_line, takes_broken, takes_closed}
+use Rattle.py_lines.proofs.LineScan.NextCharacter.{closed_one_line, takes_broken, takes_closed, tallies_in}
 use Rattle.py_lines.proofs.LineScan.LineRun.{sound_run}
 use Rattle.py_lines.proofs.LineScan.Runs.{counts_none, break-return, stays-no_break, word_byte_low, word_byte_continues, word_byte_starts, space_low, break_low, quote_ascii, body_parts, held_run, tallies_run, reached_character}
 
@@ -86,21 +86,14 @@ spelling_push (b ∷ bs) c full = go (first_spelling b) bs
     go s [] = refl
     go s (x ∷ xs) = go (spelling_with s x) xs
 
--- a token closes an open word
-pub token_closes : (old new : Scan) (s : Spelling) (k : TokKind) (len : ℕ) → token_of (modes.Word s) ≡ Some k → (k ≡ kind.Remark → ⊥) → AddsToken old k len new → Closes (opened old (modes.Word s) len) new
-token_closes old new s k len token other adds = record {
-  tokens = adds.tokens ∙ ap (λ o. old.tokens.items ++ tokens_with o old.stop (old.stop + len) old.count.line) (sym token);
-  kind = adds.kind ∙ sym (ap (λ o. kind_through old.kind o) token ∙ to_code old.kind k other);
-  indent = adds.indent;
-  margin = adds.margin ∙ sym (and_right old.margin false refl);
-  mode = adds.mode;
-  start = adds.start;
-  stop = adds.stop;
-  piece_line = adds.piece_line;
-  line = adds.line;
-  count = λ i. record { line = adds.here i; after_return = adds.after i };
-  brackets = adds.brackets;
-}
+-- a token closes the open piece that it is
+pub token_closes : (old new : Scan) (m : Mode) (k : TokKind) (len : ℕ) → closed_with (opened old m len) new.tokens ≡ record (freed (with_bytes old len)) { margin = old.margin && false; kind = kind_through old.kind (token_of m); tokens = new.tokens } → token_of m ≡ Some k → (k ≡ kind.Remark → ⊥) → AddsToken old k len new → Closes (opened old m len) new
+token_closes old new m k len closed token other adds =
+    let code : unit_kind.Code ≡ kind_through old.kind (token_of m) = sym (ap (λ o. kind_through old.kind o) token ∙ to_code old.kind k other) in
+    record {
+      tokens = adds.tokens ∙ ap (λ o. old.tokens.items ++ tokens_with o old.stop (old.stop + len) old.count.line) (sym token);
+      same = adds.same ∙ (λ i. record (freed (with_bytes old len)) { margin = sym (and_right old.margin false refl) i; kind = code i; tokens = new.tokens }) ∙ sym closed;
+    }
 
 -- an open space is closed
 pub space_closes : (old : Scan) (len : ℕ) (indent : ℕ) → indent ≡ indent_closed old.indent modes.Space old.margin len → Closes (opened old modes.Space len) (record (opened old modes.Space len) { piece = record { mode = modes.Free; start = old.stop + len; line = old.count.line }; margin = false; indent = indent })
@@ -108,16 +101,10 @@ space_closes old len indent is =
     let size : (old.stop + len) - old.stop ≡ len = omega arith in
     record {
       tokens = sym (append-nil old.tokens.items);
-      kind = refl;
-      indent = is ∙ ap (λ (n : ℕ). indent_closed old.indent modes.Space old.margin n) (sym size);
-      margin = sym (and_right old.margin false refl);
-      mode = refl;
-      start = refl;
-      stop = refl;
-      piece_line = refl;
-      line = refl;
-      count = refl;
-      brackets = refl;
+      same = λ i. record (freed (with_bytes old len)) {
+        margin = sym (and_right old.margin false refl) i;
+        indent = (is ∙ ap (λ (n : ℕ). indent_closed old.indent modes.Space old.margin n) (sym size)) i;
+      };
     }
 
 -- the run that a piece is made of
@@ -156,7 +143,7 @@ takes_word old new bytes len digit is some next digits adds =
     let full = (run_of is_ascii_word bytes len is some).full in
     let token : token_of (word_mode (take len bytes)) ≡ Some (cond digit kind.Number kind.Name)
     = word_kind (take len bytes) full ∙ ap (λ (b : Bool). Some (cond b kind.Number kind.Name)) (begin_take is_digit bytes len full ∙ sym (digit_same (slice_index bytes 0)) ∙ digits) in
-    takes_run is_ascii_word follows word_mode old bytes len new is some (inr (token_closes old new (word_spelling (take len bytes)) (cond digit kind.Number kind.Name) len token (no_remark digit) adds, next))
+    takes_run is_ascii_word follows word_mode old bytes len new is some (inr (token_closes old new (word_mode (take len bytes)) (cond digit kind.Number kind.Name) len refl token (no_remark digit) adds, next))
   where
     no_remark : (b : Bool) → cond b kind.Number kind.Name ≡ kind.Remark → ⊥
     no_remark true e = cc
@@ -182,19 +169,11 @@ unfolding move_of
 free_breaks m c is = ap (λ n. move_of n c) is
 
 pub settles : (old : Scan) → old.piece.mode ≡ modes.Free → Closes old (settled old)
-settles old free = record {
-  tokens = sym (ap (λ m. old.tokens.items ++ tokens_with (token_of m) old.piece.start old.stop old.piece.line) free ∙ append-nil old.tokens.items);
-  kind = sym (ap (λ m. kind_closed old.kind m) free);
-  indent = sym (ap (λ m. indent_closed old.indent m old.margin (old.stop - old.piece.start)) free);
-  margin = sym (ap (λ m. old.margin && holds_nothing m) free ∙ and_true old.margin);
-  mode = free;
-  start = refl;
-  stop = refl;
-  piece_line = refl;
-  line = refl;
-  count = refl;
-  brackets = refl;
-}
+settles old free =
+    subst (λ (m : Mode). Closes (in_mode old m) (settled (in_mode old m))) (sym free) (record {
+      tokens = sym (append-nil old.tokens.items);
+      same = ap (λ (b : Bool). record (freed old) { margin = b }) (sym (and_true old.margin));
+    })
   where
     and_true : (b : Bool) → b && true ≡ b
     and_true true = refl
@@ -221,19 +200,7 @@ meets m at text scan c rest free r =
     (λ shut. record {
       unshut = r.unshut;
       reached = r.reached;
-      closes = record {
-        tokens = shut.closes.tokens;
-        kind = shut.closes.kind;
-        indent = shut.closes.indent;
-        margin = shut.closes.margin;
-        mode = shut.closes.mode;
-        start = shut.closes.stop;
-        stop = shut.closes.stop;
-        piece_line = ap (λ (k : Count). k.line) shut.closes.count;
-        line = shut.closes.line;
-        count = shut.closes.count;
-        brackets = shut.closes.brackets;
-      };
+      closes = record { tokens = shut.closes.tokens; same = ap settled shut.closes.same };
       breaks = shut.breaks c rest refl;
       unreturned = shut.unreturned;
     }) r.how
@@ -255,21 +222,8 @@ opens_reached m at text scan c cs after first last meet start opens runs all low
     let breaks : move_of s.mode c ≡ moves.Breaks = ap (λ n. move_of n c) (sym way.tallies.mode) ∙ meet.breaks in
     let shut : Tallies (settled scan) (fresh pieces) = closes_shut meet.unshut (settled scan) s.done s.mode s.held read meet.closes sound way.tallies in
     let size : byte_len (c ∷ cs) ≡ length (c ∷ cs) = ap length low.0 in
-    let reads : ReadsRun (settled scan) (c ∷ cs) (in_mode (opened scan last (length (c ∷ cs))) scan.piece.mode) = record {
-      stop = ap (λ (n : ℕ). scan.stop + n) (sym size);
-      here = refl;
-      after = refl;
-      mode = refl;
-      start = refl;
-      piece_line = refl;
-      line = refl;
-      margin = refl;
-      indent = refl;
-      kind = refl;
-      tokens = refl;
-      brackets = refl;
-    } in
-    let found = tallies_run (settled scan) (in_mode (opened scan last (length (c ∷ cs))) scan.piece.mode) (fresh pieces) (c ∷ cs) all tt shut reads in
+    let read_all : Tallies (with_bytes (settled scan) (length (c ∷ cs))) (scanned pieces modes.Free (c ∷ cs))
+    = subst (λ (n : ℕ). Tallies (with_bytes (settled scan) n) (scanned pieces modes.Free (c ∷ cs))) size (tallies_run (settled scan) (fresh pieces) (c ∷ cs) all tt shut) in
     let stepped : run_from (Some (line_start m)) (read ++ c ∷ cs) ≡ Some (scanned pieces last (c ∷ cs))
     = run_from-append (Some (line_start m)) read (c ∷ cs) ∙ ap (λ o. run_from o (c ∷ cs)) way.runs
     ∙ ap (λ v. run_from (moved s c v) cs) breaks ∙ ap (λ st. run_from (started pieces c st) cs) opens ∙ runs pieces in
@@ -278,24 +232,13 @@ opens_reached m at text scan c cs after first last meet start opens runs all low
       way = record {
         state = scanned pieces last (c ∷ cs);
         runs = stepped;
-        tallies = record {
-          mode = refl;
-          start = found.start;
-          stop = found.stop;
-          piece_line = found.piece_line;
-          here = found.here;
-          after = found.after;
-          margin = found.margin;
-          indent = found.indent;
-          kind = found.kind;
-          tokens = found.tokens;
-        };
-        stacked = stack_closed s.mode s.done s.held (stack_of meet.unshut.brackets) way.stacked ∙ ap (λ b. Some (stack_of b)) (sym meet.closes.brackets);
+        tallies = tallies_in (with_bytes (settled scan) (length (c ∷ cs))) (scanned pieces modes.Free (c ∷ cs)) last last scan.brackets refl read_all;
+        stacked = stack_closed s.mode s.done s.held (stack_of meet.unshut.brackets) way.stacked ∙ ap (λ (x : Scan). Some (stack_of x.brackets)) (sym meet.closes.same);
         one_line = closed_one_line s.mode s.done s.held (stack_of meet.unshut.brackets) way.stacked way.one_line (λ is. absurd (both_ways _ meet.unreturned (ap is_return_mode (way.tallies.mode ∙ is))));
       };
       spell = ap (λ t. t ++ after) (encodes-append read (c ∷ cs)) ∙ append_assoc (encode_utf8_all read) (encode_utf8_all (c ∷ cs)) after ∙ ap (λ t. encode_utf8_all read ++ (t ++ after)) low.0 ∙ meet.reached.spell;
       scalars = all_scalars-append read (c ∷ cs) meet.reached.scalars low.1;
-      line = meet.closes.line ∙ meet.reached.line;
+      line = ap (λ (x : Scan). x.line) meet.closes.same ∙ meet.reached.line;
     }
 
 begins_wider : (p q : ℕ → Bool) → ((c : ℕ) → p c ≡ true → q c ≡ true) → (bytes : List ℕ) → begins p bytes ≡ true → begins q bytes ≡ true
@@ -316,7 +259,7 @@ run_reached passes next wider mode_of low whole first starts_as runs stops unret
         closes = shut.0;
         breaks = λ d more is. stops (c ∷ cs) d (stack_of scan.brackets) (sym (ap (begins passes) is) ∙ ends) (sym (ap (begins (next (stack_of scan.brackets))) is) ∙ shut.1);
         unreturned = unreturned (c ∷ cs);
-        next = ap (λ b. begins (may_begin (stack_of b)) after) shut.0.brackets ∙ begins_wider (next (stack_of scan.brackets)) (may_begin (stack_of scan.brackets)) (wider (stack_of scan.brackets)) after shut.1;
+        next = ap (λ (x : Scan). begins (may_begin (stack_of x.brackets)) after) shut.0.same ∙ begins_wider (next (stack_of scan.brackets)) (may_begin (stack_of scan.brackets)) (wider (stack_of scan.brackets)) after shut.1;
       });
     }) how
 
@@ -410,40 +353,27 @@ operator-no_break : (c : ℕ) → is_operator c ≡ true → is_break c ≡ fals
 unfolding is_operator is_break
 operator-no_break c h = none_of is_break (codes "+-*/%@&|^~<>=!()[]{},:.;") c refl h
 
+-- a character of one byte, which ends no line
+one_byte : (old : Scan) (c : ℕ) → c < 128 → is_break c ≡ false → with_bytes old 1 ≡ with_character old c
+one_byte old c low none =
+    let size = len_utf8_ascii c low in
+    let line : old.count.line ≡ old.count.line + counts_after old.count.after_return c = omega (arith, counts_none old.count.after_return c none) in
+    λ i. record old { stop = old.stop + sym size i; count = record { line = line i; after_return = sym (break-return c none) i } }
+
 pub with_met : (before mid : Scan) (met : Brackets) → Closes before mid → Closes (with_brackets before met) (with_brackets mid met)
-with_met before mid met closes = record {
-  tokens = closes.tokens;
-  kind = closes.kind;
-  indent = closes.indent;
-  margin = closes.margin;
-  mode = closes.mode;
-  start = closes.start;
-  stop = closes.stop;
-  piece_line = closes.piece_line;
-  line = closes.line;
-  count = closes.count;
-  brackets = refl;
-}
+with_met before mid met closes = record { tokens = closes.tokens; same = ap (λ (s : Scan). with_brackets s met) closes.same }
 
 pub adds_operator : (before scan new : Scan) (met : Brackets) (c : ℕ) → is_operator c ≡ true → Closes before (settled scan) → AddsToken (with_brackets scan met) (kind.Op c) 1 new → ClosesAndAdds (with_brackets before met) c (Some (kind.Op c)) new
 adds_operator before scan new met c passes closes adds =
-    let size : len_utf8 c ≡ 1 = len_utf8_ascii c (operator_ascii c passes) in
-    let none = operator-no_break c passes in
+    let low = operator_ascii c passes in
+    let mid = with_brackets (settled scan) met in
     record {
-      mid = with_brackets (settled scan) met;
+      mid = mid;
       closes = with_met before (settled scan) met closes;
       stands = record {
-        mode = adds.mode;
-        start = adds.start ∙ ap (λ (n : ℕ). scan.stop + n) (sym size);
-        stop = adds.stop ∙ ap (λ (n : ℕ). scan.stop + n) (sym size);
-        count = record { line = adds.here ∙ omega (arith, counts_none scan.count.after_return c none); after = adds.after ∙ sym (break-return c none) };
-        piece_line = adds.piece_line ∙ sym adds.here;
-        line = adds.line;
-        margin = adds.margin;
-        indent = adds.indent;
-        kind = adds.kind ∙ sym (to_code scan.kind (kind.Op c) (λ e. cc));
-        tokens = adds.tokens ∙ ap (λ (n : ℕ). scan.tokens.items ++ record { kind = kind.Op c; start = scan.stop; stop = scan.stop + n; line = scan.count.line } ∷ []) (sym size);
-        brackets = adds.brackets;
+        tokens = adds.tokens ∙ ap (λ (n : ℕ). scan.tokens.items ++ record { kind = kind.Op c; start = scan.stop; stop = scan.stop + n; line = scan.count.line } ∷ []) (sym (len_utf8_ascii c low));
+        same = adds.same ∙ ap (λ (s : Scan). record (freed s) { margin = false; kind = unit_kind.Code; tokens = new.tokens }) (one_byte mid c low (operator-no_break c passes))
+            ∙ ap (λ u. record (freed (with_character mid c)) { margin = false; kind = u; tokens = new.tokens }) (sym (to_code scan.kind (kind.Op c) (λ e. cc)));
       };
     }
 
@@ -457,7 +387,7 @@ operator_reached m at text scan new bytes len free r start takes =
     let breaks : move_of s.mode c ≡ moves.Breaks = ap (λ n. move_of n c) (sym way.tallies.mode) ∙ meet.breaks in
     let not_yet : (is_return_mode before.piece.mode && none_open (stack_of before.brackets)) && not (is_line_feed c) ≡ false = ap (λ (b : Bool). (b && none_open (stack_of before.brackets)) && not (is_line_feed c)) meet.unreturned in
     let stands : brackets_after (stack_of before.brackets) before.stop (piece operator (c ∷ [])) ≡ Some (stack_of takes.met)
-    = ap (λ b. brackets_after (stack_of b) before.stop (piece operator (c ∷ []))) (sym meet.closes.brackets) ∙ ap (λ (n : ℕ). brackets_after (stack_of scan.brackets) n (piece operator (c ∷ []))) (sym meet.closes.stop) ∙ takes.stands in
+    = ap (λ (x : Scan). brackets_after (stack_of x.brackets) x.stop (piece operator (c ∷ []))) (sym meet.closes.same) ∙ takes.stands in
     let begins_so : Begins before c (start_of c) (Ok progress.Going) new = subst (λ (st : Start). Begins before c st (Ok progress.Going) new) (sym (start-operator c takes.passes))
     (takes.met, stands, adds_operator before scan new takes.met c takes.passes meet.closes takes.adds) in
     let took = takes_broken before new s.done s.mode s.held meet.reached.read c breaks (sound_run m meet.reached.read s start way.runs) way.one_line not_yet way.tallies way.stacked (Ok progress.Going) begins_so in
@@ -499,38 +429,10 @@ string_runs q (d ∷ ds) full all done =
     let parts = and_parts (is_text_byte q d) (list_all (is_text_byte q) ds) all in
     grown done (modes.Opened q) (modes.Inside q) (q ∷ []) d ds (opened_grows q d (text_body q d parts.0)) ∙ held_run done (modes.Inside q) (q ∷ d ∷ []) ds (list_all_more (is_text_byte q) (is_body_byte q) (text_body q) ds parts.1)
 
-string_closes : (old new : Scan) (q len : ℕ) → AddsToken old kind.Str len new → Closes (opened old (modes.Inside q) len) new
-string_closes old new q len adds = record {
-  tokens = adds.tokens;
-  kind = adds.kind ∙ sym (to_code old.kind kind.Str (λ e. cc));
-  indent = adds.indent;
-  margin = adds.margin ∙ sym (and_right old.margin false refl);
-  mode = adds.mode;
-  start = adds.start;
-  stop = adds.stop;
-  piece_line = adds.piece_line;
-  line = adds.line;
-  count = λ i. record { line = adds.here i; after_return = adds.after i };
-  brackets = adds.brackets;
-}
-
-quote_reads : (old : Scan) (q n : ℕ) → is_quote q ≡ true → ReadsCharacter (opened old (modes.Inside q) n) q (opened old (modes.Inside q) (n + 1))
+quote_reads : (old : Scan) (q n : ℕ) → is_quote q ≡ true → opened old (modes.Inside q) (n + 1) ≡ with_character (opened old (modes.Inside q) n) q
 quote_reads old q n quote =
-    let size : len_utf8 q ≡ 1 = len_utf8_ascii q (quote_ascii q quote) in
-    let none = quote-no_break q quote in
-    record {
-      stop = omega (arith, size);
-      count = record { line = omega (arith, counts_none false q none); after = sym (break-return q none) };
-      mode = refl;
-      start = refl;
-      piece_line = refl;
-      line = refl;
-      margin = refl;
-      indent = refl;
-      kind = refl;
-      tokens = refl;
-      brackets = refl;
-    }
+    let before = opened old (modes.Inside q) n in
+    ap (λ (k : ℕ). record before { stop = k }) (omega arith) ∙ one_byte before q (quote_ascii q quote) (quote-no_break q quote)
 
 inside_other : (m : Mode) (q : ℕ) → modes.Inside q ≡ m → m ≡ modes.Return → ⊥
 inside_other m q is returns = let clash = is ∙ returns in cc
@@ -547,8 +449,8 @@ string_reached m at text scan new bytes len free r start takes =
     let way = inside.way in
     let s = way.state in
     let size : n + 1 ≡ len = omega (arith, takes.size) in
-    let closes : Closes (opened scan (modes.Inside q) (n + 1)) new = subst (λ (k : ℕ). Closes (opened scan (modes.Inside q) k) new) (sym size) (string_closes scan new q len takes.adds) in
-    let took = takes_closed (opened scan (modes.Inside q) n) (opened scan (modes.Inside q) (n + 1)) new s inside.read q (ap (λ k. move_of k q) (sym way.tallies.mode) ∙ inside_closes q) (inside_other s.mode q way.tallies.mode) (sound_run m inside.read s start way.runs) way.tallies way.stacked way.one_line (quote_reads scan q n takes.quote) closes in
+    let closes : Closes (opened scan (modes.Inside q) (n + 1)) new = subst (λ (k : ℕ). Closes (opened scan (modes.Inside q) k) new) (sym size) (token_closes scan new (modes.Inside q) kind.Str len refl refl (λ e. cc) takes.adds) in
+    let took = takes_closed (opened scan (modes.Inside q) n) new s inside.read q (ap (λ k. move_of k q) (sym way.tallies.mode) ∙ inside_closes q) (inside_other s.mode q way.tallies.mode) (sound_run m inside.read s start way.runs) way.tallies way.stacked way.one_line (subst (λ (x : Scan). Closes x new) (quote_reads scan q n takes.quote) closes) in
     let spelled_so : q ∷ takes.after ≡ encode_utf8 q ++ takes.after = sym (ap (λ t. t ++ takes.after) (encode_ascii q (quote_ascii q takes.quote))) in
     let all_size : length (q ∷ run ++ q ∷ []) ≡ len = omega (arith, takes.size, length-append run (q ∷ [])) in
     let dropped : drop len bytes ≡ takes.after = ap (drop len) (sym takes.spell ∙ ap (λ t. q ∷ t) (sym (append_assoc run (q ∷ []) takes.after))) ∙ ap (λ (k : ℕ). drop k ((q ∷ run ++ q ∷ []) ++ takes.after)) (sym all_size) ∙ drop-append_seam (q ∷ run ++ q ∷ []) takes.after in
@@ -582,7 +484,7 @@ pub open_reached : (m : Mode) (at : ℕ) (text : List ℕ) (scan : Scan) (bytes 
 open_reached m at text scan bytes other r =
     ⊎_elim
     (λ same. subst (λ (s : Scan). Reached m at text s bytes) (sym same) r.reached)
-    (λ shut. absurd (both_ways _ other (ap is_free shut.closes.mode))) r.how
+    (λ shut. absurd (both_ways _ other (ap (λ (s : Scan). is_free s.piece.mode) shut.closes.same))) r.how
 
 pub shut_from : (m : Mode) (at : ℕ) (text : List ℕ) (scan : Scan) (bytes : List ℕ) → Reached m at text scan bytes → ReachedShut m at text scan bytes
 shut_from m at text scan bytes r = record { unshut = scan; reached = r; how = inl refl }
@@ -600,18 +502,18 @@ full_length (c ∷ cs) full = omega arith
 
 pub run_goes : (passes : ℕ → Bool) (next : List Bracket → ℕ → Bool) (mode_of : List ℕ → Mode) (old new : Scan) (bytes : List ℕ) (len : ℕ) → ((d : ℕ) → passes d ≡ true → d < 128) → TakesRun passes next mode_of old bytes len new → Goes old bytes len new
 run_goes passes next mode_of old new bytes len low takes = record {
-  stop = ⊎_elim (λ is. ap (λ (s : Scan). s.stop) is) (λ shut. shut.0.stop) takes.how;
+  stop = ⊎_elim (λ is. ap (λ (s : Scan). s.stop) is) (λ shut. ap (λ (s : Scan). s.stop) shut.0.same) takes.how;
   some = omega (arith, takes.size, full_length takes.run takes.full);
   within = omega (arith, takes.size, ap length takes.spell, length-append takes.run takes.after);
-  lines = ⊎_elim (λ (is : new ≡ opened old (mode_of takes.run) len). omega (arith, ap (λ (s : Scan). s.count.line) is)) (λ shut. omega (arith, ap (λ (k : Count). k.line) shut.0.count)) takes.how;
+  lines = ⊎_elim (λ (is : new ≡ opened old (mode_of takes.run) len). omega (arith, ap (λ (s : Scan). s.count.line) is)) (λ shut. omega (arith, ap (λ (s : Scan). s.count.line) shut.0.same)) takes.how;
 }
 
 pub operator_goes : (old new : Scan) (bytes : List ℕ) (len : ℕ) → TakesOperator old bytes len new → Goes old bytes len new
 operator_goes old new bytes len takes = record {
-  stop = takes.adds.stop ∙ ap (λ (n : ℕ). old.stop + n) takes.size;
+  stop = ap (λ (s : Scan). s.stop) takes.adds.same ∙ ap (λ (n : ℕ). old.stop + n) takes.size;
   some = omega (arith, takes.size);
   within = omega (arith, takes.size, ap length takes.spell, length-append (takes.c ∷ []) takes.after);
-  lines = omega (arith, takes.adds.here);
+  lines = omega (arith, ap (λ (s : Scan). s.count.line) takes.adds.same);
 }
 
 pub string_goes : (old new : Scan) (bytes : List ℕ) (len : ℕ) → TakesString old bytes len new → Goes old bytes len new
@@ -624,10 +526,10 @@ string_goes old new bytes len takes =
     let body_low = list_all_more (is_text_byte q) is_low (text_low q) run takes.all in
     let low = low_encodes is_low (q ∷ run ++ q ∷ []) low_is (and_from _ _ quote_low (list_all-append is_low run (q ∷ []) ∙ and_from _ _ body_low (and_from _ _ quote_low refl))) in
     record {
-      stop = takes.adds.stop;
+      stop = ap (λ (s : Scan). s.stop) takes.adds.same;
       some = omega (arith, takes.size);
       within = omega (arith, size, ap length spell, length-append (q ∷ run ++ q ∷ []) takes.after);
-      lines = omega (arith, takes.adds.here);
+      lines = omega (arith, ap (λ (s : Scan). s.count.line) takes.adds.same);
     }
 
 -- the byte that the bytes begin with

@@ -6,9 +6,8 @@ use Rattle.std.proofs.lemmas.Str.{encodes-append}
 use Rattle.py_lines.specs.Character.{is_digit}
 use Rattle.py_lines.specs.Piece.{Class, mark, space, word, string, operator, comment, join, line_end, Piece, begins, spelled}
 use Rattle.py_lines.specs.LogicalLine.{byte_len, line_ends, first_or_zero, tokens_of_piece, tokens_from, line_of}
-use Rattle.py_lines.specs.Words.{Word, word_in, words_of_piece, words_of, extent_of}
+use Rattle.py_lines.specs.Words.{word_in, words_of_piece, words_of, extent_of}
 use Rattle.py_lines.specs.declared.token.TokKind.TheVariants as kind
-use Rattle.py_lines.specs.declared.token.Token.{Token}
 
 slice_seam : (b x c : List ℕ) → slice_range (b ++ (x ++ c)) (length b) (length b + length x) ≡ x
 slice_seam b x c =

@@ -241,7 +241,7 @@ module _ (old : Source) (has : HasScanned old stops.TextEnd) where
       let some = some_text full in
       let sound = sound_run (first_mode old.state.place) has.scans.read s (start_sound old stops.TextEnd has) way.runs in
       let tallies = closes_shut old.state.scan mid.state.scan s.done s.mode s.held has.scans.read closes sound way.tallies in
-      continues old mid new stops.TextEnd has 0 (pieces_at s) (last_line mid.state.scan tallies empty some) bytes place fault characters closes.line gives
+      continues old mid new stops.TextEnd has 0 (pieces_at s) (last_line mid.state.scan tallies empty some) bytes place fault characters (ap (λ (s : Scan). s.line) closes.same) gives
       (λ lines sit.
       let j = joins old stops.TextEnd has lines sit.given way in
       let ended = ends_sound (spelled (here old stops.TextEnd has lines sit.given).given.first.pieces ++ has.scans.read) j.state j.runs.run (ap (λ (t : Scanned). is_final t.mode) (j.same some).0 ∙ final) in
@@ -253,4 +253,4 @@ module _ (old : Source) (has : HasScanned old stops.TextEnd) where
   few_lines_text mid closes =
       let way = has.scans.stops.0 in
       let sound = sound_run (first_mode old.state.place) has.scans.read way.state (start_sound old stops.TextEnd has) way.runs in
-      omega (arith, ap (λ k. k.line) closes.count, closes.stop, stop_size, way.tallies.here, ap line_ends sound.spell, line_ends-bytes has.scans.read, has.line, old.few_lines)
+      omega (arith, ap (λ (s : Scan). s.count.line) closes.same, ap (λ (s : Scan). s.stop) closes.same, stop_size, way.tallies.here, ap line_ends sound.spell, line_ends-bytes has.scans.read, has.line, old.few_lines)

@@ -9,7 +9,7 @@ use Rattle.py_lines.specs.LogicalLine.{byte_len}
 use Rattle.std.specs.declared.alloc.AllocError.{AllocError}
 use Rattle.py_lines.specs.Piece.{operator, begins}
 use Rattle.py_lines.specs.Private.Machine.{Bracket, IsSound, brackets_after, IsFull, first_spelling, spelling_on, move_of}
-use Rattle.py_lines.specs.Private.Scan.{Begins, Closes, IsUnderWay, ScansIn, line_start, stack_of, none_open, with_brackets, is_return_mode, stack_with}
+use Rattle.py_lines.specs.Private.Scan.{Begins, Closes, freed, IsUnderWay, ScansIn, line_start, stack_of, none_open, with_brackets, is_return_mode, stack_with}
 use Rattle.py_lines.specs.declared.brackets.Brackets.{Brackets}
 use Rattle.py_lines.specs.declared.token.Token.{Token}
 use Rattle.py_lines.specs.declared.token.TokKind.{TokKind}
@@ -91,20 +91,9 @@ HasAsciiQuote (modes.Inside q) = q < 128
 HasAsciiQuote (modes.Long q) = q < 128
 HasAsciiQuote other = Unit {0}
 
--- characters, none of which ends a line, were read
-pub record ReadsRun (old : Scan) (run : List ℕ) (new : Scan) : Type 0 where
-  pub stop : new.stop ≡ old.stop + byte_len run
-  pub here : new.count.line ≡ old.count.line
-  pub after : new.count.after_return ≡ false
-  pub mode : new.piece.mode ≡ old.piece.mode
-  pub start : new.piece.start ≡ old.piece.start
-  pub piece_line : new.piece.line ≡ old.piece.line
-  pub line : new.line ≡ old.line
-  pub margin : new.margin ≡ old.margin
-  pub indent : new.indent ≡ old.indent
-  pub kind : new.kind ≡ old.kind
-  pub tokens : new.tokens ≡ old.tokens
-  pub brackets : new.brackets ≡ old.brackets
+-- the scan with so many bytes more read, none of which ends a line
+abbrev pub with_bytes : Scan → ℕ → Scan
+with_bytes old len = record old { stop = old.stop + len; count = record { line = old.count.line; after_return = false } }
 
 -- some characters that the text begins with, and that leave the open piece as it is, were read; or none
 pub record Holds (old : Scan) (text rest : List ℕ) (new : Scan) : Type 0 where
@@ -112,7 +101,7 @@ pub record Holds (old : Scan) (text rest : List ℕ) (new : Scan) : Type 0 where
   pub spell : encode_utf8_all run ++ rest ≡ text
   pub scalars : all_scalars run ≡ true
   pub stay : list_all (stays old.piece.mode) run ≡ true
-  pub reads : ((run ≡ []) × (new ≡ old)) ⊎ (IsFull run × ReadsRun old run new)
+  pub reads : ((run ≡ []) × (new ≡ old)) ⊎ (IsFull run × (new ≡ with_bytes old (byte_len run)))
 
 -- a character that these bytes begin with
 pub record BeginsWith (bytes : List ℕ) (c : ℕ) : Type 0 where
@@ -186,11 +175,7 @@ space_mode run = modes.Space
 
 -- the scan with a piece of so many bytes open, after closed ones
 abbrev pub opened : Scan → Mode → ℕ → Scan
-opened old m len = record old {
-  piece = record { mode = m; start = old.stop; line = old.count.line };
-  stop = old.stop + len;
-  count = record { line = old.count.line; after_return = false };
-}
+opened old m len = record (with_bytes old len) { piece = record { mode = m; start = old.stop; line = old.count.line } }
 
 -- a token of so many bytes, where the scan stands
 abbrev pub token_at : Scan → TokKind → ℕ → Token
@@ -199,17 +184,7 @@ token_at scan k len = record { kind = k; start = scan.stop; stop = scan.stop + l
 -- a token of so many bytes came after closed pieces
 pub record AddsToken (old : Scan) (k : TokKind) (len : ℕ) (new : Scan) : Type 0 where
   pub tokens : new.tokens.items ≡ old.tokens.items ++ token_at old k len ∷ []
-  pub kind : new.kind ≡ unit_kind.Code
-  pub mode : new.piece.mode ≡ modes.Free
-  pub start : new.piece.start ≡ old.stop + len
-  pub stop : new.stop ≡ old.stop + len
-  pub piece_line : new.piece.line ≡ old.count.line
-  pub line : new.line ≡ old.line
-  pub here : new.count.line ≡ old.count.line
-  pub after : new.count.after_return ≡ false
-  pub margin : new.margin ≡ false
-  pub indent : new.indent ≡ old.indent
-  pub brackets : new.brackets ≡ old.brackets
+  pub same : new ≡ record (freed (with_bytes old len)) { margin = false; kind = unit_kind.Code; tokens = new.tokens }
 
 -- a piece that this run spells came after closed ones: it is open, or closed where what follows shows its end
 pub record TakesRun (passes : ℕ → Bool) (next : List Bracket → ℕ → Bool) (mode_of : List ℕ → Mode)

@@ -3,6 +3,7 @@ use Rattle.std.specs.Prelude.{◌≡◌, ℕ, ◌+◌, ◌-◌, ◌==◌, ◌&&�
 use Rattle.std.specs.Str.{all_scalars, StartsWithNoChar}
 use Rattle.std.specs.Char.{len_utf8, IsScalar}
 use Rattle.std.specs.declared.alloc.AllocError.{AllocError}
+use Rattle.std.specs.Global.{Vec}
 use Rattle.py_lines.specs.Character.{is_return, is_line_feed}
 use Rattle.py_lines.specs.Piece.{operator, line_end, Piece, ends, is_mark_class, spelled, begins}
 use Rattle.py_lines.specs.PieceGrammar.{AreReadBefore}
@@ -70,16 +71,7 @@ kind_with k other = unit_kind.Code
 -- the line has one more token
 pub record AddsTo (old : Scan) (token : Token) (new : Scan) : Type 0 where
   pub tokens : new.tokens.items ≡ old.tokens.items ++ token ∷ []
-  pub kind : new.kind ≡ kind_with old.kind token.kind
-  pub mode : new.piece.mode ≡ old.piece.mode
-  pub start : new.piece.start ≡ old.piece.start
-  pub stop : new.stop ≡ old.stop
-  pub piece_line : new.piece.line ≡ old.piece.line
-  pub line : new.line ≡ old.line
-  pub count : new.count ≡ old.count
-  pub margin : new.margin ≡ old.margin
-  pub indent : new.indent ≡ old.indent
-  pub brackets : new.brackets ≡ old.brackets
+  pub same : new ≡ record old { tokens = new.tokens; kind = kind_with old.kind token.kind }
 
 -- the open piece became a token of this kind
 abbrev pub Emits : Scan → TokKind → Scan → Type 0
@@ -116,56 +108,41 @@ abbrev pub indent_closed : ℕ → Mode → Bool → ℕ → ℕ
 indent_closed old modes.Space true size = size
 indent_closed old other margin size = old
 
--- the open piece is closed
-pub record Closes (old new : Scan) : Type 0 where
-  pub tokens : new.tokens.items ≡ old.tokens.items ++ tokens_with (token_of old.piece.mode) old.piece.start old.stop old.piece.line
-  pub kind : new.kind ≡ kind_closed old.kind old.piece.mode
-  pub indent : new.indent ≡ indent_closed old.indent old.piece.mode old.margin (old.stop - old.piece.start)
-  pub margin : new.margin ≡ old.margin && holds_nothing old.piece.mode
-  pub mode : new.piece.mode ≡ modes.Free
-  pub start : new.piece.start ≡ old.stop
-  pub stop : new.stop ≡ old.stop
-  pub piece_line : new.piece.line ≡ old.count.line
-  pub line : new.line ≡ old.line
-  pub count : new.count ≡ old.count
-  pub brackets : new.brackets ≡ old.brackets
-
 -- the scan with no piece open where it stops
 abbrev pub freed : Scan → Scan
 freed old = record old { piece = record { mode = modes.Free; start = old.stop; line = old.count.line } }
 
--- the count of lines after one more character
-pub record Counts (old : Count) (c : ℕ) (new : Count) : Type 0 where
-  pub line : new.line ≡ old.line + counts_after old.after_return c
-  pub after : new.after_return ≡ is_return c
+-- the scan with the open piece closed, where the line's tokens are these
+abbrev pub closed_with : Scan → Vec Token → Scan
+closed_with old tokens = record (freed old) {
+  tokens = tokens;
+  kind = kind_closed old.kind old.piece.mode;
+  indent = indent_closed old.indent old.piece.mode old.margin (old.stop - old.piece.start);
+  margin = old.margin && holds_nothing old.piece.mode;
+}
 
--- one more character is read
-pub record ReadsCharacter (old : Scan) (c : ℕ) (new : Scan) : Type 0 where
-  pub stop : new.stop ≡ old.stop + len_utf8 c
-  pub count : Counts old.count c new.count
-  pub mode : new.piece.mode ≡ old.piece.mode
-  pub start : new.piece.start ≡ old.piece.start
-  pub piece_line : new.piece.line ≡ old.piece.line
-  pub line : new.line ≡ old.line
-  pub margin : new.margin ≡ old.margin
-  pub indent : new.indent ≡ old.indent
-  pub kind : new.kind ≡ old.kind
-  pub tokens : new.tokens ≡ old.tokens
-  pub brackets : new.brackets ≡ old.brackets
+-- the open piece is closed
+pub record Closes (old new : Scan) : Type 0 where
+  pub tokens : new.tokens.items ≡ old.tokens.items ++ tokens_with (token_of old.piece.mode) old.piece.start old.stop old.piece.line
+  pub same : new ≡ closed_with old new.tokens
 
--- a character that is a piece alone was taken, after closed ones: an operator, or a line end
+-- the count of lines with one more character
+abbrev pub count_with : Count → ℕ → Count
+count_with old c = record { line = old.line + counts_after old.after_return c; after_return = is_return c }
+
+-- the scan with one more character read
+abbrev pub with_character : Scan → ℕ → Scan
+with_character old c = record old { stop = old.stop + len_utf8 c; count = count_with old.count c }
+
+-- the scan with a character that is a piece alone, after closed ones: an operator, or a line end
+abbrev pub stood_with : Scan → ℕ → Option TokKind → Vec Token → Scan
+stood_with closed c k tokens =
+    record (freed (with_character closed c)) { margin = false; kind = kind_through closed.kind k; tokens = tokens }
+
+-- such a character was taken
 pub record AddsPiece (closed new : Scan) (c : ℕ) (k : Option TokKind) : Type 0 where
-  pub mode : new.piece.mode ≡ modes.Free
-  pub start : new.piece.start ≡ closed.stop + len_utf8 c
-  pub stop : new.stop ≡ closed.stop + len_utf8 c
-  pub count : Counts closed.count c new.count
-  pub piece_line : new.piece.line ≡ new.count.line
-  pub line : new.line ≡ closed.line
-  pub margin : new.margin ≡ false
-  pub indent : new.indent ≡ closed.indent
-  pub kind : new.kind ≡ kind_through closed.kind k
   pub tokens : new.tokens.items ≡ closed.tokens.items ++ tokens_with k closed.piece.start (closed.stop + len_utf8 c) closed.piece.line
-  pub brackets : new.brackets ≡ closed.brackets
+  pub same : new ≡ stood_with closed c k new.tokens
 
 -- the open piece was closed, and then such a character was taken
 pub record ClosesAndAdds (old : Scan) (c : ℕ) (k : Option TokKind) (new : Scan) : Type 0 where
@@ -180,10 +157,8 @@ in_mode old m = record old { piece = record old.piece { mode = m } }
 -- a piece opened with a character, after the open one
 pub record ClosesAndOpens (old : Scan) (c : ℕ) (m : Mode) (new : Scan) : Type 0 where
   pub mid : Scan
-  pub read : Scan
   pub closes : Closes old mid
-  pub reads : ReadsCharacter mid c read
-  pub is : new ≡ in_mode read m
+  pub is : new ≡ in_mode (with_character mid c) m
 
 -- whether no bracket is open
 abbrev pub none_open : List Bracket → Bool

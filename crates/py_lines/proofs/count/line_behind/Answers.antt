@@ -1,10 +1,11 @@
-use Rattle.std.proofs.Common.{◌≡◌, ℕ, ◌+◌, List, ◌++◌, length, sym, ap, ◌∙◌, arith, append-nil, length-append}
+use Rattle.std.proofs.Common.{◌≡◌, ℕ, ◌+◌, List, [], ◌∷◌, ◌++◌, length, sym, ap, ◌∙◌, subst, arith, append-nil, length-append}
 use Rattle.std.specs.Prelude.{encode_utf8_all}
 use Rattle.std.specs.Str.Iter.{chars_rest}
 use Rattle.std.proofs.lemmas.Str.{encodes_same}
 use Rattle.std.proofs.lemmas.List.{nil_from_length}
 use Rattle.py_lines.specs.LogicalLine.{line_ends}
-use Rattle.py_lines.proofs.LineScan.LineCount.{counted_push, line_ends-bytes}
+use Rattle.py_lines.specs.declared.count.Count.{Count}
+use Rattle.py_lines.proofs.LineScan.LineCount.{Counted, counted_push, line_ends-bytes}
 use Rattle.py_lines.proofs.Text.CharsIterator.{advances}
 use Rattle.py_lines.proofs.count.line_behind.Goals as goal
 
@@ -18,7 +19,7 @@ loop-c-preserved c =
     let inv = c.loop-c.invariant in
     let on = advances c.args.text.now c.loop-c.yielded c.in-Some.c (chars_rest c.loop-c.c-iterator) (chars_rest c.next.new.self) c.utf8.text inv.spell c.in-Some.ensures.steps.0 in
     record {
-      counted = counted_push c.args.line c.loop-c.count c.push.new.self c.loop-c.yielded c.in-Some.c inv.counted c.push.ensures;
+      counted = subst (λ (n : Count). Counted c.args.line n (c.loop-c.yielded ++ c.in-Some.c ∷ [])) (sym c.push.ensures) (counted_push c.args.line c.loop-c.count c.loop-c.yielded c.in-Some.c inv.counted);
       spell = on.spell;
     }
 

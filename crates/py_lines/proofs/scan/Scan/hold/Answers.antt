@@ -1,7 +1,5 @@
-use Rattle.std.proofs.Common.{◌≡◌, ℕ, ◌+◌, ◌<◌, ◌≤◌, ◌⊎◌, List, length, inl, inr, refl, sym, ap, subst, arith, length-drop, take_all, drop}
-use Rattle.py_lines.specs.LogicalLine.{byte_len}
-use Rattle.py_lines.specs.declared.scan.Scan.{Scan}
-use Rattle.py_lines.specs.Private.Run.{ReadsRun, Holds}
+use Rattle.std.proofs.Common.{◌≡◌, ℕ, ◌<◌, ◌≤◌, ◌⊎◌, List, length, inl, inr, sym, subst, arith, length-drop, take_all, drop}
+use Rattle.py_lines.specs.Private.Run.{with_bytes, Holds}
 use Rattle.py_lines.proofs.LineScan.Runs.{held_front, holds_run}
 use Rattle.py_lines.proofs.scan.Scan.hold.Goals as goal
 use Rattle.py_lines.proofs.scan.Scan.hold.Goals.{then-len-gt0, else-len-gt0}
@@ -12,25 +10,9 @@ returns c =
     let new = c.if-len-gt0.self in
     let text = c.utf8_front-len.result.now in
     let bytes = c.args.bytes.now in
-    let how : ((0 < length text) × ((cs : List ℕ) → byte_len cs ≡ length text → ReadsRun old cs new)) ⊎ ((length text ≤ 0) × (new ≡ old))
+    let how : ((0 < length text) × (new ≡ with_bytes old (length text))) ⊎ ((length text ≤ 0) × (new ≡ old))
     = elim c.if-len-gt0.branch [
-      | then-len-gt0 w ↦ inl (
-        w.if-len-gt0.true,
-        λ cs size. subst (λ (s : Scan). ReadsRun old cs s) (sym w.self-is) (record {
-          stop = ap (λ (k : ℕ). old.stop + k) (sym size);
-          here = refl;
-          after = refl;
-          mode = refl;
-          start = refl;
-          piece_line = refl;
-          line = refl;
-          margin = refl;
-          indent = refl;
-          kind = refl;
-          tokens = refl;
-          brackets = refl;
-        }),
-      )
+      | then-len-gt0 w ↦ inl (w.if-len-gt0.true, w.self-is)
       | else-len-gt0 w ↦ inr (w.if-len-gt0.false, w.self-is)
     ] in
     let held = held_front old.piece.mode bytes text c.run_in-run.result c.utf8_front-len.utf8 c.requires.quote c.utf8_front-len.ensures.front c.run_in-run.ensures in

@@ -1,5 +1,6 @@
-use Rattle.std.proofs.Common.{◌≡◌, Bool, true, false, sym, ◌∙◌, subst}
+use Rattle.std.proofs.Common.{◌≡◌, Bool, true, false, sym, ap, ◌∙◌, subst}
 use Rattle.std.proofs.lemmas.Bool.{both_ways}
+use Rattle.py_lines.specs.declared.scan.Scan.{Scan}
 use Rattle.py_lines.specs.declared.scan.Stop.{Stop}
 use Rattle.py_lines.specs.declared.scan.Stop.TheVariants as stops
 use Rattle.py_lines.specs.Private.Scan.{ScansIn}
@@ -28,7 +29,7 @@ returns-then-is_returned-clause-stops c =
 
 pub returns-then-is_returned-clause-line : goal.returns-then-is_returned-clause-line
 returns-then-is_returned-clause-line c =
-    c.in_ok-close.ensures.line ∙ (c.in_ok-stop.ensures.stops c.args.self.now.piece.mode c.args.self.now.line c.args.text.now c.requires.sound (begun_reached c.args.self.now c.args.text.now c.as_bytes.result.now c.as_bytes.ensures.value c.requires.start c.requires.stacked)).number
+    ap (λ (x : Scan). x.line) c.in_ok-close.ensures.same ∙ (c.in_ok-stop.ensures.stops c.args.self.now.piece.mode c.args.self.now.line c.args.text.now c.requires.sound (begun_reached c.args.self.now c.args.text.now c.as_bytes.result.now c.as_bytes.ensures.value c.requires.start c.requires.stacked)).number
 
 pub returns-clause-stops : goal.returns-clause-stops
 returns-clause-stops c =

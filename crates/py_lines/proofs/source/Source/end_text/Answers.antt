@@ -8,6 +8,7 @@ use Rattle.py_lines.specs.declared.scan.Stop.TheVariants.{TextEnd}
 use Rattle.py_lines.specs.declared.source.Source.{Source}
 use Rattle.py_lines.specs.Private.LineState.{IsEndFlaw}
 use Rattle.py_lines.specs.Private.Machine.{is_final}
+use Rattle.py_lines.specs.declared.scan.Scan.{Scan}
 use Rattle.py_lines.specs.Private.Source.{Advances, FailsAfter, HasScanned}
 use Rattle.py_lines.proofs.LineScan.LineRun.{way_order}
 use Rattle.py_lines.proofs.Readers.LineAnswers.{Within, all_within, place_room, place_boundary}
@@ -44,12 +45,12 @@ close-requires c = way_order c.args.self.now.state.scan c.requires.scans.stops.0
 pub give-requires-clause-within : goal.give-requires-clause-within
 give-requires-clause-within c =
     let s = c.args.self.now in
-    omega (arith, place_room s TextEnd c.requires s.state.scan.stop (all_within c.requires.scans.read s.state.scan.stop (stop_size s c.requires)), c.in_ok-close.ensures.stop)
+    omega (arith, place_room s TextEnd c.requires s.state.scan.stop (all_within c.requires.scans.read s.state.scan.stop (stop_size s c.requires)), ap (λ (x : Scan). x.stop) c.in_ok-close.ensures.same)
 
 pub give-requires-clause-boundary : goal.give-requires-clause-boundary
 give-requires-clause-boundary c =
     let s = c.args.self.now in
-    subst (λ (n : ℕ). IsCharBoundary s.characters.now (s.state.place + n)) (sym c.in_ok-close.ensures.stop) (place_boundary s TextEnd c.requires s.state.scan.stop (all_within c.requires.scans.read s.state.scan.stop (stop_size s c.requires)))
+    subst (λ (n : ℕ). IsCharBoundary s.characters.now (s.state.place + n)) (ap (λ (x : Scan). x.stop) (sym c.in_ok-close.ensures.same)) (place_boundary s TextEnd c.requires s.state.scan.stop (all_within c.requires.scans.read s.state.scan.stop (stop_size s c.requires)))
 
 pub give-requires-clause-lines : goal.give-requires-clause-lines
 give-requires-clause-lines c = few_lines_text c.args.self.now c.requires c.close.new.self c.in_ok-close.ensures
