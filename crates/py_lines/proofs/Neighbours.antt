@@ -6,7 +6,8 @@ use Rattle.unicode_ident.proofs.Computing.{unicode_ident}
 use Rattle.py_lines.specs.Character.{is_one_of, is_space, is_word_start, is_word_character, is_digit, is_quote, is_operator, is_line_feed, is_return, is_break, is_hash, is_backslash}
 use Rattle.py_lines.specs.Piece.{Class, mark, space, word, string, operator, comment, join, line_end, Piece, begins, ends, is_mark_class, spelled}
 use Rattle.py_lines.specs.PieceGrammar.{InClass, MayPrecede, feed, return_feed, return, is_prefix, AreReadBefore}
-use Rattle.py_lines.specs.Neighbours.{is_simple, is_space_class, is_word_class, is_end_class, may_touch, AreSimple, MayTouch}
+use Rattle.py_lines.specs.LogicalLine.{is_line_end_class}
+use Rattle.py_lines.specs.Neighbours.{is_simple, is_space_class, is_word_class, may_touch, AreSimple, MayTouch}
 
 -- what computes here
 unfoldable computes : Unit {0}
@@ -87,7 +88,7 @@ no_word comment c n h = (none_of is_word_character (35 ∷ []) c refl h, none_of
 no_word join c n h = (none_of is_word_character (92 ∷ []) c refl h, none_of is_quote (92 ∷ []) c refl h)
 no_word line_end c n h = (none_of is_word_character (10 ∷ 13 ∷ []) c refl h, none_of is_quote (10 ∷ 13 ∷ []) c refl h)
 
-end_breaks : (class : Class) (c : ℕ) → is_end_class class ≡ true → opens class c ≡ true → is_break c ≡ true
+end_breaks : (class : Class) (c : ℕ) → is_line_end_class class ≡ true → opens class c ≡ true → is_break c ≡ true
 end_breaks line_end c n h = h
 end_breaks mark c n h = absurd (cc)
 end_breaks string c n h = absurd (cc)

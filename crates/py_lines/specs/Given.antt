@@ -4,7 +4,7 @@ use Rattle.py_lines.specs.Piece.{Piece, spelled}
 use Rattle.py_lines.specs.PieceGrammar.{AreReadBefore}
 use Rattle.py_lines.specs.Balance.{IsBalanced, IsShallow}
 use Rattle.py_lines.specs.LogicalLine.{LogicalLine, lines_of, byte_len, line_ends}
-use Rattle.py_lines.specs.Lexed.{Decodes}
+use Rattle.py_lines.specs.Reading.{Decodes}
 use Rattle.py_lines.specs.Settled.{EndsForGood}
 
 -- These are the first logical lines of the text, up to this byte, which is on this line: they are cut from pieces that

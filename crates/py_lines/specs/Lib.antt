@@ -1,8 +1,13 @@
+-- What contracts say of texts, of their logical lines and tokens, and of the two readers. The headline is `IsLexed` of
+-- Lexed: a text's logical lines, and then its end or its fault. Above it stand the states of the readers (Reader,
+-- ScannerState), and below it what it is made of.
 pub mod Character
 pub mod Piece
 pub mod Balance
 pub mod PieceGrammar
 pub mod LogicalLine
+pub mod Reading
+pub mod Faults
 pub mod Lexed
 pub mod Neighbours
 pub mod Words

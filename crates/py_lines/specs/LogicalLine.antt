@@ -2,8 +2,9 @@
 use Rattle.std.specs.Prelude.{ℕ, ◌+◌, Bool, true, false, not, ◌==◌, ◌&&◌, ◌||◌, List, [], ◌∷◌, ◌++◌, length, if◌then◌else◌, encode_utf8_all}
 use Rattle.std.specs.List.{list_any}
 use Rattle.py_lines.specs.Character.{is_digit, is_line_feed, is_return}
-use Rattle.py_lines.specs.Piece.{Class, mark, space, word, string, operator, comment, join, line_end, Piece, begins, is_mark_class, spelled}
+use Rattle.py_lines.specs.Piece.{Class, mark, space, word, string, operator, comment, line_end, Piece, begins, is_mark_class, spelled}
 use Rattle.py_lines.specs.Balance.{depth_after}
+use Rattle.py_lines.specs.declared.token.TokKind.{TokKind}
 use Rattle.py_lines.specs.declared.token.TokKind.TheVariants as kind
 use Rattle.py_lines.specs.declared.token.Token.{Token}
 use Rattle.py_lines.specs.declared.unit.UnitKind.{UnitKind}
@@ -22,7 +23,9 @@ put_first p (u ∷ us) = (p ∷ u) ∷ us
 -- the pieces, cut after each line end at depth 0
 abbrev pub cut : ℕ → List Piece → List (List Piece)
 cut depth [] = []
-cut depth (p ∷ ps) = if is_line_end_class p.class && (depth == 0) then (p ∷ []) ∷ cut depth ps else put_first p (cut (depth_after depth p) ps)
+cut depth (p ∷ ps) =
+    if is_line_end_class p.class && (depth == 0) then (p ∷ []) ∷ cut depth ps
+    else put_first p (cut (depth_after depth p) ps)
 
 -- the length in bytes of characters
 abbrev pub byte_len : List ℕ → ℕ
@@ -42,21 +45,24 @@ abbrev pub first_or_zero : List ℕ → ℕ
 first_or_zero [] = 0
 first_or_zero (c ∷ cs) = c
 
+-- a token of this kind, between these bytes of its unit, on this line
+abbrev pub token : TokKind → ℕ → ℕ → ℕ → Token
+token k start stop line = record { kind = k; start = start; stop = stop; line = line }
+
 -- a piece as a token, if its class has tokens: its places in the unit's bytes, and its line
 abbrev pub tokens_of_piece : ℕ → ℕ → ℕ → Class → List ℕ → List Token
-tokens_of_piece start stop line mark text = []
-tokens_of_piece start stop line space text = []
-tokens_of_piece start stop line word text = record { kind = if begins is_digit text then kind.Number else kind.Name; start = start; stop = stop; line = line } ∷ []
-tokens_of_piece start stop line string text = record { kind = kind.Str; start = start; stop = stop; line = line } ∷ []
-tokens_of_piece start stop line operator text = record { kind = kind.Op (first_or_zero text); start = start; stop = stop; line = line } ∷ []
-tokens_of_piece start stop line comment text = record { kind = kind.Remark; start = start; stop = stop; line = line } ∷ []
-tokens_of_piece start stop line join text = []
-tokens_of_piece start stop line line_end text = []
+tokens_of_piece start stop line word text = token (if begins is_digit text then kind.Number else kind.Name) start stop line ∷ []
+tokens_of_piece start stop line string text = token kind.Str start stop line ∷ []
+tokens_of_piece start stop line operator text = token (kind.Op (first_or_zero text)) start stop line ∷ []
+tokens_of_piece start stop line comment text = token kind.Remark start stop line ∷ []
+tokens_of_piece start stop line other text = []
 
 -- the tokens of pieces that begin at this byte of their unit, on this line
 abbrev pub tokens_from : ℕ → ℕ → List Piece → List Token
 tokens_from start line [] = []
-tokens_from start line (p ∷ ps) = tokens_of_piece start (start + byte_len p.text) line p.class p.text ++ tokens_from (start + byte_len p.text) (line + line_ends p.text) ps
+tokens_from start line (p ∷ ps) =
+    tokens_of_piece start (start + byte_len p.text) line p.class p.text
+    ++ tokens_from (start + byte_len p.text) (line + line_ends p.text) ps
 
 -- words, strings, operators and joins
 abbrev pub is_code_class : Class → Bool
@@ -73,7 +79,10 @@ is_comment_class other = false
 
 -- Code with a token other than a comment or a join, Comment with comments alone, Blank with no token
 abbrev pub kind_of : List Piece → UnitKind
-kind_of pieces = if list_any (λ p. is_code_class p.class) pieces then unit_kind.Code else (if list_any (λ p. is_comment_class p.class) pieces then unit_kind.Comment else unit_kind.Blank)
+kind_of pieces =
+    if list_any (λ p. is_code_class p.class) pieces then unit_kind.Code
+    else (if list_any (λ p. is_comment_class p.class) pieces then unit_kind.Comment
+    else unit_kind.Blank)
 
 -- the bytes of the piece, if it is space
 abbrev pub space_len : Class → List ℕ → ℕ

@@ -3,6 +3,7 @@ use Rattle.std.specs.Prelude.{◌≡◌, ℕ, Bool, true, false, not, ◌&&◌, 
 use Rattle.py_lines.specs.Character.{is_line_feed, is_return}
 use Rattle.py_lines.specs.Piece.{Class, mark, space, word, string, operator, comment, join, line_end, Piece, begins, ends, begins_marked, spelled}
 use Rattle.py_lines.specs.PieceGrammar.{InClass}
+use Rattle.py_lines.specs.LogicalLine.{is_line_end_class}
 
 -- every class except marks and strings
 abbrev pub is_simple : Class → Bool
@@ -25,18 +26,13 @@ abbrev pub is_word_class : Class → Bool
 is_word_class word = true
 is_word_class other = false
 
--- line ends
-abbrev pub is_end_class : Class → Bool
-is_end_class line_end = true
-is_end_class other = false
-
 -- whether a simple piece may stand directly before another: no space before space, no word before a word, a line end alone
 -- after a comment, and no CR before LF
 abbrev pub may_touch : Class → List ℕ → Class → List ℕ → Bool
 may_touch space text class next = not (is_space_class class)
 may_touch word text class next = not (is_word_class class)
 may_touch operator text class next = true
-may_touch comment text class next = is_end_class class
+may_touch comment text class next = is_line_end_class class
 may_touch join text class next = not (ends is_return text && begins is_line_feed next)
 may_touch line_end text class next = not (ends is_return text && begins is_line_feed next)
 may_touch other text class next = false

@@ -15,7 +15,9 @@ IsSingle passes text = (one : ℕ) × (text ≡ one ∷ []) × (passes one ≡ t
 
 -- a character that begins words, and others that continue them (2.3, 2.4)
 abbrev pub IsWord : List ℕ → Type 0
-IsWord text = (first : ℕ) × (others : List ℕ) × (text ≡ first ∷ others) × (is_word_start first ≡ true) × (list_all is_word_character others ≡ true)
+IsWord text =
+    (first : ℕ) × (others : List ℕ) × (text ≡ first ∷ others) × (is_word_start first ≡ true)
+    × (list_all is_word_character others ≡ true)
 
 -- LF, CR LF or CR (2.1.2)
 pub data IsLineEnd (text : List ℕ) : Type 0 where
@@ -118,7 +120,9 @@ abbrev pub MayPrecede : Class → List ℕ → List ℕ → Type 0
 MayPrecede mark text rest = Unit {0}
 MayPrecede space text rest = begins is_space rest ≡ false
 MayPrecede word text rest = (begins is_word_character rest ≡ false) × (is_prefix text && begins is_quote rest ≡ false)
-MayPrecede string text rest = (prefix : List ℕ) (quote : ℕ) → text ≡ prefix ++ quote ∷ quote ∷ [] → IsPrefix prefix → is_quote quote ≡ true → begins (λ c. c == quote) rest ≡ false
+MayPrecede string text rest =
+    (prefix : List ℕ) (quote : ℕ) → text ≡ prefix ++ quote ∷ quote ∷ [] → IsPrefix prefix → is_quote quote ≡ true
+    → begins (λ c. c == quote) rest ≡ false
 MayPrecede operator text rest = Unit {0}
 MayPrecede comment text rest = (rest ≡ []) ⊎ (begins is_break rest ≡ true)
 MayPrecede join text rest = ends is_return text && begins is_line_feed rest ≡ false
@@ -127,7 +131,9 @@ MayPrecede line_end text rest = ends is_return text && begins is_line_feed rest 
 -- each piece is of its class and may precede what follows it, with `rest` at the end; no mark stands after a piece
 abbrev pub AreReadBefore : List Piece → List ℕ → Type 0
 AreReadBefore [] rest = Unit {0}
-AreReadBefore (p ∷ ps) rest = InClass p.class p.text × MayPrecede p.class p.text (spelled ps ++ rest) × (begins_marked ps ≡ false) × AreReadBefore ps rest
+AreReadBefore (p ∷ ps) rest =
+    InClass p.class p.text × MayPrecede p.class p.text (spelled ps ++ rest) × (begins_marked ps ≡ false)
+    × AreReadBefore ps rest
 
 -- the pieces read these characters, to the end of the text
 pub record Reads (pieces : List Piece) (characters : List ℕ) : Type 0 where

@@ -1,9 +1,12 @@
--- The state of a `Scanner`, and what each of its calls does, whatever text the pieces come from.
+-- The state of a `Scanner`, and what each of its calls does, whatever text the pieces come from. A scanner knows neither
+-- the text nor the lines released of it: `IsScanning state text lines` says that it scans this text and has released
+-- these lines. A record of a call (`TakesBytes`, `Releases` ..) says of each such text and lines what is so after the call
+-- (`WhereScans`, `WhereFed`, `WhereWhole`), and then what the state itself has become.
 pub mod View
 use Rattle.std.specs.Prelude.{◌≡◌, ℕ, ◌+◌, ◌<◌, ◌≤◌, ◌⊎◌, Bool, true, false, Option, None, Some, Result, Ok, Err, List, [], ◌∷◌, ◌++◌, length, take, drop}
 use Rattle.py_lines.specs.LogicalLine.{LogicalLine}
 use Rattle.py_lines.specs.Lexed.{IsLexed}
-use Rattle.py_lines.specs.Settled.{IsSettled, Decides}
+use Rattle.py_lines.specs.Settled.{IsSettled, Decides, DecideNone}
 use Rattle.py_lines.specs.Given.{AreFirstLines}
 use Rattle.py_lines.specs.declared.fault.Fault.{Fault}
 use Rattle.py_lines.specs.declared.fault.LexError.{LexError}
@@ -50,6 +53,18 @@ pub record IsScanning (s : ScannerState) (text : List ℕ) (lines : List Logical
   pub open_yet : s.ended ≡ false
   pub no_fault : s.fault ≡ None
 
+-- this holds of each text that the scanner scans, and of the lines released of it
+abbrev pub WhereScans : ScannerState → (List ℕ → List LogicalLine → Type 0) → Type 0
+WhereScans s holds = (text : List ℕ) (lines : List LogicalLine) → IsScanning s text lines → holds text lines
+
+-- the same, where the text goes on with these bytes
+abbrev pub WhereFed : ScannerState → List ℕ → (List ℕ → List LogicalLine → Type 0) → Type 0
+WhereFed s bytes holds = WhereScans s (λ text lines. GoesOnWith text (fed_of s) bytes → holds text lines)
+
+-- the same, where the text ends with the bytes fed
+abbrev pub WhereWhole : ScannerState → (List ℕ → List LogicalLine → Type 0) → Type 0
+WhereWhole s holds = WhereScans s (λ text lines. length text ≡ fed_of s → holds text lines)
+
 -- where a text's first logical lines reach to this byte, which is on this line, the scanner scans it from there on
 abbrev pub ScansFrom : ℕ → ℕ → ScannerState → Type 0
 ScansFrom offset line s =
@@ -69,8 +84,8 @@ pub record HasEnded (s : ScannerState) (text : List ℕ) (lines : List LogicalLi
 -- in the end, the bytes fed decide no fault.
 pub record TakesBytes (old : ScannerState) (piece : List ℕ) (n : ℕ) (new : ScannerState) : Type 0 where
   pub within : n ≤ length piece
-  pub scans : (text : List ℕ) (lines : List LogicalLine) → IsScanning old text lines → GoesOnWith text (fed_of old) (take n piece) → IsScanning new text lines
-  pub undecided : (text : List ℕ) (lines : List LogicalLine) → IsScanning old text lines → GoesOnWith text (fed_of old) (take n piece) → new.ready ≡ None → (fault : Fault) → ¬ (Decides (take (fed_of new) text) fault)
+  pub scans : WhereFed old (take n piece) (IsScanning new)
+  pub undecided : WhereFed old (take n piece) (λ text lines. new.ready ≡ None → DecideNone (take (fed_of new) text))
   pub some : n ≡ 0 → (piece ≡ []) ⊎ ((u : LogicalLine) × (old.ready ≡ Some u))
   pub waits : (u : LogicalLine) → old.ready ≡ Some u → (n ≡ 0) × (new ≡ old)
   pub held : new.held ≡ old.held ++ take n piece
@@ -80,10 +95,15 @@ pub record TakesBytes (old : ScannerState) (piece : List ℕ) (n : ℕ) (new : S
   pub open_yet : new.ended ≡ old.ended
   pub no_fault : new.fault ≡ None
 
+-- after these lines the text has this fault, which so many bytes and some of the piece decide
+abbrev pub IsDecidedWithin : ℕ → List ℕ → Fault → List ℕ → List LogicalLine → Type 0
+IsDecidedWithin fed piece fault text lines =
+    (n : ℕ) × (n ≤ length piece) × Decides (take (fed + n) text) fault × IsLexed text lines (Some fault)
+
 -- The text fed, with some of the piece, decides this fault, after the lines released; no line was ready. It is kept, and
 -- the scanner may be called again.
 pub record MeetsFault (old : ScannerState) (piece : List ℕ) (fault : Fault) (new : ScannerState) : Type 0 where
-  pub decided : (text : List ℕ) (lines : List LogicalLine) → IsScanning old text lines → GoesOnWith text (fed_of old) piece → (n : ℕ) × (n ≤ length piece) × Decides (take (fed_of old + n) text) fault × IsLexed text lines (Some fault)
+  pub decided : WhereFed old piece (IsDecidedWithin (fed_of old) piece fault)
   pub again : (first : Fault) → old.fault ≡ Some first → fault ≡ first
   pub none_ready : old.fault ≡ None → old.ready ≡ None
   pub place : new.place ≡ old.place
@@ -105,11 +125,15 @@ Feeds old piece (Ok n) new = TakesBytes old piece n new
 Feeds old piece (Err (lex.Fault f)) new = MeetsFault old piece f new
 Feeds old piece (Err lex.Memory) new = ScannerRunsOut old new
 
+-- the scanner scans this text, of which it has released these lines, and the bytes fed settle them
+abbrev pub HasSettled : ScannerState → List ℕ → List LogicalLine → Type 0
+HasSettled s text lines = IsScanning s text lines × IsSettled (take (fed_of s) text) lines
+
 -- the line that was ready is released
 pub record Releases (old new : ScannerState) : Type 0 where
   pub unit : LogicalLine
   pub was : old.ready ≡ Some unit
-  pub scans : (text : List ℕ) (lines : List LogicalLine) → IsScanning old text lines → IsScanning new text (lines ++ unit ∷ []) × IsSettled (take (fed_of new) text) (lines ++ unit ∷ [])
+  pub scans : WhereScans old (λ text lines. HasSettled new text (lines ++ unit ∷ []))
   pub ends : (text : List ℕ) (lines : List LogicalLine) → HasEnded old text lines → HasEnded new text (lines ++ unit ∷ [])
   pub place : new.place ≡ old.place + length unit.text
   pub held : old.held ≡ unit.text ++ new.held
@@ -119,7 +143,7 @@ pub record Releases (old new : ScannerState) : Type 0 where
 
 -- the text ends here: what is left is its last line, if anything is left
 pub record EndsScan (old new : ScannerState) : Type 0 where
-  pub scans : (text : List ℕ) (lines : List LogicalLine) → IsScanning old text lines → length text ≡ fed_of old → HasEnded new text lines
+  pub scans : WhereWhole old (HasEnded new)
   pub place : new.place ≡ old.place
   pub held : new.held ≡ old.held
   pub fault : old.fault ≡ None
@@ -128,7 +152,7 @@ pub record EndsScan (old new : ScannerState) : Type 0 where
 
 -- The text that ends here has this fault, after the lines released. It is kept, and the scanner may be called again.
 pub record EndsFaulty (old : ScannerState) (fault : Fault) (new : ScannerState) : Type 0 where
-  pub all : (text : List ℕ) (lines : List LogicalLine) → IsScanning old text lines → length text ≡ fed_of old → IsLexed text lines (Some fault)
+  pub all : WhereWhole old (λ text lines. IsLexed text lines (Some fault))
   pub again : (first : Fault) → old.fault ≡ Some first → fault ≡ first
   pub place : new.place ≡ old.place
   pub line : new.line ≡ old.line

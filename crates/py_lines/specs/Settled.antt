@@ -1,10 +1,11 @@
 -- What the bytes that are known of a text decide, whatever follows them: its first logical lines, and some faults.
-use Rattle.std.specs.Prelude.{◌≡◌, ℕ, ◌≤◌, ◌⊎◌, false, List, [], ◌++◌, length}
+use Rattle.std.specs.Prelude.{◌≡◌, ℕ, ◌⊎◌, false, List, [], ◌++◌}
 use Rattle.std.specs.Str.{StartsWithNoChar}
 use Rattle.py_lines.specs.Character.{is_return}
 use Rattle.py_lines.specs.Piece.{Piece, ends, spelled}
 use Rattle.py_lines.specs.LogicalLine.{LogicalLine, lines_of}
-use Rattle.py_lines.specs.Lexed.{Decodes, IsBalancedReading, EndsLine, IsCharacterFault, IsLexicalFault}
+use Rattle.py_lines.specs.Reading.{Decodes, IsBalancedReading, EndsLine, AreLongest}
+use Rattle.py_lines.specs.Faults.{IsCharacterFault, IsLexicalFault}
 use Rattle.py_lines.specs.declared.fault.FaultKind.{FaultKind}
 use Rattle.py_lines.specs.declared.fault.FaultKind.TheVariants.{BadUtf8}
 use Rattle.py_lines.specs.declared.fault.Fault.{Fault}
@@ -19,7 +20,7 @@ pub record IsSettledPrefix (pieces : List Piece) (characters tail : List ℕ) : 
   pub spell : spelled pieces ++ rest ≡ characters
   pub reading : IsBalancedReading pieces (spelled pieces)
   pub ended : EndsForGood pieces (rest ++ tail)
-  pub longest : (others : List Piece) (after : List ℕ) → spelled others ++ after ≡ characters → IsBalancedReading others (spelled others) → EndsForGood others (after ++ tail) → length (spelled others) ≤ length (spelled pieces)
+  pub longest : AreLongest (λ others after. EndsForGood others (after ++ tail)) pieces characters
 
 -- the logical lines that these bytes settle: every text that begins with them begins with these lines
 pub record IsSettled (text : List ℕ) (lines : List LogicalLine) : Type 0 where
@@ -45,3 +46,7 @@ pub record Decides (text : List ℕ) (fault : Fault) : Type 0 where
   pub decodes : Decodes text characters tail
   pub refused : IsLexicalFault characters tail fault
   pub stays : StaysFaulty fault.kind characters tail fault.offset
+
+-- these bytes decide no fault
+abbrev pub DecideNone : List ℕ → Type 0
+DecideNone text = (fault : Fault) → ¬ (Decides text fault)

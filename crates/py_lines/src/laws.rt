@@ -4,7 +4,9 @@ ghost use Rattle.std.specs.Prelude.{◌≡◌, ℕ, Option, Some, List, [], ◌+
 ghost use Rattle.py_lines.specs.Piece.{Piece, spelled};
 ghost use Rattle.py_lines.specs.PieceGrammar.{AreReadBefore, Reads, ReadsText};
 ghost use Rattle.py_lines.specs.LogicalLine.{LogicalLine, cut, line_of};
-ghost use Rattle.py_lines.specs.Lexed.{IsBalancedReading, EndsLine, IsFaultAt, IsReadOrFaulty, IsLexed, BeginsLexing};
+ghost use Rattle.py_lines.specs.Reading.{IsBalancedReading, EndsLine};
+ghost use Rattle.py_lines.specs.Faults.{IsFaultAt, IsReadOrFaulty};
+ghost use Rattle.py_lines.specs.Lexed.{IsLexed, BeginsLexing};
 ghost use Rattle.py_lines.specs.Neighbours.{AreSimple, MayTouch, MayFollowLines};
 ghost use Rattle.py_lines.specs.Words.{word_in, words_of, extent_of};
 ghost use Rattle.py_lines.specs.Reader.{Reader, HasGiven};

@@ -8,7 +8,8 @@ use Rattle.py_lines.specs.Piece.{operator, Piece, spelled}
 use Rattle.py_lines.specs.PieceGrammar.{AreReadBefore}
 use Rattle.py_lines.specs.Balance.{is_opening, is_closing, is_opener, is_closer}
 use Rattle.py_lines.specs.LogicalLine.{byte_len}
-use Rattle.py_lines.specs.Lexed.{IsBalancedReading, IsLive, InBracket, IsAtDepth, DiesAt, BreaksString, BreaksJoin, ClosesWrong, OpensTooDeep, breaks_string, breaks_join, closes_wrong, opens_too_deep, begins_nothing, IsCharacterFault, open_short, open_long, open_join, open_bracket, IsEndFault}
+use Rattle.py_lines.specs.Reading.{IsBalancedReading}
+use Rattle.py_lines.specs.Faults.{IsLive, InBracket, IsAtDepth, DiesAt, BreaksString, BreaksJoin, ClosesWrong, OpensTooDeep, IsCharacterFault, IsEndFault, breaks_string, breaks_join, closes_wrong, opens_too_deep, begins_nothing, open_short, open_long, open_join, open_bracket}
 use Rattle.py_lines.specs.declared.fault.FaultKind.{FaultKind}
 use Rattle.py_lines.specs.declared.fault.FaultKind.TheVariants as faults
 use Rattle.py_lines.specs.declared.mode.Mode.{Mode}

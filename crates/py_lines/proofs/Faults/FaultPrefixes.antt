@@ -2,7 +2,7 @@
 use Rattle.std.proofs.Common.{◌≡◌, ℕ, List, [], ◌∷◌, ◌++◌, refl, sym, ap, ◌∙◌, subst, append_assoc, append-nil}
 use Rattle.py_lines.specs.Piece.{spelled}
 use Rattle.py_lines.specs.LogicalLine.{byte_len}
-use Rattle.py_lines.specs.Lexed.{Cause, breaks_string, breaks_join, closes_wrong, opens_too_deep, begins_nothing, kind_of_cause, Explains, IsCharacterFault, Unfinished, open_short, open_long, open_join, open_bracket, kind_of_unfinished, IsOpenAtEnd, IsUndecodable, IsFaultAt, at_character, at_bytes, at_end}
+use Rattle.py_lines.specs.Faults.{Cause, kind_of_cause, Explains, IsCharacterFault, Unfinished, kind_of_unfinished, IsOpenAtEnd, IsUndecodable, IsFaultAt, breaks_string, breaks_join, closes_wrong, opens_too_deep, begins_nothing, open_short, open_long, open_join, open_bracket, at_character, at_bytes, at_end}
 use Rattle.py_lines.specs.declared.fault.FaultKind.{FaultKind}
 use Rattle.py_lines.specs.declared.fault.FaultKind.TheVariants as faults
 use Rattle.py_lines.proofs.Pieces.PieceLists.{spelled-append}

@@ -5,7 +5,7 @@ use Rattle.std.proofs.lemmas.Bool.{both_ways, false_from_ne_true, or_left, or_ri
 use Rattle.py_lines.specs.Piece.{Piece, spelled}
 use Rattle.py_lines.specs.Balance.{is_opening, is_closing, IsShallow, depth_after}
 use Rattle.py_lines.specs.LogicalLine.{first_or_zero, byte_len}
-use Rattle.py_lines.specs.Lexed.{IsLive, InBracket, BreaksString, BreaksJoin, ClosesWrong, OpensTooDeep, Cause, breaks_string, breaks_join, closes_wrong, opens_too_deep, begins_nothing, kind_of_cause, Explains, causes_before, NoneExplains, IsCharacterFault, Unfinished, open_short, open_long, open_join, open_bracket, kind_of_unfinished, IsOpenAtEnd, IsEndFault, IsFaultAt, at_character, at_bytes, at_end}
+use Rattle.py_lines.specs.Faults.{IsLive, InBracket, BreaksString, BreaksJoin, ClosesWrong, OpensTooDeep, Cause, kind_of_cause, Explains, causes_before, NoneExplains, IsCharacterFault, Unfinished, kind_of_unfinished, IsOpenAtEnd, IsEndFault, IsFaultAt, breaks_string, breaks_join, closes_wrong, opens_too_deep, begins_nothing, open_short, open_long, open_join, open_bracket, at_character, at_bytes, at_end}
 use Rattle.py_lines.specs.declared.fault.FaultKind.{FaultKind}
 use Rattle.py_lines.specs.declared.fault.FaultKind.TheVariants as faults
 use Rattle.py_lines.specs.declared.mode.Mode.{Mode}

@@ -2,7 +2,8 @@
 use Rattle.std.proofs.Common.{◌≡◌, ℕ, cond, Option, None, Some, List, [], ◌∷◌, ◌++◌, refl, sym, ap, ◌∙◌, subst, inl, inr, append_assoc, append-nil, ◌⊎◌}
 use Rattle.std.proofs.lemmas.Bool.{cond_both}
 use Rattle.py_lines.specs.Piece.{Piece}
-use Rattle.py_lines.specs.Lexed.{IsBalancedReading, IsLive, IsCharacterFault, IsEndFault, at_character, at_bytes, at_end, IsReadOrFaulty}
+use Rattle.py_lines.specs.Reading.{IsBalancedReading}
+use Rattle.py_lines.specs.Faults.{IsLive, IsCharacterFault, IsEndFault, IsReadOrFaulty, at_character, at_bytes, at_end}
 use Rattle.py_lines.specs.declared.fault.FaultKind.{FaultKind}
 use Rattle.py_lines.specs.declared.fault.FaultKind.TheVariants as faults
 use Rattle.py_lines.specs.LogicalLine.{byte_len}

@@ -6,7 +6,9 @@ use Rattle.py_lines.specs.Character.{is_line_feed}
 use Rattle.py_lines.specs.Piece.{spelled}
 use Rattle.py_lines.specs.PieceGrammar.{AreReadBefore}
 use Rattle.py_lines.specs.LogicalLine.{LogicalLine, byte_len, line_ends}
-use Rattle.py_lines.specs.Lexed.{Decodes, IsLive, IsCharacterFault, IsLexicalFault, IsLexed, IsLexedToFault}
+use Rattle.py_lines.specs.Reading.{Decodes}
+use Rattle.py_lines.specs.Faults.{IsLive, IsCharacterFault, IsLexicalFault}
+use Rattle.py_lines.specs.Lexed.{IsLexed, IsLexedToFault}
 use Rattle.py_lines.specs.Settled.{IsHopeless, Decides}
 use Rattle.py_lines.specs.declared.fault.Fault.{Fault}
 use Rattle.py_lines.specs.declared.fault.FaultKind.{FaultKind}

@@ -8,7 +8,8 @@ use Rattle.py_lines.specs.Character.{is_return}
 use Rattle.py_lines.specs.Piece.{ends, spelled}
 use Rattle.py_lines.specs.LogicalLine.{LogicalLine}
 use Rattle.py_lines.specs.PieceGrammar.{AreReadBefore}
-use Rattle.py_lines.specs.Lexed.{Decodes, IsBalancedReading, IsLive, EndsLine}
+use Rattle.py_lines.specs.Reading.{Decodes, IsBalancedReading, EndsLine}
+use Rattle.py_lines.specs.Faults.{IsLive}
 use Rattle.py_lines.specs.Settled.{IsHopeless, IsSettled, Decides}
 use Rattle.py_lines.specs.Given.{AreFirstLines}
 use Rattle.py_lines.specs.ScannerState.{GoesOnWith, HoldsReady}

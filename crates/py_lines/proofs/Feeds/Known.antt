@@ -10,7 +10,7 @@ use Rattle.py_lines.specs.Piece.{Piece, spelled}
 use Rattle.py_lines.specs.PieceGrammar.{AreReadBefore}
 use Rattle.py_lines.specs.Balance.{IsBalanced, IsShallow}
 use Rattle.py_lines.specs.LogicalLine.{LogicalLine, lines_of, byte_len, line_ends}
-use Rattle.py_lines.specs.Lexed.{Decodes, EndsLine}
+use Rattle.py_lines.specs.Reading.{Decodes, EndsLine}
 use Rattle.py_lines.specs.Given.{AreFirstLines}
 use Rattle.py_lines.specs.ScannerState.{GoesOnWith}
 use Rattle.py_lines.specs.Private.Machine.{Scanned, Bracket, brackets_of}

@@ -9,7 +9,7 @@ use Rattle.py_lines.specs.Piece.{line_end, Piece, ends, spelled}
 use Rattle.py_lines.specs.PieceGrammar.{AreReadBefore}
 use Rattle.py_lines.specs.Balance.{depth_through}
 use Rattle.py_lines.specs.LogicalLine.{LogicalLine, cut, byte_len, line_of, lines_of}
-use Rattle.py_lines.specs.Lexed.{Decodes, IsBalancedReading, EndsLine}
+use Rattle.py_lines.specs.Reading.{Decodes, IsBalancedReading, EndsLine}
 use Rattle.py_lines.specs.Settled.{EndsForGood, IsSettled}
 use Rattle.py_lines.specs.Private.Machine.{Scanned, run_from, Bracket, brackets_of, IsSound}
 use Rattle.py_lines.specs.Private.Scan.{EndsNoLine, line_start}

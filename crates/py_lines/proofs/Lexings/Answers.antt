@@ -4,7 +4,9 @@ use Rattle.std.proofs.lemmas.Str.{length-le-encodes}
 use Rattle.std.proofs.lemmas.List.{nil_from_length}
 use Rattle.py_lines.specs.Piece.{Piece}
 use Rattle.py_lines.specs.LogicalLine.{lines_of, byte_len, line_ends}
-use Rattle.py_lines.specs.Lexed.{Decodes, IsBalancedReading, IsLive, EndsLine, IsFaultAt, at_character, at_bytes, at_end, IsLexedWhole, IsLexedToFault}
+use Rattle.py_lines.specs.Reading.{Decodes, IsBalancedReading, EndsLine}
+use Rattle.py_lines.specs.Faults.{IsLive, IsFaultAt, at_character, at_bytes, at_end}
+use Rattle.py_lines.specs.Lexed.{IsLexedWhole, IsLexedToFault}
 use Rattle.py_lines.specs.declared.fault.FaultKind.{FaultKind}
 use Rattle.py_lines.specs.declared.fault.FaultKind.TheVariants as faults
 use Rattle.py_lines.specs.declared.fault.Fault.{Fault}

@@ -4,7 +4,9 @@ use Rattle.std.specs.Prelude.{encode_utf8_all}
 use Rattle.std.specs.Str.{StartsWithNoChar}
 use Rattle.py_lines.specs.Piece.{Piece, spelled}
 use Rattle.py_lines.specs.LogicalLine.{LogicalLine, byte_len, line_ends}
-use Rattle.py_lines.specs.Lexed.{Decodes, IsBalancedReading, IsLive, EndsLine, IsReadPrefix, IsCharacterFault, IsFaultAt, at_character, at_bytes, IsLexicalFault, IsLexed}
+use Rattle.py_lines.specs.Reading.{Decodes, IsBalancedReading, EndsLine, IsReadPrefix}
+use Rattle.py_lines.specs.Faults.{IsLive, IsCharacterFault, IsFaultAt, IsLexicalFault, at_character, at_bytes}
+use Rattle.py_lines.specs.Lexed.{IsLexed}
 use Rattle.py_lines.specs.Settled.{StaysFaulty, Decides}
 use Rattle.py_lines.specs.declared.fault.FaultKind.{FaultKind}
 use Rattle.py_lines.specs.declared.fault.FaultKind.TheVariants as faults

@@ -7,7 +7,9 @@ use Rattle.py_lines.specs.Piece.{Class, line_end, Piece, spelled}
 use Rattle.py_lines.specs.PieceGrammar.{AreReadBefore}
 use Rattle.py_lines.specs.Balance.{IsBalanced, IsShallow, depth_after, depth_through}
 use Rattle.py_lines.specs.LogicalLine.{LogicalLine, is_line_end_class, byte_len, line_ends, lines_of}
-use Rattle.py_lines.specs.Lexed.{Decodes, IsBalancedReading, IsLive, EndsLine, IsLexed, BeginsLexing}
+use Rattle.py_lines.specs.Reading.{Decodes, IsBalancedReading, EndsLine}
+use Rattle.py_lines.specs.Faults.{IsLive}
+use Rattle.py_lines.specs.Lexed.{IsLexed, BeginsLexing}
 use Rattle.py_lines.specs.Reader.{Reader, HasGiven}
 use Rattle.py_lines.specs.declared.fault.FaultKind.{FaultKind}
 use Rattle.py_lines.specs.declared.fault.FaultKind.TheVariants as faults

@@ -10,7 +10,8 @@ use Rattle.py_lines.specs.PieceGrammar.{AreReadBefore}
 use Rattle.py_lines.specs.Balance as brackets
 use Rattle.py_lines.specs.Balance.{IsBalanced, IsShallow, depth_through}
 use Rattle.py_lines.specs.LogicalLine.{LogicalLine, cut, byte_len, line_ends, line_of, lines_of}
-use Rattle.py_lines.specs.Lexed.{Decodes, EndsLine, IsLexed}
+use Rattle.py_lines.specs.Reading.{Decodes, EndsLine}
+use Rattle.py_lines.specs.Lexed.{IsLexed}
 use Rattle.py_lines.specs.Reader.{Reader, HasGiven}
 use Rattle.py_lines.specs.Settled.{EndsForGood}
 use Rattle.py_lines.specs.Private.Machine.{brackets_of}

@@ -7,7 +7,8 @@ use Rattle.py_lines.specs.Piece.{Class, mark, space, word, string, operator, com
 use Rattle.py_lines.specs.PieceGrammar.{InClass, IsLineEnd, feed, return_feed, return, MayPrecede, AreReadBefore}
 use Rattle.py_lines.specs.Balance.{depth_after, depth_through}
 use Rattle.py_lines.specs.LogicalLine.{is_line_end_class}
-use Rattle.py_lines.specs.Lexed.{IsBalancedReading, IsLive, EndsLine, IsReadPrefix}
+use Rattle.py_lines.specs.Reading.{IsBalancedReading, EndsLine, IsReadPrefix}
+use Rattle.py_lines.specs.Faults.{IsLive}
 pub use Rattle.py_lines.specs.Private.Scan.{EndsNoLine}
 use Rattle.py_lines.specs.declared.mode.Mode.{Mode}
 use Rattle.py_lines.specs.declared.mode.Mode.TheVariants as modes

@@ -4,7 +4,7 @@ use Rattle.py_lines.specs.Character.{is_line_feed, is_return}
 use Rattle.py_lines.specs.Piece.{line_end, Piece, begins, ends, begins_marked, is_mark_class, spelled}
 use Rattle.py_lines.specs.PieceGrammar.{MayPrecede, AreReadBefore}
 use Rattle.py_lines.specs.Balance.{IsShallow, IsBalanced as balance}
-use Rattle.py_lines.specs.Lexed.{IsBalancedReading, EndsLine}
+use Rattle.py_lines.specs.Reading.{IsBalancedReading, EndsLine}
 use Rattle.py_lines.specs.Neighbours.{MayFollowLines}
 use Rattle.py_lines.specs.Private.Machine.{Bracket}
 use Rattle.py_lines.proofs.Pieces.PieceLists.{MayFollow, spelled-append, AreReadBefore-append, AreReadBefore-first, AreReadBefore-second, follows_any}

@@ -6,7 +6,8 @@ use Rattle.py_lines.specs.Piece.{line_end, Piece, ends, spelled}
 use Rattle.py_lines.specs.PieceGrammar.{InClass, IsLineEnd, feed, return_feed, return, AreReadBefore}
 use Rattle.py_lines.specs.Balance.{depth_through}
 use Rattle.py_lines.specs.LogicalLine.{LogicalLine, lines_of}
-use Rattle.py_lines.specs.Lexed.{IsBalancedReading, EndsLine, IsLexedWhole, IsLexedToFault, IsLexed}
+use Rattle.py_lines.specs.Reading.{IsBalancedReading, EndsLine}
+use Rattle.py_lines.specs.Lexed.{IsLexedWhole, IsLexedToFault, IsLexed}
 use Rattle.py_lines.specs.Settled.{EndsForGood, IsSettled}
 use Rattle.py_lines.specs.declared.fault.Fault.{Fault}
 use Rattle.py_lines.proofs.Pieces.PieceLists.{piece, spelled-append, AreReadBefore-second}

@@ -8,7 +8,8 @@ use Rattle.py_lines.specs.Piece.{line_end, Piece, ends, begins, spelled}
 use Rattle.py_lines.specs.PieceGrammar.{InClass, IsLineEnd, feed, return_feed, return, MayPrecede, AreReadBefore}
 use Rattle.py_lines.specs.Balance.{depth_through}
 use Rattle.py_lines.specs.LogicalLine.{LogicalLine, byte_len, line_ends}
-use Rattle.py_lines.specs.Lexed.{IsBalancedReading, EndsLine, BeginsLexing}
+use Rattle.py_lines.specs.Reading.{IsBalancedReading, EndsLine}
+use Rattle.py_lines.specs.Lexed.{BeginsLexing}
 use Rattle.py_lines.specs.Reader.{standing_at}
 use Rattle.py_lines.specs.Settled.{EndsForGood, IsSettledPrefix, IsSettled}
 use Rattle.py_lines.specs.Private.Machine.{Bracket, brackets_of}

@@ -3,7 +3,9 @@ use Rattle.std.proofs.Common.{◌≡◌, ℕ, Option, None, Some, List, [], ◌+
 use Rattle.std.proofs.Math.Seq.{take-append_seam}
 use Rattle.py_lines.specs.Piece.{Piece, spelled}
 use Rattle.py_lines.specs.LogicalLine.{LogicalLine, lines_of}
-use Rattle.py_lines.specs.Lexed.{Decodes, IsBalancedReading, IsReadPrefix, IsLexicalFault, IsLexedWhole, IsLexedToFault, IsLexed}
+use Rattle.py_lines.specs.Reading.{Decodes, IsBalancedReading, IsReadPrefix}
+use Rattle.py_lines.specs.Faults.{IsLexicalFault}
+use Rattle.py_lines.specs.Lexed.{IsLexedWhole, IsLexedToFault, IsLexed}
 use Rattle.py_lines.specs.Settled.{IsSettledPrefix, IsSettled}
 use Rattle.py_lines.specs.declared.fault.Fault.{Fault}
 use Rattle.py_lines.proofs.Machine.ReadingRuns.{one_reading_of}

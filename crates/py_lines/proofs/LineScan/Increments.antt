@@ -7,7 +7,7 @@ use Rattle.py_lines.specs.Piece.{line_end, Piece, ends, spelled}
 use Rattle.py_lines.specs.PieceGrammar.{return, AreReadBefore}
 use Rattle.py_lines.specs.Balance.{depth_after, depth_through}
 use Rattle.py_lines.specs.LogicalLine.{is_line_end_class, byte_len, ends_line, line_ends}
-use Rattle.py_lines.specs.Lexed.{EndsLine}
+use Rattle.py_lines.specs.Reading.{EndsLine}
 use Rattle.py_lines.specs.declared.mode.Mode.TheVariants as modes
 use Rattle.py_lines.specs.Private.Scan.{counts_after}
 use Rattle.py_lines.specs.Private.Machine.{text_start, run_from, Bracket, brackets_after, brackets_through, brackets_of}

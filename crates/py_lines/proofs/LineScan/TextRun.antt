@@ -6,7 +6,8 @@ use Rattle.std.proofs.lemmas.Str.{length-le-encodes}
 use Rattle.py_lines.specs.Piece.{Class, mark, line_end, Piece, is_mark_class, begins_marked, spelled}
 use Rattle.py_lines.specs.PieceGrammar.{InClass, AreReadBefore}
 use Rattle.py_lines.specs.LogicalLine.{byte_len}
-use Rattle.py_lines.specs.Lexed.{EndsLine, IsLive}
+use Rattle.py_lines.specs.Reading.{EndsLine}
+use Rattle.py_lines.specs.Faults.{IsLive}
 use Rattle.py_lines.specs.declared.mode.Mode.{Mode}
 use Rattle.py_lines.specs.declared.mode.Mode.TheVariants as modes
 use Rattle.py_lines.specs.Private.Machine.{Scanned, fresh, text_start, class_of, closed, started, step, run_from, start_of, IsSound, Bracket, brackets_of, in_short, is_after_backslash}

@@ -10,7 +10,7 @@ use Rattle.py_lines.specs.Piece.{Class, mark, space, word, string, operator, com
 use Rattle.py_lines.specs.PieceGrammar.{joined, InClass, MayPrecede, AreReadBefore}
 use Rattle.py_lines.specs.Balance.{depth_after, depth_through}
 use Rattle.py_lines.specs.LogicalLine.{is_line_end_class, put_first, cut, byte_len, ends_line, line_ends}
-use Rattle.py_lines.specs.Lexed.{EndsLine}
+use Rattle.py_lines.specs.Reading.{EndsLine}
 use Rattle.py_lines.proofs.Text.CharacterTests.{each_of, none_of}
 use Rattle.py_lines.proofs.Lexings.LinePrefix.{EndsNoLine}
 

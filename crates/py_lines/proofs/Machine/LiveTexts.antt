@@ -8,7 +8,8 @@ use Rattle.py_lines.specs.Character.{is_mark, is_space, is_word_character, is_qu
 use Rattle.py_lines.specs.Piece.{operator, comment, line_end, Piece, spelled}
 use Rattle.py_lines.specs.Balance.{is_closing, closing_of, is_opener, is_closer}
 use Rattle.py_lines.specs.LogicalLine.{byte_len}
-use Rattle.py_lines.specs.Lexed.{IsBalancedReading, IsLive}
+use Rattle.py_lines.specs.Reading.{IsBalancedReading}
+use Rattle.py_lines.specs.Faults.{IsLive}
 use Rattle.py_lines.specs.declared.mode.Mode.{Mode}
 use Rattle.py_lines.specs.declared.mode.Mode.TheVariants as modes
 use Rattle.py_lines.specs.declared.mode.Move.{Move}

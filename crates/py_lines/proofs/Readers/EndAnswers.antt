@@ -8,7 +8,8 @@ use Rattle.py_lines.specs.Piece.{Piece, line_end, spelled}
 use Rattle.py_lines.specs.PieceGrammar.{AreReadBefore}
 use Rattle.py_lines.specs.Balance.{depth_after, depth_through}
 use Rattle.py_lines.specs.LogicalLine.{LogicalLine, byte_len, line_ends, cut, end_len_of, is_line_end_class}
-use Rattle.py_lines.specs.Lexed.{IsLexedToFault, IsBalancedReading, Decodes}
+use Rattle.py_lines.specs.Reading.{IsBalancedReading, Decodes}
+use Rattle.py_lines.specs.Lexed.{IsLexedToFault}
 use Rattle.py_lines.specs.Reader.{HasGiven, Continues, Fails}
 use Rattle.py_lines.specs.Token.{EachLiesIn}
 use Rattle.py_lines.specs.declared.fault.FaultKind.{FaultKind}

@@ -4,7 +4,7 @@ use Rattle.std.specs.Str.{IsUtf8, IsValidUpTo, is_utf8}
 use Rattle.std.proofs.lemmas.Bool.{cases_lt, both_ways}
 use Rattle.std.proofs.lemmas.List.{length-take-le}
 use Rattle.std.proofs.lemmas.Str.{IsUtf8-nil, IsUtf8-from_is_utf8, is_utf8-from_IsUtf8}
-use Rattle.py_lines.specs.Lexed.{Decodes}
+use Rattle.py_lines.specs.Reading.{Decodes}
 use Rattle.py_lines.proofs.Text.Utf8Prefixes.{nothing_bad, front_text}
 
 -- no prefix of more bytes than these is UTF-8

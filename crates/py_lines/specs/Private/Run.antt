@@ -5,7 +5,7 @@ use Rattle.std.specs.Char.{is_ascii_alphanumeric, len_utf8, IsScalar}
 use Rattle.std.specs.List.{list_all, prefix_len}
 use Rattle.py_lines.specs.Character.{is_one_of}
 use Rattle.py_lines.specs.Balance.{is_opening, is_closing}
-use Rattle.py_lines.specs.LogicalLine.{byte_len}
+use Rattle.py_lines.specs.LogicalLine.{byte_len, token}
 use Rattle.std.specs.declared.alloc.AllocError.{AllocError}
 use Rattle.py_lines.specs.Piece.{operator, begins}
 use Rattle.py_lines.specs.Private.Machine.{Bracket, IsSound, brackets_after, IsFull, first_spelling, spelling_on, move_of}
@@ -179,7 +179,7 @@ opened old m len = record (with_bytes old len) { piece = record { mode = m; star
 
 -- a token of so many bytes, where the scan stands
 abbrev pub token_at : Scan → TokKind → ℕ → Token
-token_at scan k len = record { kind = k; start = scan.stop; stop = scan.stop + len; line = scan.count.line }
+token_at scan k len = token k scan.stop (scan.stop + len) scan.count.line
 
 -- a token of so many bytes came after closed pieces
 pub record AddsToken (old : Scan) (k : TokKind) (len : ℕ) (new : Scan) : Type 0 where

@@ -8,7 +8,7 @@ use Rattle.py_lines.specs.Character.{is_return, is_line_feed}
 use Rattle.py_lines.specs.Piece.{operator, line_end, Piece, ends, is_mark_class, spelled, begins}
 use Rattle.py_lines.specs.PieceGrammar.{AreReadBefore}
 use Rattle.py_lines.specs.Balance.{depth_after, depth_through}
-use Rattle.py_lines.specs.LogicalLine.{byte_len, line_ends, tokens_from, indent_of, kind_of, is_line_end_class}
+use Rattle.py_lines.specs.LogicalLine.{byte_len, line_ends, token, tokens_from, indent_of, kind_of, is_line_end_class}
 use Rattle.py_lines.specs.Private.Machine.{Scanned, IsSound, fresh, step, run_from, token_of, Bracket, brackets_after, brackets_of, in_short, is_after_backslash, is_final, end_kind}
 use Rattle.py_lines.specs.declared.token.Token.{Token}
 use Rattle.py_lines.specs.declared.mode.Mode.{Mode}
@@ -75,12 +75,12 @@ pub record AddsTo (old : Scan) (token : Token) (new : Scan) : Type 0 where
 
 -- the open piece became a token of this kind
 abbrev pub Emits : Scan → TokKind → Scan → Type 0
-Emits old k new = AddsTo old (record { kind = k; start = old.piece.start; stop = old.stop; line = old.piece.line }) new
+Emits old k new = AddsTo old (token k old.piece.start old.stop old.piece.line) new
 
 -- a token from the open piece, if it is one
 abbrev pub tokens_with : Option TokKind → ℕ → ℕ → ℕ → List Token
 tokens_with None start stop line = []
-tokens_with (Some k) start stop line = record { kind = k; start = start; stop = stop; line = line } ∷ []
+tokens_with (Some k) start stop line = token k start stop line ∷ []
 
 -- whether the open piece is a backslash, with or without its line end
 abbrev pub is_join_mode : Mode → Bool

@@ -16,4 +16,11 @@ ready_of f (Some end_len) = Some (line_of_feed f end_len)
 
 -- the byte and line up to which lines were released, the text since, the line that is ready, and the fault
 abbrev pub scanning_of : Feed → ScannerState
-scanning_of f = record { place = f.state.place; line = f.state.line; held = f.held.items; ready = ready_of f f.ready; ended = f.ended; fault = f.state.fault }
+scanning_of f = record {
+  place = f.state.place;
+  line = f.state.line;
+  held = f.held.items;
+  ready = ready_of f f.ready;
+  ended = f.ended;
+  fault = f.state.fault;
+}

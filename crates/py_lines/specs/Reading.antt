@@ -1,0 +1,40 @@
+-- What it is to read a text: its bytes as characters, and these as pieces whose brackets stand in pairs. Python Language
+-- Reference, 2.1.
+use Rattle.std.specs.Prelude.{◌≡◌, ℕ, ◌≤◌, ◌⊎◌, true, List, [], ◌∷◌, ◌++◌, length, encode_utf8_all}
+use Rattle.std.specs.Str.{all_scalars, StartsWithNoChar}
+use Rattle.py_lines.specs.Piece.{line_end, Piece, spelled}
+use Rattle.py_lines.specs.PieceGrammar.{AreReadBefore}
+use Rattle.py_lines.specs.Balance.{IsBalanced, IsShallow, depth_through}
+
+-- the bytes are the UTF-8 of these characters, and then `tail`, which begins with no character
+pub record Decodes (text characters tail : List ℕ) : Type 0 where
+  pub are : all_scalars characters ≡ true
+  pub spell : encode_utf8_all characters ++ tail ≡ text
+  pub bad : StartsWithNoChar tail
+
+-- the pieces read these characters whole, with their brackets in pairs and at most 200 open
+pub record IsBalancedReading (pieces : List Piece) (characters : List ℕ) : Type 0 where
+  pub spell : spelled pieces ≡ characters
+  pub fit : AreReadBefore pieces []
+  pub balanced : IsBalanced pieces
+  pub shallow : IsShallow 0 pieces
+
+-- the pieces are none, or the last ends a line at depth 0
+abbrev pub EndsLine : List Piece → Type 0
+EndsLine pieces =
+    (pieces ≡ [])
+    ⊎ ((body : List Piece) × (last : Piece) × (pieces ≡ body ++ last ∷ []) × (last.class ≡ line_end) × (depth_through 0 body ≡ 0))
+
+-- no pieces that read a prefix of the characters, and end it so, read more of them
+abbrev pub AreLongest : (List Piece → List ℕ → Type 0) → List Piece → List ℕ → Type 0
+AreLongest EndSo pieces characters =
+    (others : List Piece) (after : List ℕ) → spelled others ++ after ≡ characters → IsBalancedReading others (spelled others)
+    → EndSo others after → length (spelled others) ≤ length (spelled pieces)
+
+-- the pieces read a prefix of the characters that ends a line, the longest that there is
+pub record IsReadPrefix (pieces : List Piece) (characters : List ℕ) : Type 0 where
+  pub rest : List ℕ
+  pub spell : spelled pieces ++ rest ≡ characters
+  pub reading : IsBalancedReading pieces (spelled pieces)
+  pub ended : EndsLine pieces
+  pub longest : AreLongest (λ others after. EndsLine others) pieces characters
