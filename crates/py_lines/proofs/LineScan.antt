@@ -2,8 +2,8 @@
 pub mod BracketStack
 pub mod PieceEnd
 pub mod NextCharacter
-pub mod LineRun
-pub mod TextRun
+pub mod LineSteps
+pub mod TextSteps
 pub mod LineCount
 pub mod Increments
 pub mod Runs

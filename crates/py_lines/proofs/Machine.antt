@@ -2,9 +2,9 @@
 pub mod Starts
 pub mod Spellings
 pub mod WordTokens
-pub mod PieceRuns
-pub mod StringRuns
-pub mod ReadingRuns
+pub mod PieceSteps
+pub mod StringSteps
+pub mod ReadingSteps
 pub mod OpenPieces
 pub mod Soundness
 pub mod Advance

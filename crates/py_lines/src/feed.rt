@@ -53,7 +53,7 @@ fn keep_last(held: &mut Vec<u8>)
 
 /// Drops so many bytes. It is seldom called: most lines are let go with all that is held. After CR one byte is left.
 #[cold]
-fn drop_front(held: &mut Vec<u8>, len: usize)
+fn drop_first(held: &mut Vec<u8>, len: usize)
     requires { len ≤ length held.old.items }
     ensures { held.new.items ≡ drop len held.old.items }
 {
@@ -373,7 +373,7 @@ impl Feed {
         if stop == self.held.len() {
             self.held.clear();
         } else {
-            drop_front(&mut self.held, stop);
+            drop_first(&mut self.held, stop);
         }
         self.state.restart();
     }

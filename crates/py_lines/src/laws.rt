@@ -16,7 +16,7 @@ ghost use Rattle.py_lines.specs.declared.fault.Fault.{Fault};
 ghost use Rattle.py_lines.specs.declared.fault.FaultKind.{FaultKind};
 
 /// A text has at most one reading: pieces that read the same characters, or the same bytes, are the same.
-#[tactic(auto, using(crate::proofs::Machine::ReadingRuns::one_reading_of, crate::proofs::Machine::ReadingRuns::one_reading_of_text))]
+#[tactic(auto, using(crate::proofs::Machine::ReadingSteps::one_reading_of, crate::proofs::Machine::ReadingSteps::one_reading_of_text))]
 pub fn one_reading()
     ensures of_characters { (pieces others : List Piece) (characters : List ℕ) → Reads pieces characters → Reads others characters → pieces ≡ others }
     ensures of_text { (pieces others : List Piece) (text : List ℕ) → ReadsText pieces text → ReadsText others text → pieces ≡ others }

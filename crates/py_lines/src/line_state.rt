@@ -2,7 +2,7 @@
 
 ghost use Rattle.std.specs.Prelude.{◌≡◌, ℕ, ◌+◌, ◌<◌, ◌^◌, length};
 
-use crate::count::line_behind;
+use crate::count::line_after;
 use crate::fault::{Fault, FaultKind, LexError};
 use crate::mode::Mode;
 use crate::scan::{Flaw, Scan};
@@ -67,7 +67,7 @@ impl LineState {
         let fault = Fault {
             kind,
             offset: self.place + front.len() as u64,
-            line: line_behind(self.line, front),
+            line: line_after(self.line, front),
         };
         self.fault = Some(fault);
         LexError::Fault(fault)

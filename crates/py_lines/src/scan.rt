@@ -18,7 +18,7 @@ use crate::mode::{Mode, Move, Start};
 use crate::run::run_in;
 use crate::token::{TokKind, Token};
 use crate::unit::UnitKind;
-use crate::utf8::{first_character, utf8_front};
+use crate::utf8::{first_character, utf8_prefix};
 use crate::whole_pieces::Left;
 use std::alloc::{AllocError, Global};
 
@@ -200,7 +200,7 @@ impl Scan {
     }
 
     /// Takes an operator, which its brackets have met, after the open piece.
-    fn stand(&mut self, c: char) -> Result<(), AllocError>
+    fn take_operator(&mut self, c: char) -> Result<(), AllocError>
         requires order { self.old.piece.start ≤ self.old.stop }
         requires bytes { self.old.stop + len_utf8 c < 2 ^ 64 }
         requires lines { self.old.count.line + 1 < 2 ^ 64 }
@@ -216,7 +216,7 @@ impl Scan {
     }
 
     /// Takes a line feed after the open piece.
-    fn feed(&mut self, c: char) -> Result<(), AllocError>
+    fn take_line_feed(&mut self, c: char) -> Result<(), AllocError>
         requires order { self.old.piece.start ≤ self.old.stop }
         requires bytes { self.old.stop + len_utf8 c < 2 ^ 64 }
         requires lines { self.old.count.line + 1 < 2 ^ 64 }
@@ -247,11 +247,11 @@ impl Scan {
                 if !self.brackets.meet(c, self.stop)? {
                     return Ok(Progress::Refused);
                 }
-                self.stand(c)?;
+                self.take_operator(c)?;
                 Ok(Progress::Going)
             }
             Start::LineEnd => {
-                self.feed(c)?;
+                self.take_line_feed(c)?;
                 Ok(self.line_end(1))
             }
             Start::Nothing => Ok(Progress::Refused),
@@ -363,7 +363,7 @@ impl Scan {
         ensures { Holds self.old bytes.now result.now self.new }
     {
         let run = run_in(self.piece.mode, bytes);
-        let len = utf8_front(&bytes[..run]).len();
+        let len = utf8_prefix(&bytes[..run]).len();
         if len > 0 {
             self.stop += len;
             self.count.after_return = false;
@@ -402,7 +402,7 @@ impl Scan {
     }
 
     /// Scans a text that begins a line, up to the line's end, the text's end, or a character that is refused.
-    pub fn run(&mut self, text: &str) -> Result<Stop, AllocError>
+    pub fn scan_text(&mut self, text: &str) -> Result<Stop, AllocError>
         requires start { Tallies self.old (line_start self.old.piece.mode) }
         requires stacked { IsStacked self.old (line_start self.old.piece.mode) }
         requires sound { IsSound (line_start self.old.piece.mode) [] }

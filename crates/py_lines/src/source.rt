@@ -7,7 +7,7 @@ use crate::fault::{FaultKind, LexError};
 use crate::line_state::LineState;
 use crate::scan::Stop;
 use crate::unit::Unit;
-use crate::utf8::utf8_front;
+use crate::utf8::utf8_prefix;
 use std::alloc::Global;
 
 /// A text and how far it has been read. The tokens of the line read last are kept until the next one.
@@ -44,7 +44,7 @@ impl<'t> Source<'t> {
     {
         Source {
             bytes,
-            characters: utf8_front(bytes),
+            characters: utf8_prefix(bytes),
             start: 0,
             end_len: 0,
             state: LineState::at(alloc, 0, 1),
@@ -147,7 +147,7 @@ impl<'t> Source<'t> {
         match self
             .state
             .scan
-            .run(&self.characters[self.state.place as usize..])?
+            .scan_text(&self.characters[self.state.place as usize..])?
         {
             Stop::LineEnd(len) => {
                 self.end_line(len);

@@ -25,7 +25,7 @@ fn is_short_ascii(bytes: &[u8]) -> bool
 
 /// The text that the bytes begin with, up to the first that begin no character.
 #[inline(always)]
-pub fn utf8_front(bytes: &[u8]) -> &str
+pub fn utf8_prefix(bytes: &[u8]) -> &str
     ensures front { result.now ≡ take (length result.now) bytes.now }
     ensures bad { StartsWithNoChar (drop (length result.now) bytes.now) }
 {

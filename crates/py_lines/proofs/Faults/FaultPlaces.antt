@@ -16,11 +16,11 @@ use Rattle.py_lines.specs.declared.mode.Mode.{Mode}
 use Rattle.py_lines.specs.declared.mode.Mode.TheVariants as modes
 use Rattle.py_lines.specs.declared.mode.Move.{Move}
 use Rattle.py_lines.specs.declared.mode.Move.TheVariants as moves
-use Rattle.py_lines.specs.Private.Machine.{Scanned, fresh, text_start, class_of, started, moved, step, run_from, move_of, short_move, long_move, is_final, is_prefix_spelling, in_short, in_long, is_after_backslash, character_kind, character_place, end_kind, end_place, top_place, Bracket, brackets_of, brackets_through}
+use Rattle.py_lines.specs.Private.Machine.{Scanned, fresh, text_start, class_of, started, moved, step, steps_from, move_of, short_move, long_move, is_final, is_prefix_spelling, in_short, in_long, is_after_backslash, character_kind, character_place, end_kind, end_place, top_place, Bracket, brackets_of, brackets_through}
 use Rattle.py_lines.proofs.Text.CharacterTests.{each_of, not_quote}
 use Rattle.py_lines.proofs.Pieces.PieceLists.{piece, spelled-push, AreReadBefore-first}
 use Rattle.py_lines.proofs.Machine.Starts.{start-operator}
-use Rattle.py_lines.proofs.Machine.PieceRuns.{scanned, pieces_at, run_from-append}
+use Rattle.py_lines.proofs.Machine.PieceSteps.{scanned, pieces_at, steps_from-append}
 use Rattle.py_lines.proofs.Pieces.OpenBrackets.{through-append, opener_pushes, StandsAt, level, inside, stands, room_in}
 use Rattle.py_lines.specs.Private.Machine.{Holds}
 use Rattle.py_lines.proofs.Machine.Soundness.{sound_at, ends_sound}
@@ -34,15 +34,15 @@ IsAlive o = (to : Scanned) × (kept_if o ≡ Some to)
 
 -- so the text through the character is live
 alive_live : (before : List ℕ) (s : Scanned) (st : List Bracket) (c : ℕ) → RunsTo before s st → IsAlive (step s c) → IsLive (before ++ c ∷ [])
-alive_live before s st c runs alive =
-    let on = goes_advance alive.0 c runs alive.1 in
+alive_live before s st c steps alive =
+    let on = goes_advance alive.0 c steps alive.1 in
     runs_live (before ++ c ∷ []) alive.0 on.0 on.1
 
 -- where it doesn't, the text through the character isn't live
 pub dead_stop : (before : List ℕ) (s : Scanned) (st : List Bracket) (c : ℕ) → RunsTo before s st → advance s c ≡ None → ¬ (IsLive (before ++ c ∷ []))
-dead_stop before s st c runs none live =
+dead_stop before s st c steps none live =
     let found = live_runs (before ++ c ∷ []) live in
-    stops_there c runs none found.2
+    stops_there c steps none found.2
 
 -- a short string goes on at whatever breaks no line
 grows_alive : (done : List Piece) (m n : Mode) (held : List ℕ) (c : ℕ) (st : List Bracket) → brackets_of done ≡ Some st → IsAlive (moved (scanned done m held) c (moves.Grows n))
@@ -120,21 +120,21 @@ opening_how modes.Return done held c holds short slash h = inl (rw (opening-not 
 
 -- an opening bracket that the machine refuses stands at depth 200
 pub opens_deep : (before : List ℕ) (s : Scanned) (st : List Bracket) (c : ℕ) → RunsTo before s st → ¬ (IsLive (before ++ c ∷ [])) → in_short s.mode ≡ false → is_after_backslash s.mode ≡ false → is_opening c ≡ true → IsAtDepth before c 200
-opens_deep before s st c runs dead short slash opens = go (opening_how s.mode s.done s.held c (sound_at before s runs.run).holds short slash opens)
+opens_deep before s st c steps dead short slash opens = go (opening_how s.mode s.done s.held c (sound_at before s steps.run).holds short slash opens)
   where
     ends : move_of s.mode c ≡ moves.Breaks → IsAtDepth before c 200
     ends breaks =
         let ps = pieces_at s in
         let p = piece operator (c ∷ []) in
         let to = fresh (ps ++ p ∷ []) in
-        let steps : step s c ≡ Some to = ap (moved s c) breaks ∙ ap (started ps c) (start-operator c (opening-operator c opens)) in
-        let stack = stack_closed s.mode s.done s.held st runs.stack in
-        let next = sound_at (before ++ c ∷ []) to (run_from-append (Some text_start) before (c ∷ []) ∙ ap (λ o. run_from o (c ∷ [])) runs.run ∙ ap (λ o. run_from o []) steps) in
+        let next_is : step s c ≡ Some to = ap (moved s c) breaks ∙ ap (started ps c) (start-operator c (opening-operator c opens)) in
+        let stack = stack_closed s.mode s.done s.held st steps.stack in
+        let next = sound_at (before ++ c ∷ []) to (steps_from-append (Some text_start) before (c ∷ []) ∙ ap (λ o. steps_from o (c ∷ [])) steps.run ∙ ap (λ o. steps_from o []) next_is) in
         let full : 200 ≤ length st =
         ⊎_elim
-        (λ (room : length st < 200). absurd (dead (alive_live before s st c runs (
+        (λ (room : length st < 200). absurd (dead (alive_live before s st c steps (
           to,
-          advances s to c (record { opener = c; place = byte_len (spelled ps) } ∷ st) steps
+          advances s to c (record { opener = c; place = byte_len (spelled ps) } ∷ st) next_is
               (through-append (Some []) [] ps (p ∷ []) ∙ ap (λ o. brackets_through o ps (p ∷ [])) stack ∙ ap (λ o. brackets_through o (ps ++ p ∷ []) []) (opener_pushes st (byte_len (spelled ps)) p opens room)),
         ))))
         (λ (h : 200 ≤ length st). h) (cases_lt (length st) 200) in
@@ -149,14 +149,14 @@ opens_deep before s st c runs dead short slash opens = go (opening_how s.mode s.
 
     go : EndsOrGrows (move_of s.mode c) → IsAtDepth before c 200
     go (inl breaks) = ends breaks
-    go (inr (n, grows)) = absurd (dead (alive_live before s st c runs (let to = scanned s.done n (s.held ++ c ∷ []) in (to, advances s to c st (ap (moved s c) grows) runs.stack))))
+    go (inr (n, grows)) = absurd (dead (alive_live before s st c steps (let to = scanned s.done n (s.held ++ c ∷ []) in (to, advances s to c st (ap (moved s c) grows) steps.stack))))
 
 -- which causes don't fit a character
-no_string : (before : List ℕ) (s : Scanned) (c : ℕ) → run_from (Some text_start) before ≡ Some s → in_short s.mode ≡ false → (offset : ℕ) → ¬ (BreaksString before c offset)
-no_string before s c runs short offset breaks = both_ways _ short (such_mode in_short before breaks.start s (stands_in_short before breaks.start breaks.inside) runs)
+no_string : (before : List ℕ) (s : Scanned) (c : ℕ) → steps_from (Some text_start) before ≡ Some s → in_short s.mode ≡ false → (offset : ℕ) → ¬ (BreaksString before c offset)
+no_string before s c steps short offset breaks = both_ways _ short (such_mode in_short before breaks.start s (stands_in_short before breaks.start breaks.inside) steps)
 
-no_join : (before : List ℕ) (s : Scanned) → run_from (Some text_start) before ≡ Some s → is_after_backslash s.mode ≡ false → (offset : ℕ) → ¬ (BreaksJoin before offset)
-no_join before s runs slash offset breaks = both_ways _ slash (such_mode is_after_backslash before breaks.start s (stands_behind_slash before breaks.start breaks.behind) runs)
+no_join : (before : List ℕ) (s : Scanned) → steps_from (Some text_start) before ≡ Some s → is_after_backslash s.mode ≡ false → (offset : ℕ) → ¬ (BreaksJoin before offset)
+no_join before s steps slash offset breaks = both_ways _ slash (such_mode is_after_backslash before breaks.start s (stands_behind_slash before breaks.start breaks.behind) steps)
 
 no_close : (before : List ℕ) (c : ℕ) → is_closing c ≡ false → (offset : ℕ) → ¬ (ClosesWrong before c offset)
 no_close before c closing offset wrong = both_ways _ closing wrong.closes
@@ -165,9 +165,9 @@ no_deep : (before : List ℕ) (c : ℕ) → is_opening c ≡ false → (offset :
 no_deep before c opening offset deep = both_ways _ opening deep.opens
 
 pub break_in : (before : List ℕ) (s : Scanned) (st : List Bracket) (c : ℕ) → RunsTo before s st → ¬ (IsLive (before ++ c ∷ [])) → in_short s.mode ≡ true → is_break c ≡ true
-break_in before s st c runs dead short =
+break_in before s st c steps dead short =
     ⊎_elim (λ (h : is_break c ≡ true). h)
-    (λ (h : is_break c ≡ false). absurd (dead (alive_live before s st c runs (short_goes s.mode s.done s.held c st short h runs.stack)))) (cases_Bool (is_break c))
+    (λ (h : is_break c ≡ false). absurd (dead (alive_live before s st c steps (short_goes s.mode s.done s.held c st short h steps.stack)))) (cases_Bool (is_break c))
 
 pub early : (s : Scanned) (before : List ℕ) → in_short s.mode || is_after_backslash s.mode ≡ true → byte_len (spelled s.done) ≡ character_place s before
 early s before h = sym (ap (λ (b : Bool). cond b (byte_len (spelled s.done)) (byte_len before)) h)
@@ -177,9 +177,9 @@ late s before short slash = ap (λ (b : Bool). cond b (byte_len (spelled s.done)
 
 -- the fault at the first character at which the machine can't go on
 pub character_fault : (characters before after : List ℕ) (c : ℕ) (s : Scanned) (st : List Bracket) → before ++ c ∷ after ≡ characters → RunsTo before s st → ¬ (IsLive (before ++ c ∷ [])) → IsCharacterFault (character_kind s.mode c) characters (character_place s before)
-character_fault characters before after c s st spell runs dead =
-    let dies : DiesAt characters before c = record { after = after; spell = spell; live = runs_live before s st runs; dead = dead } in
-    let sound = sound_at before s runs.run in
+character_fault characters before after c s st spell steps dead =
+    let dies : DiesAt characters before c = record { after = after; spell = spell; live = runs_live before s st steps; dead = dead } in
+    let sound = sound_at before s steps.run in
     let P : FaultKind → Type 0 = λ kind. IsCharacterFault kind characters (character_place s before) in
     cond_both (in_short s.mode) _ _ P
     (λ short. record {
@@ -188,7 +188,7 @@ character_fault characters before after c s st spell runs dead =
       c = c;
       is = refl;
       dies = dies;
-      fits = record { start = spelled s.done; breaks = break_in before s st c runs dead short; inside = in_short_string s before sound short; place = sym (early s before (or_left _ _ short)) };
+      fits = record { start = spelled s.done; breaks = break_in before s st c steps dead short; inside = in_short_string s before sound short; place = sym (early s before (or_left _ _ short)) };
       first = tt;
     })
     (λ short. cond_both (is_after_backslash s.mode) _ _ P
@@ -199,7 +199,7 @@ character_fault characters before after c s st spell runs dead =
       is = refl;
       dies = dies;
       fits = record { start = spelled s.done; behind = behind_backslash s before sound slash; place = sym (early s before (or_right _ _ slash)) };
-      first = (no_string before s c runs.run short, tt);
+      first = (no_string before s c steps.run short, tt);
     })
     (λ slash. cond_both (is_closing c) _ _ P
     (λ closing. record {
@@ -209,7 +209,7 @@ character_fault characters before after c s st spell runs dead =
       is = refl;
       dies = dies;
       fits = record { closes = closing; place = late s before short slash };
-      first = (no_string before s c runs.run short, (no_join before s runs.run slash, tt));
+      first = (no_string before s c steps.run short, (no_join before s steps.run slash, tt));
     })
     (λ closing. cond_both (is_opening c) _ _ P
     (λ opening. record {
@@ -218,8 +218,8 @@ character_fault characters before after c s st spell runs dead =
       c = c;
       is = refl;
       dies = dies;
-      fits = record { opens = opening; deep = opens_deep before s st c runs dead short slash opening; place = late s before short slash };
-      first = (no_string before s c runs.run short, (no_join before s runs.run slash, (no_close before c closing, tt)));
+      fits = record { opens = opening; deep = opens_deep before s st c steps dead short slash opening; place = late s before short slash };
+      first = (no_string before s c steps.run short, (no_join before s steps.run slash, (no_close before c closing, tt)));
     })
     (λ opening. record {
       cause = begins_nothing;
@@ -228,7 +228,7 @@ character_fault characters before after c s st spell runs dead =
       is = refl;
       dies = dies;
       fits = late s before short slash;
-      first = (no_string before s c runs.run short, (no_join before s runs.run slash, (no_close before c closing, (no_deep before c opening, tt))));
+      first = (no_string before s c steps.run short, (no_join before s steps.run slash, (no_close before c closing, (no_deep before c opening, tt))));
     }))))
 
 -- modes in which the text may not end
@@ -289,26 +289,26 @@ pub end_place_is : (s : Scanned) (st : List Bracket) → is_final s.mode ≡ fal
 end_place_is s st h = ap (λ (b : Bool). cond b (top_place st) (byte_len (spelled s.done))) h
 
 bracket_fault : (characters tail : List ℕ) (s : Scanned) (st : List Bracket) → tail ≡ [] → RunsTo characters s st → ((pieces : List Piece) → ¬ (IsBalancedReading pieces characters)) → is_final s.mode ≡ true → IsEndFault faults.OpenBracket characters tail (end_place s st)
-bracket_fault characters tail s [] whole runs unread may = absurd (unread (pieces_at s) (reading_at characters s runs may))
-bracket_fault characters tail s (b ∷ bs) whole runs unread may =
-    let at_end = ends_sound characters s runs.run may in
-    let stack = stack_closed s.mode s.done s.held (b ∷ bs) runs.stack in
+bracket_fault characters tail s [] whole steps unread may = absurd (unread (pieces_at s) (reading_at characters s steps may))
+bracket_fault characters tail s (b ∷ bs) whole steps unread may =
+    let at_end = ends_sound characters s steps.run may in
+    let stack = stack_closed s.mode s.done s.held (b ∷ bs) steps.stack in
     let top = top_of b bs (pieces_at s) characters (stands (pieces_at s) (b ∷ bs) stack).at at_end.spell at_end.fit in
     record {
       unfinished = open_bracket;
       start = top.start;
       is = refl;
       whole = whole;
-      live = runs_live characters s (b ∷ bs) runs;
+      live = runs_live characters s (b ∷ bs) steps;
       ends_in = top.open_at;
       place = ap (λ (x : Bool). cond x b.place (byte_len (spelled s.done))) may ∙ top.place;
     }
 
--- the fault at the end of a text on which the machine runs to its end
+-- the fault at the end of a text that the machine goes through to its end
 pub end_fault : (characters tail : List ℕ) (s : Scanned) (st : List Bracket) → tail ≡ [] → RunsTo characters s st → ((pieces : List Piece) → ¬ (IsBalancedReading pieces characters)) → IsEndFault (end_kind s.mode) characters tail (end_place s st)
-end_fault characters tail s st whole runs unread =
-    let sound = sound_at characters s runs.run in
-    let live = runs_live characters s st runs in
+end_fault characters tail s st whole steps unread =
+    let sound = sound_at characters s steps.run in
+    let live = runs_live characters s st steps in
     let P : FaultKind → Type 0 = λ kind. IsEndFault kind characters tail (end_place s st) in
     cond_both (in_short s.mode) _ _ P
     (λ short. record { unfinished = open_short; start = spelled s.done; is = refl; whole = whole; live = live; ends_in = in_short_string s characters sound short; place = end_place_is s st (short_not_end s.mode short) })
@@ -316,10 +316,10 @@ end_fault characters tail s st whole runs unread =
     (λ long. record { unfinished = open_long; start = spelled s.done; is = refl; whole = whole; live = live; ends_in = in_long_string s characters sound long; place = end_place_is s st (long_not_end s.mode long) })
     (λ long. cond_both (is_after_backslash s.mode) _ _ P
     (λ slash. record { unfinished = open_join; start = spelled s.done; is = refl; whole = whole; live = live; ends_in = behind_backslash s characters sound slash; place = end_place_is s st (slash_not_end s.mode slash) })
-    (λ slash. bracket_fault characters tail s st whole runs unread (others_end s.mode short long slash))))
+    (λ slash. bracket_fault characters tail s st whole steps unread (others_end s.mode short long slash))))
 
 -- the text is read exactly where the machine comes to an end at which it may stop, with no bracket open
-pub unread_at : (characters : List ℕ) (s : Scanned) → run_from (Some text_start) characters ≡ Some s → is_final s.mode ≡ false → (pieces : List Piece) → ¬ (IsBalancedReading pieces characters)
-unread_at characters s runs may pieces reading =
+pub unread_at : (characters : List ℕ) (s : Scanned) → steps_from (Some text_start) characters ≡ Some s → is_final s.mode ≡ false → (pieces : List Piece) → ¬ (IsBalancedReading pieces characters)
+unread_at characters s steps may pieces reading =
     let found = run_of_reading pieces characters reading in
-    both_ways _ (ap (λ (t : Scanned). is_final t.mode) (same_state characters found.to s found.runs.run runs) ∙ may) found.ends
+    both_ways _ (ap (λ (t : Scanned). is_final t.mode) (same_state characters found.to s found.steps.run steps) ∙ may) found.ends

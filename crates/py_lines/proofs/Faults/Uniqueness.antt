@@ -10,9 +10,9 @@ use Rattle.py_lines.specs.declared.fault.FaultKind.{FaultKind}
 use Rattle.py_lines.specs.declared.fault.FaultKind.TheVariants as faults
 use Rattle.py_lines.specs.declared.mode.Mode.{Mode}
 use Rattle.py_lines.specs.declared.mode.Mode.TheVariants as modes
-use Rattle.py_lines.specs.Private.Machine.{Scanned, text_start, run_from, is_final, in_short, in_long, is_after_backslash, character_kind, character_place, end_kind, end_place, top_place, Bracket, brackets_of, brackets_through}
-use Rattle.py_lines.proofs.Machine.PieceRuns.{pieces_at}
-use Rattle.py_lines.proofs.Machine.ReadingRuns.{reach, MayBegin}
+use Rattle.py_lines.specs.Private.Machine.{Scanned, text_start, steps_from, is_final, in_short, in_long, is_after_backslash, character_kind, character_place, end_kind, end_place, top_place, Bracket, brackets_of, brackets_through}
+use Rattle.py_lines.proofs.Machine.PieceSteps.{pieces_at}
+use Rattle.py_lines.proofs.Machine.ReadingSteps.{reach, MayBegin}
 use Rattle.py_lines.proofs.Pieces.OpenBrackets.{through-append, opener_pushes, balanced_through, stack_before, stands, depth-opener, IsShallow-parts}
 use Rattle.py_lines.proofs.Machine.Soundness.{sound_at}
 use Rattle.py_lines.proofs.Machine.Advance.{RunsTo}
@@ -64,28 +64,28 @@ kind_char m c h k l n = rw (h, k, l, n)
 abbrev IsNamed : FaultKind → ℕ → Scanned → List ℕ → ℕ → Type 0
 IsNamed kind offset s before c = (kind ≡ character_kind s.mode c) × (offset ≡ character_place s before)
 
-module _ (before : List ℕ) (c : ℕ) (s : Scanned) (st : List Bracket) (runs : RunsTo before s st) (dead : ¬ (IsLive (before ++ c ∷ []))) where
+module _ (before : List ℕ) (c : ℕ) (s : Scanned) (st : List Bracket) (steps : RunsTo before s st) (dead : ¬ (IsLive (before ++ c ∷ []))) where
   short_false : ((offset : ℕ) → ¬ (BreaksString before c offset)) → in_short s.mode ≡ false
-  short_false none = false_from_ne_true _ (λ short. none (byte_len (spelled s.done)) (record { start = spelled s.done; breaks = break_in before s st c runs dead short; inside = in_short_string s before (sound_at before s runs.run) short; place = refl }))
+  short_false none = false_from_ne_true _ (λ short. none (byte_len (spelled s.done)) (record { start = spelled s.done; breaks = break_in before s st c steps dead short; inside = in_short_string s before (sound_at before s steps.run) short; place = refl }))
 
   slash_false : ((offset : ℕ) → ¬ (BreaksJoin before offset)) → is_after_backslash s.mode ≡ false
-  slash_false none = false_from_ne_true _ (λ slash. none (byte_len (spelled s.done)) (record { start = spelled s.done; behind = behind_backslash s before (sound_at before s runs.run) slash; place = refl }))
+  slash_false none = false_from_ne_true _ (λ slash. none (byte_len (spelled s.done)) (record { start = spelled s.done; behind = behind_backslash s before (sound_at before s steps.run) slash; place = refl }))
 
   closing_false : ((offset : ℕ) → ¬ (ClosesWrong before c offset)) → is_closing c ≡ false
   closing_false none = false_from_ne_true _ (λ closing. none (byte_len before) (record { closes = closing; place = refl }))
 
   opening_false : in_short s.mode ≡ false → is_after_backslash s.mode ≡ false → ((offset : ℕ) → ¬ (OpensTooDeep before c offset)) → is_opening c ≡ false
-  opening_false short slash none = false_from_ne_true _ (λ opening. none (byte_len before) (record { opens = opening; deep = opens_deep before s st c runs dead short slash opening; place = refl }))
+  opening_false short slash none = false_from_ne_true _ (λ opening. none (byte_len before) (record { opens = opening; deep = opens_deep before s st c steps dead short slash opening; place = refl }))
 
   named : (cause : Cause) (offset : ℕ) → Explains cause before c offset → NoneExplains (causes_before cause) before c → IsNamed (kind_of_cause cause) offset s before c
   named breaks_string offset fits none =
       let stands = stands_in_short before fits.start fits.inside in
-      let short = such_mode in_short before fits.start s stands runs.run in
-      (kind_string s.mode c short, fits.place ∙ ap byte_len (sym (such_start in_short before fits.start s stands runs.run)) ∙ early s before (or_left _ _ short))
+      let short = such_mode in_short before fits.start s stands steps.run in
+      (kind_string s.mode c short, fits.place ∙ ap byte_len (sym (such_start in_short before fits.start s stands steps.run)) ∙ early s before (or_left _ _ short))
   named breaks_join offset fits none =
       let stands = stands_behind_slash before fits.start fits.behind in
-      let slash = such_mode is_after_backslash before fits.start s stands runs.run in
-      (kind_join s.mode c (slash_not_short s.mode slash) slash, fits.place ∙ ap byte_len (sym (such_start is_after_backslash before fits.start s stands runs.run)) ∙ early s before (or_right _ _ slash))
+      let slash = such_mode is_after_backslash before fits.start s stands steps.run in
+      (kind_join s.mode c (slash_not_short s.mode slash) slash, fits.place ∙ ap byte_len (sym (such_start is_after_backslash before fits.start s stands steps.run)) ∙ early s before (or_right _ _ slash))
   named closes_wrong offset fits none =
       let short = short_false none.0 in
       let slash = slash_false none.1.0 in
@@ -127,7 +127,7 @@ one_character characters kind other offset place first second =
     let two = live_runs second.before second.dies.live in
     let here = named first.before first.c one.0 one.1 one.2 first.dies.dead first.cause offset first.fits first.first in
     let there = named second.before second.c two.0 two.1 two.2 second.dies.dead second.cause place second.fits second.first in
-    let state : one.0 ≡ two.0 = same_state second.before one.0 two.0 (ap (run_from (Some text_start)) (sym same.0) ∙ one.2.run) two.2.run in (
+    let state : one.0 ≡ two.0 = same_state second.before one.0 two.0 (ap (steps_from (Some text_start)) (sym same.0) ∙ one.2.run) two.2.run in (
       first.is ∙ here.0 ∙ ap (λ (s : Scanned). character_kind s.mode first.c) state ∙ ap (character_kind two.0.mode) same.1 ∙ sym there.0 ∙ sym second.is,
       here.1 ∙ ap (λ (s : Scanned). character_place s first.before) state ∙ ap (character_place two.0) same.0 ∙ sym there.1,
     )
@@ -172,24 +172,24 @@ may_begin [] = refl
 may_begin (p ∷ ps) = tt
 
 end_named : (what : Unfinished) (characters start : List ℕ) (offset : ℕ) (s : Scanned) (st : List Bracket) → RunsTo characters s st → IsOpenAtEnd what characters start → offset ≡ byte_len start → (kind_of_unfinished what ≡ end_kind s.mode) × (offset ≡ end_place s st)
-end_named open_short characters start offset s st runs is place =
+end_named open_short characters start offset s st steps is place =
     let stands = stands_in_short characters start is in
-    let short = such_mode in_short characters start s stands runs.run in
-    (end_string s.mode short, place ∙ ap byte_len (sym (such_start in_short characters start s stands runs.run)) ∙ sym (end_place_is s st (short_not_end s.mode short)))
-end_named open_long characters start offset s st runs is place =
+    let short = such_mode in_short characters start s stands steps.run in
+    (end_string s.mode short, place ∙ ap byte_len (sym (such_start in_short characters start s stands steps.run)) ∙ sym (end_place_is s st (short_not_end s.mode short)))
+end_named open_long characters start offset s st steps is place =
     let stands = stands_in_long characters start is in
-    let long = such_mode in_long characters start s stands runs.run in
-    (end_triple s.mode (long_not_short s.mode long) long, place ∙ ap byte_len (sym (such_start in_long characters start s stands runs.run)) ∙ sym (end_place_is s st (long_not_end s.mode long)))
-end_named open_join characters start offset s st runs is place =
+    let long = such_mode in_long characters start s stands steps.run in
+    (end_triple s.mode (long_not_short s.mode long) long, place ∙ ap byte_len (sym (such_start in_long characters start s stands steps.run)) ∙ sym (end_place_is s st (long_not_end s.mode long)))
+end_named open_join characters start offset s st steps is place =
     let stands = stands_behind_slash characters start is in
-    let slash = such_mode is_after_backslash characters start s stands runs.run in
-    (end_join s.mode (slash_not_short s.mode slash) (slash_not_long s.mode slash) slash, place ∙ ap byte_len (sym (such_start is_after_backslash characters start s stands runs.run)) ∙ sym (end_place_is s st (slash_not_end s.mode slash)))
-end_named open_bracket characters start offset s st runs is place =
+    let slash = such_mode is_after_backslash characters start s stands steps.run in
+    (end_join s.mode (slash_not_short s.mode slash) (slash_not_long s.mode slash) slash, place ∙ ap byte_len (sym (such_start is_after_backslash characters start s stands steps.run)) ∙ sym (end_place_is s st (slash_not_end s.mode slash)))
+end_named open_bracket characters start offset s st steps is place =
     let all = is.outer ++ is.opener ∷ is.inner in
     let found = reach all [] is.fit in
-    let state : found.to ≡ s = same_state characters found.to s (ap (run_from (Some text_start)) (sym is.spell) ∙ found.runs) runs.run in
+    let state : found.to ≡ s = same_state characters found.to s (ap (steps_from (Some text_start)) (sym is.spell) ∙ found.steps) steps.run in
     let may : is_final s.mode ≡ true = ap (λ (t : Scanned). is_final t.mode) (sym state) ∙ found.stops (may_begin all) in
-    let stack : brackets_of all ≡ Some st = ap brackets_of (sym found.pieces_are ∙ ap pieces_at state) ∙ stack_closed s.mode s.done s.held st runs.stack in
+    let stack : brackets_of all ≡ Some st = ap brackets_of (sym found.pieces_are ∙ ap pieces_at state) ∙ stack_closed s.mode s.done s.held st steps.stack in
     let not = ends_not s.mode may in
     (end_bracket s.mode not.0 not.1 not.2, place ∙ sym (top_bracket characters start st is stack) ∙ sym (ap (λ (b : Bool). cond b (top_place st) (byte_len (spelled s.done))) may))
 

@@ -8,7 +8,7 @@ use Rattle.py_lines.specs.declared.fault.FaultKind.{FaultKind}
 use Rattle.py_lines.specs.declared.fault.FaultKind.TheVariants as faults
 use Rattle.py_lines.specs.LogicalLine.{byte_len}
 use Rattle.py_lines.specs.Private.Machine.{Scanned, text_start, step, is_final, character_kind, character_place, end_kind, end_place, Bracket, brackets_of}
-use Rattle.py_lines.proofs.Machine.PieceRuns.{pieces_at}
+use Rattle.py_lines.proofs.Machine.PieceSteps.{pieces_at}
 use Rattle.py_lines.proofs.Machine.Advance.{kept, kept_if, RunsTo, goes_step, goes_once}
 use Rattle.py_lines.proofs.Machine.LiveTexts.{reading_at, run_of_reading, reading_live}
 use Rattle.py_lines.proofs.Faults.FaultPlaces.{dead_stop, character_fault, end_fault, unread_at}
@@ -52,32 +52,32 @@ Verdict characters None = (pieces : List Piece) × IsBalancedReading pieces char
 Verdict characters (Some f) = IsCharacterFault f.kind characters f.place ⊎ IsEndFault f.kind characters [] f.place
 
 pub open_unread : (characters : List ℕ) (s : Scanned) (b : Bracket) (bs : List Bracket) → RunsTo characters s (b ∷ bs) → (pieces : List Piece) → ¬ (IsBalancedReading pieces characters)
-open_unread characters s b bs runs pieces reading =
+open_unread characters s b bs steps pieces reading =
     let found = run_of_reading pieces characters reading in
-    let same : b ∷ bs ≡ [] = (goes_once runs found.runs).1 in
+    let same : b ∷ bs ≡ [] = (goes_once steps found.steps).1 in
     cc
 
 end_verdict : (characters : List ℕ) (s : Scanned) (st : List Bracket) → RunsTo characters s st → Verdict characters (found_at_end s st)
-end_verdict characters s [] runs =
+end_verdict characters s [] steps =
     cond_both (is_final s.mode) _ _ (Verdict characters)
-    (λ may. (pieces_at s, reading_at characters s runs may))
-    (λ may. inr (end_fault characters [] s [] refl runs (unread_at characters s runs.run may)))
-end_verdict characters s (b ∷ bs) runs = inr (end_fault characters [] s (b ∷ bs) refl runs (open_unread characters s b bs runs))
+    (λ may. (pieces_at s, reading_at characters s steps may))
+    (λ may. inr (end_fault characters [] s [] refl steps (unread_at characters s steps.run may)))
+end_verdict characters s (b ∷ bs) steps = inr (end_fault characters [] s (b ∷ bs) refl steps (open_unread characters s b bs steps))
 
 verdict_from : (cs before characters : List ℕ) (s : Scanned) (st : List Bracket) → before ++ cs ≡ characters → RunsTo before s st → Verdict characters (fault_from s st before cs)
-verdict_from [] before characters s st spell runs = end_verdict characters s st (subst (λ t. RunsTo t s st) (sym (append-nil before) ∙ spell) runs)
-verdict_from (c ∷ cs) before characters s st spell runs =
+verdict_from [] before characters s st spell steps = end_verdict characters s st (subst (λ t. RunsTo t s st) (sym (append-nil before) ∙ spell) steps)
+verdict_from (c ∷ cs) before characters s st spell steps =
     go (step s c) refl (λ t bs next. verdict_from cs (before ++ c ∷ []) characters t bs (append_assoc before (c ∷ []) cs ∙ spell) next)
   where
     dead : ¬ (IsLive (before ++ c ∷ [])) → Verdict characters (found_at s before c)
-    dead h = inl (character_fault characters before cs c s st spell runs h)
+    dead h = inl (character_fault characters before cs c s st spell steps h)
 
     stacked : (t : Scanned) → step s c ≡ Some t → ((bs : List Bracket) → RunsTo (before ++ c ∷ []) t bs → Verdict characters (fault_from t bs (before ++ c ∷ []) cs)) → (o : Option (List Bracket)) → brackets_of t.done ≡ o → Verdict characters (on_stack o (found_at s before c) (λ bs. fault_from t bs (before ++ c ∷ []) cs))
-    stacked t is later None none = dead (dead_stop before s st c runs (ap kept_if is ∙ ap (kept t) none))
-    stacked t is later (Some bs) some = later bs (goes_step t c bs runs is some)
+    stacked t is later None none = dead (dead_stop before s st c steps (ap kept_if is ∙ ap (kept t) none))
+    stacked t is later (Some bs) some = later bs (goes_step t c bs steps is some)
 
     go : (o : Option Scanned) → step s c ≡ o → ((t : Scanned) (bs : List Bracket) → RunsTo (before ++ c ∷ []) t bs → Verdict characters (fault_from t bs (before ++ c ∷ []) cs)) → Verdict characters (on_step o (found_at s before c) (λ t bs. fault_from t bs (before ++ c ∷ []) cs))
-    go None none later = dead (dead_stop before s st c runs (ap kept_if none))
+    go None none later = dead (dead_stop before s st c steps (ap kept_if none))
     go (Some t) is later = stacked t is (later t) (brackets_of t.done) refl
 
 -- a text is read, or has the fault that is computed

@@ -5,10 +5,10 @@ use Rattle.unicode_ident.proofs.Computing.{unicode_ident}
 use Rattle.py_lines.specs.Character.{is_mark, is_space, is_word_character, is_word_start, is_digit, is_quote, is_operator, is_line_feed, is_return, is_break, is_hash, is_backslash, is_r, is_b, is_f, is_u}
 use Rattle.py_lines.specs.Piece.{Class, mark, space, word, string, operator, comment, join, line_end, Piece}
 use Rattle.py_lines.specs.Balance.{is_opening, is_closing}
-use Rattle.py_lines.specs.Private.Machine.{text_start, run_from, move_of, short_move, long_move, start_of, first_spelling, spelling_with, brackets_after, Scanned}
+use Rattle.py_lines.specs.Private.Machine.{text_start, steps_from, move_of, short_move, long_move, start_of, first_spelling, spelling_with, brackets_after, Scanned}
 use Rattle.py_lines.specs.declared.fault.FaultKind.{FaultKind}
 use Rattle.py_lines.specs.declared.fault.FaultKind.TheVariants as faults
-use Rattle.py_lines.proofs.Machine.PieceRuns.{pieces_at}
+use Rattle.py_lines.proofs.Machine.PieceSteps.{pieces_at}
 use Rattle.py_lines.proofs.Faults.Verdict.{Found, fault_of}
 
 -- what the rows compute with
@@ -247,66 +247,66 @@ unfolding tested
 null = refl
 
 -- ''
-read-empty : pieces_of (run_from (Some text_start) ([])) ≡ Some ([])
+read-empty : pieces_of (steps_from (Some text_start) ([])) ≡ Some ([])
 unfolding tested
 read-empty = refl
 
 -- '\ufeff'
-read-mark_alone : pieces_of (run_from (Some text_start) (65279 ∷ [])) ≡ Some (piece mark (65279 ∷ []) ∷ [])
+read-mark_alone : pieces_of (steps_from (Some text_start) (65279 ∷ [])) ≡ Some (piece mark (65279 ∷ []) ∷ [])
 unfolding tested
 read-mark_alone = refl
 
 -- '\ufeff \tx'
-read-mark_and_indent : pieces_of (run_from (Some text_start) (65279 ∷ 32 ∷ 9 ∷ 120 ∷ [])) ≡ Some (piece mark (65279 ∷ []) ∷ piece space (codes " \t") ∷ piece word (codes "x") ∷ [])
+read-mark_and_indent : pieces_of (steps_from (Some text_start) (65279 ∷ 32 ∷ 9 ∷ 120 ∷ [])) ≡ Some (piece mark (65279 ∷ []) ∷ piece space (codes " \t") ∷ piece word (codes "x") ∷ [])
 unfolding tested
 read-mark_and_indent = refl
 
 -- 'a = [\n1]\n\n# c\n'
-read-brackets : pieces_of (run_from (Some text_start) (codes "a = [\n1]\n\n# c\n")) ≡ Some (piece word (codes "a") ∷ piece space (codes " ") ∷ piece operator (codes "=") ∷ piece space (codes " ") ∷ piece operator (codes "[") ∷ piece line_end (codes "\n") ∷ piece word (codes "1") ∷ piece operator (codes "]") ∷ piece line_end (codes "\n") ∷ piece line_end (codes "\n") ∷ piece comment (codes "# c") ∷ piece line_end (codes "\n") ∷ [])
+read-brackets : pieces_of (steps_from (Some text_start) (codes "a = [\n1]\n\n# c\n")) ≡ Some (piece word (codes "a") ∷ piece space (codes " ") ∷ piece operator (codes "=") ∷ piece space (codes " ") ∷ piece operator (codes "[") ∷ piece line_end (codes "\n") ∷ piece word (codes "1") ∷ piece operator (codes "]") ∷ piece line_end (codes "\n") ∷ piece line_end (codes "\n") ∷ piece comment (codes "# c") ∷ piece line_end (codes "\n") ∷ [])
 unfolding tested
 read-brackets = refl
 
 -- "'''a\r\nb'''\rx"
-read-long_string : pieces_of (run_from (Some text_start) (codes "'''a\r\nb'''\rx")) ≡ Some (piece string (codes "'''a\r\nb'''") ∷ piece line_end (codes "\r") ∷ piece word (codes "x") ∷ [])
+read-long_string : pieces_of (steps_from (Some text_start) (codes "'''a\r\nb'''\rx")) ≡ Some (piece string (codes "'''a\r\nb'''") ∷ piece line_end (codes "\r") ∷ piece word (codes "x") ∷ [])
 unfolding tested
 read-long_string = refl
 
 -- 'rb\'x\' u"y"'
-read-prefixes : pieces_of (run_from (Some text_start) (codes "rb'x' u\"y\"")) ≡ Some (piece string (codes "rb'x'") ∷ piece space (codes " ") ∷ piece string (codes "u\"y\"") ∷ [])
+read-prefixes : pieces_of (steps_from (Some text_start) (codes "rb'x' u\"y\"")) ≡ Some (piece string (codes "rb'x'") ∷ piece space (codes " ") ∷ piece string (codes "u\"y\"") ∷ [])
 unfolding tested
 read-prefixes = refl
 
 -- "ab'x'"
-read-no_prefix : pieces_of (run_from (Some text_start) (codes "ab'x'")) ≡ Some (piece word (codes "ab") ∷ piece string (codes "'x'") ∷ [])
+read-no_prefix : pieces_of (steps_from (Some text_start) (codes "ab'x'")) ≡ Some (piece word (codes "ab") ∷ piece string (codes "'x'") ∷ [])
 unfolding tested
 read-no_prefix = refl
 
 -- '1if x'
-read-number_word : pieces_of (run_from (Some text_start) (codes "1if x")) ≡ Some (piece word (codes "1if") ∷ piece space (codes " ") ∷ piece word (codes "x") ∷ [])
+read-number_word : pieces_of (steps_from (Some text_start) (codes "1if x")) ≡ Some (piece word (codes "1if") ∷ piece space (codes " ") ∷ piece word (codes "x") ∷ [])
 unfolding tested
 read-number_word = refl
 
 -- '\\\n'
-read-join_alone : pieces_of (run_from (Some text_start) (codes "\\\n")) ≡ Some (piece join (codes "\\\n") ∷ [])
+read-join_alone : pieces_of (steps_from (Some text_start) (codes "\\\n")) ≡ Some (piece join (codes "\\\n") ∷ [])
 unfolding tested
 read-join_alone = refl
 
 -- 'x = 1 + \\\r\n  2\r\ny'
-read-joined_line : pieces_of (run_from (Some text_start) (codes "x = 1 + \\\r\n  2\r\ny")) ≡ Some (piece word (codes "x") ∷ piece space (codes " ") ∷ piece operator (codes "=") ∷ piece space (codes " ") ∷ piece word (codes "1") ∷ piece space (codes " ") ∷ piece operator (codes "+") ∷ piece space (codes " ") ∷ piece join (codes "\\\r\n") ∷ piece space (codes "  ") ∷ piece word (codes "2") ∷ piece line_end (codes "\r\n") ∷ piece word (codes "y") ∷ [])
+read-joined_line : pieces_of (steps_from (Some text_start) (codes "x = 1 + \\\r\n  2\r\ny")) ≡ Some (piece word (codes "x") ∷ piece space (codes " ") ∷ piece operator (codes "=") ∷ piece space (codes " ") ∷ piece word (codes "1") ∷ piece space (codes " ") ∷ piece operator (codes "+") ∷ piece space (codes " ") ∷ piece join (codes "\\\r\n") ∷ piece space (codes "  ") ∷ piece word (codes "2") ∷ piece line_end (codes "\r\n") ∷ piece word (codes "y") ∷ [])
 unfolding tested
 read-joined_line = refl
 
 -- '\xe9\r\ny'
-read-letters : pieces_of (run_from (Some text_start) (233 ∷ 13 ∷ 10 ∷ 121 ∷ [])) ≡ Some (piece word (233 ∷ []) ∷ piece line_end (codes "\r\n") ∷ piece word (codes "y") ∷ [])
+read-letters : pieces_of (steps_from (Some text_start) (233 ∷ 13 ∷ 10 ∷ 121 ∷ [])) ≡ Some (piece word (233 ∷ []) ∷ piece line_end (codes "\r\n") ∷ piece word (codes "y") ∷ [])
 unfolding tested
 read-letters = refl
 
 -- '\x0cx'
-read-form_feed : pieces_of (run_from (Some text_start) (12 ∷ 120 ∷ [])) ≡ Some (piece space (12 ∷ []) ∷ piece word (codes "x") ∷ [])
+read-form_feed : pieces_of (steps_from (Some text_start) (12 ∷ 120 ∷ [])) ≡ Some (piece space (12 ∷ []) ∷ piece word (codes "x") ∷ [])
 unfolding tested
 read-form_feed = refl
 
 -- '\r\r\n\nx'
-read-line_ends : pieces_of (run_from (Some text_start) (codes "\r\r\n\nx")) ≡ Some (piece line_end (codes "\r") ∷ piece line_end (codes "\r\n") ∷ piece line_end (codes "\n") ∷ piece word (codes "x") ∷ [])
+read-line_ends : pieces_of (steps_from (Some text_start) (codes "\r\r\n\nx")) ≡ Some (piece line_end (codes "\r") ∷ piece line_end (codes "\r\n") ∷ piece line_end (codes "\n") ∷ piece word (codes "x") ∷ [])
 unfolding tested
 read-line_ends = refl

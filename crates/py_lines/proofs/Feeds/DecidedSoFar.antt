@@ -18,7 +18,7 @@ use Rattle.py_lines.specs.Private.Machine.{Scanned, step, in_short, is_after_bac
 use Rattle.py_lines.specs.Private.Scan.{EndsNoLine, line_start, none_open, is_return_mode, stack_if}
 use Rattle.py_lines.specs.Private.LineState.{first_mode}
 use Rattle.py_lines.proofs.Text.Utf8Prefixes.{nothing_bad}
-use Rattle.py_lines.proofs.Machine.PieceRuns.{pieces_at}
+use Rattle.py_lines.proofs.Machine.PieceSteps.{pieces_at}
 use Rattle.py_lines.proofs.Machine.Advance.{GoesTo}
 use Rattle.py_lines.proofs.Machine.LiveTexts.{runs_live}
 use Rattle.py_lines.proofs.Faults.FaultPlaces.{character_fault}
@@ -28,7 +28,7 @@ use Rattle.py_lines.proofs.Lexings.GivenLines.{base_lines}
 use Rattle.py_lines.proofs.Lexings.Uniqueness.{decoded}
 use Rattle.py_lines.proofs.LogicalLines.Cuts.{byte_len-append}
 use Rattle.py_lines.proofs.LineScan.NextCharacter.{closed_one_line}
-use Rattle.py_lines.proofs.LineScan.TextRun.{base_of, Joined, joined, dead_at}
+use Rattle.py_lines.proofs.LineScan.TextSteps.{base_of, Joined, joined, dead_at}
 use Rattle.py_lines.proofs.Readers.FaultAnswers.{open_return, same_kind}
 use Rattle.py_lines.proofs.Readers.LineAnswers.{Within}
 use Rattle.py_lines.proofs.Feeds.Known as of
@@ -68,7 +68,7 @@ module _ (text : List ℕ) (place line : ℕ) (lines : List LogicalLine) (read r
       let characters = spelled k.base ++ read in
       let bad : StartsWithNoChar rest = subst StartsWithNoChar (append-nil rest) (hopeless []) in
       let decodes : Decodes (of.bytes text place line lines read rest k) characters (d ∷ ds) = subst (λ t. Decodes (of.bytes text place line lines read rest k) characters t) is (of.decodes text place line lines read rest k bad) in
-      let lexed = refused_at_bytes (of.bytes text place line lines read rest k) characters d ds j.state j.st k.base fault decodes j.runs (front_of s st goes one_line open_yet) kind
+      let lexed = refused_at_bytes (of.bytes text place line lines read rest k) characters d ds j.state j.st k.base fault decodes j.steps (front_of s st goes one_line open_yet) kind
       (omega (arith, at, k.here, byte_len-append (spelled k.base) read))
       (line_behind faults.BadUtf8 (byte_len read) read [] fault (append-nil read) refl at number characters [] (append-nil _)) in (
         record {
@@ -87,7 +87,7 @@ module _ (text : List ℕ) (place line : ℕ) (lines : List LogicalLine) (read r
       let j = of.joins text place line lines read rest k s st goes in
       let same = decoded (of.bytes text place line lines read rest k) (spelled k.base ++ read) d.characters rest d.tail (of.decodes text place line lines read rest k bad) d.decodes in
       ⊎_elim
-      (λ dies. not_live d.characters fault.kind fault.offset dies (subst IsLive same.0 (runs_live (spelled k.base ++ read) j.state j.st j.runs)))
+      (λ dies. not_live d.characters fault.kind fault.offset dies (subst IsLive same.0 (runs_live (spelled k.base ++ read) j.state j.st j.steps)))
       (λ stays. more (subst IsHopeless (sym same.1) stays.1))
       d.stays
 
@@ -118,9 +118,9 @@ module _ (text : List ℕ) (place line : ℕ) (lines : List LogicalLine) (read :
       at ∙ ap (λ (n : ℕ). n + refused_after s read) k.here
       ∙ place_of (in_short s.mode || is_after_backslash s.mode) (byte_len (spelled k.base)) (byte_len (spelled s.done)) (byte_len read) (byte_len (spelled k.base ++ read)) (byte_len (spelled j.state.done)) j.start (byte_len-append (spelled k.base) read)
       ∙ ap (λ (b : Bool). if b then byte_len (spelled j.state.done) else byte_len (spelled k.base ++ read)) flags in
-      let lexed = refused_at_character all_known characters [] (spelled k.base ++ read) [] c j.state j.st k.base fault decodes spell j.runs dead front kind_is here
+      let lexed = refused_at_character all_known characters [] (spelled k.base ++ read) [] c j.state j.st k.base fault decodes spell j.steps dead front kind_is here
       (line_behind text place line lines (read ++ c ∷ []) [] k fault.kind (refused_after s read) w.front (w.later ++ c ∷ []) fault (sym (append_assoc w.front w.later (c ∷ [])) ∙ ap (λ t. t ++ c ∷ []) w.split) w.size at number characters [] (append-nil _)) in
-      let found = character_fault characters (spelled k.base ++ read) [] c j.state j.st spell j.runs dead in (
+      let found = character_fault characters (spelled k.base ++ read) [] c j.state j.st spell j.steps dead in (
         record {
           characters = characters;
           tail = [];

@@ -18,7 +18,7 @@ use Rattle.py_lines.specs.Private.Scan.{EndsNoLine, line_start, none_open}
 use Rattle.py_lines.specs.Private.LineState.{first_mode}
 use Rattle.py_lines.proofs.Text.Utf8Prefixes.{nothing_bad}
 use Rattle.py_lines.proofs.Pieces.PieceLists.{spelled-append}
-use Rattle.py_lines.proofs.Machine.PieceRuns.{pieces_at}
+use Rattle.py_lines.proofs.Machine.PieceSteps.{pieces_at}
 use Rattle.py_lines.proofs.Machine.EarlierPieces.{shift}
 use Rattle.py_lines.proofs.Machine.Advance.{GoesTo, RunsTo, goes_once}
 use Rattle.py_lines.proofs.Machine.LiveTexts.{reading_at, run_of_reading}
@@ -66,7 +66,7 @@ module _ (text : List ℕ) (place line : ℕ) (lines : List LogicalLine) (read r
       let characters = spelled k.base ++ read in
       let decodes : Decodes text characters (d ∷ ds) = subst (λ t. Decodes t characters (d ∷ ds)) all (subst (λ t. Decodes (of.bytes text place line lines read rest k) characters t) is (of.decodes text place line lines read rest k bad)) in
       subst (λ l. IsLexedToFault text l fault) (sym k.cut)
-      (refused_at_bytes text characters d ds j.state j.st k.base fault decodes j.runs (decided.front_of text place line lines read rest k s st goes one_line open_yet) kind
+      (refused_at_bytes text characters d ds j.state j.st k.base fault decodes j.steps (decided.front_of text place line lines read rest k s st goes one_line open_yet) kind
       (omega (arith, at, k.here, byte_len-append (spelled k.base) read))
       (decided.line_behind text place line lines read rest k faults.BadUtf8 (byte_len read) read [] fault (append-nil read) refl at number characters [] (append-nil _)))
 
@@ -77,11 +77,11 @@ module _ (text : List ℕ) (place line : ℕ) (lines : List LogicalLine) (read r
   unread : (s : Scanned) (st : List Bracket) (goes : GoesTo (line_start (first_mode place)) read s st) → 0 < byte_len read → (is_final s.mode ≡ false) ⊎ ((b : Bracket) × (others : List Bracket) × (st ≡ b ∷ others)) → (pieces : List Piece) → ¬ (IsBalancedReading pieces (spelled k.base ++ read))
   unread s st goes some (inl unfinal) =
       let j = of.joins text place line lines read rest k s st goes in
-      unread_at (spelled k.base ++ read) j.state j.runs.run (ap (λ (t : Scanned). is_final t.mode) (j.same some).0 ∙ unfinal)
+      unread_at (spelled k.base ++ read) j.state j.steps.run (ap (λ (t : Scanned). is_final t.mode) (j.same some).0 ∙ unfinal)
   unread s st goes some (inr (b, others, top)) = λ pieces reading.
       let j = of.joins text place line lines read rest k s st goes in
       let ran = run_of_reading pieces (spelled k.base ++ read) reading in
-      let none : shift (byte_len (spelled k.base)) (b ∷ others) ≡ [] = ap (shift (byte_len (spelled k.base))) (sym top) ∙ sym (j.same some).1 ∙ (goes_once j.runs ran.runs).1 in
+      let none : shift (byte_len (spelled k.base)) (b ∷ others) ≡ [] = ap (shift (byte_len (spelled k.base))) (sym top) ∙ sym (j.same some).1 ∙ (goes_once j.steps ran.steps).1 in
       cc
 
   place_at : (s : Scanned) (st : List Bracket) (b : Bool) → is_final s.mode ≡ b → (is_final s.mode ≡ false) ⊎ ((c : Bracket) × (others : List Bracket) × (st ≡ c ∷ others)) → place + (if b then top_place st else byte_len (spelled s.done)) ≡ (if b then top_place (shift (byte_len (spelled k.base)) st) else byte_len (spelled (k.base ++ s.done)))
@@ -95,7 +95,7 @@ module _ (text : List ℕ) (place line : ℕ) (lines : List LogicalLine) (read r
       let characters = spelled k.base ++ read in
       let here : fault.offset ≡ end_place j.state j.st = at ∙ place_at s st (is_final s.mode) refl unfinished ∙ ap (λ (t : Scanned). end_place t (shift (byte_len (spelled k.base)) st)) (sym (j.same some).0) ∙ ap (end_place j.state) (sym (j.same some).1) in
       subst (λ l. IsLexedToFault text l fault) (sym k.cut)
-      (refused_at_end text characters j.state j.st k.base fault (all_decoded none) j.runs (unread s st goes some unfinished)
+      (refused_at_end text characters j.state j.st k.base fault (all_decoded none) j.steps (unread s st goes some unfinished)
       (decided.front_of text place line lines read rest k s st goes one_line open_yet)
       (kind ∙ ap (λ (t : Scanned). end_kind t.mode) (sym (j.same some).0))
       here
@@ -106,7 +106,7 @@ module _ (text : List ℕ) (place line : ℕ) (lines : List LogicalLine) (read r
   ended_line none s goes final some one =
       let j = of.joins text place line lines read rest k s [] goes in
       let characters = spelled k.base ++ read in
-      let reading = reading_at characters j.state (subst (RunsTo characters j.state) (j.same some).1 j.runs) (ap (λ (t : Scanned). is_final t.mode) (j.same some).0 ∙ final) in
+      let reading = reading_at characters j.state (subst (RunsTo characters j.state) (j.same some).1 j.steps) (ap (λ (t : Scanned). is_final t.mode) (j.same some).0 ∙ final) in
       let pieces = subst (λ l. IsBalancedReading l characters) j.pieces reading in
       record {
         characters = characters;

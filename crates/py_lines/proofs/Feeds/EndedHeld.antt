@@ -24,10 +24,10 @@ use Rattle.py_lines.specs.Private.Machine.{Bracket, is_final, end_kind, top_plac
 use Rattle.py_lines.specs.Private.Scan.{Closes, Tallies, is_returned, is_return_mode, none_open, stack_of, line_start, IsOpenFrom, IsUnfinished}
 use Rattle.py_lines.specs.Private.LineState.{first_mode}
 use Rattle.py_lines.specs.Private.Feed.{KeepsText, IsOpen, IsPart, FailsAt, ClosesLine, EndsWith, IsLastLine, IsEndFault, EndsHeld}
-use Rattle.py_lines.proofs.Machine.PieceRuns.{pieces_at}
+use Rattle.py_lines.proofs.Machine.PieceSteps.{pieces_at}
 use Rattle.py_lines.proofs.Machine.Advance.{GoesTo}
 use Rattle.py_lines.proofs.LineScan.PieceEnd.{closes_shut}
-use Rattle.py_lines.proofs.LineScan.TextRun.{way_goes}
+use Rattle.py_lines.proofs.LineScan.TextSteps.{way_goes}
 use Rattle.py_lines.proofs.Readers.LineAnswers.{IsLine, Within}
 use Rattle.py_lines.proofs.Readers.EndAnswers.{end_return, within_open, line_at_text_end, line_at_return}
 use Rattle.py_lines.proofs.Feeds.Known.{IsKnown, is_known}

@@ -28,7 +28,7 @@ use Rattle.py_lines.proofs.Text.Incomplete.{part_none}
 use Rattle.py_lines.proofs.Lexings.DecidedFaults.{decided_lexing}
 use Rattle.py_lines.proofs.Readers.LineAnswers.{Within}
 use Rattle.py_lines.proofs.Readers.EndAnswers.{end_return}
-use Rattle.py_lines.proofs.LineScan.TextRun.{way_goes}
+use Rattle.py_lines.proofs.LineScan.TextSteps.{way_goes}
 use Rattle.py_lines.proofs.Feeds.Known.{is_known}
 use Rattle.py_lines.proofs.Feeds.DecidedSoFar.{refused_after, decided_character, decided_bytes}
 use Rattle.py_lines.proofs.Text.Utf8Prefixes.{scalars_more, spell_more}

@@ -27,7 +27,7 @@ use Rattle.py_lines.proofs.Text.Incomplete.{part_none}
 use Rattle.py_lines.proofs.Machine.LiveTexts.{reading_live}
 use Rattle.py_lines.proofs.Faults.Uniqueness.{not_live}
 use Rattle.py_lines.proofs.Lexings.Uniqueness.{decoded}
-use Rattle.py_lines.proofs.LineScan.TextRun.{way_goes}
+use Rattle.py_lines.proofs.LineScan.TextSteps.{way_goes}
 use Rattle.py_lines.proofs.Feeds.Known.{IsKnown, known_after, is_known}
 use Rattle.py_lines.proofs.Feeds.SettledSoFar.{MayGetFeed, Follow, settled_open, settled_ready, ended_before}
 use Rattle.py_lines.proofs.Feeds.DecidedSoFar.{undecided}

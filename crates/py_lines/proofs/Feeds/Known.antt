@@ -20,7 +20,7 @@ use Rattle.py_lines.proofs.Text.Continued.{goes_on}
 use Rattle.py_lines.proofs.Text.Utf8Prefixes.{all_scalars-parts, all_scalars-append}
 use Rattle.py_lines.proofs.Pieces.OpenBrackets.{stack-from_balanced}
 use Rattle.py_lines.proofs.Machine.Advance.{GoesTo}
-use Rattle.py_lines.proofs.LineScan.TextRun.{Base, base_of, Joined, joined}
+use Rattle.py_lines.proofs.LineScan.TextSteps.{Base, base_of, Joined, joined}
 
 -- the lines given, the characters read after them and the bytes left, which are all that is known of the text
 pub record IsKnown (text : List ℕ) (place line : ℕ) (lines : List LogicalLine) (read rest : List ℕ) : Type 0 where

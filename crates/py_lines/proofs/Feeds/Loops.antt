@@ -56,7 +56,7 @@ restarts_open old new r =
     record {
       scalars = refl;
       spell = refl;
-      way = subst (λ (n : ℕ). IsUnderWay (first_mode n) new.state.scan []) (sym keeps.place) (record { state = line_start (first_mode old.state.place); runs = refl; tallies = r.begins.tallies; stacked = r.begins.stacked; one_line = tt });
+      way = subst (λ (n : ℕ). IsUnderWay (first_mode n) new.state.scan []) (sym keeps.place) (record { state = line_start (first_mode old.state.place); steps = refl; tallies = r.begins.tallies; stacked = r.begins.stacked; one_line = tt });
       number = r.begins.number ∙ sym keeps.line;
     }
 

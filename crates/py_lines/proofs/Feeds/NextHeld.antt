@@ -51,7 +51,7 @@ module _ (text : List ℕ) (f : Feed) (lines : List LogicalLine) (end_len : ℕ)
         whole = line.whole;
         stacked = line.stacked;
         to = line.to;
-        runs = line.runs;
+        steps = line.steps;
       }
 
   pub next_is : line_of_feed f end_len ≡ line_of f.state.place f.state.line next_pieces

@@ -11,7 +11,7 @@ use Rattle.py_lines.specs.Balance.{depth_through}
 use Rattle.py_lines.specs.LogicalLine.{LogicalLine, cut, byte_len, line_of, lines_of}
 use Rattle.py_lines.specs.Reading.{Decodes, IsBalancedReading, EndsLine}
 use Rattle.py_lines.specs.Settled.{EndsForGood, IsSettled}
-use Rattle.py_lines.specs.Private.Machine.{Scanned, run_from, Bracket, brackets_of, IsSound}
+use Rattle.py_lines.specs.Private.Machine.{Scanned, steps_from, Bracket, brackets_of, IsSound}
 use Rattle.py_lines.specs.Private.Scan.{EndsNoLine, line_start}
 use Rattle.py_lines.specs.Private.LineState.{first_mode}
 use Rattle.py_lines.specs.declared.mode.Mode.{Mode}
@@ -28,12 +28,12 @@ use Rattle.py_lines.proofs.Pieces.OpenBrackets.{balanced-from_stack, balanced_de
 use Rattle.py_lines.proofs.LogicalLines.NextLine.{lines_of-push, texts, texts-lines}
 use Rattle.py_lines.proofs.Lexings.LinePrefix.{read-alone}
 use Rattle.py_lines.proofs.Lexings.SettledLines.{ends-line}
-use Rattle.py_lines.proofs.Machine.PieceRuns.{scanned, pieces_at}
+use Rattle.py_lines.proofs.Machine.PieceSteps.{scanned, pieces_at}
 use Rattle.py_lines.proofs.Machine.Advance.{GoesTo}
 use Rattle.py_lines.proofs.Lexings.SettledFront.{EndsNoneYet, settled_at, settled_line}
 use Rattle.py_lines.proofs.LineScan.NextCharacter.{closed_one_line}
-use Rattle.py_lines.proofs.LineScan.LineRun.{sound_run}
-use Rattle.py_lines.proofs.LineScan.TextRun.{begun_sound, follows_base}
+use Rattle.py_lines.proofs.LineScan.LineSteps.{sound_steps}
+use Rattle.py_lines.proofs.LineScan.TextSteps.{begun_sound, follows_base}
 use Rattle.py_lines.proofs.Feeds.Known as of
 use Rattle.py_lines.proofs.Feeds.Known.{IsKnown}
 
@@ -57,14 +57,14 @@ module _ (text : List ℕ) (place line : ℕ) (lines : List LogicalLine) (read r
   pub settled_open : (s : Scanned) (st : List Bracket) → GoesTo (line_start (first_mode place)) read s st → EndsNoLine 0 s.done → StartsWithNoChar rest → 0 < length (encode_utf8_all read ++ rest) → MayGetFeed s.mode st rest → IsSettled (of.bytes text place line lines read rest k) lines
   settled_open s st goes one_line bad some last =
       let j = of.joins text place line lines read rest k s st goes in
-      let sound = sound_run (first_mode place) read s (begun_sound place) goes.run in
+      let sound = sound_steps (first_mode place) read s (begun_sound place) goes.run in
       let good : EndsForGood k.base (read ++ rest) = (k.ended, λ none. absurd (omega (arith, some, nothing_known read rest none))) in
       record {
         characters = spelled k.base ++ read;
         tail = rest;
         pieces = k.base;
         decodes = of.decodes text place line lines read rest k bad;
-        front = settled_at (spelled k.base ++ read) rest j.state j.st k.base (pieces_at s) read j.runs j.pieces good (ends_none s.mode s.done s.held read rest st sound goes.stack one_line last) refl;
+        front = settled_at (spelled k.base ++ read) rest j.state j.st k.base (pieces_at s) read j.steps j.pieces good (ends_none s.mode s.done s.held read rest st sound goes.stack one_line last) refl;
         cut = k.cut;
       }
 
@@ -96,11 +96,11 @@ pub record IsNextLine (place : ℕ) (read more : List ℕ) (u : List Piece) : Ty
   pub whole : cut 0 u ≡ u ∷ []
   pub stacked : brackets_of u ≡ Some []
   pub to : Scanned
-  pub runs : run_from (Some (line_start (first_mode place))) read ≡ Some to
+  pub steps : steps_from (Some (line_start (first_mode place))) read ≡ Some to
 
 module _ (text : List ℕ) (place line : ℕ) (lines : List LogicalLine) (read rest : List ℕ) (k : IsKnown text place line lines read rest) (u : List Piece) (next : IsNextLine place read k.more u) where
   all_fit : AreReadBefore (k.base ++ u) k.more
-  all_fit = AreReadBefore-append k.base u k.more (subst (λ t. AreReadBefore k.base (t ++ k.more)) (sym next.spell) k.fit) next.fit (follows_base place k.base u read k.more next.to (of.stands text place line lines read rest k) next.spell next.fit next.runs)
+  all_fit = AreReadBefore-append k.base u k.more (subst (λ t. AreReadBefore k.base (t ++ k.more)) (sym next.spell) k.fit) next.fit (follows_base place k.base u read k.more next.to (of.stands text place line lines read rest k) next.spell next.fit next.steps)
 
   all_spelled : spelled (k.base ++ u) ≡ spelled k.base ++ read
   all_spelled = spelled-append k.base u ∙ ap (λ t. spelled k.base ++ t) next.spell

@@ -19,14 +19,14 @@ use Rattle.py_lines.specs.Private.Feed.{KeepsText, IsOpen, EndsLineHeld}
 use Rattle.py_lines.proofs.Text.Utf8Prefixes.{all_scalars-parts}
 use Rattle.py_lines.proofs.LogicalLines.Cuts.{byte_len-append}
 use Rattle.py_lines.proofs.LineScan.LineCount.{line_ends-bytes}
-use Rattle.py_lines.proofs.LineScan.LineRun.{sound_run, returned, way_order, way_stop, way_here}
+use Rattle.py_lines.proofs.LineScan.LineSteps.{sound_steps, returned, way_order, way_stop, way_here}
 use Rattle.py_lines.proofs.LineScan.LineStops.{return_ends}
-use Rattle.py_lines.proofs.LineScan.TextRun.{begun_sound}
+use Rattle.py_lines.proofs.LineScan.TextSteps.{begun_sound}
 use Rattle.py_lines.proofs.Readers.LineAnswers.{Within, all_within}
 
 module _ (f : Feed) (read rest : List ℕ) (o : IsOpen f read rest) where
   pub open_sound : IsSound o.way.state read
-  open_sound = sound_run (first_mode f.state.place) read o.way.state (begun_sound f.state.place) o.way.runs
+  open_sound = sound_steps (first_mode f.state.place) read o.way.state (begun_sound f.state.place) o.way.steps
 
   pub open_order : f.state.scan.piece.start ≤ f.state.scan.stop
   open_order = way_order f.state.scan o.way.state o.way.tallies

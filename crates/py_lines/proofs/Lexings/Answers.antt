@@ -11,7 +11,7 @@ use Rattle.py_lines.specs.declared.fault.FaultKind.{FaultKind}
 use Rattle.py_lines.specs.declared.fault.FaultKind.TheVariants as faults
 use Rattle.py_lines.specs.declared.fault.Fault.{Fault}
 use Rattle.py_lines.specs.Private.Machine.{Scanned, is_final, character_kind, character_place, end_kind, end_place, Bracket}
-use Rattle.py_lines.proofs.Machine.PieceRuns.{pieces_at}
+use Rattle.py_lines.proofs.Machine.PieceSteps.{pieces_at}
 use Rattle.py_lines.proofs.Machine.Advance.{RunsTo}
 use Rattle.py_lines.proofs.Machine.LiveTexts.{reading_at, reading_live, runs_live}
 use Rattle.py_lines.proofs.Faults.FaultPlaces.{character_fault, end_fault}
@@ -50,7 +50,7 @@ line_at fault characters is before after spell place =
 
 -- the text is read, where the machine may stop with no bracket open
 pub read_at : (text characters : List ℕ) (s : Scanned) → Decodes text characters [] → RunsTo characters s [] → is_final s.mode ≡ true → IsLexedWhole text (lines_of (pieces_at s))
-read_at text characters s decodes runs may = record { characters = characters; pieces = pieces_at s; decodes = decodes; reading = reading_at characters s runs may; cut = refl }
+read_at text characters s decodes steps may = record { characters = characters; pieces = pieces_at s; decodes = decodes; reading = reading_at characters s steps may; cut = refl }
 
 -- the prefix that a reader has given: up to the last line end at depth 0
 pub record HasPrefix (s : Scanned) (front : List Piece) : Type 0 where
@@ -61,15 +61,15 @@ pub record HasPrefix (s : Scanned) (front : List Piece) : Type 0 where
 
 -- the text is refused at a character
 pub refused_at_character : (text characters tail before after : List ℕ) (c : ℕ) (s : Scanned) (st : List Bracket) (front : List Piece) (fault : Fault) → Decodes text characters tail → before ++ c ∷ after ≡ characters → RunsTo before s st → ¬ (IsLive (before ++ c ∷ [])) → HasPrefix s front → fault.kind ≡ character_kind s.mode c → fault.offset ≡ character_place s before → IsLineOf fault characters → IsLexedToFault text (lines_of front) fault
-refused_at_character text characters tail before after c s st front fault decodes spell runs dead has kind place line =
-    let found = character_fault characters before after c s st spell runs dead in
+refused_at_character text characters tail before after c s st front fault decodes spell steps dead has kind place line =
+    let found = character_fault characters before after c s st spell steps dead in
     let at : IsFaultAt (character_kind s.mode c) characters tail (character_place s before) = at_character found in
     record {
       characters = characters;
       tail = tail;
       pieces = front;
       decodes = decodes;
-      front = front_is before (c ∷ after) characters s st front has.others runs spell (λ d ds same. subst (λ (x : ℕ). ¬ (IsLive (before ++ x ∷ []))) (head_same c d after ds same) dead) has.spell has.ended has.none;
+      front = front_is before (c ∷ after) characters s st front has.others steps spell (λ d ds same. subst (λ (x : ℕ). ¬ (IsLive (before ++ x ∷ []))) (head_same c d after ds same) dead) has.spell has.ended has.none;
       refused = record {
         unread = λ whole pieces reading. dead (live_prefix (before ++ c ∷ []) after (subst IsLive (sym spell ∙ sym (append_assoc before (c ∷ []) after)) (reading_live pieces characters reading)));
         place = subst (λ (o : ℕ). IsFaultAt fault.kind characters tail o) (sym place) (subst (λ (k : FaultKind). IsFaultAt k characters tail (character_place s before)) (sym kind) at);
@@ -86,14 +86,14 @@ nothing_later characters c after same = absurd (cc)
 
 -- the text is refused at its end
 pub refused_at_end : (text characters : List ℕ) (s : Scanned) (st : List Bracket) (front : List Piece) (fault : Fault) → Decodes text characters [] → RunsTo characters s st → ((pieces : List Piece) → ¬ (IsBalancedReading pieces characters)) → HasPrefix s front → fault.kind ≡ end_kind s.mode → fault.offset ≡ end_place s st → IsLineOf fault characters → IsLexedToFault text (lines_of front) fault
-refused_at_end text characters s st front fault decodes runs unread has kind place line =
-    let at : IsFaultAt (end_kind s.mode) characters [] (end_place s st) = at_end (end_fault characters [] s st refl runs unread) in
+refused_at_end text characters s st front fault decodes steps unread has kind place line =
+    let at : IsFaultAt (end_kind s.mode) characters [] (end_place s st) = at_end (end_fault characters [] s st refl steps unread) in
     record {
       characters = characters;
       tail = [];
       pieces = front;
       decodes = decodes;
-      front = front_is characters [] characters s st front has.others runs (append-nil characters) (nothing_later characters) has.spell has.ended has.none;
+      front = front_is characters [] characters s st front has.others steps (append-nil characters) (nothing_later characters) has.spell has.ended has.none;
       refused = record {
         unread = λ whole. unread;
         place = subst (λ (o : ℕ). IsFaultAt fault.kind characters [] o) (sym place) (subst (λ (k : FaultKind). IsFaultAt k characters [] (end_place s st)) (sym kind) at);
@@ -104,15 +104,15 @@ refused_at_end text characters s st front fault decodes runs unread has kind pla
 
 -- the text is refused at bytes that begin no character
 pub refused_at_bytes : (text characters : List ℕ) (d : ℕ) (ds : List ℕ) (s : Scanned) (st : List Bracket) (front : List Piece) (fault : Fault) → Decodes text characters (d ∷ ds) → RunsTo characters s st → HasPrefix s front → fault.kind ≡ faults.BadUtf8 → fault.offset ≡ byte_len characters → IsLineOf fault characters → IsLexedToFault text (lines_of front) fault
-refused_at_bytes text characters d ds s st front fault decodes runs has kind place line = record {
+refused_at_bytes text characters d ds s st front fault decodes steps has kind place line = record {
   characters = characters;
   tail = d ∷ ds;
   pieces = front;
   decodes = decodes;
-  front = front_is characters [] characters s st front has.others runs (append-nil characters) (nothing_later characters) has.spell has.ended has.none;
+  front = front_is characters [] characters s st front has.others steps (append-nil characters) (nothing_later characters) has.spell has.ended has.none;
   refused = record {
     unread = λ (whole : d ∷ ds ≡ []). absurd (cc);
-    place = at_bytes (record { is = kind; bad = λ (h : d ∷ ds ≡ []). cc; live = runs_live characters s st runs; place = place });
+    place = at_bytes (record { is = kind; bad = λ (h : d ∷ ds ≡ []). cc; live = runs_live characters s st steps; place = place });
     line = line_at fault characters line;
   };
   cut = refl;

@@ -15,11 +15,11 @@ use Rattle.py_lines.specs.declared.fault.FaultKind.{FaultKind}
 use Rattle.py_lines.specs.declared.fault.FaultKind.TheVariants as faults
 use Rattle.py_lines.specs.declared.fault.Fault.{Fault}
 use Rattle.py_lines.specs.declared.mode.Mode.TheVariants as modes
-use Rattle.py_lines.specs.Private.Machine.{Scanned, text_start, run_from, is_final, in_short, is_after_backslash, character_kind, character_place, end_kind, end_place, Bracket}
+use Rattle.py_lines.specs.Private.Machine.{Scanned, text_start, steps_from, is_final, in_short, is_after_backslash, character_kind, character_place, end_kind, end_place, Bracket}
 use Rattle.py_lines.specs.Private.Scan.{line_start, EndsNoLine}
 use Rattle.py_lines.proofs.Faults.FaultPrefixes.{PrefixTo, end_rest}
-use Rattle.py_lines.proofs.Machine.PieceRuns.{pieces_at, run_from-append}
-use Rattle.py_lines.proofs.Machine.ReadingRuns.{reach}
+use Rattle.py_lines.proofs.Machine.PieceSteps.{pieces_at, steps_from-append}
+use Rattle.py_lines.proofs.Machine.ReadingSteps.{reach}
 use Rattle.py_lines.proofs.Pieces.OpenBrackets.{depth_through-append}
 use Rattle.py_lines.proofs.Machine.Soundness.{sound_at}
 use Rattle.py_lines.proofs.Machine.Advance.{RunsTo}
@@ -31,7 +31,7 @@ use Rattle.py_lines.proofs.Lexings.LinePrefix.{read-alone, depth_front, live_pre
 use Rattle.py_lines.proofs.LogicalLines.Cuts.{line_depth}
 use Rattle.py_lines.proofs.LogicalLines.NextLine.{lines_of-more}
 use Rattle.py_lines.proofs.Machine.EarlierPieces.{behind, behind_if, closed-behind}
-use Rattle.py_lines.proofs.LineScan.TextRun.{Base, base_of, from_base}
+use Rattle.py_lines.proofs.LineScan.TextSteps.{Base, base_of, from_base}
 use Rattle.py_lines.proofs.Lexings.Answers.{IsLineOf, HasPrefix, read_at, refused_at_character, refused_at_end, refused_at_bytes}
 use Rattle.py_lines.proofs.Lexings.GivenLines.{none_both, all_given}
 
@@ -62,19 +62,19 @@ behind_base base s (Some t) same =
     let is : behind base t ≡ s = cc in
     (pieces_at t, ap pieces_at (sym is) ∙ closed-behind base t.done t.mode t.held)
 
-grows_from : (base : List Piece) (k after : List ℕ) (s : Scanned) → AreReadBefore base (k ++ after) → EndsLine base → run_from (Some text_start) (spelled base ++ k) ≡ Some s → (others : List Piece) × (pieces_at s ≡ base ++ others)
-grows_from base [] after s fit ended runs =
+grows_from : (base : List Piece) (k after : List ℕ) (s : Scanned) → AreReadBefore base (k ++ after) → EndsLine base → steps_from (Some text_start) (spelled base ++ k) ≡ Some s → (others : List Piece) × (pieces_at s ≡ base ++ others)
+grows_from base [] after s fit ended steps =
     let reached = reach base after fit in
-    let same = same_state (spelled base) s reached.to (ap (run_from (Some text_start)) (sym (append-nil (spelled base))) ∙ runs) reached.runs in
+    let same = same_state (spelled base) s reached.to (ap (steps_from (Some text_start)) (sym (append-nil (spelled base))) ∙ steps) reached.steps in
     ([], ap pieces_at same ∙ reached.pieces_are ∙ sym (append-nil base))
-grows_from base (c ∷ cs) after s fit ended runs = go (base_of (byte_len (spelled base)) base (c ∷ cs ++ after) fit ended refl)
+grows_from base (c ∷ cs) after s fit ended steps = go (base_of (byte_len (spelled base)) base (c ∷ cs ++ after) fit ended refl)
   where
     go : Base (byte_len (spelled base)) base → (others : List Piece) × (pieces_at s ≡ base ++ others)
     go (Base.bare none mode) = (pieces_at s, ap (λ l. l ++ pieces_at s) (sym none))
     go (Base.lined body last is class any mode) =
         let reached = reach base (c ∷ cs ++ after) fit in
-        behind_base base s (run_from (Some (line_start modes.Free)) (c ∷ cs))
-        (sym (from_base base reached.to c cs (cs ++ after) reached.pieces_are (reached.stops (any (c ∷ cs ++ after)))) ∙ ap (λ o. run_from o (c ∷ cs)) (sym reached.runs) ∙ sym (run_from-append (Some text_start) (spelled base) (c ∷ cs)) ∙ runs)
+        behind_base base s (steps_from (Some (line_start modes.Free)) (c ∷ cs))
+        (sym (from_base base reached.to c cs (cs ++ after) reached.pieces_are (reached.stops (any (c ∷ cs ++ after)))) ∙ ap (λ o. steps_from o (c ∷ cs)) (sym reached.steps) ∙ sym (steps_from-append (Some text_start) (spelled base) (c ∷ cs)) ∙ steps)
 
 -- the last line end at depth 0 of pieces that begin at this depth
 pub data LastEnd (d : ℕ) (ps : List Piece) : Type 0 where
@@ -145,19 +145,19 @@ fault_behind : (kind : FaultKind) (characters : List ℕ) (offset : ℕ) → Pre
 fault_behind kind characters offset f = (record { kind = kind; offset = offset; line = 1 + line_ends f.front }, refl, refl, record { front = f.front; rest = f.rest; spell = f.spell; place = f.place; line = refl })
 
 character_front : (characters before after : List ℕ) (c : ℕ) (s : Scanned) (st : List Bracket) → before ++ c ∷ after ≡ characters → RunsTo before s st → PrefixTo characters (character_place s before)
-character_front characters before after c s st spell runs =
+character_front characters before after c s st spell steps =
     cond_both (in_short s.mode || is_after_backslash s.mode) (byte_len (spelled s.done)) (byte_len before) (PrefixTo characters)
     (λ h. record {
       front = spelled s.done;
       rest = s.held ++ c ∷ after;
-      spell = sym (append_assoc (spelled s.done) s.held (c ∷ after)) ∙ ap (λ t. t ++ c ∷ after) (sound_at before s runs.run).spell ∙ spell;
+      spell = sym (append_assoc (spelled s.done) s.held (c ∷ after)) ∙ ap (λ t. t ++ c ∷ after) (sound_at before s steps.run).spell ∙ spell;
       place = refl;
     })
     (λ h. record { front = before; rest = c ∷ after; spell = spell; place = refl })
 
 end_front : (characters : List ℕ) (s : Scanned) (st : List Bracket) → RunsTo characters s st → ((pieces : List Piece) → ¬ (IsBalancedReading pieces characters)) → PrefixTo characters (end_place s st)
-end_front characters s st runs unread =
-    let fault = end_fault characters [] s st refl runs unread in
+end_front characters s st steps unread =
+    let fault = end_fault characters [] s st refl steps unread in
     let rest = end_rest fault.unfinished characters fault.start fault.ends_in in
     record { front = fault.start; rest = rest.0; spell = rest.1; place = sym fault.place }
 
@@ -166,28 +166,28 @@ begins_so : (text : List ℕ) (base : List Piece) (all more : List LogicalLine) 
 begins_so text base all more end lexed is = record { more = more; end = end; lexed = subst (λ l. IsLexed text l end) is lexed }
 
 at_character : (text characters tail before after : List ℕ) (c : ℕ) (s : Scanned) (st : List Bracket) (base : List Piece) → Decodes text characters tail → before ++ c ∷ after ≡ characters → RunsTo before s st → ¬ (IsLive (before ++ c ∷ [])) → Onward base s → BeginsLexing text (lines_of base)
-at_character text characters tail before after c s st base decodes spell runs dead on =
-    let f = fault_behind (character_kind s.mode c) characters (character_place s before) (character_front characters before after c s st spell runs) in
-    begins_so text base (lines_of on.front) on.more (Some f.0) (refused_at_character text characters tail before after c s st on.front f.0 decodes spell runs dead on.has f.1 f.2 f.3) on.lines
+at_character text characters tail before after c s st base decodes spell steps dead on =
+    let f = fault_behind (character_kind s.mode c) characters (character_place s before) (character_front characters before after c s st spell steps) in
+    begins_so text base (lines_of on.front) on.more (Some f.0) (refused_at_character text characters tail before after c s st on.front f.0 decodes spell steps dead on.has f.1 f.2 f.3) on.lines
 
 unread_end : (text characters : List ℕ) (s : Scanned) (st : List Bracket) (base : List Piece) → Decodes text characters [] → RunsTo characters s st → ((pieces : List Piece) → ¬ (IsBalancedReading pieces characters)) → Onward base s → BeginsLexing text (lines_of base)
-unread_end text characters s st base decodes runs unread on =
-    let f = fault_behind (end_kind s.mode) characters (end_place s st) (end_front characters s st runs unread) in
-    begins_so text base (lines_of on.front) on.more (Some f.0) (refused_at_end text characters s st on.front f.0 decodes runs unread on.has f.1 f.2 f.3) on.lines
+unread_end text characters s st base decodes steps unread on =
+    let f = fault_behind (end_kind s.mode) characters (end_place s st) (end_front characters s st steps unread) in
+    begins_so text base (lines_of on.front) on.more (Some f.0) (refused_at_end text characters s st on.front f.0 decodes steps unread on.has f.1 f.2 f.3) on.lines
 
 at_text_end : (text characters : List ℕ) (s : Scanned) (st : List Bracket) (base : List Piece) → Decodes text characters [] → RunsTo characters s st → Onward base s → BeginsLexing text (lines_of base)
-at_text_end text characters s [] base decodes runs on =
+at_text_end text characters s [] base decodes steps on =
     ⊎_elim
-    (λ (may : is_final s.mode ≡ true). begins_so text base (lines_of (pieces_at s)) on.others None (read_at text characters s decodes runs may) on.whole)
-    (λ (may : is_final s.mode ≡ false). unread_end text characters s [] base decodes runs (unread_at characters s runs.run may) on)
+    (λ (may : is_final s.mode ≡ true). begins_so text base (lines_of (pieces_at s)) on.others None (read_at text characters s decodes steps may) on.whole)
+    (λ (may : is_final s.mode ≡ false). unread_end text characters s [] base decodes steps (unread_at characters s steps.run may) on)
     (cases_Bool (is_final s.mode))
-at_text_end text characters s (b ∷ bs) base decodes runs on = unread_end text characters s (b ∷ bs) base decodes runs (open_unread characters s b bs runs) on
+at_text_end text characters s (b ∷ bs) base decodes steps on = unread_end text characters s (b ∷ bs) base decodes steps (open_unread characters s b bs steps) on
 
 at_end : (text characters tail : List ℕ) (s : Scanned) (st : List Bracket) (base : List Piece) → Decodes text characters tail → RunsTo characters s st → Onward base s → BeginsLexing text (lines_of base)
-at_end text characters [] s st base decodes runs on = at_text_end text characters s st base decodes runs on
-at_end text characters (d ∷ ds) s st base decodes runs on =
+at_end text characters [] s st base decodes steps on = at_text_end text characters s st base decodes steps on
+at_end text characters (d ∷ ds) s st base decodes steps on =
     let f = fault_behind faults.BadUtf8 characters (byte_len characters) (record { front = characters; rest = []; spell = append-nil characters; place = refl }) in
-    begins_so text base (lines_of on.front) on.more (Some f.0) (refused_at_bytes text characters d ds s st on.front f.0 decodes runs on.has f.1 f.2 f.3) on.lines
+    begins_so text base (lines_of on.front) on.more (Some f.0) (refused_at_bytes text characters d ds s st on.front f.0 decodes steps on.has f.1 f.2 f.3) on.lines
 
 -- pieces that end a line are a reading of their own
 ended_reading : (base : List Piece) (rest : List ℕ) → AreReadBefore base rest → IsBalanced base → IsShallow 0 base → EndsLine base → IsBalancedReading base (spelled base)
@@ -199,16 +199,16 @@ from_line : (r : Reader) (lines : List LogicalLine) (given : HasGiven r lines) �
 from_line r lines given ended = go (goes given.first.characters)
   where
     go : Goes given.first.characters → BeginsLexing r.text (lines_of given.first.pieces)
-    go (Goes.through s st runs) =
-        let grown = grows_from given.first.pieces given.first.rest [] s (subst (AreReadBefore given.first.pieces) (sym (append-nil given.first.rest)) given.first.fit) ended (ap (run_from (Some text_start)) given.first.spell ∙ runs.run) in
-        at_end r.text given.first.characters given.first.tail s st given.first.pieces given.first.decodes runs (onward given.first.pieces grown.0 s ended grown.1)
-    go (Goes.up_to before c after s st spell runs dead) = on (either (spelled given.first.pieces) given.first.rest before (c ∷ after) (given.first.spell ∙ sym spell))
+    go (Goes.through s st steps) =
+        let grown = grows_from given.first.pieces given.first.rest [] s (subst (AreReadBefore given.first.pieces) (sym (append-nil given.first.rest)) given.first.fit) ended (ap (steps_from (Some text_start)) given.first.spell ∙ steps.run) in
+        at_end r.text given.first.characters given.first.tail s st given.first.pieces given.first.decodes steps (onward given.first.pieces grown.0 s ended grown.1)
+    go (Goes.up_to before c after s st spell steps dead) = on (either (spelled given.first.pieces) given.first.rest before (c ∷ after) (given.first.spell ∙ sym spell))
       where
         on : Either (spelled given.first.pieces) before (c ∷ after) → BeginsLexing r.text (lines_of given.first.pieces)
         on (Either.shorter k one) =
             let left : given.first.rest ≡ k ++ c ∷ after = append_cancel_left (spelled given.first.pieces) given.first.rest (k ++ c ∷ after) (given.first.spell ∙ sym spell ∙ ap (λ t. t ++ c ∷ after) one ∙ append_assoc (spelled given.first.pieces) k (c ∷ after)) in
-            let grown = grows_from given.first.pieces k (c ∷ after) s (subst (AreReadBefore given.first.pieces) left given.first.fit) ended (ap (run_from (Some text_start)) (sym one) ∙ runs.run) in
-            at_character r.text given.first.characters given.first.tail before after c s st given.first.pieces given.first.decodes spell runs dead (onward given.first.pieces grown.0 s ended grown.1)
+            let grown = grows_from given.first.pieces k (c ∷ after) s (subst (AreReadBefore given.first.pieces) left given.first.fit) ended (ap (steps_from (Some text_start)) (sym one) ∙ steps.run) in
+            at_character r.text given.first.characters given.first.tail before after c s st given.first.pieces given.first.decodes spell steps dead (onward given.first.pieces grown.0 s ended grown.1)
         on (Either.longer d k later one two) =
             let first : c ≡ d = cc in
             let live = reading_live given.first.pieces (spelled given.first.pieces) (ended_reading given.first.pieces given.first.rest given.first.fit given.first.balanced given.first.shallow ended) in

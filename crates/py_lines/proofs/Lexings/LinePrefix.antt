@@ -14,10 +14,10 @@ use Rattle.py_lines.specs.declared.mode.Mode.{Mode}
 use Rattle.py_lines.specs.declared.mode.Mode.TheVariants as modes
 use Rattle.py_lines.specs.declared.mode.Move.{Move}
 use Rattle.py_lines.specs.declared.mode.Start.{Start}
-use Rattle.py_lines.specs.Private.Machine.{Scanned, fresh, text_start, class_of, closed, started, moved, run_from, move_of, start_of, Bracket, brackets_of}
+use Rattle.py_lines.specs.Private.Machine.{Scanned, fresh, text_start, class_of, closed, started, moved, steps_from, move_of, start_of, Bracket, brackets_of}
 use Rattle.py_lines.proofs.Pieces.PieceLists.{piece, spelled-append, spelled-push, AreReadBefore-append, AreReadBefore-first, AreReadBefore-second, follows_any}
-use Rattle.py_lines.proofs.Machine.PieceRuns.{pieces_at}
-use Rattle.py_lines.proofs.Machine.ReadingRuns.{reach}
+use Rattle.py_lines.proofs.Machine.PieceSteps.{pieces_at}
+use Rattle.py_lines.proofs.Machine.ReadingSteps.{reach}
 use Rattle.py_lines.proofs.Pieces.OpenBrackets.{stands, stack_before, balanced-from_stack, depth_through-append}
 use Rattle.py_lines.specs.Private.Machine.{Holds}
 use Rattle.py_lines.proofs.Machine.Soundness.{sound_at, ends_sound}
@@ -117,8 +117,8 @@ no_brackets (b ∷ bs) h = absurd (omega arith)
 
 -- pieces that end a line have no open bracket
 pub front_stack : (front others : List Piece) (st : List Bracket) → brackets_of (front ++ others) ≡ Some st → EndsLine front → brackets_of front ≡ Some []
-front_stack front others st runs ended =
-    let first = stack_before front others st runs in
+front_stack front others st steps ended =
+    let first = stack_before front others st steps in
     let none = no_brackets first.0 (sym (stands front first.0 first.1).depth ∙ depth_front front ended) in
     first.1 ∙ ap (λ l. Some l) none
 
@@ -145,22 +145,22 @@ started_on : (all : List Piece) (c : ℕ) (st : Start) → GrowsIf all (started 
 started_on all c st = started_grows all all [] c st (sym (append-nil all))
 
 -- after a state, what grows from its finished pieces
-stays_done : (body : List Piece) (last : Piece) (done : List Piece) (x : List ℕ) (o : Option Scanned) (s : Scanned) → last.class ≡ line_end → done ≡ body ++ last ∷ [] → GrowsIf done o → run_from o x ≡ Some s → Stays body last (pieces_at s)
-stays_done body last done x o s class is grows runs =
-    let later : GrowsIf done (Some s) = subst (GrowsIf done) runs (run_grows x o done grows) in
+stays_done : (body : List Piece) (last : Piece) (done : List Piece) (x : List ℕ) (o : Option Scanned) (s : Scanned) → last.class ≡ line_end → done ≡ body ++ last ∷ [] → GrowsIf done o → steps_from o x ≡ Some s → Stays body last (pieces_at s)
+stays_done body last done x o s class is grows steps =
+    let later : GrowsIf done (Some s) = subst (GrowsIf done) steps (run_grows x o done grows) in
     let open_piece = closed_grows s.mode s.done s.held in
     stays_as body last (pieces_at s) (later.0 ++ open_piece.0) class
     (open_piece.1 ∙ ap (λ l. l ++ open_piece.0) later.1 ∙ append_assoc done later.0 open_piece.0 ∙ ap (λ l. l ++ (later.0 ++ open_piece.0)) is)
 
-stays_return : (body : List Piece) (last : Piece) (done : List Piece) (held : List ℕ) (x : List ℕ) (s : Scanned) → last.class ≡ line_end → done ++ piece line_end held ∷ [] ≡ body ++ last ∷ [] → run_from (Some (record { done = done; mode = modes.Return; held = held })) x ≡ Some s → Stays body last (pieces_at s)
+stays_return : (body : List Piece) (last : Piece) (done : List Piece) (held : List ℕ) (x : List ℕ) (s : Scanned) → last.class ≡ line_end → done ++ piece line_end held ∷ [] ≡ body ++ last ∷ [] → steps_from (Some (record { done = done; mode = modes.Return; held = held })) x ≡ Some s → Stays body last (pieces_at s)
 unfolding move_of
-stays_return body last done held [] s class is runs =
-    let same : pieces_at s ≡ done ++ piece line_end held ∷ [] = sym (at_same (record { done = done; mode = modes.Return; held = held }) s runs) in
+stays_return body last done held [] s class is steps =
+    let same : pieces_at s ≡ done ++ piece line_end held ∷ [] = sym (at_same (record { done = done; mode = modes.Return; held = held }) s steps) in
     stays_as body last (pieces_at s) [] class (same ∙ is ∙ sym (append-nil (body ++ last ∷ [])))
-stays_return body last done held (c ∷ cs) s class is runs =
+stays_return body last done held (c ∷ cs) s class is steps =
     let parts = same_from_push done body (piece line_end held) last is in
     let from : Scanned = record { done = done; mode = modes.Return; held = held } in
-    cond_both (is_line_feed c) _ _ (λ (v : Move). run_from (moved from c v) cs ≡ Some s → Stays body last (pieces_at s))
+    cond_both (is_line_feed c) _ _ (λ (v : Move). steps_from (moved from c v) cs ≡ Some s → Stays body last (pieces_at s))
     (λ h closed_runs.
     let line : Piece = piece line_end (held ++ c ∷ []) in
     let more = stays_done body line (done ++ line ∷ []) cs (Some (fresh (done ++ line ∷ []))) s refl (ap (λ l. l ++ line ∷ []) parts.0) ([], sym (append-nil (done ++ line ∷ []))) closed_runs in
@@ -178,14 +178,14 @@ stays_return body last done held (c ∷ cs) s class is runs =
     (λ h open_runs.
     let all = done ++ piece line_end held ∷ [] in
     stays_done body last all cs (started all c (start_of c)) s class is (started_on all c (start_of c)) open_runs)
-    runs
+    steps
 
 -- a line end at the end of the pieces that a state has found
-pub line_stays : (m : Mode) (done : List Piece) (held x : List ℕ) (s : Scanned) (body : List Piece) (last : Piece) → run_from (Some (record { done = done; mode = m; held = held })) x ≡ Some s → closed m done held ≡ body ++ last ∷ [] → last.class ≡ line_end → Stays body last (pieces_at s)
-line_stays modes.Start done held x s body last runs is class = stays_done body last done x (Some (record { done = done; mode = modes.Start; held = held })) s class is ([], sym (append-nil done)) runs
-line_stays modes.Free done held x s body last runs is class = stays_done body last done x (Some (record { done = done; mode = modes.Free; held = held })) s class is ([], sym (append-nil done)) runs
-line_stays modes.Return done held x s body last runs is class = stays_return body last done held x s class is runs
-line_stays m done held x s body last runs is class =
+pub line_stays : (m : Mode) (done : List Piece) (held x : List ℕ) (s : Scanned) (body : List Piece) (last : Piece) → steps_from (Some (record { done = done; mode = m; held = held })) x ≡ Some s → closed m done held ≡ body ++ last ∷ [] → last.class ≡ line_end → Stays body last (pieces_at s)
+line_stays modes.Start done held x s body last steps is class = stays_done body last done x (Some (record { done = done; mode = modes.Start; held = held })) s class is ([], sym (append-nil done)) steps
+line_stays modes.Free done held x s body last steps is class = stays_done body last done x (Some (record { done = done; mode = modes.Free; held = held })) s class is ([], sym (append-nil done)) steps
+line_stays modes.Return done held x s body last steps is class = stays_return body last done held x s class is steps
+line_stays m done held x s body last steps is class =
     let parts = same_from_push done body (piece (class_of m) held) last is in
     let same : class_of m ≡ line_end = ap (λ (p : Piece). p.class) parts.1 ∙ class in
     absurd (cc)
@@ -223,23 +223,23 @@ part_before front others body last done p rest is class spell other fit = go (sp
         absurd (other (ap (λ (x : Piece). x.class) parts.1 ∙ class))
 
 -- the pieces up to a line end are read to the text's end
-front_read : (m : Mode) (done : List Piece) (held before : List ℕ) (front others body : List Piece) (last : Piece) → run_from (Some text_start) before ≡ Some (record { done = done; mode = m; held = held }) → closed m done held ≡ front ++ others → front ≡ body ++ last ∷ [] → last.class ≡ line_end → AreReadBefore front []
-front_read modes.Start done held before front others body last runs spell is class =
-    let fit = (sound_at before (record { done = done; mode = modes.Start; held = held }) runs).fit [] in
+front_read : (m : Mode) (done : List Piece) (held before : List ℕ) (front others body : List Piece) (last : Piece) → steps_from (Some text_start) before ≡ Some (record { done = done; mode = m; held = held }) → closed m done held ≡ front ++ others → front ≡ body ++ last ∷ [] → last.class ≡ line_end → AreReadBefore front []
+front_read modes.Start done held before front others body last steps spell is class =
+    let fit = (sound_at before (record { done = done; mode = modes.Start; held = held }) steps).fit [] in
     read_part front others body last (held ++ []) is class (subst (λ l. AreReadBefore l (held ++ [])) spell fit)
-front_read modes.Free done held before front others body last runs spell is class =
-    let fit = (sound_at before (record { done = done; mode = modes.Free; held = held }) runs).fit [] in
+front_read modes.Free done held before front others body last steps spell is class =
+    let fit = (sound_at before (record { done = done; mode = modes.Free; held = held }) steps).fit [] in
     read_part front others body last (held ++ []) is class (subst (λ l. AreReadBefore l (held ++ [])) spell fit)
-front_read modes.Return done held before front others body last runs spell is class =
-    let fit = (ends_sound before (record { done = done; mode = modes.Return; held = held }) runs refl).fit in
+front_read modes.Return done held before front others body last steps spell is class =
+    let fit = (ends_sound before (record { done = done; mode = modes.Return; held = held }) steps refl).fit in
     read_part front others body last [] is class (subst (λ l. AreReadBefore l []) spell fit)
-front_read m done held before front others body last runs spell is class =
-    let fit = (sound_at before (record { done = done; mode = m; held = held }) runs).fit [] in
+front_read m done held before front others body last steps spell is class =
+    let fit = (sound_at before (record { done = done; mode = m; held = held }) steps).fit [] in
     part_before front others body last done (piece (class_of m) held) (held ++ []) is class (sym spell) (λ (same : class_of m ≡ line_end). cc) fit
 
-pub front_fits : (before : List ℕ) (s : Scanned) (front others : List Piece) → run_from (Some text_start) before ≡ Some s → pieces_at s ≡ front ++ others → EndsLine front → AreReadBefore front []
-front_fits before s front others runs pieces (inl none) = subst (λ l. AreReadBefore l []) (sym none) tt
-front_fits before s front others runs pieces (inr (body, last, is, class, deep)) = front_read s.mode s.done s.held before front others body last runs pieces is class
+pub front_fits : (before : List ℕ) (s : Scanned) (front others : List Piece) → steps_from (Some text_start) before ≡ Some s → pieces_at s ≡ front ++ others → EndsLine front → AreReadBefore front []
+front_fits before s front others steps pieces (inl none) = subst (λ l. AreReadBefore l []) (sym none) tt
+front_fits before s front others steps pieces (inr (body, last, is, class, deep)) = front_read s.mode s.done s.held before front others body last steps pieces is class
 
 -- two prefixes of one text
 pub data Either (xs zs ws : List ℕ) : Type 0 where
@@ -275,11 +275,11 @@ within front others rivals body last all pieces ended none is deep stays = go (s
         omega arith
 
 -- no longer prefix ends a line
-no_longer : (before later characters : List ℕ) (s : Scanned) (front others : List Piece) → run_from (Some text_start) before ≡ Some s → before ++ later ≡ characters → ((c : ℕ) (after : List ℕ) → later ≡ c ∷ after → ¬ (IsLive (before ++ c ∷ []))) → pieces_at s ≡ front ++ others → EndsLine front → EndsNoLine 0 others → (rivals : List Piece) (after : List ℕ) → spelled rivals ++ after ≡ characters → IsBalancedReading rivals (spelled rivals) → EndsLine rivals → length (spelled rivals) ≤ length (spelled front)
-no_longer before later characters s front others runs spell dead pieces ended none rivals after spells reading (inl empty) =
+no_longer : (before later characters : List ℕ) (s : Scanned) (front others : List Piece) → steps_from (Some text_start) before ≡ Some s → before ++ later ≡ characters → ((c : ℕ) (after : List ℕ) → later ≡ c ∷ after → ¬ (IsLive (before ++ c ∷ []))) → pieces_at s ≡ front ++ others → EndsLine front → EndsNoLine 0 others → (rivals : List Piece) (after : List ℕ) → spelled rivals ++ after ≡ characters → IsBalancedReading rivals (spelled rivals) → EndsLine rivals → length (spelled rivals) ≤ length (spelled front)
+no_longer before later characters s front others steps spell dead pieces ended none rivals after spells reading (inl empty) =
     let short : length (spelled rivals) ≡ 0 = ap (λ l. length (spelled l)) empty in
     omega arith
-no_longer before later characters s front others runs spell dead pieces ended none rivals after spells reading (inr (body, last, is, class, deep)) = go (either (spelled rivals) after before later (spells ∙ sym spell))
+no_longer before later characters s front others steps spell dead pieces ended none rivals after spells reading (inr (body, last, is, class, deep)) = go (either (spelled rivals) after before later (spells ∙ sym spell))
   where
     go : Either (spelled rivals) before later → length (spelled rivals) ≤ length (spelled front)
     go (Either.longer c k rest one two) =
@@ -287,23 +287,23 @@ no_longer before later characters s front others runs spell dead pieces ended no
         absurd (dead c rest two (live_prefix (before ++ c ∷ []) k live))
     go (Either.shorter k one) =
         let found = reach rivals [] reading.fit in
-        let through = run_before (Some text_start) (spelled rivals) k s (ap (run_from (Some text_start)) (sym one) ∙ runs) in
-        let same = same_state (spelled rivals) through.0 found.to through.1 found.runs in
-        let run : run_from (Some found.to) k ≡ Some s = ap (λ (t : Scanned). run_from (Some t) k) (sym same) ∙ through.2 in
+        let through = run_before (Some text_start) (spelled rivals) k s (ap (steps_from (Some text_start)) (sym one) ∙ steps) in
+        let same = same_state (spelled rivals) through.0 found.to through.1 found.steps in
+        let run : steps_from (Some found.to) k ≡ Some s = ap (λ (t : Scanned). steps_from (Some t) k) (sym same) ∙ through.2 in
         within front others rivals body last (pieces_at s) pieces ended none is deep (line_stays found.to.mode found.to.done found.to.held k s body last run (found.pieces_are ∙ is) class)
 
 -- the prefix of a text that isn't read further
 pub front_is : (before later characters : List ℕ) (s : Scanned) (st : List Bracket) (front others : List Piece) → RunsTo before s st → before ++ later ≡ characters → ((c : ℕ) (after : List ℕ) → later ≡ c ∷ after → ¬ (IsLive (before ++ c ∷ []))) → pieces_at s ≡ front ++ others → EndsLine front → EndsNoLine 0 others → IsReadPrefix front characters
-front_is before later characters s st front others runs spell dead pieces ended none =
-    let stack = stack_closed s.mode s.done s.held st runs.stack in
+front_is before later characters s st front others steps spell dead pieces ended none =
+    let stack = stack_closed s.mode s.done s.held st steps.stack in
     let level = balanced-from_stack front (front_stack front others st (ap brackets_of (sym pieces) ∙ stack) ended) in
-    let read : spelled (pieces_at s) ≡ before = closed_spells s.mode s.done s.held (sound_at before s runs.run).holds ∙ (sound_at before s runs.run).spell in
+    let read : spelled (pieces_at s) ≡ before = closed_spells s.mode s.done s.held (sound_at before s steps.run).holds ∙ (sound_at before s steps.run).spell in
     let cut : spelled front ++ (spelled others ++ later) ≡ characters =
     sym (append_assoc (spelled front) (spelled others) later) ∙ ap (λ t. t ++ later) (sym (spelled-append front others) ∙ ap spelled (sym pieces) ∙ read) ∙ spell in
     record {
       rest = spelled others ++ later;
       spell = cut;
-      reading = record { spell = refl; fit = front_fits before s front others runs.run pieces ended; balanced = level.0; shallow = level.1 };
+      reading = record { spell = refl; fit = front_fits before s front others steps.run pieces ended; balanced = level.0; shallow = level.1 };
       ended = ended;
-      longest = λ rivals after spells reading rivals_ended. no_longer before later characters s front others runs.run spell dead pieces ended none rivals after spells reading rivals_ended;
+      longest = λ rivals after spells reading rivals_ended. no_longer before later characters s front others steps.run spell dead pieces ended none rivals after spells reading rivals_ended;
     }

@@ -61,7 +61,7 @@ module _ (text : List ℕ) (lines : List LogicalLine) (w : IsLexedWhole text lin
       let run = run_of_reading w.pieces w.characters w.reading in
       let spell : spelled base ++ spelled others ≡ w.characters = sym (spelled-append base others) ∙ ap spelled (sym is) ∙ w.reading.spell in
       let stays : EndsForGood base (spelled others ++ []) = (ended, λ none. good (none_both (spelled others) [] none).0) in
-      let front = settled_at w.characters [] run.to [] base others (spelled others) run.runs (run.pieces_are ∙ is) stays yet spell in
+      let front = settled_at w.characters [] run.to [] base others (spelled others) run.steps (run.pieces_are ∙ is) stays yet spell in
       (lines_of base, record { characters = w.characters; tail = []; pieces = base; decodes = w.decodes; front = front; cut = refl })
 
   -- the last line end is CR at the text's end: LF may follow, so the lines end at the line end before it

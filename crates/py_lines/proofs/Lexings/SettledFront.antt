@@ -8,11 +8,11 @@ use Rattle.py_lines.specs.PieceGrammar.{InClass, IsLineEnd, feed, return_feed, r
 use Rattle.py_lines.specs.Balance.{depth_through}
 use Rattle.py_lines.specs.Reading.{IsBalancedReading}
 use Rattle.py_lines.specs.Settled.{EndsForGood, IsSettledPrefix}
-use Rattle.py_lines.specs.Private.Machine.{Scanned, text_start, run_from, Bracket, brackets_of}
+use Rattle.py_lines.specs.Private.Machine.{Scanned, text_start, steps_from, Bracket, brackets_of}
 use Rattle.py_lines.proofs.Pieces.PieceLists.{piece, spelled-append, AreReadBefore-second}
 use Rattle.py_lines.proofs.Pieces.OpenBrackets.{balanced-from_stack, depth_through-append}
-use Rattle.py_lines.proofs.Machine.PieceRuns.{pieces_at}
-use Rattle.py_lines.proofs.Machine.ReadingRuns.{reach}
+use Rattle.py_lines.proofs.Machine.PieceSteps.{pieces_at}
+use Rattle.py_lines.proofs.Machine.ReadingSteps.{reach}
 use Rattle.py_lines.proofs.Machine.Soundness.{sound_at}
 use Rattle.py_lines.proofs.Machine.Advance.{RunsTo, run_before}
 use Rattle.py_lines.proofs.Machine.LiveTexts.{stack_closed}
@@ -43,19 +43,19 @@ thirteen text same = ap (ends is_return) same
 
 -- the machine has read the known characters: the lines given are settled, and no more
 pub settled_at : (characters tail : List ℕ) (s : Scanned) (st : List Bracket) (base others : List Piece) (rest : List ℕ) → RunsTo characters s st → pieces_at s ≡ base ++ others → EndsForGood base (rest ++ tail) → EndsNoneYet others tail → spelled base ++ rest ≡ characters → IsSettledPrefix base characters tail
-settled_at characters tail s st base others rest runs pieces good yet spell =
-    let stack = stack_closed s.mode s.done s.held st runs.stack in
+settled_at characters tail s st base others rest steps pieces good yet spell =
+    let stack = stack_closed s.mode s.done s.held st steps.stack in
     let level = balanced-from_stack base (front_stack base others st (ap brackets_of (sym pieces) ∙ stack) good.0) in
     record {
       rest = rest;
       spell = spell;
-      reading = record { spell = refl; fit = front_fits characters s base others runs.run pieces good.0; balanced = level.0; shallow = level.1 };
+      reading = record { spell = refl; fit = front_fits characters s base others steps.run pieces good.0; balanced = level.0; shallow = level.1 };
       ended = good;
       longest = longest;
     }
   where
     whole : spelled (pieces_at s) ≡ characters
-    whole = closed_spells s.mode s.done s.held (sound_at characters s runs.run).holds ∙ (sound_at characters s runs.run).spell
+    whole = closed_spells s.mode s.done s.held (sound_at characters s steps.run).holds ∙ (sound_at characters s steps.run).spell
 
     -- a rival that ends with the CR ends with the known bytes, so not for good
     at_return : (rivals : List Piece) (after : List ℕ) (body : List Piece) (last line : Piece) (text : List ℕ) → spelled rivals ++ after ≡ characters → rivals ≡ body ++ last ∷ [] → IsBalancedReading rivals (spelled rivals) → last.class ≡ line_end → (after ++ tail ≡ [] → ends is_return (spelled rivals) ≡ false) → pieces_at s ≡ body ++ line ∷ [] → line ≡ piece line_end text → text ≡ 13 ∷ [] → tail ≡ [] → ⊥
@@ -102,9 +102,9 @@ settled_at characters tail s st base others rest runs pieces good yet spell =
         omega arith
     longest rivals after spells reading (inr (body, last, is, class, deep), settles) =
         let found = reach rivals [] reading.fit in
-        let through = run_before (Some text_start) (spelled rivals) after s (ap (run_from (Some text_start)) spells ∙ runs.run) in
-        let same = same_state (spelled rivals) through.0 found.to through.1 found.runs in
-        let run : run_from (Some found.to) after ≡ Some s = ap (λ (t : Scanned). run_from (Some t) after) (sym same) ∙ through.2 in
+        let through = run_before (Some text_start) (spelled rivals) after s (ap (steps_from (Some text_start)) spells ∙ steps.run) in
+        let same = same_state (spelled rivals) through.0 found.to through.1 found.steps in
+        let run : steps_from (Some found.to) after ≡ Some s = ap (λ (t : Scanned). steps_from (Some t) after) (sym same) ∙ through.2 in
         bounded rivals after body last spells is reading class deep settles (line_stays found.to.mode found.to.done found.to.held after s body last run (found.pieces_are ∙ is) class) yet
 
 -- a line end ends in LF or CR

@@ -8,7 +8,7 @@ use Rattle.py_lines.specs.Faults.{IsLexicalFault}
 use Rattle.py_lines.specs.Lexed.{IsLexedWhole, IsLexedToFault, IsLexed}
 use Rattle.py_lines.specs.Settled.{IsSettledPrefix, IsSettled}
 use Rattle.py_lines.specs.declared.fault.Fault.{Fault}
-use Rattle.py_lines.proofs.Machine.ReadingRuns.{one_reading_of}
+use Rattle.py_lines.proofs.Machine.ReadingSteps.{one_reading_of}
 use Rattle.py_lines.proofs.Faults.Uniqueness.{one_fault_of}
 use Rattle.py_lines.proofs.Faults.FaultPrefixes.{fault_front}
 use Rattle.py_lines.proofs.Text.Utf8Prefixes.{one_decoding}

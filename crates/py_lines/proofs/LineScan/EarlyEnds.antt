@@ -21,7 +21,7 @@ use Rattle.py_lines.proofs.Text.Incomplete.{one_char}
 use Rattle.py_lines.proofs.Machine.Starts.{start-word, start-space, start-operator, start-feed, start-return, start-quote, start-hash, start-slash}
 use Rattle.py_lines.proofs.LineScan.BracketStack.{refused_anywhere}
 use Rattle.py_lines.proofs.LineScan.LineCount.{line_ends-bytes}
-use Rattle.py_lines.proofs.LineScan.LineRun.{sound_run, way_order, way_stop, way_here}
+use Rattle.py_lines.proofs.LineScan.LineSteps.{sound_steps, way_order, way_stop, way_here}
 use Rattle.py_lines.proofs.LineScan.NextCharacter.{takes_broken}
 use Rattle.py_lines.proofs.LineScan.ShortPieces.{follows_cases, begin_low, word_starts, with_met, free_breaks, open_reached}
 
@@ -97,7 +97,7 @@ module _ (m : Mode) (at : ℕ) (text before : List ℕ) (c : ℕ) (p : Progress)
       record {
         from = from;
         reached = o;
-        takes = takes_broken from new s.done s.mode s.held o.read c (ap (λ n. move_of n c) (sym way.tallies.mode) ∙ breaks) (sound_run m o.read s start way.runs) way.one_line not_yet way.tallies way.stacked (Ok p) begun;
+        takes = takes_broken from new s.done s.mode s.held o.read c (ap (λ n. move_of n c) (sym way.tallies.mode) ∙ breaks) (sound_steps m o.read s start way.steps) way.one_line not_yet way.tallies way.stacked (Ok p) begun;
         not_yet = not_yet;
       }
 
@@ -120,7 +120,7 @@ module _ (m : Mode) (at : ℕ) (text before : List ℕ) (c : ℕ) (p : Progress)
   pub taken_open : (scan : Scan) → ReachedShut m at text scan before → is_free scan.piece.mode ≡ false → is_returned scan && not (is_line_feed c) ≡ false → ((s : Scanned) (read : List ℕ) → IsSound s read → EndsNoLine 0 s.done → is_returned scan && not (is_line_feed c) ≡ false → Tallies scan s → IsStacked scan s → Takes scan s c (Ok p) new) → TakesFrom m at text before c p new
   taken_open scan r other not_yet takes =
       let o = open_reached m at text scan before other r in
-      record { from = scan; reached = o; takes = takes o.way.state o.read (sound_run m o.read o.way.state start o.way.runs) o.way.one_line not_yet o.way.tallies o.way.stacked; not_yet = not_yet }
+      record { from = scan; reached = o; takes = takes o.way.state o.read (sound_steps m o.read o.way.state start o.way.steps) o.way.one_line not_yet o.way.tallies o.way.stacked; not_yet = not_yet }
 
 -- what standing so tells
 pub record Stands (at : ℕ) (text : List ℕ) (scan : Scan) (rest : List ℕ) : Type 0 where

@@ -10,7 +10,7 @@ use Rattle.py_lines.specs.LogicalLine.{is_line_end_class, byte_len, ends_line, l
 use Rattle.py_lines.specs.Reading.{EndsLine}
 use Rattle.py_lines.specs.declared.mode.Mode.TheVariants as modes
 use Rattle.py_lines.specs.Private.Scan.{counts_after}
-use Rattle.py_lines.specs.Private.Machine.{text_start, run_from, Bracket, brackets_after, brackets_through, brackets_of}
+use Rattle.py_lines.specs.Private.Machine.{text_start, steps_from, Bracket, brackets_after, brackets_through, brackets_of}
 use Rattle.py_lines.proofs.Text.CharacterTests.{return_is, feed-not-return}
 use Rattle.py_lines.proofs.Pieces.PieceLists.{piece, AreReadBefore-push, follows_any}
 use Rattle.py_lines.proofs.Pieces.OpenBrackets.{through-append, stands, depth_through-append}
@@ -36,9 +36,9 @@ EndsNoLine-push d [] p none last = (last, tt)
 EndsNoLine-push d (q ∷ ps) p none last = (none.0, EndsNoLine-push (depth_after d q) ps p none.1 last)
 
 -- a CR that no LF follows is read before what follows
-pub return_read : (before : List ℕ) (done : List Piece) (held : List ℕ) (c : ℕ) (more : List ℕ) → run_from (Some text_start) before ≡ Some (record { done = done; mode = modes.Return; held = held }) → is_line_feed c ≡ false → AreReadBefore (done ++ piece line_end held ∷ []) (c ∷ more)
-return_read before done held c more runs other =
-    let sound = sound_at before (record { done = done; mode = modes.Return; held = held }) runs in
+pub return_read : (before : List ℕ) (done : List Piece) (held : List ℕ) (c : ℕ) (more : List ℕ) → steps_from (Some text_start) before ≡ Some (record { done = done; mode = modes.Return; held = held }) → is_line_feed c ≡ false → AreReadBefore (done ++ piece line_end held ∷ []) (c ∷ more)
+return_read before done held c more steps other =
+    let sound = sound_at before (record { done = done; mode = modes.Return; held = held }) steps in
     AreReadBefore-push done line_end held (c ∷ more) (sound.fit (c ∷ more)) (return (sound.holds.1 ∙ ap (λ d. d ∷ []) (return_is sound.holds.0 sound.holds.2))) (and_right _ _ other) (follows_any done line_end held refl)
 
 counted : Bool → ℕ

@@ -27,7 +27,7 @@ use Rattle.py_lines.proofs.Text.Utf8Prefixes.{front_chars, all_scalars-parts, sc
 use Rattle.py_lines.proofs.Pieces.PieceLists.{AreReadBefore-second}
 use Rattle.py_lines.proofs.LogicalLines.Cuts.{uncut}
 use Rattle.py_lines.proofs.Lexings.SettledLines.{ends-line, ends-append}
-use Rattle.py_lines.proofs.LineScan.LineRun.{sound_run, at_line_end, refused, returned, follows_nothing}
+use Rattle.py_lines.proofs.LineScan.LineSteps.{sound_steps, at_line_end, refused, returned, follows_nothing}
 use Rattle.py_lines.proofs.LineScan.Runs.{reached_character, reached_run, way_quote}
 
 -- wherever in a line the scan stood before a text, it stands now before another
@@ -132,7 +132,7 @@ module _ (first : Scan) (text : List ℕ) (old : Scan) (before : List ℕ) (shut
   stops_before new ended apart_from_it closes m line whole start r =
       let parts = and_parts _ _ ended in
       let o = open_reached m line whole old before (return_open old.piece.mode parts.0) (shuts m line whole start r) in
-      let returns = return_ends o.way.state o.read (sound_run m o.read o.way.state start o.way.runs) (ap is_return_mode (sym o.way.tallies.mode) ∙ parts.0) in
+      let returns = return_ends o.way.state o.read (sound_steps m o.read o.way.state start o.way.steps) (ap is_return_mode (sym o.way.tallies.mode) ∙ parts.0) in
       record {
         read = o.read;
         rest = before;
@@ -213,7 +213,7 @@ module _ (first : Scan) (text : List ℕ) (old : Scan) (before : List ℕ) (shut
 pub begun_reached : (old : Scan) (text bytes : List ℕ) → bytes ≡ text → Tallies old (line_start old.piece.mode) → IsStacked old (line_start old.piece.mode) → Reached old.piece.mode old.line text old bytes
 begun_reached old text bytes is tallies stacked = record {
   read = [];
-  way = record { state = line_start old.piece.mode; runs = refl; tallies = tallies; stacked = stacked; one_line = tt };
+  way = record { state = line_start old.piece.mode; steps = refl; tallies = tallies; stacked = stacked; one_line = tt };
   spell = is;
   scalars = refl;
   line = refl;

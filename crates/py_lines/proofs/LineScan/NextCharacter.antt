@@ -26,7 +26,7 @@ use Rattle.py_lines.specs.Private.Scan.{tokens_with, kind_through, Closes, with_
 use Rattle.py_lines.proofs.Pieces.PieceLists.{piece, spelled-push, AreReadBefore-first}
 use Rattle.py_lines.proofs.Text.CharacterTests.{feed_is, return_is}
 use Rattle.py_lines.proofs.Machine.Starts.{starts_so, StartsSo}
-use Rattle.py_lines.proofs.Machine.PieceRuns.{scanned}
+use Rattle.py_lines.proofs.Machine.PieceSteps.{scanned}
 use Rattle.py_lines.proofs.Pieces.OpenBrackets.{stands}
 use Rattle.py_lines.proofs.Machine.LiveTexts.{keeps, stack_closed}
 use Rattle.py_lines.proofs.Machine.Soundness.{SoundIf, step_sound}

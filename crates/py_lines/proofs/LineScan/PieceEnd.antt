@@ -21,7 +21,7 @@ use Rattle.py_lines.specs.Private.Machine.{fresh, class_of, closed, token_of, Ho
 use Rattle.py_lines.specs.Private.Scan.{kind_with, tokens_with, kind_closed, indent_closed, holds_nothing, is_margin, Closes, ClosesAndAdds, Tallies, freed, with_character}
 use Rattle.py_lines.proofs.Pieces.PieceLists.{piece, spelled-push}
 use Rattle.py_lines.proofs.Machine.WordTokens.{word_token}
-use Rattle.py_lines.proofs.Machine.PieceRuns.{scanned}
+use Rattle.py_lines.proofs.Machine.PieceSteps.{scanned}
 use Rattle.py_lines.proofs.Machine.LiveTexts.{keeps}
 use Rattle.py_lines.proofs.LogicalLines.Cuts.{byte_len-append}
 use Rattle.py_lines.proofs.LogicalLines.NextLine.{line_ends-spelled, tokens_from-append}

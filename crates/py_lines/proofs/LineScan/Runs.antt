@@ -17,7 +17,7 @@ use Rattle.py_lines.specs.declared.mode.Mode.TheVariants as modes
 use Rattle.py_lines.specs.declared.mode.Move.TheVariants as moves
 use Rattle.py_lines.specs.declared.scan.Scan.{Scan}
 use Rattle.py_lines.specs.Piece.{Piece}
-use Rattle.py_lines.specs.Private.Machine.{Scanned, run_from, move_of, short_move, long_move, spelling_with, IsFull, Holds as HoldsOpen}
+use Rattle.py_lines.specs.Private.Machine.{Scanned, steps_from, move_of, short_move, long_move, spelling_with, IsFull, Holds as HoldsOpen}
 use Rattle.py_lines.specs.Private.Scan.{Tallies, IsStacked, IsUnderWay, line_start, stack_of, counts_after}
 use Rattle.py_lines.specs.Private.Run.{IsRunOf, is_ascii_word, is_body_byte, stays, Holds, with_bytes, HasAsciiQuote, Reached}
 use Rattle.unicode_ident.proofs.IdentLemmas.{is_xid_continue-ascii, is_xid_start-ascii}
@@ -29,14 +29,14 @@ use Rattle.py_lines.specs.Character.{is_quote}
 use Rattle.std.specs.Prelude.{if◌then◌else◌}
 use Rattle.py_lines.proofs.LineScan.Increments.{line_ends-step}
 use Rattle.py_lines.proofs.LineScan.LineCount.{ends-last}
-use Rattle.py_lines.proofs.LineScan.LineRun.{sound_run, under_way}
+use Rattle.py_lines.proofs.LineScan.LineSteps.{sound_steps, under_way}
 use Rattle.py_lines.specs.declared.scan.Progress.TheVariants as progress
 use Rattle.py_lines.specs.Private.Scan.{Takes}
 use Rattle.std.proofs.Common.{Ok}
 use Rattle.py_lines.proofs.Text.Utf8Prefixes.{all_scalars-append, scalars_more, spell_more}
 use Rattle.py_lines.specs.Private.Machine.{IsSound}
 use Rattle.py_lines.proofs.LogicalLines.Cuts.{byte_len-append}
-use Rattle.py_lines.proofs.Machine.PieceRuns.{scanned, run_from-append, grown, longer, all_held}
+use Rattle.py_lines.proofs.Machine.PieceSteps.{scanned, steps_from-append, grown, longer, all_held}
 
 -- a byte of words continues a word
 pub word_byte_low : (c : ℕ) → is_ascii_word c ≡ true → c < 128
@@ -106,7 +106,7 @@ stays-no_break (modes.Long q) c h = (body_parts q c h).2
 stays-no_break m c h = absurd (both_ways _ refl h)
 
 -- the machine holds them
-pub held_run : (done : List Piece) (m : Mode) (held run : List ℕ) → list_all (stays m) run ≡ true → run_from (Some (scanned done m held)) run ≡ Some (scanned done m (held ++ run))
+pub held_run : (done : List Piece) (m : Mode) (held run : List ℕ) → list_all (stays m) run ≡ true → steps_from (Some (scanned done m held)) run ≡ Some (scanned done m (held ++ run))
 held_run done m held [] all = all_held done m held
 held_run done m held (c ∷ cs) all =
     let parts = and_parts (stays m c) (list_all (stays m) cs) all in
@@ -269,7 +269,7 @@ way_held m old new read text rest way holds =
     ⊎_elim
     (λ none. record {
       state = way.state;
-      runs = ap (λ t. run_from (Some (line_start m)) (read ++ t)) none.0 ∙ ap (run_from (Some (line_start m))) (append-nil read) ∙ way.runs;
+      steps = ap (λ t. steps_from (Some (line_start m)) (read ++ t)) none.0 ∙ ap (steps_from (Some (line_start m))) (append-nil read) ∙ way.steps;
       tallies = subst (λ (n : Scan). Tallies n way.state) (sym none.1) way.tallies;
       stacked = subst (λ (n : Scan). IsStacked n way.state) (sym none.1) way.stacked;
       one_line = way.one_line;
@@ -278,7 +278,7 @@ way_held m old new read text rest way holds =
     let all : list_all (stays way.state.mode) holds.run ≡ true = subst (λ (n : Mode). list_all (stays n) holds.run ≡ true) way.tallies.mode holds.stay in
     record {
       state = scanned way.state.done way.state.mode (way.state.held ++ holds.run);
-      runs = run_from-append (Some (line_start m)) read holds.run ∙ ap (λ o. run_from o holds.run) way.runs ∙ held_run way.state.done way.state.mode way.state.held holds.run all;
+      steps = steps_from-append (Some (line_start m)) read holds.run ∙ ap (λ o. steps_from o holds.run) way.steps ∙ held_run way.state.done way.state.mode way.state.held holds.run all;
       tallies = subst (λ (n : Scan). Tallies n (scanned way.state.done way.state.mode (way.state.held ++ holds.run))) (sym some.1) (tallies_run old way.state holds.run (all_no_break way.state.mode holds.run all) some.0 way.tallies);
       stacked = way.stacked ∙ ap (λ (n : Scan). Some (stack_of n.brackets)) (sym some.1);
       one_line = way.one_line;
@@ -296,7 +296,7 @@ reached_run m at text old new mid rest r holds = record {
 
 -- the mode's quote is one byte on the way
 pub way_quote : (m : Mode) (scan : Scan) (read : List ℕ) (way : IsUnderWay m scan read) → IsSound (line_start m) [] → HasAsciiQuote scan.piece.mode
-way_quote m scan read way start = subst HasAsciiQuote (sym way.tallies.mode) (sound_quote way.state.mode way.state.done way.state.held (sound_run m read way.state start way.runs).holds)
+way_quote m scan read way start = subst HasAsciiQuote (sym way.tallies.mode) (sound_quote way.state.mode way.state.done way.state.held (sound_steps m read way.state start way.steps).holds)
 
 -- and over a character
 pub reached_character : (m : Mode) (at : ℕ) (text : List ℕ) (old new : Scan) (before rest : List ℕ) (c : ℕ) (r : Reached m at text old before) → IsScalar c → before ≡ encode_utf8 c ++ rest → Takes old r.way.state c (Ok progress.Going) new → Reached m at text new rest

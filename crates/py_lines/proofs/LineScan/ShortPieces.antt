@@ -29,17 +29,17 @@ use Rattle.py_lines.specs.declared.mode.Start.{Start}
 use Rattle.py_lines.specs.declared.mode.Start.TheVariants as starts
 use Rattle.py_lines.specs.declared.scan.Progress.TheVariants as progress
 use Rattle.py_lines.specs.declared.scan.Scan.{Scan}
-use Rattle.py_lines.specs.Private.Machine.{fresh, closed, moved, started, run_from, token_of, move_of, start_of, short_move, first_spelling, spelling_with, spelling_on, is_prefix_spelling, IsFull, IsSound, Bracket, brackets_after}
+use Rattle.py_lines.specs.Private.Machine.{fresh, closed, moved, started, steps_from, token_of, move_of, start_of, short_move, first_spelling, spelling_with, spelling_on, is_prefix_spelling, IsFull, IsSound, Bracket, brackets_after}
 use Rattle.py_lines.specs.Private.Scan.{Closes, Meets, Begins, ClosesAndAdds, Tallies, line_start, stack_of, none_open, is_return_mode, indent_closed, with_brackets, tokens_with, kind_through, in_mode, counts_after, freed, closed_with, with_character}
 use Rattle.py_lines.specs.Private.Run.{IsRunOf, is_ascii_word, may_stand, follows, is_free, word_spelling, word_mode, space_mode, opened, with_bytes, AddsToken, TakesRun, TakesOperator, Reached, ReachedShut, is_apart, may_begin, is_text_byte, is_body_byte, TakesString}
 use Rattle.py_lines.proofs.Text.CharacterTests.{operator_ascii, none_of, the_one}
-use Rattle.py_lines.proofs.Machine.PieceRuns.{scanned, run_from-append, run_word, run_space, grown}
+use Rattle.py_lines.proofs.Machine.PieceSteps.{scanned, steps_from-append, steps_word, steps_space, grown}
 use Rattle.py_lines.proofs.Machine.Starts.{start-word, start-space, start-operator, start-quote}
 use Rattle.py_lines.proofs.Machine.WordTokens.{word_token}
 use Rattle.py_lines.proofs.Machine.LiveTexts.{stack_closed}
 use Rattle.py_lines.proofs.LineScan.PieceEnd.{closes_shut, to_code}
 use Rattle.py_lines.proofs.LineScan.NextCharacter.{closed_one_line, takes_broken, takes_closed, tallies_in}
-use Rattle.py_lines.proofs.LineScan.LineRun.{sound_run}
+use Rattle.py_lines.proofs.LineScan.LineSteps.{sound_steps}
 use Rattle.py_lines.proofs.LineScan.Runs.{counts_none, break-return, stays-no_break, word_byte_low, word_byte_continues, word_byte_starts, space_low, break_low, quote_ascii, body_parts, held_run, tallies_run, reached_character}
 
 -- a run of bytes as a list
@@ -212,26 +212,26 @@ list_all_more p q each (d ∷ ds) all =
     and_from (q d) (list_all q ds) (each d parts.0) (list_all_more p q each ds parts.1)
 
 -- a run opens a piece after closed ones
-pub opens_reached : (m : Mode) (at : ℕ) (text : List ℕ) (scan : Scan) (c : ℕ) (cs after : List ℕ) (first last : Mode) → MeetsPiece m at text scan c (cs ++ after) → IsSound (line_start m) [] → start_of c ≡ starts.Open first → ((done : List Piece) → run_from (Some (scanned done first (c ∷ []))) cs ≡ Some (scanned done last (c ∷ cs))) → list_all (λ d. not (is_break d)) (c ∷ cs) ≡ true → (encode_utf8_all (c ∷ cs) ≡ c ∷ cs) × (all_scalars (c ∷ cs) ≡ true) → Reached m at text (opened scan last (length (c ∷ cs))) after
-opens_reached m at text scan c cs after first last meet start opens runs all low =
+pub opens_reached : (m : Mode) (at : ℕ) (text : List ℕ) (scan : Scan) (c : ℕ) (cs after : List ℕ) (first last : Mode) → MeetsPiece m at text scan c (cs ++ after) → IsSound (line_start m) [] → start_of c ≡ starts.Open first → ((done : List Piece) → steps_from (Some (scanned done first (c ∷ []))) cs ≡ Some (scanned done last (c ∷ cs))) → list_all (λ d. not (is_break d)) (c ∷ cs) ≡ true → (encode_utf8_all (c ∷ cs) ≡ c ∷ cs) × (all_scalars (c ∷ cs) ≡ true) → Reached m at text (opened scan last (length (c ∷ cs))) after
+opens_reached m at text scan c cs after first last meet start opens steps all low =
     let way = meet.reached.way in
     let s = way.state in
     let read = meet.reached.read in
-    let sound = sound_run m read s start way.runs in
+    let sound = sound_steps m read s start way.steps in
     let pieces = closed s.mode s.done s.held in
     let breaks : move_of s.mode c ≡ moves.Breaks = ap (λ n. move_of n c) (sym way.tallies.mode) ∙ meet.breaks in
     let shut : Tallies (settled scan) (fresh pieces) = closes_shut meet.unshut (settled scan) s.done s.mode s.held read meet.closes sound way.tallies in
     let size : byte_len (c ∷ cs) ≡ length (c ∷ cs) = ap length low.0 in
     let read_all : Tallies (with_bytes (settled scan) (length (c ∷ cs))) (scanned pieces modes.Free (c ∷ cs))
     = subst (λ (n : ℕ). Tallies (with_bytes (settled scan) n) (scanned pieces modes.Free (c ∷ cs))) size (tallies_run (settled scan) (fresh pieces) (c ∷ cs) all tt shut) in
-    let stepped : run_from (Some (line_start m)) (read ++ c ∷ cs) ≡ Some (scanned pieces last (c ∷ cs))
-    = run_from-append (Some (line_start m)) read (c ∷ cs) ∙ ap (λ o. run_from o (c ∷ cs)) way.runs
-    ∙ ap (λ v. run_from (moved s c v) cs) breaks ∙ ap (λ st. run_from (started pieces c st) cs) opens ∙ runs pieces in
+    let stepped : steps_from (Some (line_start m)) (read ++ c ∷ cs) ≡ Some (scanned pieces last (c ∷ cs))
+    = steps_from-append (Some (line_start m)) read (c ∷ cs) ∙ ap (λ o. steps_from o (c ∷ cs)) way.steps
+    ∙ ap (λ v. steps_from (moved s c v) cs) breaks ∙ ap (λ st. steps_from (started pieces c st) cs) opens ∙ steps pieces in
     record {
       read = read ++ c ∷ cs;
       way = record {
         state = scanned pieces last (c ∷ cs);
-        runs = stepped;
+        steps = stepped;
         tallies = tallies_in (with_bytes (settled scan) (length (c ∷ cs))) (scanned pieces modes.Free (c ∷ cs)) last last scan.brackets refl read_all;
         stacked = stack_closed s.mode s.done s.held (stack_of meet.unshut.brackets) way.stacked ∙ ap (λ (x : Scan). Some (stack_of x.brackets)) (sym meet.closes.same);
         one_line = closed_one_line s.mode s.done s.held (stack_of meet.unshut.brackets) way.stacked way.one_line (λ is. absurd (both_ways _ meet.unreturned (ap is_return_mode (way.tallies.mode ∙ is))));
@@ -246,10 +246,10 @@ begins_wider p q each [] h = absurd (both_ways _ refl h)
 begins_wider p q each (c ∷ cs) h = each c h
 
 -- and is closed where what follows shows its end
-run_reached : (passes : ℕ → Bool) (next : List Bracket → ℕ → Bool) (wider : (st : List Bracket) (d : ℕ) → next st d ≡ true → may_begin st d ≡ true) (mode_of : List ℕ → Mode) (low : (d : ℕ) → passes d ≡ true → d < 128) (whole : (d : ℕ) → passes d ≡ true → not (is_break d) ≡ true) (first : ℕ → Mode) (starts_as : (d : ℕ) → passes d ≡ true → start_of d ≡ starts.Open (first d)) (runs : (done : List Piece) (d : ℕ) (ds : List ℕ) → list_all passes ds ≡ true → run_from (Some (scanned done (first d) (d ∷ []))) ds ≡ Some (scanned done (mode_of (d ∷ ds)) (d ∷ ds))) (stops : (run : List ℕ) (d : ℕ) (st : List Bracket) → passes d ≡ false → next st d ≡ true → move_of (mode_of run) d ≡ moves.Breaks) (unreturned : (run : List ℕ) → is_return_mode (mode_of run) ≡ false) (m : Mode) (at : ℕ) (text : List ℕ) (scan new : Scan) (c : ℕ) (cs after : List ℕ) → MeetsPiece m at text scan c (cs ++ after) → IsSound (line_start m) [] → list_all passes (c ∷ cs) ≡ true → begins passes after ≡ false → (new ≡ opened scan (mode_of (c ∷ cs)) (length (c ∷ cs))) ⊎ (Closes (opened scan (mode_of (c ∷ cs)) (length (c ∷ cs))) new × (begins (next (stack_of scan.brackets)) after ≡ true)) → ReachedShut m at text new after
-run_reached passes next wider mode_of low whole first starts_as runs stops unreturned m at text scan new c cs after meet start all ends how =
+run_reached : (passes : ℕ → Bool) (next : List Bracket → ℕ → Bool) (wider : (st : List Bracket) (d : ℕ) → next st d ≡ true → may_begin st d ≡ true) (mode_of : List ℕ → Mode) (low : (d : ℕ) → passes d ≡ true → d < 128) (whole : (d : ℕ) → passes d ≡ true → not (is_break d) ≡ true) (first : ℕ → Mode) (starts_as : (d : ℕ) → passes d ≡ true → start_of d ≡ starts.Open (first d)) (steps : (done : List Piece) (d : ℕ) (ds : List ℕ) → list_all passes ds ≡ true → steps_from (Some (scanned done (first d) (d ∷ []))) ds ≡ Some (scanned done (mode_of (d ∷ ds)) (d ∷ ds))) (stops : (run : List ℕ) (d : ℕ) (st : List Bracket) → passes d ≡ false → next st d ≡ true → move_of (mode_of run) d ≡ moves.Breaks) (unreturned : (run : List ℕ) → is_return_mode (mode_of run) ≡ false) (m : Mode) (at : ℕ) (text : List ℕ) (scan new : Scan) (c : ℕ) (cs after : List ℕ) → MeetsPiece m at text scan c (cs ++ after) → IsSound (line_start m) [] → list_all passes (c ∷ cs) ≡ true → begins passes after ≡ false → (new ≡ opened scan (mode_of (c ∷ cs)) (length (c ∷ cs))) ⊎ (Closes (opened scan (mode_of (c ∷ cs)) (length (c ∷ cs))) new × (begins (next (stack_of scan.brackets)) after ≡ true)) → ReachedShut m at text new after
+run_reached passes next wider mode_of low whole first starts_as steps stops unreturned m at text scan new c cs after meet start all ends how =
     let parts = and_parts (passes c) (list_all passes cs) all in
-    let reached = opens_reached m at text scan c cs after (first c) (mode_of (c ∷ cs)) meet start (starts_as c parts.0) (λ done. runs done c cs parts.1) (list_all_more passes (λ d. not (is_break d)) whole (c ∷ cs) all) (low_encodes passes (c ∷ cs) low all) in
+    let reached = opens_reached m at text scan c cs after (first c) (mode_of (c ∷ cs)) meet start (starts_as c parts.0) (λ done. steps done c cs parts.1) (list_all_more passes (λ d. not (is_break d)) whole (c ∷ cs) all) (low_encodes passes (c ∷ cs) low all) in
     ⊎_elim
     (λ is. record { unshut = new; reached = subst (λ (s : Scan). Reached m at text s after) (sym is) reached; how = inl refl })
     (λ shut. record {
@@ -336,7 +336,7 @@ word_reached m at text scan new bytes len free r start takes = go takes.run take
     go (c ∷ cs) spell size full all how =
         let meet = meets m at text scan c (cs ++ takes.after) free (subst (ReachedShut m at text scan) (sym spell) r) in
         subst (ReachedShut m at text new) (sym (ap (drop len) (sym spell) ∙ ap (λ (n : ℕ). drop n (c ∷ cs ++ takes.after)) (sym size) ∙ drop-append_seam (c ∷ cs) takes.after))
-        (run_reached is_ascii_word follows follows_begin word_mode word_byte_low word_whole (λ d. modes.Word (first_spelling d)) (λ d h. start-word d (word_starts d h)) (λ done d ds h. run_word done (first_spelling d) (d ∷ []) ds (all_words ds h)) word_stops (λ run. refl) m at text scan new c cs takes.after meet start all takes.ends (subst (λ (n : ℕ). (new ≡ opened scan (word_mode (c ∷ cs)) n) ⊎ (Closes (opened scan (word_mode (c ∷ cs)) n) new × (begins (follows (stack_of scan.brackets)) takes.after ≡ true))) (sym size) how))
+        (run_reached is_ascii_word follows follows_begin word_mode word_byte_low word_whole (λ d. modes.Word (first_spelling d)) (λ d h. start-word d (word_starts d h)) (λ done d ds h. steps_word done (first_spelling d) (d ∷ []) ds (all_words ds h)) word_stops (λ run. refl) m at text scan new c cs takes.after meet start all takes.ends (subst (λ (n : ℕ). (new ≡ opened scan (word_mode (c ∷ cs)) n) ⊎ (Closes (opened scan (word_mode (c ∷ cs)) n) new × (begins (follows (stack_of scan.brackets)) takes.after ≡ true))) (sym size) how))
 
 pub space_reached : (m : Mode) (at : ℕ) (text : List ℕ) (scan new : Scan) (bytes : List ℕ) (len : ℕ) → scan.piece.mode ≡ modes.Free → ReachedShut m at text scan bytes → IsSound (line_start m) [] → TakesRun is_space may_begin space_mode scan bytes len new → ReachedShut m at text new (drop len bytes)
 space_reached m at text scan new bytes len free r start takes = go takes.run takes.spell takes.size takes.full takes.all takes.how
@@ -346,7 +346,7 @@ space_reached m at text scan new bytes len free r start takes = go takes.run tak
     go (c ∷ cs) spell size full all how =
         let meet = meets m at text scan c (cs ++ takes.after) free (subst (ReachedShut m at text scan) (sym spell) r) in
         subst (ReachedShut m at text new) (sym (ap (drop len) (sym spell) ∙ ap (λ (n : ℕ). drop n (c ∷ cs ++ takes.after)) (sym size) ∙ drop-append_seam (c ∷ cs) takes.after))
-        (run_reached is_space may_begin (λ st d h. h) space_mode space_low space_whole (λ d. modes.Space) (λ d h. start-space d h) (λ done d ds h. run_space done (d ∷ []) ds h) space_stops (λ run. refl) m at text scan new c cs takes.after meet start all takes.ends (subst (λ (n : ℕ). (new ≡ opened scan modes.Space n) ⊎ (Closes (opened scan modes.Space n) new × (begins (may_begin (stack_of scan.brackets)) takes.after ≡ true))) (sym size) how))
+        (run_reached is_space may_begin (λ st d h. h) space_mode space_low space_whole (λ d. modes.Space) (λ d h. start-space d h) (λ done d ds h. steps_space done (d ∷ []) ds h) space_stops (λ run. refl) m at text scan new c cs takes.after meet start all takes.ends (subst (λ (n : ℕ). (new ≡ opened scan modes.Space n) ⊎ (Closes (opened scan modes.Space n) new × (begins (may_begin (stack_of scan.brackets)) takes.after ≡ true))) (sym size) how))
 
 -- an operator after closed pieces
 operator-no_break : (c : ℕ) → is_operator c ≡ true → is_break c ≡ false
@@ -390,7 +390,7 @@ operator_reached m at text scan new bytes len free r start takes =
     = ap (λ (x : Scan). brackets_after (stack_of x.brackets) x.stop (piece operator (c ∷ []))) (sym meet.closes.same) ∙ takes.stands in
     let begins_so : Begins before c (start_of c) (Ok progress.Going) new = subst (λ (st : Start). Begins before c st (Ok progress.Going) new) (sym (start-operator c takes.passes))
     (takes.met, stands, adds_operator before scan new takes.met c takes.passes meet.closes takes.adds) in
-    let took = takes_broken before new s.done s.mode s.held meet.reached.read c breaks (sound_run m meet.reached.read s start way.runs) way.one_line not_yet way.tallies way.stacked (Ok progress.Going) begins_so in
+    let took = takes_broken before new s.done s.mode s.held meet.reached.read c breaks (sound_steps m meet.reached.read s start way.steps) way.one_line not_yet way.tallies way.stacked (Ok progress.Going) begins_so in
     let spelled_so : c ∷ takes.after ≡ encode_utf8 c ++ takes.after = sym (ap (λ t. t ++ takes.after) (encode_ascii c (operator_ascii c takes.passes))) in
     subst (ReachedShut m at text new) (sym (ap (drop len) (sym takes.spell) ∙ ap (λ (n : ℕ). drop n (c ∷ takes.after)) (sym takes.size)))
     (record { unshut = new; reached = reached_character m at text before new (c ∷ takes.after) takes.after c meet.reached (ascii_scalar c (operator_ascii c takes.passes)) spelled_so took; how = inl refl })
@@ -423,7 +423,7 @@ inside_closes : (q : ℕ) → move_of (modes.Inside q) q ≡ moves.Closes
 unfolding move_of
 inside_closes q = rw (eq-eqb q q refl) refl
 
-string_runs : (q : ℕ) (run : List ℕ) → IsFull run → list_all (is_text_byte q) run ≡ true → (done : List Piece) → run_from (Some (scanned done (modes.Opened q) (q ∷ []))) run ≡ Some (scanned done (modes.Inside q) (q ∷ run))
+string_runs : (q : ℕ) (run : List ℕ) → IsFull run → list_all (is_text_byte q) run ≡ true → (done : List Piece) → steps_from (Some (scanned done (modes.Opened q) (q ∷ []))) run ≡ Some (scanned done (modes.Inside q) (q ∷ run))
 string_runs q [] full all done = absurd full
 string_runs q (d ∷ ds) full all done =
     let parts = and_parts (is_text_byte q d) (list_all (is_text_byte q) ds) all in
@@ -450,7 +450,7 @@ string_reached m at text scan new bytes len free r start takes =
     let s = way.state in
     let size : n + 1 ≡ len = omega (arith, takes.size) in
     let closes : Closes (opened scan (modes.Inside q) (n + 1)) new = subst (λ (k : ℕ). Closes (opened scan (modes.Inside q) k) new) (sym size) (token_closes scan new (modes.Inside q) kind.Str len refl refl (λ e. cc) takes.adds) in
-    let took = takes_closed (opened scan (modes.Inside q) n) new s inside.read q (ap (λ k. move_of k q) (sym way.tallies.mode) ∙ inside_closes q) (inside_other s.mode q way.tallies.mode) (sound_run m inside.read s start way.runs) way.tallies way.stacked way.one_line (subst (λ (x : Scan). Closes x new) (quote_reads scan q n takes.quote) closes) in
+    let took = takes_closed (opened scan (modes.Inside q) n) new s inside.read q (ap (λ k. move_of k q) (sym way.tallies.mode) ∙ inside_closes q) (inside_other s.mode q way.tallies.mode) (sound_steps m inside.read s start way.steps) way.tallies way.stacked way.one_line (subst (λ (x : Scan). Closes x new) (quote_reads scan q n takes.quote) closes) in
     let spelled_so : q ∷ takes.after ≡ encode_utf8 q ++ takes.after = sym (ap (λ t. t ++ takes.after) (encode_ascii q (quote_ascii q takes.quote))) in
     let all_size : length (q ∷ run ++ q ∷ []) ≡ len = omega (arith, takes.size, length-append run (q ∷ [])) in
     let dropped : drop len bytes ≡ takes.after = ap (drop len) (sym takes.spell ∙ ap (λ t. q ∷ t) (sym (append_assoc run (q ∷ []) takes.after))) ∙ ap (λ (k : ℕ). drop k ((q ∷ run ++ q ∷ []) ++ takes.after)) (sym all_size) ∙ drop-append_seam (q ∷ run ++ q ∷ []) takes.after in

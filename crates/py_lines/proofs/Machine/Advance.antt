@@ -7,10 +7,10 @@ use Rattle.py_lines.specs.declared.mode.Move.{Move}
 use Rattle.py_lines.specs.declared.mode.Move.TheVariants as moves
 use Rattle.py_lines.specs.declared.mode.Start.{Start}
 use Rattle.py_lines.specs.declared.mode.Start.TheVariants as starts
-use Rattle.py_lines.specs.Private.Machine.{Scanned, text_start, class_of, closed, started, moved, step, run_from, move_of, start_of, Bracket, brackets_of}
+use Rattle.py_lines.specs.Private.Machine.{Scanned, text_start, class_of, closed, started, moved, step, steps_from, move_of, start_of, Bracket, brackets_of}
 use Rattle.py_lines.proofs.Pieces.PieceLists.{piece}
 use Rattle.py_lines.proofs.Pieces.OpenBrackets.{stack_before}
-use Rattle.py_lines.proofs.Machine.PieceRuns.{run_from-append}
+use Rattle.py_lines.proofs.Machine.PieceSteps.{steps_from-append}
 
 -- a state whose brackets pair, as far as they go
 abbrev pub kept : Scanned → Option (List Bracket) → Option Scanned
@@ -33,7 +33,7 @@ goes (Some s) (c ∷ cs) = goes (advance s c) cs
 
 -- from one state, the machine goes over these characters to another, with these brackets open
 pub record GoesTo (from : Scanned) (characters : List ℕ) (to : Scanned) (brackets : List Bracket) : Type 0 where
-  pub run : run_from (Some from) characters ≡ Some to
+  pub run : steps_from (Some from) characters ≡ Some to
   pub stack : brackets_of to.done ≡ Some brackets
 
 -- from the text's start
@@ -68,7 +68,7 @@ grows_on : (done : List Piece) (s : Scanned) (o : Option Scanned) → GrowsIf do
 grows_on done s None first second = tt
 grows_on done s (Some t) first second = (first.0 ++ second.0, second.1 ∙ ap (λ l. l ++ second.0) first.1 ∙ append_assoc done first.0 second.0)
 
-pub run_grows : (cs : List ℕ) (o : Option Scanned) (done : List Piece) → GrowsIf done o → GrowsIf done (run_from o cs)
+pub run_grows : (cs : List ℕ) (o : Option Scanned) (done : List Piece) → GrowsIf done o → GrowsIf done (steps_from o cs)
 run_grows cs None done grows = tt
 run_grows [] (Some s) done grows = grows
 run_grows (c ∷ cs) (Some s) done grows = run_grows cs (step s c) done (grows_on done s (step s c) grows (moved_grows s c (move_of s.mode c)))
@@ -84,7 +84,7 @@ pub goes_from : (cs : List ℕ) (s t : Scanned) (st : List Bracket) → GoesTo s
 goes_from [] s t st to = to.run
 goes_from (c ∷ cs) s t st to = go (step s c) to.run (λ u h. goes_from cs u t st (record { run = h; stack = to.stack }))
   where
-    go : (o : Option Scanned) → run_from o cs ≡ Some t → ((u : Scanned) → run_from (Some u) cs ≡ Some t → goes (Some u) cs ≡ Some t) → goes (kept_if o) cs ≡ Some t
+    go : (o : Option Scanned) → steps_from o cs ≡ Some t → ((u : Scanned) → steps_from (Some u) cs ≡ Some t → goes (Some u) cs ≡ Some t) → goes (kept_if o) cs ≡ Some t
     go None h later =
         let stuck : None ≡ Some t = h in
         absurd (cc)
@@ -102,13 +102,13 @@ goes_to (c ∷ cs) s t first stack h =
     let found = go (step s c) h (λ u st k l. goes_to cs u t st k l) in
     (found.0, record { run = found.1; stack = found.2 })
   where
-    go : (o : Option Scanned) → goes (kept_if o) cs ≡ Some t → ((u : Scanned) (st : List Bracket) → brackets_of u.done ≡ Some st → goes (Some u) cs ≡ Some t → (su : List Bracket) × GoesTo u cs t su) → (su : List Bracket) × (run_from o cs ≡ Some t) × (brackets_of t.done ≡ Some su)
+    go : (o : Option Scanned) → goes (kept_if o) cs ≡ Some t → ((u : Scanned) (st : List Bracket) → brackets_of u.done ≡ Some st → goes (Some u) cs ≡ Some t → (su : List Bracket) × GoesTo u cs t su) → (su : List Bracket) × (steps_from o cs ≡ Some t) × (brackets_of t.done ≡ Some su)
     go None h later =
         let stuck : None ≡ Some t = h in
         absurd (cc)
     go (Some u) h later = inner (brackets_of u.done) refl h
       where
-        inner : (o : Option (List Bracket)) → brackets_of u.done ≡ o → goes (kept u o) cs ≡ Some t → (su : List Bracket) × (run_from (Some u) cs ≡ Some t) × (brackets_of t.done ≡ Some su)
+        inner : (o : Option (List Bracket)) → brackets_of u.done ≡ o → goes (kept u o) cs ≡ Some t → (su : List Bracket) × (steps_from (Some u) cs ≡ Some t) × (brackets_of t.done ≡ Some su)
         inner None is k =
             let stuck : None ≡ Some t = k in
             absurd (cc)
@@ -118,17 +118,17 @@ goes_to (c ∷ cs) s t first stack h =
 
 -- first some characters, and then others
 pub goes_both : {s t u : Scanned} {xs ys : List ℕ} {first st : List Bracket} → GoesTo s xs t first → GoesTo t ys u st → GoesTo s (xs ++ ys) u st
-goes_both {s = s} {xs = xs} {ys = ys} one two = record { run = run_from-append (Some s) xs ys ∙ ap (λ o. run_from o ys) one.run ∙ two.run; stack = two.stack }
+goes_both {s = s} {xs = xs} {ys = ys} one two = record { run = steps_from-append (Some s) xs ys ∙ ap (λ o. steps_from o ys) one.run ∙ two.run; stack = two.stack }
 
 -- where the machine comes through
-pub run_before : (from : Option Scanned) (xs ys : List ℕ) (s : Scanned) → run_from from (xs ++ ys) ≡ Some s → (t : Scanned) × (run_from from xs ≡ Some t) × (run_from (Some t) ys ≡ Some s)
-run_before from xs ys s runs = go (run_from from xs) refl
+pub run_before : (from : Option Scanned) (xs ys : List ℕ) (s : Scanned) → steps_from from (xs ++ ys) ≡ Some s → (t : Scanned) × (steps_from from xs ≡ Some t) × (steps_from (Some t) ys ≡ Some s)
+run_before from xs ys s steps = go (steps_from from xs) refl
   where
-    go : (o : Option Scanned) → run_from from xs ≡ o → (t : Scanned) × (run_from from xs ≡ Some t) × (run_from (Some t) ys ≡ Some s)
+    go : (o : Option Scanned) → steps_from from xs ≡ o → (t : Scanned) × (steps_from from xs ≡ Some t) × (steps_from (Some t) ys ≡ Some s)
     go None is =
-        let stuck : None ≡ Some s = sym (ap (λ x. run_from x ys) is) ∙ sym (run_from-append from xs ys) ∙ runs in
+        let stuck : None ≡ Some s = sym (ap (λ x. steps_from x ys) is) ∙ sym (steps_from-append from xs ys) ∙ steps in
         absurd (cc)
-    go (Some t) is = (t, is, sym (ap (λ x. run_from x ys) is) ∙ sym (run_from-append from xs ys) ∙ runs)
+    go (Some t) is = (t, is, sym (ap (λ x. steps_from x ys) is) ∙ sym (steps_from-append from xs ys) ∙ steps)
 
 -- its brackets with it
 pub goes_before : {s u : Scanned} {st : List Bracket} (xs ys : List ℕ) → GoesTo s (xs ++ ys) u st → (t : Scanned) × (first : List Bracket) × GoesTo s xs t first
@@ -140,7 +140,7 @@ goes_before {s = s} {u = u} {st = st} xs ys to =
 -- one character more that is taken
 pub goes_step : {s t : Scanned} {cs : List ℕ} {first : List Bracket} (u : Scanned) (c : ℕ) (st : List Bracket) → GoesTo s cs t first → step t c ≡ Some u → brackets_of u.done ≡ Some st → GoesTo s (cs ++ c ∷ []) u st
 goes_step {t = t} u c st to is stack =
-    let one : GoesTo t (c ∷ []) u st = record { run = ap (λ o. run_from o []) is; stack = stack } in
+    let one : GoesTo t (c ∷ []) u st = record { run = ap (λ o. steps_from o []) is; stack = stack } in
     goes_both to one
 
 pub advances : (s t : Scanned) (c : ℕ) (st : List Bracket) → step s c ≡ Some t → brackets_of t.done ≡ Some st → advance s c ≡ Some t

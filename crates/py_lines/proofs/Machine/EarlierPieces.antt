@@ -10,7 +10,7 @@ use Rattle.py_lines.specs.declared.mode.Move.{Move}
 use Rattle.py_lines.specs.declared.mode.Move.TheVariants as moves
 use Rattle.py_lines.specs.declared.mode.Start.{Start}
 use Rattle.py_lines.specs.declared.mode.Start.TheVariants as starts
-use Rattle.py_lines.specs.Private.Machine.{Scanned, fresh, class_of, closed, step, moved, started, run_from, move_of, start_of, Bracket, opened_by, closed_by, brackets_after, brackets_through, brackets_of}
+use Rattle.py_lines.specs.Private.Machine.{Scanned, fresh, class_of, closed, step, moved, started, steps_from, move_of, start_of, Bracket, opened_by, closed_by, brackets_after, brackets_through, brackets_of}
 use Rattle.py_lines.proofs.Pieces.PieceLists.{piece, spelled-append}
 use Rattle.py_lines.proofs.Pieces.OpenBrackets.{through-append}
 use Rattle.py_lines.proofs.LogicalLines.Cuts.{byte_len-append}
@@ -40,10 +40,10 @@ moved-behind ps s c moves.Closes = ap (λ l. Some (fresh l)) (append_assoc ps s.
 moved-behind ps s c moves.Breaks = ap (λ l. started l c (start_of c)) (closed-behind ps s.done s.mode s.held) ∙ started-behind ps (closed s.mode s.done s.held) c (start_of c)
 moved-behind ps s c moves.Refused = refl
 
-pub run-behind : (ps : List Piece) (o : Option Scanned) (cs : List ℕ) → run_from (behind_if ps o) cs ≡ behind_if ps (run_from o cs)
+pub run-behind : (ps : List Piece) (o : Option Scanned) (cs : List ℕ) → steps_from (behind_if ps o) cs ≡ behind_if ps (steps_from o cs)
 run-behind ps None cs = refl
 run-behind ps (Some s) [] = refl
-run-behind ps (Some s) (c ∷ cs) = ap (λ o. run_from o cs) (moved-behind ps s c (move_of s.mode c)) ∙ run-behind ps (step s c) cs
+run-behind ps (Some s) (c ∷ cs) = ap (λ o. steps_from o cs) (moved-behind ps s c (move_of s.mode c)) ∙ run-behind ps (step s c) cs
 
 pub step-behind : (ps : List Piece) (s : Scanned) (c : ℕ) → step (behind ps s) c ≡ behind_if ps (step s c)
 step-behind ps s c = moved-behind ps s c (move_of s.mode c)

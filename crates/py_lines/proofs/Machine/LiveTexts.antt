@@ -1,4 +1,4 @@
--- A text is live exactly where the machine runs on it: what is open can be closed.
+-- A text is live exactly where the machine goes through it: what is open can be closed.
 use Rattle.std.proofs.Common.{◌≡◌, ℕ, true, false, ◌==◌, eqb, Option, Some, List, [], ◌∷◌, ◌++◌, refl, sym, ap, ◌∙◌, subst, append-nil}
 use Rattle.std.specs.Str.{all_scalars}
 use Rattle.std.specs.Char.{IsScalar}
@@ -16,12 +16,12 @@ use Rattle.py_lines.specs.declared.mode.Move.{Move}
 use Rattle.py_lines.specs.declared.mode.Move.TheVariants as moves
 use Rattle.py_lines.specs.declared.mode.Start.TheVariants as starts
 use Rattle.py_lines.specs.declared.mode.Spelling.{Spelling}
-use Rattle.py_lines.specs.Private.Machine.{Scanned, fresh, text_start, class_of, closed, started, moved, run_from, move_of, start_of, is_final, is_prefix_spelling, Bracket, brackets_through, brackets_of}
+use Rattle.py_lines.specs.Private.Machine.{Scanned, fresh, text_start, class_of, closed, started, moved, steps_from, move_of, start_of, is_final, is_prefix_spelling, Bracket, brackets_through, brackets_of}
 use Rattle.py_lines.proofs.Text.CharacterTests.{each_of, none_of, not_quote, quote-not-feed}
 use Rattle.py_lines.proofs.Pieces.PieceLists.{piece}
 use Rattle.py_lines.proofs.Machine.Starts.{start-operator, start-feed}
-use Rattle.py_lines.proofs.Machine.PieceRuns.{scanned, pieces_at, grown, closes}
-use Rattle.py_lines.proofs.Machine.ReadingRuns.{reach, MayBegin}
+use Rattle.py_lines.proofs.Machine.PieceSteps.{scanned, pieces_at, grown, closes}
+use Rattle.py_lines.proofs.Machine.ReadingSteps.{reach, MayBegin}
 use Rattle.py_lines.proofs.Pieces.OpenBrackets.{through-append, other_keeps, closer_pops, stack_before, balanced-from_stack, stack-from_balanced}
 use Rattle.py_lines.specs.Private.Machine.{Holds}
 use Rattle.py_lines.proofs.Machine.Soundness.{sound_at, ends_sound}
@@ -41,15 +41,15 @@ stack_closed m done held st stack = keeps done (piece (class_of m) held) st refl
 
 -- a run to an end at which no bracket is open is a reading
 pub reading_at : (cs : List ℕ) (s : Scanned) → RunsTo cs s [] → is_final s.mode ≡ true → IsBalancedReading (pieces_at s) cs
-reading_at cs s runs may =
-    let at_end = ends_sound cs s runs.run may in
-    let balanced = balanced-from_stack (pieces_at s) (stack_closed s.mode s.done s.held [] runs.stack) in
+reading_at cs s steps may =
+    let at_end = ends_sound cs s steps.run may in
+    let balanced = balanced-from_stack (pieces_at s) (stack_closed s.mode s.done s.held [] steps.stack) in
     record { spell = at_end.spell; fit = at_end.fit; balanced = balanced.0; shallow = balanced.1 }
 
 -- and a reading is such a run
 pub record ReadRun (pieces : List Piece) (cs : List ℕ) : Type 0 where
   pub to : Scanned
-  pub runs : RunsTo cs to []
+  pub steps : RunsTo cs to []
   pub ends : is_final to.mode ≡ true
   pub pieces_are : pieces_at to ≡ pieces
 
@@ -64,8 +64,8 @@ run_of_reading pieces cs reading =
     let first = stack_before found.to.done grown.0 [] (ap brackets_of (sym grown.1) ∙ whole) in
     record {
       to = found.to;
-      runs = record {
-        run = ap (run_from (Some text_start)) (sym reading.spell) ∙ found.runs;
+      steps = record {
+        run = ap (steps_from (Some text_start)) (sym reading.spell) ∙ found.steps;
         stack = first.1 ∙ ap (λ l. Some l) (some_same _ first.0 [] (stack_closed found.to.mode found.to.done found.to.held first.0 first.1) whole);
       };
       ends = found.stops (may_begin pieces);
@@ -80,11 +80,11 @@ run_of_reading pieces cs reading =
 pub reading_live : (pieces : List Piece) (cs : List ℕ) → IsBalancedReading pieces cs → IsLive cs
 reading_live pieces cs reading = record { more = []; pieces = pieces; scalars = refl; reading = subst (IsBalancedReading pieces) (sym (append-nil cs)) reading }
 
--- the machine runs on a live text
+-- the machine goes through a live text
 pub live_runs : (cs : List ℕ) → IsLive cs → (s : Scanned) × (st : List Bracket) × RunsTo cs s st
 live_runs cs live =
     let whole = run_of_reading live.pieces (cs ++ live.more) live.reading in
-    goes_before cs live.more whole.runs
+    goes_before cs live.more whole.steps
 
 -- a mode in which the text may end, or a closing bracket follow
 pub record IsReady (m : Mode) : Type 0 where
@@ -245,7 +245,7 @@ completes done modes.Comment held st holds stack =
       to = fresh (before ++ piece line_end (10 ∷ []) ∷ []);
       scalars = refl;
       goes = record {
-        run = ap (λ (v : Move). run_from (moved (scanned done modes.Comment held) 10 v) []) comment-breaks ∙ ap (λ s. run_from (started before 10 s) []) feed-starts;
+        run = ap (λ (v : Move). steps_from (moved (scanned done modes.Comment held) 10 v) []) comment-breaks ∙ ap (λ s. steps_from (started before 10 s) []) feed-starts;
         stack = keeps before (piece line_end (10 ∷ [])) st refl refl (keeps done (piece comment held) st refl refl stack);
       };
       ready = ready-free;
@@ -307,19 +307,19 @@ closes_all (b ∷ bs) s ready stack =
     record {
       to = others.to;
       goes = record {
-        run = ap (λ (v : Move). run_from (moved s c v) (closers bs)) (ready.breaks c is) ∙ ap (λ v. run_from (started before c v) (closers bs)) (start-operator c (closing-operator c is)) ∙ others.goes.run;
+        run = ap (λ (v : Move). steps_from (moved s c v) (closers bs)) (ready.breaks c is) ∙ ap (λ v. steps_from (started before c v) (closers bs)) (start-operator c (closing-operator c is)) ∙ others.goes.run;
         stack = others.goes.stack;
       };
       ends = others.ends;
     }
 
--- the text is live where the machine runs
+-- the text is live where the machine goes through it
 pub runs_live : (cs : List ℕ) (s : Scanned) (st : List Bracket) → RunsTo cs s st → IsLive cs
-runs_live cs s st runs =
-    let first = completes s.done s.mode s.held st (sound_at cs s runs.run).holds runs.stack in
+runs_live cs s st steps =
+    let first = completes s.done s.mode s.held st (sound_at cs s steps.run).holds steps.stack in
     let second = closes_all st first.to first.ready first.goes.stack in
     let more = first.more ++ closers st in
-    let whole = goes_both runs (goes_both first.goes second.goes) in
+    let whole = goes_both steps (goes_both first.goes second.goes) in
     record {
       more = more;
       pieces = pieces_at second.to;

@@ -9,12 +9,12 @@ use Rattle.py_lines.specs.PieceGrammar.{IsPrefix, is_item, is_short_item, joined
 use Rattle.py_lines.specs.Faults.{IsUnescaped, IsShortPrefix, IsLongPrefix, IsSlash, InShortString, InLongString, AfterBackslash}
 use Rattle.py_lines.specs.declared.mode.Mode.{Mode}
 use Rattle.py_lines.specs.declared.mode.Mode.TheVariants as modes
-use Rattle.py_lines.specs.Private.Machine.{Scanned, text_start, run_from, in_short, in_long, is_after_backslash}
+use Rattle.py_lines.specs.Private.Machine.{Scanned, text_start, steps_from, in_short, in_long, is_after_backslash}
 use Rattle.py_lines.proofs.Text.CharacterTests.{none_of, prefix_word}
 use Rattle.py_lines.proofs.Machine.Starts.{start-slash}
-use Rattle.py_lines.proofs.Machine.PieceRuns.{scanned, pieces_at, StopsBefore, run_from-append, begun, grown}
-use Rattle.py_lines.proofs.Machine.StringRuns.{IsShortMode, short_escapes, short_body, opened_run, long_opened, run_long, mode_at, Seen, seen_after, long_escapes}
-use Rattle.py_lines.proofs.Machine.ReadingRuns.{Reaches, reach, MayBegin}
+use Rattle.py_lines.proofs.Machine.PieceSteps.{scanned, pieces_at, StopsBefore, steps_from-append, begun, grown}
+use Rattle.py_lines.proofs.Machine.StringSteps.{IsShortMode, short_escapes, short_body, opened_steps, long_opened, run_long, mode_at, Seen, seen_after, long_escapes}
+use Rattle.py_lines.proofs.Machine.ReadingSteps.{Reaches, reach, MayBegin}
 use Rattle.py_lines.specs.Private.Machine.{Holds, HoldsItems, HoldsPrefix, IsSound}
 use Rattle.py_lines.proofs.Machine.OpenPieces.{opened_items, front_none, front_one, front_two}
 use Rattle.py_lines.proofs.Machine.Soundness.{returned_items}
@@ -129,18 +129,18 @@ may_begin (p ∷ ps) rest h = tt
 -- the machine stands after these characters, in such a mode, with pieces that spell `start` finished
 pub record StandsIn (is_such : Mode → Bool) (characters start : List ℕ) : Type 0 where
   pub to : Scanned
-  pub runs : run_from (Some text_start) characters ≡ Some to
+  pub steps : steps_from (Some text_start) characters ≡ Some to
   pub such : is_such to.mode ≡ true
   pub before : spelled to.done ≡ start
 
 -- from the start to a prefix after pieces
-stands_in : (is_such : Mode → Bool) (characters start : List ℕ) (pieces : List Piece) (front : List ℕ) (reached : Reaches (spelled pieces) pieces front) (m : Mode) (held : List ℕ) → start ++ front ≡ characters → spelled pieces ≡ start → is_such m ≡ true → run_from (Some reached.to) front ≡ Some (scanned (pieces_at reached.to) m held) → StandsIn is_such characters start
-stands_in is_such characters start pieces front reached m held spell before such runs = record {
+stands_in : (is_such : Mode → Bool) (characters start : List ℕ) (pieces : List Piece) (front : List ℕ) (reached : Reaches (spelled pieces) pieces front) (m : Mode) (held : List ℕ) → start ++ front ≡ characters → spelled pieces ≡ start → is_such m ≡ true → steps_from (Some reached.to) front ≡ Some (scanned (pieces_at reached.to) m held) → StandsIn is_such characters start
+stands_in is_such characters start pieces front reached m held spell before such steps = record {
   to = scanned (pieces_at reached.to) m held;
-  runs = ap (run_from (Some text_start)) (sym spell ∙ ap (λ t. t ++ front) (sym before))
-      ∙ run_from-append (Some text_start) (spelled pieces) front
-      ∙ ap (λ o. run_from o front) reached.runs
-      ∙ runs;
+  steps = ap (steps_from (Some text_start)) (sym spell ∙ ap (λ t. t ++ front) (sym before))
+      ∙ steps_from-append (Some text_start) (spelled pieces) front
+      ∙ ap (λ o. steps_from o front) reached.steps
+      ∙ steps;
   such = such;
   before = ap spelled reached.pieces_are ∙ before;
 }
@@ -159,13 +159,13 @@ is_long_mode q Seen.two = refl
 record ShortEnd (done : List Piece) (from : Mode) (held body : List ℕ) : Type 0 where
   to : Mode
   short : in_short to ≡ true
-  runs : run_from (Some (scanned done from held)) body ≡ Some (scanned done to (held ++ body))
+  steps : steps_from (Some (scanned done from held)) body ≡ Some (scanned done to (held ++ body))
 
 short_last : (done : List Piece) (q : ℕ) (m : Mode) (held last : List ℕ) → IsShortMode q m → is_quote q ≡ true → IsUnescaped last → ShortEnd done m held last
 short_last done q m held last short quotes (inl empty) =
-    subst (ShortEnd done m held) (sym empty) (record { to = m; short = is_short_mode q m short; runs = ap (λ t. Some (scanned done m t)) (sym (append-nil held)) })
+    subst (ShortEnd done m held) (sym empty) (record { to = m; short = is_short_mode q m short; steps = ap (λ t. Some (scanned done m t)) (sym (append-nil held)) })
 short_last done q m held last short quotes (inr (slash, is, slashes)) =
-    subst (ShortEnd done m held) (sym is) (record { to = modes.Escape q; short = refl; runs = grown done m (modes.Escape q) held slash [] (short_escapes q slash m short quotes slashes) })
+    subst (ShortEnd done m held) (sym is) (record { to = modes.Escape q; short = refl; steps = grown done m (modes.Escape q) held slash [] (short_escapes q slash m short quotes slashes) })
 
 short_end : (done : List Piece) (q : ℕ) (held : List ℕ) (items : List (List ℕ)) (last : List ℕ) → is_quote q ≡ true → list_all (is_short_item q) items ≡ true → IsUnescaped last → ShortEnd done (modes.Opened q) held (joined items ++ last)
 short_end done q held [] last quotes each escapes = short_last done q (modes.Opened q) held last (inl refl) quotes escapes
@@ -175,9 +175,9 @@ short_end done q held (i ∷ is) last quotes each escapes =
     record {
       to = later.to;
       short = later.short;
-      runs = run_from-append (Some (scanned done (modes.Opened q) held)) (joined (i ∷ is)) last
-          ∙ ap (λ o. run_from o last) body.runs
-          ∙ later.runs
+      steps = steps_from-append (Some (scanned done (modes.Opened q) held)) (joined (i ∷ is)) last
+          ∙ ap (λ o. steps_from o last) body.steps
+          ∙ later.steps
           ∙ ap (λ t. Some (scanned done later.to t)) (append_assoc held (joined (i ∷ is)) last);
     }
 
@@ -189,19 +189,19 @@ stands_in_short characters start short =
     let stops = subst (StopsBefore reached.to.mode) front.spell (reached.stops (may_begin short.pieces short.front (ap (begins is_mark) front.spell ∙ front-unmarked front.prefix front.quote body front.begun front.opens))) in
     let inner = short_end (pieces_at reached.to) front.quote (front.prefix ++ front.quote ∷ []) front.items front.last front.opens front.each front.escapes in
     stands_in in_short characters start short.pieces short.front reached inner.to _ short.spell short.before inner.short
-    (ap (run_from (Some reached.to)) front.spell ∙ opened_run reached.to front.prefix front.quote body front.begun front.opens stops ∙ inner.runs)
+    (ap (steps_from (Some reached.to)) front.spell ∙ opened_steps reached.to front.prefix front.quote body front.begun front.opens stops ∙ inner.steps)
 
 -- a run into a long string
 record LongEnd (done : List Piece) (from : Mode) (held body : List ℕ) : Type 0 where
   to : Mode
   long : in_long to ≡ true
-  runs : run_from (Some (scanned done from held)) body ≡ Some (scanned done to (held ++ body))
+  steps : steps_from (Some (scanned done from held)) body ≡ Some (scanned done to (held ++ body))
 
 long_last : (done : List Piece) (q : ℕ) (seen : Seen) (held last : List ℕ) → is_quote q ≡ true → IsUnescaped last → LongEnd done (mode_at q seen) held last
 long_last done q seen held last quotes (inl empty) =
-    subst (LongEnd done (mode_at q seen) held) (sym empty) (record { to = mode_at q seen; long = is_long_mode q seen; runs = ap (λ t. Some (scanned done (mode_at q seen) t)) (sym (append-nil held)) })
+    subst (LongEnd done (mode_at q seen) held) (sym empty) (record { to = mode_at q seen; long = is_long_mode q seen; steps = ap (λ t. Some (scanned done (mode_at q seen) t)) (sym (append-nil held)) })
 long_last done q seen held last quotes (inr (slash, is, slashes)) =
-    subst (LongEnd done (mode_at q seen) held) (sym is) (record { to = modes.LongEscape q; long = refl; runs = grown done (mode_at q seen) (modes.LongEscape q) held slash [] (long_escapes q slash seen quotes slashes) })
+    subst (LongEnd done (mode_at q seen) held) (sym is) (record { to = modes.LongEscape q; long = refl; steps = grown done (mode_at q seen) (modes.LongEscape q) held slash [] (long_escapes q slash seen quotes slashes) })
 
 long_end : (done : List Piece) (q : ℕ) (held : List ℕ) (items : List (List ℕ)) (last : List ℕ) → is_quote q ≡ true → list_all is_item items ≡ true → has_triple q items ≡ false → IsUnescaped last → LongEnd done (modes.Long q) held (joined items ++ last)
 long_end done q held items last quotes each triple escapes =
@@ -209,9 +209,9 @@ long_end done q held items last quotes each triple escapes =
     record {
       to = later.to;
       long = later.long;
-      runs = run_from-append (Some (scanned done (modes.Long q) held)) (joined items) last
-          ∙ ap (λ o. run_from o last) (run_long done q Seen.none held items quotes each triple)
-          ∙ later.runs
+      steps = steps_from-append (Some (scanned done (modes.Long q) held)) (joined items) last
+          ∙ ap (λ o. steps_from o last) (run_long done q Seen.none held items quotes each triple)
+          ∙ later.steps
           ∙ ap (λ t. Some (scanned done later.to t)) (append_assoc held (joined items) last);
     }
 
@@ -224,7 +224,7 @@ stands_in_long characters start long =
     let stops = subst (StopsBefore reached.to.mode) front.spell (reached.stops (may_begin long.pieces long.front (ap (begins is_mark) front.spell ∙ front-unmarked front.prefix q (q ∷ q ∷ body) front.begun front.opens))) in
     let inner = long_end (pieces_at reached.to) q (front.prefix ++ q ∷ q ∷ q ∷ []) front.items front.last front.opens front.each front.open_yet front.escapes in
     stands_in in_long characters start long.pieces long.front reached inner.to _ long.spell long.before inner.long
-    (ap (run_from (Some reached.to)) front.spell ∙ long_opened reached.to front.prefix q body front.begun front.opens stops ∙ inner.runs)
+    (ap (steps_from (Some reached.to)) front.spell ∙ long_opened reached.to front.prefix q body front.begun front.opens stops ∙ inner.steps)
 
 pub stands_behind_slash : (characters start : List ℕ) → AfterBackslash characters start → StandsIn is_after_backslash characters start
 stands_behind_slash characters start behind = go behind.inside
@@ -237,11 +237,11 @@ stands_behind_slash characters start behind = go behind.inside
         (begun reached.to slash [] [] _ stops (start-slash slash slashes))
 
 -- so the mode says what is open
-pub same_state : (cs : List ℕ) (s t : Scanned) → run_from (Some text_start) cs ≡ Some s → run_from (Some text_start) cs ≡ Some t → s ≡ t
+pub same_state : (cs : List ℕ) (s t : Scanned) → steps_from (Some text_start) cs ≡ Some s → steps_from (Some text_start) cs ≡ Some t → s ≡ t
 same_state cs s t first second = cc
 
-pub such_mode : (is_such : Mode → Bool) (characters start : List ℕ) (s : Scanned) → StandsIn is_such characters start → run_from (Some text_start) characters ≡ Some s → is_such s.mode ≡ true
-such_mode is_such characters start s stands runs = ap (λ (t : Scanned). is_such t.mode) (same_state characters s stands.to runs stands.runs) ∙ stands.such
+pub such_mode : (is_such : Mode → Bool) (characters start : List ℕ) (s : Scanned) → StandsIn is_such characters start → steps_from (Some text_start) characters ≡ Some s → is_such s.mode ≡ true
+such_mode is_such characters start s stands steps = ap (λ (t : Scanned). is_such t.mode) (same_state characters s stands.to steps stands.steps) ∙ stands.such
 
-pub such_start : (is_such : Mode → Bool) (characters start : List ℕ) (s : Scanned) → StandsIn is_such characters start → run_from (Some text_start) characters ≡ Some s → spelled s.done ≡ start
-such_start is_such characters start s stands runs = ap (λ (t : Scanned). spelled t.done) (same_state characters s stands.to runs stands.runs) ∙ stands.before
+pub such_start : (is_such : Mode → Bool) (characters start : List ℕ) (s : Scanned) → StandsIn is_such characters start → steps_from (Some text_start) characters ≡ Some s → spelled s.done ≡ start
+such_start is_such characters start s stands steps = ap (λ (t : Scanned). spelled t.done) (same_state characters s stands.to steps stands.steps) ∙ stands.before

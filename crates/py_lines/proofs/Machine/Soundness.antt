@@ -10,12 +10,12 @@ use Rattle.py_lines.specs.declared.mode.Mode.TheVariants as modes
 use Rattle.py_lines.specs.declared.mode.Move.{Move}
 use Rattle.py_lines.specs.declared.mode.Start.{Start}
 use Rattle.py_lines.specs.declared.mode.Start.TheVariants as starts
-use Rattle.py_lines.specs.Private.Machine.{IsSound, Holds, HoldsItems, HoldsSome, HoldsQuotes, HoldsPrefix, HoldsLong, Scanned, fresh, text_start, closed, started, moved, step, run_from, move_of, short_move, long_move, start_of, first_spelling, spelling_with, is_prefix_spelling, is_final}
+use Rattle.py_lines.specs.Private.Machine.{IsSound, Holds, HoldsItems, HoldsSome, HoldsQuotes, HoldsPrefix, HoldsLong, Scanned, fresh, text_start, closed, started, moved, step, steps_from, move_of, short_move, long_move, start_of, first_spelling, spelling_with, is_prefix_spelling, is_final}
 use Rattle.py_lines.proofs.Pieces.PieceLists.{piece, spelled-push, AreReadBefore-push, MayFollow, follows_any}
 use Rattle.py_lines.proofs.Machine.Starts.{StartsSo, starts_so}
 use Rattle.py_lines.proofs.Machine.Spellings.{spelling_on-push, prefix_spelling}
 use Rattle.py_lines.proofs.Text.CharacterTests.{feed_is, return_is, barred, feed-not-return}
-use Rattle.py_lines.proofs.Machine.PieceRuns.{scanned, pieces_at}
+use Rattle.py_lines.proofs.Machine.PieceSteps.{scanned, pieces_at}
 use Rattle.py_lines.proofs.Machine.OpenPieces.{list_all-push, list_any-push, push, same_quotes, something, long_something, items_push, front_push, front_none, front_one, front_two, opened_items, opened_long, one_more_quote, short_string, long_string}
 
 abbrev pub SoundIf : Option Scanned → List ℕ → Type 0
@@ -321,21 +321,21 @@ step_sound done modes.JoinReturn held read c sound = join_step done held read c 
 step_sound done modes.Return held read c sound = return_step done held read c sound
 
 -- characters, one after another
-pub run_sound : (s : Scanned) (read cs : List ℕ) → IsSound s read → SoundIf (run_from (Some s) cs) (read ++ cs)
+pub run_sound : (s : Scanned) (read cs : List ℕ) → IsSound s read → SoundIf (steps_from (Some s) cs) (read ++ cs)
 run_sound s read [] sound = subst (IsSound s) (sym (append-nil read)) sound
 run_sound s read (c ∷ cs) sound =
     go (step s c) (step_sound s.done s.mode s.held read c sound) (λ t next. run_sound t (read ++ c ∷ []) cs next)
   where
-    go : (o : Option Scanned) → SoundIf o (read ++ c ∷ []) → ((t : Scanned) → IsSound t (read ++ c ∷ []) → SoundIf (run_from (Some t) cs) ((read ++ c ∷ []) ++ cs)) → SoundIf (run_from o cs) (read ++ c ∷ cs)
+    go : (o : Option Scanned) → SoundIf o (read ++ c ∷ []) → ((t : Scanned) → IsSound t (read ++ c ∷ []) → SoundIf (steps_from (Some t) cs) ((read ++ c ∷ []) ++ cs)) → SoundIf (steps_from o cs) (read ++ c ∷ cs)
     go None next later = tt
-    go (Some t) next later = subst (SoundIf (run_from (Some t) cs)) (append_assoc read (c ∷ []) cs) (later t next)
+    go (Some t) next later = subst (SoundIf (steps_from (Some t) cs)) (append_assoc read (c ∷ []) cs) (later t next)
 
 pub start_is_sound : IsSound text_start []
 start_is_sound = record { spell = refl; holds = (refl, refl); fit = λ more. tt }
 
--- where the machine runs to from the start is sound
-pub sound_at : (cs : List ℕ) (s : Scanned) → run_from (Some text_start) cs ≡ Some s → IsSound s cs
-sound_at cs s runs = subst (λ o. SoundIf o cs) runs (run_sound text_start [] cs start_is_sound)
+-- where the machine goes to from the start is sound
+pub sound_at : (cs : List ℕ) (s : Scanned) → steps_from (Some text_start) cs ≡ Some s → IsSound s cs
+sound_at cs s steps = subst (λ o. SoundIf o cs) steps (run_sound text_start [] cs start_is_sound)
 
 -- where the text may end, the pieces, the open one with them, are read to the text's end
 pub record EndsSound (s : Scanned) (read : List ℕ) : Type 0 where
@@ -367,7 +367,7 @@ end_sound done modes.Backslash held read sound may = absurd (both_ways _ refl ma
 end_sound done modes.JoinReturn held read sound may = end_with done modes.JoinReturn join held read sound refl (sound.holds.0, sound.holds.1 ∷ [], sound.holds.2, sound.holds.3, return (ap (λ d. d ∷ []) (return_is sound.holds.1 sound.holds.4))) (and_right _ _ refl)
 end_sound done modes.Return held read sound may = end_with done modes.Return line_end held read sound refl (return (sound.holds.1 ∙ ap (λ d. d ∷ []) (return_is sound.holds.0 sound.holds.2))) (and_right _ _ refl)
 
-pub ends_sound : (cs : List ℕ) (s : Scanned) → run_from (Some text_start) cs ≡ Some s → is_final s.mode ≡ true → EndsSound s cs
-ends_sound cs s runs may =
-    let at_end = end_sound s.done s.mode s.held cs (sound_at cs s runs) may in
+pub ends_sound : (cs : List ℕ) (s : Scanned) → steps_from (Some text_start) cs ≡ Some s → is_final s.mode ≡ true → EndsSound s cs
+ends_sound cs s steps may =
+    let at_end = end_sound s.done s.mode s.held cs (sound_at cs s steps) may in
     record { spell = at_end.0; fit = at_end.1 }

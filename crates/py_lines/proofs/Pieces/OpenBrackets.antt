@@ -233,7 +233,7 @@ stands-none = record { at = level [] [] refl (balance.none [] refl); shallow = t
 
 -- where the stack comes to, the pieces stand so
 pub stands : (ps : List Piece) (bs : List Bracket) → brackets_of ps ≡ Some bs → Stands bs ps
-stands ps bs runs = subst (λ o. StandsIf o ps) runs (stands-through ps [] (Some []) stands-none)
+stands ps bs steps = subst (λ o. StandsIf o ps) steps (stands-through ps [] (Some []) stands-none)
 
 balanced_at : (bs : List Bracket) (ps : List Piece) → bs ≡ [] → StandsAt bs ps → IsBalanced ps
 balanced_at bs ps empty (level _ _ is within) = within
@@ -241,8 +241,8 @@ balanced_at bs ps empty (inside _ _ b others outer inner a is spell out opens ki
 
 -- an empty stack at the end says that brackets are in pairs, and never more than 200 open
 pub balanced-from_stack : (ps : List Piece) → brackets_of ps ≡ Some [] → IsBalanced ps × IsShallow 0 ps
-balanced-from_stack ps runs =
-    let at_end = stands ps [] runs in
+balanced-from_stack ps steps =
+    let at_end = stands ps [] steps in
     (balanced_at [] ps refl at_end.at, at_end.shallow)
 
 pub stack-from_balanced : (ps : List Piece) → IsBalanced ps → IsShallow 0 ps → brackets_of ps ≡ Some []
@@ -250,11 +250,11 @@ stack-from_balanced ps balanced shallow = balanced_through ps balanced [] [] sha
 
 -- the stack of the first pieces
 pub stack_before : (ps qs : List Piece) (bs : List Bracket) → brackets_of (ps ++ qs) ≡ Some bs → (first : List Bracket) × (brackets_of ps ≡ Some first)
-stack_before ps qs bs runs = go (brackets_of ps) refl
+stack_before ps qs bs steps = go (brackets_of ps) refl
   where
     go : (o : Option (List Bracket)) → brackets_of ps ≡ o → (first : List Bracket) × (brackets_of ps ≡ Some first)
     go None is =
-        let stuck : None ≡ Some bs = sym (ap (λ x. brackets_through x ps qs) is) ∙ sym (through-append (Some []) [] ps qs) ∙ runs in
+        let stuck : None ≡ Some bs = sym (ap (λ x. brackets_through x ps qs) is) ∙ sym (through-append (Some []) [] ps qs) ∙ steps in
         absurd (cc)
     go (Some first) is = (first, is)
 
@@ -280,4 +280,4 @@ room-through [] done (Some bs) room = room
 room-through (p ∷ ps) done (Some bs) room = room-through ps (done ++ p ∷ []) (brackets_after bs (byte_len (spelled done)) p) (room-push bs (byte_len (spelled done)) p room)
 
 pub room_in : (ps : List Piece) (bs : List Bracket) → brackets_of ps ≡ Some bs → length bs ≤ 200
-room_in ps bs runs = subst HasRoom runs (room-through ps [] (Some []) (omega arith))
+room_in ps bs steps = subst HasRoom steps (room-through ps [] (Some []) (omega arith))

@@ -27,7 +27,7 @@ use Rattle.py_lines.specs.Reader.View.{reader_of}
 use Rattle.py_lines.specs.Private.LineState.{first_mode}
 use Rattle.py_lines.specs.Private.Source.{line_of_source, HasScanned, PassesLine, FailsAfter}
 use Rattle.py_lines.proofs.Pieces.PieceLists.{piece, AreReadBefore-second, spelled-append}
-use Rattle.py_lines.proofs.Machine.PieceRuns.{scanned, pieces_at}
+use Rattle.py_lines.proofs.Machine.PieceSteps.{scanned, pieces_at}
 use Rattle.py_lines.proofs.Pieces.OpenBrackets.{stands, StandsAt, level, inside}
 use Rattle.py_lines.proofs.Machine.Advance.{RunsTo, goes_once}
 use Rattle.py_lines.proofs.Machine.LiveTexts.{stack_closed, run_of_reading}
@@ -39,7 +39,7 @@ use Rattle.py_lines.proofs.LogicalLines.Cuts.{byte_len-append, one_line, last_pa
 use Rattle.py_lines.proofs.LineScan.LineCount.{line_ends-bytes}
 use Rattle.py_lines.proofs.LineScan.PieceEnd.{closes_shut}
 use Rattle.py_lines.proofs.LineScan.NextCharacter.{closed_one_line, one_return}
-use Rattle.py_lines.proofs.LineScan.LineRun.{sound_run, way_stop}
+use Rattle.py_lines.proofs.LineScan.LineSteps.{sound_steps, way_stop}
 use Rattle.py_lines.proofs.Machine.EarlierPieces.{behind, shift}
 use Rattle.py_lines.proofs.Lexings.GivenLines.{IsEnded}
 use Rattle.py_lines.proofs.Readers.LineAnswers.{IsLine, Within, all_within, continues, end_len-push}
@@ -95,7 +95,7 @@ line_at_close m old mid read way sound t empty some end_len whole ends =
     let plain = append-nil (spelled (pieces_at s)) ∙ spell in
     record {
       to = s;
-      runs = way.runs;
+      steps = way.steps;
       spell = spell;
       whole = whole;
       stacked = stack_closed s.mode s.done s.held (stack_of old.brackets) way.stacked ∙ ap (λ l. Some l) empty;
@@ -152,7 +152,7 @@ module _ (old : Source) (has : HasScanned old stops.TextEnd) where
   runs_all : (lines : List LogicalLine) (given : HasGiven (reader_of old) lines) → RunsTo (here old stops.TextEnd has lines given).given.first.characters (joins old stops.TextEnd has lines given has.scans.stops.0).state (joins old stops.TextEnd has lines given has.scans.stops.0).st
   runs_all lines given =
       let j = joins old stops.TextEnd has lines given has.scans.stops.0 in
-      subst (λ t. RunsTo t j.state j.st) (all_read lines given) j.runs
+      subst (λ t. RunsTo t j.state j.st) (all_read lines given) j.steps
 
   -- bytes that begin no character
   pub fails_at_bytes : (new : Source) (error : LexError) (at : FailsAfter old BadUtf8 old.state.scan.stop error new) → length old.characters.now < length old.bytes.now → Fails (reader_of old) at.keeps.fault (reader_of new)
@@ -174,7 +174,7 @@ module _ (old : Source) (has : HasScanned old stops.TextEnd) where
   pub unfinished_within : (behind : ℕ) → IsOpenFrom old.state.scan behind → Within has.scans.read behind
   unfinished_within behind is =
       let way = has.scans.stops.0 in
-      within_open old.state.scan has.scans.read way.state (sound_run (first_mode old.state.place) has.scans.read way.state (start_sound old stops.TextEnd has) way.runs) way.tallies way.stacked behind is
+      within_open old.state.scan has.scans.read way.state (sound_steps (first_mode old.state.place) has.scans.read way.state (start_sound old stops.TextEnd has) way.steps) way.tallies way.stacked behind is
 
   no_tail : (lines : List LogicalLine) (given : HasGiven (reader_of old) lines) → length old.bytes.now ≤ length old.characters.now → (here old stops.TextEnd has lines given).given.first.tail ≡ []
   no_tail lines given full = (here old stops.TextEnd has lines given).tail_is ∙ drop_all (length old.characters.now) old.bytes.now full
@@ -188,7 +188,7 @@ module _ (old : Source) (has : HasScanned old stops.TextEnd) where
       let j = joins old stops.TextEnd has lines given has.scans.stops.0 in
       let s = here old stops.TextEnd has lines given in
       let ran = run_of_reading pieces s.given.first.characters reading in
-      let none : shift (byte_len (spelled s.given.first.pieces)) (b ∷ others) ≡ [] = ap (shift (byte_len (spelled s.given.first.pieces))) (sym top) ∙ sym (j.same full).1 ∙ (goes_once (runs_all lines given) ran.runs).1 in
+      let none : shift (byte_len (spelled s.given.first.pieces)) (b ∷ others) ≡ [] = ap (shift (byte_len (spelled s.given.first.pieces))) (sym top) ∙ sym (j.same full).1 ∙ (goes_once (runs_all lines given) ran.steps).1 in
       cc
 
   end_offset : (lines : List LogicalLine) (given : HasGiven (reader_of old) lines) (behind' : ℕ) → 0 < byte_len has.scans.read → IsOpenFrom old.state.scan behind' → old.state.place + behind' ≡ end_place (joins old stops.TextEnd has lines given has.scans.stops.0).state (joins old stops.TextEnd has lines given has.scans.stops.0).st
@@ -233,19 +233,19 @@ module _ (old : Source) (has : HasScanned old stops.TextEnd) where
   last_line : (mid : Scan) → Tallies mid (fresh (pieces_at has.scans.stops.0.state)) → stack_of old.state.scan.brackets ≡ [] → 0 < byte_len has.scans.read → IsLine (line_start (first_mode old.state.place)) mid has.scans.read 0 (pieces_at has.scans.stops.0.state)
   last_line mid t empty some =
       let way = has.scans.stops.0 in
-      line_at_text_end (first_mode old.state.place) old.state.scan mid has.scans.read way (sound_run (first_mode old.state.place) has.scans.read way.state (start_sound old stops.TextEnd has) way.runs) open_yet t empty some
+      line_at_text_end (first_mode old.state.place) old.state.scan mid has.scans.read way (sound_steps (first_mode old.state.place) has.scans.read way.state (start_sound old stops.TextEnd has) way.steps) open_yet t empty some
 
   pub continues_text : (mid new : Source) → is_final has.scans.stops.0.state.mode ≡ true → stack_of old.state.scan.brackets ≡ [] → Closes old.state.scan mid.state.scan → mid.bytes ≡ old.bytes → mid.state.place ≡ old.state.place → mid.state.fault ≡ old.state.fault → mid.characters ≡ old.characters → length old.bytes.now ≤ length old.characters.now → PassesLine mid 0 new → Continues (reader_of old) (line_of_source new) (reader_of new) × EachLiesIn (line_of_source new).text new.state.scan.tokens.items
   continues_text mid new final empty closes bytes place fault characters full gives =
       let way = has.scans.stops.0 in
       let s = way.state in
       let some = some_text full in
-      let sound = sound_run (first_mode old.state.place) has.scans.read s (start_sound old stops.TextEnd has) way.runs in
+      let sound = sound_steps (first_mode old.state.place) has.scans.read s (start_sound old stops.TextEnd has) way.steps in
       let tallies = closes_shut old.state.scan mid.state.scan s.done s.mode s.held has.scans.read closes sound way.tallies in
       continues old mid new stops.TextEnd has 0 (pieces_at s) (last_line mid.state.scan tallies empty some) bytes place fault characters (ap (λ (s : Scan). s.line) closes.same) gives
       (λ lines sit.
       let j = joins old stops.TextEnd has lines sit.given way in
-      let ended = ends_sound (spelled (here old stops.TextEnd has lines sit.given).given.first.pieces ++ has.scans.read) j.state j.runs.run (ap (λ (t : Scanned). is_final t.mode) (j.same some).0 ∙ final) in
+      let ended = ends_sound (spelled (here old stops.TextEnd has lines sit.given).given.first.pieces ++ has.scans.read) j.state j.steps.run (ap (λ (t : Scanned). is_final t.mode) (j.same some).0 ∙ final) in
       let fit = AreReadBefore-second (here old stops.TextEnd has lines sit.given).given.first.pieces (pieces_at s) [] (subst (λ l. AreReadBefore l []) j.pieces ended.fit) in
       subst (AreReadBefore (pieces_at s)) (sym (all_taken sit.after has.scans.rest sit.follow has.scans.stops.1)) fit)
       (λ lines sit. IsEnded.by_text (λ i. all_taken sit.after has.scans.rest sit.follow has.scans.stops.1 i ++ (sit.tail_is ∙ drop_all (length old.characters.now) old.bytes.now full) i))
@@ -253,5 +253,5 @@ module _ (old : Source) (has : HasScanned old stops.TextEnd) where
   pub few_lines_text : (mid : Scan) → Closes old.state.scan mid → mid.count.line ≤ old.state.place + mid.stop + 1
   few_lines_text mid closes =
       let way = has.scans.stops.0 in
-      let sound = sound_run (first_mode old.state.place) has.scans.read way.state (start_sound old stops.TextEnd has) way.runs in
+      let sound = sound_steps (first_mode old.state.place) has.scans.read way.state (start_sound old stops.TextEnd has) way.steps in
       omega (arith, ap (λ (s : Scan). s.count.line) closes.same, ap (λ (s : Scan). s.stop) closes.same, stop_size, way.tallies.here, ap line_ends sound.spell, line_ends-bytes has.scans.read, has.line, old.few_lines)

@@ -27,14 +27,14 @@ use Rattle.py_lines.specs.Reader.View.{reader_of}
 use Rattle.py_lines.specs.Private.LineState.{IsFaultAfter, first_mode}
 use Rattle.py_lines.specs.Private.Source.{HasScanned, FailsAfter}
 use Rattle.py_lines.proofs.Pieces.PieceLists.{piece}
-use Rattle.py_lines.proofs.Machine.PieceRuns.{scanned, pieces_at}
+use Rattle.py_lines.proofs.Machine.PieceSteps.{scanned, pieces_at}
 use Rattle.py_lines.proofs.Machine.LiveTexts.{keeps}
 use Rattle.py_lines.proofs.Pieces.OpenBrackets.{stack-from_balanced}
 use Rattle.py_lines.proofs.Lexings.Answers.{IsLineOf, HasPrefix, refused_at_character}
 use Rattle.py_lines.proofs.LogicalLines.Cuts.{byte_len-append}
 use Rattle.py_lines.proofs.LineScan.NextCharacter.{closed_one_line}
-use Rattle.py_lines.proofs.LineScan.LineRun.{sound_run, way_stop}
-use Rattle.py_lines.proofs.LineScan.TextRun.{begun_sound, base_of, way_goes, Joined, joined, dead_at}
+use Rattle.py_lines.proofs.LineScan.LineSteps.{sound_steps, way_stop}
+use Rattle.py_lines.proofs.LineScan.TextSteps.{begun_sound, base_of, way_goes, Joined, joined, dead_at}
 use Rattle.py_lines.proofs.Lexings.GivenLines.{Situation, base_lines}
 use Rattle.py_lines.proofs.Readers.LineAnswers.{situation, Within, front_spells, all_within}
 
@@ -119,7 +119,7 @@ module _ (old : Source) (stop : Stop) (has : HasScanned old stop) where
 
   pub refused_within : (way : IsUnderWay (first_mode old.state.place) old.state.scan has.scans.read) → Within has.scans.read (refused_place old.state.scan)
   refused_within way =
-      let sound = sound_run (first_mode old.state.place) has.scans.read way.state start_sound way.runs in
+      let sound = sound_steps (first_mode old.state.place) has.scans.read way.state start_sound way.steps in
       cond_both (in_short old.state.scan.piece.mode || is_after_backslash old.state.scan.piece.mode) old.state.scan.piece.start old.state.scan.stop (Within has.scans.read)
       (λ h. record { front = spelled way.state.done; later = way.state.held; split = sound.spell; size = way.tallies.start })
       (λ h. all_within has.scans.read old.state.scan.stop (way_stop (first_mode old.state.place) old.state.scan has.scans.read way start_sound))
@@ -150,7 +150,7 @@ fails_at_character old new c kind error has at kind_is =
     let open_yet = open_return way.state.mode way.state.done way.state.held c (stack_of old.state.scan.brackets) way.stacked has.scans.stops.3 (ap (λ (m : Mode). (is_return_mode m && none_open (stack_of old.state.scan.brackets)) && not (is_line_feed c)) (sym way.tallies.mode) ∙ has.scans.stops.4) in
     let spell = ap (λ t. (spelled s.given.first.pieces ++ has.scans.read) ++ t) (sym follows) ∙ whole old stop has lines given in
     subst (λ l. IsLexedToFault old.bytes.now l at.keeps.fault) (sym s.given.first.cut)
-    (refused_at_character old.bytes.now s.given.first.characters s.given.first.tail (spelled s.given.first.pieces ++ has.scans.read) more c j.state j.st s.given.first.pieces at.keeps.fault s.given.first.decodes spell j.runs
+    (refused_at_character old.bytes.now s.given.first.characters s.given.first.tail (spelled s.given.first.pieces ++ has.scans.read) more c j.state j.st s.given.first.pieces at.keeps.fault s.given.first.decodes spell j.steps
     (dead_at s.given.first.pieces has.scans.read s.after more way.state (stack_of old.state.scan.brackets) c j (level old stop has lines given) follows has.scans.stops.3)
     (has_front old stop has lines given way open_yet)
     (at.keeps.at.is ∙ kind_is ∙ ap (λ (m : Mode). character_kind m c) way.tallies.mode ∙ same_kind way.state.mode j.state.mode c (sym j.short) (sym j.slash))

@@ -12,7 +12,7 @@ use Rattle.py_lines.specs.LogicalLine.{LogicalLine, cut, byte_len, line_ends, li
 use Rattle.py_lines.specs.Balance.{depth_after}
 use Rattle.py_lines.specs.Balance as brackets
 use Rattle.py_lines.specs.Reader.{HasGiven, Continues, standing_at}
-use Rattle.py_lines.specs.Private.Machine.{Scanned, run_from, brackets_of}
+use Rattle.py_lines.specs.Private.Machine.{Scanned, steps_from, brackets_of}
 use Rattle.py_lines.specs.declared.line_state.LineState.{LineState}
 use Rattle.py_lines.specs.declared.mode.Mode.{Mode}
 use Rattle.py_lines.specs.declared.scan.Scan.{Scan}
@@ -30,7 +30,7 @@ use Rattle.py_lines.proofs.Lexings.LinePrefix.{line_first}
 use Rattle.py_lines.proofs.LogicalLines.TokenPlaces.{tokens_lie}
 use Rattle.py_lines.proofs.LogicalLines.Cuts.{byte_len-append, one_line}
 use Rattle.py_lines.proofs.LineScan.LineCount.{line_ends-bytes}
-use Rattle.py_lines.proofs.LineScan.TextRun.{base_of, follows_base}
+use Rattle.py_lines.proofs.LineScan.TextSteps.{base_of, follows_base}
 use Rattle.py_lines.proofs.Lexings.GivenLines.{Situation, situate, IsEnded, one_more}
 use Rattle.py_lines.proofs.LineScan.PieceEnd.{no_class_bracket}
 use Rattle.py_lines.proofs.Lexings.FirstLines.{given_begin}
@@ -38,7 +38,7 @@ use Rattle.py_lines.proofs.Lexings.FirstLines.{given_begin}
 -- the pieces of a line that was scanned whole, and what the scan says of them
 pub record IsLine (m : Scanned) (scan : Scan) (read : List ℕ) (end_len : ℕ) (u : List Piece) : Type 0 where
   pub to : Scanned
-  pub runs : run_from (Some m) read ≡ Some to
+  pub steps : steps_from (Some m) read ≡ Some to
   pub spell : spelled u ≡ read
   pub whole : cut 0 u ≡ u ∷ []
   pub stacked : brackets_of u ≡ Some []
@@ -117,7 +117,7 @@ continues old mid new stop has end_len u line bytes place fault characters same 
     let s = situation old stop lines has given in
     let base_fit = subst (AreReadBefore s.given.first.pieces) s.split s.given.first.fit in
     let base = base_of old.state.place s.given.first.pieces (has.scans.read ++ s.after) base_fit s.ends s.given.first.here in
-    subst (λ (l : LogicalLine). HasGiven (reader_of new) (lines ++ l ∷ [])) (sym is) (one_more (reader_of old) (reader_of new) old.characters.now lines has.scans.read has.scans.rest u s line.spell (fit lines s) (follows_base old.state.place s.given.first.pieces u has.scans.read s.after line.to base line.spell (fit lines s) line.runs) line.stacked line.whole (ended lines s) text here reached no_fault) in (
+    subst (λ (l : LogicalLine). HasGiven (reader_of new) (lines ++ l ∷ [])) (sym is) (one_more (reader_of old) (reader_of new) old.characters.now lines has.scans.read has.scans.rest u s line.spell (fit lines s) (follows_base old.state.place s.given.first.pieces u has.scans.read s.after line.to base line.spell (fit lines s) line.steps) line.stacked line.whole (ended lines s) text here reached no_fault) in (
       record {
         given = more;
         begins = λ lines given. given_begin (reader_of new) (lines ++ line_of_source new ∷ []) (more lines given);
@@ -158,7 +158,7 @@ line_at_end m scan read rest len at after is =
     let spell = append-nil (spelled (at.body ++ at.last ∷ [])) ∙ at.spell in
     record {
       to = at.to;
-      runs = at.runs;
+      steps = at.steps;
       spell = at.spell;
       whole = one_line 0 at.body at.last at.are.one_line at.are.class at.are.level;
       stacked = no_class_bracket at.body at.last at.are.class at.are.paired;

@@ -182,10 +182,10 @@ abbrev pub step : Scanned → ℕ → Option Scanned
 step s c = moved s c (move_of s.mode c)
 
 -- characters, one after another
-abbrev pub run_from : Option Scanned → List ℕ → Option Scanned
-run_from None cs = None
-run_from (Some s) [] = Some s
-run_from (Some s) (c ∷ cs) = run_from (step s c) cs
+abbrev pub steps_from : Option Scanned → List ℕ → Option Scanned
+steps_from None cs = None
+steps_from (Some s) [] = Some s
+steps_from (Some s) (c ∷ cs) = steps_from (step s c) cs
 
 -- whether the text may end there, brackets aside
 abbrev pub is_final : Mode → Bool

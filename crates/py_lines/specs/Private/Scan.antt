@@ -9,7 +9,7 @@ use Rattle.py_lines.specs.Piece.{operator, line_end, Piece, ends, is_mark_class,
 use Rattle.py_lines.specs.PieceGrammar.{AreReadBefore}
 use Rattle.py_lines.specs.Balance.{depth_after, depth_through}
 use Rattle.py_lines.specs.LogicalLine.{byte_len, line_ends, token, tokens_from, indent_of, kind_of, is_line_end_class}
-use Rattle.py_lines.specs.Private.Machine.{Scanned, IsSound, fresh, step, run_from, token_of, Bracket, brackets_after, brackets_of, in_short, is_after_backslash, is_final, end_kind}
+use Rattle.py_lines.specs.Private.Machine.{Scanned, IsSound, fresh, step, steps_from, token_of, Bracket, brackets_after, brackets_of, in_short, is_after_backslash, is_final, end_kind}
 use Rattle.py_lines.specs.declared.token.Token.{Token}
 use Rattle.py_lines.specs.declared.mode.Mode.{Mode}
 use Rattle.py_lines.specs.declared.mode.Mode.TheVariants as modes
@@ -261,7 +261,7 @@ is_return_mode other = false
 -- the machine has gone through these characters of its line, none of which ended it
 pub record IsUnderWay (m : Mode) (scan : Scan) (read : List ℕ) : Type 0 where
   pub state : Scanned
-  pub runs : run_from (Some (line_start m)) read ≡ Some state
+  pub steps : steps_from (Some (line_start m)) read ≡ Some state
   pub tallies : Tallies scan state
   pub stacked : IsStacked scan state
   pub one_line : EndsNoLine 0 state.done
@@ -272,7 +272,7 @@ pub record IsAtLineEnd (m : Mode) (scan : Scan) (read rest : List ℕ) (len : �
   pub last : Piece
   pub are : AreLine body last len
   pub to : Scanned
-  pub runs : run_from (Some (line_start m)) read ≡ Some to
+  pub steps : steps_from (Some (line_start m)) read ≡ Some to
   pub spell : spelled (body ++ last ∷ []) ≡ read
   pub fit : (after : List ℕ) → encode_utf8_all after ≡ rest → AreReadBefore (body ++ last ∷ []) after
   pub tallies : Tallies scan (fresh (body ++ last ∷ []))

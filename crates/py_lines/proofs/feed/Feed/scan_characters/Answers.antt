@@ -3,7 +3,7 @@ use Rattle.py_lines.specs.declared.feed.Feed.{Feed}
 use Rattle.py_lines.specs.Private.Run.{Reached}
 use Rattle.py_lines.specs.Private.Feed.{KeepsText}
 use Rattle.py_lines.specs.Private.LineState.{first_mode}
-use Rattle.py_lines.proofs.LineScan.TextRun.{begun_sound}
+use Rattle.py_lines.proofs.LineScan.TextSteps.{begun_sound}
 use Rattle.py_lines.proofs.Feeds.Steps.{open_stop, open_size, next_is}
 use Rattle.py_lines.proofs.Feeds.Characters.{reached_held, stops_held}
 use Rattle.py_lines.proofs.feed.Feed.scan_characters.Goals as goal

@@ -1,6 +1,6 @@
 use Rattle.std.proofs.Common.{length, ap, arith}
 use Rattle.py_lines.specs.Private.LineState.{first_mode}
-use Rattle.py_lines.proofs.LineScan.TextRun.{begun_sound}
+use Rattle.py_lines.proofs.LineScan.TextSteps.{begun_sound}
 use Rattle.py_lines.proofs.Feeds.Steps.{open_stop, open_size}
 use Rattle.py_lines.proofs.Feeds.Characters.{reached_next}
 use Rattle.py_lines.proofs.Feeds.Chunks.{rescanned_taken}

@@ -8,12 +8,12 @@ pub returns : goal.returns
 returns c =
     let old = c.args.self.now in
     let new = c.if-len-gt0.self in
-    let text = c.utf8_front-len.result.now in
+    let text = c.utf8_prefix-len.result.now in
     let bytes = c.args.bytes.now in
     let how : ((0 < length text) × (new ≡ with_bytes old (length text))) ⊎ ((length text ≤ 0) × (new ≡ old))
     = elim c.if-len-gt0.branch [
       | then-len-gt0 w ↦ inl (w.if-len-gt0.true, w.self-is)
       | else-len-gt0 w ↦ inr (w.if-len-gt0.false, w.self-is)
     ] in
-    let held = held_front old.piece.mode bytes text c.run_in-run.result c.utf8_front-len.utf8 c.requires.quote c.utf8_front-len.ensures.front c.run_in-run.ensures in
+    let held = held_front old.piece.mode bytes text c.run_in-run.result c.utf8_prefix-len.utf8 c.requires.quote c.utf8_prefix-len.ensures.front c.run_in-run.ensures in
     subst (λ (r : List ℕ). Holds old bytes r new) (sym (take_all _ (drop (length text) bytes) (omega (arith, length-drop (length text) bytes)))) (holds_run old new bytes (length text) held how)

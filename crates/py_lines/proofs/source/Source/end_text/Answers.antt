@@ -10,7 +10,7 @@ use Rattle.py_lines.specs.Private.LineState.{IsEndFlaw}
 use Rattle.py_lines.specs.Private.Machine.{is_final}
 use Rattle.py_lines.specs.declared.scan.Scan.{Scan}
 use Rattle.py_lines.specs.Private.Source.{Advances, FailsAfter, HasScanned}
-use Rattle.py_lines.proofs.LineScan.LineRun.{way_order}
+use Rattle.py_lines.proofs.LineScan.LineSteps.{way_order}
 use Rattle.py_lines.proofs.Readers.LineAnswers.{Within, all_within, place_room, place_boundary}
 use Rattle.py_lines.proofs.Readers.EndAnswers.{stop_size, fails_at_bytes, fails_at_end, unfinished_within, continues_text, few_lines_text}
 use Rattle.py_lines.proofs.source.Source.end_text.Goals as goal

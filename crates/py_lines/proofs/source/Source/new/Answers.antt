@@ -5,12 +5,12 @@ use Rattle.py_lines.proofs.source.Source.new.Goals as goal
 
 pub invariant_of-result : goal.invariant_of-result
 invariant_of-result c = record {
-  text = ∣ c.utf8_front.utf8 ∣₁;
-  front = c.utf8_front.ensures.front;
-  bad = c.utf8_front.ensures.bad;
+  text = ∣ c.utf8_prefix.utf8 ∣₁;
+  front = c.utf8_prefix.ensures.front;
+  bad = c.utf8_prefix.ensures.bad;
   ordered = omega arith;
   within = omega (arith, c.at.ensures.place_is);
-  boundary = subst (λ (n : ℕ). IsCharBoundary c.utf8_front.result.now n) (sym c.at.ensures.place_is) (IsCharBoundary-start _ c.utf8_front.utf8);
-  start_boundary = IsCharBoundary-start _ c.utf8_front.utf8;
+  boundary = subst (λ (n : ℕ). IsCharBoundary c.utf8_prefix.result.now n) (sym c.at.ensures.place_is) (IsCharBoundary-start _ c.utf8_prefix.utf8);
+  start_boundary = IsCharBoundary-start _ c.utf8_prefix.utf8;
   few_lines = omega (arith, c.at.ensures.place_is, c.at.ensures.line_is);
 }

@@ -2,7 +2,7 @@ use Rattle.std.proofs.Common.{false, Some, ◌∙◌, sym, ap, subst, ◌++◌, 
 use Rattle.py_lines.specs.declared.scan.Scan.{Scan}
 use Rattle.py_lines.specs.declared.token.TokKind.TheVariants.{Op}
 use Rattle.py_lines.specs.Private.Scan.{ClosesAndAdds, freed, kind_with}
-use Rattle.py_lines.proofs.scan.Scan.stand.Goals as goal
+use Rattle.py_lines.proofs.scan.Scan.take_operator.Goals as goal
 
 pub returns : goal.returns
 returns c =

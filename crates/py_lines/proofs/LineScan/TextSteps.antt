@@ -10,15 +10,15 @@ use Rattle.py_lines.specs.Reading.{EndsLine}
 use Rattle.py_lines.specs.Faults.{IsLive}
 use Rattle.py_lines.specs.declared.mode.Mode.{Mode}
 use Rattle.py_lines.specs.declared.mode.Mode.TheVariants as modes
-use Rattle.py_lines.specs.Private.Machine.{Scanned, fresh, text_start, class_of, closed, started, step, run_from, start_of, IsSound, Bracket, brackets_of, in_short, is_after_backslash}
+use Rattle.py_lines.specs.Private.Machine.{Scanned, fresh, text_start, class_of, closed, started, step, steps_from, start_of, IsSound, Bracket, brackets_of, in_short, is_after_backslash}
 use Rattle.py_lines.specs.declared.scan.Scan.{Scan}
 use Rattle.py_lines.specs.Private.Scan.{line_start, stack_of, stack_if, IsUnderWay}
 use Rattle.py_lines.specs.Private.LineState.{first_mode}
 use Rattle.py_lines.proofs.Pieces.PieceLists.{piece, MayFollow, AreReadBefore-second, spelled-append}
 use Rattle.py_lines.proofs.Machine.Starts.{start-mark}
-use Rattle.py_lines.proofs.Machine.PieceRuns.{scanned, pieces_at, StopsBefore, run_from-append, stops-free}
-use Rattle.py_lines.proofs.Machine.PieceRuns as runs_of
-use Rattle.py_lines.proofs.Machine.ReadingRuns.{reach, MayBegin}
+use Rattle.py_lines.proofs.Machine.PieceSteps.{scanned, pieces_at, StopsBefore, steps_from-append, stops-free}
+use Rattle.py_lines.proofs.Machine.PieceSteps as runs_of
+use Rattle.py_lines.proofs.Machine.ReadingSteps.{reach, MayBegin}
 use Rattle.py_lines.proofs.Pieces.OpenBrackets.{stack_before}
 use Rattle.py_lines.proofs.Machine.Advance.{kept, kept_if, GoesTo, RunsTo, closed_grows}
 use Rattle.py_lines.proofs.Machine.LiveTexts.{stack_closed}
@@ -66,13 +66,13 @@ ended_mode m done held body last is class =
 
 -- the machine, where the scan of a line has come
 pub way_goes : {m : Mode} {scan : Scan} {read : List ℕ} → (way : IsUnderWay m scan read) → GoesTo (line_start m) read way.state (stack_of scan.brackets)
-way_goes way = record { run = way.runs; stack = way.stacked }
+way_goes way = record { run = way.steps; stack = way.stacked }
 
 -- the machine at a place of a line
 pub record Joined (base : List Piece) (read : List ℕ) (s : Scanned) (first : List Bracket) (after : List ℕ) : Type 0 where
   pub state : Scanned
   pub st : List Bracket
-  pub runs : RunsTo (spelled base ++ read) state st
+  pub steps : RunsTo (spelled base ++ read) state st
   pub pieces : pieces_at state ≡ base ++ pieces_at s
   pub next : (c : ℕ) (more : List ℕ) → after ≡ c ∷ more → step state c ≡ behind_if base (step s c)
   pub short : in_short state.mode ≡ in_short s.mode
@@ -88,18 +88,18 @@ paired base m done held level is =
     first.1 ∙ same
 
 -- from the start of a line, the machine goes as from its pieces
-pub from_base : (base : List Piece) (to : Scanned) (c : ℕ) (cs after : List ℕ) → pieces_at to ≡ base → StopsBefore to.mode (c ∷ after) → run_from (Some to) (c ∷ cs) ≡ behind_if base (run_from (Some (line_start modes.Free)) (c ∷ cs))
+pub from_base : (base : List Piece) (to : Scanned) (c : ℕ) (cs after : List ℕ) → pieces_at to ≡ base → StopsBefore to.mode (c ∷ after) → steps_from (Some to) (c ∷ cs) ≡ behind_if base (steps_from (Some (line_start modes.Free)) (c ∷ cs))
 from_base base to c cs after is stops =
     runs_of.begun to c cs after (start_of c) stops refl
-    ∙ ap (λ l. run_from (started l c (start_of c)) cs) is
+    ∙ ap (λ l. steps_from (started l c (start_of c)) cs) is
     ∙ sym (runs_of.begun (fresh base) c cs after (start_of c) (stops-free (c ∷ after)) refl)
-    ∙ ap (λ l. run_from (Some (fresh l)) (c ∷ cs)) (sym (append-nil base))
+    ∙ ap (λ l. steps_from (Some (fresh l)) (c ∷ cs)) (sym (append-nil base))
     ∙ run-behind base (Some (line_start modes.Free)) (c ∷ cs)
 
-step_as_run : (s : Scanned) (c : ℕ) → run_from (Some s) (c ∷ []) ≡ step s c
+step_as_run : (s : Scanned) (c : ℕ) → steps_from (Some s) (c ∷ []) ≡ step s c
 step_as_run s c = go (step s c)
   where
-    go : (o : Option Scanned) → run_from o [] ≡ o
+    go : (o : Option Scanned) → steps_from o [] ≡ o
     go None = refl
     go (Some t) = refl
 
@@ -112,18 +112,18 @@ module _ (n : ℕ) (base : List Piece) (after : List ℕ) (level : brackets_of b
   full : (c : ℕ) (cs : List ℕ) (s : Scanned) (st : List Bracket) → AreReadBefore base ((c ∷ cs) ++ after) → Base n base → GoesTo (line_start (first_mode n)) (c ∷ cs) s st → RunsTo (spelled base ++ c ∷ cs) (behind base s) (shift (byte_len (spelled base)) st)
   full c cs s st fit is goes = record { run = run is; stack = stack-behind base s.done level ∙ ap (shift_if (byte_len (spelled base))) goes.stack }
     where
-      run : Base n base → run_from (Some text_start) (spelled base ++ c ∷ cs) ≡ Some (behind base s)
-      run (Base.bare none mode) = ap (λ l. run_from (Some text_start) (spelled l ++ c ∷ cs)) none ∙ ap (λ m. run_from (Some (line_start m)) (c ∷ cs)) (sym mode) ∙ goes.run ∙ ap (λ l. Some (behind l s)) (sym none)
+      run : Base n base → steps_from (Some text_start) (spelled base ++ c ∷ cs) ≡ Some (behind base s)
+      run (Base.bare none mode) = ap (λ l. steps_from (Some text_start) (spelled l ++ c ∷ cs)) none ∙ ap (λ m. steps_from (Some (line_start m)) (c ∷ cs)) (sym mode) ∙ goes.run ∙ ap (λ l. Some (behind l s)) (sym none)
       run (Base.lined body last ends class any mode) =
           let reached = reach base (c ∷ cs ++ after) fit in
-          run_from-append (Some text_start) (spelled base) (c ∷ cs) ∙ ap (λ o. run_from o (c ∷ cs)) reached.runs ∙ from_base base reached.to c cs (cs ++ after) reached.pieces_are (reached.stops (any (c ∷ cs ++ after)))
-          ∙ ap (λ m. behind_if base (run_from (Some (line_start m)) (c ∷ cs))) (sym mode) ∙ ap (behind_if base) goes.run
+          steps_from-append (Some text_start) (spelled base) (c ∷ cs) ∙ ap (λ o. steps_from o (c ∷ cs)) reached.steps ∙ from_base base reached.to c cs (cs ++ after) reached.pieces_are (reached.stops (any (c ∷ cs ++ after)))
+          ∙ ap (λ m. behind_if base (steps_from (Some (line_start m)) (c ∷ cs))) (sym mode) ∙ ap (behind_if base) goes.run
 
   joined_full : (c : ℕ) (cs : List ℕ) (s : Scanned) (st : List Bracket) → AreReadBefore base ((c ∷ cs) ++ after) → Base n base → GoesTo (line_start (first_mode n)) (c ∷ cs) s st → Joined base (c ∷ cs) s st after
   joined_full c cs s st fit is goes = record {
     state = behind base s;
     st = shift (byte_len (spelled base)) st;
-    runs = full c cs s st fit is goes;
+    steps = full c cs s st fit is goes;
     pieces = closed-behind base s.done s.mode s.held;
     next = λ d more follows. step-behind base s d;
     short = refl;
@@ -140,7 +140,7 @@ module _ (n : ℕ) (base : List Piece) (after : List ℕ) (level : brackets_of b
       record {
         state = s;
         st = [];
-        runs = record { run = ap (λ l. run_from (Some text_start) (spelled l ++ [])) nothing ∙ ap (λ (t : Scanned). Some t) here; stack = ap (λ (t : Scanned). brackets_of t.done) (sym here) };
+        steps = record { run = ap (λ l. steps_from (Some text_start) (spelled l ++ [])) nothing ∙ ap (λ (t : Scanned). Some t) here; stack = ap (λ (t : Scanned). brackets_of t.done) (sym here) };
         pieces = ap (λ l. l ++ pieces_at s) (sym nothing);
         next = λ d more follows. sym (behind_nothing (step s d)) ∙ ap (λ l. behind_if l (step s d)) (sym nothing);
         short = refl;
@@ -156,7 +156,7 @@ module _ (n : ℕ) (base : List Piece) (after : List ℕ) (level : brackets_of b
       record {
         state = to;
         st = [];
-        runs = record { run = ap (run_from (Some text_start)) (append-nil (spelled base)) ∙ reached.runs; stack = paired base to.mode to.done to.held level reached.pieces_are };
+        steps = record { run = ap (steps_from (Some text_start)) (append-nil (spelled base)) ∙ reached.steps; stack = paired base to.mode to.done to.held level reached.pieces_are };
         pieces = reached.pieces_are ∙ sym (append-nil base) ∙ ap (λ (t : Scanned). base ++ pieces_at t) here;
         next = λ d more follows. sym (step_as_run to d) ∙ from_base base to d [] more reached.pieces_are (subst (StopsBefore to.mode) follows (reached.stops (any after))) ∙ ap (behind_if base) (step_as_run (line_start modes.Free) d) ∙ ap (λ (t : Scanned). behind_if base (step t d)) here;
         short = closed_mode.0 ∙ ap (λ (t : Scanned). in_short t.mode) here;
@@ -174,28 +174,28 @@ module _ (n : ℕ) (base : List Piece) (after : List ℕ) (level : brackets_of b
   joined (c ∷ cs) s st fit is goes = joined_full c cs s st fit is goes
 
 -- a line after others begins with no mark
-pub follows_base : (n : ℕ) (base u : List Piece) (read after : List ℕ) (to : Scanned) → Base n base → spelled u ≡ read → AreReadBefore u after → run_from (Some (line_start (first_mode n))) read ≡ Some to → MayFollow base u
-follows_base n base u read after to (Base.bare none mode) spell fit runs = subst (λ l. MayFollow l u) (sym none) tt
-follows_base n base u read after to (Base.lined body last is class any mode) spell fit runs =
-    subst (λ l. MayFollow l u) (sym is) (any_follow body last (unmarked u fit (ap (λ m. run_from (Some (line_start m)) (spelled u)) (sym mode) ∙ ap (run_from (Some (line_start (first_mode n)))) spell ∙ runs)))
+pub follows_base : (n : ℕ) (base u : List Piece) (read after : List ℕ) (to : Scanned) → Base n base → spelled u ≡ read → AreReadBefore u after → steps_from (Some (line_start (first_mode n))) read ≡ Some to → MayFollow base u
+follows_base n base u read after to (Base.bare none mode) spell fit steps = subst (λ l. MayFollow l u) (sym none) tt
+follows_base n base u read after to (Base.lined body last is class any mode) spell fit steps =
+    subst (λ l. MayFollow l u) (sym is) (any_follow body last (unmarked u fit (ap (λ m. steps_from (Some (line_start m)) (spelled u)) (sym mode) ∙ ap (steps_from (Some (line_start (first_mode n)))) spell ∙ steps)))
   where
     any_follow : (ps : List Piece) (p : Piece) → begins_marked u ≡ false → MayFollow (ps ++ p ∷ []) u
     any_follow [] p h = h
     any_follow (q ∷ qs) p h = h
 
-    no_mark : (class : Class) (text rest : List ℕ) → InClass class text → run_from (Some (line_start modes.Free)) (text ++ rest) ≡ Some to → is_mark_class class ≡ false
+    no_mark : (class : Class) (text rest : List ℕ) → InClass class text → steps_from (Some (line_start modes.Free)) (text ++ rest) ≡ Some to → is_mark_class class ≡ false
     no_mark mark text rest (c, same, marks) goes =
-        let stuck : None ≡ Some to = sym (runs_of.begun (line_start modes.Free) c rest rest (start_of c) (stops-free (c ∷ rest)) refl ∙ ap (λ st. run_from (started [] c st) rest) (start-mark c marks)) ∙ ap (λ t. run_from (Some (line_start modes.Free)) (t ++ rest)) (sym same) ∙ goes in
+        let stuck : None ≡ Some to = sym (runs_of.begun (line_start modes.Free) c rest rest (start_of c) (stops-free (c ∷ rest)) refl ∙ ap (λ st. steps_from (started [] c st) rest) (start-mark c marks)) ∙ ap (λ t. steps_from (Some (line_start modes.Free)) (t ++ rest)) (sym same) ∙ goes in
         absurd (cc)
     no_mark class text rest holds goes = refl
 
-    unmarked : (us : List Piece) → AreReadBefore us after → run_from (Some (line_start modes.Free)) (spelled us) ≡ Some to → begins_marked us ≡ false
+    unmarked : (us : List Piece) → AreReadBefore us after → steps_from (Some (line_start modes.Free)) (spelled us) ≡ Some to → begins_marked us ≡ false
     unmarked [] fit' goes = refl
     unmarked (p ∷ ps) fit' goes = no_mark p.class p.text (spelled ps) fit'.0 goes
 
 -- a character that the line refuses ends the text's life
 pub dead_at : (base : List Piece) (read after more : List ℕ) (s : Scanned) (first : List Bracket) (c : ℕ) (j : Joined base read s first after) → brackets_of base ≡ Some [] → after ≡ c ∷ more → stack_if (step s c) ≡ None → ¬ (IsLive ((spelled base ++ read) ++ c ∷ []))
-dead_at base read after more s first c j level follows refuses = dead_stop (spelled base ++ read) j.state j.st c j.runs (ap kept_if (j.next c more follows) ∙ stops (step s c) refuses)
+dead_at base read after more s first c j level follows refuses = dead_stop (spelled base ++ read) j.state j.st c j.steps (ap kept_if (j.next c more follows) ∙ stops (step s c) refuses)
   where
     stops : (o : Option Scanned) → stack_if o ≡ None → kept_if (behind_if base o) ≡ None
     stops None none = refl

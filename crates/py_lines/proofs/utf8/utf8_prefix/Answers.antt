@@ -1,7 +1,7 @@
 use Rattle.std.proofs.Common.{length, sym, ap, ◌∙◌, subst, arith, length-take-le}
 use Rattle.std.specs.Str.{IsValidUpTo}
 use Rattle.py_lines.proofs.Text.Utf8Prefixes.{whole_text, front_text}
-use Rattle.py_lines.proofs.utf8.utf8_front.Goals as goal
+use Rattle.py_lines.proofs.utf8.utf8_prefix.Goals as goal
 
 pub returns-then-is_short_ascii-clause-bad : goal.returns-then-is_short_ascii-clause-bad
 returns-then-is_short_ascii-clause-bad c = whole_text c.from_utf8_unchecked.result.now c.args.bytes.now c.from_utf8_unchecked.ensures

@@ -13,25 +13,25 @@ use Rattle.py_lines.specs.declared.mode.Mode.TheVariants as modes
 use Rattle.py_lines.specs.declared.scan.Progress.TheVariants as progress
 use Rattle.py_lines.specs.declared.scan.Scan.{Scan}
 use Rattle.py_lines.specs.declared.scan.Stop.TheVariants as stops
-use Rattle.py_lines.specs.Private.Machine.{Scanned, fresh, step, run_from, IsSound}
+use Rattle.py_lines.specs.Private.Machine.{Scanned, fresh, step, steps_from, IsSound}
 use Rattle.py_lines.specs.Private.Scan.{Tallies, IsStacked, Takes, Closes, line_start, stack_of, none_open, is_returned, is_return_mode, EndsNoLine, IsUnderWay, IsAtLineEnd, StopsIn}
 use Rattle.py_lines.proofs.Pieces.PieceLists.{piece, spelled-push, AreReadBefore-push, follows_any}
 use Rattle.py_lines.proofs.Text.CharacterTests.{return_is}
-use Rattle.py_lines.proofs.Machine.PieceRuns.{scanned, run_from-append}
+use Rattle.py_lines.proofs.Machine.PieceSteps.{scanned, steps_from-append}
 use Rattle.py_lines.proofs.Machine.Soundness.{SoundIf, run_sound}
 use Rattle.py_lines.proofs.LineScan.PieceEnd.{closes_shut}
 use Rattle.py_lines.proofs.LineScan.NextCharacter.{one_return, none_level, none_stack}
 use Rattle.py_lines.proofs.LogicalLines.Cuts.{byte_len-append}
 
 -- where the machine has come, it is sound
-pub sound_run : (m : Mode) (read : List ℕ) (s : Scanned) → IsSound (line_start m) [] → run_from (Some (line_start m)) read ≡ Some s → IsSound s read
-sound_run m read s start runs = subst (λ o. SoundIf o read) runs (run_sound (line_start m) [] read start)
+pub sound_steps : (m : Mode) (read : List ℕ) (s : Scanned) → IsSound (line_start m) [] → steps_from (Some (line_start m)) read ≡ Some s → IsSound s read
+sound_steps m read s start steps = subst (λ o. SoundIf o read) steps (run_sound (line_start m) [] read start)
 
 -- one character more
-pub run_push : (from : Scanned) (read : List ℕ) (s : Scanned) (c : ℕ) → run_from (Some from) read ≡ Some s → run_from (Some from) (read ++ c ∷ []) ≡ step s c
-run_push from read s c runs = run_from-append (Some from) read (c ∷ []) ∙ ap (λ o. run_from o (c ∷ [])) runs ∙ whole (step s c)
+pub steps_push : (from : Scanned) (read : List ℕ) (s : Scanned) (c : ℕ) → steps_from (Some from) read ≡ Some s → steps_from (Some from) (read ++ c ∷ []) ≡ step s c
+steps_push from read s c steps = steps_from-append (Some from) read (c ∷ []) ∙ ap (λ o. steps_from o (c ∷ [])) steps ∙ whole (step s c)
   where
-    whole : (o : Option Scanned) → run_from o [] ≡ o
+    whole : (o : Option Scanned) → steps_from o [] ≡ o
     whole None = refl
     whole (Some t) = refl
 
@@ -39,7 +39,7 @@ run_push from read s c runs = run_from-append (Some from) read (c ∷ []) ∙ ap
 pub under_way : (m : Mode) (old new : Scan) (read : List ℕ) (c : ℕ) (way : IsUnderWay m old read) → Takes old way.state c (Ok progress.Going) new → IsUnderWay m new (read ++ c ∷ [])
 under_way m old new read c way takes = record {
   state = takes.0.next;
-  runs = run_push (line_start m) read way.state c way.runs ∙ takes.0.goes;
+  steps = steps_push (line_start m) read way.state c way.steps ∙ takes.0.goes;
   tallies = takes.0.tallies;
   stacked = takes.0.stacked;
   one_line = takes.0.one_line;
@@ -49,13 +49,13 @@ under_way m old new read c way takes = record {
 pub at_line_end : (m : Mode) (old new : Scan) (read rest : List ℕ) (c len : ℕ) (way : IsUnderWay m old read) → IsSound (line_start m) [] → Takes old way.state c (Ok (progress.LineEnded len)) new → IsAtLineEnd m new (read ++ c ∷ []) rest len
 at_line_end m old new read rest c len way start takes =
     let ended = takes.0 in
-    let sound = sound_run m (read ++ c ∷ []) (fresh (ended.body ++ ended.last ∷ [])) start (run_push (line_start m) read way.state c way.runs ∙ ended.goes) in
+    let sound = sound_steps m (read ++ c ∷ []) (fresh (ended.body ++ ended.last ∷ [])) start (steps_push (line_start m) read way.state c way.steps ∙ ended.goes) in
     record {
       body = ended.body;
       last = ended.last;
       are = ended.are;
       to = fresh (ended.body ++ ended.last ∷ []);
-      runs = run_push (line_start m) read way.state c way.runs ∙ ended.goes;
+      steps = steps_push (line_start m) read way.state c way.steps ∙ ended.goes;
       spell = sym (append-nil (spelled (ended.body ++ ended.last ∷ []))) ∙ sound.spell;
       fit = λ after is. sound.fit after;
       tallies = ended.tallies;
@@ -64,15 +64,15 @@ at_line_end m old new read rest c len way start takes =
 -- a character that was refused
 pub refused : (m : Mode) (old new : Scan) (read : List ℕ) (c : ℕ) (after rest : List ℕ) (way : IsUnderWay m old read) → is_returned old && not (is_line_feed c) ≡ false → Takes old way.state c (Ok progress.Refused) new → IsScalar c → rest ≡ encode_utf8 c ++ after → StopsIn m new (stops.Refused c) read rest
 refused m old new read c after rest way not_yet takes scalar is =
-    let kept : IsUnderWay m new read = record { state = way.state; runs = way.runs; tallies = subst (λ (s : Scan). Tallies s way.state) (sym takes.1) way.tallies; stacked = subst (λ (s : Scan). IsStacked s way.state) (sym takes.1) way.stacked; one_line = way.one_line } in
+    let kept : IsUnderWay m new read = record { state = way.state; steps = way.steps; tallies = subst (λ (s : Scan). Tallies s way.state) (sym takes.1) way.tallies; stacked = subst (λ (s : Scan). IsStacked s way.state) (sym takes.1) way.stacked; one_line = way.one_line } in
     (kept, after, scalar, is, takes.0, subst (λ (s : Scan). is_returned s && not (is_line_feed c) ≡ false) (sym takes.1) not_yet)
 
 -- CR that no LF follows
 no_feed : (text rest : List ℕ) → begins is_line_feed rest ≡ false → ends is_return text && begins is_line_feed rest ≡ false
 no_feed text rest none = and_right _ _ none
 
-returned_as : (m : Mode) (old new : Scan) (read rest : List ℕ) (s : Scanned) → run_from (Some (line_start m)) read ≡ Some s → IsSound s read → Tallies old s → IsStacked old s → EndsNoLine 0 s.done → (n : Mode) → n ≡ s.mode → is_return_mode n ≡ true → none_open (stack_of old.brackets) ≡ true → Closes old new → ((after : List ℕ) → encode_utf8_all after ≡ rest → begins is_line_feed after ≡ false) → IsAtLineEnd m new read rest 1
-returned_as m old new read rest s runs sound tallies stacked none modes.Return is returns empty closes follows = go s.mode is s.done s.held sound tallies stacked none
+returned_as : (m : Mode) (old new : Scan) (read rest : List ℕ) (s : Scanned) → steps_from (Some (line_start m)) read ≡ Some s → IsSound s read → Tallies old s → IsStacked old s → EndsNoLine 0 s.done → (n : Mode) → n ≡ s.mode → is_return_mode n ≡ true → none_open (stack_of old.brackets) ≡ true → Closes old new → ((after : List ℕ) → encode_utf8_all after ≡ rest → begins is_line_feed after ≡ false) → IsAtLineEnd m new read rest 1
+returned_as m old new read rest s steps sound tallies stacked none modes.Return is returns empty closes follows = go s.mode is s.done s.held sound tallies stacked none
   where
     go : (k : Mode) → modes.Return ≡ k → (done : List Piece) (held : List ℕ) → IsSound (scanned done k held) read → Tallies old (scanned done k held) → IsStacked old (scanned done k held) → EndsNoLine 0 done → IsAtLineEnd m new read rest 1
     go modes.Return same done held sound' tallies' stacked' none' =
@@ -83,17 +83,17 @@ returned_as m old new read rest s runs sound tallies stacked none modes.Return i
           last = piece line_end held;
           are = record { one_line = none'; class = refl; level = none_level done (stack_of old.brackets) stacked' empty; paired = none_stack done (stack_of old.brackets) stacked' empty; size = one_return r sound'.holds.2 ∙ ap byte_len (sym sound'.holds.1) };
           to = s;
-          runs = runs;
+          steps = steps;
           spell = spelled-push done line_end held ∙ sound'.spell;
           fit = λ after is_rest. AreReadBefore-push done line_end held after (sound'.fit after) (return text) (no_feed held after (follows after is_rest)) (follows_any done line_end held refl);
           tallies = closes_shut old new done modes.Return held read closes sound' tallies';
         }
     go k same done held sound' tallies' stacked' none' = absurd (cc)
-returned_as m old new read rest s runs sound tallies stacked none n is returns empty closes follows = absurd (both_ways _ refl returns)
+returned_as m old new read rest s steps sound tallies stacked none n is returns empty closes follows = absurd (both_ways _ refl returns)
 
 pub returned : (m : Mode) (old new : Scan) (read rest : List ℕ) (way : IsUnderWay m old read) → IsSound (line_start m) [] → is_return_mode old.piece.mode ≡ true → none_open (stack_of old.brackets) ≡ true → Closes old new → ((after : List ℕ) → encode_utf8_all after ≡ rest → begins is_line_feed after ≡ false) → IsAtLineEnd m new read rest 1
 returned m old new read rest way start returns empty closes follows =
-    returned_as m old new read rest way.state way.runs (sound_run m read way.state start way.runs) way.tallies way.stacked way.one_line old.piece.mode way.tallies.mode returns empty closes follows
+    returned_as m old new read rest way.state way.steps (sound_steps m read way.state start way.steps) way.tallies way.stacked way.one_line old.piece.mode way.tallies.mode returns empty closes follows
 
 -- what follows begins with another character, or is nothing
 pub follows_other : (c : ℕ) (more rest after : List ℕ) → rest ≡ encode_utf8_all (c ∷ more) → is_line_feed c ≡ false → encode_utf8_all after ≡ rest → begins is_line_feed after ≡ false
@@ -107,7 +107,7 @@ pub way_order : (scan : Scan) (s : Scanned) → Tallies scan s → scan.piece.st
 way_order scan s tallies = omega (arith, tallies.start, tallies.stop, byte_len-append (spelled s.done) s.held)
 
 pub way_stop : (m : Mode) (scan : Scan) (read : List ℕ) (way : IsUnderWay m scan read) → IsSound (line_start m) [] → scan.stop ≡ byte_len read
-way_stop m scan read way start = way.tallies.stop ∙ ap byte_len (sound_run m read way.state start way.runs).spell
+way_stop m scan read way start = way.tallies.stop ∙ ap byte_len (sound_steps m read way.state start way.steps).spell
 
 pub way_here : (m : Mode) (scan : Scan) (read : List ℕ) (way : IsUnderWay m scan read) → IsSound (line_start m) [] → scan.count.line ≡ scan.line + line_ends read
-way_here m scan read way start = way.tallies.here ∙ ap (λ t. scan.line + line_ends t) (sound_run m read way.state start way.runs).spell
+way_here m scan read way start = way.tallies.here ∙ ap (λ t. scan.line + line_ends t) (sound_steps m read way.state start way.steps).spell

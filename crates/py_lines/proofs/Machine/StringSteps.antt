@@ -10,27 +10,27 @@ use Rattle.py_lines.specs.declared.mode.Spelling.{Spelling}
 use Rattle.py_lines.specs.declared.mode.Mode.{Mode}
 use Rattle.py_lines.specs.declared.mode.Mode.TheVariants as modes
 use Rattle.py_lines.specs.declared.mode.Move.TheVariants as moves
-use Rattle.py_lines.specs.Private.Machine.{Scanned, fresh, run_from, move_of, short_move, long_move, first_spelling, is_prefix_spelling}
+use Rattle.py_lines.specs.Private.Machine.{Scanned, fresh, steps_from, move_of, short_move, long_move, first_spelling, is_prefix_spelling}
 use Rattle.py_lines.proofs.Pieces.PieceLists.{piece, joined-append}
 use Rattle.py_lines.proofs.Text.CharacterTests.{prefix_word, quote-not-word, quote-not-feed, not_quote, slash-not-quote, slash-not-feed, feed-not-quote, feed-not-slash, unbarred}
 use Rattle.py_lines.specs.Private.Machine.{spelling_on}
 use Rattle.py_lines.proofs.Machine.Spellings.{prefix_spelling}
 use Rattle.py_lines.proofs.Machine.Starts.{start-word, start-quote}
-use Rattle.py_lines.proofs.Machine.PieceRuns.{scanned, pieces_at, StopsBefore, Finds, run_from-append, begun, grown, closes, all_held, stops-free, run_word}
+use Rattle.py_lines.proofs.Machine.PieceSteps.{scanned, pieces_at, StopsBefore, Finds, steps_from-append, begun, grown, closes, all_held, stops-free, steps_word}
 
 -- a prefix, and the quote after it
 opens_at : (s : Spelling) (q : ℕ) → is_prefix_spelling s ≡ true → is_quote q ≡ true → move_of (modes.Word s) q ≡ moves.Grows (modes.Opened q)
 unfolding move_of
 opens_at s q prefix quotes = rw (quote-not-word q quotes, prefix, quotes)
 
-pub open_string : (from : Scanned) (prefix : List ℕ) (q : ℕ) (after : List ℕ) → IsPrefix prefix → is_quote q ≡ true → StopsBefore from.mode (prefix ++ q ∷ after) → run_from (Some from) (prefix ++ q ∷ []) ≡ Some (scanned (pieces_at from) (modes.Opened q) (prefix ++ q ∷ []))
+pub open_string : (from : Scanned) (prefix : List ℕ) (q : ℕ) (after : List ℕ) → IsPrefix prefix → is_quote q ≡ true → StopsBefore from.mode (prefix ++ q ∷ after) → steps_from (Some from) (prefix ++ q ∷ []) ≡ Some (scanned (pieces_at from) (modes.Opened q) (prefix ++ q ∷ []))
 open_string from [] q after is quotes stops = begun from q [] after _ stops (start-quote q quotes)
 open_string from (a ∷ bs) q after (inl none) quotes stops = absurd (cc)
 open_string from (a ∷ bs) q after (inr is) quotes stops =
     let letters = prefix_word a bs is in
     begun from a (bs ++ q ∷ []) (bs ++ q ∷ after) _ stops (start-word a letters.0)
-    ∙ run_from-append (Some (scanned (pieces_at from) (modes.Word (first_spelling a)) (a ∷ []))) bs (q ∷ [])
-    ∙ ap (λ o. run_from o (q ∷ [])) (run_word (pieces_at from) _ (a ∷ []) bs letters.1)
+    ∙ steps_from-append (Some (scanned (pieces_at from) (modes.Word (first_spelling a)) (a ∷ []))) bs (q ∷ [])
+    ∙ ap (λ o. steps_from o (q ∷ [])) (steps_word (pieces_at from) _ (a ∷ []) bs letters.1)
     ∙ grown (pieces_at from) (modes.Word (spelling_on (first_spelling a) bs)) (modes.Opened q) (a ∷ bs) q [] (opens_at _ q (sym (prefix_spelling a bs) ∙ is) quotes)
 
 -- in a short string that holds something
@@ -82,7 +82,7 @@ returned_feed q c h = rw h
 pub record ShortRun (done : List Piece) (q : ℕ) (from : Mode) (held items : List ℕ) : Type 0 where
   pub to : Mode
   pub inside : HoldsShort q to
-  pub runs : run_from (Some (scanned done from held)) items ≡ Some (scanned done to (held ++ items))
+  pub steps : steps_from (Some (scanned done from held)) items ≡ Some (scanned done to (held ++ items))
 
 grown_three : (done : List Piece) (held : List ℕ) (m : Mode) (c d e : ℕ) → Some (scanned done m (((held ++ c ∷ []) ++ d ∷ []) ++ e ∷ [])) ≡ Some (scanned done m (held ++ c ∷ d ∷ e ∷ []))
 grown_three done held m c d e = ap (λ t. Some (scanned done m t)) (append_assoc (held ++ c ∷ []) (d ∷ []) (e ∷ []) ∙ append_assoc held (c ∷ []) (d ∷ e ∷ []))
@@ -102,7 +102,7 @@ run_item done q m held (c ∷ []) short quotes is =
     record {
       to = modes.Inside q;
       inside = inl refl;
-      runs = grown done m (modes.Inside q) held c [] (short_moves q c m short bare.0 bare.1 ∙ short_bare q c (not-true _ parts.0) bare.2);
+      steps = grown done m (modes.Inside q) held c [] (short_moves q c m short bare.0 bare.1 ∙ short_bare q c (not-true _ parts.0) bare.2);
     }
 run_item done q m held (c ∷ d ∷ []) short quotes is =
     let slash = (and_parts (is_backslash c) true is).0 in
@@ -110,14 +110,14 @@ run_item done q m held (c ∷ d ∷ []) short quotes is =
     (λ (h : is_return d ≡ true). record {
       to = modes.EscapeReturn q;
       inside = inr refl;
-      runs = grown done m (modes.Escape q) held c (d ∷ []) (short_escapes q c m short quotes slash)
+      steps = grown done m (modes.Escape q) held c (d ∷ []) (short_escapes q c m short quotes slash)
           ∙ grown done (modes.Escape q) (modes.EscapeReturn q) (held ++ c ∷ []) d [] (escape_return q d h)
           ∙ grown_two done held _ c d;
     })
     (λ (h : is_return d ≡ false). record {
       to = modes.Inside q;
       inside = inl refl;
-      runs = grown done m (modes.Escape q) held c (d ∷ []) (short_escapes q c m short quotes slash)
+      steps = grown done m (modes.Escape q) held c (d ∷ []) (short_escapes q c m short quotes slash)
           ∙ grown done (modes.Escape q) (modes.Inside q) (held ++ c ∷ []) d [] (escape_other q d h)
           ∙ grown_two done held _ c d;
     }) (cases_Bool (is_return d))
@@ -128,7 +128,7 @@ run_item done q m held (c ∷ d ∷ e ∷ []) short quotes is =
     record {
       to = modes.Inside q;
       inside = inl refl;
-      runs = grown done m (modes.Escape q) held c (d ∷ e ∷ []) (short_escapes q c m short quotes second.0)
+      steps = grown done m (modes.Escape q) held c (d ∷ e ∷ []) (short_escapes q c m short quotes second.0)
           ∙ grown done (modes.Escape q) (modes.EscapeReturn q) (held ++ c ∷ []) d (e ∷ []) (escape_return q d second.1)
           ∙ grown done (modes.EscapeReturn q) (modes.Inside q) ((held ++ c ∷ []) ++ d ∷ []) e [] (returned_feed q e first.1)
           ∙ grown_three done held _ c d e;
@@ -136,7 +136,7 @@ run_item done q m held (c ∷ d ∷ e ∷ []) short quotes is =
 run_item done q m held (c ∷ d ∷ e ∷ f ∷ cs) short quotes is = absurd (both_ways _ refl is)
 
 pub run_items : (done : List Piece) (q : ℕ) (m : Mode) (held : List ℕ) (items : List (List ℕ)) → HoldsShort q m → is_quote q ≡ true → list_all (is_short_item q) items ≡ true → ShortRun done q m held (joined items)
-run_items done q m held [] short quotes each = record { to = m; inside = short; runs = all_held done m held }
+run_items done q m held [] short quotes each = record { to = m; inside = short; steps = all_held done m held }
 run_items done q m held (i ∷ is) short quotes each =
     let parts = and_parts (is_short_item q i) (list_all (is_short_item q) is) each in
     let first = run_item done q m held i (inr short) quotes parts.0 in
@@ -144,9 +144,9 @@ run_items done q m held (i ∷ is) short quotes each =
     record {
       to = others.to;
       inside = others.inside;
-      runs = run_from-append (Some (scanned done m held)) i (joined is)
-          ∙ ap (λ o. run_from o (joined is)) first.runs
-          ∙ others.runs
+      steps = steps_from-append (Some (scanned done m held)) i (joined is)
+          ∙ ap (λ o. steps_from o (joined is)) first.steps
+          ∙ others.steps
           ∙ ap (λ t. Some (scanned done others.to t)) (append_assoc held i (joined is));
     }
 
@@ -158,9 +158,9 @@ close-returned : (q : ℕ) → is_quote q ≡ true → move_of (modes.EscapeRetu
 unfolding move_of
 close-returned q quotes = rw (quote-not-feed q quotes, eq-eqb q q refl)
 
-pub close_short : (done : List Piece) (q : ℕ) (m : Mode) (held : List ℕ) → HoldsShort q m → is_quote q ≡ true → run_from (Some (scanned done m held)) (q ∷ []) ≡ Some (fresh (done ++ piece string (held ++ q ∷ []) ∷ []))
-close_short done q m held (inl is) quotes = subst (λ (n : Mode). run_from (Some (scanned done n held)) (q ∷ []) ≡ Some (fresh (done ++ piece string (held ++ q ∷ []) ∷ []))) (sym is) (closes done (modes.Inside q) held q (close-inside q))
-close_short done q m held (inr is) quotes = subst (λ (n : Mode). run_from (Some (scanned done n held)) (q ∷ []) ≡ Some (fresh (done ++ piece string (held ++ q ∷ []) ∷ []))) (sym is) (closes done (modes.EscapeReturn q) held q (close-returned q quotes))
+pub close_short : (done : List Piece) (q : ℕ) (m : Mode) (held : List ℕ) → HoldsShort q m → is_quote q ≡ true → steps_from (Some (scanned done m held)) (q ∷ []) ≡ Some (fresh (done ++ piece string (held ++ q ∷ []) ∷ []))
+close_short done q m held (inl is) quotes = subst (λ (n : Mode). steps_from (Some (scanned done n held)) (q ∷ []) ≡ Some (fresh (done ++ piece string (held ++ q ∷ []) ∷ []))) (sym is) (closes done (modes.Inside q) held q (close-inside q))
+close_short done q m held (inr is) quotes = subst (λ (n : Mode). steps_from (Some (scanned done n held)) (q ∷ []) ≡ Some (fresh (done ++ piece string (held ++ q ∷ []) ∷ []))) (sym is) (closes done (modes.EscapeReturn q) held q (close-returned q quotes))
 
 pub empty-opened : (q : ℕ) → move_of (modes.Opened q) q ≡ moves.Grows (modes.Empty q)
 unfolding move_of
@@ -175,11 +175,11 @@ stops-empty q (c ∷ cs) h = rw h
 front_first : (prefix : List ℕ) (q : ℕ) (body : List ℕ) → (prefix ++ q ∷ []) ++ body ≡ prefix ++ q ∷ body
 front_first prefix q body = append_assoc prefix (q ∷ []) body
 
-pub opened_run : (from : Scanned) (prefix : List ℕ) (q : ℕ) (body : List ℕ) → IsPrefix prefix → is_quote q ≡ true → StopsBefore from.mode (prefix ++ q ∷ body) → run_from (Some from) (prefix ++ q ∷ body) ≡ run_from (Some (scanned (pieces_at from) (modes.Opened q) (prefix ++ q ∷ []))) body
-opened_run from prefix q body is quotes stops =
-    ap (run_from (Some from)) (sym (front_first prefix q body))
-    ∙ run_from-append (Some from) (prefix ++ q ∷ []) body
-    ∙ ap (λ o. run_from o body) (open_string from prefix q body is quotes stops)
+pub opened_steps : (from : Scanned) (prefix : List ℕ) (q : ℕ) (body : List ℕ) → IsPrefix prefix → is_quote q ≡ true → StopsBefore from.mode (prefix ++ q ∷ body) → steps_from (Some from) (prefix ++ q ∷ body) ≡ steps_from (Some (scanned (pieces_at from) (modes.Opened q) (prefix ++ q ∷ []))) body
+opened_steps from prefix q body is quotes stops =
+    ap (steps_from (Some from)) (sym (front_first prefix q body))
+    ∙ steps_from-append (Some from) (prefix ++ q ∷ []) body
+    ∙ ap (λ o. steps_from o body) (open_string from prefix q body is quotes stops)
 
 -- the items of a short string, if there are some
 pub short_body : (done : List Piece) (q : ℕ) (held item : List ℕ) (items : List (List ℕ)) → is_quote q ≡ true → list_all (is_short_item q) (item ∷ items) ≡ true → ShortRun done q (modes.Opened q) held (joined (item ∷ items))
@@ -190,9 +190,9 @@ short_body done q held item items quotes each =
     record {
       to = others.to;
       inside = others.inside;
-      runs = run_from-append (Some (scanned done (modes.Opened q) held)) item (joined items)
-          ∙ ap (λ o. run_from o (joined items)) first.runs
-          ∙ others.runs
+      steps = steps_from-append (Some (scanned done (modes.Opened q) held)) item (joined items)
+          ∙ ap (λ o. steps_from o (joined items)) first.steps
+          ∙ others.steps
           ∙ ap (λ t. Some (scanned done others.to t)) (append_assoc held item (joined items));
     }
 
@@ -206,7 +206,7 @@ find_short from prefix q [] rest is quotes each stops before =
     let done = pieces_at from in
     record {
       to = scanned done (modes.Empty q) ((prefix ++ q ∷ []) ++ q ∷ []);
-      runs = opened_run from prefix q (q ∷ []) is quotes (stops_so from prefix q (q ∷ []) rest stops)
+      steps = opened_steps from prefix q (q ∷ []) is quotes (stops_so from prefix q (q ∷ []) rest stops)
           ∙ grown done _ _ (prefix ++ q ∷ []) q [] (empty-opened q);
       pieces_are = ap (λ t. done ++ piece string t ∷ []) (front_first prefix q (q ∷ []));
       stops = stops-empty q rest (before prefix q refl is quotes);
@@ -217,9 +217,9 @@ find_short from prefix q (i ∷ items) rest is quotes each stops before =
     let text = joined (i ∷ items) in
     record {
       to = fresh (done ++ piece string (((prefix ++ q ∷ []) ++ text) ++ q ∷ []) ∷ []);
-      runs = opened_run from prefix q (text ++ q ∷ []) is quotes (stops_so from prefix q (text ++ q ∷ []) rest stops)
-          ∙ run_from-append (Some (scanned done (modes.Opened q) (prefix ++ q ∷ []))) text (q ∷ [])
-          ∙ ap (λ o. run_from o (q ∷ [])) body.runs
+      steps = opened_steps from prefix q (text ++ q ∷ []) is quotes (stops_so from prefix q (text ++ q ∷ []) rest stops)
+          ∙ steps_from-append (Some (scanned done (modes.Opened q) (prefix ++ q ∷ []))) text (q ∷ [])
+          ∙ ap (λ o. steps_from o (q ∷ [])) body.steps
           ∙ close_short done q body.to ((prefix ++ q ∷ []) ++ text) body.inside quotes;
       pieces_are = ap (λ t. done ++ piece string t ∷ []) (append_assoc (prefix ++ q ∷ []) text (q ∷ []) ∙ front_first prefix q (text ++ q ∷ []));
       stops = stops-free rest;
@@ -293,7 +293,7 @@ unfolding move_of
 long-opens q = rw (eq-eqb q q refl)
 
 -- an item that is no quote of the string
-long_other : (done : List Piece) (q : ℕ) (seen : Seen) (held item : List ℕ) → is_quote q ≡ true → is_item item ≡ true → is_bare (λ c. c == q) item ≡ false → run_from (Some (scanned done (mode_at q seen) held)) item ≡ Some (scanned done (modes.Long q) (held ++ item))
+long_other : (done : List Piece) (q : ℕ) (seen : Seen) (held item : List ℕ) → is_quote q ≡ true → is_item item ≡ true → is_bare (λ c. c == q) item ≡ false → steps_from (Some (scanned done (mode_at q seen) held)) item ≡ Some (scanned done (modes.Long q) (held ++ item))
 long_other done q seen held [] quotes is other = absurd (both_ways _ refl is)
 long_other done q seen held (c ∷ []) quotes is other = grown done (mode_at q seen) (modes.Long q) held c [] (long_moves q c seen other ∙ long_bare q c (not-true _ is))
 long_other done q seen held (c ∷ d ∷ []) quotes is other =
@@ -329,25 +329,25 @@ after_other q none item items h = tail_triple q item items h
 after_other q one item items h = tail_triple q item items (tail_triple q (q ∷ []) (item ∷ items) h)
 after_other q two item items h = tail_triple q item items (tail_triple q (q ∷ []) (item ∷ items) (tail_triple q (q ∷ []) ((q ∷ []) ∷ item ∷ items) h))
 
-quote_grows : (done : List Piece) (q : ℕ) (seen : Seen) (held : List ℕ) (items : List (List ℕ)) → has_triple q (quotes_before q seen ++ (q ∷ []) ∷ items) ≡ false → run_from (Some (scanned done (mode_at q seen) held)) (q ∷ []) ≡ Some (scanned done (mode_at q (next seen)) (held ++ q ∷ []))
+quote_grows : (done : List Piece) (q : ℕ) (seen : Seen) (held : List ℕ) (items : List (List ℕ)) → has_triple q (quotes_before q seen ++ (q ∷ []) ∷ items) ≡ false → steps_from (Some (scanned done (mode_at q seen) held)) (q ∷ []) ≡ Some (scanned done (mode_at q (next seen)) (held ++ q ∷ []))
 quote_grows done q none held items h = grown done (modes.Long q) (modes.LongOne q) held q [] (long-one q)
 quote_grows done q one held items h = grown done (modes.LongOne q) (modes.LongTwo q) held q [] (long-two q)
 quote_grows done q two held items h = absurd (both_ways _ (or_parts (begins_triple q ((q ∷ []) ∷ (q ∷ []) ∷ (q ∷ []) ∷ items)) _ h).0 (rw (eq-eqb q q refl)))
 
-pub run_long : (done : List Piece) (q : ℕ) (seen : Seen) (held : List ℕ) (items : List (List ℕ)) → is_quote q ≡ true → list_all is_item items ≡ true → has_triple q (quotes_before q seen ++ items) ≡ false → run_from (Some (scanned done (mode_at q seen) held)) (joined items) ≡ Some (scanned done (mode_at q (seen_after q seen items)) (held ++ joined items))
+pub run_long : (done : List Piece) (q : ℕ) (seen : Seen) (held : List ℕ) (items : List (List ℕ)) → is_quote q ≡ true → list_all is_item items ≡ true → has_triple q (quotes_before q seen ++ items) ≡ false → steps_from (Some (scanned done (mode_at q seen) held)) (joined items) ≡ Some (scanned done (mode_at q (seen_after q seen items)) (held ++ joined items))
 run_long done q seen held [] quotes each triple = all_held done (mode_at q seen) held
 run_long done q seen held (i ∷ is) quotes each triple =
     let parts = and_parts (is_item i) (list_all is_item is) each in
-    run_from-append (Some (scanned done (mode_at q seen) held)) i (joined is)
+    steps_from-append (Some (scanned done (mode_at q seen) held)) i (joined is)
     ∙ ⊎_elim
     (λ (h : is_bare (λ c. c == q) i ≡ true).
     let same = bare_quote q i h in
     let so = subst (λ (j : List ℕ). has_triple q (quotes_before q seen ++ j ∷ is) ≡ false) same triple in
-    ap (λ o. run_from o (joined is)) (subst (λ (j : List ℕ). run_from (Some (scanned done (mode_at q seen) held)) j ≡ Some (scanned done (mode_at q (next seen)) (held ++ j))) (sym same) (quote_grows done q seen held is so))
+    ap (λ o. steps_from o (joined is)) (subst (λ (j : List ℕ). steps_from (Some (scanned done (mode_at q seen) held)) j ≡ Some (scanned done (mode_at q (next seen)) (held ++ j))) (sym same) (quote_grows done q seen held is so))
     ∙ run_long done q (next seen) (held ++ i) is quotes parts.1 (after_quote q seen is so)
     ∙ ap (λ (s : Seen). Some (scanned done (mode_at q (seen_after q s is)) ((held ++ i) ++ joined is))) (sym (ap (λ (b : Bool). cond b (next seen) none) h)))
     (λ (h : is_bare (λ c. c == q) i ≡ false).
-    ap (λ o. run_from o (joined is)) (long_other done q seen held i quotes parts.0 h)
+    ap (λ o. steps_from o (joined is)) (long_other done q seen held i quotes parts.0 h)
     ∙ run_long done q none (held ++ i) is quotes parts.1 (after_other q seen i is triple)
     ∙ ap (λ (s : Seen). Some (scanned done (mode_at q (seen_after q s is)) ((held ++ i) ++ joined is))) (sym (ap (λ (b : Bool). cond b (next seen) none) h)))
     (cases_Bool (is_bare (λ c. c == q) i))
@@ -369,13 +369,13 @@ quotes_items q quotes = rw (no_slash q quotes)
     no_slash q quotes = ⊎_elim (λ (h : is_backslash q ≡ true). absurd (both_ways _ (slash-not-quote q h) quotes)) (λ (h : is_backslash q ≡ false). h) (cases_Bool (is_backslash q))
 
 -- after three quotes, up to an item before the last quote
-pub long_opened : (from : Scanned) (prefix : List ℕ) (q : ℕ) (body : List ℕ) → IsPrefix prefix → is_quote q ≡ true → StopsBefore from.mode (prefix ++ q ∷ q ∷ q ∷ body) → run_from (Some from) (prefix ++ q ∷ q ∷ q ∷ body) ≡ run_from (Some (scanned (pieces_at from) (modes.Long q) (prefix ++ q ∷ q ∷ q ∷ []))) body
+pub long_opened : (from : Scanned) (prefix : List ℕ) (q : ℕ) (body : List ℕ) → IsPrefix prefix → is_quote q ≡ true → StopsBefore from.mode (prefix ++ q ∷ q ∷ q ∷ body) → steps_from (Some from) (prefix ++ q ∷ q ∷ q ∷ body) ≡ steps_from (Some (scanned (pieces_at from) (modes.Long q) (prefix ++ q ∷ q ∷ q ∷ []))) body
 long_opened from prefix q body is quotes stops =
     let done = pieces_at from in
-    opened_run from prefix q (q ∷ q ∷ body) is quotes stops
+    opened_steps from prefix q (q ∷ q ∷ body) is quotes stops
     ∙ grown done _ _ (prefix ++ q ∷ []) q (q ∷ body) (empty-opened q)
     ∙ grown done _ _ ((prefix ++ q ∷ []) ++ q ∷ []) q body (long-opens q)
-    ∙ ap (λ t. run_from (Some (scanned done (modes.Long q) t)) body) (append_assoc (prefix ++ q ∷ []) (q ∷ []) (q ∷ []) ∙ front_first prefix q (q ∷ q ∷ []))
+    ∙ ap (λ t. steps_from (Some (scanned done (modes.Long q) t)) body) (append_assoc (prefix ++ q ∷ []) (q ∷ []) (q ∷ []) ∙ front_first prefix q (q ∷ q ∷ []))
 
 pub find_long : (from : Scanned) (prefix : List ℕ) (q : ℕ) (items : List (List ℕ)) (rest : List ℕ) → IsPrefix prefix → is_quote q ≡ true → list_all is_item items ≡ true → has_triple q (items ++ (q ∷ []) ∷ (q ∷ []) ∷ []) ≡ false → StopsBefore from.mode (prefix ++ q ∷ ((q ∷ q ∷ (joined items ++ q ∷ q ∷ q ∷ [])) ++ rest)) → Finds from (prefix ++ (q ∷ q ∷ q ∷ joined items ++ q ∷ q ∷ q ∷ [])) (piece string (prefix ++ (q ∷ q ∷ q ∷ joined items ++ q ∷ q ∷ q ∷ [])) ∷ []) rest
 find_long from prefix q items rest is quotes each triple stops =
@@ -387,11 +387,11 @@ find_long from prefix q items rest is quotes each triple stops =
     let seen : seen_after q none all ≡ two = seen_after-append q none items ((q ∷ []) ∷ (q ∷ []) ∷ []) ∙ two_quotes q (seen_after q none items) in
     record {
       to = fresh (done ++ piece string ((front ++ joined all) ++ q ∷ []) ∷ []);
-      runs = long_opened from prefix q ends is quotes (stops_so from prefix q (q ∷ q ∷ ends) rest stops)
-          ∙ ap (run_from (Some (scanned done (modes.Long q) front))) (sym cut)
-          ∙ run_from-append (Some (scanned done (modes.Long q) front)) (joined all) (q ∷ [])
-          ∙ ap (λ o. run_from o (q ∷ [])) (run_long done q none front all quotes (list_all-append is_item items ((q ∷ []) ∷ (q ∷ []) ∷ []) ∙ and_from _ _ each (quotes_items q quotes)) triple)
-          ∙ ap (λ (s : Seen). run_from (Some (scanned done (mode_at q s) (front ++ joined all))) (q ∷ [])) seen
+      steps = long_opened from prefix q ends is quotes (stops_so from prefix q (q ∷ q ∷ ends) rest stops)
+          ∙ ap (steps_from (Some (scanned done (modes.Long q) front))) (sym cut)
+          ∙ steps_from-append (Some (scanned done (modes.Long q) front)) (joined all) (q ∷ [])
+          ∙ ap (λ o. steps_from o (q ∷ [])) (run_long done q none front all quotes (list_all-append is_item items ((q ∷ []) ∷ (q ∷ []) ∷ []) ∙ and_from _ _ each (quotes_items q quotes)) triple)
+          ∙ ap (λ (s : Seen). steps_from (Some (scanned done (mode_at q s) (front ++ joined all))) (q ∷ [])) seen
           ∙ closes done (modes.LongTwo q) (front ++ joined all) q (long-closes q);
       pieces_are = ap (λ t. done ++ piece string t ∷ []) (append_assoc front (joined all) (q ∷ []) ∙ ap (λ t. front ++ t) cut ∙ append_assoc prefix (q ∷ q ∷ q ∷ []) ends);
       stops = stops-free rest;

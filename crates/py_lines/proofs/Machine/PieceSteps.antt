@@ -11,7 +11,7 @@ use Rattle.py_lines.specs.declared.mode.Mode.TheVariants as modes
 use Rattle.py_lines.specs.declared.mode.Move.{Move}
 use Rattle.py_lines.specs.declared.mode.Move.TheVariants as moves
 use Rattle.py_lines.specs.declared.mode.Start.{Start}
-use Rattle.py_lines.specs.Private.Machine.{Scanned, fresh, class_of, closed, started, moved, step, run_from, move_of, start_of, is_final, first_spelling, spelling_with, is_prefix_spelling}
+use Rattle.py_lines.specs.Private.Machine.{Scanned, fresh, class_of, closed, started, moved, step, steps_from, move_of, start_of, is_final, first_spelling, spelling_with, is_prefix_spelling}
 use Rattle.py_lines.proofs.Pieces.PieceLists.{piece}
 use Rattle.py_lines.specs.Private.Machine.{spelling_on}
 use Rattle.py_lines.proofs.Machine.Spellings.{prefix_spelling}
@@ -32,30 +32,30 @@ StopsBefore m (c ∷ cs) = move_of m c ≡ moves.Breaks
 -- the machine goes through a text from here, finds these pieces after those it had, and may stop before the rest
 pub record Finds (from : Scanned) (text : List ℕ) (pieces : List Piece) (rest : List ℕ) : Type 0 where
   pub to : Scanned
-  pub runs : run_from (Some from) text ≡ Some to
+  pub steps : steps_from (Some from) text ≡ Some to
   pub pieces_are : pieces_at to ≡ pieces_at from ++ pieces
   pub stops : StopsBefore to.mode rest
 
--- two runs, one after the other
-pub run_from-append : (s : Option Scanned) (a b : List ℕ) → run_from s (a ++ b) ≡ run_from (run_from s a) b
-run_from-append None a b = refl
-run_from-append (Some s) [] b = refl
-run_from-append (Some s) (c ∷ a) b = run_from-append (step s c) a b
+-- steps over two texts, one after the other
+pub steps_from-append : (s : Option Scanned) (a b : List ℕ) → steps_from s (a ++ b) ≡ steps_from (steps_from s a) b
+steps_from-append None a b = refl
+steps_from-append (Some s) [] b = refl
+steps_from-append (Some s) (c ∷ a) b = steps_from-append (step s c) a b
 
 -- a new piece begins where the machine may stop
 begin : (from : Scanned) (c : ℕ) (cs : List ℕ) (s : Start) → StopsBefore from.mode (c ∷ cs) → start_of c ≡ s → step from c ≡ started (pieces_at from) c s
 begin from c cs s stops starts_as = ap (moved from c) stops ∙ ap (started (pieces_at from) c) starts_as
 
-pub begun : (from : Scanned) (c : ℕ) (cs after : List ℕ) (s : Start) → StopsBefore from.mode (c ∷ after) → start_of c ≡ s → run_from (Some from) (c ∷ cs) ≡ run_from (started (pieces_at from) c s) cs
-begun from c cs after s stops starts_as = ap (λ o. run_from o cs) (begin from c after s stops starts_as)
+pub begun : (from : Scanned) (c : ℕ) (cs after : List ℕ) (s : Start) → StopsBefore from.mode (c ∷ after) → start_of c ≡ s → steps_from (Some from) (c ∷ cs) ≡ steps_from (started (pieces_at from) c s) cs
+begun from c cs after s stops starts_as = ap (λ o. steps_from o cs) (begin from c after s stops starts_as)
 
 -- one more character in the open piece
-pub grown : (done : List Piece) (m n : Mode) (held : List ℕ) (c : ℕ) (cs : List ℕ) → move_of m c ≡ moves.Grows n → run_from (Some (scanned done m held)) (c ∷ cs) ≡ run_from (Some (scanned done n (held ++ c ∷ []))) cs
-grown done m n held c cs grows = ap (λ (v : Move). run_from (moved (scanned done m held) c v) cs) grows
+pub grown : (done : List Piece) (m n : Mode) (held : List ℕ) (c : ℕ) (cs : List ℕ) → move_of m c ≡ moves.Grows n → steps_from (Some (scanned done m held)) (c ∷ cs) ≡ steps_from (Some (scanned done n (held ++ c ∷ []))) cs
+grown done m n held c cs grows = ap (λ (v : Move). steps_from (moved (scanned done m held) c v) cs) grows
 
 -- the last character of the open piece
-pub closes : (done : List Piece) (m : Mode) (held : List ℕ) (c : ℕ) → move_of m c ≡ moves.Closes → run_from (Some (scanned done m held)) (c ∷ []) ≡ Some (fresh (done ++ piece (class_of m) (held ++ c ∷ []) ∷ []))
-closes done m held c closing = ap (λ (v : Move). run_from (moved (scanned done m held) c v) []) closing
+pub closes : (done : List Piece) (m : Mode) (held : List ℕ) (c : ℕ) → move_of m c ≡ moves.Closes → steps_from (Some (scanned done m held)) (c ∷ []) ≡ Some (fresh (done ++ piece (class_of m) (held ++ c ∷ []) ∷ []))
+closes done m held c closing = ap (λ (v : Move). steps_from (moved (scanned done m held) c v) []) closing
 
 pub longer : (done : List Piece) (m : Mode) (held : List ℕ) (c : ℕ) (cs : List ℕ) → Some (scanned done m ((held ++ c ∷ []) ++ cs)) ≡ Some (scanned done m (held ++ c ∷ cs))
 longer done m held c cs = ap (λ t. Some (scanned done m t)) (append_assoc held (c ∷ []) cs)
@@ -73,11 +73,11 @@ grow-space : (c : ℕ) → is_space c ≡ true → move_of modes.Space c ≡ mov
 unfolding move_of
 grow-space c h = rw h
 
-pub run_space : (done : List Piece) (held others : List ℕ) → list_all is_space others ≡ true → run_from (Some (scanned done modes.Space held)) others ≡ Some (scanned done modes.Space (held ++ others))
-run_space done held [] h = all_held done modes.Space held
-run_space done held (c ∷ cs) h =
+pub steps_space : (done : List Piece) (held others : List ℕ) → list_all is_space others ≡ true → steps_from (Some (scanned done modes.Space held)) others ≡ Some (scanned done modes.Space (held ++ others))
+steps_space done held [] h = all_held done modes.Space held
+steps_space done held (c ∷ cs) h =
     let parts = and_parts (is_space c) (list_all is_space cs) h in
-    grown done _ _ held c cs (grow-space c parts.0) ∙ run_space done (held ++ c ∷ []) cs parts.1 ∙ longer done modes.Space held c cs
+    grown done _ _ held c cs (grow-space c parts.0) ∙ steps_space done (held ++ c ∷ []) cs parts.1 ∙ longer done modes.Space held c cs
 
 pub stops-space : (rest : List ℕ) → begins is_space rest ≡ false → StopsBefore modes.Space rest
 unfolding move_of
@@ -89,7 +89,7 @@ find_space from first others rest run stops ends =
     let parts = and_parts (is_space first) (list_all is_space others) run in
     record {
       to = scanned (pieces_at from) modes.Space (first ∷ others);
-      runs = begun from first others (others ++ rest) _ stops (start-space first parts.0) ∙ run_space _ (first ∷ []) others parts.1;
+      steps = begun from first others (others ++ rest) _ stops (start-space first parts.0) ∙ steps_space _ (first ∷ []) others parts.1;
       pieces_are = refl;
       stops = stops-space rest ends;
     }
@@ -99,11 +99,11 @@ grow-word : (s : Spelling) (c : ℕ) → is_word_character c ≡ true → move_o
 unfolding move_of
 grow-word s c h = rw h
 
-pub run_word : (done : List Piece) (s : Spelling) (held others : List ℕ) → list_all is_word_character others ≡ true → run_from (Some (scanned done (modes.Word s) held)) others ≡ Some (scanned done (modes.Word (spelling_on s others)) (held ++ others))
-run_word done s held [] h = all_held done (modes.Word s) held
-run_word done s held (c ∷ cs) h =
+pub steps_word : (done : List Piece) (s : Spelling) (held others : List ℕ) → list_all is_word_character others ≡ true → steps_from (Some (scanned done (modes.Word s) held)) others ≡ Some (scanned done (modes.Word (spelling_on s others)) (held ++ others))
+steps_word done s held [] h = all_held done (modes.Word s) held
+steps_word done s held (c ∷ cs) h =
     let parts = and_parts (is_word_character c) (list_all is_word_character cs) h in
-    grown done _ _ held c cs (grow-word s c parts.0) ∙ run_word done (spelling_with s c) (held ++ c ∷ []) cs parts.1 ∙ longer done _ held c cs
+    grown done _ _ held c cs (grow-word s c parts.0) ∙ steps_word done (spelling_with s c) (held ++ c ∷ []) cs parts.1 ∙ longer done _ held c cs
 
 pub stops-word : (s : Spelling) (rest : List ℕ) → begins is_word_character rest ≡ false → is_prefix_spelling s && begins is_quote rest ≡ false → StopsBefore (modes.Word s) rest
 unfolding move_of
@@ -113,7 +113,7 @@ stops-word s (c ∷ cs) h k = rw (h, k)
 pub find_word : (from : Scanned) (first : ℕ) (others rest : List ℕ) → is_word_start first ≡ true → list_all is_word_character others ≡ true → StopsBefore from.mode (first ∷ others ++ rest) → begins is_word_character rest ≡ false → is_prefix (first ∷ others) && begins is_quote rest ≡ false → Finds from (first ∷ others) (piece word (first ∷ others) ∷ []) rest
 find_word from first others rest opens run stops ends no_prefix = record {
   to = scanned (pieces_at from) (modes.Word (spelling_on (first_spelling first) others)) (first ∷ others);
-  runs = begun from first others (others ++ rest) _ stops (start-word first opens) ∙ run_word _ _ (first ∷ []) others run;
+  steps = begun from first others (others ++ rest) _ stops (start-word first opens) ∙ steps_word _ _ (first ∷ []) others run;
   pieces_are = refl;
   stops = stops-word _ rest ends (subst (λ (b : Bool). b && begins is_quote rest ≡ false) (prefix_spelling first others) no_prefix);
 }
@@ -122,7 +122,7 @@ find_word from first others rest opens run stops ends no_prefix = record {
 pub find_operator : (from : Scanned) (c : ℕ) (rest : List ℕ) → is_operator c ≡ true → StopsBefore from.mode (c ∷ rest) → Finds from (c ∷ []) (piece operator (c ∷ []) ∷ []) rest
 find_operator from c rest passes stops = record {
   to = fresh (pieces_at from ++ piece operator (c ∷ []) ∷ []);
-  runs = begun from c [] rest _ stops (start-operator c passes);
+  steps = begun from c [] rest _ stops (start-operator c passes);
   pieces_are = refl;
   stops = stops-free rest;
 }
@@ -132,7 +132,7 @@ grow-comment : (c : ℕ) → is_break c ≡ false → move_of modes.Comment c �
 unfolding move_of
 grow-comment c h = rw h
 
-run_comment : (done : List Piece) (held body : List ℕ) → list_any is_break body ≡ false → run_from (Some (scanned done modes.Comment held)) body ≡ Some (scanned done modes.Comment (held ++ body))
+run_comment : (done : List Piece) (held body : List ℕ) → list_any is_break body ≡ false → steps_from (Some (scanned done modes.Comment held)) body ≡ Some (scanned done modes.Comment (held ++ body))
 run_comment done held [] h = all_held done modes.Comment held
 run_comment done held (c ∷ cs) h =
     let parts = or_parts (is_break c) (list_any is_break cs) h in
@@ -147,7 +147,7 @@ stops-comment (c ∷ cs) (inr ends) = rw ends
 pub find_comment : (from : Scanned) (hash : ℕ) (body rest : List ℕ) → is_hash hash ≡ true → list_any is_break body ≡ false → StopsBefore from.mode (hash ∷ body ++ rest) → (rest ≡ []) ⊎ (begins is_break rest ≡ true) → Finds from (hash ∷ body) (piece comment (hash ∷ body) ∷ []) rest
 find_comment from hash body rest opens holds stops ends = record {
   to = scanned (pieces_at from) modes.Comment (hash ∷ body);
-  runs = begun from hash body (body ++ rest) _ stops (start-hash hash opens) ∙ run_comment _ (hash ∷ []) body holds;
+  steps = begun from hash body (body ++ rest) _ stops (start-hash hash opens) ∙ run_comment _ (hash ∷ []) body holds;
   pieces_are = refl;
   stops = stops-comment rest ends;
 }
@@ -174,14 +174,14 @@ pub find_line_end : (from : Scanned) (text rest : List ℕ) → IsLineEnd text �
 find_line_end from text rest (feed is) stops before =
     subst (λ t. Finds from t (piece line_end t ∷ []) rest) (sym is) (record {
       to = fresh (pieces_at from ++ piece line_end (10 ∷ []) ∷ []);
-      runs = begun from 10 [] rest _ (subst (λ t. StopsBefore from.mode (t ++ rest)) is stops) (start-feed 10 feed-is-one);
+      steps = begun from 10 [] rest _ (subst (λ t. StopsBefore from.mode (t ++ rest)) is stops) (start-feed 10 feed-is-one);
       pieces_are = refl;
       stops = stops-free rest;
     })
 find_line_end from text rest (return_feed is) stops before =
     subst (λ t. Finds from t (piece line_end t ∷ []) rest) (sym is) (record {
       to = fresh (pieces_at from ++ piece line_end (13 ∷ 10 ∷ []) ∷ []);
-      runs = begun from 13 (10 ∷ []) (10 ∷ rest) _ (subst (λ t. StopsBefore from.mode (t ++ rest)) is stops) (start-return 13 return-is-one)
+      steps = begun from 13 (10 ∷ []) (10 ∷ rest) _ (subst (λ t. StopsBefore from.mode (t ++ rest)) is stops) (start-return 13 return-is-one)
           ∙ closes (pieces_at from) modes.Return (13 ∷ []) 10 return-closes;
       pieces_are = refl;
       stops = stops-free rest;
@@ -189,7 +189,7 @@ find_line_end from text rest (return_feed is) stops before =
 find_line_end from text rest (return is) stops before =
     subst (λ t. Finds from t (piece line_end t ∷ []) rest) (sym is) (record {
       to = scanned (pieces_at from) modes.Return (13 ∷ []);
-      runs = begun from 13 [] rest _ (subst (λ t. StopsBefore from.mode (t ++ rest)) is stops) (start-return 13 return-is-one);
+      steps = begun from 13 [] rest _ (subst (λ t. StopsBefore from.mode (t ++ rest)) is stops) (start-return 13 return-is-one);
       pieces_are = refl;
       stops = stops-return rest (subst (λ (b : Bool). b && begins is_line_feed rest ≡ false) return-is-one (subst (λ t. ends is_return t && begins is_line_feed rest ≡ false) is before));
     })
@@ -216,7 +216,7 @@ pub find_join : (from : Scanned) (slash : ℕ) (end rest : List ℕ) → is_back
 find_join from slash end rest slashes (feed is) stops before =
     subst (λ t. Finds from (slash ∷ t) (piece join (slash ∷ t) ∷ []) rest) (sym is) (record {
       to = fresh (pieces_at from ++ piece join (slash ∷ 10 ∷ []) ∷ []);
-      runs = begun from slash (10 ∷ []) (end ++ rest) _ stops (start-slash slash slashes)
+      steps = begun from slash (10 ∷ []) (end ++ rest) _ stops (start-slash slash slashes)
           ∙ closes (pieces_at from) modes.Backslash (slash ∷ []) 10 slash-closes;
       pieces_are = refl;
       stops = stops-free rest;
@@ -224,7 +224,7 @@ find_join from slash end rest slashes (feed is) stops before =
 find_join from slash end rest slashes (return_feed is) stops before =
     subst (λ t. Finds from (slash ∷ t) (piece join (slash ∷ t) ∷ []) rest) (sym is) (record {
       to = fresh (pieces_at from ++ piece join (slash ∷ 13 ∷ 10 ∷ []) ∷ []);
-      runs = begun from slash (13 ∷ 10 ∷ []) (end ++ rest) _ stops (start-slash slash slashes)
+      steps = begun from slash (13 ∷ 10 ∷ []) (end ++ rest) _ stops (start-slash slash slashes)
           ∙ grown (pieces_at from) modes.Backslash _ (slash ∷ []) 13 (10 ∷ []) slash-returns
           ∙ closes (pieces_at from) modes.JoinReturn (slash ∷ 13 ∷ []) 10 join-closes;
       pieces_are = refl;
@@ -233,7 +233,7 @@ find_join from slash end rest slashes (return_feed is) stops before =
 find_join from slash end rest slashes (return is) stops before =
     subst (λ t. Finds from (slash ∷ t) (piece join (slash ∷ t) ∷ []) rest) (sym is) (record {
       to = scanned (pieces_at from) modes.JoinReturn (slash ∷ 13 ∷ []);
-      runs = begun from slash (13 ∷ []) (end ++ rest) _ stops (start-slash slash slashes)
+      steps = begun from slash (13 ∷ []) (end ++ rest) _ stops (start-slash slash slashes)
           ∙ grown (pieces_at from) modes.Backslash _ (slash ∷ []) 13 [] slash-returns;
       pieces_are = refl;
       stops = stops-join rest (subst (λ (b : Bool). b && begins is_line_feed rest ≡ false) return-is-one (subst (λ t. ends is_return (slash ∷ t) && begins is_line_feed rest ≡ false) is before));

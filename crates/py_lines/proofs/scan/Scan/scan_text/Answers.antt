@@ -4,10 +4,10 @@ use Rattle.py_lines.specs.declared.scan.Scan.{Scan}
 use Rattle.py_lines.specs.declared.scan.Stop.{Stop}
 use Rattle.py_lines.specs.declared.scan.Stop.TheVariants as stops
 use Rattle.py_lines.specs.Private.Scan.{ScansIn}
-use Rattle.py_lines.proofs.LineScan.LineRun.{way_order}
+use Rattle.py_lines.proofs.LineScan.LineSteps.{way_order}
 use Rattle.py_lines.proofs.LineScan.LineStops.{begun_reached, scans_returned, scans_alone}
-use Rattle.py_lines.proofs.scan.Scan.run.Goals.{in-TextEnd, in_default, else-matches-via-then-matches+else-is_returned, else-matches-via-else-matches}
-use Rattle.py_lines.proofs.scan.Scan.run.Goals as goal
+use Rattle.py_lines.proofs.scan.Scan.scan_text.Goals.{in-TextEnd, in_default, else-matches-via-then-matches+else-is_returned, else-matches-via-else-matches}
+use Rattle.py_lines.proofs.scan.Scan.scan_text.Goals as goal
 
 pub extend-requires-clause-way : goal.extend-requires-clause-way
 extend-requires-clause-way c = (c.args.self.now.piece.mode, c.args.self.now.line, c.args.text.now, c.requires.sound, begun_reached c.args.self.now c.args.text.now c.as_bytes.result.now c.as_bytes.ensures.value c.requires.start c.requires.stacked)

@@ -10,11 +10,11 @@ use Rattle.py_lines.specs.PieceGrammar.{InClass, MayPrecede, is_prefix, AreReadB
 use Rattle.py_lines.specs.declared.mode.Mode.TheVariants as modes
 use Rattle.py_lines.specs.declared.mode.Move.{Move}
 use Rattle.py_lines.specs.declared.mode.Move.TheVariants as moves
-use Rattle.py_lines.specs.Private.Machine.{Scanned, fresh, text_start, started, moved, run_from, move_of, start_of}
+use Rattle.py_lines.specs.Private.Machine.{Scanned, fresh, text_start, started, moved, steps_from, move_of, start_of}
 use Rattle.py_lines.proofs.Pieces.PieceLists.{piece}
 use Rattle.py_lines.proofs.Machine.Starts.{start-mark}
-use Rattle.py_lines.proofs.Machine.PieceRuns.{pieces_at, StopsBefore, Finds, run_from-append, stops-free, find_space, find_word, find_operator, find_comment, find_line_end, find_join}
-use Rattle.py_lines.proofs.Machine.StringRuns.{find_short, find_long}
+use Rattle.py_lines.proofs.Machine.PieceSteps.{pieces_at, StopsBefore, Finds, steps_from-append, stops-free, find_space, find_word, find_operator, find_comment, find_line_end, find_join}
+use Rattle.py_lines.proofs.Machine.StringSteps.{find_short, find_long}
 
 -- a piece of any class but a mark
 pub find : (from : Scanned) (class : Class) (text rest : List ℕ) → is_mark_class class ≡ false → InClass class text → MayPrecede class text rest → StopsBefore from.mode (text ++ rest) → Finds from text (piece class text ∷ []) rest
@@ -47,13 +47,13 @@ find from line_end text rest unmarked is before stops = find_line_end from text 
 
 -- pieces that are read before the rest are found, in their order
 pub find_all : (from : Scanned) (pieces : List Piece) (rest : List ℕ) → AreReadBefore pieces rest → begins_marked pieces ≡ false → StopsBefore from.mode (spelled pieces ++ rest) → Finds from (spelled pieces) pieces rest
-find_all from [] rest fit unmarked stops = record { to = from; runs = refl; pieces_are = sym (append-nil _); stops = stops }
+find_all from [] rest fit unmarked stops = record { to = from; steps = refl; pieces_are = sym (append-nil _); stops = stops }
 find_all from (p ∷ ps) rest fit unmarked stops =
     let first = find from p.class p.text (spelled ps ++ rest) unmarked fit.0 fit.1 (subst (StopsBefore from.mode) (append_assoc p.text (spelled ps) rest) stops) in
     let others = find_all first.to ps rest fit.3 fit.2 first.stops in
     record {
       to = others.to;
-      runs = run_from-append (Some from) p.text (spelled ps) ∙ ap (λ o. run_from o (spelled ps)) first.runs ∙ others.runs;
+      steps = steps_from-append (Some from) p.text (spelled ps) ∙ ap (λ o. steps_from o (spelled ps)) first.steps ∙ others.steps;
       pieces_are = others.pieces_are ∙ ap (λ l. l ++ ps) first.pieces_are ∙ append_assoc (pieces_at from) (p ∷ []) ps;
       stops = others.stops;
     }
@@ -66,7 +66,7 @@ MayBegin (p ∷ ps) rest = Unit {0}
 -- the machine goes through a text from its start, finds these pieces, and may stop before the rest
 pub record Reaches (text : List ℕ) (pieces : List Piece) (rest : List ℕ) : Type 0 where
   pub to : Scanned
-  pub runs : run_from (Some text_start) text ≡ Some to
+  pub steps : steps_from (Some text_start) text ≡ Some to
   pub pieces_are : pieces_at to ≡ pieces
   pub stops : MayBegin pieces rest → StopsBefore to.mode rest
 
@@ -87,18 +87,18 @@ unfolding move_of
 free-breaks c = refl
 
 -- without a mark, the start is like any other place
-start_as_free : (text : List ℕ) (s : Scanned) (p : Piece) (ps : List Piece) → run_from (Some (fresh [])) text ≡ Some s → pieces_at s ≡ p ∷ ps → run_from (Some text_start) text ≡ Some s
+start_as_free : (text : List ℕ) (s : Scanned) (p : Piece) (ps : List Piece) → steps_from (Some (fresh [])) text ≡ Some s → pieces_at s ≡ p ∷ ps → steps_from (Some text_start) text ≡ Some s
 unfolding pieces_or
-start_as_free [] s p ps runs pieces_are =
-    let same : [] ≡ p ∷ ps = ap pieces_or runs ∙ pieces_are in
+start_as_free [] s p ps steps pieces_are =
+    let same : [] ≡ p ∷ ps = ap pieces_or steps ∙ pieces_are in
     absurd (cc)
-start_as_free (c ∷ cs) s p ps runs pieces_are =
-    let so : run_from (started [] c (start_of c)) cs ≡ Some s = sym (ap (λ (v : Move). run_from (moved (fresh []) c v) cs) (free-breaks c)) ∙ runs in
+start_as_free (c ∷ cs) s p ps steps pieces_are =
+    let so : steps_from (started [] c (start_of c)) cs ≡ Some s = sym (ap (λ (v : Move). steps_from (moved (fresh []) c v) cs) (free-breaks c)) ∙ steps in
     ⊎_elim
     (λ (h : is_mark c ≡ true).
-    let stuck : None ≡ Some s = sym (ap (λ v. run_from (started [] c v) cs) (start-mark c h)) ∙ so in
+    let stuck : None ≡ Some s = sym (ap (λ v. steps_from (started [] c v) cs) (start-mark c h)) ∙ so in
     absurd (cc))
-    (λ (h : is_mark c ≡ false). ap (λ (v : Move). run_from (moved text_start c v) cs) (start-breaks c h) ∙ so)
+    (λ (h : is_mark c ≡ false). ap (λ (v : Move). steps_from (moved text_start c v) cs) (start-breaks c h) ∙ so)
     (cases_Bool (is_mark c))
 
 stops-start : (rest : List ℕ) → begins is_mark rest ≡ false → StopsBefore modes.Start rest
@@ -110,7 +110,7 @@ reach_others p ps rest fit unmarked =
     let found = find_all (fresh []) (p ∷ ps) rest fit unmarked (stops-free _) in
     record {
       to = found.to;
-      runs = start_as_free (spelled (p ∷ ps)) found.to p ps found.runs found.pieces_are;
+      steps = start_as_free (spelled (p ∷ ps)) found.to p ps found.steps found.pieces_are;
       pieces_are = found.pieces_are;
       stops = λ h. found.stops;
     }
@@ -122,14 +122,14 @@ reach_marked text ps rest fit =
     let found = find_all (fresh (piece mark (c ∷ []) ∷ [])) ps rest fit.3 fit.2 (stops-free _) in
     subst P (sym fit.0.1) (record {
       to = found.to;
-      runs = ap (λ (v : Move). run_from (moved text_start c v) (spelled ps)) (start-closes c fit.0.2) ∙ found.runs;
+      steps = ap (λ (v : Move). steps_from (moved text_start c v) (spelled ps)) (start-closes c fit.0.2) ∙ found.steps;
       pieces_are = found.pieces_are;
       stops = λ h. found.stops;
     })
 
 -- pieces that are read before the rest are found from the start
 pub reach : (pieces : List Piece) (rest : List ℕ) → AreReadBefore pieces rest → Reaches (spelled pieces) pieces rest
-reach [] rest fit = record { to = text_start; runs = refl; pieces_are = refl; stops = stops-start rest }
+reach [] rest fit = record { to = text_start; steps = refl; pieces_are = refl; stops = stops-start rest }
 reach (p ∷ ps) rest fit = go p.class p.text fit
   where
     go : (class : Class) (text : List ℕ) → AreReadBefore (piece class text ∷ ps) rest → Reaches (spelled (piece class text ∷ ps)) (piece class text ∷ ps) rest
@@ -148,7 +148,7 @@ unfolding pieces_or
 same_pieces pieces others same first second =
     let one = reach pieces [] first in
     let two = reach others [] second in
-    let states : Some one.to ≡ Some two.to = sym one.runs ∙ ap (run_from (Some text_start)) same ∙ two.runs in
+    let states : Some one.to ≡ Some two.to = sym one.steps ∙ ap (steps_from (Some text_start)) same ∙ two.steps in
     sym one.pieces_are ∙ ap pieces_or states ∙ two.pieces_are
 
 pub one_reading_of : (pieces others : List Piece) (characters : List ℕ) → Reads pieces characters → Reads others characters → pieces ≡ others

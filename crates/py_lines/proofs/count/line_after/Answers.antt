@@ -7,7 +7,7 @@ use Rattle.py_lines.specs.LogicalLine.{line_ends}
 use Rattle.py_lines.specs.declared.count.Count.{Count}
 use Rattle.py_lines.proofs.LineScan.LineCount.{Counted, counted_push, line_ends-bytes}
 use Rattle.py_lines.proofs.Text.CharsIterator.{advances}
-use Rattle.py_lines.proofs.count.line_behind.Goals as goal
+use Rattle.py_lines.proofs.count.line_after.Goals as goal
 
 pub push-requires : goal.push-requires
 push-requires c =
