@@ -8,6 +8,6 @@ pub mod GivenLines
 pub mod FirstLines
 pub mod SettledLines
 pub mod DecidedFaults
-pub mod SettledFront
+pub mod SettledPrefixes
 pub mod SettledOrder
 pub mod SettledExistence

@@ -53,15 +53,15 @@ pub record IsLongPrefix (text : List ℕ) : Type 0 where
 -- pieces that spell `start`, and then something that is still open
 pub record Stands (IsOpen : List ℕ → Type 0) (characters start : List ℕ) : Type 0 where
   pub pieces : List Piece
-  pub front : List ℕ
-  pub spell : start ++ front ≡ characters
+  pub rest : List ℕ
+  pub spell : start ++ rest ≡ characters
   pub before : spelled pieces ≡ start
-  pub fit : AreReadBefore pieces front
-  pub inside : IsOpen front
+  pub fit : AreReadBefore pieces rest
+  pub inside : IsOpen rest
 
 -- one backslash
 abbrev pub IsSlash : List ℕ → Type 0
-IsSlash front = (slash : ℕ) × (front ≡ slash ∷ []) × (is_backslash slash ≡ true)
+IsSlash text = (slash : ℕ) × (text ≡ slash ∷ []) × (is_backslash slash ≡ true)
 
 -- a short string that starts after `start` is still open
 abbrev pub InShortString : List ℕ → List ℕ → Type 0
@@ -111,7 +111,7 @@ pub record BreaksString (before : List ℕ) (c offset : ℕ) : Type 0 where
 -- a character directly after a backslash outside strings and comments, which stands at this byte
 pub record BreaksJoin (before : List ℕ) (offset : ℕ) : Type 0 where
   pub start : List ℕ
-  pub behind : AfterBackslash before start
+  pub after : AfterBackslash before start
   pub place : offset ≡ byte_len start
 
 -- a closing bracket

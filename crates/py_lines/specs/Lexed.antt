@@ -22,7 +22,7 @@ pub record IsLexedToFault (text : List ℕ) (lines : List LogicalLine) (fault : 
   pub tail : List ℕ
   pub pieces : List Piece
   pub decodes : Decodes text characters tail
-  pub front : IsReadPrefix pieces characters
+  pub prefix : IsReadPrefix pieces characters
   pub refused : IsLexicalFault characters tail fault
   pub cut : lines ≡ lines_of pieces
 

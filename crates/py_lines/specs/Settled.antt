@@ -28,7 +28,7 @@ pub record IsSettled (text : List ℕ) (lines : List LogicalLine) : Type 0 where
   pub tail : List ℕ
   pub pieces : List Piece
   pub decodes : Decodes text characters tail
-  pub front : IsSettledPrefix pieces characters tail
+  pub prefix : IsSettledPrefix pieces characters tail
   pub cut : lines ≡ lines_of pieces
 
 -- bytes that begin no character, and that no bytes after them complete

@@ -98,15 +98,15 @@ impl Feed {
     }
 
     /// The text has this fault, from now on. It stands so many bytes after the lines that were released.
-    fn fail(&mut self, kind: FaultKind, behind: usize) -> LexError
-        requires within { behind ≤ length self.old.held.items }
-        requires text { IsUtf8 (take behind self.old.held.items) }
+    fn fail(&mut self, kind: FaultKind, offset: usize) -> LexError
+        requires within { offset ≤ length self.old.held.items }
+        requires text { IsUtf8 (take offset self.old.held.items) }
         requires room { HasRoom self.old 0 }
-        ensures { FailsAt self.old kind behind result self.new }
+        ensures { FailsAt self.old kind offset result self.new }
     {
         // Whole characters end there, as the `requires` says.
-        let front = unsafe { std::str::from_utf8_unchecked(&self.held[..behind]) };
-        self.state.fail(kind, front)
+        let prefix = unsafe { std::str::from_utf8_unchecked(&self.held[..offset]) };
+        self.state.fail(kind, prefix)
     }
 
     /// Closes the open piece, and with it the line, which ends in so many bytes of line end.
@@ -159,8 +159,8 @@ impl Feed {
             return self.close(1);
         }
         if is_hopeless(&self.held[self.state.scan.stop..]) {
-            let behind = self.state.scan.stop;
-            return Err(self.fail(FaultKind::BadUtf8, behind));
+            let offset = self.state.scan.stop;
+            return Err(self.fail(FaultKind::BadUtf8, offset));
         }
         Ok(())
     }

@@ -59,15 +59,15 @@ impl LineState {
     }
 
     /// The text has this fault, from now on. It stands after these characters, with which the next line begins.
-    pub fn fail(&mut self, kind: FaultKind, front: &str) -> LexError
-        requires bytes { self.old.place + length front.now < 2 ^ 64 }
-        requires lines { self.old.line + length front.now + 1 < 2 ^ 64 }
-        ensures { KeepsFault self.old kind (length front.now) front.now result self.new }
+    pub fn fail(&mut self, kind: FaultKind, prefix: &str) -> LexError
+        requires bytes { self.old.place + length prefix.now < 2 ^ 64 }
+        requires lines { self.old.line + length prefix.now + 1 < 2 ^ 64 }
+        ensures { KeepsFault self.old kind (length prefix.now) prefix.now result self.new }
     {
         let fault = Fault {
             kind,
-            offset: self.place + front.len() as u64,
-            line: line_after(self.line, front),
+            offset: self.place + prefix.len() as u64,
+            line: line_after(self.line, prefix),
         };
         self.fault = Some(fault);
         LexError::Fault(fault)

@@ -22,7 +22,7 @@ pub struct Source<'t> {
     /// Where the next line begins.
     pub state: LineState,
     ghost text: { ∥ IsUtf8 characters.now ∥₁ },
-    ghost front: { characters.now ≡ take (length characters.now) bytes.now },
+    ghost prefix: { characters.now ≡ take (length characters.now) bytes.now },
     ghost bad: { StartsWithNoChar (drop (length characters.now) bytes.now) },
     ghost ordered: { start ≤ state.place },
     ghost within: { state.place ≤ length characters.now },
@@ -92,14 +92,14 @@ impl<'t> Source<'t> {
     }
 
     /// The text has this fault, from now on. It stands so many bytes after the lines that were read.
-    fn fail(&mut self, kind: FaultKind, behind: usize) -> LexError
-        requires within { self.old.state.place + behind ≤ length self.old.characters.now }
-        requires boundary { IsCharBoundary self.old.characters.now (self.old.state.place + behind) }
-        ensures { FailsAfter self.old kind behind result self.new }
+    fn fail(&mut self, kind: FaultKind, offset: usize) -> LexError
+        requires within { self.old.state.place + offset ≤ length self.old.characters.now }
+        requires boundary { IsCharBoundary self.old.characters.now (self.old.state.place + offset) }
+        ensures { FailsAfter self.old kind offset result self.new }
     {
         let place = self.state.place as usize;
-        let front = &self.characters[place..place + behind];
-        self.state.fail(kind, front)
+        let prefix = &self.characters[place..place + offset];
+        self.state.fail(kind, prefix)
     }
 
     /// The fault of a text whose next character is refused.

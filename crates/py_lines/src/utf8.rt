@@ -19,14 +19,14 @@ fn is_short_ascii(bytes: &[u8]) -> bool
     if bytes.len() > 2 * SHORT {
         return false;
     }
-    let (front, rest) = bytes.split_at(SHORT);
-    front.is_ascii() && rest.is_ascii()
+    let (first, rest) = bytes.split_at(SHORT);
+    first.is_ascii() && rest.is_ascii()
 }
 
 /// The text that the bytes begin with, up to the first that begin no character.
 #[inline(always)]
 pub fn utf8_prefix(bytes: &[u8]) -> &str
-    ensures front { result.now ≡ take (length result.now) bytes.now }
+    ensures prefix { result.now ≡ take (length result.now) bytes.now }
     ensures bad { StartsWithNoChar (drop (length result.now) bytes.now) }
 {
     if is_short_ascii(bytes) {

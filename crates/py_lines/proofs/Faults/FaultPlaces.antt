@@ -26,7 +26,7 @@ use Rattle.py_lines.specs.Private.Machine.{Holds}
 use Rattle.py_lines.proofs.Machine.Soundness.{sound_at, ends_sound}
 use Rattle.py_lines.proofs.Machine.Advance.{kept, kept_if, advance, RunsTo, advances, goes_advance, stops_there}
 use Rattle.py_lines.proofs.Machine.LiveTexts.{keeps, stack_closed, reading_at, run_of_reading, live_runs, runs_live}
-use Rattle.py_lines.proofs.Machine.OpenStrings.{in_short_string, in_long_string, behind_backslash, stands_in_short, stands_behind_slash, such_mode, same_state}
+use Rattle.py_lines.proofs.Machine.OpenStrings.{in_short_string, in_long_string, after_backslash, stands_in_short, stands_after_slash, such_mode, same_state}
 
 -- the machine goes on
 abbrev IsAlive : Option Scanned → Type 0
@@ -156,7 +156,7 @@ no_string : (before : List ℕ) (s : Scanned) (c : ℕ) → steps_from (Some tex
 no_string before s c steps short offset breaks = both_ways _ short (such_mode in_short before breaks.start s (stands_in_short before breaks.start breaks.inside) steps)
 
 no_join : (before : List ℕ) (s : Scanned) → steps_from (Some text_start) before ≡ Some s → is_after_backslash s.mode ≡ false → (offset : ℕ) → ¬ (BreaksJoin before offset)
-no_join before s steps slash offset breaks = both_ways _ slash (such_mode is_after_backslash before breaks.start s (stands_behind_slash before breaks.start breaks.behind) steps)
+no_join before s steps slash offset breaks = both_ways _ slash (such_mode is_after_backslash before breaks.start s (stands_after_slash before breaks.start breaks.after) steps)
 
 no_close : (before : List ℕ) (c : ℕ) → is_closing c ≡ false → (offset : ℕ) → ¬ (ClosesWrong before c offset)
 no_close before c closing offset wrong = both_ways _ closing wrong.closes
@@ -198,7 +198,7 @@ character_fault characters before after c s st spell steps dead =
       c = c;
       is = refl;
       dies = dies;
-      fits = record { start = spelled s.done; behind = behind_backslash s before sound slash; place = sym (early s before (or_right _ _ slash)) };
+      fits = record { start = spelled s.done; after = after_backslash s before sound slash; place = sym (early s before (or_right _ _ slash)) };
       first = (no_string before s c steps.run short, tt);
     })
     (λ slash. cond_both (is_closing c) _ _ P
@@ -315,7 +315,7 @@ end_fault characters tail s st whole steps unread =
     (λ short. cond_both (in_long s.mode) _ _ P
     (λ long. record { unfinished = open_long; start = spelled s.done; is = refl; whole = whole; live = live; ends_in = in_long_string s characters sound long; place = end_place_is s st (long_not_end s.mode long) })
     (λ long. cond_both (is_after_backslash s.mode) _ _ P
-    (λ slash. record { unfinished = open_join; start = spelled s.done; is = refl; whole = whole; live = live; ends_in = behind_backslash s characters sound slash; place = end_place_is s st (slash_not_end s.mode slash) })
+    (λ slash. record { unfinished = open_join; start = spelled s.done; is = refl; whole = whole; live = live; ends_in = after_backslash s characters sound slash; place = end_place_is s st (slash_not_end s.mode slash) })
     (λ slash. bracket_fault characters tail s st whole steps unread (others_end s.mode short long slash))))
 
 -- the text is read exactly where the machine comes to an end at which it may stop, with no bracket open

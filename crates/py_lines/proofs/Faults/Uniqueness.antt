@@ -17,7 +17,7 @@ use Rattle.py_lines.proofs.Pieces.OpenBrackets.{through-append, opener_pushes, b
 use Rattle.py_lines.proofs.Machine.Soundness.{sound_at}
 use Rattle.py_lines.proofs.Machine.Advance.{RunsTo}
 use Rattle.py_lines.proofs.Machine.LiveTexts.{stack_closed, live_runs}
-use Rattle.py_lines.proofs.Machine.OpenStrings.{in_short_string, behind_backslash, stands_in_short, stands_in_long, stands_behind_slash, such_mode, such_start, same_state}
+use Rattle.py_lines.proofs.Machine.OpenStrings.{in_short_string, after_backslash, stands_in_short, stands_in_long, stands_after_slash, such_mode, such_start, same_state}
 use Rattle.py_lines.proofs.Faults.FaultPlaces.{early, late, break_in, opens_deep, short_not_end, long_not_end, slash_not_end, end_place_is}
 use Rattle.py_lines.proofs.Lexings.LinePrefix.{live_prefix, Either, either}
 
@@ -69,7 +69,7 @@ module _ (before : List ℕ) (c : ℕ) (s : Scanned) (st : List Bracket) (steps 
   short_false none = false_from_ne_true _ (λ short. none (byte_len (spelled s.done)) (record { start = spelled s.done; breaks = break_in before s st c steps dead short; inside = in_short_string s before (sound_at before s steps.run) short; place = refl }))
 
   slash_false : ((offset : ℕ) → ¬ (BreaksJoin before offset)) → is_after_backslash s.mode ≡ false
-  slash_false none = false_from_ne_true _ (λ slash. none (byte_len (spelled s.done)) (record { start = spelled s.done; behind = behind_backslash s before (sound_at before s steps.run) slash; place = refl }))
+  slash_false none = false_from_ne_true _ (λ slash. none (byte_len (spelled s.done)) (record { start = spelled s.done; after = after_backslash s before (sound_at before s steps.run) slash; place = refl }))
 
   closing_false : ((offset : ℕ) → ¬ (ClosesWrong before c offset)) → is_closing c ≡ false
   closing_false none = false_from_ne_true _ (λ closing. none (byte_len before) (record { closes = closing; place = refl }))
@@ -83,7 +83,7 @@ module _ (before : List ℕ) (c : ℕ) (s : Scanned) (st : List Bracket) (steps 
       let short = such_mode in_short before fits.start s stands steps.run in
       (kind_string s.mode c short, fits.place ∙ ap byte_len (sym (such_start in_short before fits.start s stands steps.run)) ∙ early s before (or_left _ _ short))
   named breaks_join offset fits none =
-      let stands = stands_behind_slash before fits.start fits.behind in
+      let stands = stands_after_slash before fits.start fits.after in
       let slash = such_mode is_after_backslash before fits.start s stands steps.run in
       (kind_join s.mode c (slash_not_short s.mode slash) slash, fits.place ∙ ap byte_len (sym (such_start is_after_backslash before fits.start s stands steps.run)) ∙ early s before (or_right _ _ slash))
   named closes_wrong offset fits none =
@@ -181,7 +181,7 @@ end_named open_long characters start offset s st steps is place =
     let long = such_mode in_long characters start s stands steps.run in
     (end_triple s.mode (long_not_short s.mode long) long, place ∙ ap byte_len (sym (such_start in_long characters start s stands steps.run)) ∙ sym (end_place_is s st (long_not_end s.mode long)))
 end_named open_join characters start offset s st steps is place =
-    let stands = stands_behind_slash characters start is in
+    let stands = stands_after_slash characters start is in
     let slash = such_mode is_after_backslash characters start s stands steps.run in
     (end_join s.mode (slash_not_short s.mode slash) (slash_not_long s.mode slash) slash, place ∙ ap byte_len (sym (such_start is_after_backslash characters start s stands steps.run)) ∙ sym (end_place_is s st (slash_not_end s.mode slash)))
 end_named open_bracket characters start offset s st steps is place =

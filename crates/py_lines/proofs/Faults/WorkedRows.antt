@@ -62,9 +62,9 @@ unfolding tested
 open_bracket = refl
 
 -- 'import a\nif a:\n    def f(): pass\n    import b\n@d\nx = (\n'
-open_bracket_behind_lines : fault_of (codes "import a\nif a:\n    def f(): pass\n    import b\n@d\nx = (\n") ≡ found faults.OpenBracket 53
+open_bracket_after_lines : fault_of (codes "import a\nif a:\n    def f(): pass\n    import b\n@d\nx = (\n") ≡ found faults.OpenBracket 53
 unfolding tested
-open_bracket_behind_lines = refl
+open_bracket_after_lines = refl
 
 -- "x='a"
 short_at_end : fault_of (codes "x='a") ≡ found faults.OpenString 2

@@ -44,17 +44,17 @@ place_of false n done whole first all one two = sym two
 
 module _ (text : List ℕ) (place line : ℕ) (lines : List LogicalLine) (read rest : List ℕ) (k : IsKnown text place line lines read rest) where
   -- the line of a fault in what was read
-  pub line_behind : (kind : FaultKind) (behind : ℕ) (front later : List ℕ) (fault : Fault) → front ++ later ≡ read → behind ≡ byte_len front → fault.offset ≡ place + behind → fault.line ≡ line + line_ends front → (characters after : List ℕ) → (spelled k.base ++ read) ++ after ≡ characters → IsLineOf fault characters
-  line_behind kind behind front later fault split size at number characters after spell = record {
-    front = spelled k.base ++ front;
+  pub line_after : (kind : FaultKind) (offset : ℕ) (prefix later : List ℕ) (fault : Fault) → prefix ++ later ≡ read → offset ≡ byte_len prefix → fault.offset ≡ place + offset → fault.line ≡ line + line_ends prefix → (characters after : List ℕ) → (spelled k.base ++ read) ++ after ≡ characters → IsLineOf fault characters
+  line_after kind offset prefix later fault split size at number characters after spell = record {
+    prefix = spelled k.base ++ prefix;
     rest = later ++ after;
-    spell = append_assoc (spelled k.base) front (later ++ after) ∙ ap (λ t. spelled k.base ++ t) (sym (append_assoc front later after) ∙ ap (λ t. t ++ after) split) ∙ sym (append_assoc (spelled k.base) read after) ∙ spell;
-    place = omega (arith, at, size, k.here, byte_len-append (spelled k.base) front);
-    line = omega (arith, number, k.number, base_lines k.base front (later ++ k.more) (subst (AreReadBefore k.base) (ap (λ t. t ++ k.more) (sym split) ∙ append_assoc front later k.more) k.fit));
+    spell = append_assoc (spelled k.base) prefix (later ++ after) ∙ ap (λ t. spelled k.base ++ t) (sym (append_assoc prefix later after) ∙ ap (λ t. t ++ after) split) ∙ sym (append_assoc (spelled k.base) read after) ∙ spell;
+    place = omega (arith, at, size, k.here, byte_len-append (spelled k.base) prefix);
+    line = omega (arith, number, k.number, base_lines k.base prefix (later ++ k.more) (subst (AreReadBefore k.base) (ap (λ t. t ++ k.more) (sym split) ∙ append_assoc prefix later k.more) k.fit));
   }
 
-  pub front_of : (s : Scanned) (st : List Bracket) (goes : GoesTo (line_start (first_mode place)) read s st) → EndsNoLine 0 s.done → (s.mode ≡ modes.Return → none_open st ≡ false) → HasPrefix (of.joins text place line lines read rest k s st goes).state k.base
-  front_of s st goes one_line open_yet = record {
+  pub prefix_of : (s : Scanned) (st : List Bracket) (goes : GoesTo (line_start (first_mode place)) read s st) → EndsNoLine 0 s.done → (s.mode ≡ modes.Return → none_open st ≡ false) → HasPrefix (of.joins text place line lines read rest k s st goes).state k.base
+  prefix_of s st goes one_line open_yet = record {
     others = pieces_at s;
     spell = (of.joins text place line lines read rest k s st goes).pieces;
     ended = k.ended;
@@ -68,9 +68,9 @@ module _ (text : List ℕ) (place line : ℕ) (lines : List LogicalLine) (read r
       let characters = spelled k.base ++ read in
       let bad : StartsWithNoChar rest = subst StartsWithNoChar (append-nil rest) (hopeless []) in
       let decodes : Decodes (of.bytes text place line lines read rest k) characters (d ∷ ds) = subst (λ t. Decodes (of.bytes text place line lines read rest k) characters t) is (of.decodes text place line lines read rest k bad) in
-      let lexed = refused_at_bytes (of.bytes text place line lines read rest k) characters d ds j.state j.st k.base fault decodes j.steps (front_of s st goes one_line open_yet) kind
+      let lexed = refused_at_bytes (of.bytes text place line lines read rest k) characters d ds j.state j.st k.base fault decodes j.steps (prefix_of s st goes one_line open_yet) kind
       (omega (arith, at, k.here, byte_len-append (spelled k.base) read))
-      (line_behind faults.BadUtf8 (byte_len read) read [] fault (append-nil read) refl at number characters [] (append-nil _)) in (
+      (line_after faults.BadUtf8 (byte_len read) read [] fault (append-nil read) refl at number characters [] (append-nil _)) in (
         record {
           characters = lexed.characters;
           tail = lexed.tail;
@@ -102,7 +102,7 @@ module _ (text : List ℕ) (place line : ℕ) (lines : List LogicalLine) (read :
   joins_before : (s : Scanned) (st : List Bracket) → GoesTo (line_start (first_mode place)) read s st → Joined k.base read s st (c ∷ k.more)
   joins_before s st goes = joined place k.base (c ∷ k.more) (of.level text place line lines (read ++ c ∷ []) [] k) read s st before_fit (base_of place k.base (read ++ c ∷ k.more) before_fit k.ended k.here) goes
 
-  pub decided_character : (s : Scanned) (st : List Bracket) → GoesTo (line_start (first_mode place)) read s st → EndsNoLine 0 s.done → stack_if (step s c) ≡ None → (is_return_mode s.mode && none_open st) && not (is_line_feed c) ≡ false → (fault : Fault) → fault.kind ≡ character_kind s.mode c → fault.offset ≡ place + refused_after s read → (w : Within read (refused_after s read)) → fault.line ≡ line + line_ends w.front → Decides all_known fault × IsLexed all_known lines (Some fault)
+  pub decided_character : (s : Scanned) (st : List Bracket) → GoesTo (line_start (first_mode place)) read s st → EndsNoLine 0 s.done → stack_if (step s c) ≡ None → (is_return_mode s.mode && none_open st) && not (is_line_feed c) ≡ false → (fault : Fault) → fault.kind ≡ character_kind s.mode c → fault.offset ≡ place + refused_after s read → (w : Within read (refused_after s read)) → fault.line ≡ line + line_ends w.prefix → Decides all_known fault × IsLexed all_known lines (Some fault)
   decided_character s st goes one_line refuses not_yet fault kind at w number =
       let j = joins_before s st goes in
       let level = of.level text place line lines (read ++ c ∷ []) [] k in
@@ -111,15 +111,15 @@ module _ (text : List ℕ) (place line : ℕ) (lines : List LogicalLine) (read :
       let decodes : Decodes all_known characters [] = of.decodes text place line lines (read ++ c ∷ []) [] k nothing_bad in
       let dead = dead_at k.base read (c ∷ k.more) k.more s st c j level refl refuses in
       let open_yet = open_return s.mode s.done s.held c st goes.stack refuses not_yet in
-      let front : HasPrefix j.state k.base = record { others = pieces_at s; spell = j.pieces; ended = k.ended; none = closed_one_line s.mode s.done s.held st goes.stack one_line open_yet } in
+      let prefix : HasPrefix j.state k.base = record { others = pieces_at s; spell = j.pieces; ended = k.ended; none = closed_one_line s.mode s.done s.held st goes.stack one_line open_yet } in
       let kind_is : fault.kind ≡ character_kind j.state.mode c = kind ∙ same_kind s.mode j.state.mode c (sym j.short) (sym j.slash) in
       let flags : in_short s.mode || is_after_backslash s.mode ≡ in_short j.state.mode || is_after_backslash j.state.mode = ap (λ (b : Bool). b || is_after_backslash s.mode) (sym j.short) ∙ ap (λ (b : Bool). in_short j.state.mode || b) (sym j.slash) in
       let here : fault.offset ≡ character_place j.state (spelled k.base ++ read) =
       at ∙ ap (λ (n : ℕ). n + refused_after s read) k.here
       ∙ place_of (in_short s.mode || is_after_backslash s.mode) (byte_len (spelled k.base)) (byte_len (spelled s.done)) (byte_len read) (byte_len (spelled k.base ++ read)) (byte_len (spelled j.state.done)) j.start (byte_len-append (spelled k.base) read)
       ∙ ap (λ (b : Bool). if b then byte_len (spelled j.state.done) else byte_len (spelled k.base ++ read)) flags in
-      let lexed = refused_at_character all_known characters [] (spelled k.base ++ read) [] c j.state j.st k.base fault decodes spell j.steps dead front kind_is here
-      (line_behind text place line lines (read ++ c ∷ []) [] k fault.kind (refused_after s read) w.front (w.later ++ c ∷ []) fault (sym (append_assoc w.front w.later (c ∷ [])) ∙ ap (λ t. t ++ c ∷ []) w.split) w.size at number characters [] (append-nil _)) in
+      let lexed = refused_at_character all_known characters [] (spelled k.base ++ read) [] c j.state j.st k.base fault decodes spell j.steps dead prefix kind_is here
+      (line_after text place line lines (read ++ c ∷ []) [] k fault.kind (refused_after s read) w.prefix (w.later ++ c ∷ []) fault (sym (append_assoc w.prefix w.later (c ∷ [])) ∙ ap (λ t. t ++ c ∷ []) w.split) w.size at number characters [] (append-nil _)) in
       let found = character_fault characters (spelled k.base ++ read) [] c j.state j.st spell j.steps dead in (
         record {
           characters = characters;

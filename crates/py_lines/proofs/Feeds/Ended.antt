@@ -66,9 +66,9 @@ module _ (text : List ℕ) (place line : ℕ) (lines : List LogicalLine) (read r
       let characters = spelled k.base ++ read in
       let decodes : Decodes text characters (d ∷ ds) = subst (λ t. Decodes t characters (d ∷ ds)) all (subst (λ t. Decodes (of.bytes text place line lines read rest k) characters t) is (of.decodes text place line lines read rest k bad)) in
       subst (λ l. IsLexedToFault text l fault) (sym k.cut)
-      (refused_at_bytes text characters d ds j.state j.st k.base fault decodes j.steps (decided.front_of text place line lines read rest k s st goes one_line open_yet) kind
+      (refused_at_bytes text characters d ds j.state j.st k.base fault decodes j.steps (decided.prefix_of text place line lines read rest k s st goes one_line open_yet) kind
       (omega (arith, at, k.here, byte_len-append (spelled k.base) read))
-      (decided.line_behind text place line lines read rest k faults.BadUtf8 (byte_len read) read [] fault (append-nil read) refl at number characters [] (append-nil _)))
+      (decided.line_after text place line lines read rest k faults.BadUtf8 (byte_len read) read [] fault (append-nil read) refl at number characters [] (append-nil _)))
 
   all_decoded : rest ≡ [] → Decodes text (spelled k.base ++ read) []
   all_decoded none = subst (λ t. Decodes t (spelled k.base ++ read) []) all (subst (λ t. Decodes (of.bytes text place line lines read rest k) (spelled k.base ++ read) t) none (of.decodes text place line lines read rest k (subst StartsWithNoChar (sym none) nothing_bad)))
@@ -89,17 +89,17 @@ module _ (text : List ℕ) (place line : ℕ) (lines : List LogicalLine) (read r
   place_at s st true final (inl unfinal) = absurd (let clash = sym final ∙ unfinal in cc)
   place_at s st true final (inr (c, others, top)) = ap (λ l. place + top_place l) top ∙ ap (λ (n : ℕ). n + c.place) k.here ∙ ap (λ l. top_place (shift (byte_len (spelled k.base)) l)) (sym top)
 
-  pub ended_unfinished : rest ≡ [] → (s : Scanned) (st : List Bracket) (goes : GoesTo (line_start (first_mode place)) read s st) → EndsNoLine 0 s.done → (s.mode ≡ modes.Return → none_open st ≡ false) → 0 < byte_len read → (is_final s.mode ≡ false) ⊎ ((b : Bracket) × (others : List Bracket) × (st ≡ b ∷ others)) → (fault : Fault) → fault.kind ≡ end_kind s.mode → fault.offset ≡ place + open_after s st → (w : Within read (open_after s st)) → fault.line ≡ line + line_ends w.front → IsLexed text lines (Some fault)
+  pub ended_unfinished : rest ≡ [] → (s : Scanned) (st : List Bracket) (goes : GoesTo (line_start (first_mode place)) read s st) → EndsNoLine 0 s.done → (s.mode ≡ modes.Return → none_open st ≡ false) → 0 < byte_len read → (is_final s.mode ≡ false) ⊎ ((b : Bracket) × (others : List Bracket) × (st ≡ b ∷ others)) → (fault : Fault) → fault.kind ≡ end_kind s.mode → fault.offset ≡ place + open_after s st → (w : Within read (open_after s st)) → fault.line ≡ line + line_ends w.prefix → IsLexed text lines (Some fault)
   ended_unfinished none s st goes one_line open_yet some unfinished fault kind at w number =
       let j = of.joins text place line lines read rest k s st goes in
       let characters = spelled k.base ++ read in
       let here : fault.offset ≡ end_place j.state j.st = at ∙ place_at s st (is_final s.mode) refl unfinished ∙ ap (λ (t : Scanned). end_place t (shift (byte_len (spelled k.base)) st)) (sym (j.same some).0) ∙ ap (end_place j.state) (sym (j.same some).1) in
       subst (λ l. IsLexedToFault text l fault) (sym k.cut)
       (refused_at_end text characters j.state j.st k.base fault (all_decoded none) j.steps (unread s st goes some unfinished)
-      (decided.front_of text place line lines read rest k s st goes one_line open_yet)
+      (decided.prefix_of text place line lines read rest k s st goes one_line open_yet)
       (kind ∙ ap (λ (t : Scanned). end_kind t.mode) (sym (j.same some).0))
       here
-      (decided.line_behind text place line lines read rest k fault.kind (open_after s st) w.front w.later fault w.split w.size at number characters [] (append-nil _)))
+      (decided.line_after text place line lines read rest k fault.kind (open_after s st) w.prefix w.later fault w.split w.size at number characters [] (append-nil _)))
 
   -- the text's last line
   pub ended_line : rest ≡ [] → (s : Scanned) → GoesTo (line_start (first_mode place)) read s [] → is_final s.mode ≡ true → 0 < byte_len read → cut 0 (pieces_at s) ≡ pieces_at s ∷ [] → IsLexed text (lines ++ line_of place line (pieces_at s) ∷ []) None

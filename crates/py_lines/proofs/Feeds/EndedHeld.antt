@@ -64,7 +64,7 @@ module _ (f : Feed) (read rest : List ℕ) (o : IsOpen f read rest) where
       go text lines ends (d ∷ ds) is =
           let k = known_at text lines ends (omega (arith, some, open_size f read rest o)) in
           let stop = open_stop f read rest o in
-          let w : Within read f.state.scan.stop = record { front = read; later = []; split = append-nil read; size = stop } in
+          let w : Within read f.state.scan.stop = record { prefix = read; later = []; split = append-nil read; size = stop } in
           let taken : take f.state.scan.stop f.held.items ≡ encode_utf8_all read = (within_held f read rest o f.state.scan.stop w).1 in
           ended_bytes text f.state.place f.state.line lines read rest k (whole_at text lines ends) o.way.state (stack_of f.state.scan.brackets) (way_goes o.way) o.way.one_line (open_yet not_yet) d ds is bad fault
           (ap (λ (x : Fault). x.kind) same ∙ fails.keeps.at.is)
@@ -72,37 +72,37 @@ module _ (f : Feed) (read rest : List ℕ) (o : IsOpen f read rest) where
           (ap (λ (x : Fault). x.line) same ∙ fails.keeps.at.line read (sym taken))
 
   -- where something is open
-  open_place : (behind : ℕ) → IsOpenFrom f.state.scan behind → behind ≡ open_after o.way.state (stack_of f.state.scan.brackets)
-  open_place behind (inl (unfinal, is)) =
+  open_place : (offset : ℕ) → IsOpenFrom f.state.scan offset → offset ≡ open_after o.way.state (stack_of f.state.scan.brackets)
+  open_place offset (inl (unfinal, is)) =
       is ∙ o.way.tallies.start ∙ ap (λ (b : Bool). if b then top_place (stack_of f.state.scan.brackets) else byte_len (spelled o.way.state.done)) (sym unfinal ∙ ap is_final o.way.tallies.mode)
-  open_place behind (inr (final, (b, others, top, is))) =
+  open_place offset (inr (final, (b, others, top, is))) =
       is ∙ ap (λ l. top_place l) (sym top) ∙ ap (λ (x : Bool). if x then top_place (stack_of f.state.scan.brackets) else byte_len (spelled o.way.state.done)) (sym final ∙ ap is_final o.way.tallies.mode)
 
-  open_so : (behind : ℕ) → IsOpenFrom f.state.scan behind → (is_final o.way.state.mode ≡ false) ⊎ ((b : Bracket) × (others : List Bracket) × (stack_of f.state.scan.brackets ≡ b ∷ others))
-  open_so behind (inl (unfinal, is)) = inl (ap is_final (sym o.way.tallies.mode) ∙ unfinal)
-  open_so behind (inr (final, (b, others, top, is))) = inr (b, others, top)
+  open_so : (offset : ℕ) → IsOpenFrom f.state.scan offset → (is_final o.way.state.mode ≡ false) ⊎ ((b : Bracket) × (others : List Bracket) × (stack_of f.state.scan.brackets ≡ b ∷ others))
+  open_so offset (inl (unfinal, is)) = inl (ap is_final (sym o.way.tallies.mode) ∙ unfinal)
+  open_so offset (inr (final, (b, others, top, is))) = inr (b, others, top)
 
-  pub unfinished_within : (behind : ℕ) → IsOpenFrom f.state.scan behind → Within read behind
-  unfinished_within behind is = within_open f.state.scan read o.way.state (open_sound f read rest o) o.way.tallies o.way.stacked behind is
+  pub unfinished_within : (offset : ℕ) → IsOpenFrom f.state.scan offset → Within read offset
+  unfinished_within offset is = within_open f.state.scan read o.way.state (open_sound f read rest o) o.way.tallies o.way.stacked offset is
 
   -- something is open
-  pub ends_open : (new : Feed) (fault : Fault) (behind : ℕ) → rest ≡ [] → 0 < length f.held.items → is_returned f.state.scan ≡ false → IsOpenFrom f.state.scan behind → FailsAt f (end_kind f.state.scan.piece.mode) behind (lex.Fault fault) new → f.ready ≡ None → IsEndFault f fault new
-  ends_open new fault behind none some not_yet unfinished fails not_ready =
+  pub ends_open : (new : Feed) (fault : Fault) (offset : ℕ) → rest ≡ [] → 0 < length f.held.items → is_returned f.state.scan ≡ false → IsOpenFrom f.state.scan offset → FailsAt f (end_kind f.state.scan.piece.mode) offset (lex.Fault fault) new → f.ready ≡ None → IsEndFault f fault new
+  ends_open new fault offset none some not_yet unfinished fails not_ready =
       let same : fault ≡ fails.keeps.fault = (let x = fails.keeps.error_is in cc) in
-      let place_is = open_place behind unfinished in
+      let place_is = open_place offset unfinished in
       record {
         text = fails_keep f new _ _ _ fails;
         none_ready = ap (λ (g : Feed). g.ready) fails.same ∙ not_ready;
         kept = ap (λ (s : LineState). s.fault) fails.keeps.same ∙ ap Some (sym same);
         lexed = λ text lines ends.
             let k = known_at text lines ends some in
-            let w : Within read (open_after o.way.state (stack_of f.state.scan.brackets)) = subst (Within read) place_is (unfinished_within behind unfinished) in
-            let taken : take behind f.held.items ≡ encode_utf8_all w.front = ap (λ (n : ℕ). take n f.held.items) place_is ∙ (within_held f read rest o (open_after o.way.state (stack_of f.state.scan.brackets)) w).1 in
-            ended_unfinished text f.state.place f.state.line lines read rest k (whole_at text lines ends) none o.way.state (stack_of f.state.scan.brackets) (way_goes o.way) o.way.one_line (open_yet not_yet) (omega (arith, some, open_size f read rest o, ap length none)) (open_so behind unfinished) fault
+            let w : Within read (open_after o.way.state (stack_of f.state.scan.brackets)) = subst (Within read) place_is (unfinished_within offset unfinished) in
+            let taken : take offset f.held.items ≡ encode_utf8_all w.prefix = ap (λ (n : ℕ). take n f.held.items) place_is ∙ (within_held f read rest o (open_after o.way.state (stack_of f.state.scan.brackets)) w).1 in
+            ended_unfinished text f.state.place f.state.line lines read rest k (whole_at text lines ends) none o.way.state (stack_of f.state.scan.brackets) (way_goes o.way) o.way.one_line (open_yet not_yet) (omega (arith, some, open_size f read rest o, ap length none)) (open_so offset unfinished) fault
             (ap (λ (x : Fault). x.kind) same ∙ fails.keeps.at.is ∙ ap end_kind o.way.tallies.mode)
             (ap (λ (x : Fault). x.offset) same ∙ fails.keeps.at.place ∙ ap (λ (n : ℕ). f.state.place + n) place_is)
             w
-            (ap (λ (x : Fault). x.line) same ∙ fails.keeps.at.line w.front (sym taken));
+            (ap (λ (x : Fault). x.line) same ∙ fails.keeps.at.line w.prefix (sym taken));
       }
 
   -- the last line
@@ -162,10 +162,10 @@ module _ (f : Feed) (read rest : List ℕ) (o : IsOpen f read rest) where
       subst (λ (e : LexError). EndsHeld f (Err e) new) (sym fails.keeps.error_is)
       (ends_in_bytes new fails.keeps.fault part.none some (false_from_ne_true _ (λ returned. omega (arith, some, ap length (part.last returned)))) (subst (λ (e : LexError). FailsAt f BadUtf8 f.state.scan.stop e new) fails.keeps.error_is fails) not_ready)
 
-  pub ends_so_open : (new : Feed) (error : LexError) (kind : FaultKind) (behind : ℕ) → kind ≡ end_kind f.state.scan.piece.mode → rest ≡ [] → 0 < length f.held.items → is_returned f.state.scan ≡ false → IsOpenFrom f.state.scan behind → FailsAt f kind behind error new → f.ready ≡ None → EndsHeld f (Err error) new
-  ends_so_open new error kind behind kind_is none some not_yet unfinished fails not_ready =
+  pub ends_so_open : (new : Feed) (error : LexError) (kind : FaultKind) (offset : ℕ) → kind ≡ end_kind f.state.scan.piece.mode → rest ≡ [] → 0 < length f.held.items → is_returned f.state.scan ≡ false → IsOpenFrom f.state.scan offset → FailsAt f kind offset error new → f.ready ≡ None → EndsHeld f (Err error) new
+  ends_so_open new error kind offset kind_is none some not_yet unfinished fails not_ready =
       subst (λ (e : LexError). EndsHeld f (Err e) new) (sym fails.keeps.error_is)
-      (ends_open new fails.keeps.fault behind none some not_yet unfinished (subst (λ (k : FaultKind). FailsAt f k behind (lex.Fault fails.keeps.fault) new) kind_is (subst (λ (e : LexError). FailsAt f kind behind e new) fails.keeps.error_is fails)) not_ready)
+      (ends_open new fails.keeps.fault offset none some not_yet unfinished (subst (λ (k : FaultKind). FailsAt f k offset (lex.Fault fails.keeps.fault) new) kind_is (subst (λ (e : LexError). FailsAt f kind offset e new) fails.keeps.error_is fails)) not_ready)
 
   pub ends_so_plain : (new : Feed) (result : Result (Unit {0}) LexError) → rest ≡ [] → 0 < length f.held.items → is_returned f.state.scan ≡ false → IsUnfinished f.state.scan None → ClosesLine f 0 result new → EndsHeld f result new
   ends_so_plain new (Ok done) none some not_yet unfinished (keeps, ready, fault, closes) = ends_plain new none some not_yet unfinished keeps fault ready closes

@@ -38,8 +38,8 @@ use Rattle.py_lines.proofs.Feeds.Steps.{open_stop, within_held, refused_held}
 -- some of the bytes that the text goes on with
 pub goes_with_first : (text : List ℕ) (place : ℕ) (first later : List ℕ) → GoesOnWith text place (first ++ later) → GoesOnWith text place first
 goes_with_first text place first later goes =
-    let behind : (first ++ later) ++ drop (length (first ++ later)) (drop place text) ≡ drop place text = ap (λ t. t ++ drop (length (first ++ later)) (drop place text)) (sym goes) ∙ take-append-drop (length (first ++ later)) (drop place text) in
-    ap (take (length first)) (sym behind ∙ append_assoc first later (drop (length (first ++ later)) (drop place text))) ∙ take-append_seam first (later ++ drop (length (first ++ later)) (drop place text))
+    let offset : (first ++ later) ++ drop (length (first ++ later)) (drop place text) ≡ drop place text = ap (λ t. t ++ drop (length (first ++ later)) (drop place text)) (sym goes) ∙ take-append-drop (length (first ++ later)) (drop place text) in
+    ap (take (length first)) (sym offset ∙ append_assoc first later (drop (length (first ++ later)) (drop place text))) ∙ take-append_seam first (later ++ drop (length (first ++ later)) (drop place text))
 
 -- a fault that so many bytes after the lines given decide, and that the text has after these lines
 pub record IsDecidedAt (text : List ℕ) (place : ℕ) (lines : List LogicalLine) (most : ℕ) (fault : Fault) : Type 0 where
@@ -79,13 +79,13 @@ by_character f new read rest o fault c after scalar is r text lines first goes =
     let same : fault ≡ fails.keeps.fault = (let e = fails.keeps.error_is in cc) in
     let place_is = place_of_refused f read rest o way in
     let w : Within read (refused_after way.state read) = subst (Within read) place_is (refused_held f read rest o) in
-    let taken : take (refused_place f.state.scan) f.held.items ≡ encode_utf8_all w.front = ap (λ (n : ℕ). take n f.held.items) place_is ∙ (within_held f read rest o (refused_after way.state read) w).1 in
+    let taken : take (refused_place f.state.scan) f.held.items ≡ encode_utf8_all w.prefix = ap (λ (n : ℕ). take n f.held.items) place_is ∙ (within_held f read rest o (refused_after way.state read) w).1 in
     let not_yet : (is_return_mode way.state.mode && none_open (stack_of f.state.scan.brackets)) && not (is_line_feed c) ≡ false = ap (λ (m : Mode). (is_return_mode m && none_open (stack_of f.state.scan.brackets)) && not (is_line_feed c)) (sym way.tallies.mode) ∙ r.not_yet in
     let both = decided_character text f.state.place f.state.line lines read c k way.state (stack_of f.state.scan.brackets) (way_goes way) way.one_line r.refuses not_yet fault
     (ap (λ (x : Fault). x.kind) same ∙ fails.keeps.at.is ∙ ap (λ (m : Mode). character_kind m c) way.tallies.mode)
     (ap (λ (x : Fault). x.offset) same ∙ fails.keeps.at.place ∙ ap (λ (n : ℕ). f.state.place + n) place_is)
     w
-    (ap (λ (x : Fault). x.line) same ∙ fails.keeps.at.line w.front (sym taken)) in
+    (ap (λ (x : Fault). x.line) same ∙ fails.keeps.at.line w.prefix (sym taken)) in
     decided_whole text f.state.place lines (length (encode_utf8_all more ++ [])) (length f.held.items) fault (omega (arith, plain, ap length held, length-append (encode_utf8_all more) after)) both
 
 -- bytes that nothing completes
@@ -96,7 +96,7 @@ by_bytes f new read rest o fault way hopeless open_yet fails text lines first go
     let k = is_known text f.state.place f.state.line lines read rest first o.scalars (subst (GoesOnWith text f.state.place) (sym o.spell) goes) some in
     let same : fault ≡ fails.keeps.fault = (let e = fails.keeps.error_is in cc) in
     let stop = open_stop f read rest o in
-    let w : Within read f.state.scan.stop = record { front = read; later = []; split = append-nil read; size = stop } in
+    let w : Within read f.state.scan.stop = record { prefix = read; later = []; split = append-nil read; size = stop } in
     let taken : take f.state.scan.stop f.held.items ≡ encode_utf8_all read = (within_held f read rest o f.state.scan.stop w).1 in
     let returned : is_return_mode way.state.mode && none_open (stack_of f.state.scan.brackets) ≡ false = ap (λ (m : Mode). is_return_mode m && none_open (stack_of f.state.scan.brackets)) (sym way.tallies.mode) ∙ open_yet in
     let both = decided_bytes text f.state.place f.state.line lines read rest k way.state (stack_of f.state.scan.brackets) (way_goes way) way.one_line (end_return way.state.mode (stack_of f.state.scan.brackets) returned) d ds is hopeless fault
@@ -123,10 +123,10 @@ failed_held old new fault e text lines first goes =
 pub failed_keeps : (old new : Feed) (fault : Fault) → FailsHeld old (lex.Fault fault) new → KeepsText old new × (new.ready ≡ None) × (new.state.fault ≡ Some fault)
 failed_keeps old new fault e = go e.fails
   where
-    at : (kind : FaultKind) (behind : ℕ) → FailsAt e.mid kind behind (lex.Fault fault) new → KeepsText old new × (new.ready ≡ None) × (new.state.fault ≡ Some fault)
-    at kind behind fails =
+    at : (kind : FaultKind) (offset : ℕ) → FailsAt e.mid kind offset (lex.Fault fault) new → KeepsText old new × (new.ready ≡ None) × (new.state.fault ≡ Some fault)
+    at kind offset fails =
         let same : fault ≡ fails.keeps.fault = (let x = fails.keeps.error_is in cc) in
-        (keeps_on old e.mid new e.text (fails_keep e.mid new kind behind (lex.Fault fault) fails), ap (λ (f : Feed). f.ready) fails.same ∙ e.not_ready, ap (λ (s : LineState). s.fault) fails.keeps.same ∙ ap Some (sym same))
+        (keeps_on old e.mid new e.text (fails_keep e.mid new kind offset (lex.Fault fault) fails), ap (λ (f : Feed). f.ready) fails.same ∙ e.not_ready, ap (λ (s : LineState). s.fault) fails.keeps.same ∙ ap Some (sym same))
 
     go : FailsNext e.mid e.read e.rest (lex.Fault fault) new → KeepsText old new × (new.ready ≡ None) × (new.state.fault ≡ Some fault)
     go (FailsNext.at_character c after scalar is refuses) = at (character_kind e.mid.state.scan.piece.mode c) (refused_place e.mid.state.scan) refuses.fails

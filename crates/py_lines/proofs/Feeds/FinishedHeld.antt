@@ -205,11 +205,11 @@ finish_now old f no_fault e =
     record {
       scans = λ text lines scanning whole.
           let lexed = subst (λ r. IsLexed text (lines ++ ready_lines r) None × HoldsReady f.held.items r) (same_ready f.ready f) (e.lexed text lines scanning whole) in
-          let behind : drop old.state.place text ≡ old.held.items = sym (take_all (length old.held.items) (drop old.state.place text) (omega (arith, whole, length-drop old.state.place text))) ∙ scanning.held in
+          let from_there : drop old.state.place text ≡ old.held.items = sym (take_all (length old.held.items) (drop old.state.place text) (omega (arith, whole, length-drop old.state.place text))) ∙ scanning.held in
           record {
             first = first_kept old f text lines e.text scanning.first;
             lexed = lexed.0;
-            held = held ∙ sym behind ∙ ap (λ (n : ℕ). drop n text) (sym e.text.place);
+            held = held ∙ sym from_there ∙ ap (λ (n : ℕ). drop n text) (sym e.text.place);
             whole = lexed.1;
             ended = refl;
             no_fault = e.fault ∙ no_fault;

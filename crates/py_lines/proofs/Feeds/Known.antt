@@ -47,9 +47,9 @@ known_after text place line lines read rest first fine goes ends =
     let left = encode_utf8_all first.rest ++ first.tail in
     let bytes = encode_utf8_all (spelled base) in
     let whole : text ≡ bytes ++ left = sym first.decodes.spell ∙ ap (λ t. encode_utf8_all t ++ first.tail) (sym first.spell) ∙ ap (λ t. t ++ first.tail) (encodes-append (spelled base) first.rest) ∙ append_assoc bytes (encode_utf8_all first.rest) first.tail in
-    let behind : drop place text ≡ left = ap (λ (n : ℕ). drop n text) first.here ∙ ap (drop (byte_len (spelled base))) whole ∙ drop-append_seam bytes left in
-    let front : take place text ≡ bytes = ap (λ (n : ℕ). take n text) first.here ∙ ap (take (byte_len (spelled base))) whole ∙ take-append_seam bytes left in
-    let taken : take (length held) left ≡ held = ap (take (length held)) (sym behind) ∙ goes in
+    let from_there : drop place text ≡ left = ap (λ (n : ℕ). drop n text) first.here ∙ ap (drop (byte_len (spelled base))) whole ∙ drop-append_seam bytes left in
+    let prefix : take place text ≡ bytes = ap (λ (n : ℕ). take n text) first.here ∙ ap (take (byte_len (spelled base))) whole ∙ take-append_seam bytes left in
+    let taken : take (length held) left ≡ held = ap (take (length held)) (sym from_there) ∙ goes in
     let split : encode_utf8_all read ++ (rest ++ drop (length held) left) ≡ left = sym (append_assoc (encode_utf8_all read) rest (drop (length held) left)) ∙ ap (λ t. t ++ drop (length held) left) (sym taken) ∙ take-append-drop (length held) left in
     let parts = all_scalars-parts (spelled base) first.rest (ap all_scalars first.spell ∙ first.decodes.are) in
     let on = goes_on read (rest ++ drop (length held) left) first.rest first.tail fine parts.1 first.decodes.bad split in
@@ -64,7 +64,7 @@ known_after text place line lines read rest first fine goes ends =
       number = first.number;
       cut = first.cut;
       scalars = all_scalars-append (spelled base) read parts.0 fine;
-      known = take-add place (length held) text ∙ ap (λ t. t ++ take (length held) (drop place text)) front ∙ ap (λ t. bytes ++ t) goes ∙ sym (append_assoc bytes (encode_utf8_all read) rest) ∙ ap (λ t. t ++ rest) (sym (encodes-append (spelled base) read));
+      known = take-add place (length held) text ∙ ap (λ t. t ++ take (length held) (drop place text)) prefix ∙ ap (λ t. bytes ++ t) goes ∙ sym (append_assoc bytes (encode_utf8_all read) rest) ∙ ap (λ t. t ++ rest) (sym (encodes-append (spelled base) read));
       tail = first.tail;
       beyond = drop (length held) left;
       follow = on.left;
@@ -82,9 +82,9 @@ is_known text place line lines read rest first fine goes some = known_after text
     let left = encode_utf8_all first.rest ++ first.tail in
     let bytes = encode_utf8_all (spelled first.pieces) in
     let whole : text ≡ bytes ++ left = sym first.decodes.spell ∙ ap (λ t. encode_utf8_all t ++ first.tail) (sym first.spell) ∙ ap (λ t. t ++ first.tail) (encodes-append (spelled first.pieces) first.rest) ∙ append_assoc bytes (encode_utf8_all first.rest) first.tail in
-    let behind : drop place text ≡ left = ap (λ (n : ℕ). drop n text) first.here ∙ ap (drop (byte_len (spelled first.pieces))) whole ∙ drop-append_seam bytes left in
+    let from_there : drop place text ≡ left = ap (λ (n : ℕ). drop n text) first.here ∙ ap (drop (byte_len (spelled first.pieces))) whole ∙ drop-append_seam bytes left in
     let none : length left ≡ 0 = length-append (encode_utf8_all first.rest) first.tail ∙ no_length first.rest first.tail nothing in
-    omega (arith, some, none, ap length goes, ap length behind, length-take (length held) (drop place text)))) first.ended)
+    omega (arith, some, none, ap length goes, ap length from_there, length-take (length held) (drop place text)))) first.ended)
 
 module _ (text : List ℕ) (place line : ℕ) (lines : List LogicalLine) (read rest : List ℕ) (k : IsKnown text place line lines read rest) where
   abbrev pub bytes : List ℕ

@@ -26,8 +26,8 @@ pub keeps_self : (f : Feed) → KeepsText f f
 keeps_self f = record { held = refl; place = refl; line = refl; ended = refl }
 
 -- a fault keeps all that is held
-pub fails_keep : (old new : Feed) (kind : FaultKind) (behind : ℕ) (error : LexError) → FailsAt old kind behind error new → KeepsText old new
-fails_keep old new kind behind error fails = record {
+pub fails_keep : (old new : Feed) (kind : FaultKind) (offset : ℕ) (error : LexError) → FailsAt old kind offset error new → KeepsText old new
+fails_keep old new kind offset error fails = record {
   held = ap (λ (f : Feed). f.held) fails.same;
   place = ap (λ (s : LineState). s.place) fails.keeps.same;
   line = ap (λ (s : LineState). s.line) fails.keeps.same;
@@ -107,9 +107,9 @@ part_fails f new read rest error o ready hopeless open_yet fails = subst (λ (e 
 })
 
 -- the next character is refused
-pub held_refused : (old mid new : Feed) (read rest : List ℕ) (c : ℕ) (kind : FaultKind) (behind : ℕ) (error : LexError) → KeepsText old mid → mid.ready ≡ None → StopsHeld mid (stops.Refused c) read rest → kind ≡ character_kind mid.state.scan.piece.mode c → behind ≡ refused_place mid.state.scan → FailsAt mid kind behind error new → ScansHeld old (Err error) new
-held_refused old mid new read rest c kind behind error keeps ready s kind_is behind_is fails =
-    let moved : FailsAt mid (character_kind mid.state.scan.piece.mode c) (refused_place mid.state.scan) error new = subst (λ (n : ℕ). FailsAt mid (character_kind mid.state.scan.piece.mode c) n error new) behind_is (subst (λ (k : FaultKind). FailsAt mid k behind error new) kind_is fails) in
+pub held_refused : (old mid new : Feed) (read rest : List ℕ) (c : ℕ) (kind : FaultKind) (offset : ℕ) (error : LexError) → KeepsText old mid → mid.ready ≡ None → StopsHeld mid (stops.Refused c) read rest → kind ≡ character_kind mid.state.scan.piece.mode c → offset ≡ refused_place mid.state.scan → FailsAt mid kind offset error new → ScansHeld old (Err error) new
+held_refused old mid new read rest c kind offset error keeps ready s kind_is after_is fails =
+    let moved : FailsAt mid (character_kind mid.state.scan.piece.mode c) (refused_place mid.state.scan) error new = subst (λ (n : ℕ). FailsAt mid (character_kind mid.state.scan.piece.mode c) n error new) after_is (subst (λ (k : FaultKind). FailsAt mid k offset error new) kind_is fails) in
     subst (λ (e : LexError). ScansHeld old (Err e) new) (sym moved.keeps.error_is) (record {
       mid = mid;
       text = keeps;

@@ -23,10 +23,10 @@ use Rattle.py_lines.proofs.Feeds.Known.{IsKnown}
 -- settled lines are the first of every text that goes on
 pub settled_first : (text more : List ℕ) (lines : List LogicalLine) (s : IsSettled text lines) → AreFirstLines (text ++ more) (byte_len (spelled s.pieces)) (1 + line_ends (spelled s.pieces)) lines
 settled_first text more lines s =
-    let front = s.front in
+    let prefix = s.prefix in
     let whole = decoding (text ++ more) in
-    let parts = all_scalars-parts (spelled s.pieces) front.rest (ap all_scalars front.spell ∙ s.decodes.are) in
-    let on = goes_on (spelled s.pieces) ((encode_utf8_all front.rest ++ s.tail) ++ more) whole.characters whole.tail parts.0 whole.decodes.are whole.decodes.bad (spelled_first text more s.pieces front.rest s.characters s.tail front.spell s.decodes.spell ∙ sym whole.decodes.spell) in
+    let parts = all_scalars-parts (spelled s.pieces) prefix.rest (ap all_scalars prefix.spell ∙ s.decodes.are) in
+    let on = goes_on (spelled s.pieces) ((encode_utf8_all prefix.rest ++ s.tail) ++ more) whole.characters whole.tail parts.0 whole.decodes.are whole.decodes.bad (spelled_first text more s.pieces prefix.rest s.characters s.tail prefix.spell s.decodes.spell ∙ sym whole.decodes.spell) in
     record {
       characters = whole.characters;
       tail = whole.tail;
@@ -34,10 +34,10 @@ settled_first text more lines s =
       rest = on.rest;
       decodes = whole.decodes;
       spell = sym on.split;
-      fit = settled_fits s.characters s.tail more s.pieces front parts.1 s.decodes.bad on.rest whole.tail (all_scalars-parts (spelled s.pieces) on.rest (ap all_scalars (sym on.split) ∙ whole.decodes.are)).1 whole.decodes.bad on.left;
-      balanced = front.reading.balanced;
-      shallow = front.reading.shallow;
-      ended = inl (still_ends s.pieces front.rest s.tail more on.rest whole.tail on.left front.ended);
+      fit = settled_fits s.characters s.tail more s.pieces prefix parts.1 s.decodes.bad on.rest whole.tail (all_scalars-parts (spelled s.pieces) on.rest (ap all_scalars (sym on.split) ∙ whole.decodes.are)).1 whole.decodes.bad on.left;
+      balanced = prefix.reading.balanced;
+      shallow = prefix.reading.shallow;
+      ended = inl (still_ends s.pieces prefix.rest s.tail more on.rest whole.tail on.left prefix.ended);
       here = refl;
       number = refl;
       cut = s.cut;

@@ -27,8 +27,8 @@ ready_from f sound some = go f.ready refl sound.state some
 -- what the text goes on with after the first of these bytes
 goes_after : (text : List ℕ) (place : ℕ) (first later : List ℕ) → GoesOnWith text place (first ++ later) → GoesOnWith text (place + length first) later
 goes_after text place first later goes =
-    let behind : first ++ (later ++ drop (length (first ++ later)) (drop place text)) ≡ drop place text = sym (append_assoc first later (drop (length (first ++ later)) (drop place text))) ∙ ap (λ t. t ++ drop (length (first ++ later)) (drop place text)) (sym goes) ∙ take-append-drop (length (first ++ later)) (drop place text) in
-    let left : drop (place + length first) text ≡ later ++ drop (length (first ++ later)) (drop place text) = sym (drop-drop (length first) place text) ∙ ap (drop (length first)) (sym behind) ∙ drop-append_seam first (later ++ drop (length (first ++ later)) (drop place text)) in
+    let from_there : first ++ (later ++ drop (length (first ++ later)) (drop place text)) ≡ drop place text = sym (append_assoc first later (drop (length (first ++ later)) (drop place text))) ∙ ap (λ t. t ++ drop (length (first ++ later)) (drop place text)) (sym goes) ∙ take-append-drop (length (first ++ later)) (drop place text) in
+    let left : drop (place + length first) text ≡ later ++ drop (length (first ++ later)) (drop place text) = sym (drop-drop (length first) place text) ∙ ap (drop (length first)) (sym from_there) ∙ drop-append_seam first (later ++ drop (length (first ++ later)) (drop place text)) in
     ap (take (length later)) left ∙ take-append_seam later (drop (length (first ++ later)) (drop place text))
 
 module _ (old new : Feed) (n : ℕ) (ready : old.ready ≡ Some n) (r : IsReady old n) (go : LetsGo old new) where

@@ -30,7 +30,7 @@ use Rattle.py_lines.proofs.Lexings.LinePrefix.{read-alone}
 use Rattle.py_lines.proofs.Lexings.SettledLines.{ends-line}
 use Rattle.py_lines.proofs.Machine.PieceSteps.{scanned, pieces_at}
 use Rattle.py_lines.proofs.Machine.Advance.{GoesTo}
-use Rattle.py_lines.proofs.Lexings.SettledFront.{EndsNoneYet, settled_at, settled_line}
+use Rattle.py_lines.proofs.Lexings.SettledPrefixes.{EndsNoneYet, settled_at, settled_line}
 use Rattle.py_lines.proofs.LineScan.NextCharacter.{closed_one_line}
 use Rattle.py_lines.proofs.LineScan.LineSteps.{sound_steps}
 use Rattle.py_lines.proofs.LineScan.TextSteps.{begun_sound, follows_base}
@@ -64,7 +64,7 @@ module _ (text : List ℕ) (place line : ℕ) (lines : List LogicalLine) (read r
         tail = rest;
         pieces = k.base;
         decodes = of.decodes text place line lines read rest k bad;
-        front = settled_at (spelled k.base ++ read) rest j.state j.st k.base (pieces_at s) read j.steps j.pieces good (ends_none s.mode s.done s.held read rest st sound goes.stack one_line last) refl;
+        prefix = settled_at (spelled k.base ++ read) rest j.state j.st k.base (pieces_at s) read j.steps j.pieces good (ends_none s.mode s.done s.held read rest st sound goes.stack one_line last) refl;
         cut = k.cut;
       }
 
@@ -138,7 +138,7 @@ module _ (text : List ℕ) (place line : ℕ) (lines : List LogicalLine) (read r
       ∙ sym (lines_of-push k.base u k.more k.ended next.whole all_fit)
 
   by_rest : (characters tail left : List ℕ) → Decodes (of.bytes text place line lines read rest k) characters tail → spelled (k.base ++ u) ++ left ≡ characters → EndsForGood (k.base ++ u) (left ++ tail) → (left ≡ []) ⊎ ((c : ℕ) × (left ≡ c ∷ []) × (is_line_feed c ≡ false) × (tail ≡ [])) → IsSettled (of.bytes text place line lines read rest k) (lines ++ line_of place line u ∷ [])
-  by_rest characters tail left decodes spell good near = record { characters = characters; tail = tail; pieces = k.base ++ u; decodes = decodes; front = settled_line characters tail (k.base ++ u) left spell all_reading good near; cut = cut_all }
+  by_rest characters tail left decodes spell good near = record { characters = characters; tail = tail; pieces = k.base ++ u; decodes = decodes; prefix = settled_line characters tail (k.base ++ u) left spell all_reading good near; cut = cut_all }
 
   -- one line more is settled
   pub settled_ready : Follow u rest → IsSettled (of.bytes text place line lines read rest k) (lines ++ line_of place line u ∷ [])
@@ -166,6 +166,6 @@ module _ (text : List ℕ) (place line : ℕ) (lines : List LogicalLine) (read r
       let on = goes_on (spelled k.base ++ read) rest s.characters s.tail k.scalars s.decodes.are s.decodes.bad (sym k.known ∙ sym s.decodes.spell) in
       let spell : spelled (k.base ++ u) ++ on.rest ≡ s.characters = ap (λ t. t ++ on.rest) all_spelled ∙ sym on.split in
       let ended : EndsForGood (k.base ++ u) (on.rest ++ s.tail) = (ends_line, λ none. last_ends is_return ∙ good (nothing_of on.rest s.tail rest on.left none)) in
-      let bound = s.front.longest (k.base ++ u) on.rest spell all_reading ended in
+      let bound = s.prefix.longest (k.base ++ u) on.rest spell all_reading ended in
       let same : spelled s.pieces ≡ spelled k.base = encodes_same (spelled s.pieces) (spelled k.base) (sym (texts-lines s.pieces) ∙ ap texts (sym s.cut ∙ k.cut) ∙ texts-lines k.base) in
       omega (arith, bound, ap length same, ap length all_spelled, length-append (spelled k.base) read, some)

@@ -44,18 +44,18 @@ module _ (f : Feed) (read rest : List ℕ) (o : IsOpen f read rest) where
   open_lines = line_ends-bytes read
 
   -- a place in what was scanned
-  pub within_held : (behind : ℕ) (w : Within read behind) → (behind ≤ byte_len read) × (take behind f.held.items ≡ encode_utf8_all w.front) × IsUtf8 (take behind f.held.items)
-  within_held behind w =
-      let size : byte_len read ≡ byte_len w.front + byte_len w.later = ap byte_len (sym w.split) ∙ byte_len-append w.front w.later in
-      let spell : f.held.items ≡ encode_utf8_all w.front ++ (encode_utf8_all w.later ++ rest) = sym o.spell ∙ ap (λ t. encode_utf8_all t ++ rest) (sym w.split) ∙ ap (λ t. t ++ rest) (encodes-append w.front w.later) ∙ append_assoc (encode_utf8_all w.front) (encode_utf8_all w.later) rest in
-      let taken : take behind f.held.items ≡ encode_utf8_all w.front = ap (λ (n : ℕ). take n f.held.items) w.size ∙ ap (take (byte_len w.front)) spell ∙ take-append_seam (encode_utf8_all w.front) (encode_utf8_all w.later ++ rest) in
-      let scalars = (all_scalars-parts w.front w.later (ap all_scalars w.split ∙ o.scalars)).0 in
-      (omega (arith, size, w.size), taken, (w.front, (scalars, sym taken)))
+  pub within_held : (offset : ℕ) (w : Within read offset) → (offset ≤ byte_len read) × (take offset f.held.items ≡ encode_utf8_all w.prefix) × IsUtf8 (take offset f.held.items)
+  within_held offset w =
+      let size : byte_len read ≡ byte_len w.prefix + byte_len w.later = ap byte_len (sym w.split) ∙ byte_len-append w.prefix w.later in
+      let spell : f.held.items ≡ encode_utf8_all w.prefix ++ (encode_utf8_all w.later ++ rest) = sym o.spell ∙ ap (λ t. encode_utf8_all t ++ rest) (sym w.split) ∙ ap (λ t. t ++ rest) (encodes-append w.prefix w.later) ∙ append_assoc (encode_utf8_all w.prefix) (encode_utf8_all w.later) rest in
+      let taken : take offset f.held.items ≡ encode_utf8_all w.prefix = ap (λ (n : ℕ). take n f.held.items) w.size ∙ ap (take (byte_len w.prefix)) spell ∙ take-append_seam (encode_utf8_all w.prefix) (encode_utf8_all w.later ++ rest) in
+      let scalars = (all_scalars-parts w.prefix w.later (ap all_scalars w.split ∙ o.scalars)).0 in
+      (omega (arith, size, w.size), taken, (w.prefix, (scalars, sym taken)))
 
   pub refused_held : Within read (refused_place f.state.scan)
   refused_held =
       cond_both (in_short f.state.scan.piece.mode || is_after_backslash f.state.scan.piece.mode) f.state.scan.piece.start f.state.scan.stop (Within read)
-      (λ h. record { front = spelled o.way.state.done; later = o.way.state.held; split = open_sound.spell; size = o.way.tallies.start })
+      (λ h. record { prefix = spelled o.way.state.done; later = o.way.state.held; split = open_sound.spell; size = o.way.tallies.start })
       (λ h. all_within read f.state.scan.stop open_stop)
 
 -- what is held next

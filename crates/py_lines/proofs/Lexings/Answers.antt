@@ -15,7 +15,7 @@ use Rattle.py_lines.proofs.Machine.PieceSteps.{pieces_at}
 use Rattle.py_lines.proofs.Machine.Advance.{RunsTo}
 use Rattle.py_lines.proofs.Machine.LiveTexts.{reading_at, reading_live, runs_live}
 use Rattle.py_lines.proofs.Faults.FaultPlaces.{character_fault, end_fault}
-use Rattle.py_lines.proofs.Lexings.LinePrefix.{EndsNoLine, front_is, live_prefix, Either, either}
+use Rattle.py_lines.proofs.Lexings.LinePrefix.{EndsNoLine, prefix_is, live_prefix, Either, either}
 use Rattle.py_lines.proofs.LogicalLines.Cuts.{byte_len-append}
 
 -- a byte of a text belongs to one prefix
@@ -38,38 +38,38 @@ same_place b a d e same bytes = go (either b a d e same)
 
 -- the line of a place, told by the prefix that ends there
 pub record IsLineOf (fault : Fault) (characters : List ℕ) : Type 0 where
-  pub front : List ℕ
+  pub prefix : List ℕ
   pub rest : List ℕ
-  pub spell : front ++ rest ≡ characters
-  pub place : byte_len front ≡ fault.offset
-  pub line : fault.line ≡ 1 + line_ends front
+  pub spell : prefix ++ rest ≡ characters
+  pub place : byte_len prefix ≡ fault.offset
+  pub line : fault.line ≡ 1 + line_ends prefix
 
 line_at : (fault : Fault) (characters : List ℕ) → IsLineOf fault characters → (before after : List ℕ) → before ++ after ≡ characters → byte_len before ≡ fault.offset → fault.line ≡ 1 + line_ends before
 line_at fault characters is before after spell place =
-    is.line ∙ ap (λ t. 1 + line_ends t) (same_place is.front is.rest before after (is.spell ∙ sym spell) (is.place ∙ sym place))
+    is.line ∙ ap (λ t. 1 + line_ends t) (same_place is.prefix is.rest before after (is.spell ∙ sym spell) (is.place ∙ sym place))
 
 -- the text is read, where the machine may stop with no bracket open
 pub read_at : (text characters : List ℕ) (s : Scanned) → Decodes text characters [] → RunsTo characters s [] → is_final s.mode ≡ true → IsLexedWhole text (lines_of (pieces_at s))
 read_at text characters s decodes steps may = record { characters = characters; pieces = pieces_at s; decodes = decodes; reading = reading_at characters s steps may; cut = refl }
 
 -- the prefix that a reader has given: up to the last line end at depth 0
-pub record HasPrefix (s : Scanned) (front : List Piece) : Type 0 where
+pub record HasPrefix (s : Scanned) (prefix : List Piece) : Type 0 where
   pub others : List Piece
-  pub spell : pieces_at s ≡ front ++ others
-  pub ended : EndsLine front
+  pub spell : pieces_at s ≡ prefix ++ others
+  pub ended : EndsLine prefix
   pub none : EndsNoLine 0 others
 
 -- the text is refused at a character
-pub refused_at_character : (text characters tail before after : List ℕ) (c : ℕ) (s : Scanned) (st : List Bracket) (front : List Piece) (fault : Fault) → Decodes text characters tail → before ++ c ∷ after ≡ characters → RunsTo before s st → ¬ (IsLive (before ++ c ∷ [])) → HasPrefix s front → fault.kind ≡ character_kind s.mode c → fault.offset ≡ character_place s before → IsLineOf fault characters → IsLexedToFault text (lines_of front) fault
-refused_at_character text characters tail before after c s st front fault decodes spell steps dead has kind place line =
+pub refused_at_character : (text characters tail before after : List ℕ) (c : ℕ) (s : Scanned) (st : List Bracket) (prefix : List Piece) (fault : Fault) → Decodes text characters tail → before ++ c ∷ after ≡ characters → RunsTo before s st → ¬ (IsLive (before ++ c ∷ [])) → HasPrefix s prefix → fault.kind ≡ character_kind s.mode c → fault.offset ≡ character_place s before → IsLineOf fault characters → IsLexedToFault text (lines_of prefix) fault
+refused_at_character text characters tail before after c s st prefix fault decodes spell steps dead has kind place line =
     let found = character_fault characters before after c s st spell steps dead in
     let at : IsFaultAt (character_kind s.mode c) characters tail (character_place s before) = at_character found in
     record {
       characters = characters;
       tail = tail;
-      pieces = front;
+      pieces = prefix;
       decodes = decodes;
-      front = front_is before (c ∷ after) characters s st front has.others steps spell (λ d ds same. subst (λ (x : ℕ). ¬ (IsLive (before ++ x ∷ []))) (head_same c d after ds same) dead) has.spell has.ended has.none;
+      prefix = prefix_is before (c ∷ after) characters s st prefix has.others steps spell (λ d ds same. subst (λ (x : ℕ). ¬ (IsLive (before ++ x ∷ []))) (head_same c d after ds same) dead) has.spell has.ended has.none;
       refused = record {
         unread = λ whole pieces reading. dead (live_prefix (before ++ c ∷ []) after (subst IsLive (sym spell ∙ sym (append_assoc before (c ∷ []) after)) (reading_live pieces characters reading)));
         place = subst (λ (o : ℕ). IsFaultAt fault.kind characters tail o) (sym place) (subst (λ (k : FaultKind). IsFaultAt k characters tail (character_place s before)) (sym kind) at);
@@ -85,15 +85,15 @@ nothing_later : (characters : List ℕ) (c : ℕ) (after : List ℕ) → [] ≡ 
 nothing_later characters c after same = absurd (cc)
 
 -- the text is refused at its end
-pub refused_at_end : (text characters : List ℕ) (s : Scanned) (st : List Bracket) (front : List Piece) (fault : Fault) → Decodes text characters [] → RunsTo characters s st → ((pieces : List Piece) → ¬ (IsBalancedReading pieces characters)) → HasPrefix s front → fault.kind ≡ end_kind s.mode → fault.offset ≡ end_place s st → IsLineOf fault characters → IsLexedToFault text (lines_of front) fault
-refused_at_end text characters s st front fault decodes steps unread has kind place line =
+pub refused_at_end : (text characters : List ℕ) (s : Scanned) (st : List Bracket) (prefix : List Piece) (fault : Fault) → Decodes text characters [] → RunsTo characters s st → ((pieces : List Piece) → ¬ (IsBalancedReading pieces characters)) → HasPrefix s prefix → fault.kind ≡ end_kind s.mode → fault.offset ≡ end_place s st → IsLineOf fault characters → IsLexedToFault text (lines_of prefix) fault
+refused_at_end text characters s st prefix fault decodes steps unread has kind place line =
     let at : IsFaultAt (end_kind s.mode) characters [] (end_place s st) = at_end (end_fault characters [] s st refl steps unread) in
     record {
       characters = characters;
       tail = [];
-      pieces = front;
+      pieces = prefix;
       decodes = decodes;
-      front = front_is characters [] characters s st front has.others steps (append-nil characters) (nothing_later characters) has.spell has.ended has.none;
+      prefix = prefix_is characters [] characters s st prefix has.others steps (append-nil characters) (nothing_later characters) has.spell has.ended has.none;
       refused = record {
         unread = λ whole. unread;
         place = subst (λ (o : ℕ). IsFaultAt fault.kind characters [] o) (sym place) (subst (λ (k : FaultKind). IsFaultAt k characters [] (end_place s st)) (sym kind) at);
@@ -103,13 +103,13 @@ refused_at_end text characters s st front fault decodes steps unread has kind pl
     }
 
 -- the text is refused at bytes that begin no character
-pub refused_at_bytes : (text characters : List ℕ) (d : ℕ) (ds : List ℕ) (s : Scanned) (st : List Bracket) (front : List Piece) (fault : Fault) → Decodes text characters (d ∷ ds) → RunsTo characters s st → HasPrefix s front → fault.kind ≡ faults.BadUtf8 → fault.offset ≡ byte_len characters → IsLineOf fault characters → IsLexedToFault text (lines_of front) fault
-refused_at_bytes text characters d ds s st front fault decodes steps has kind place line = record {
+pub refused_at_bytes : (text characters : List ℕ) (d : ℕ) (ds : List ℕ) (s : Scanned) (st : List Bracket) (prefix : List Piece) (fault : Fault) → Decodes text characters (d ∷ ds) → RunsTo characters s st → HasPrefix s prefix → fault.kind ≡ faults.BadUtf8 → fault.offset ≡ byte_len characters → IsLineOf fault characters → IsLexedToFault text (lines_of prefix) fault
+refused_at_bytes text characters d ds s st prefix fault decodes steps has kind place line = record {
   characters = characters;
   tail = d ∷ ds;
-  pieces = front;
+  pieces = prefix;
   decodes = decodes;
-  front = front_is characters [] characters s st front has.others steps (append-nil characters) (nothing_later characters) has.spell has.ended has.none;
+  prefix = prefix_is characters [] characters s st prefix has.others steps (append-nil characters) (nothing_later characters) has.spell has.ended has.none;
   refused = record {
     unread = λ (whole : d ∷ ds ≡ []). absurd (cc);
     place = at_bytes (record { is = kind; bad = λ (h : d ∷ ds ≡ []). cc; live = runs_live characters s st steps; place = place });

@@ -14,7 +14,7 @@ use Rattle.py_lines.specs.declared.fault.Fault.{Fault}
 use Rattle.py_lines.proofs.Text.Continued.{goes_on}
 use Rattle.py_lines.proofs.Text.Decoding.{decoding}
 use Rattle.py_lines.proofs.Machine.LiveTexts.{reading_live}
-use Rattle.py_lines.proofs.Faults.FaultPrefixes.{fault_front, undecodable}
+use Rattle.py_lines.proofs.Faults.FaultPrefixes.{fault_prefix, undecodable}
 use Rattle.py_lines.proofs.Lexings.LinePrefix.{live_prefix, Either, either}
 use Rattle.py_lines.proofs.Lexings.Uniqueness.{decoded, same_fault}
 use Rattle.py_lines.proofs.Lexings.Answers.{same_place}
@@ -36,12 +36,12 @@ goes_on_faulty kind characters rest offset fault = record {
 }
 
 -- the same prefix of a text that goes on ends a line, and is the longest
-front_on : (kind : FaultKind) (characters rest : List ℕ) (offset : ℕ) (pieces : List Piece) → IsCharacterFault kind characters offset → IsReadPrefix pieces characters → IsReadPrefix pieces (characters ++ rest)
-front_on kind characters rest offset pieces fault front = record {
-  rest = front.rest ++ rest;
-  spell = sym (append_assoc (spelled pieces) front.rest rest) ∙ ap (λ t. t ++ rest) front.spell;
-  reading = front.reading;
-  ended = front.ended;
+prefix_on : (kind : FaultKind) (characters rest : List ℕ) (offset : ℕ) (pieces : List Piece) → IsCharacterFault kind characters offset → IsReadPrefix pieces characters → IsReadPrefix pieces (characters ++ rest)
+prefix_on kind characters rest offset pieces fault prefix = record {
+  rest = prefix.rest ++ rest;
+  spell = sym (append_assoc (spelled pieces) prefix.rest rest) ∙ ap (λ t. t ++ rest) prefix.spell;
+  reading = prefix.reading;
+  ended = prefix.ended;
   longest = longest;
 }
   where
@@ -52,14 +52,14 @@ front_on kind characters rest offset pieces fault front = record {
     longest others after spell reading ended = go (either (spelled others) after (fault.before ++ fault.c ∷ []) (fault.dies.after ++ rest) (spell ∙ ap (λ t. t ++ rest) (sym whole) ∙ append_assoc (fault.before ++ fault.c ∷ []) fault.dies.after rest))
       where
         go : Either (spelled others) (fault.before ++ fault.c ∷ []) (fault.dies.after ++ rest) → length (spelled others) ≤ length (spelled pieces)
-        go (Either.shorter k one) = front.longest others (k ++ fault.dies.after) (sym (append_assoc (spelled others) k fault.dies.after) ∙ ap (λ t. t ++ fault.dies.after) (sym one) ∙ whole) reading ended
+        go (Either.shorter k one) = prefix.longest others (k ++ fault.dies.after) (sym (append_assoc (spelled others) k fault.dies.after) ∙ ap (λ t. t ++ fault.dies.after) (sym one) ∙ whole) reading ended
         go (Either.longer c k later one two) = absurd (fault.dies.dead (live_prefix (fault.before ++ fault.c ∷ []) (c ∷ k) (subst IsLive one (reading_live others (spelled others) reading))))
 
 -- the line of a fault stays
 line_on : (characters tail rest other : List ℕ) (fault : Fault) → IsLexicalFault characters tail fault → IsFaultAt fault.kind characters tail fault.offset → (before after : List ℕ) → before ++ after ≡ characters ++ rest → byte_len before ≡ fault.offset → fault.line ≡ 1 + line_ends before
 line_on characters tail rest other fault refused at before after spell place =
-    let found = fault_front fault.kind characters tail fault.offset at in
-    refused.line found.front found.rest found.spell found.place ∙ ap (λ t. 1 + line_ends t) (same_place found.front (found.rest ++ rest) before after (sym (append_assoc found.front found.rest rest) ∙ ap (λ t. t ++ rest) found.spell ∙ sym spell) (found.place ∙ sym place))
+    let found = fault_prefix fault.kind characters tail fault.offset at in
+    refused.line found.prefix found.rest found.spell found.place ∙ ap (λ t. 1 + line_ends t) (same_place found.prefix (found.rest ++ rest) before after (sym (append_assoc found.prefix found.rest rest) ∙ ap (λ t. t ++ rest) found.spell ∙ sym spell) (found.place ∙ sym place))
 
 -- the known bytes, and what they say of a text that goes on
 pub record Continued (text more : List ℕ) (fault : Fault) (characters tail : List ℕ) : Type 0 where
@@ -68,7 +68,7 @@ pub record Continued (text more : List ℕ) (fault : Fault) (characters tail : L
   pub decodes : Decodes (text ++ more) whole left
   pub refused : IsLexicalFault whole left fault
   pub stays : StaysFaulty fault.kind whole left fault.offset
-  pub front : (pieces : List Piece) → IsReadPrefix pieces characters → IsReadPrefix pieces whole
+  pub prefix : (pieces : List Piece) → IsReadPrefix pieces characters → IsReadPrefix pieces whole
 
 by_character : (text more : List ℕ) (fault : Fault) (d : Decides text fault) → IsCharacterFault fault.kind d.characters fault.offset → Continued text more fault d.characters d.tail
 by_character text more fault d stays =
@@ -85,7 +85,7 @@ by_character text more fault d stays =
         line = line_on d.characters d.tail on.rest w.tail fault d.refused d.refused.place;
       };
       stays = inl later;
-      front = λ pieces front. front_on fault.kind d.characters on.rest fault.offset pieces stays front;
+      prefix = λ pieces prefix. prefix_on fault.kind d.characters on.rest fault.offset pieces stays prefix;
     }
 
 nothing_left : (a b : List ℕ) → a ++ b ≡ [] → a ≡ []
@@ -105,7 +105,7 @@ by_bytes text more fault d is hopeless =
         line = d.refused.line;
       };
       stays = inr (is, λ after. subst StartsWithNoChar (sym (append_assoc d.tail more after)) (hopeless (more ++ after)));
-      front = λ pieces front. front;
+      prefix = λ pieces prefix. prefix;
     }
 
 continued : (text more : List ℕ) (fault : Fault) (d : Decides text fault) → Continued text more fault d.characters d.tail
@@ -127,7 +127,7 @@ decided_lexing text more fault lines d lexed =
       tail = on.left;
       pieces = lexed.pieces;
       decodes = on.decodes;
-      front = on.front lexed.pieces (subst (IsReadPrefix lexed.pieces) same.0 lexed.front);
+      prefix = on.prefix lexed.pieces (subst (IsReadPrefix lexed.pieces) same.0 lexed.prefix);
       refused = on.refused;
       cut = lexed.cut;
     }

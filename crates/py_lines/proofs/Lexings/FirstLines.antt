@@ -27,10 +27,10 @@ use Rattle.py_lines.proofs.Machine.LiveTexts.{reading_live, live_runs}
 use Rattle.py_lines.proofs.Machine.OpenStrings.{same_state}
 use Rattle.py_lines.proofs.Faults.FaultPlaces.{end_fault, unread_at}
 use Rattle.py_lines.proofs.Faults.Verdict.{Found, Verdict, fault_of, verdict, open_unread}
-use Rattle.py_lines.proofs.Lexings.LinePrefix.{read-alone, depth_front, live_prefix, Either, either}
+use Rattle.py_lines.proofs.Lexings.LinePrefix.{read-alone, depth_prefix, live_prefix, Either, either}
 use Rattle.py_lines.proofs.LogicalLines.Cuts.{line_depth}
 use Rattle.py_lines.proofs.LogicalLines.NextLine.{lines_of-more}
-use Rattle.py_lines.proofs.Machine.EarlierPieces.{behind, behind_if, closed-behind}
+use Rattle.py_lines.proofs.Machine.EarlierPieces.{after_pieces, after_if, closed-after}
 use Rattle.py_lines.proofs.LineScan.TextSteps.{Base, base_of, from_base}
 use Rattle.py_lines.proofs.Lexings.Answers.{IsLineOf, HasPrefix, read_at, refused_at_character, refused_at_end, refused_at_bytes}
 use Rattle.py_lines.proofs.Lexings.GivenLines.{none_both, all_given}
@@ -56,11 +56,11 @@ goes characters = go (fault_of characters) (verdict characters)
     go (Some f) (inr fault) = live_goes characters fault.live
 
 -- the pieces that end a line stay, wherever the machine goes from them
-behind_base : (base : List Piece) (s : Scanned) (o : Option Scanned) → behind_if base o ≡ Some s → (others : List Piece) × (pieces_at s ≡ base ++ others)
-behind_base base s None same = absurd (cc)
-behind_base base s (Some t) same =
-    let is : behind base t ≡ s = cc in
-    (pieces_at t, ap pieces_at (sym is) ∙ closed-behind base t.done t.mode t.held)
+after_base : (base : List Piece) (s : Scanned) (o : Option Scanned) → after_if base o ≡ Some s → (others : List Piece) × (pieces_at s ≡ base ++ others)
+after_base base s None same = absurd (cc)
+after_base base s (Some t) same =
+    let is : after_pieces base t ≡ s = cc in
+    (pieces_at t, ap pieces_at (sym is) ∙ closed-after base t.done t.mode t.held)
 
 grows_from : (base : List Piece) (k after : List ℕ) (s : Scanned) → AreReadBefore base (k ++ after) → EndsLine base → steps_from (Some text_start) (spelled base ++ k) ≡ Some s → (others : List Piece) × (pieces_at s ≡ base ++ others)
 grows_from base [] after s fit ended steps =
@@ -73,7 +73,7 @@ grows_from base (c ∷ cs) after s fit ended steps = go (base_of (byte_len (spel
     go (Base.bare none mode) = (pieces_at s, ap (λ l. l ++ pieces_at s) (sym none))
     go (Base.lined body last is class any mode) =
         let reached = reach base (c ∷ cs ++ after) fit in
-        behind_base base s (steps_from (Some (line_start modes.Free)) (c ∷ cs))
+        after_base base s (steps_from (Some (line_start modes.Free)) (c ∷ cs))
         (sym (from_base base reached.to c cs (cs ++ after) reached.pieces_are (reached.stops (any (c ∷ cs ++ after)))) ∙ ap (λ o. steps_from o (c ∷ cs)) (sym reached.steps) ∙ sym (steps_from-append (Some text_start) (spelled base) (c ∷ cs)) ∙ steps)
 
 -- the last line end at depth 0 of pieces that begin at this depth
@@ -102,10 +102,10 @@ last_end d (p ∷ ps) = go (last_end (depth_after d p) ps)
 
 -- from pieces that end a line, the machine has come here: the prefix of the text, and all of it, have more lines
 record Onward (base : List Piece) (s : Scanned) : Type 0 where
-  front : List Piece
-  has : HasPrefix s front
+  prefix : List Piece
+  has : HasPrefix s prefix
   more : List LogicalLine
-  lines : lines_of front ≡ lines_of base ++ more
+  lines : lines_of prefix ≡ lines_of base ++ more
   others : List LogicalLine
   whole : lines_of (pieces_at s) ≡ lines_of base ++ others
 
@@ -116,7 +116,7 @@ onward base others s ended is = go (last_end 0 others)
     go (LastEnd.no_end free) =
         let all = lines_of-more base others ended in
         record {
-          front = base;
+          prefix = base;
           has = record { others = others; spell = is; ended = ended; none = free };
           more = [];
           lines = sym (append-nil (lines_of base));
@@ -128,11 +128,11 @@ onward base others s ended is = go (last_end 0 others)
         let first = lines_of-more base middle ended in
         let all = lines_of-more base others ended in
         record {
-          front = base ++ middle;
+          prefix = base ++ middle;
           has = record {
             others = later;
             spell = is ∙ ap (λ l. base ++ l) (split ∙ sym (append_assoc body (last ∷ []) later)) ∙ sym (append_assoc base middle later);
-            ended = inr (base ++ body, last, sym (append_assoc base body (last ∷ [])), class, depth_through-append 0 base body ∙ ap (λ (d : ℕ). depth_through d body) (depth_front base ended) ∙ deep);
+            ended = inr (base ++ body, last, sym (append_assoc base body (last ∷ [])), class, depth_through-append 0 base body ∙ ap (λ (d : ℕ). depth_through d body) (depth_prefix base ended) ∙ deep);
             none = free;
           };
           more = first.0;
@@ -141,25 +141,25 @@ onward base others s ended is = go (last_end 0 others)
           whole = ap lines_of is ∙ all.1;
         }
 
-fault_behind : (kind : FaultKind) (characters : List ℕ) (offset : ℕ) → PrefixTo characters offset → (fault : Fault) × (fault.kind ≡ kind) × (fault.offset ≡ offset) × IsLineOf fault characters
-fault_behind kind characters offset f = (record { kind = kind; offset = offset; line = 1 + line_ends f.front }, refl, refl, record { front = f.front; rest = f.rest; spell = f.spell; place = f.place; line = refl })
+fault_after : (kind : FaultKind) (characters : List ℕ) (offset : ℕ) → PrefixTo characters offset → (fault : Fault) × (fault.kind ≡ kind) × (fault.offset ≡ offset) × IsLineOf fault characters
+fault_after kind characters offset f = (record { kind = kind; offset = offset; line = 1 + line_ends f.prefix }, refl, refl, record { prefix = f.prefix; rest = f.rest; spell = f.spell; place = f.place; line = refl })
 
-character_front : (characters before after : List ℕ) (c : ℕ) (s : Scanned) (st : List Bracket) → before ++ c ∷ after ≡ characters → RunsTo before s st → PrefixTo characters (character_place s before)
-character_front characters before after c s st spell steps =
+character_prefix : (characters before after : List ℕ) (c : ℕ) (s : Scanned) (st : List Bracket) → before ++ c ∷ after ≡ characters → RunsTo before s st → PrefixTo characters (character_place s before)
+character_prefix characters before after c s st spell steps =
     cond_both (in_short s.mode || is_after_backslash s.mode) (byte_len (spelled s.done)) (byte_len before) (PrefixTo characters)
     (λ h. record {
-      front = spelled s.done;
+      prefix = spelled s.done;
       rest = s.held ++ c ∷ after;
       spell = sym (append_assoc (spelled s.done) s.held (c ∷ after)) ∙ ap (λ t. t ++ c ∷ after) (sound_at before s steps.run).spell ∙ spell;
       place = refl;
     })
-    (λ h. record { front = before; rest = c ∷ after; spell = spell; place = refl })
+    (λ h. record { prefix = before; rest = c ∷ after; spell = spell; place = refl })
 
-end_front : (characters : List ℕ) (s : Scanned) (st : List Bracket) → RunsTo characters s st → ((pieces : List Piece) → ¬ (IsBalancedReading pieces characters)) → PrefixTo characters (end_place s st)
-end_front characters s st steps unread =
+end_prefix : (characters : List ℕ) (s : Scanned) (st : List Bracket) → RunsTo characters s st → ((pieces : List Piece) → ¬ (IsBalancedReading pieces characters)) → PrefixTo characters (end_place s st)
+end_prefix characters s st steps unread =
     let fault = end_fault characters [] s st refl steps unread in
     let rest = end_rest fault.unfinished characters fault.start fault.ends_in in
-    record { front = fault.start; rest = rest.0; spell = rest.1; place = sym fault.place }
+    record { prefix = fault.start; rest = rest.0; spell = rest.1; place = sym fault.place }
 
 -- the lexing of the text from where the machine has come
 begins_so : (text : List ℕ) (base : List Piece) (all more : List LogicalLine) (end : Option Fault) → IsLexed text all end → all ≡ lines_of base ++ more → BeginsLexing text (lines_of base)
@@ -167,13 +167,13 @@ begins_so text base all more end lexed is = record { more = more; end = end; lex
 
 at_character : (text characters tail before after : List ℕ) (c : ℕ) (s : Scanned) (st : List Bracket) (base : List Piece) → Decodes text characters tail → before ++ c ∷ after ≡ characters → RunsTo before s st → ¬ (IsLive (before ++ c ∷ [])) → Onward base s → BeginsLexing text (lines_of base)
 at_character text characters tail before after c s st base decodes spell steps dead on =
-    let f = fault_behind (character_kind s.mode c) characters (character_place s before) (character_front characters before after c s st spell steps) in
-    begins_so text base (lines_of on.front) on.more (Some f.0) (refused_at_character text characters tail before after c s st on.front f.0 decodes spell steps dead on.has f.1 f.2 f.3) on.lines
+    let f = fault_after (character_kind s.mode c) characters (character_place s before) (character_prefix characters before after c s st spell steps) in
+    begins_so text base (lines_of on.prefix) on.more (Some f.0) (refused_at_character text characters tail before after c s st on.prefix f.0 decodes spell steps dead on.has f.1 f.2 f.3) on.lines
 
 unread_end : (text characters : List ℕ) (s : Scanned) (st : List Bracket) (base : List Piece) → Decodes text characters [] → RunsTo characters s st → ((pieces : List Piece) → ¬ (IsBalancedReading pieces characters)) → Onward base s → BeginsLexing text (lines_of base)
 unread_end text characters s st base decodes steps unread on =
-    let f = fault_behind (end_kind s.mode) characters (end_place s st) (end_front characters s st steps unread) in
-    begins_so text base (lines_of on.front) on.more (Some f.0) (refused_at_end text characters s st on.front f.0 decodes steps unread on.has f.1 f.2 f.3) on.lines
+    let f = fault_after (end_kind s.mode) characters (end_place s st) (end_prefix characters s st steps unread) in
+    begins_so text base (lines_of on.prefix) on.more (Some f.0) (refused_at_end text characters s st on.prefix f.0 decodes steps unread on.has f.1 f.2 f.3) on.lines
 
 at_text_end : (text characters : List ℕ) (s : Scanned) (st : List Bracket) (base : List Piece) → Decodes text characters [] → RunsTo characters s st → Onward base s → BeginsLexing text (lines_of base)
 at_text_end text characters s [] base decodes steps on =
@@ -186,8 +186,8 @@ at_text_end text characters s (b ∷ bs) base decodes steps on = unread_end text
 at_end : (text characters tail : List ℕ) (s : Scanned) (st : List Bracket) (base : List Piece) → Decodes text characters tail → RunsTo characters s st → Onward base s → BeginsLexing text (lines_of base)
 at_end text characters [] s st base decodes steps on = at_text_end text characters s st base decodes steps on
 at_end text characters (d ∷ ds) s st base decodes steps on =
-    let f = fault_behind faults.BadUtf8 characters (byte_len characters) (record { front = characters; rest = []; spell = append-nil characters; place = refl }) in
-    begins_so text base (lines_of on.front) on.more (Some f.0) (refused_at_bytes text characters d ds s st on.front f.0 decodes steps on.has f.1 f.2 f.3) on.lines
+    let f = fault_after faults.BadUtf8 characters (byte_len characters) (record { prefix = characters; rest = []; spell = append-nil characters; place = refl }) in
+    begins_so text base (lines_of on.prefix) on.more (Some f.0) (refused_at_bytes text characters d ds s st on.prefix f.0 decodes steps on.has f.1 f.2 f.3) on.lines
 
 -- pieces that end a line are a reading of their own
 ended_reading : (base : List Piece) (rest : List ℕ) → AreReadBefore base rest → IsBalanced base → IsShallow 0 base → EndsLine base → IsBalancedReading base (spelled base)

@@ -15,7 +15,7 @@ use Rattle.py_lines.specs.Lexed.{IsLexed}
 use Rattle.py_lines.specs.Reader.{Reader, HasGiven}
 use Rattle.py_lines.specs.Settled.{EndsForGood}
 use Rattle.py_lines.specs.Private.Machine.{brackets_of}
-use Rattle.py_lines.proofs.Text.Utf8Prefixes.{one_decoding, front_chars}
+use Rattle.py_lines.proofs.Text.Utf8Prefixes.{one_decoding, prefix_chars}
 use Rattle.py_lines.proofs.Pieces.PieceLists.{spelled-append, AreReadBefore-append, MayFollow}
 use Rattle.py_lines.proofs.LogicalLines.Cuts.{byte_len-append, line_ends-pieces}
 use Rattle.py_lines.proofs.LogicalLines.NextLine.{line_ends-spelled, lines_of-push}
@@ -38,15 +38,15 @@ none_both [] b e = (refl, e)
 none_both (c ∷ cs) b e = absurd (cc)
 
 pub situate : (r : Reader) (characters : List ℕ) (lines : List LogicalLine) (read rest : List ℕ) → HasGiven r lines → IsUtf8 characters → characters ≡ take (length characters) r.text → StartsWithNoChar (drop (length characters) r.text) → r.place < length r.text → encode_utf8_all read ++ rest ≡ drop r.place characters → Situation r characters lines read rest
-situate r characters lines read rest given utf8 front bad more scanned =
+situate r characters lines read rest given utf8 prefix bad more scanned =
     let whole : encode_utf8_all utf8.0 ++ drop (length characters) r.text ≡ encode_utf8_all given.first.characters ++ given.first.tail
-    = ap (λ t. t ++ drop (length characters) r.text) (utf8.1.1 ∙ front) ∙ take-append-drop (length characters) r.text ∙ sym given.first.decodes.spell in
+    = ap (λ t. t ++ drop (length characters) r.text) (utf8.1.1 ∙ prefix) ∙ take-append-drop (length characters) r.text ∙ sym given.first.decodes.spell in
     let same = one_decoding utf8.0 given.first.characters (drop (length characters) r.text) given.first.tail utf8.1.0 given.first.decodes.are bad given.first.decodes.bad whole in
     let spells : encode_utf8_all given.first.characters ≡ characters = ap encode_utf8_all (sym same.0) ∙ utf8.1.1 in
     let parts : characters ≡ encode_utf8_all (spelled given.first.pieces) ++ encode_utf8_all given.first.rest = sym spells ∙ ap encode_utf8_all (sym given.first.spell) ∙ encodes-append (spelled given.first.pieces) given.first.rest in
     let left : drop r.place characters ≡ encode_utf8_all given.first.rest
     = ap (λ (n : ℕ). drop n characters) given.first.here ∙ ap (drop (byte_len (spelled given.first.pieces))) parts ∙ drop-append_seam (encode_utf8_all (spelled given.first.pieces)) (encode_utf8_all given.first.rest) in
-    let next = front_chars read given.first.rest rest (sym left ∙ sym scanned) in
+    let next = prefix_chars read given.first.rest rest (sym left ∙ sym scanned) in
     record {
       given = given;
       after = next.0;
@@ -61,7 +61,7 @@ situate r characters lines read rest given utf8 front bad more scanned =
     }
 
 -- the line ends of pieces and of a prefix of what follows
-pub base_lines : (base : List Piece) (front rest : List ℕ) → AreReadBefore base (front ++ rest) → line_ends (spelled base ++ front) ≡ line_ends (spelled base) + line_ends front
+pub base_lines : (base : List Piece) (prefix rest : List ℕ) → AreReadBefore base (prefix ++ rest) → line_ends (spelled base ++ prefix) ≡ line_ends (spelled base) + line_ends prefix
 base_lines base [] rest fit = ap line_ends (append-nil (spelled base)) ∙ sym (add-zero (line_ends (spelled base)))
 base_lines base (c ∷ cs) rest fit =
     let near = read-first base c (cs ++ rest) cs fit in

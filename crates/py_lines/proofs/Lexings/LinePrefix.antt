@@ -107,19 +107,19 @@ depth_line body last is deep = depth_through-append 0 body (last ∷ []) ∙ ap 
     go join h text = refl
     go line_end h text = refl
 
-pub depth_front : (front : List Piece) → EndsLine front → depth_through 0 front ≡ 0
-depth_front front (inl none) = ap (depth_through 0) none
-depth_front front (inr (body, last, is, class, deep)) = ap (depth_through 0) is ∙ depth_line body last class deep
+pub depth_prefix : (prefix : List Piece) → EndsLine prefix → depth_through 0 prefix ≡ 0
+depth_prefix prefix (inl none) = ap (depth_through 0) none
+depth_prefix prefix (inr (body, last, is, class, deep)) = ap (depth_through 0) is ∙ depth_line body last class deep
 
 no_brackets : (st : List Bracket) → length st ≡ 0 → st ≡ []
 no_brackets [] h = refl
 no_brackets (b ∷ bs) h = absurd (omega arith)
 
 -- pieces that end a line have no open bracket
-pub front_stack : (front others : List Piece) (st : List Bracket) → brackets_of (front ++ others) ≡ Some st → EndsLine front → brackets_of front ≡ Some []
-front_stack front others st steps ended =
-    let first = stack_before front others st steps in
-    let none = no_brackets first.0 (sym (stands front first.0 first.1).depth ∙ depth_front front ended) in
+pub prefix_stack : (prefix others : List Piece) (st : List Bracket) → brackets_of (prefix ++ others) ≡ Some st → EndsLine prefix → brackets_of prefix ≡ Some []
+prefix_stack prefix others st steps ended =
+    let first = stack_before prefix others st steps in
+    let none = no_brackets first.0 (sym (stands prefix first.0 first.1).depth ∙ depth_prefix prefix ended) in
     first.1 ∙ ap (λ l. Some l) none
 
 -- a line end that the machine has found stays, though CR may get LF after it
@@ -207,39 +207,39 @@ nil_left : (k others : List Piece) → [] ≡ k ++ others → k ≡ []
 nil_left [] others h = refl
 nil_left (p ∷ k) others h = absurd (cc)
 
-read_part : (front others body : List Piece) (last : Piece) (rest : List ℕ) → front ≡ body ++ last ∷ [] → last.class ≡ line_end → AreReadBefore (front ++ others) rest → AreReadBefore front []
-read_part front others body last rest is class fit =
-    let first = AreReadBefore-first front others rest fit in
+read_part : (prefix others body : List Piece) (last : Piece) (rest : List ℕ) → prefix ≡ body ++ last ∷ [] → last.class ≡ line_end → AreReadBefore (prefix ++ others) rest → AreReadBefore prefix []
+read_part prefix others body last rest is class fit =
+    let first = AreReadBefore-first prefix others rest fit in
     subst (λ l. AreReadBefore l []) (sym is) (read-alone body last (spelled others ++ rest) class (subst (λ l. AreReadBefore l (spelled others ++ rest)) is first))
 
-part_before : (front others body : List Piece) (last : Piece) (done : List Piece) (p : Piece) (rest : List ℕ) → front ≡ body ++ last ∷ [] → last.class ≡ line_end → front ++ others ≡ done ++ p ∷ [] → (p.class ≡ line_end → ⊥) → AreReadBefore done rest → AreReadBefore front []
-part_before front others body last done p rest is class spell other fit = go (split front others done p [] spell)
+part_before : (prefix others body : List Piece) (last : Piece) (done : List Piece) (p : Piece) (rest : List ℕ) → prefix ≡ body ++ last ∷ [] → last.class ≡ line_end → prefix ++ others ≡ done ++ p ∷ [] → (p.class ≡ line_end → ⊥) → AreReadBefore done rest → AreReadBefore prefix []
+part_before prefix others body last done p rest is class spell other fit = go (split prefix others done p [] spell)
   where
-    go : Split front others done p [] → AreReadBefore front []
-    go (Split.in_second k one two) = read_part front k body last rest is class (subst (λ l. AreReadBefore l rest) one fit)
+    go : Split prefix others done p [] → AreReadBefore prefix []
+    go (Split.in_second k one two) = read_part prefix k body last rest is class (subst (λ l. AreReadBefore l rest) one fit)
     go (Split.in_first k one two) =
         let same : done ++ p ∷ [] ≡ body ++ last ∷ [] = ap (λ l. done ++ p ∷ l) (sym (nil_left k others two)) ∙ sym one ∙ is in
         let parts = same_from_push done body p last same in
         absurd (other (ap (λ (x : Piece). x.class) parts.1 ∙ class))
 
 -- the pieces up to a line end are read to the text's end
-front_read : (m : Mode) (done : List Piece) (held before : List ℕ) (front others body : List Piece) (last : Piece) → steps_from (Some text_start) before ≡ Some (record { done = done; mode = m; held = held }) → closed m done held ≡ front ++ others → front ≡ body ++ last ∷ [] → last.class ≡ line_end → AreReadBefore front []
-front_read modes.Start done held before front others body last steps spell is class =
+prefix_read : (m : Mode) (done : List Piece) (held before : List ℕ) (prefix others body : List Piece) (last : Piece) → steps_from (Some text_start) before ≡ Some (record { done = done; mode = m; held = held }) → closed m done held ≡ prefix ++ others → prefix ≡ body ++ last ∷ [] → last.class ≡ line_end → AreReadBefore prefix []
+prefix_read modes.Start done held before prefix others body last steps spell is class =
     let fit = (sound_at before (record { done = done; mode = modes.Start; held = held }) steps).fit [] in
-    read_part front others body last (held ++ []) is class (subst (λ l. AreReadBefore l (held ++ [])) spell fit)
-front_read modes.Free done held before front others body last steps spell is class =
+    read_part prefix others body last (held ++ []) is class (subst (λ l. AreReadBefore l (held ++ [])) spell fit)
+prefix_read modes.Free done held before prefix others body last steps spell is class =
     let fit = (sound_at before (record { done = done; mode = modes.Free; held = held }) steps).fit [] in
-    read_part front others body last (held ++ []) is class (subst (λ l. AreReadBefore l (held ++ [])) spell fit)
-front_read modes.Return done held before front others body last steps spell is class =
+    read_part prefix others body last (held ++ []) is class (subst (λ l. AreReadBefore l (held ++ [])) spell fit)
+prefix_read modes.Return done held before prefix others body last steps spell is class =
     let fit = (ends_sound before (record { done = done; mode = modes.Return; held = held }) steps refl).fit in
-    read_part front others body last [] is class (subst (λ l. AreReadBefore l []) spell fit)
-front_read m done held before front others body last steps spell is class =
+    read_part prefix others body last [] is class (subst (λ l. AreReadBefore l []) spell fit)
+prefix_read m done held before prefix others body last steps spell is class =
     let fit = (sound_at before (record { done = done; mode = m; held = held }) steps).fit [] in
-    part_before front others body last done (piece (class_of m) held) (held ++ []) is class (sym spell) (λ (same : class_of m ≡ line_end). cc) fit
+    part_before prefix others body last done (piece (class_of m) held) (held ++ []) is class (sym spell) (λ (same : class_of m ≡ line_end). cc) fit
 
-pub front_fits : (before : List ℕ) (s : Scanned) (front others : List Piece) → steps_from (Some text_start) before ≡ Some s → pieces_at s ≡ front ++ others → EndsLine front → AreReadBefore front []
-front_fits before s front others steps pieces (inl none) = subst (λ l. AreReadBefore l []) (sym none) tt
-front_fits before s front others steps pieces (inr (body, last, is, class, deep)) = front_read s.mode s.done s.held before front others body last steps pieces is class
+pub prefix_fits : (before : List ℕ) (s : Scanned) (prefix others : List Piece) → steps_from (Some text_start) before ≡ Some s → pieces_at s ≡ prefix ++ others → EndsLine prefix → AreReadBefore prefix []
+prefix_fits before s prefix others steps pieces (inl none) = subst (λ l. AreReadBefore l []) (sym none) tt
+prefix_fits before s prefix others steps pieces (inr (body, last, is, class, deep)) = prefix_read s.mode s.done s.held before prefix others body last steps pieces is class
 
 -- two prefixes of one text
 pub data Either (xs zs ws : List ℕ) : Type 0 where
@@ -261,27 +261,27 @@ either (x ∷ xs) ys (z ∷ zs) ws same =
 pub length_line : (body : List Piece) (p : Piece) (ps : List Piece) → length (spelled (body ++ p ∷ ps)) ≡ length (spelled body) + (length p.text + length (spelled ps))
 length_line body p ps = ap length (spelled-append body (p ∷ ps)) ∙ length-append (spelled body) (p.text ++ spelled ps) ∙ ap (λ (n : ℕ). length (spelled body) + n) (length-append p.text (spelled ps))
 
-pub within : (front others rivals body : List Piece) (last : Piece) (all : List Piece) → all ≡ front ++ others → EndsLine front → EndsNoLine 0 others → rivals ≡ body ++ last ∷ [] → depth_through 0 body ≡ 0 → Stays body last all → length (spelled rivals) ≤ length (spelled front)
-within front others rivals body last all pieces ended none is deep stays = go (split front others body stays.line stays.others (sym pieces ∙ stays.is))
+pub within : (prefix others rivals body : List Piece) (last : Piece) (all : List Piece) → all ≡ prefix ++ others → EndsLine prefix → EndsNoLine 0 others → rivals ≡ body ++ last ∷ [] → depth_through 0 body ≡ 0 → Stays body last all → length (spelled rivals) ≤ length (spelled prefix)
+within prefix others rivals body last all pieces ended none is deep stays = go (split prefix others body stays.line stays.others (sym pieces ∙ stays.is))
   where
-    go : Split front others body stays.line stays.others → length (spelled rivals) ≤ length (spelled front)
+    go : Split prefix others body stays.line stays.others → length (spelled rivals) ≤ length (spelled prefix)
     go (Split.in_second k one two) =
-        let level : depth_through 0 k ≡ 0 = ap (λ (d : ℕ). depth_through d k) (sym (depth_front front ended)) ∙ sym (depth_through-append 0 front k) ∙ ap (depth_through 0) (sym one) ∙ deep in
+        let level : depth_through 0 k ≡ 0 = ap (λ (d : ℕ). depth_through d k) (sym (depth_prefix prefix ended)) ∙ sym (depth_through-append 0 prefix k) ∙ ap (depth_through 0) (sym one) ∙ deep in
         absurd (no_end_in 0 k stays.line stays.others (subst (EndsNoLine 0) two none) level stays.class)
     go (Split.in_first k one two) =
-        let mine : length (spelled front) ≡ length (spelled body) + (length stays.line.text + length (spelled k)) = ap (λ l. length (spelled l)) one ∙ length_line body stays.line k in
+        let mine : length (spelled prefix) ≡ length (spelled body) + (length stays.line.text + length (spelled k)) = ap (λ l. length (spelled l)) one ∙ length_line body stays.line k in
         let theirs : length (spelled rivals) ≡ length (spelled body) + (length last.text + 0) = ap (λ l. length (spelled l)) is ∙ length_line body last [] in
         let more : length last.text ≤ length stays.line.text = stays.longer in
         omega arith
 
 -- no longer prefix ends a line
-no_longer : (before later characters : List ℕ) (s : Scanned) (front others : List Piece) → steps_from (Some text_start) before ≡ Some s → before ++ later ≡ characters → ((c : ℕ) (after : List ℕ) → later ≡ c ∷ after → ¬ (IsLive (before ++ c ∷ []))) → pieces_at s ≡ front ++ others → EndsLine front → EndsNoLine 0 others → (rivals : List Piece) (after : List ℕ) → spelled rivals ++ after ≡ characters → IsBalancedReading rivals (spelled rivals) → EndsLine rivals → length (spelled rivals) ≤ length (spelled front)
-no_longer before later characters s front others steps spell dead pieces ended none rivals after spells reading (inl empty) =
+no_longer : (before later characters : List ℕ) (s : Scanned) (prefix others : List Piece) → steps_from (Some text_start) before ≡ Some s → before ++ later ≡ characters → ((c : ℕ) (after : List ℕ) → later ≡ c ∷ after → ¬ (IsLive (before ++ c ∷ []))) → pieces_at s ≡ prefix ++ others → EndsLine prefix → EndsNoLine 0 others → (rivals : List Piece) (after : List ℕ) → spelled rivals ++ after ≡ characters → IsBalancedReading rivals (spelled rivals) → EndsLine rivals → length (spelled rivals) ≤ length (spelled prefix)
+no_longer before later characters s prefix others steps spell dead pieces ended none rivals after spells reading (inl empty) =
     let short : length (spelled rivals) ≡ 0 = ap (λ l. length (spelled l)) empty in
     omega arith
-no_longer before later characters s front others steps spell dead pieces ended none rivals after spells reading (inr (body, last, is, class, deep)) = go (either (spelled rivals) after before later (spells ∙ sym spell))
+no_longer before later characters s prefix others steps spell dead pieces ended none rivals after spells reading (inr (body, last, is, class, deep)) = go (either (spelled rivals) after before later (spells ∙ sym spell))
   where
-    go : Either (spelled rivals) before later → length (spelled rivals) ≤ length (spelled front)
+    go : Either (spelled rivals) before later → length (spelled rivals) ≤ length (spelled prefix)
     go (Either.longer c k rest one two) =
         let live = subst IsLive (one ∙ sym (append_assoc before (c ∷ []) k)) (reading_live rivals (spelled rivals) reading) in
         absurd (dead c rest two (live_prefix (before ++ c ∷ []) k live))
@@ -290,20 +290,20 @@ no_longer before later characters s front others steps spell dead pieces ended n
         let through = run_before (Some text_start) (spelled rivals) k s (ap (steps_from (Some text_start)) (sym one) ∙ steps) in
         let same = same_state (spelled rivals) through.0 found.to through.1 found.steps in
         let run : steps_from (Some found.to) k ≡ Some s = ap (λ (t : Scanned). steps_from (Some t) k) (sym same) ∙ through.2 in
-        within front others rivals body last (pieces_at s) pieces ended none is deep (line_stays found.to.mode found.to.done found.to.held k s body last run (found.pieces_are ∙ is) class)
+        within prefix others rivals body last (pieces_at s) pieces ended none is deep (line_stays found.to.mode found.to.done found.to.held k s body last run (found.pieces_are ∙ is) class)
 
 -- the prefix of a text that isn't read further
-pub front_is : (before later characters : List ℕ) (s : Scanned) (st : List Bracket) (front others : List Piece) → RunsTo before s st → before ++ later ≡ characters → ((c : ℕ) (after : List ℕ) → later ≡ c ∷ after → ¬ (IsLive (before ++ c ∷ []))) → pieces_at s ≡ front ++ others → EndsLine front → EndsNoLine 0 others → IsReadPrefix front characters
-front_is before later characters s st front others steps spell dead pieces ended none =
+pub prefix_is : (before later characters : List ℕ) (s : Scanned) (st : List Bracket) (prefix others : List Piece) → RunsTo before s st → before ++ later ≡ characters → ((c : ℕ) (after : List ℕ) → later ≡ c ∷ after → ¬ (IsLive (before ++ c ∷ []))) → pieces_at s ≡ prefix ++ others → EndsLine prefix → EndsNoLine 0 others → IsReadPrefix prefix characters
+prefix_is before later characters s st prefix others steps spell dead pieces ended none =
     let stack = stack_closed s.mode s.done s.held st steps.stack in
-    let level = balanced-from_stack front (front_stack front others st (ap brackets_of (sym pieces) ∙ stack) ended) in
+    let level = balanced-from_stack prefix (prefix_stack prefix others st (ap brackets_of (sym pieces) ∙ stack) ended) in
     let read : spelled (pieces_at s) ≡ before = closed_spells s.mode s.done s.held (sound_at before s steps.run).holds ∙ (sound_at before s steps.run).spell in
-    let cut : spelled front ++ (spelled others ++ later) ≡ characters =
-    sym (append_assoc (spelled front) (spelled others) later) ∙ ap (λ t. t ++ later) (sym (spelled-append front others) ∙ ap spelled (sym pieces) ∙ read) ∙ spell in
+    let cut : spelled prefix ++ (spelled others ++ later) ≡ characters =
+    sym (append_assoc (spelled prefix) (spelled others) later) ∙ ap (λ t. t ++ later) (sym (spelled-append prefix others) ∙ ap spelled (sym pieces) ∙ read) ∙ spell in
     record {
       rest = spelled others ++ later;
       spell = cut;
-      reading = record { spell = refl; fit = front_fits before s front others steps.run pieces ended; balanced = level.0; shallow = level.1 };
+      reading = record { spell = refl; fit = prefix_fits before s prefix others steps.run pieces ended; balanced = level.0; shallow = level.1 };
       ended = ended;
-      longest = λ rivals after spells reading rivals_ended. no_longer before later characters s front others steps.run spell dead pieces ended none rivals after spells reading rivals_ended;
+      longest = λ rivals after spells reading rivals_ended. no_longer before later characters s prefix others steps.run spell dead pieces ended none rivals after spells reading rivals_ended;
     }

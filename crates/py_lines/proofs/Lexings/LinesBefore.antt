@@ -9,8 +9,8 @@ use Rattle.py_lines.specs.Neighbours.{MayFollowLines}
 use Rattle.py_lines.specs.Private.Machine.{Bracket}
 use Rattle.py_lines.proofs.Pieces.PieceLists.{MayFollow, spelled-append, AreReadBefore-append, AreReadBefore-first, AreReadBefore-second, follows_any}
 use Rattle.py_lines.proofs.Pieces.OpenBrackets.{IsShallow-append, balanced-from_stack, stack-from_balanced}
-use Rattle.py_lines.proofs.Machine.EarlierPieces.{shift_if, stack-behind}
-use Rattle.py_lines.proofs.Lexings.LinePrefix.{read-first, read-alone, line_first, depth_front, front_stack}
+use Rattle.py_lines.proofs.Machine.EarlierPieces.{shift_if, stack-after}
+use Rattle.py_lines.proofs.Lexings.LinePrefix.{read-first, read-alone, line_first, depth_prefix, prefix_stack}
 
 ends-append : (p : ℕ → Bool) (xs : List ℕ) (c : ℕ) (cs : List ℕ) → ends p (xs ++ c ∷ cs) ≡ ends p (c ∷ cs)
 ends-append p [] c cs = refl
@@ -50,7 +50,7 @@ read_together lines rest (inr (body, last, is, class, level)) first second follo
       spell = refl;
       fit = AreReadBefore-append lines rest [] (subst (λ (l : List Piece). AreReadBefore l (spelled rest ++ [])) (sym is) (read-before body last (spelled rest ++ []) class uncut fit)) second.fit (follows_lines lines rest follows.unmarked);
       balanced = balance.both (lines ++ rest) lines rest refl first.balanced second.balanced;
-      shallow = IsShallow-append 0 lines rest first.shallow (subst (λ (d : ℕ). IsShallow d rest) (sym (depth_front lines (inr (body, last, is, class, level)))) second.shallow);
+      shallow = IsShallow-append 0 lines rest first.shallow (subst (λ (d : ℕ). IsShallow d rest) (sym (depth_prefix lines (inr (body, last, is, class, level)))) second.shallow);
     }
 
 no_stack : (k : ℕ) (o : Option (List Bracket)) → shift_if k o ≡ Some [] → o ≡ Some []
@@ -67,9 +67,9 @@ read_alone lines rest (inr (body, last, is, class, level)) fit =
 pub read_apart : (lines rest : List Piece) → EndsLine lines → IsBalancedReading (lines ++ rest) (spelled (lines ++ rest)) → IsBalancedReading lines (spelled lines) × IsBalancedReading rest (spelled rest)
 read_apart lines rest ended reading =
     let whole = stack-from_balanced (lines ++ rest) reading.balanced reading.shallow in
-    let front = front_stack lines rest [] whole ended in
-    let second = no_stack _ _ (sym (stack-behind lines rest front) ∙ whole) in
-    let one = balanced-from_stack lines front in
+    let prefix = prefix_stack lines rest [] whole ended in
+    let second = no_stack _ _ (sym (stack-after lines rest prefix) ∙ whole) in
+    let one = balanced-from_stack lines prefix in
     let two = balanced-from_stack rest second in (
       record { spell = refl; fit = read_alone lines rest ended reading.fit; balanced = one.0; shallow = one.1 },
       record { spell = refl; fit = AreReadBefore-second lines rest [] reading.fit; balanced = two.0; shallow = two.1 },

@@ -15,7 +15,7 @@ use Rattle.py_lines.proofs.Machine.LiveTexts.{run_of_reading}
 use Rattle.py_lines.proofs.Lexings.GivenLines.{none_both}
 use Rattle.py_lines.proofs.Lexings.FirstLines.{LastEnd, last_end}
 use Rattle.py_lines.proofs.Lexings.SettledLines.{ends-line}
-use Rattle.py_lines.proofs.Lexings.SettledFront.{EndsNoneYet, settled_at}
+use Rattle.py_lines.proofs.Lexings.SettledPrefixes.{EndsNoneYet, settled_at}
 use Rattle.py_lines.proofs.Lexings.SettledOrder.{piece_some}
 use Rattle.py_lines.proofs.Lexings.Existence.{some_lexing_of}
 
@@ -31,21 +31,21 @@ to_fault text lines fault f =
       tail = f.tail;
       pieces = f.pieces;
       decodes = f.decodes;
-      front = record {
-        rest = f.front.rest;
-        spell = f.front.spell;
-        reading = f.front.reading;
-        ended = (f.front.ended, λ none. absurd (nothing_left none));
-        longest = λ others after spells reading ended. f.front.longest others after spells reading ended.0;
+      prefix = record {
+        rest = f.prefix.rest;
+        spell = f.prefix.spell;
+        reading = f.prefix.reading;
+        ended = (f.prefix.ended, λ none. absurd (nothing_left none));
+        longest = λ others after spells reading ended. f.prefix.longest others after spells reading ended.0;
       };
       cut = f.cut;
     }
   where
-    nothing_left : f.front.rest ++ f.tail ≡ [] → ⊥
+    nothing_left : f.prefix.rest ++ f.tail ≡ [] → ⊥
     nothing_left none =
-        let both = none_both f.front.rest f.tail none in
-        let whole : spelled f.pieces ≡ f.characters = sym (append-nil (spelled f.pieces)) ∙ ap (λ t. spelled f.pieces ++ t) (sym both.0) ∙ f.front.spell in
-        f.refused.unread both.1 f.pieces (subst (λ t. IsBalancedReading f.pieces t) whole f.front.reading)
+        let both = none_both f.prefix.rest f.tail none in
+        let whole : spelled f.pieces ≡ f.characters = sym (append-nil (spelled f.pieces)) ∙ ap (λ t. spelled f.pieces ++ t) (sym both.0) ∙ f.prefix.spell in
+        f.refused.unread both.1 f.pieces (subst (λ t. IsBalancedReading f.pieces t) whole f.prefix.reading)
 
 -- a line end that ends in CR is CR
 return_alone : (text : List ℕ) → IsLineEnd text → ends is_return text ≡ true → text ≡ 13 ∷ []
@@ -61,19 +61,19 @@ module _ (text : List ℕ) (lines : List LogicalLine) (w : IsLexedWhole text lin
       let run = run_of_reading w.pieces w.characters w.reading in
       let spell : spelled base ++ spelled others ≡ w.characters = sym (spelled-append base others) ∙ ap spelled (sym is) ∙ w.reading.spell in
       let stays : EndsForGood base (spelled others ++ []) = (ended, λ none. good (none_both (spelled others) [] none).0) in
-      let front = settled_at w.characters [] run.to [] base others (spelled others) run.steps (run.pieces_are ∙ is) stays yet spell in
-      (lines_of base, record { characters = w.characters; tail = []; pieces = base; decodes = w.decodes; front = front; cut = refl })
+      let prefix = settled_at w.characters [] run.to [] base others (spelled others) run.steps (run.pieces_are ∙ is) stays yet spell in
+      (lines_of base, record { characters = w.characters; tail = []; pieces = base; decodes = w.decodes; prefix = prefix; cut = refl })
 
   -- the last line end is CR at the text's end: LF may follow, so the lines end at the line end before it
   before_return : (body : List Piece) (last : Piece) → w.pieces ≡ body ++ last ∷ [] → last.class ≡ line_end → last.text ≡ 13 ∷ [] → LastEnd 0 body → SettlesSome text
   before_return body last is class cr (LastEnd.no_end free) =
       settled [] (body ++ last ∷ []) is (inl refl) (λ none. refl) (EndsNoneYet.by_return body last.text (ap (λ k. body ++ piece k last.text ∷ []) class) free cr refl)
-  before_return body last is class cr (LastEnd.end_at front line others is_body line_is deep free) =
-      let base = front ++ line ∷ [] in
+  before_return body last is class cr (LastEnd.end_at prefix line others is_body line_is deep free) =
+      let base = prefix ++ line ∷ [] in
       let rest = others ++ last ∷ [] in
-      let all : w.pieces ≡ base ++ rest = is ∙ ap (λ l. l ++ last ∷ []) is_body ∙ append_assoc front (line ∷ others) (last ∷ []) ∙ sym (append_assoc front (line ∷ []) rest) in
+      let all : w.pieces ≡ base ++ rest = is ∙ ap (λ l. l ++ last ∷ []) is_body ∙ append_assoc prefix (line ∷ others) (last ∷ []) ∙ sym (append_assoc prefix (line ∷ []) rest) in
       let some : spelled rest ≡ [] → ends is_return (spelled base) ≡ false = λ none. absurd (omega (arith, ap length none, ap length (spelled-append others (last ∷ [])), length-append (spelled others) (spelled (last ∷ [])), length-append last.text [], ap length cr)) in
-      settled base rest all (inr (front, line, refl, line_is, deep)) some (EndsNoneYet.by_return others last.text (ap (λ k. others ++ piece k last.text ∷ []) class) free cr refl)
+      settled base rest all (inr (prefix, line, refl, line_is, deep)) some (EndsNoneYet.by_return others last.text (ap (λ k. others ++ piece k last.text ∷ []) class) free cr refl)
 
   by_end : (body : List Piece) (last : Piece) → w.pieces ≡ body ++ last ∷ [] → last.class ≡ line_end → depth_through 0 body ≡ 0 → InClass last.class last.text → SettlesSome text
   by_end body last is class deep holds =

@@ -85,13 +85,13 @@ another_end body last other is also holds c cs ds one two deep reading =
     }
 
 -- the text goes on: what follows the settled pieces doesn't begin with LF where they end in CR
-module _ (characters tail more : List ℕ) (pieces : List Piece) (front : IsSettledPrefix pieces characters tail) (fine : all_scalars front.rest ≡ true) (bad : StartsWithNoChar tail) (after t : List ℕ) (are : all_scalars after ≡ true) (none : StartsWithNoChar t) (same : encode_utf8_all after ++ t ≡ (encode_utf8_all front.rest ++ tail) ++ more) where
+module _ (characters tail more : List ℕ) (pieces : List Piece) (prefix : IsSettledPrefix pieces characters tail) (fine : all_scalars prefix.rest ≡ true) (bad : StartsWithNoChar tail) (after t : List ℕ) (are : all_scalars after ≡ true) (none : StartsWithNoChar t) (same : encode_utf8_all after ++ t ≡ (encode_utf8_all prefix.rest ++ tail) ++ more) where
   -- a longer prefix would end a line, if LF followed
-  no_feed : (body : List Piece) (last : Piece) → pieces ≡ body ++ last ∷ [] → last.class ≡ line_end → depth_through 0 body ≡ 0 → ends is_return last.text ≡ true → (c : ℕ) (cs : List ℕ) → front.rest ≡ c ∷ cs → is_line_feed c ≡ false
+  no_feed : (body : List Piece) (last : Piece) → pieces ≡ body ++ last ∷ [] → last.class ≡ line_end → depth_through 0 body ≡ 0 → ends is_return last.text ≡ true → (c : ℕ) (cs : List ℕ) → prefix.rest ≡ c ∷ cs → is_line_feed c ≡ false
   no_feed body last is class deep cr c cs rest = ⊎_elim (λ (feeds : is_line_feed c ≡ true). absurd (too_long feeds)) (λ h. h) (cases_Bool (is_line_feed c))
     where
       reading : IsBalancedReading (body ++ last ∷ []) (spelled (body ++ last ∷ []))
-      reading = subst (λ (l : List Piece). IsBalancedReading l (spelled l)) is front.reading
+      reading = subst (λ (l : List Piece). IsBalancedReading l (spelled l)) is prefix.reading
 
       end : IsLineEnd last.text
       end = subst (λ k. InClass k last.text) class (AreReadBefore-second body (last ∷ []) [] reading.fit).0
@@ -104,21 +104,21 @@ module _ (characters tail more : List ℕ) (pieces : List Piece) (front : IsSett
           let text = line_first last class (AreReadBefore-second body (last ∷ []) [] reading.fit).0 in
           let read = another_end body last other class refl holds text.0 text.1 (text.1 ++ c ∷ []) text.2 (ap (λ x. x ++ c ∷ []) text.2) deep reading in
           let longer : spelled others ≡ spelled pieces ++ c ∷ [] = spelled-append body (other ∷ []) ∙ ap (λ x. spelled body ++ x) (append-nil (last.text ++ c ∷ [])) ∙ sym (append_assoc (spelled body) last.text (c ∷ [])) ∙ ap (λ x. (spelled body ++ x) ++ c ∷ []) (sym (append-nil last.text)) ∙ ap (λ x. x ++ c ∷ []) (sym (spelled-append body (last ∷ []))) ∙ ap (λ (l : List Piece). spelled l ++ c ∷ []) (sym is) in
-          let spell : spelled others ++ cs ≡ characters = ap (λ x. x ++ cs) longer ∙ append_assoc (spelled pieces) (c ∷ []) cs ∙ ap (λ x. spelled pieces ++ x) (sym rest) ∙ front.spell in
+          let spell : spelled others ++ cs ≡ characters = ap (λ x. x ++ cs) longer ∙ append_assoc (spelled pieces) (c ∷ []) cs ∙ ap (λ x. spelled pieces ++ x) (sym rest) ∙ prefix.spell in
           let ended : EndsForGood others (cs ++ tail) = (inr (body, other, refl, refl, deep), λ nothing. ends-line is_return body other refl holds ∙ ends-append is_return last.text c [] ∙ feed-not-return c feeds) in
-          let bound = front.longest others cs spell read ended in
+          let bound = prefix.longest others cs spell read ended in
           omega (arith, bound, ap length longer, length-append (spelled pieces) (c ∷ []))
 
-  follows : (body : List Piece) (last : Piece) → pieces ≡ body ++ last ∷ [] → last.class ≡ line_end → depth_through 0 body ≡ 0 → ends is_return last.text ≡ true → (rest : List ℕ) → front.rest ≡ rest → GoesOn front.rest (tail ++ more) after t → begins is_line_feed after ≡ false
+  follows : (body : List Piece) (last : Piece) → pieces ≡ body ++ last ∷ [] → last.class ≡ line_end → depth_through 0 body ≡ 0 → ends is_return last.text ≡ true → (rest : List ℕ) → prefix.rest ≡ rest → GoesOn prefix.rest (tail ++ more) after t → begins is_line_feed after ≡ false
   follows body last is class deep cr (c ∷ cs) rest on = ap (begins is_line_feed) (on.split ∙ ap (λ x. x ++ on.rest) rest) ∙ no_feed body last is class deep cr c cs rest
   follows body last is class deep cr [] rest on = by_tail tail refl after refl
     where
       by_tail : (d : List ℕ) → d ≡ tail → (a : List ℕ) → after ≡ a → begins is_line_feed a ≡ false
       by_tail d known [] is_a = refl
       by_tail [] known (a ∷ as') is_a =
-          let reading = subst (λ (l : List Piece). IsBalancedReading l (spelled l)) is front.reading in
-          let nothing : front.rest ++ tail ≡ [] = ap (λ x. x ++ tail) rest ∙ sym known in
-          let ending = ap (λ (l : List Piece). ends is_return (spelled l)) (sym is) ∙ front.ended.1 nothing in
+          let reading = subst (λ (l : List Piece). IsBalancedReading l (spelled l)) is prefix.reading in
+          let nothing : prefix.rest ++ tail ≡ [] = ap (λ x. x ++ tail) rest ∙ sym known in
+          let ending = ap (λ (l : List Piece). ends is_return (spelled l)) (sym is) ∙ prefix.ended.1 nothing in
           absurd (both_ways _ (sym (ends-line is_return body last class (AreReadBefore-second body (last ∷ []) [] reading.fit).0) ∙ ending) cr)
       by_tail (d ∷ ds) known (a ∷ as') is_a = ⊎_elim (λ (feeds : is_line_feed a ≡ true). absurd (whole feeds)) (λ h. h) (cases_Bool (is_line_feed a))
         where
@@ -131,18 +131,18 @@ module _ (characters tail more : List ℕ) (pieces : List Piece) (front : IsSett
               bad 10 ds refl (sym known ∙ ap (λ (n : ℕ). n ∷ ds) first ∙ ap (λ x. x ++ ds) (sym one))
 
   pub settled_fits : AreReadBefore pieces after
-  settled_fits = by_end front.ended.0
+  settled_fits = by_end prefix.ended.0
     where
-      on : GoesOn front.rest (tail ++ more) after t
-      on = goes_on front.rest (tail ++ more) after t fine are none (sym (append_assoc (encode_utf8_all front.rest) tail more) ∙ sym same)
+      on : GoesOn prefix.rest (tail ++ more) after t
+      on = goes_on prefix.rest (tail ++ more) after t fine are none (sym (append_assoc (encode_utf8_all prefix.rest) tail more) ∙ sym same)
 
       by_end : EndsLine pieces → AreReadBefore pieces after
       by_end (inl empty) = subst (λ l. AreReadBefore l after) (sym empty) tt
       by_end (inr (body, last, is, class, deep)) =
           subst (λ l. AreReadBefore l after) (sym is)
-          (read-on body last [] after class (subst (λ l. AreReadBefore l []) is front.reading.fit)
+          (read-on body last [] after class (subst (λ l. AreReadBefore l []) is prefix.reading.fit)
           (⊎_elim
-          (λ (cr : ends is_return last.text ≡ true). ap (λ (b : Bool). b && begins is_line_feed after) cr ∙ follows body last is class deep cr front.rest refl on)
+          (λ (cr : ends is_return last.text ≡ true). ap (λ (b : Bool). b && begins is_line_feed after) cr ∙ follows body last is class deep cr prefix.rest refl on)
           (λ (other : ends is_return last.text ≡ false). ap (λ (b : Bool). b && begins is_line_feed after) other)
           (cases_Bool (ends is_return last.text))))
 
@@ -169,10 +169,10 @@ still_ends pieces rest tail more after t same ended = (ended.0, λ none. ended.1
 pub settled_begin : (text more : List ℕ) (lines : List LogicalLine) → IsSettled text lines → BeginsLexing (text ++ more) lines
 settled_begin text more lines settled =
     let pieces = settled.pieces in
-    let front = settled.front in
+    let prefix = settled.prefix in
     let whole = decoding (text ++ more) in
-    let parts = all_scalars-parts (spelled pieces) front.rest (ap all_scalars front.spell ∙ settled.decodes.are) in
-    let on = goes_on (spelled pieces) ((encode_utf8_all front.rest ++ settled.tail) ++ more) whole.characters whole.tail parts.0 whole.decodes.are whole.decodes.bad (spelled_first text more pieces front.rest settled.characters settled.tail front.spell settled.decodes.spell ∙ sym whole.decodes.spell) in
+    let parts = all_scalars-parts (spelled pieces) prefix.rest (ap all_scalars prefix.spell ∙ settled.decodes.are) in
+    let on = goes_on (spelled pieces) ((encode_utf8_all prefix.rest ++ settled.tail) ++ more) whole.characters whole.tail parts.0 whole.decodes.are whole.decodes.bad (spelled_first text more pieces prefix.rest settled.characters settled.tail prefix.spell settled.decodes.spell ∙ sym whole.decodes.spell) in
     given_begin (standing_at (text ++ more) (byte_len (spelled pieces)) (1 + line_ends (spelled pieces))) lines
     (record {
       first = record {
@@ -182,10 +182,10 @@ settled_begin text more lines settled =
         rest = on.rest;
         decodes = whole.decodes;
         spell = sym on.split;
-        fit = settled_fits settled.characters settled.tail more pieces front parts.1 settled.decodes.bad on.rest whole.tail (all_scalars-parts (spelled pieces) on.rest (ap all_scalars (sym on.split) ∙ whole.decodes.are)).1 whole.decodes.bad on.left;
-        balanced = front.reading.balanced;
-        shallow = front.reading.shallow;
-        ended = ends_for_good pieces (on.rest ++ whole.tail) front.ended.0;
+        fit = settled_fits settled.characters settled.tail more pieces prefix parts.1 settled.decodes.bad on.rest whole.tail (all_scalars-parts (spelled pieces) on.rest (ap all_scalars (sym on.split) ∙ whole.decodes.are)).1 whole.decodes.bad on.left;
+        balanced = prefix.reading.balanced;
+        shallow = prefix.reading.shallow;
+        ended = ends_for_good pieces (on.rest ++ whole.tail) prefix.ended.0;
         here = refl;
         number = refl;
         cut = settled.cut;

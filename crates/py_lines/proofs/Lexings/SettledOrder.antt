@@ -79,13 +79,13 @@ begin_both text lines others f g have short = begin_same lines others f.more g.m
 -- the bytes of settled lines
 module _ (text : List ℕ) (lines : List LogicalLine) (s : IsSettled text lines) where
   settled_some : LinesHaveText lines
-  settled_some = subst LinesHaveText (sym s.cut) (from_some 0 1 (cut 0 s.pieces) (cut_some 0 s.pieces [] s.front.reading.fit))
+  settled_some = subst LinesHaveText (sym s.cut) (from_some 0 1 (cut 0 s.pieces) (cut_some 0 s.pieces [] s.prefix.reading.fit))
 
   settled_bytes : length (texts lines) ≡ byte_len (spelled s.pieces)
   settled_bytes = ap (λ l. length (texts l)) s.cut ∙ ap length (texts-lines s.pieces)
 
   settled_within : length (texts lines) ≤ length text
-  settled_within = omega (arith, settled_bytes, ap byte_len s.front.spell, byte_len-append (spelled s.pieces) s.front.rest, ap length s.decodes.spell, length-append (encode_utf8_all s.characters) s.tail)
+  settled_within = omega (arith, settled_bytes, ap byte_len s.prefix.spell, byte_len-append (spelled s.pieces) s.prefix.rest, ap length s.decodes.spell, length-append (encode_utf8_all s.characters) s.tail)
 
 -- the lines that bytes settle begin the first lines up to the place where these bytes end
 pub settled_begin_first : (text : List ℕ) (place line : ℕ) (lines others : List LogicalLine) → AreFirstLines text place line lines → IsSettled (take place text) others → (more : List LogicalLine) × (lines ≡ others ++ more)
@@ -98,12 +98,12 @@ settled_begin_first text place line lines others f s =
 -- more bytes settle no fewer lines
 pub settled_grow : (text more : List ℕ) (lines others : List LogicalLine) → IsSettled text lines → IsSettled (text ++ more) others → (rest : List LogicalLine) × (others ≡ lines ++ rest)
 settled_grow text more lines others s t =
-    let front = s.front in
-    let parts = all_scalars-parts (spelled s.pieces) front.rest (ap all_scalars front.spell ∙ s.decodes.are) in
-    let on = goes_on (spelled s.pieces) ((encode_utf8_all front.rest ++ s.tail) ++ more) t.characters t.tail parts.0 t.decodes.are t.decodes.bad (spelled_first text more s.pieces front.rest s.characters s.tail front.spell s.decodes.spell ∙ sym t.decodes.spell) in
-    let ended = still_ends s.pieces front.rest s.tail more on.rest t.tail on.left front.ended in
-    let longer = t.front.longest s.pieces on.rest (sym on.split) front.reading ended in
-    let bytes = bytes_in (spelled s.pieces) (spelled t.pieces) on.rest t.front.rest (sym on.split ∙ sym t.front.spell) longer in
+    let prefix = s.prefix in
+    let parts = all_scalars-parts (spelled s.pieces) prefix.rest (ap all_scalars prefix.spell ∙ s.decodes.are) in
+    let on = goes_on (spelled s.pieces) ((encode_utf8_all prefix.rest ++ s.tail) ++ more) t.characters t.tail parts.0 t.decodes.are t.decodes.bad (spelled_first text more s.pieces prefix.rest s.characters s.tail prefix.spell s.decodes.spell ∙ sym t.decodes.spell) in
+    let ended = still_ends s.pieces prefix.rest s.tail more on.rest t.tail on.left prefix.ended in
+    let longer = t.prefix.longest s.pieces on.rest (sym on.split) prefix.reading ended in
+    let bytes = bytes_in (spelled s.pieces) (spelled t.pieces) on.rest t.prefix.rest (sym on.split ∙ sym t.prefix.spell) longer in
     let begin = subst (λ x. BeginsLexing x others) (append-nil (text ++ more)) (settled_begin (text ++ more) [] others t) in
     begin_both (text ++ more) others lines begin (settled_begin text more lines s) (settled_some text lines s)
     (omega (arith, bytes, settled_bytes text lines s, settled_bytes (text ++ more) others t))

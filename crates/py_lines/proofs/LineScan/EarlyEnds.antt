@@ -71,10 +71,10 @@ adds_through before scan new c closes adds = record { mid = adds.mid; closes = c
 -- the piece begins as it does after the open one, and isn't refused
 begins_shut : (before scan new : Scan) (c : ℕ) (st : Start) (p : Progress) → Closes before scan → IsBegun (stack_of scan.brackets) c → start_of c ≡ st → Begins scan c st (Ok p) new → Begins before c st (Ok p) new
 begins_shut before scan new c (starts.Open m) p closes begun is (going, opens) = (going, record { mid = opens.mid; closes = closes_through before scan opens.mid closes opens.closes; is = opens.is })
-begins_shut before scan new c starts.Operator progress.Going closes begun is (met, stands, behind) = (
+begins_shut before scan new c starts.Operator progress.Going closes begun is (met, stands, adds) = (
   met,
   ap (λ (x : Scan). stack_with x.brackets x.stop c) (sym closes.same) ∙ stands,
-  record { mid = behind.mid; closes = closes_through (with_brackets before met) (with_brackets scan met) behind.mid (with_met before scan met closes) behind.closes; stands = behind.stands },
+  record { mid = adds.mid; closes = closes_through (with_brackets before met) (with_brackets scan met) adds.mid (with_met before scan met closes) adds.closes; stands = adds.stands },
 )
 begins_shut before scan new c starts.Operator progress.Refused closes begun is (none, same) = absurd (both_ways _ (refused_anywhere (stack_of scan.brackets) scan.stop c none) (begun.stands is))
 begins_shut before scan new c starts.Operator (progress.LineEnded len) closes begun is never = absurd never

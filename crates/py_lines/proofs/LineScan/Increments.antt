@@ -15,7 +15,7 @@ use Rattle.py_lines.proofs.Text.CharacterTests.{return_is, feed-not-return}
 use Rattle.py_lines.proofs.Pieces.PieceLists.{piece, AreReadBefore-push, follows_any}
 use Rattle.py_lines.proofs.Pieces.OpenBrackets.{through-append, stands, depth_through-append}
 use Rattle.py_lines.proofs.Machine.Soundness.{sound_at}
-use Rattle.py_lines.proofs.Lexings.LinePrefix.{EndsNoLine, depth_front}
+use Rattle.py_lines.proofs.Lexings.LinePrefix.{EndsNoLine, depth_prefix}
 
 -- the stack after one more piece
 pub stack_push : (done : List Piece) (p : Piece) (st : List Bracket) → brackets_of done ≡ Some st → brackets_of (done ++ p ∷ []) ≡ brackets_after st (byte_len (spelled done)) p
@@ -26,9 +26,9 @@ stack_push done p st stack = through-append (Some []) [] done (p ∷ []) ∙ ap 
     go (Some bs) = refl
 
 -- the depth after a line's pieces is the number of open brackets
-pub depth_is_stack : (front others : List Piece) (st : List Bracket) → EndsLine front → brackets_of (front ++ others) ≡ Some st → depth_through 0 others ≡ length st
-depth_is_stack front others st ended stack =
-    ap (λ (d : ℕ). depth_through d others) (sym (depth_front front ended)) ∙ sym (depth_through-append 0 front others) ∙ (stands (front ++ others) st stack).depth
+pub depth_is_stack : (prefix others : List Piece) (st : List Bracket) → EndsLine prefix → brackets_of (prefix ++ others) ≡ Some st → depth_through 0 others ≡ length st
+depth_is_stack prefix others st ended stack =
+    ap (λ (d : ℕ). depth_through d others) (sym (depth_prefix prefix ended)) ∙ sym (depth_through-append 0 prefix others) ∙ (stands (prefix ++ others) st stack).depth
 
 -- one more piece that doesn't end the line
 pub EndsNoLine-push : (d : ℕ) (ps : List Piece) (p : Piece) → EndsNoLine d ps → is_line_end_class p.class && (depth_through d ps == 0) ≡ false → EndsNoLine d (ps ++ p ∷ [])

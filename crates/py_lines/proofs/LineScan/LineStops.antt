@@ -23,7 +23,7 @@ use Rattle.py_lines.proofs.LineScan.EarlyEnds.{TakesFrom, taken_free, taken_open
 use Rattle.py_lines.proofs.LineScan.ShortPieces.{free_is, open_reached}
 use Rattle.py_lines.proofs.Text.CharacterTests.{feed_from, feed_is}
 use Rattle.py_lines.proofs.Text.Incomplete.{text_none}
-use Rattle.py_lines.proofs.Text.Utf8Prefixes.{front_chars, all_scalars-parts, scalars_more, spell_more}
+use Rattle.py_lines.proofs.Text.Utf8Prefixes.{prefix_chars, all_scalars-parts, scalars_more, spell_more}
 use Rattle.py_lines.proofs.Pieces.PieceLists.{AreReadBefore-second}
 use Rattle.py_lines.proofs.LogicalLines.Cuts.{uncut}
 use Rattle.py_lines.proofs.Lexings.SettledLines.{ends-line, ends-append}
@@ -222,7 +222,7 @@ begun_reached old text bytes is tallies stacked = record {
 -- bytes of a text that begin no character are none
 nothing_left : (text read rest : List ℕ) → IsUtf8 text → encode_utf8_all read ++ rest ≡ text → StartsWithNoChar rest → rest ≡ []
 nothing_left text read rest utf8 spell none =
-    let split = front_chars read utf8.0 rest (utf8.1.1 ∙ sym spell) in
+    let split = prefix_chars read utf8.0 rest (utf8.1.1 ∙ sym spell) in
     text_none rest (split.0, ((all_scalars-parts read split.0 (ap all_scalars (sym split.1) ∙ utf8.1.0)).1, split.2)) none
 
 -- where the text ends after CR, the line ends there
@@ -249,7 +249,7 @@ apart_from read rest (c ∷ cs) (inr (b, more, is, other)) spells returns = fals
 pub scans_alone : (m : Mode) (line : ℕ) (text : List ℕ) (scan : Scan) (stop : Stop) → IsUtf8 text → (stop ≡ stops.TextEnd → is_returned scan ≡ false) → ScansIn m line text scan stop → Scans m text scan stop
 scans_alone m line text scan stops.TextEnd utf8 open_yet scans = record { read = scans.read; rest = scans.rest; scalars = scans.scalars; spell = scans.spell; stops = (scans.stops.0, nothing_left text scans.read scans.rest utf8 scans.spell scans.stops.1, open_yet refl) }
 scans_alone m line text scan (stops.LineEnd len) utf8 open_yet scans =
-    let split = front_chars scans.read utf8.0 scans.rest (utf8.1.1 ∙ sym scans.spell) in
+    let split = prefix_chars scans.read utf8.0 scans.rest (utf8.1.1 ∙ sym scans.spell) in
     record {
       read = scans.read;
       rest = scans.rest;
@@ -259,5 +259,5 @@ scans_alone m line text scan (stops.LineEnd len) utf8 open_yet scans =
     }
 scans_alone m line text scan (stops.Refused c) utf8 open_yet scans =
     let stops = scans.stops in
-    let split = front_chars (scans.read ++ c ∷ []) utf8.0 stops.1 (utf8.1.1 ∙ sym (spell_more scans.read stops.1 text c (ap (λ t. encode_utf8_all scans.read ++ t) (sym stops.3) ∙ scans.spell))) in
+    let split = prefix_chars (scans.read ++ c ∷ []) utf8.0 stops.1 (utf8.1.1 ∙ sym (spell_more scans.read stops.1 text c (ap (λ t. encode_utf8_all scans.read ++ t) (sym stops.3) ∙ scans.spell))) in
     record { read = scans.read; rest = scans.rest; scalars = scans.scalars; spell = scans.spell; stops = (stops.0, split.0, stops.3 ∙ ap (λ t. encode_utf8 c ++ t) (sym split.2), stops.4, stops.5) }

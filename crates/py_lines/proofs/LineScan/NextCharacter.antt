@@ -246,39 +246,39 @@ module _ (old new : Scan) (done : List Piece) (m : Mode) (held read : List ℕ) 
       )
 
   takes_operator : (r : Result Progress AllocError) → start_of c ≡ starts.Operator → Operates old c r new → Takes old (scanned done m held) c r new
-  takes_operator (Ok progress.Going) starts_as (met, is, behind) =
+  takes_operator (Ok progress.Going) starts_as (met, is, adds) =
       let fit = AreReadBefore-first (closed m done held) (piece operator (c ∷ []) ∷ []) [] ((next_sound starts.Operator starts_as).fit []) in
-      let shut = closes_shut (with_brackets old met) behind.mid done m held read behind.closes sound (tallies_in old (scanned done m held) old.piece.mode m met tallies.mode tallies) in (
+      let shut = closes_shut (with_brackets old met) adds.mid done m held read adds.closes sound (tallies_in old (scanned done m held) old.piece.mode m met tallies.mode tallies) in (
         record {
           next = fresh (closed m done held ++ piece operator (c ∷ []) ∷ []);
           goes = goes_as starts.Operator starts_as;
-          tallies = tallies_standing behind.mid new (closed m done held) c operator (Some (kind.Op c)) _ (λ a b l. refl) (kind_operator (closed m done held) (c ∷ []) c) refl refl fit shut behind.stands;
-          stacked = operator_stack ∙ is ∙ ap Some (sym (adds_stack (with_brackets old met) new c (Some (kind.Op c)) behind));
+          tallies = tallies_standing adds.mid new (closed m done held) c operator (Some (kind.Op c)) _ (λ a b l. refl) (kind_operator (closed m done held) (c ∷ []) c) refl refl fit shut adds.stands;
+          stacked = operator_stack ∙ is ∙ ap Some (sym (adds_stack (with_brackets old met) new c (Some (kind.Op c)) adds));
           one_line = EndsNoLine-push 0 (closed m done held) (piece operator (c ∷ [])) closed_line refl;
         },
-        adds_line (with_brackets old met) new c (Some (kind.Op c)) behind,
+        adds_line (with_brackets old met) new c (Some (kind.Op c)) adds,
       )
   takes_operator (Ok (progress.LineEnded len)) starts_as never = absurd never
   takes_operator (Ok progress.Refused) starts_as (is, same) = (ap stack_if (goes_as starts.Operator starts_as) ∙ operator_stack ∙ is, same)
   takes_operator (Err e) starts_as it = tt
 
   takes_feed : (r : Result Progress AllocError) → start_of c ≡ starts.LineEnd → r ≡ Ok (line_end_progress (none_open (stack_of old.brackets)) 1) → ClosesAndAdds old c None new → Takes old (scanned done m held) c r new
-  takes_feed r starts_as is behind =
+  takes_feed r starts_as is adds =
       let fit = AreReadBefore-first (closed m done held) (piece line_end (c ∷ []) ∷ []) [] ((next_sound starts.LineEnd starts_as).fit []) in
-      let shut = closes_shut old behind.mid done m held read behind.closes sound tallies in
+      let shut = closes_shut old adds.mid done m held read adds.closes sound tallies in
       let feeds : is_line_feed c ≡ true = subst (StartsSo c) starts_as (starts_so c) in
       let P : Result Progress AllocError → Type 0 = λ q. Takes old (scanned done m held) c q new in
       subst P (sym is)
       (takes_end old new (scanned done m held) c 1 (closed m done held) (c ∷ []) (stack_of old.brackets) (goes_as starts.LineEnd starts_as)
-      (tallies_standing behind.mid new (closed m done held) c line_end None _ (λ a b l. refl) (kind_line_end (closed m done held) (c ∷ [])) refl refl fit shut behind.stands)
-      closed_stack closed_line (one_feed c feeds) (adds_stack old new c None behind) (adds_line old new c None behind) (none_open (stack_of old.brackets)) refl)
+      (tallies_standing adds.mid new (closed m done held) c line_end None _ (λ a b l. refl) (kind_line_end (closed m done held) (c ∷ [])) refl refl fit shut adds.stands)
+      closed_stack closed_line (one_feed c feeds) (adds_stack old new c None adds) (adds_line old new c None adds) (none_open (stack_of old.brackets)) refl)
 
   takes_start : (st : Start) (r : Result Progress AllocError) → start_of c ≡ st → Begins old c st r new → Takes old (scanned done m held) c r new
   takes_start (starts.Open n) r starts_as (is, opens) =
       let P : Result Progress AllocError → Type 0 = λ q. Takes old (scanned done m held) c q new in
       subst P (sym is) (takes_open n starts_as opens)
   takes_start starts.Operator r starts_as operates = takes_operator r starts_as operates
-  takes_start starts.LineEnd r starts_as (is, behind) = takes_feed r starts_as is behind
+  takes_start starts.LineEnd r starts_as (is, adds) = takes_feed r starts_as is adds
   takes_start starts.Nothing r starts_as (is, same) =
       let P : Result Progress AllocError → Type 0 = λ q. Takes old (scanned done m held) c q new in
       subst P (sym is) (ap stack_if (goes_as starts.Nothing starts_as), same)

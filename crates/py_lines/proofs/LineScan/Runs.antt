@@ -175,24 +175,24 @@ pub record HeldIn (m : Mode) (text : List ℕ) (n : ℕ) : Type 0 where
   pub size : byte_len run ≡ n
   pub stay : list_all (stays m) run ≡ true
 
-pub held_in : (m : Mode) (text : List ℕ) (n : ℕ) → (front : IsUtf8 (take n text)) → HasAsciiQuote m → n ≤ length text → ((i : ℕ) → i < n → stays m (slice_index text i) ≡ true) → HeldIn m text n
-held_in m text n front quote within each =
+pub held_in : (m : Mode) (text : List ℕ) (n : ℕ) → (prefix : IsUtf8 (take n text)) → HasAsciiQuote m → n ≤ length text → ((i : ℕ) → i < n → stays m (slice_index text i) ≡ true) → HeldIn m text n
+held_in m text n prefix quote within each =
     let size : length (take n text) ≡ n = length-take-le n text within in
     record {
-      run = front.0;
-      spell = ap (λ t. t ++ drop n text) front.1.1 ∙ take-append-drop n text;
-      scalars = front.1.0;
-      size = ap length front.1.1 ∙ size;
-      stay = characters_stay m front.0 quote (λ i less.
-          let short : i < n = omega (arith, less, ap length front.1.1, size) in
-          subst (λ (t : List ℕ). stays m (slice_index t i) ≡ true) (sym front.1.1) (subst (λ (b : ℕ). stays m b ≡ true) (sym (get_or-take n text i 0 short)) (each i short)));
+      run = prefix.0;
+      spell = ap (λ t. t ++ drop n text) prefix.1.1 ∙ take-append-drop n text;
+      scalars = prefix.1.0;
+      size = ap length prefix.1.1 ∙ size;
+      stay = characters_stay m prefix.0 quote (λ i less.
+          let short : i < n = omega (arith, less, ap length prefix.1.1, size) in
+          subst (λ (t : List ℕ). stays m (slice_index t i) ≡ true) (sym prefix.1.1) (subst (λ (b : ℕ). stays m b ≡ true) (sym (get_or-take n text i 0 short)) (each i short)));
     }
 
 -- the text that a run begins with
-pub held_front : (m : Mode) (bytes text : List ℕ) (n : ℕ) → IsUtf8 text → HasAsciiQuote m → text ≡ take (length text) (take n bytes) → IsRunOf (stays m) bytes n → HeldIn m bytes (length text)
-held_front m bytes text n utf8 quote front run =
-    let size : length text ≤ n = omega (arith, ap length front, length-take (length text) (take n bytes), length-take n bytes) in
-    held_in m bytes (length text) (subst IsUtf8 (front ∙ take-take (length text) n bytes size) utf8) quote (omega (arith, size, run.within)) (λ i less. run.each i (omega (arith, less, size)))
+pub held_prefix : (m : Mode) (bytes text : List ℕ) (n : ℕ) → IsUtf8 text → HasAsciiQuote m → text ≡ take (length text) (take n bytes) → IsRunOf (stays m) bytes n → HeldIn m bytes (length text)
+held_prefix m bytes text n utf8 quote prefix run =
+    let size : length text ≤ n = omega (arith, ap length prefix, length-take (length text) (take n bytes), length-take n bytes) in
+    held_in m bytes (length text) (subst IsUtf8 (prefix ∙ take-take (length text) n bytes size) utf8) quote (omega (arith, size, run.within)) (λ i less. run.each i (omega (arith, less, size)))
 
 full_from : (run : List ℕ) → 0 < byte_len run → IsFull run
 full_from [] some = absurd (omega (arith, some))

@@ -25,7 +25,7 @@ use Rattle.py_lines.proofs.Machine.LiveTexts.{stack_closed}
 use Rattle.py_lines.proofs.Faults.FaultPlaces.{dead_stop}
 use Rattle.py_lines.proofs.Lexings.LinePrefix.{line_first}
 use Rattle.py_lines.proofs.LogicalLines.Cuts.{byte_len-append}
-use Rattle.py_lines.proofs.Machine.EarlierPieces.{behind, behind_if, run-behind, step-behind, closed-behind, shift, shift_if, stack-behind}
+use Rattle.py_lines.proofs.Machine.EarlierPieces.{after_pieces, after_if, steps-after, step-after, closed-after, shift, shift_if, stack-after}
 
 -- a line begins soundly
 pub begun_sound : (n : ℕ) → IsSound (line_start (first_mode n)) []
@@ -74,11 +74,11 @@ pub record Joined (base : List Piece) (read : List ℕ) (s : Scanned) (first : L
   pub st : List Bracket
   pub steps : RunsTo (spelled base ++ read) state st
   pub pieces : pieces_at state ≡ base ++ pieces_at s
-  pub next : (c : ℕ) (more : List ℕ) → after ≡ c ∷ more → step state c ≡ behind_if base (step s c)
+  pub next : (c : ℕ) (more : List ℕ) → after ≡ c ∷ more → step state c ≡ after_if base (step s c)
   pub short : in_short state.mode ≡ in_short s.mode
   pub slash : is_after_backslash state.mode ≡ is_after_backslash s.mode
   pub start : in_short s.mode || is_after_backslash s.mode ≡ true → byte_len (spelled state.done) ≡ byte_len (spelled base) + byte_len (spelled s.done)
-  pub same : 0 < byte_len read → (state ≡ behind base s) × (st ≡ shift (byte_len (spelled base)) first)
+  pub same : 0 < byte_len read → (state ≡ after_pieces base s) × (st ≡ shift (byte_len (spelled base)) first)
 
 paired : (base : List Piece) (m : Mode) (done : List Piece) (held : List ℕ) → brackets_of base ≡ Some [] → closed m done held ≡ base → brackets_of done ≡ Some []
 paired base m done held level is =
@@ -88,13 +88,13 @@ paired base m done held level is =
     first.1 ∙ same
 
 -- from the start of a line, the machine goes as from its pieces
-pub from_base : (base : List Piece) (to : Scanned) (c : ℕ) (cs after : List ℕ) → pieces_at to ≡ base → StopsBefore to.mode (c ∷ after) → steps_from (Some to) (c ∷ cs) ≡ behind_if base (steps_from (Some (line_start modes.Free)) (c ∷ cs))
+pub from_base : (base : List Piece) (to : Scanned) (c : ℕ) (cs after : List ℕ) → pieces_at to ≡ base → StopsBefore to.mode (c ∷ after) → steps_from (Some to) (c ∷ cs) ≡ after_if base (steps_from (Some (line_start modes.Free)) (c ∷ cs))
 from_base base to c cs after is stops =
     runs_of.begun to c cs after (start_of c) stops refl
     ∙ ap (λ l. steps_from (started l c (start_of c)) cs) is
     ∙ sym (runs_of.begun (fresh base) c cs after (start_of c) (stops-free (c ∷ after)) refl)
     ∙ ap (λ l. steps_from (Some (fresh l)) (c ∷ cs)) (sym (append-nil base))
-    ∙ run-behind base (Some (line_start modes.Free)) (c ∷ cs)
+    ∙ steps-after base (Some (line_start modes.Free)) (c ∷ cs)
 
 step_as_run : (s : Scanned) (c : ℕ) → steps_from (Some s) (c ∷ []) ≡ step s c
 step_as_run s c = go (step s c)
@@ -103,29 +103,29 @@ step_as_run s c = go (step s c)
     go None = refl
     go (Some t) = refl
 
-behind_nothing : (o : Option Scanned) → behind_if [] o ≡ o
-behind_nothing None = refl
-behind_nothing (Some t) = refl
+after_nothing : (o : Option Scanned) → after_if [] o ≡ o
+after_nothing None = refl
+after_nothing (Some t) = refl
 
 module _ (n : ℕ) (base : List Piece) (after : List ℕ) (level : brackets_of base ≡ Some []) where
   -- something was read
-  full : (c : ℕ) (cs : List ℕ) (s : Scanned) (st : List Bracket) → AreReadBefore base ((c ∷ cs) ++ after) → Base n base → GoesTo (line_start (first_mode n)) (c ∷ cs) s st → RunsTo (spelled base ++ c ∷ cs) (behind base s) (shift (byte_len (spelled base)) st)
-  full c cs s st fit is goes = record { run = run is; stack = stack-behind base s.done level ∙ ap (shift_if (byte_len (spelled base))) goes.stack }
+  full : (c : ℕ) (cs : List ℕ) (s : Scanned) (st : List Bracket) → AreReadBefore base ((c ∷ cs) ++ after) → Base n base → GoesTo (line_start (first_mode n)) (c ∷ cs) s st → RunsTo (spelled base ++ c ∷ cs) (after_pieces base s) (shift (byte_len (spelled base)) st)
+  full c cs s st fit is goes = record { run = run is; stack = stack-after base s.done level ∙ ap (shift_if (byte_len (spelled base))) goes.stack }
     where
-      run : Base n base → steps_from (Some text_start) (spelled base ++ c ∷ cs) ≡ Some (behind base s)
-      run (Base.bare none mode) = ap (λ l. steps_from (Some text_start) (spelled l ++ c ∷ cs)) none ∙ ap (λ m. steps_from (Some (line_start m)) (c ∷ cs)) (sym mode) ∙ goes.run ∙ ap (λ l. Some (behind l s)) (sym none)
+      run : Base n base → steps_from (Some text_start) (spelled base ++ c ∷ cs) ≡ Some (after_pieces base s)
+      run (Base.bare none mode) = ap (λ l. steps_from (Some text_start) (spelled l ++ c ∷ cs)) none ∙ ap (λ m. steps_from (Some (line_start m)) (c ∷ cs)) (sym mode) ∙ goes.run ∙ ap (λ l. Some (after_pieces l s)) (sym none)
       run (Base.lined body last ends class any mode) =
           let reached = reach base (c ∷ cs ++ after) fit in
           steps_from-append (Some text_start) (spelled base) (c ∷ cs) ∙ ap (λ o. steps_from o (c ∷ cs)) reached.steps ∙ from_base base reached.to c cs (cs ++ after) reached.pieces_are (reached.stops (any (c ∷ cs ++ after)))
-          ∙ ap (λ m. behind_if base (steps_from (Some (line_start m)) (c ∷ cs))) (sym mode) ∙ ap (behind_if base) goes.run
+          ∙ ap (λ m. after_if base (steps_from (Some (line_start m)) (c ∷ cs))) (sym mode) ∙ ap (after_if base) goes.run
 
   joined_full : (c : ℕ) (cs : List ℕ) (s : Scanned) (st : List Bracket) → AreReadBefore base ((c ∷ cs) ++ after) → Base n base → GoesTo (line_start (first_mode n)) (c ∷ cs) s st → Joined base (c ∷ cs) s st after
   joined_full c cs s st fit is goes = record {
-    state = behind base s;
+    state = after_pieces base s;
     st = shift (byte_len (spelled base)) st;
     steps = full c cs s st fit is goes;
-    pieces = closed-behind base s.done s.mode s.held;
-    next = λ d more follows. step-behind base s d;
+    pieces = closed-after base s.done s.mode s.held;
+    next = λ d more follows. step-after base s d;
     short = refl;
     slash = refl;
     same = λ full_text. (refl, refl);
@@ -142,7 +142,7 @@ module _ (n : ℕ) (base : List Piece) (after : List ℕ) (level : brackets_of b
         st = [];
         steps = record { run = ap (λ l. steps_from (Some text_start) (spelled l ++ [])) nothing ∙ ap (λ (t : Scanned). Some t) here; stack = ap (λ (t : Scanned). brackets_of t.done) (sym here) };
         pieces = ap (λ l. l ++ pieces_at s) (sym nothing);
-        next = λ d more follows. sym (behind_nothing (step s d)) ∙ ap (λ l. behind_if l (step s d)) (sym nothing);
+        next = λ d more follows. sym (after_nothing (step s d)) ∙ ap (λ l. after_if l (step s d)) (sym nothing);
         short = refl;
         slash = refl;
         same = λ full_text. absurd (omega (arith, full_text));
@@ -158,7 +158,7 @@ module _ (n : ℕ) (base : List Piece) (after : List ℕ) (level : brackets_of b
         st = [];
         steps = record { run = ap (steps_from (Some text_start)) (append-nil (spelled base)) ∙ reached.steps; stack = paired base to.mode to.done to.held level reached.pieces_are };
         pieces = reached.pieces_are ∙ sym (append-nil base) ∙ ap (λ (t : Scanned). base ++ pieces_at t) here;
-        next = λ d more follows. sym (step_as_run to d) ∙ from_base base to d [] more reached.pieces_are (subst (StopsBefore to.mode) follows (reached.stops (any after))) ∙ ap (behind_if base) (step_as_run (line_start modes.Free) d) ∙ ap (λ (t : Scanned). behind_if base (step t d)) here;
+        next = λ d more follows. sym (step_as_run to d) ∙ from_base base to d [] more reached.pieces_are (subst (StopsBefore to.mode) follows (reached.stops (any after))) ∙ ap (after_if base) (step_as_run (line_start modes.Free) d) ∙ ap (λ (t : Scanned). after_if base (step t d)) here;
         short = closed_mode.0 ∙ ap (λ (t : Scanned). in_short t.mode) here;
         slash = closed_mode.1 ∙ ap (λ (t : Scanned). is_after_backslash t.mode) here;
         same = λ full_text. absurd (omega (arith, full_text));
@@ -197,6 +197,6 @@ follows_base n base u read after to (Base.lined body last is class any mode) spe
 pub dead_at : (base : List Piece) (read after more : List ℕ) (s : Scanned) (first : List Bracket) (c : ℕ) (j : Joined base read s first after) → brackets_of base ≡ Some [] → after ≡ c ∷ more → stack_if (step s c) ≡ None → ¬ (IsLive ((spelled base ++ read) ++ c ∷ []))
 dead_at base read after more s first c j level follows refuses = dead_stop (spelled base ++ read) j.state j.st c j.steps (ap kept_if (j.next c more follows) ∙ stops (step s c) refuses)
   where
-    stops : (o : Option Scanned) → stack_if o ≡ None → kept_if (behind_if base o) ≡ None
+    stops : (o : Option Scanned) → stack_if o ≡ None → kept_if (after_if base o) ≡ None
     stops None none = refl
-    stops (Some t) none = ap (kept (behind base t)) (stack-behind base t.done level ∙ ap (shift_if (byte_len (spelled base))) none)
+    stops (Some t) none = ap (kept (after_pieces base t)) (stack-after base t.done level ∙ ap (shift_if (byte_len (spelled base))) none)

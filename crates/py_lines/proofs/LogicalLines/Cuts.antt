@@ -149,9 +149,9 @@ put-append : (p : Piece) (us vs : List (List Piece)) → some_parts us → put_f
 put-append p [] vs h = absurd h
 put-append p (u ∷ us) vs h = refl
 
-behind_nonempty : (body : List Piece) (last : Piece) (d : ℕ) → some_parts (cut d (body ++ last ∷ []))
-behind_nonempty [] last d = cut-some d last []
-behind_nonempty (p ∷ body) last d = cut-some d p (body ++ last ∷ [])
+after_nonempty : (body : List Piece) (last : Piece) (d : ℕ) → some_parts (cut d (body ++ last ∷ []))
+after_nonempty [] last d = cut-some d last []
+after_nonempty (p ∷ body) last d = cut-some d p (body ++ last ∷ [])
 
 pub line_depth : (p : Piece) (d : ℕ) → is_line_end_class p.class ≡ true → depth_after d p ≡ d
 line_depth p d h = go p.class p.text h
@@ -179,7 +179,7 @@ cut-line (p ∷ body) last qs d is deep =
     (λ (h : is_line_end_class p.class && (d == 0) ≡ false).
     ap (λ (b : Bool). cond b ((p ∷ []) ∷ cut d (body ++ last ∷ qs)) (put_first p (cut (depth_after d p) (body ++ last ∷ qs)))) h
     ∙ ap (put_first p) later
-    ∙ put-append p (cut (depth_after d p) (body ++ last ∷ [])) (cut 0 qs) (behind_nonempty body last (depth_after d p))
+    ∙ put-append p (cut (depth_after d p) (body ++ last ∷ [])) (cut 0 qs) (after_nonempty body last (depth_after d p))
     ∙ ap (λ us. us ++ cut 0 qs) (sym (ap (λ (b : Bool). cond b ((p ∷ []) ∷ cut d (body ++ last ∷ [])) (put_first p (cut (depth_after d p) (body ++ last ∷ [])))) h)))
     (cases_Bool (is_line_end_class p.class && (d == 0)))
 

@@ -47,22 +47,22 @@ cut_bytes d (p ∷ ps) =
     (λ h. ap (λ t. byte_len t + parts_bytes (cut d ps)) (append-nil p.text) ∙ ap (λ (n : ℕ). byte_len p.text + n) (cut_bytes d ps) ∙ sym (byte_len-append p.text (spelled ps)))
     (λ h. put_bytes p (cut (depth_after d p) ps) ∙ ap (λ (n : ℕ). byte_len p.text + n) (cut_bytes (depth_after d p) ps) ∙ sym (byte_len-append p.text (spelled ps)))
 
-begins-front : (p : ℕ → Bool) (xs ys : List ℕ) → begins p (xs ++ ys) ≡ false → begins p xs ≡ false
-begins-front p [] ys h = refl
-begins-front p (x ∷ xs) ys h = h
+begins-prefix : (p : ℕ → Bool) (xs ys : List ℕ) → begins p (xs ++ ys) ≡ false → begins p xs ≡ false
+begins-prefix p [] ys h = refl
+begins-prefix p (x ∷ xs) ys h = h
 
-uncut-front : (b : Bool) (xs ys : List ℕ) → b && begins is_line_feed (xs ++ ys) ≡ false → b && begins is_line_feed xs ≡ false
-uncut-front true xs ys h = begins-front is_line_feed xs ys h
-uncut-front false xs ys h = refl
+uncut-prefix : (b : Bool) (xs ys : List ℕ) → b && begins is_line_feed (xs ++ ys) ≡ false → b && begins is_line_feed xs ≡ false
+uncut-prefix true xs ys h = begins-prefix is_line_feed xs ys h
+uncut-prefix false xs ys h = refl
 
 put_lines : (p : Piece) (us : List (List Piece)) → ends is_return p.text && begins is_line_feed (parts_spelled us) ≡ false → parts_lines (put_first p us) ≡ line_ends p.text + parts_lines us
 put_lines p [] h = ap (λ t. line_ends t + 0) (append-nil p.text)
-put_lines p (u ∷ us) h = ap (λ (n : ℕ). n + parts_lines us) (line_ends-append p.text (spelled u) (uncut-front (ends is_return p.text) (spelled u) (parts_spelled us) h)) ∙ add_assoc (line_ends p.text) (line_ends (spelled u)) (parts_lines us)
+put_lines p (u ∷ us) h = ap (λ (n : ℕ). n + parts_lines us) (line_ends-append p.text (spelled u) (uncut-prefix (ends is_return p.text) (spelled u) (parts_spelled us) h)) ∙ add_assoc (line_ends p.text) (line_ends (spelled u)) (parts_lines us)
 
 cut_lines : (d : ℕ) (ps : List Piece) (rest : List ℕ) → AreReadBefore ps rest → parts_lines (cut d ps) ≡ lines_in ps
 cut_lines d [] rest fit = refl
 cut_lines d (p ∷ ps) rest fit =
-    let whole = uncut-front (ends is_return p.text) (spelled ps) rest (uncut p.class p.text (spelled ps ++ rest) fit.0 fit.1) in
+    let whole = uncut-prefix (ends is_return p.text) (spelled ps) rest (uncut p.class p.text (spelled ps ++ rest) fit.0 fit.1) in
     cond_both (is_line_end_class p.class && (d == 0)) _ _ (λ us. parts_lines us ≡ line_ends p.text + lines_in ps)
     (λ h. ap (λ t. line_ends t + parts_lines (cut d ps)) (append-nil p.text) ∙ ap (λ (n : ℕ). line_ends p.text + n) (cut_lines d ps rest fit.3))
     (λ h.
@@ -73,7 +73,7 @@ cut_lines d (p ∷ ps) rest fit =
 pub line_ends-spelled : (ps : List Piece) (rest : List ℕ) → AreReadBefore ps rest → line_ends (spelled ps) ≡ lines_in ps
 line_ends-spelled [] rest fit = refl
 line_ends-spelled (p ∷ ps) rest fit =
-    line_ends-append p.text (spelled ps) (uncut-front (ends is_return p.text) (spelled ps) rest (uncut p.class p.text (spelled ps ++ rest) fit.0 fit.1))
+    line_ends-append p.text (spelled ps) (uncut-prefix (ends is_return p.text) (spelled ps) rest (uncut p.class p.text (spelled ps ++ rest) fit.0 fit.1))
     ∙ ap (λ (n : ℕ). line_ends p.text + n) (line_ends-spelled ps rest fit.3)
 
 lines_from-append : (offset line : ℕ) (us vs : List (List Piece)) → lines_from offset line (us ++ vs) ≡ lines_from offset line us ++ lines_from (offset + parts_bytes us) (line + parts_lines us) vs

@@ -39,15 +39,15 @@ each_piece text start stop line operator p ts lies others = each_cons text _ ts 
 each_piece text start stop line comment p ts lies others = each_cons text _ ts (lies _) others
 each_piece text start stop line line_end p ts lies others = others
 
-each_behind : (before : List ℕ) (line : ℕ) (ps : List Piece) → all_scalars (spelled ps) ≡ true → EachLiesIn (encode_utf8_all (before ++ spelled ps)) (tokens_from (byte_len before) line ps)
-each_behind before line [] scalars = each_nil (encode_utf8_all (before ++ []))
-each_behind before line (p ∷ ps) scalars =
+each_after : (before : List ℕ) (line : ℕ) (ps : List Piece) → all_scalars (spelled ps) ≡ true → EachLiesIn (encode_utf8_all (before ++ spelled ps)) (tokens_from (byte_len before) line ps)
+each_after before line [] scalars = each_nil (encode_utf8_all (before ++ []))
+each_after before line (p ∷ ps) scalars =
     let parts = all_scalars-parts p.text (spelled ps) scalars in
     let regroup : (before ++ p.text) ++ spelled ps ≡ before ++ (p.text ++ spelled ps) = append_assoc before p.text (spelled ps) in
     let stop : byte_len (before ++ p.text) ≡ byte_len before + byte_len p.text = byte_len-append before p.text in
     let text : List ℕ = encode_utf8_all (before ++ (p.text ++ spelled ps)) in
     let others : EachLiesIn text (tokens_from (byte_len before + byte_len p.text) (line + line_ends p.text) ps)
-    = subst (λ (n : ℕ). EachLiesIn text (tokens_from n (line + line_ends p.text) ps)) stop (subst (λ t. EachLiesIn (encode_utf8_all t) (tokens_from (byte_len (before ++ p.text)) (line + line_ends p.text) ps)) regroup (each_behind (before ++ p.text) (line + line_ends p.text) ps parts.1)) in
+    = subst (λ (n : ℕ). EachLiesIn text (tokens_from n (line + line_ends p.text) ps)) stop (subst (λ t. EachLiesIn (encode_utf8_all t) (tokens_from (byte_len (before ++ p.text)) (line + line_ends p.text) ps)) regroup (each_after (before ++ p.text) (line + line_ends p.text) ps parts.1)) in
     each_piece text (byte_len before) (byte_len before + byte_len p.text) line p.class p.text _ (λ k. record {
       ordered = omega arith;
       within = omega (arith, byte_len-append before (p.text ++ spelled ps), byte_len-append p.text (spelled ps));
@@ -57,4 +57,4 @@ each_behind before line (p ∷ ps) scalars =
 
 -- the tokens of a line lie in it
 pub tokens_lie : (line : ℕ) (ps : List Piece) → all_scalars (spelled ps) ≡ true → EachLiesIn (encode_utf8_all (spelled ps)) (tokens_from 0 line ps)
-tokens_lie line ps scalars = each_behind [] line ps scalars
+tokens_lie line ps scalars = each_after [] line ps scalars

@@ -16,37 +16,37 @@ use Rattle.py_lines.proofs.Pieces.OpenBrackets.{through-append}
 use Rattle.py_lines.proofs.LogicalLines.Cuts.{byte_len-append}
 
 -- the machine with pieces before its own
-abbrev pub behind : List Piece → Scanned → Scanned
-behind ps s = record { done = ps ++ s.done; mode = s.mode; held = s.held }
+abbrev pub after_pieces : List Piece → Scanned → Scanned
+after_pieces ps s = record { done = ps ++ s.done; mode = s.mode; held = s.held }
 
-abbrev pub behind_if : List Piece → Option Scanned → Option Scanned
-behind_if ps None = None
-behind_if ps (Some s) = Some (behind ps s)
+abbrev pub after_if : List Piece → Option Scanned → Option Scanned
+after_if ps None = None
+after_if ps (Some s) = Some (after_pieces ps s)
 
-pub closed-behind : (ps done : List Piece) (m : Mode) (held : List ℕ) → closed m (ps ++ done) held ≡ ps ++ closed m done held
-closed-behind ps done modes.Start held = refl
-closed-behind ps done modes.Free held = refl
-closed-behind ps done m held = append_assoc ps done _
+pub closed-after : (ps done : List Piece) (m : Mode) (held : List ℕ) → closed m (ps ++ done) held ≡ ps ++ closed m done held
+closed-after ps done modes.Start held = refl
+closed-after ps done modes.Free held = refl
+closed-after ps done m held = append_assoc ps done _
 
-started-behind : (ps done : List Piece) (c : ℕ) (st : Start) → started (ps ++ done) c st ≡ behind_if ps (started done c st)
-started-behind ps done c (starts.Open m) = refl
-started-behind ps done c starts.Operator = ap (λ l. Some (fresh l)) (append_assoc ps done (piece operator (c ∷ []) ∷ []))
-started-behind ps done c starts.LineEnd = ap (λ l. Some (fresh l)) (append_assoc ps done (piece line_end (c ∷ []) ∷ []))
-started-behind ps done c starts.Nothing = refl
+started-after : (ps done : List Piece) (c : ℕ) (st : Start) → started (ps ++ done) c st ≡ after_if ps (started done c st)
+started-after ps done c (starts.Open m) = refl
+started-after ps done c starts.Operator = ap (λ l. Some (fresh l)) (append_assoc ps done (piece operator (c ∷ []) ∷ []))
+started-after ps done c starts.LineEnd = ap (λ l. Some (fresh l)) (append_assoc ps done (piece line_end (c ∷ []) ∷ []))
+started-after ps done c starts.Nothing = refl
 
-moved-behind : (ps : List Piece) (s : Scanned) (c : ℕ) (v : Move) → moved (behind ps s) c v ≡ behind_if ps (moved s c v)
-moved-behind ps s c (moves.Grows m) = refl
-moved-behind ps s c moves.Closes = ap (λ l. Some (fresh l)) (append_assoc ps s.done (piece (class_of s.mode) (s.held ++ c ∷ []) ∷ []))
-moved-behind ps s c moves.Breaks = ap (λ l. started l c (start_of c)) (closed-behind ps s.done s.mode s.held) ∙ started-behind ps (closed s.mode s.done s.held) c (start_of c)
-moved-behind ps s c moves.Refused = refl
+moved-after : (ps : List Piece) (s : Scanned) (c : ℕ) (v : Move) → moved (after_pieces ps s) c v ≡ after_if ps (moved s c v)
+moved-after ps s c (moves.Grows m) = refl
+moved-after ps s c moves.Closes = ap (λ l. Some (fresh l)) (append_assoc ps s.done (piece (class_of s.mode) (s.held ++ c ∷ []) ∷ []))
+moved-after ps s c moves.Breaks = ap (λ l. started l c (start_of c)) (closed-after ps s.done s.mode s.held) ∙ started-after ps (closed s.mode s.done s.held) c (start_of c)
+moved-after ps s c moves.Refused = refl
 
-pub run-behind : (ps : List Piece) (o : Option Scanned) (cs : List ℕ) → steps_from (behind_if ps o) cs ≡ behind_if ps (steps_from o cs)
-run-behind ps None cs = refl
-run-behind ps (Some s) [] = refl
-run-behind ps (Some s) (c ∷ cs) = ap (λ o. steps_from o cs) (moved-behind ps s c (move_of s.mode c)) ∙ run-behind ps (step s c) cs
+pub steps-after : (ps : List Piece) (o : Option Scanned) (cs : List ℕ) → steps_from (after_if ps o) cs ≡ after_if ps (steps_from o cs)
+steps-after ps None cs = refl
+steps-after ps (Some s) [] = refl
+steps-after ps (Some s) (c ∷ cs) = ap (λ o. steps_from o cs) (moved-after ps s c (move_of s.mode c)) ∙ steps-after ps (step s c) cs
 
-pub step-behind : (ps : List Piece) (s : Scanned) (c : ℕ) → step (behind ps s) c ≡ behind_if ps (step s c)
-step-behind ps s c = moved-behind ps s c (move_of s.mode c)
+pub step-after : (ps : List Piece) (s : Scanned) (c : ℕ) → step (after_pieces ps s) c ≡ after_if ps (step s c)
+step-after ps s c = moved-after ps s c (move_of s.mode c)
 
 -- brackets, so many bytes further
 abbrev pub shift : ℕ → List Bracket → List Bracket
@@ -76,9 +76,9 @@ closed-shift k c (b ∷ bs) = go (c == closing_of b.opener)
     go true = refl
     go false = refl
 
-behind-shift : (k place n : ℕ) (st : List Bracket) (p : Piece) → n ≡ k + place → brackets_after (shift k st) n p ≡ shift_if k (brackets_after st place p)
+after-shift : (k place n : ℕ) (st : List Bracket) (p : Piece) → n ≡ k + place → brackets_after (shift k st) n p ≡ shift_if k (brackets_after st place p)
 unfolding brackets_after
-behind-shift k place n st p is = go (is_opener p) (is_closer p)
+after-shift k place n st p is = go (is_opener p) (is_closer p)
   where
     go : (x y : Bool) → (if x then opened_by (first_or_zero p.text) n (shift k st) else (if y then closed_by (first_or_zero p.text) (shift k st) else Some (shift k st))) ≡ shift_if k (if x then opened_by (first_or_zero p.text) place st else (if y then closed_by (first_or_zero p.text) st else Some st))
     go true y = opened-shift k (first_or_zero p.text) place n st is
@@ -90,13 +90,13 @@ through-shift base ps done None = refl
 through-shift base [] done (Some st) = refl
 through-shift base (p ∷ ps) done (Some st) =
     let k = byte_len (spelled base) in
-    ap (λ o. brackets_through o ((base ++ done) ++ p ∷ []) ps) (behind-shift k (byte_len (spelled done)) (byte_len (spelled (base ++ done))) st p (ap byte_len (spelled-append base done) ∙ byte_len-append (spelled base) (spelled done)))
+    ap (λ o. brackets_through o ((base ++ done) ++ p ∷ []) ps) (after-shift k (byte_len (spelled done)) (byte_len (spelled (base ++ done))) st p (ap byte_len (spelled-append base done) ∙ byte_len-append (spelled base) (spelled done)))
     ∙ ap (λ l. brackets_through (shift_if k (brackets_after st (byte_len (spelled done)) p)) l ps) (append_assoc base done (p ∷ []))
     ∙ through-shift base ps (done ++ p ∷ []) (brackets_after st (byte_len (spelled done)) p)
 
 -- the brackets after pieces with none open
-pub stack-behind : (base local : List Piece) → brackets_of base ≡ Some [] → brackets_of (base ++ local) ≡ shift_if (byte_len (spelled base)) (brackets_of local)
-stack-behind base local level =
+pub stack-after : (base local : List Piece) → brackets_of base ≡ Some [] → brackets_of (base ++ local) ≡ shift_if (byte_len (spelled base)) (brackets_of local)
+stack-after base local level =
     through-append (Some []) [] base local
     ∙ ap (λ o. brackets_through o base local) level
     ∙ ap (λ l. brackets_through (Some []) l local) (sym (append-nil base))

@@ -90,8 +90,8 @@ items_push q held item before is full = record {
 }
 
 -- one more item of a long string, which is no quote
-pub front_push : (q : ℕ) (held item : List ℕ) → HoldsPrefix q held → is_item item ≡ true → is_bare (λ d. d == q) item ≡ false → HoldsLong q (held ++ item)
-front_push q held item before is other = record {
+pub prefix_push : (q : ℕ) (held item : List ℕ) → HoldsPrefix q held → is_item item ≡ true → is_bare (λ d. d == q) item ≡ false → HoldsLong q (held ++ item)
+prefix_push q held item before is other = record {
   prefix = before.prefix;
   items = before.items ++ item ∷ [];
   spell = ap (λ t. t ++ item) before.spell ∙ append_assoc before.prefix (q ∷ q ∷ q ∷ joined before.items) item ∙ ap (λ t. before.prefix ++ (q ∷ q ∷ q ∷ t)) (sym (joined-push before.items item));
@@ -110,8 +110,8 @@ quote_item q quotes = not_from_false _ (go q quotes)
     go q quotes = false_from_ne_true _ (λ slash. both_ways _ (slash-not-quote q slash) quotes)
 
 -- after none, one or two quotes, a long string is open
-pub front_none : (q : ℕ) (held : List ℕ) → HoldsLong q held → HoldsPrefix q held
-front_none q held long = record {
+pub opening_none : (q : ℕ) (held : List ℕ) → HoldsLong q held → HoldsPrefix q held
+opening_none q held long = record {
   prefix = long.prefix;
   items = long.items;
   spell = long.spell;
@@ -121,8 +121,8 @@ front_none q held long = record {
   open_yet = triple-left q long.items ((q ∷ []) ∷ (q ∷ []) ∷ []) long.open_yet;
 }
 
-pub front_one : (q : ℕ) (held : List ℕ) → HoldsLong q held → HoldsPrefix q (held ++ q ∷ [])
-front_one q held long = record {
+pub opening_one : (q : ℕ) (held : List ℕ) → HoldsLong q held → HoldsPrefix q (held ++ q ∷ [])
+opening_one q held long = record {
   prefix = long.prefix;
   items = long.items ++ (q ∷ []) ∷ [];
   spell = ap (λ t. t ++ q ∷ []) long.spell ∙ append_assoc long.prefix (q ∷ q ∷ q ∷ joined long.items) (q ∷ []) ∙ ap (λ t. long.prefix ++ (q ∷ q ∷ q ∷ t)) (sym (joined-push long.items (q ∷ [])));
@@ -132,8 +132,8 @@ front_one q held long = record {
   open_yet = triple-left q (long.items ++ (q ∷ []) ∷ []) ((q ∷ []) ∷ []) (ap (has_triple q) (append_assoc long.items ((q ∷ []) ∷ []) ((q ∷ []) ∷ [])) ∙ long.open_yet);
 }
 
-pub front_two : (q : ℕ) (held : List ℕ) → HoldsLong q held → HoldsPrefix q (held ++ q ∷ q ∷ [])
-front_two q held long = record {
+pub opening_two : (q : ℕ) (held : List ℕ) → HoldsLong q held → HoldsPrefix q (held ++ q ∷ q ∷ [])
+opening_two q held long = record {
   prefix = long.prefix;
   items = long.items ++ (q ∷ []) ∷ (q ∷ []) ∷ [];
   spell = ap (λ t. t ++ q ∷ q ∷ []) long.spell ∙ append_assoc long.prefix (q ∷ q ∷ q ∷ joined long.items) (q ∷ q ∷ []) ∙ ap (λ t. long.prefix ++ (q ∷ q ∷ q ∷ t)) (sym (joined-append long.items ((q ∷ []) ∷ (q ∷ []) ∷ [])));

@@ -16,14 +16,14 @@ use Rattle.py_lines.proofs.Machine.PieceSteps.{scanned, pieces_at, StopsBefore, 
 use Rattle.py_lines.proofs.Machine.StringSteps.{IsShortMode, short_escapes, short_body, opened_steps, long_opened, run_long, mode_at, Seen, seen_after, long_escapes}
 use Rattle.py_lines.proofs.Machine.ReadingSteps.{Reaches, reach, MayBegin}
 use Rattle.py_lines.specs.Private.Machine.{Holds, HoldsItems, HoldsPrefix, IsSound}
-use Rattle.py_lines.proofs.Machine.OpenPieces.{opened_items, front_none, front_one, front_two}
+use Rattle.py_lines.proofs.Machine.OpenPieces.{opened_items, opening_none, opening_one, opening_two}
 use Rattle.py_lines.proofs.Machine.Soundness.{returned_items}
 
 fit_held : (s : Scanned) (read : List ℕ) → IsSound s read → AreReadBefore s.done s.held
 fit_held s read sound = subst (AreReadBefore s.done) (append-nil s.held) (sound.fit [])
 
-short_front : (q : ℕ) (held : List ℕ) → HoldsItems q held → IsShortPrefix held
-short_front q held items = record {
+short_opening : (q : ℕ) (held : List ℕ) → HoldsItems q held → IsShortPrefix held
+short_opening q held items = record {
   prefix = items.prefix;
   quote = q;
   items = items.items;
@@ -48,61 +48,61 @@ short_escaped q before slash items slashes = record {
   escapes = inr (slash, refl, slashes);
 }
 
-long_front : (q : ℕ) (held : List ℕ) → HoldsPrefix q held → IsLongPrefix held
-long_front q held front = record {
-  prefix = front.prefix;
+long_opening : (q : ℕ) (held : List ℕ) → HoldsPrefix q held → IsLongPrefix held
+long_opening q held rest = record {
+  prefix = rest.prefix;
   quote = q;
-  items = front.items;
+  items = rest.items;
   last = [];
-  spell = front.spell ∙ ap (λ t. front.prefix ++ (q ∷ q ∷ q ∷ t)) (sym (append-nil (joined front.items)));
-  begun = front.begun;
-  opens = front.opens;
-  each = front.each;
-  open_yet = front.open_yet;
+  spell = rest.spell ∙ ap (λ t. rest.prefix ++ (q ∷ q ∷ q ∷ t)) (sym (append-nil (joined rest.items)));
+  begun = rest.begun;
+  opens = rest.opens;
+  each = rest.each;
+  open_yet = rest.open_yet;
   escapes = inl refl;
 }
 
 long_escaped : (q : ℕ) (before : List ℕ) (slash : ℕ) → HoldsPrefix q before → is_backslash slash ≡ true → IsLongPrefix (before ++ slash ∷ [])
-long_escaped q before slash front slashes = record {
-  prefix = front.prefix;
+long_escaped q before slash rest slashes = record {
+  prefix = rest.prefix;
   quote = q;
-  items = front.items;
+  items = rest.items;
   last = slash ∷ [];
-  spell = ap (λ t. t ++ slash ∷ []) front.spell ∙ append_assoc front.prefix (q ∷ q ∷ q ∷ joined front.items) (slash ∷ []);
-  begun = front.begun;
-  opens = front.opens;
-  each = front.each;
-  open_yet = front.open_yet;
+  spell = ap (λ t. t ++ slash ∷ []) rest.spell ∙ append_assoc rest.prefix (q ∷ q ∷ q ∷ joined rest.items) (slash ∷ []);
+  begun = rest.begun;
+  opens = rest.opens;
+  each = rest.each;
+  open_yet = rest.open_yet;
   escapes = inr (slash, refl, slashes);
 }
 
 short_held : (m : Mode) (done : List Piece) (held : List ℕ) → Holds m done held → in_short m ≡ true → IsShortPrefix held
-short_held (modes.Opened q) done held holds is = short_front q held (opened_items q held holds)
-short_held (modes.Inside q) done held holds is = short_front q held holds.all
+short_held (modes.Opened q) done held holds is = short_opening q held (opened_items q held holds)
+short_held (modes.Inside q) done held holds is = short_opening q held holds.all
 short_held (modes.Escape q) done held holds is = subst IsShortPrefix (sym holds.2) (short_escaped q holds.0 holds.1 holds.3 holds.4)
-short_held (modes.EscapeReturn q) done held holds is = short_front q held (returned_items q done held holds).all
+short_held (modes.EscapeReturn q) done held holds is = short_opening q held (returned_items q done held holds).all
 short_held m done held holds is = absurd (both_ways _ refl is)
 
 long_held : (m : Mode) (done : List Piece) (held : List ℕ) → Holds m done held → in_long m ≡ true → IsLongPrefix held
-long_held (modes.Long q) done held holds is = long_front q held (front_none q held holds)
-long_held (modes.LongOne q) done held holds is = long_front q held (subst (HoldsPrefix q) (sym holds.1) (front_one q holds.0 holds.2))
-long_held (modes.LongTwo q) done held holds is = long_front q held (subst (HoldsPrefix q) (sym holds.1) (front_two q holds.0 holds.2))
+long_held (modes.Long q) done held holds is = long_opening q held (opening_none q held holds)
+long_held (modes.LongOne q) done held holds is = long_opening q held (subst (HoldsPrefix q) (sym holds.1) (opening_one q holds.0 holds.2))
+long_held (modes.LongTwo q) done held holds is = long_opening q held (subst (HoldsPrefix q) (sym holds.1) (opening_two q holds.0 holds.2))
 long_held (modes.LongEscape q) done held holds is = subst IsLongPrefix (sym holds.2) (long_escaped q holds.0 holds.1 holds.3 holds.4)
 long_held m done held holds is = absurd (both_ways _ refl is)
 
 -- where the machine stands in a short string, the characters do
 pub in_short_string : (s : Scanned) (read : List ℕ) → IsSound s read → in_short s.mode ≡ true → InShortString read (spelled s.done)
-in_short_string s read sound is = record { pieces = s.done; front = s.held; spell = sound.spell; before = refl; fit = fit_held s read sound; inside = short_held s.mode s.done s.held sound.holds is }
+in_short_string s read sound is = record { pieces = s.done; rest = s.held; spell = sound.spell; before = refl; fit = fit_held s read sound; inside = short_held s.mode s.done s.held sound.holds is }
 
 pub in_long_string : (s : Scanned) (read : List ℕ) → IsSound s read → in_long s.mode ≡ true → InLongString read (spelled s.done)
-in_long_string s read sound is = record { pieces = s.done; front = s.held; spell = sound.spell; before = refl; fit = fit_held s read sound; inside = long_held s.mode s.done s.held sound.holds is }
+in_long_string s read sound is = record { pieces = s.done; rest = s.held; spell = sound.spell; before = refl; fit = fit_held s read sound; inside = long_held s.mode s.done s.held sound.holds is }
 
 slash_held : (m : Mode) (done : List Piece) (held : List ℕ) → Holds m done held → is_after_backslash m ≡ true → (slash : ℕ) × (held ≡ slash ∷ []) × (is_backslash slash ≡ true)
 slash_held modes.Backslash done held holds is = holds
 slash_held m done held holds is = absurd (both_ways _ refl is)
 
-pub behind_backslash : (s : Scanned) (read : List ℕ) → IsSound s read → is_after_backslash s.mode ≡ true → AfterBackslash read (spelled s.done)
-behind_backslash s read sound is = record { pieces = s.done; front = s.held; spell = sound.spell; before = refl; fit = fit_held s read sound; inside = slash_held s.mode s.done s.held sound.holds is }
+pub after_backslash : (s : Scanned) (read : List ℕ) → IsSound s read → is_after_backslash s.mode ≡ true → AfterBackslash read (spelled s.done)
+after_backslash s read sound is = record { pieces = s.done; rest = s.held; spell = sound.spell; before = refl; fit = fit_held s read sound; inside = slash_held s.mode s.done s.held sound.holds is }
 
 -- a string and a backslash don't begin with a mark
 start-not-mark : (c : ℕ) → is_word_start c ≡ true → is_mark c ≡ false
@@ -117,10 +117,10 @@ slash-not-mark : (c : ℕ) → is_backslash c ≡ true → is_mark c ≡ false
 unfolding is_backslash is_mark
 slash-not-mark c h = none_of is_mark (92 ∷ []) c refl h
 
-front-unmarked : (prefix : List ℕ) (q : ℕ) (body : List ℕ) → IsPrefix prefix → is_quote q ≡ true → begins is_mark (prefix ++ q ∷ body) ≡ false
-front-unmarked [] q body is quotes = quote-not-mark q quotes
-front-unmarked (a ∷ bs) q body (inl empty) quotes = absurd (cc)
-front-unmarked (a ∷ bs) q body (inr is) quotes = start-not-mark a (prefix_word a bs is).0
+prefix-unmarked : (prefix : List ℕ) (q : ℕ) (body : List ℕ) → IsPrefix prefix → is_quote q ≡ true → begins is_mark (prefix ++ q ∷ body) ≡ false
+prefix-unmarked [] q body is quotes = quote-not-mark q quotes
+prefix-unmarked (a ∷ bs) q body (inl empty) quotes = absurd (cc)
+prefix-unmarked (a ∷ bs) q body (inr is) quotes = start-not-mark a (prefix_word a bs is).0
 
 may_begin : (ps : List Piece) (rest : List ℕ) → begins is_mark rest ≡ false → MayBegin ps rest
 may_begin [] rest h = h
@@ -134,12 +134,12 @@ pub record StandsIn (is_such : Mode → Bool) (characters start : List ℕ) : Ty
   pub before : spelled to.done ≡ start
 
 -- from the start to a prefix after pieces
-stands_in : (is_such : Mode → Bool) (characters start : List ℕ) (pieces : List Piece) (front : List ℕ) (reached : Reaches (spelled pieces) pieces front) (m : Mode) (held : List ℕ) → start ++ front ≡ characters → spelled pieces ≡ start → is_such m ≡ true → steps_from (Some reached.to) front ≡ Some (scanned (pieces_at reached.to) m held) → StandsIn is_such characters start
-stands_in is_such characters start pieces front reached m held spell before such steps = record {
+stands_in : (is_such : Mode → Bool) (characters start : List ℕ) (pieces : List Piece) (rest : List ℕ) (reached : Reaches (spelled pieces) pieces rest) (m : Mode) (held : List ℕ) → start ++ rest ≡ characters → spelled pieces ≡ start → is_such m ≡ true → steps_from (Some reached.to) rest ≡ Some (scanned (pieces_at reached.to) m held) → StandsIn is_such characters start
+stands_in is_such characters start pieces rest reached m held spell before such steps = record {
   to = scanned (pieces_at reached.to) m held;
-  steps = ap (steps_from (Some text_start)) (sym spell ∙ ap (λ t. t ++ front) (sym before))
-      ∙ steps_from-append (Some text_start) (spelled pieces) front
-      ∙ ap (λ o. steps_from o front) reached.steps
+  steps = ap (steps_from (Some text_start)) (sym spell ∙ ap (λ t. t ++ rest) (sym before))
+      ∙ steps_from-append (Some text_start) (spelled pieces) rest
+      ∙ ap (λ o. steps_from o rest) reached.steps
       ∙ steps;
   such = such;
   before = ap spelled reached.pieces_are ∙ before;
@@ -183,13 +183,13 @@ short_end done q held (i ∷ is) last quotes each escapes =
 
 pub stands_in_short : (characters start : List ℕ) → InShortString characters start → StandsIn in_short characters start
 stands_in_short characters start short =
-    let front = short.inside in
-    let reached = reach short.pieces short.front short.fit in
-    let body = joined front.items ++ front.last in
-    let stops = subst (StopsBefore reached.to.mode) front.spell (reached.stops (may_begin short.pieces short.front (ap (begins is_mark) front.spell ∙ front-unmarked front.prefix front.quote body front.begun front.opens))) in
-    let inner = short_end (pieces_at reached.to) front.quote (front.prefix ++ front.quote ∷ []) front.items front.last front.opens front.each front.escapes in
-    stands_in in_short characters start short.pieces short.front reached inner.to _ short.spell short.before inner.short
-    (ap (steps_from (Some reached.to)) front.spell ∙ opened_steps reached.to front.prefix front.quote body front.begun front.opens stops ∙ inner.steps)
+    let rest = short.inside in
+    let reached = reach short.pieces short.rest short.fit in
+    let body = joined rest.items ++ rest.last in
+    let stops = subst (StopsBefore reached.to.mode) rest.spell (reached.stops (may_begin short.pieces short.rest (ap (begins is_mark) rest.spell ∙ prefix-unmarked rest.prefix rest.quote body rest.begun rest.opens))) in
+    let inner = short_end (pieces_at reached.to) rest.quote (rest.prefix ++ rest.quote ∷ []) rest.items rest.last rest.opens rest.each rest.escapes in
+    stands_in in_short characters start short.pieces short.rest reached inner.to _ short.spell short.before inner.short
+    (ap (steps_from (Some reached.to)) rest.spell ∙ opened_steps reached.to rest.prefix rest.quote body rest.begun rest.opens stops ∙ inner.steps)
 
 -- a run into a long string
 record LongEnd (done : List Piece) (from : Mode) (held body : List ℕ) : Type 0 where
@@ -217,23 +217,23 @@ long_end done q held items last quotes each triple escapes =
 
 pub stands_in_long : (characters start : List ℕ) → InLongString characters start → StandsIn in_long characters start
 stands_in_long characters start long =
-    let front = long.inside in
-    let reached = reach long.pieces long.front long.fit in
-    let q = front.quote in
-    let body = joined front.items ++ front.last in
-    let stops = subst (StopsBefore reached.to.mode) front.spell (reached.stops (may_begin long.pieces long.front (ap (begins is_mark) front.spell ∙ front-unmarked front.prefix q (q ∷ q ∷ body) front.begun front.opens))) in
-    let inner = long_end (pieces_at reached.to) q (front.prefix ++ q ∷ q ∷ q ∷ []) front.items front.last front.opens front.each front.open_yet front.escapes in
-    stands_in in_long characters start long.pieces long.front reached inner.to _ long.spell long.before inner.long
-    (ap (steps_from (Some reached.to)) front.spell ∙ long_opened reached.to front.prefix q body front.begun front.opens stops ∙ inner.steps)
+    let rest = long.inside in
+    let reached = reach long.pieces long.rest long.fit in
+    let q = rest.quote in
+    let body = joined rest.items ++ rest.last in
+    let stops = subst (StopsBefore reached.to.mode) rest.spell (reached.stops (may_begin long.pieces long.rest (ap (begins is_mark) rest.spell ∙ prefix-unmarked rest.prefix q (q ∷ q ∷ body) rest.begun rest.opens))) in
+    let inner = long_end (pieces_at reached.to) q (rest.prefix ++ q ∷ q ∷ q ∷ []) rest.items rest.last rest.opens rest.each rest.open_yet rest.escapes in
+    stands_in in_long characters start long.pieces long.rest reached inner.to _ long.spell long.before inner.long
+    (ap (steps_from (Some reached.to)) rest.spell ∙ long_opened reached.to rest.prefix q body rest.begun rest.opens stops ∙ inner.steps)
 
-pub stands_behind_slash : (characters start : List ℕ) → AfterBackslash characters start → StandsIn is_after_backslash characters start
-stands_behind_slash characters start behind = go behind.inside
+pub stands_after_slash : (characters start : List ℕ) → AfterBackslash characters start → StandsIn is_after_backslash characters start
+stands_after_slash characters start stood = go stood.inside
   where
-    go : IsSlash behind.front → StandsIn is_after_backslash characters start
+    go : IsSlash stood.rest → StandsIn is_after_backslash characters start
     go (slash, is, slashes) =
-        let reached = reach behind.pieces (slash ∷ []) (subst (AreReadBefore behind.pieces) is behind.fit) in
-        let stops = reached.stops (may_begin behind.pieces (slash ∷ []) (slash-not-mark slash slashes)) in
-        stands_in is_after_backslash characters start behind.pieces (slash ∷ []) reached modes.Backslash (slash ∷ []) (ap (λ t. start ++ t) (sym is) ∙ behind.spell) behind.before refl
+        let reached = reach stood.pieces (slash ∷ []) (subst (AreReadBefore stood.pieces) is stood.fit) in
+        let stops = reached.stops (may_begin stood.pieces (slash ∷ []) (slash-not-mark slash slashes)) in
+        stands_in is_after_backslash characters start stood.pieces (slash ∷ []) reached modes.Backslash (slash ∷ []) (ap (λ t. start ++ t) (sym is) ∙ stood.spell) stood.before refl
         (begun reached.to slash [] [] _ stops (start-slash slash slashes))
 
 -- so the mode says what is open

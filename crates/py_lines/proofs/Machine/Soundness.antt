@@ -16,7 +16,7 @@ use Rattle.py_lines.proofs.Machine.Starts.{StartsSo, starts_so}
 use Rattle.py_lines.proofs.Machine.Spellings.{spelling_on-push, prefix_spelling}
 use Rattle.py_lines.proofs.Text.CharacterTests.{feed_is, return_is, barred, feed-not-return}
 use Rattle.py_lines.proofs.Machine.PieceSteps.{scanned, pieces_at}
-use Rattle.py_lines.proofs.Machine.OpenPieces.{list_all-push, list_any-push, push, same_quotes, something, long_something, items_push, front_push, front_none, front_one, front_two, opened_items, opened_long, one_more_quote, short_string, long_string}
+use Rattle.py_lines.proofs.Machine.OpenPieces.{list_all-push, list_any-push, push, same_quotes, something, long_something, items_push, prefix_push, opening_none, opening_one, opening_two, opened_items, opened_long, one_more_quote, short_string, long_string}
 
 abbrev pub SoundIf : Option Scanned → List ℕ → Type 0
 SoundIf None read = Unit {0}
@@ -106,10 +106,10 @@ close_sound done m held read q c sound holds same =
 -- a character in a long string, which isn't its quote
 long_sound : (done : List Piece) (m : Mode) (held read : List ℕ) (q c : ℕ) → IsSound (scanned done m held) read → HoldsPrefix q held → eqb c q ≡ false → SoundIf (moved (scanned done m held) c (long_move q c)) (read ++ c ∷ [])
 unfolding long_move
-long_sound done m held read q c sound front other =
+long_sound done m held read q c sound opening other =
     let P : Move → Type 0 = λ v. SoundIf (moved (scanned done m held) c v) (read ++ c ∷ []) in
-    cond_both (is_backslash c) _ _ P (λ slash. grew done held read c m (modes.LongEscape q) sound (held, c, refl, front, slash))
-    (λ no_slash. grew done held read c m (modes.Long q) sound (front_push q held (c ∷ []) front (not_from_false _ no_slash) other))
+    cond_both (is_backslash c) _ _ P (λ slash. grew done held read c m (modes.LongEscape q) sound (held, c, refl, opening, slash))
+    (λ no_slash. grew done held read c m (modes.Long q) sound (prefix_push q held (c ∷ []) opening (not_from_false _ no_slash) other))
 
 -- a character that a backslash escapes
 escaped_item : (q slash c : ℕ) → is_backslash slash ≡ true → is_short_item q (slash ∷ c ∷ []) ≡ true
@@ -230,7 +230,7 @@ unfolding move_of
 long_step q done held read c sound =
     cond_both (eqb c q) _ _ (λ (v : Move). SoundIf (moved (scanned done (modes.Long q) held) c v) (read ++ c ∷ []))
     (λ h. grew done held read c (modes.Long q) (modes.LongOne q) sound (held, ap (λ (d : ℕ). held ++ d ∷ []) (eqb-true c q h), sound.holds))
-    (λ h. long_sound done (modes.Long q) held read q c sound (front_none q held sound.holds) h)
+    (λ h. long_sound done (modes.Long q) held read q c sound (opening_none q held sound.holds) h)
 
 long_one_step : (q : ℕ) (done : List Piece) (held read : List ℕ) (c : ℕ) → IsSound (scanned done (modes.LongOne q) held) read → SoundIf (step (scanned done (modes.LongOne q) held) c) (read ++ c ∷ [])
 unfolding move_of
@@ -238,7 +238,7 @@ long_one_step q done held read c sound =
     let before = sound.holds.0 in
     cond_both (eqb c q) _ _ (λ (v : Move). SoundIf (moved (scanned done (modes.LongOne q) held) c v) (read ++ c ∷ []))
     (λ h. grew done held read c (modes.LongOne q) (modes.LongTwo q) sound (before, ap (λ t. t ++ c ∷ []) sound.holds.1 ∙ append_assoc before (q ∷ []) (c ∷ []) ∙ ap (λ (d : ℕ). before ++ q ∷ d ∷ []) (eqb-true c q h), sound.holds.2))
-    (λ h. long_sound done (modes.LongOne q) held read q c sound (subst (HoldsPrefix q) (sym sound.holds.1) (front_one q before sound.holds.2)) h)
+    (λ h. long_sound done (modes.LongOne q) held read q c sound (subst (HoldsPrefix q) (sym sound.holds.1) (opening_one q before sound.holds.2)) h)
 
 long_two_step : (q : ℕ) (done : List Piece) (held read : List ℕ) (c : ℕ) → IsSound (scanned done (modes.LongTwo q) held) read → SoundIf (step (scanned done (modes.LongTwo q) held) c) (read ++ c ∷ [])
 unfolding move_of long_string
@@ -252,7 +252,7 @@ long_two_step q done held read c sound =
     closed_by_one done (modes.LongTwo q) held read c string sound (subst (InClass string) (sym spell) (inr whole))
     (λ more. long_something long.prefix (joined long.items ++ q ∷ q ∷ q ∷ []) q (held ++ c ∷ []) more (spell ∙ whole.spell) long.begun long.opens)
     (follows_any done string (held ++ c ∷ []) refl))
-    (λ h. long_sound done (modes.LongTwo q) held read q c sound (subst (HoldsPrefix q) (sym sound.holds.1) (front_two q before long)) h)
+    (λ h. long_sound done (modes.LongTwo q) held read q c sound (subst (HoldsPrefix q) (sym sound.holds.1) (opening_two q before long)) h)
 
 long_escape_step : (q : ℕ) (done : List Piece) (held read : List ℕ) (c : ℕ) → IsSound (scanned done (modes.LongEscape q) held) read → SoundIf (step (scanned done (modes.LongEscape q) held) c) (read ++ c ∷ [])
 unfolding move_of
@@ -260,11 +260,11 @@ long_escape_step q done held read c sound =
     let before = sound.holds.0 in
     let slash = sound.holds.1 in
     let spell : held ++ c ∷ [] ≡ before ++ slash ∷ c ∷ [] = ap (λ t. t ++ c ∷ []) sound.holds.2 ∙ append_assoc before (slash ∷ []) (c ∷ []) in
-    grew done held read c (modes.LongEscape q) (modes.Long q) sound (subst (HoldsLong q) (sym spell) (front_push q before (slash ∷ c ∷ []) sound.holds.3 sound.holds.4 refl))
+    grew done held read c (modes.LongEscape q) (modes.Long q) sound (subst (HoldsLong q) (sym spell) (prefix_push q before (slash ∷ c ∷ []) sound.holds.3 sound.holds.4 refl))
 
 -- a line end of two characters
-feed_behind : (r c : ℕ) → is_return r ≡ true → is_line_feed c ≡ true → r ∷ c ∷ [] ≡ 13 ∷ 10 ∷ []
-feed_behind r c h k =
+feed_after : (r c : ℕ) → is_return r ≡ true → is_line_feed c ≡ true → r ∷ c ∷ [] ≡ 13 ∷ 10 ∷ []
+feed_after r c h k =
     let first : r ≡ 13 = return_is r h in
     let second : c ≡ 10 = feed_is c k in
     cc
@@ -287,7 +287,7 @@ join_step done held read c sound =
     let r = sound.holds.1 in
     let spell : held ++ c ∷ [] ≡ slash ∷ r ∷ c ∷ [] = push held c sound.holds.2 in
     cond_both (is_line_feed c) _ _ (λ (v : Move). SoundIf (moved (scanned done modes.JoinReturn held) c v) (read ++ c ∷ []))
-    (λ h. closed_by_one done modes.JoinReturn held read c join sound (slash, r ∷ c ∷ [], spell, sound.holds.3, return_feed (feed_behind r c sound.holds.4 h))
+    (λ h. closed_by_one done modes.JoinReturn held read c join sound (slash, r ∷ c ∷ [], spell, sound.holds.3, return_feed (feed_after r c sound.holds.4 h))
     (λ more. and_left _ _ (ap (ends is_return) spell ∙ feed-not-return c h)) (follows_any done join (held ++ c ∷ []) refl))
     (λ h. break_sound done modes.JoinReturn join held read c sound refl (slash, r ∷ [], sound.holds.2, sound.holds.3, return (ap (λ d. d ∷ []) (return_is r sound.holds.4))) (λ more. and_right _ _ h))
 
@@ -297,7 +297,7 @@ return_step done held read c sound =
     let r = sound.holds.0 in
     let spell : held ++ c ∷ [] ≡ r ∷ c ∷ [] = push held c sound.holds.1 in
     cond_both (is_line_feed c) _ _ (λ (v : Move). SoundIf (moved (scanned done modes.Return held) c v) (read ++ c ∷ []))
-    (λ h. closed_by_one done modes.Return held read c line_end sound (return_feed (spell ∙ feed_behind r c sound.holds.2 h))
+    (λ h. closed_by_one done modes.Return held read c line_end sound (return_feed (spell ∙ feed_after r c sound.holds.2 h))
     (λ more. and_left _ _ (ap (ends is_return) spell ∙ feed-not-return c h)) (follows_any done line_end (held ++ c ∷ []) refl))
     (λ h. break_sound done modes.Return line_end held read c sound refl (return (sound.holds.1 ∙ ap (λ d. d ∷ []) (return_is r sound.holds.2))) (λ more. and_right _ _ h))
 

@@ -172,12 +172,12 @@ stops-empty q [] h = refl
 stops-empty q (c ∷ cs) h = rw h
 
 -- a string's text, first its beginning with the opening quote
-front_first : (prefix : List ℕ) (q : ℕ) (body : List ℕ) → (prefix ++ q ∷ []) ++ body ≡ prefix ++ q ∷ body
-front_first prefix q body = append_assoc prefix (q ∷ []) body
+opening_first : (prefix : List ℕ) (q : ℕ) (body : List ℕ) → (prefix ++ q ∷ []) ++ body ≡ prefix ++ q ∷ body
+opening_first prefix q body = append_assoc prefix (q ∷ []) body
 
 pub opened_steps : (from : Scanned) (prefix : List ℕ) (q : ℕ) (body : List ℕ) → IsPrefix prefix → is_quote q ≡ true → StopsBefore from.mode (prefix ++ q ∷ body) → steps_from (Some from) (prefix ++ q ∷ body) ≡ steps_from (Some (scanned (pieces_at from) (modes.Opened q) (prefix ++ q ∷ []))) body
 opened_steps from prefix q body is quotes stops =
-    ap (steps_from (Some from)) (sym (front_first prefix q body))
+    ap (steps_from (Some from)) (sym (opening_first prefix q body))
     ∙ steps_from-append (Some from) (prefix ++ q ∷ []) body
     ∙ ap (λ o. steps_from o body) (open_string from prefix q body is quotes stops)
 
@@ -208,7 +208,7 @@ find_short from prefix q [] rest is quotes each stops before =
       to = scanned done (modes.Empty q) ((prefix ++ q ∷ []) ++ q ∷ []);
       steps = opened_steps from prefix q (q ∷ []) is quotes (stops_so from prefix q (q ∷ []) rest stops)
           ∙ grown done _ _ (prefix ++ q ∷ []) q [] (empty-opened q);
-      pieces_are = ap (λ t. done ++ piece string t ∷ []) (front_first prefix q (q ∷ []));
+      pieces_are = ap (λ t. done ++ piece string t ∷ []) (opening_first prefix q (q ∷ []));
       stops = stops-empty q rest (before prefix q refl is quotes);
     }
 find_short from prefix q (i ∷ items) rest is quotes each stops before =
@@ -221,7 +221,7 @@ find_short from prefix q (i ∷ items) rest is quotes each stops before =
           ∙ steps_from-append (Some (scanned done (modes.Opened q) (prefix ++ q ∷ []))) text (q ∷ [])
           ∙ ap (λ o. steps_from o (q ∷ [])) body.steps
           ∙ close_short done q body.to ((prefix ++ q ∷ []) ++ text) body.inside quotes;
-      pieces_are = ap (λ t. done ++ piece string t ∷ []) (append_assoc (prefix ++ q ∷ []) text (q ∷ []) ∙ front_first prefix q (text ++ q ∷ []));
+      pieces_are = ap (λ t. done ++ piece string t ∷ []) (append_assoc (prefix ++ q ∷ []) text (q ∷ []) ∙ opening_first prefix q (text ++ q ∷ []));
       stops = stops-free rest;
     }
 
@@ -375,24 +375,24 @@ long_opened from prefix q body is quotes stops =
     opened_steps from prefix q (q ∷ q ∷ body) is quotes stops
     ∙ grown done _ _ (prefix ++ q ∷ []) q (q ∷ body) (empty-opened q)
     ∙ grown done _ _ ((prefix ++ q ∷ []) ++ q ∷ []) q body (long-opens q)
-    ∙ ap (λ t. steps_from (Some (scanned done (modes.Long q) t)) body) (append_assoc (prefix ++ q ∷ []) (q ∷ []) (q ∷ []) ∙ front_first prefix q (q ∷ q ∷ []))
+    ∙ ap (λ t. steps_from (Some (scanned done (modes.Long q) t)) body) (append_assoc (prefix ++ q ∷ []) (q ∷ []) (q ∷ []) ∙ opening_first prefix q (q ∷ q ∷ []))
 
 pub find_long : (from : Scanned) (prefix : List ℕ) (q : ℕ) (items : List (List ℕ)) (rest : List ℕ) → IsPrefix prefix → is_quote q ≡ true → list_all is_item items ≡ true → has_triple q (items ++ (q ∷ []) ∷ (q ∷ []) ∷ []) ≡ false → StopsBefore from.mode (prefix ++ q ∷ ((q ∷ q ∷ (joined items ++ q ∷ q ∷ q ∷ [])) ++ rest)) → Finds from (prefix ++ (q ∷ q ∷ q ∷ joined items ++ q ∷ q ∷ q ∷ [])) (piece string (prefix ++ (q ∷ q ∷ q ∷ joined items ++ q ∷ q ∷ q ∷ [])) ∷ []) rest
 find_long from prefix q items rest is quotes each triple stops =
     let done = pieces_at from in
     let all = items ++ (q ∷ []) ∷ (q ∷ []) ∷ [] in
-    let front = prefix ++ q ∷ q ∷ q ∷ [] in
+    let opening = prefix ++ q ∷ q ∷ q ∷ [] in
     let ends = joined items ++ q ∷ q ∷ q ∷ [] in
     let cut : joined all ++ q ∷ [] ≡ ends = ap (λ t. t ++ q ∷ []) (joined-append items ((q ∷ []) ∷ (q ∷ []) ∷ [])) ∙ append_assoc (joined items) (q ∷ q ∷ []) (q ∷ []) in
     let seen : seen_after q none all ≡ two = seen_after-append q none items ((q ∷ []) ∷ (q ∷ []) ∷ []) ∙ two_quotes q (seen_after q none items) in
     record {
-      to = fresh (done ++ piece string ((front ++ joined all) ++ q ∷ []) ∷ []);
+      to = fresh (done ++ piece string ((opening ++ joined all) ++ q ∷ []) ∷ []);
       steps = long_opened from prefix q ends is quotes (stops_so from prefix q (q ∷ q ∷ ends) rest stops)
-          ∙ ap (steps_from (Some (scanned done (modes.Long q) front))) (sym cut)
-          ∙ steps_from-append (Some (scanned done (modes.Long q) front)) (joined all) (q ∷ [])
-          ∙ ap (λ o. steps_from o (q ∷ [])) (run_long done q none front all quotes (list_all-append is_item items ((q ∷ []) ∷ (q ∷ []) ∷ []) ∙ and_from _ _ each (quotes_items q quotes)) triple)
-          ∙ ap (λ (s : Seen). steps_from (Some (scanned done (mode_at q s) (front ++ joined all))) (q ∷ [])) seen
-          ∙ closes done (modes.LongTwo q) (front ++ joined all) q (long-closes q);
-      pieces_are = ap (λ t. done ++ piece string t ∷ []) (append_assoc front (joined all) (q ∷ []) ∙ ap (λ t. front ++ t) cut ∙ append_assoc prefix (q ∷ q ∷ q ∷ []) ends);
+          ∙ ap (steps_from (Some (scanned done (modes.Long q) opening))) (sym cut)
+          ∙ steps_from-append (Some (scanned done (modes.Long q) opening)) (joined all) (q ∷ [])
+          ∙ ap (λ o. steps_from o (q ∷ [])) (run_long done q none opening all quotes (list_all-append is_item items ((q ∷ []) ∷ (q ∷ []) ∷ []) ∙ and_from _ _ each (quotes_items q quotes)) triple)
+          ∙ ap (λ (s : Seen). steps_from (Some (scanned done (mode_at q s) (opening ++ joined all))) (q ∷ [])) seen
+          ∙ closes done (modes.LongTwo q) (opening ++ joined all) q (long-closes q);
+      pieces_are = ap (λ t. done ++ piece string t ∷ []) (append_assoc opening (joined all) (q ∷ []) ∙ ap (λ t. opening ++ t) cut ∙ append_assoc prefix (q ∷ q ∷ q ∷ []) ends);
       stops = stops-free rest;
     }

@@ -40,10 +40,10 @@ use Rattle.py_lines.proofs.LineScan.LineCount.{line_ends-bytes}
 use Rattle.py_lines.proofs.LineScan.PieceEnd.{closes_shut}
 use Rattle.py_lines.proofs.LineScan.NextCharacter.{closed_one_line, one_return}
 use Rattle.py_lines.proofs.LineScan.LineSteps.{sound_steps, way_stop}
-use Rattle.py_lines.proofs.Machine.EarlierPieces.{behind, shift}
+use Rattle.py_lines.proofs.Machine.EarlierPieces.{after_pieces, shift}
 use Rattle.py_lines.proofs.Lexings.GivenLines.{IsEnded}
 use Rattle.py_lines.proofs.Readers.LineAnswers.{IsLine, Within, all_within, continues, end_len-push}
-use Rattle.py_lines.proofs.Readers.FaultAnswers.{fails, here, start_sound, joins, whole, line_of_fault, has_front}
+use Rattle.py_lines.proofs.Readers.FaultAnswers.{fails, here, start_sound, joins, whole, line_of_fault, has_prefix}
 
 -- nothing follows the characters that the scan took
 pub all_taken : (cs : List ℕ) (rest : List ℕ) → encode_utf8_all cs ≡ rest → rest ≡ [] → cs ≡ []
@@ -65,23 +65,23 @@ end_len-none d (p ∷ q ∷ ps) none deep = end_len-none (depth_after d p) (q �
 
 -- where something is open
 module _ (scan : Scan) (read : List ℕ) (s : Scanned) (sound : IsSound s read) (tallies : Tallies scan s) (stacked : IsStacked scan s) where
-  bracket_within : (b : Bracket) (others : List Bracket) (behind : ℕ) → stack_of scan.brackets ≡ b ∷ others → behind ≡ b.place → Within read behind
-  bracket_within b others behind top place = go (stands s.done (b ∷ others) (stacked ∙ ap (λ l. Some l) top)).at
+  bracket_within : (b : Bracket) (others : List Bracket) (offset : ℕ) → stack_of scan.brackets ≡ b ∷ others → offset ≡ b.place → Within read offset
+  bracket_within b others offset top place = go (stands s.done (b ∷ others) (stacked ∙ ap (λ l. Some l) top)).at
     where
-      go : StandsAt (b ∷ others) s.done → Within read behind
+      go : StandsAt (b ∷ others) s.done → Within read offset
       go (level bs ps none within) = absurd (cc)
       go (inside bs ps c more outer inner a is spell out opens kind at within) =
           let top_is : b ≡ c = cc in
           record {
-            front = spelled outer;
+            prefix = spelled outer;
             later = spelled (a ∷ inner) ++ s.held;
             split = sym (append_assoc (spelled outer) (spelled (a ∷ inner)) s.held) ∙ ap (λ t. t ++ s.held) (sym (spelled-append outer (a ∷ inner)) ∙ ap spelled (sym spell)) ∙ sound.spell;
             size = place ∙ ap (λ (x : Bracket). x.place) top_is ∙ at;
           }
 
-  pub within_open : (behind : ℕ) → IsOpenFrom scan behind → Within read behind
-  within_open behind (inl (unfinal, is)) = record { front = spelled s.done; later = s.held; split = sound.spell; size = is ∙ tallies.start }
-  within_open behind (inr (final, (b, others, top, place))) = bracket_within b others behind top place
+  pub within_open : (offset : ℕ) → IsOpenFrom scan offset → Within read offset
+  within_open offset (inl (unfinal, is)) = record { prefix = spelled s.done; later = s.held; split = sound.spell; size = is ∙ tallies.start }
+  within_open offset (inr (final, (b, others, top, place))) = bracket_within b others offset top place
 
 one_or : (ps : List Piece) → EndsNoLine 0 ps → (ps ≡ [] → ⊥) → cut 0 ps ≡ ps ∷ []
 one_or [] none some = absurd (some refl)
@@ -167,20 +167,20 @@ module _ (old : Source) (has : HasScanned old stops.TextEnd) where
           let j = joins old stops.TextEnd has lines given way in
           subst (λ l. IsLexedToFault old.bytes.now l at.keeps.fault) (sym s.given.first.cut)
           (refused_at_bytes old.bytes.now s.given.first.characters d ds j.state j.st s.given.first.pieces at.keeps.fault (subst (λ t. Decodes old.bytes.now s.given.first.characters t) is s.given.first.decodes) (runs_all lines given)
-          (has_front old stops.TextEnd has lines given way open_yet) at.keeps.at.is
+          (has_prefix old stops.TextEnd has lines given way open_yet) at.keeps.at.is
           (omega (arith, at.keeps.at.place, s.given.first.here, stop_size, ap byte_len (all_read lines given), byte_len-append (spelled s.given.first.pieces) has.scans.read))
           (line_of_fault old stops.TextEnd has lines given BadUtf8 old.state.scan.stop at.keeps.fault at.keeps.at (all_within has.scans.read old.state.scan.stop stop_size)))
 
-  pub unfinished_within : (behind : ℕ) → IsOpenFrom old.state.scan behind → Within has.scans.read behind
-  unfinished_within behind is =
+  pub unfinished_within : (offset : ℕ) → IsOpenFrom old.state.scan offset → Within has.scans.read offset
+  unfinished_within offset is =
       let way = has.scans.stops.0 in
-      within_open old.state.scan has.scans.read way.state (sound_steps (first_mode old.state.place) has.scans.read way.state (start_sound old stops.TextEnd has) way.steps) way.tallies way.stacked behind is
+      within_open old.state.scan has.scans.read way.state (sound_steps (first_mode old.state.place) has.scans.read way.state (start_sound old stops.TextEnd has) way.steps) way.tallies way.stacked offset is
 
   no_tail : (lines : List LogicalLine) (given : HasGiven (reader_of old) lines) → length old.bytes.now ≤ length old.characters.now → (here old stops.TextEnd has lines given).given.first.tail ≡ []
   no_tail lines given full = (here old stops.TextEnd has lines given).tail_is ∙ drop_all (length old.characters.now) old.bytes.now full
 
   -- the machine's state is that of the line, after the lines given
-  unread : (lines : List LogicalLine) (given : HasGiven (reader_of old) lines) (behind : ℕ) → 0 < byte_len has.scans.read → IsOpenFrom old.state.scan behind → (pieces : List Piece) → ¬ (IsBalancedReading pieces (here old stops.TextEnd has lines given).given.first.characters)
+  unread : (lines : List LogicalLine) (given : HasGiven (reader_of old) lines) (offset : ℕ) → 0 < byte_len has.scans.read → IsOpenFrom old.state.scan offset → (pieces : List Piece) → ¬ (IsBalancedReading pieces (here old stops.TextEnd has lines given).given.first.characters)
   unread lines given at full (inl (unfinal, is)) =
       let j = joins old stops.TextEnd has lines given has.scans.stops.0 in
       unread_at (here old stops.TextEnd has lines given).given.first.characters j.state (runs_all lines given).run (ap (λ (s : Scanned). is_final s.mode) (j.same full).0 ∙ ap is_final (sym has.scans.stops.0.tallies.mode) ∙ unfinal)
@@ -191,8 +191,8 @@ module _ (old : Source) (has : HasScanned old stops.TextEnd) where
       let none : shift (byte_len (spelled s.given.first.pieces)) (b ∷ others) ≡ [] = ap (shift (byte_len (spelled s.given.first.pieces))) (sym top) ∙ sym (j.same full).1 ∙ (goes_once (runs_all lines given) ran.steps).1 in
       cc
 
-  end_offset : (lines : List LogicalLine) (given : HasGiven (reader_of old) lines) (behind' : ℕ) → 0 < byte_len has.scans.read → IsOpenFrom old.state.scan behind' → old.state.place + behind' ≡ end_place (joins old stops.TextEnd has lines given has.scans.stops.0).state (joins old stops.TextEnd has lines given has.scans.stops.0).st
-  end_offset lines given behind' full unfinished =
+  end_offset : (lines : List LogicalLine) (given : HasGiven (reader_of old) lines) (later : ℕ) → 0 < byte_len has.scans.read → IsOpenFrom old.state.scan later → old.state.place + later ≡ end_place (joins old stops.TextEnd has lines given has.scans.stops.0).state (joins old stops.TextEnd has lines given has.scans.stops.0).st
+  end_offset lines given later full unfinished =
       let j = joins old stops.TextEnd has lines given has.scans.stops.0 in
       let s = here old stops.TextEnd has lines given in
       let base = s.given.first.pieces in
@@ -200,34 +200,34 @@ module _ (old : Source) (has : HasScanned old stops.TextEnd) where
       let k = byte_len (spelled base) in
       go unfinished ∙ ap (λ (t : Scanned). end_place t (shift k (stack_of old.state.scan.brackets))) (sym (j.same full).0) ∙ ap (end_place j.state) (sym (j.same full).1)
     where
-      go : IsOpenFrom old.state.scan behind' → old.state.place + behind' ≡ end_place (behind (here old stops.TextEnd has lines given).given.first.pieces has.scans.stops.0.state) (shift (byte_len (spelled (here old stops.TextEnd has lines given).given.first.pieces)) (stack_of old.state.scan.brackets))
+      go : IsOpenFrom old.state.scan later → old.state.place + later ≡ end_place (after_pieces (here old stops.TextEnd has lines given).given.first.pieces has.scans.stops.0.state) (shift (byte_len (spelled (here old stops.TextEnd has lines given).given.first.pieces)) (stack_of old.state.scan.brackets))
       go (inl (unfinal, is)) =
           let base = (here old stops.TextEnd has lines given).given.first.pieces in
           let way = has.scans.stops.0 in
           let k = byte_len (spelled base) in
-          let sum : old.state.place + behind' ≡ byte_len (spelled (base ++ way.state.done)) = omega (arith, (here old stops.TextEnd has lines given).given.first.here, is, way.tallies.start, ap byte_len (spelled-append base way.state.done), byte_len-append (spelled base) (spelled way.state.done)) in
+          let sum : old.state.place + later ≡ byte_len (spelled (base ++ way.state.done)) = omega (arith, (here old stops.TextEnd has lines given).given.first.here, is, way.tallies.start, ap byte_len (spelled-append base way.state.done), byte_len-append (spelled base) (spelled way.state.done)) in
           sum ∙ sym (ap (λ (b : Bool). if b then top_place (shift k (stack_of old.state.scan.brackets)) else byte_len (spelled (base ++ way.state.done))) (ap is_final (sym way.tallies.mode) ∙ unfinal))
       go (inr (final, (b, others, top, place))) =
           let base = (here old stops.TextEnd has lines given).given.first.pieces in
           let way = has.scans.stops.0 in
           let k = byte_len (spelled base) in
-          let sum : old.state.place + behind' ≡ k + b.place = omega (arith, (here old stops.TextEnd has lines given).given.first.here, place) in
+          let sum : old.state.place + later ≡ k + b.place = omega (arith, (here old stops.TextEnd has lines given).given.first.here, place) in
           sum ∙ ap (λ l. top_place (shift k l)) (sym top) ∙ sym (ap (λ (x : Bool). if x then top_place (shift k (stack_of old.state.scan.brackets)) else byte_len (spelled (base ++ way.state.done))) (ap is_final (sym way.tallies.mode) ∙ final))
 
   -- the text's end where it may not end
-  pub fails_at_end : (new : Source) (kind : FaultKind) (behind' : ℕ) (error : LexError) (at : FailsAfter old kind behind' error new) → kind ≡ end_kind old.state.scan.piece.mode → IsOpenFrom old.state.scan behind' → length old.bytes.now ≤ length old.characters.now → Fails (reader_of old) at.keeps.fault (reader_of new)
-  fails_at_end new kind behind' error at kind_is unfinished full =
-      fails old new kind behind' error at has.no_fault has.more (λ lines given.
+  pub fails_at_end : (new : Source) (kind : FaultKind) (later : ℕ) (error : LexError) (at : FailsAfter old kind later error new) → kind ≡ end_kind old.state.scan.piece.mode → IsOpenFrom old.state.scan later → length old.bytes.now ≤ length old.characters.now → Fails (reader_of old) at.keeps.fault (reader_of new)
+  fails_at_end new kind later error at kind_is unfinished full =
+      fails old new kind later error at has.no_fault has.more (λ lines given.
       let s = here old stops.TextEnd has lines given in
       let way = has.scans.stops.0 in
       let j = joins old stops.TextEnd has lines given way in
       let some = some_text full in
       subst (λ l. IsLexedToFault old.bytes.now l at.keeps.fault) (sym s.given.first.cut)
-      (refused_at_end old.bytes.now s.given.first.characters j.state j.st s.given.first.pieces at.keeps.fault (subst (λ t. Decodes old.bytes.now s.given.first.characters t) (no_tail lines given full) s.given.first.decodes) (runs_all lines given) (unread lines given behind' some unfinished)
-      (has_front old stops.TextEnd has lines given way open_yet)
+      (refused_at_end old.bytes.now s.given.first.characters j.state j.st s.given.first.pieces at.keeps.fault (subst (λ t. Decodes old.bytes.now s.given.first.characters t) (no_tail lines given full) s.given.first.decodes) (runs_all lines given) (unread lines given later some unfinished)
+      (has_prefix old stops.TextEnd has lines given way open_yet)
       (at.keeps.at.is ∙ kind_is ∙ ap end_kind way.tallies.mode ∙ ap (λ (t : Scanned). end_kind t.mode) (sym (j.same some).0))
-      (at.keeps.at.place ∙ end_offset lines given behind' some unfinished)
-      (line_of_fault old stops.TextEnd has lines given kind behind' at.keeps.fault at.keeps.at (unfinished_within behind' unfinished))))
+      (at.keeps.at.place ∙ end_offset lines given later some unfinished)
+      (line_of_fault old stops.TextEnd has lines given kind later at.keeps.fault at.keeps.at (unfinished_within later unfinished))))
 
   -- the last line
   last_line : (mid : Scan) → Tallies mid (fresh (pieces_at has.scans.stops.0.state)) → stack_of old.state.scan.brackets ≡ [] → 0 < byte_len has.scans.read → IsLine (line_start (first_mode old.state.place)) mid has.scans.read 0 (pieces_at has.scans.stops.0.state)

@@ -36,11 +36,11 @@ use Rattle.py_lines.proofs.LineScan.NextCharacter.{closed_one_line}
 use Rattle.py_lines.proofs.LineScan.LineSteps.{sound_steps, way_stop}
 use Rattle.py_lines.proofs.LineScan.TextSteps.{begun_sound, base_of, way_goes, Joined, joined, dead_at}
 use Rattle.py_lines.proofs.Lexings.GivenLines.{Situation, base_lines}
-use Rattle.py_lines.proofs.Readers.LineAnswers.{situation, Within, front_spells, all_within}
+use Rattle.py_lines.proofs.Readers.LineAnswers.{situation, Within, prefix_spells, all_within}
 
 -- the reader failed
-pub fails : (old new : Source) (kind : FaultKind) (behind : ℕ) (error : LexError) (at : FailsAfter old kind behind error new) → old.state.fault ≡ None → old.state.place < length old.bytes.now → ((lines : List LogicalLine) → HasGiven (reader_of old) lines → IsLexed old.bytes.now lines (Some at.keeps.fault)) → Fails (reader_of old) at.keeps.fault (reader_of new)
-fails old new kind behind error at no_fault left all = record {
+pub fails : (old new : Source) (kind : FaultKind) (offset : ℕ) (error : LexError) (at : FailsAfter old kind offset error new) → old.state.fault ≡ None → old.state.place < length old.bytes.now → ((lines : List LogicalLine) → HasGiven (reader_of old) lines → IsLexed old.bytes.now lines (Some at.keeps.fault)) → Fails (reader_of old) at.keeps.fault (reader_of new)
+fails old new kind offset error at no_fault left all = record {
   all = all;
   again = λ first known. absurd (let clash = sym no_fault ∙ known in cc);
   more = λ none. left;
@@ -93,24 +93,24 @@ module _ (old : Source) (stop : Stop) (has : HasScanned old stop) where
       append_assoc (spelled s.given.first.pieces) has.scans.read s.after ∙ ap (λ t. spelled s.given.first.pieces ++ t) (sym s.split) ∙ s.given.first.spell
 
   -- the line of a place in the line that was being read
-  pub line_of_fault : (lines : List LogicalLine) (given : HasGiven (reader_of old) lines) (kind : FaultKind) (behind : ℕ) (fault : Fault) → IsFaultAfter old.state kind behind (take behind (drop old.state.place old.characters.now)) fault → Within has.scans.read behind → IsLineOf fault (here lines given).given.first.characters
-  line_of_fault lines given kind behind fault at w =
+  pub line_of_fault : (lines : List LogicalLine) (given : HasGiven (reader_of old) lines) (kind : FaultKind) (offset : ℕ) (fault : Fault) → IsFaultAfter old.state kind offset (take offset (drop old.state.place old.characters.now)) fault → Within has.scans.read offset → IsLineOf fault (here lines given).given.first.characters
+  line_of_fault lines given kind offset fault at w =
       let s = here lines given in
       let base = s.given.first.pieces in
-      let taken : encode_utf8_all w.front ≡ take behind (drop old.state.place old.characters.now)
-      = sym (ap (take behind) (sym (front_spells old stop has behind w)) ∙ ap (λ (n : ℕ). take n (encode_utf8_all w.front ++ (encode_utf8_all w.later ++ has.scans.rest))) w.size ∙ take-append_seam (encode_utf8_all w.front) (encode_utf8_all w.later ++ has.scans.rest)) in
-      let split : w.front ++ (w.later ++ s.after) ≡ has.scans.read ++ s.after = sym (append_assoc w.front w.later s.after) ∙ ap (λ t. t ++ s.after) w.split in
+      let taken : encode_utf8_all w.prefix ≡ take offset (drop old.state.place old.characters.now)
+      = sym (ap (take offset) (sym (prefix_spells old stop has offset w)) ∙ ap (λ (n : ℕ). take n (encode_utf8_all w.prefix ++ (encode_utf8_all w.later ++ has.scans.rest))) w.size ∙ take-append_seam (encode_utf8_all w.prefix) (encode_utf8_all w.later ++ has.scans.rest)) in
+      let split : w.prefix ++ (w.later ++ s.after) ≡ has.scans.read ++ s.after = sym (append_assoc w.prefix w.later s.after) ∙ ap (λ t. t ++ s.after) w.split in
       record {
-        front = spelled base ++ w.front;
+        prefix = spelled base ++ w.prefix;
         rest = w.later ++ s.after;
-        spell = append_assoc (spelled base) w.front (w.later ++ s.after) ∙ ap (λ t. spelled base ++ t) split ∙ sym (append_assoc (spelled base) has.scans.read s.after) ∙ whole lines given;
-        place = omega (arith, at.place, w.size, s.given.first.here, byte_len-append (spelled base) w.front);
-        line = omega (arith, at.line w.front taken, s.given.first.number, base_lines base w.front (w.later ++ s.after) (subst (AreReadBefore base) (sym split) (base_fit lines given)));
+        spell = append_assoc (spelled base) w.prefix (w.later ++ s.after) ∙ ap (λ t. spelled base ++ t) split ∙ sym (append_assoc (spelled base) has.scans.read s.after) ∙ whole lines given;
+        place = omega (arith, at.place, w.size, s.given.first.here, byte_len-append (spelled base) w.prefix);
+        line = omega (arith, at.line w.prefix taken, s.given.first.number, base_lines base w.prefix (w.later ++ s.after) (subst (AreReadBefore base) (sym split) (base_fit lines given)));
       }
 
   -- the lines given are the prefix
-  pub has_front : (lines : List LogicalLine) (given : HasGiven (reader_of old) lines) (way : IsUnderWay (first_mode old.state.place) old.state.scan has.scans.read) → (way.state.mode ≡ modes.Return → none_open (stack_of old.state.scan.brackets) ≡ false) → HasPrefix (joins lines given way).state (here lines given).given.first.pieces
-  has_front lines given way open_yet = record {
+  pub has_prefix : (lines : List LogicalLine) (given : HasGiven (reader_of old) lines) (way : IsUnderWay (first_mode old.state.place) old.state.scan has.scans.read) → (way.state.mode ≡ modes.Return → none_open (stack_of old.state.scan.brackets) ≡ false) → HasPrefix (joins lines given way).state (here lines given).given.first.pieces
+  has_prefix lines given way open_yet = record {
     others = pieces_at way.state;
     spell = (joins lines given way).pieces;
     ended = (here lines given).ends;
@@ -121,7 +121,7 @@ module _ (old : Source) (stop : Stop) (has : HasScanned old stop) where
   refused_within way =
       let sound = sound_steps (first_mode old.state.place) has.scans.read way.state start_sound way.steps in
       cond_both (in_short old.state.scan.piece.mode || is_after_backslash old.state.scan.piece.mode) old.state.scan.piece.start old.state.scan.stop (Within has.scans.read)
-      (λ h. record { front = spelled way.state.done; later = way.state.held; split = sound.spell; size = way.tallies.start })
+      (λ h. record { prefix = spelled way.state.done; later = way.state.held; split = sound.spell; size = way.tallies.start })
       (λ h. all_within has.scans.read old.state.scan.stop (way_stop (first_mode old.state.place) old.state.scan has.scans.read way start_sound))
 
   refused_offset : (lines : List LogicalLine) (given : HasGiven (reader_of old) lines) (way : IsUnderWay (first_mode old.state.place) old.state.scan has.scans.read) → old.state.place + refused_place old.state.scan ≡ character_place (joins lines given way).state (spelled (here lines given).given.first.pieces ++ has.scans.read)
@@ -152,7 +152,7 @@ fails_at_character old new c kind error has at kind_is =
     subst (λ l. IsLexedToFault old.bytes.now l at.keeps.fault) (sym s.given.first.cut)
     (refused_at_character old.bytes.now s.given.first.characters s.given.first.tail (spelled s.given.first.pieces ++ has.scans.read) more c j.state j.st s.given.first.pieces at.keeps.fault s.given.first.decodes spell j.steps
     (dead_at s.given.first.pieces has.scans.read s.after more way.state (stack_of old.state.scan.brackets) c j (level old stop has lines given) follows has.scans.stops.3)
-    (has_front old stop has lines given way open_yet)
+    (has_prefix old stop has lines given way open_yet)
     (at.keeps.at.is ∙ kind_is ∙ ap (λ (m : Mode). character_kind m c) way.tallies.mode ∙ same_kind way.state.mode j.state.mode c (sym j.short) (sym j.slash))
     (at.keeps.at.place ∙ refused_offset old stop has lines given way)
     (line_of_fault old stop has lines given kind (refused_place old.state.scan) at.keeps.fault at.keeps.at (refused_within old stop has way))))

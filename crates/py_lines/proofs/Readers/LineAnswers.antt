@@ -24,7 +24,7 @@ use Rattle.py_lines.specs.Reader.View.{reader_of}
 use Rattle.py_lines.specs.Private.LineState.{first_mode}
 use Rattle.py_lines.specs.Private.Source.{line_of_source, PassesLine, HasScanned}
 use Rattle.py_lines.specs.Token.{EachLiesIn}
-use Rattle.py_lines.proofs.Text.Utf8Prefixes.{front_chars, all_scalars-parts, one_decoding}
+use Rattle.py_lines.proofs.Text.Utf8Prefixes.{prefix_chars, all_scalars-parts, one_decoding}
 use Rattle.py_lines.proofs.Pieces.PieceLists.{spelled-append, AreReadBefore-second}
 use Rattle.py_lines.proofs.Lexings.LinePrefix.{line_first}
 use Rattle.py_lines.proofs.LogicalLines.TokenPlaces.{tokens_lie}
@@ -52,34 +52,34 @@ pub record IsLine (m : Scanned) (scan : Scan) (read : List ℕ) (end_len : ℕ) 
 
 -- where the scan stopped, given the lines so far
 pub situation : (s : Source) (stop : Stop) (lines : List LogicalLine) (has : HasScanned s stop) → HasGiven (reader_of s) lines → Situation (reader_of s) s.characters.now lines has.scans.read has.scans.rest
-situation s stop lines has given = situate (reader_of s) s.characters.now lines has.scans.read has.scans.rest given (IsUtf8-had _ s.text) s.front s.bad has.more has.scans.spell
+situation s stop lines has given = situate (reader_of s) s.characters.now lines has.scans.read has.scans.rest given (IsUtf8-had _ s.text) s.prefix s.bad has.more has.scans.spell
 
 -- a place in what was scanned
-pub record Within (read : List ℕ) (behind : ℕ) : Type 0 where
-  pub front : List ℕ
+pub record Within (read : List ℕ) (offset : ℕ) : Type 0 where
+  pub prefix : List ℕ
   pub later : List ℕ
-  pub split : front ++ later ≡ read
-  pub size : behind ≡ byte_len front
+  pub split : prefix ++ later ≡ read
+  pub size : offset ≡ byte_len prefix
 
 -- what follows a place in the scanned line is text, and the place is a boundary
-pub front_spells : (s : Source) (stop : Stop) (has : HasScanned s stop) (behind : ℕ) (w : Within has.scans.read behind) → encode_utf8_all w.front ++ (encode_utf8_all w.later ++ has.scans.rest) ≡ drop s.state.place s.characters.now
-front_spells s stop has behind w = sym (append_assoc (encode_utf8_all w.front) (encode_utf8_all w.later) has.scans.rest) ∙ ap (λ t. t ++ has.scans.rest) (sym (encodes-append w.front w.later) ∙ ap encode_utf8_all w.split) ∙ has.scans.spell
+pub prefix_spells : (s : Source) (stop : Stop) (has : HasScanned s stop) (offset : ℕ) (w : Within has.scans.read offset) → encode_utf8_all w.prefix ++ (encode_utf8_all w.later ++ has.scans.rest) ≡ drop s.state.place s.characters.now
+prefix_spells s stop has offset w = sym (append_assoc (encode_utf8_all w.prefix) (encode_utf8_all w.later) has.scans.rest) ∙ ap (λ t. t ++ has.scans.rest) (sym (encodes-append w.prefix w.later) ∙ ap encode_utf8_all w.split) ∙ has.scans.spell
 
-rest_text : (s : Source) (stop : Stop) (has : HasScanned s stop) (behind : ℕ) (w : Within has.scans.read behind) → IsUtf8 (encode_utf8_all w.later ++ has.scans.rest)
-rest_text s stop has behind w =
+rest_text : (s : Source) (stop : Stop) (has : HasScanned s stop) (offset : ℕ) (w : Within has.scans.read offset) → IsUtf8 (encode_utf8_all w.later ++ has.scans.rest)
+rest_text s stop has offset w =
     let utf8 = IsUtf8-drop s.characters.now s.state.place (IsUtf8-had _ s.text) s.boundary in
-    let next = front_chars w.front utf8.0 (encode_utf8_all w.later ++ has.scans.rest) (utf8.1.1 ∙ sym (front_spells s stop has behind w)) in
-    (next.0, ((all_scalars-parts w.front next.0 (ap all_scalars (sym next.1) ∙ utf8.1.0)).1, next.2))
+    let next = prefix_chars w.prefix utf8.0 (encode_utf8_all w.later ++ has.scans.rest) (utf8.1.1 ∙ sym (prefix_spells s stop has offset w)) in
+    (next.0, ((all_scalars-parts w.prefix next.0 (ap all_scalars (sym next.1) ∙ utf8.1.0)).1, next.2))
 
-pub place_boundary : (s : Source) (stop : Stop) (has : HasScanned s stop) (behind : ℕ) → Within has.scans.read behind → IsCharBoundary s.characters.now (s.state.place + behind)
-place_boundary s stop has behind w =
-    subst (λ (n : ℕ). IsCharBoundary s.characters.now (s.state.place + n)) (sym w.size) (IsCharBoundary-from_rest s.characters.now s.state.place (byte_len w.front) s.within (IsCharBoundary-at_seam (drop s.state.place s.characters.now) (encode_utf8_all w.front) (encode_utf8_all w.later ++ has.scans.rest) (sym (front_spells s stop has behind w)) (rest_text s stop has behind w)))
+pub place_boundary : (s : Source) (stop : Stop) (has : HasScanned s stop) (offset : ℕ) → Within has.scans.read offset → IsCharBoundary s.characters.now (s.state.place + offset)
+place_boundary s stop has offset w =
+    subst (λ (n : ℕ). IsCharBoundary s.characters.now (s.state.place + n)) (sym w.size) (IsCharBoundary-from_rest s.characters.now s.state.place (byte_len w.prefix) s.within (IsCharBoundary-at_seam (drop s.state.place s.characters.now) (encode_utf8_all w.prefix) (encode_utf8_all w.later ++ has.scans.rest) (sym (prefix_spells s stop has offset w)) (rest_text s stop has offset w)))
 
-pub place_room : (s : Source) (stop : Stop) (has : HasScanned s stop) (behind : ℕ) → Within has.scans.read behind → s.state.place + behind ≤ length s.characters.now
-place_room s stop has behind w = omega (arith, w.size, ap length (front_spells s stop has behind w), length-append (encode_utf8_all w.front) (encode_utf8_all w.later ++ has.scans.rest), length-drop s.state.place s.characters.now, s.within)
+pub place_room : (s : Source) (stop : Stop) (has : HasScanned s stop) (offset : ℕ) → Within has.scans.read offset → s.state.place + offset ≤ length s.characters.now
+place_room s stop has offset w = omega (arith, w.size, ap length (prefix_spells s stop has offset w), length-append (encode_utf8_all w.prefix) (encode_utf8_all w.later ++ has.scans.rest), length-drop s.state.place s.characters.now, s.within)
 
 pub all_within : (read : List ℕ) (n : ℕ) → n ≡ byte_len read → Within read n
-all_within read n size = record { front = read; later = []; split = append-nil read; size = size }
+all_within read n size = record { prefix = read; later = []; split = append-nil read; size = size }
 
 -- the logical line that was scanned
 given_line : (old mid new : Source) (stop : Stop) (has : HasScanned old stop) (end_len : ℕ) (u : List Piece) → IsLine (line_start (first_mode old.state.place)) mid.state.scan has.scans.read end_len u → mid.state.place ≡ old.state.place → mid.characters ≡ old.characters → mid.state.scan.line ≡ old.state.scan.line → PassesLine mid end_len new → line_of_source new ≡ line_of old.state.place old.state.line u
@@ -124,7 +124,7 @@ continues old mid new stop has end_len u line bytes place fault characters same 
         text = text;
         place = here ∙ ap (λ (n : ℕ). old.state.place + n) (sym size);
         some_text = omega (arith, size, line.some);
-        within = omega (arith, new.within, ap length new.front, length-take (length new.characters.now) new.bytes.now);
+        within = omega (arith, new.within, ap length new.prefix, length-take (length new.characters.now) new.bytes.now);
         fault = has.no_fault;
         no_fault = no_fault;
       },
@@ -195,7 +195,7 @@ start_given s place line fault =
         tail = drop (length s.characters.now) s.bytes.now;
         pieces = [];
         rest = utf8.0;
-        decodes = record { are = utf8.1.0; spell = ap (λ t. t ++ drop (length s.characters.now) s.bytes.now) (utf8.1.1 ∙ s.front) ∙ take-append-drop (length s.characters.now) s.bytes.now; bad = s.bad };
+        decodes = record { are = utf8.1.0; spell = ap (λ t. t ++ drop (length s.characters.now) s.bytes.now) (utf8.1.1 ∙ s.prefix) ∙ take-append-drop (length s.characters.now) s.bytes.now; bad = s.bad };
         spell = refl;
         fit = tt;
         balanced = brackets.none [] refl;
@@ -218,7 +218,7 @@ given_stands s place line lines given =
     let utf8 = IsUtf8-had _ s.text in
     let spelling = encode_utf8_all (spelled given.first.pieces) in
     let whole : encode_utf8_all utf8.0 ++ drop (length s.characters.now) s.bytes.now ≡ encode_utf8_all given.first.characters ++ given.first.tail
-    = ap (λ t. t ++ drop (length s.characters.now) s.bytes.now) (utf8.1.1 ∙ s.front) ∙ take-append-drop (length s.characters.now) s.bytes.now ∙ sym given.first.decodes.spell in
+    = ap (λ t. t ++ drop (length s.characters.now) s.bytes.now) (utf8.1.1 ∙ s.prefix) ∙ take-append-drop (length s.characters.now) s.bytes.now ∙ sym given.first.decodes.spell in
     let same = one_decoding utf8.0 given.first.characters (drop (length s.characters.now) s.bytes.now) given.first.tail utf8.1.0 given.first.decodes.are s.bad given.first.decodes.bad whole in
     let split : s.characters.now ≡ spelling ++ encode_utf8_all given.first.rest = sym utf8.1.1 ∙ ap encode_utf8_all (same.0 ∙ sym given.first.spell) ∙ encodes-append (spelled given.first.pieces) given.first.rest in
     let scalars = (all_scalars-parts (spelled given.first.pieces) given.first.rest (ap all_scalars given.first.spell ∙ given.first.decodes.are)).1 in

@@ -3,7 +3,7 @@ use Rattle.std.proofs.Common.{◌≡◌, ℕ, true, List, [], ◌∷◌, ◌++�
 use Rattle.std.specs.Prelude.{encode_utf8_all, encode_utf8, IsUtf8}
 use Rattle.std.specs.Str.{all_scalars}
 use Rattle.std.proofs.lemmas.Str.{encodes-append}
-use Rattle.py_lines.proofs.Text.Utf8Prefixes.{front_chars, all_scalars-parts}
+use Rattle.py_lines.proofs.Text.Utf8Prefixes.{prefix_chars, all_scalars-parts}
 
 -- the iterator gave one character more of a text
 pub record GivesCharacter (text read : List ℕ) (c : ℕ) (rest : List ℕ) : Type 0 where
@@ -15,7 +15,7 @@ pub record GivesCharacter (text read : List ℕ) (c : ℕ) (rest : List ℕ) : T
 pub advances : (text read : List ℕ) (c : ℕ) (old rest : List ℕ) → IsUtf8 text → encode_utf8_all read ++ old ≡ text → old ≡ encode_utf8 c ++ rest → GivesCharacter text read c rest
 advances text read c old rest utf8 spell is =
     let here : encode_utf8_all (read ++ c ∷ []) ++ rest ≡ text = ap (λ t. t ++ rest) (encodes-append read (c ∷ [])) ∙ append_assoc (encode_utf8_all read) (encode_utf8_all (c ∷ [])) rest ∙ ap (λ t. encode_utf8_all read ++ (t ++ rest)) (append-nil (encode_utf8 c)) ∙ ap (λ t. encode_utf8_all read ++ t) (sym is) ∙ spell in
-    let split = front_chars (read ++ c ∷ []) utf8.0 rest (utf8.1.1 ∙ sym here) in
+    let split = prefix_chars (read ++ c ∷ []) utf8.0 rest (utf8.1.1 ∙ sym here) in
     record {
       spell = here;
       scalars = (all_scalars-parts (read ++ c ∷ []) split.0 (ap all_scalars (sym split.1) ∙ utf8.1.0)).0;

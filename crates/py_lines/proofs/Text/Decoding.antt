@@ -5,7 +5,7 @@ use Rattle.std.proofs.lemmas.Bool.{cases_lt, both_ways}
 use Rattle.std.proofs.lemmas.List.{length-take-le}
 use Rattle.std.proofs.lemmas.Str.{IsUtf8-nil, IsUtf8-from_is_utf8, is_utf8-from_IsUtf8}
 use Rattle.py_lines.specs.Reading.{Decodes}
-use Rattle.py_lines.proofs.Text.Utf8Prefixes.{nothing_bad, front_text}
+use Rattle.py_lines.proofs.Text.Utf8Prefixes.{nothing_bad, opening_text}
 
 -- no prefix of more bytes than these is UTF-8
 abbrev NoneLonger : List ℕ → ℕ → Type 0
@@ -68,6 +68,6 @@ decoding text = go (is_utf8 text) refl
           decodes = record {
             are = utf8.1.0;
             spell = ap (λ t. t ++ drop (length (take stop.0 text)) text) utf8.1.1 ∙ ap (λ (n : ℕ). take stop.0 text ++ drop n text) size ∙ take-append-drop stop.0 text;
-            bad = front_text (take stop.0 text) text stop.0 stop.1 size;
+            bad = opening_text (take stop.0 text) text stop.0 stop.1 size;
           };
         }

@@ -66,9 +66,9 @@ none_encoded bytes len n k tells least valid c rest scalar is =
 
 -- the first character of the text that so many bytes are
 pub first_of : (bytes : List ℕ) (n : ℕ) (r : Option ℕ) (before after : List ℕ) (P : Type 0) → 0 < n → n ≤ length bytes → IsUtf8 (take n bytes) → before ≡ take n bytes → MatchOption r ((length before ≡ 0) × P) (λ c. before ≡ encode_utf8 c ++ after) → MatchOption r (StartsWithNoChar bytes) (BeginsWith bytes)
-first_of bytes n None before after P some within utf8 front steps = absurd (omega (arith, some, steps.0, ap length front, length-take-le n bytes within))
-first_of bytes n (Some c) before after P some within utf8 front steps =
-    let spell : take n bytes ≡ encode_utf8 c ++ after = sym front ∙ steps in
+first_of bytes n None before after P some within utf8 prefix steps = absurd (omega (arith, some, steps.0, ap length prefix, length-take-le n bytes within))
+first_of bytes n (Some c) before after P some within utf8 prefix steps =
+    let spell : take n bytes ≡ encode_utf8 c ++ after = sym prefix ∙ steps in
     let first = cons_from_encodes utf8.0 after c (utf8.1.1 ∙ spell) in
     let scalar : IsScalar c = (and_parts _ _ (ap all_scalars (sym first.1) ∙ utf8.1.0)).0 in
     begins_with bytes (after ++ drop n bytes) c scalar (sym (take-append-drop n bytes) ∙ ap (λ l. l ++ drop n bytes) spell ∙ append_assoc (encode_utf8 c) after (drop n bytes))

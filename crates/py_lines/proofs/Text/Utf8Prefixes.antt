@@ -10,11 +10,11 @@ use Rattle.std.proofs.Math.Seq.{take-add, take-append_seam}
 use Rattle.std.proofs.lemmas.Bool.{and_parts, and_from}
 
 -- characters whose bytes begin with those of others begin with these
-pub front_chars : (front all : List ℕ) (rest : List ℕ) → encode_utf8_all all ≡ encode_utf8_all front ++ rest → (after : List ℕ) × (all ≡ front ++ after) × (encode_utf8_all after ≡ rest)
-front_chars [] all rest e = (all, refl, e)
-front_chars (c ∷ cs) all rest e =
+pub prefix_chars : (prefix all : List ℕ) (rest : List ℕ) → encode_utf8_all all ≡ encode_utf8_all prefix ++ rest → (after : List ℕ) × (all ≡ prefix ++ after) × (encode_utf8_all after ≡ rest)
+prefix_chars [] all rest e = (all, refl, e)
+prefix_chars (c ∷ cs) all rest e =
     let first = cons_from_encodes all (encode_utf8_all cs ++ rest) c (e ∙ append_assoc (encode_utf8 c) (encode_utf8_all cs) rest) in
-    let others = front_chars cs first.0 rest first.2 in
+    let others = prefix_chars cs first.0 rest first.2 in
     (others.0, first.1 ∙ ap (λ l. c ∷ l) others.1, others.2)
 
 pub all_scalars-append : (a b : List ℕ) → all_scalars a ≡ true → all_scalars b ≡ true → all_scalars (a ++ b) ≡ true
@@ -43,8 +43,8 @@ pub whole_text : (text bytes : List ℕ) → text ≡ bytes → StartsWithNoChar
 whole_text text bytes is = subst StartsWithNoChar (sym (drop_all (length text) bytes (omega (arith, ap length is)))) nothing_bad
 
 -- after the longest prefix that is text, no character begins
-pub front_text : (text bytes : List ℕ) (n : ℕ) → IsValidUpTo bytes n → length text ≡ n → StartsWithNoChar (drop (length text) bytes)
-front_text text bytes n longest is = subst (λ (k : ℕ). StartsWithNoChar (drop k bytes)) (sym is)
+pub opening_text : (text bytes : List ℕ) (n : ℕ) → IsValidUpTo bytes n → length text ≡ n → StartsWithNoChar (drop (length text) bytes)
+opening_text text bytes n longest is = subst (λ (k : ℕ). StartsWithNoChar (drop k bytes)) (sym is)
     (λ c rest scalar e.
     let m : ℕ = n + length (encode_utf8 c) in
     let grown : take m bytes ≡ take n bytes ++ encode_utf8 c = take-add n (length (encode_utf8 c)) bytes ∙ ap (λ t. take n bytes ++ take (length (encode_utf8 c)) t) e ∙ ap (λ t. take n bytes ++ t) (take-append_seam (encode_utf8 c) rest) in
@@ -61,14 +61,14 @@ one_decoding (c ∷ cs) (d ∷ ds) s t are ares bad worse e =
     ((λ i. heads.0 i ∷ others.0 i), others.1)
 
 -- of two prefixes of one list of characters the one of fewer bytes is a prefix of the other
-pub shorter_front : (a b x y : List ℕ) → a ++ x ≡ b ++ y → length (encode_utf8_all a) ≤ length (encode_utf8_all b) → (more : List ℕ) × (b ≡ a ++ more)
-shorter_front [] b x y e short = (b, refl)
-shorter_front (c ∷ cs) [] x y e short = absurd (omega (arith, length-append (encode_utf8 c) (encode_utf8_all cs), length-encode c, len_utf8_bounds c, short))
-shorter_front (c ∷ cs) (d ∷ ds) x y e short =
+pub shorter_prefix : (a b x y : List ℕ) → a ++ x ≡ b ++ y → length (encode_utf8_all a) ≤ length (encode_utf8_all b) → (more : List ℕ) × (b ≡ a ++ more)
+shorter_prefix [] b x y e short = (b, refl)
+shorter_prefix (c ∷ cs) [] x y e short = absurd (omega (arith, length-append (encode_utf8 c) (encode_utf8_all cs), length-encode c, len_utf8_bounds c, short))
+shorter_prefix (c ∷ cs) (d ∷ ds) x y e short =
     let same : c ≡ d = cc in
     let rest : cs ++ x ≡ ds ++ y = cc in
     let bytes = ap (λ (n : ℕ). length (encode_utf8 n)) same in
-    let others = shorter_front cs ds x y rest (omega (arith, length-append (encode_utf8 c) (encode_utf8_all cs), length-append (encode_utf8 d) (encode_utf8_all ds), bytes, short)) in
+    let others = shorter_prefix cs ds x y rest (omega (arith, length-append (encode_utf8 c) (encode_utf8_all cs), length-append (encode_utf8 d) (encode_utf8_all ds), bytes, short)) in
     (others.0, (λ i. sym same i ∷ others.1 i))
 
 -- of two prefixes of one list of characters the one of no more characters has no more bytes

@@ -61,9 +61,9 @@ pub record IsEnded (f : Feed) (end_len : ℕ) (read rest : List ℕ) : Type 0 wh
   pub number : f.state.scan.line ≡ f.state.line
 
 -- the text has this fault from now on: so many bytes after the lines released
-pub record FailsAt (old : Feed) (kind : FaultKind) (behind : ℕ) (error : LexError) (new : Feed) : Type 0 where
+pub record FailsAt (old : Feed) (kind : FaultKind) (offset : ℕ) (error : LexError) (new : Feed) : Type 0 where
   pub same : new ≡ record old { state = new.state }
-  pub keeps : KeepsFault old.state kind behind (take behind old.held.items) error new.state
+  pub keeps : KeepsFault old.state kind offset (take offset old.held.items) error new.state
 
 -- what closing the open piece, and with it the line, comes to
 abbrev pub ClosesLine : Feed → ℕ → Result (Unit {0}) LexError → Feed → Type 0

@@ -48,17 +48,17 @@ pub record StandsAt (place line : ℕ) (s : LineState) : Type 0 where
   pub number : s.scan.line ≡ line
 
 -- a fault so many bytes after the lines that were read: it stands after these bytes
-pub record IsFaultAfter (old : LineState) (kind : FaultKind) (behind : ℕ) (bytes : List ℕ) (fault : Fault) : Type 0 where
+pub record IsFaultAfter (old : LineState) (kind : FaultKind) (offset : ℕ) (bytes : List ℕ) (fault : Fault) : Type 0 where
   pub is : fault.kind ≡ kind
-  pub place : fault.offset ≡ old.place + behind
-  pub line : (front : List ℕ) → encode_utf8_all front ≡ bytes → fault.line ≡ old.line + line_ends front
+  pub place : fault.offset ≡ old.place + offset
+  pub line : (prefix : List ℕ) → encode_utf8_all prefix ≡ bytes → fault.line ≡ old.line + line_ends prefix
 
 -- the text has this fault from now on
-pub record KeepsFault (old : LineState) (kind : FaultKind) (behind : ℕ) (bytes : List ℕ)
+pub record KeepsFault (old : LineState) (kind : FaultKind) (offset : ℕ) (bytes : List ℕ)
     (error : LexError) (new : LineState) : Type 0 where
   pub fault : Fault
   pub error_is : error ≡ lex.Fault fault
-  pub at : IsFaultAfter old kind behind bytes fault
+  pub at : IsFaultAfter old kind offset bytes fault
   pub same : new ≡ record old { fault = Some fault }
 
 -- what is wrong where the text ends so many bytes after the characters that were scanned: they begin no character, or else

@@ -25,9 +25,9 @@ pub record PassesLine (old : Source) (end_len : ℕ) (new : Source) : Type 0 whe
   pub state : new.state ≡ record old.state { place = old.state.place + old.state.scan.stop; line = old.state.scan.count.line }
 
 -- the text has this fault from now on: so many bytes after the lines that were read
-pub record FailsAfter (old : Source) (kind : FaultKind) (behind : ℕ) (error : LexError) (new : Source) : Type 0 where
+pub record FailsAfter (old : Source) (kind : FaultKind) (offset : ℕ) (error : LexError) (new : Source) : Type 0 where
   pub bytes : new.bytes ≡ old.bytes
-  pub keeps : KeepsFault old.state kind behind (take behind (drop old.state.place old.characters.now)) error new.state
+  pub keeps : KeepsFault old.state kind offset (take offset (drop old.state.place old.characters.now)) error new.state
 
 -- the scan of the next line has stopped so
 pub record HasScanned (s : Source) (stop : Stop) : Type 0 where

@@ -14,6 +14,6 @@ returns-then-bytes-le-SHORT c = utf8_of c.args.bytes.now c.is_ascii.result c.is_
 
 pub returns-then-is_ascii : goal.returns-then-is_ascii
 returns-then-is_ascii c = λ is.
-    let front = IsUtf8-from_ascii c.split_at.result.0.now c.if-is_ascii.ensures.cases in
+    let prefix = IsUtf8-from_ascii c.split_at.result.0.now c.if-is_ascii.ensures.cases in
     let back = utf8_of c.split_at.result.1.now c.is_ascii-then-is_ascii.result c.is_ascii-then-is_ascii.ensures.cases is in
-    subst IsUtf8 (ap (λ (l : List ℕ). l ++ c.split_at.result.1.now) c.split_at.ensures.front ∙ ap (λ (l : List ℕ). take 64 c.args.bytes.now ++ l) c.split_at.ensures.back ∙ take-append-drop 64 c.args.bytes.now) (IsUtf8-append c.split_at.result.0.now c.split_at.result.1.now front back)
+    subst IsUtf8 (ap (λ (l : List ℕ). l ++ c.split_at.result.1.now) c.split_at.ensures.front ∙ ap (λ (l : List ℕ). take 64 c.args.bytes.now ++ l) c.split_at.ensures.back ∙ take-append-drop 64 c.args.bytes.now) (IsUtf8-append c.split_at.result.0.now c.split_at.result.1.now prefix back)

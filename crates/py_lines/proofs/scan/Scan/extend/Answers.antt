@@ -13,8 +13,8 @@ shuts : (c : In-Bytes) → ShutsTo c.args.self.now c.args.bytes.now c.pieces.new
 shuts c = left_shuts c.in-Bytes.is c.characters.invariant.goes c.in_ok-left.ensures.reached
 
 -- the bytes after the character
-behind_is : (before : List ℕ) (c len : ℕ) → len ≡ len_utf8 c → take (length before - len) (drop len before) ≡ drop (len_utf8 c) before
-behind_is before c len is = take_all (length before - len) (drop len before) (omega (arith, length-drop len before)) ∙ ap (λ (n : ℕ). drop n before) is
+after_is : (before : List ℕ) (c len : ℕ) → len ≡ len_utf8 c → take (length before - len) (drop len before) ≡ drop (len_utf8 c) before
+after_is before c len is = take_all (length before - len) (drop len before) (omega (arith, length-drop len before)) ∙ ap (λ (n : ℕ). drop n before) is
 
 -- what the character came to
 came : (c : In_ok-take) (p : Progress) → c.in_ok-take.field-0 ≡ p → TakesTo c.pieces.new.self c.in-Some.c p c.take.new.self
@@ -69,14 +69,14 @@ pub hold-rest-requires-clause-bytes : goal.hold-rest-requires-clause-bytes
 hold-rest-requires-clause-bytes c =
     let before = c.in-Bytes.left.now in
     let gone = goes (goal.at.hold-rest-requires-clause-bytes c).In-Going in
-    omega (arith, c.requires.bytes, goes_room c.args.self.now c.args.bytes.now c.take.new.self _ c.requires.way gone, ap length (behind_is before c.in-Some.c c.len_utf8-len.result c.len_utf8-len.ensures.value))
+    omega (arith, c.requires.bytes, goes_room c.args.self.now c.args.bytes.now c.take.new.self _ c.requires.way gone, ap length (after_is before c.in-Some.c c.len_utf8-len.result c.len_utf8-len.ensures.value))
 
 pub hold-rest-requires-clause-quote : goal.hold-rest-requires-clause-quote
 hold-rest-requires-clause-quote c = goes_quote c.args.self.now c.args.bytes.now c.take.new.self _ c.requires.way (goes (goal.at.hold-rest-requires-clause-quote c).In-Going)
 
 pub characters-preserved : goal.characters-preserved
 characters-preserved c =
-    let held = subst (λ (t : List ℕ). Holds c.take.new.self t c.hold-rest.result.now c.hold-rest.new.self) (behind_is c.in-Bytes.left.now c.in-Some.c c.len_utf8-len.result c.len_utf8-len.ensures.value) c.hold-rest.ensures in
+    let held = subst (λ (t : List ℕ). Holds c.take.new.self t c.hold-rest.result.now c.hold-rest.new.self) (after_is c.in-Bytes.left.now c.in-Some.c c.len_utf8-len.result c.len_utf8-len.ensures.value) c.hold-rest.ensures in
     record { goes = goes_run c.args.self.now c.args.bytes.now c.take.new.self c.hold-rest.new.self _ c.hold-rest.result.now (goes (goal.at.characters-preserved c).In-Going) held }
 
 pub returns-in-LineEnded : goal.returns-in-LineEnded

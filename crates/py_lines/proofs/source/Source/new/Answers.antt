@@ -6,7 +6,7 @@ use Rattle.py_lines.proofs.source.Source.new.Goals as goal
 pub invariant_of-result : goal.invariant_of-result
 invariant_of-result c = record {
   text = ∣ c.utf8_prefix.utf8 ∣₁;
-  front = c.utf8_prefix.ensures.front;
+  prefix = c.utf8_prefix.ensures.prefix;
   bad = c.utf8_prefix.ensures.bad;
   ordered = omega arith;
   within = omega (arith, c.at.ensures.place_is);

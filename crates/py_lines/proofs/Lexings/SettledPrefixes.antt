@@ -17,7 +17,7 @@ use Rattle.py_lines.proofs.Machine.Soundness.{sound_at}
 use Rattle.py_lines.proofs.Machine.Advance.{RunsTo, run_before}
 use Rattle.py_lines.proofs.Machine.LiveTexts.{stack_closed}
 use Rattle.py_lines.proofs.Machine.OpenStrings.{same_state}
-use Rattle.py_lines.proofs.Lexings.LinePrefix.{EndsNoLine, Stays, Split, split, closed_spells, depth_front, front_fits, front_stack, length_line, line_first, line_stays, no_end_in, within}
+use Rattle.py_lines.proofs.Lexings.LinePrefix.{EndsNoLine, Stays, Split, split, closed_spells, depth_prefix, prefix_fits, prefix_stack, length_line, line_first, line_stays, no_end_in, within}
 use Rattle.py_lines.proofs.Lexings.SettledLines.{ends-append, ends-line}
 
 -- No line ends in the pieces after the lines given, or only by the CR with which the known bytes end.
@@ -45,11 +45,11 @@ thirteen text same = ap (ends is_return) same
 pub settled_at : (characters tail : List ℕ) (s : Scanned) (st : List Bracket) (base others : List Piece) (rest : List ℕ) → RunsTo characters s st → pieces_at s ≡ base ++ others → EndsForGood base (rest ++ tail) → EndsNoneYet others tail → spelled base ++ rest ≡ characters → IsSettledPrefix base characters tail
 settled_at characters tail s st base others rest steps pieces good yet spell =
     let stack = stack_closed s.mode s.done s.held st steps.stack in
-    let level = balanced-from_stack base (front_stack base others st (ap brackets_of (sym pieces) ∙ stack) good.0) in
+    let level = balanced-from_stack base (prefix_stack base others st (ap brackets_of (sym pieces) ∙ stack) good.0) in
     record {
       rest = rest;
       spell = spell;
-      reading = record { spell = refl; fit = front_fits characters s base others steps.run pieces good.0; balanced = level.0; shallow = level.1 };
+      reading = record { spell = refl; fit = prefix_fits characters s base others steps.run pieces good.0; balanced = level.0; shallow = level.1 };
       ended = good;
       longest = longest;
     }
@@ -88,7 +88,7 @@ settled_at characters tail s st base others rest steps pieces good yet spell =
 
         go : Split base others body stays.line stays.others → length (spelled rivals) ≤ length (spelled base)
         go (Split.in_second k one two) =
-            let level : depth_through 0 k ≡ 0 = ap (λ (d : ℕ). depth_through d k) (sym (depth_front base good.0)) ∙ sym (depth_through-append 0 base k) ∙ ap (depth_through 0) (sym one) ∙ deep in
+            let level : depth_through 0 k ≡ 0 = ap (λ (d : ℕ). depth_through d k) (sym (depth_prefix base good.0)) ∙ sym (depth_through-append 0 base k) ∙ ap (depth_through 0) (sym one) ∙ deep in
             second k one two level (split local (piece line_end text ∷ []) k stays.line stays.others (sym split_at ∙ two))
         go (Split.in_first k one two) =
             let mine : length (spelled base) ≡ length (spelled body) + (length stays.line.text + length (spelled k)) = ap (λ l. length (spelled l)) one ∙ length_line body stays.line k in
@@ -115,26 +115,26 @@ line_end-breaks text (return_feed same) h = ap (ends is_line_feed) same
 line_end-breaks text (return same) h = absurd (both_ways _ h (ap (ends is_return) same))
 
 -- a line has just ended, and at most one character that is no LF follows it: it is settled, and nothing after it
-pub settled_line : (characters tail : List ℕ) (front : List Piece) (rest : List ℕ) → spelled front ++ rest ≡ characters → IsBalancedReading front (spelled front) → EndsForGood front (rest ++ tail) → (rest ≡ []) ⊎ ((c : ℕ) × (rest ≡ c ∷ []) × (is_line_feed c ≡ false) × (tail ≡ [])) → IsSettledPrefix front characters tail
-settled_line characters tail front rest spell reading good near = record { rest = rest; spell = spell; reading = reading; ended = good; longest = λ others after spells read ended. longest near others after spells read ended }
+pub settled_line : (characters tail : List ℕ) (prefix : List Piece) (rest : List ℕ) → spelled prefix ++ rest ≡ characters → IsBalancedReading prefix (spelled prefix) → EndsForGood prefix (rest ++ tail) → (rest ≡ []) ⊎ ((c : ℕ) × (rest ≡ c ∷ []) × (is_line_feed c ≡ false) × (tail ≡ [])) → IsSettledPrefix prefix characters tail
+settled_line characters tail prefix rest spell reading good near = record { rest = rest; spell = spell; reading = reading; ended = good; longest = λ others after spells read ended. longest near others after spells read ended }
   where
-    total : (others : List Piece) (after : List ℕ) → spelled others ++ after ≡ characters → length (spelled others) + length after ≡ length (spelled front) + length rest
-    total others after spells = sym (length-append (spelled others) after) ∙ ap length (spells ∙ sym spell) ∙ length-append (spelled front) rest
+    total : (others : List Piece) (after : List ℕ) → spelled others ++ after ≡ characters → length (spelled others) + length after ≡ length (spelled prefix) + length rest
+    total others after spells = sym (length-append (spelled others) after) ∙ ap length (spells ∙ sym spell) ∙ length-append (spelled prefix) rest
 
-    not_last : (c : ℕ) (others : List Piece) → rest ≡ c ∷ [] → is_line_feed c ≡ false → tail ≡ [] → spelled others ++ [] ≡ characters → IsBalancedReading others (spelled others) → EndsForGood others ([] ++ tail) → length (spelled others) ≤ length (spelled front)
+    not_last : (c : ℕ) (others : List Piece) → rest ≡ c ∷ [] → is_line_feed c ≡ false → tail ≡ [] → spelled others ++ [] ≡ characters → IsBalancedReading others (spelled others) → EndsForGood others ([] ++ tail) → length (spelled others) ≤ length (spelled prefix)
     not_last c others is other bare spells read (inl empty, settles) =
         let short : length (spelled others) ≡ 0 = ap (λ l. length (spelled l)) empty in
         omega arith
     not_last c others is other bare spells read (inr (body, last, split_at, class, deep), settles) =
         let fit = subst (λ l. Rattle.py_lines.specs.PieceGrammar.AreReadBefore l []) split_at read.fit in
         let holds = (AreReadBefore-second body (last ∷ []) [] fit).0 in
-        let all : spelled others ≡ spelled front ++ c ∷ [] = sym (append-nil (spelled others)) ∙ spells ∙ sym spell ∙ ap (λ t. spelled front ++ t) is in
+        let all : spelled others ≡ spelled prefix ++ c ∷ [] = sym (append-nil (spelled others)) ∙ spells ∙ sym spell ∙ ap (λ t. spelled prefix ++ t) is in
         let no_cr : ends is_return last.text ≡ false = sym (ends-line is_return body last class holds) ∙ ap (λ (l : List Piece). ends is_return (spelled l)) (sym split_at) ∙ settles bare in
         let lf : ends is_line_feed last.text ≡ true = line_end-breaks last.text (subst (λ k. InClass k last.text) class holds) no_cr in
-        let ending : is_line_feed c ≡ true = sym (ends-append is_line_feed (spelled front) c []) ∙ ap (ends is_line_feed) (sym all ∙ ap spelled split_at) ∙ ends-line is_line_feed body last class holds ∙ lf in
+        let ending : is_line_feed c ≡ true = sym (ends-append is_line_feed (spelled prefix) c []) ∙ ap (ends is_line_feed) (sym all ∙ ap spelled split_at) ∙ ends-line is_line_feed body last class holds ∙ lf in
         absurd (both_ways _ other ending)
 
-    longest : (rest ≡ []) ⊎ ((c : ℕ) × (rest ≡ c ∷ []) × (is_line_feed c ≡ false) × (tail ≡ [])) → (others : List Piece) (after : List ℕ) → spelled others ++ after ≡ characters → IsBalancedReading others (spelled others) → EndsForGood others (after ++ tail) → length (spelled others) ≤ length (spelled front)
+    longest : (rest ≡ []) ⊎ ((c : ℕ) × (rest ≡ c ∷ []) × (is_line_feed c ≡ false) × (tail ≡ [])) → (others : List Piece) (after : List ℕ) → spelled others ++ after ≡ characters → IsBalancedReading others (spelled others) → EndsForGood others (after ++ tail) → length (spelled others) ≤ length (spelled prefix)
     longest (inl empty) others after spells read ended = omega (arith, total others after spells, ap length empty)
     longest (inr (c, is, other, bare)) others [] spells read ended = not_last c others is other bare spells read ended
     longest (inr (c, is, other, bare)) others (d ∷ ds) spells read ended = omega (arith, total others (d ∷ ds) spells, ap length is)
