@@ -9,7 +9,9 @@ use crate::character::{is_line_feed, is_return};
 /// The line that a reader of characters has reached. CR LF is one line end, and counts where its CR does.
 #[derive(Clone, Copy)]
 pub struct Count {
+    /// The line, from 1.
     pub line: u64,
+    /// Whether a CR was read last: LF after it ends no other line.
     pub after_return: bool,
 }
 

@@ -67,6 +67,7 @@ fn drop_first(held: &mut Vec<u8>, len: usize)
 /// The text since the line that was released last, and how far it was scanned.
 #[derive(Drop)]
 pub struct Feed {
+    /// The bytes taken since the line that was released last.
     pub held: Vec<u8>,
     /// `held` begins at its place, and on its line.
     pub state: LineState,

@@ -12,9 +12,11 @@ use std::alloc::Global;
 /// Where the next line begins, what the scan knows of that line, and the text's fault once it was met.
 #[derive(Drop)]
 pub struct LineState {
-    /// The byte up to which lines were read, and its line, from 1.
+    /// The byte up to which lines were read.
     pub place: u64,
+    /// Its line, from 1.
     pub line: u64,
+    /// The text's fault, once it was met.
     pub fault: Option<Fault>,
     /// The scan of the next line, or of the one that was read last.
     pub scan: Scan,

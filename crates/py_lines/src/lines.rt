@@ -14,6 +14,7 @@ use std::marker::Model;
 /// [`Reader`]: the text, the byte and line that were reached, and the text's fault once it was met.
 #[derive(Drop)]
 pub struct Lines<'t> {
+    /// The text, and how far it was read.
     source: Source<'t>,
 }
 

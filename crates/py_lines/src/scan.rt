@@ -25,49 +25,65 @@ use std::alloc::{AllocError, Global};
 /// What a character came to.
 #[derive(Clone, Copy)]
 pub enum Progress {
+    /// It was taken, and the line goes on.
     Going,
     /// The line ended with it: so many bytes are its line end.
     LineEnded(usize),
+    /// It may not come next.
     Refused,
 }
 
-/// Where the scan of a line stopped. `TextEnd` is where the next bytes begin no character.
+/// Where the scan of a line stopped.
 #[derive(Clone, Copy)]
 pub enum Stop {
+    /// After the line: so many bytes are its line end.
     LineEnd(usize),
+    /// Where the next bytes, if there are any, begin no character.
     TextEnd,
+    /// Before a character that may not come next.
     Refused(char),
 }
 
-/// What is wrong in a line, and at which byte from the line's start.
+/// What is wrong in a line.
 #[derive(Clone, Copy)]
 pub struct Flaw {
+    /// What it is.
     pub kind: FaultKind,
+    /// Where it stands: the byte from the line's start.
     pub place: usize,
 }
 
-/// The piece that is open, where it begins, and on which line. A place is a byte from the line's start.
+/// The piece that is open.
 #[derive(Clone, Copy)]
 pub struct OpenPiece {
+    /// What it is, as far as it goes.
     pub mode: Mode,
+    /// The byte from the line's start at which it begins.
     pub start: usize,
+    /// The line on which it begins.
     pub line: u64,
 }
 
 /// What is known of the line so far. Places are bytes from the line's start.
 #[derive(Drop)]
 pub struct Scan {
-    /// The piece that is open, and where it stops.
+    /// The piece that is open.
     pub piece: OpenPiece,
+    /// Where it stops, and how far the line was scanned.
     pub stop: usize,
-    /// The line on which the scan began, from 1, and the one that it has reached.
+    /// The line on which the scan began, from 1.
     pub line: u64,
+    /// The line that it has reached.
     pub count: Count,
     /// Whether no piece was closed, or a mark alone.
     pub margin: bool,
+    /// How many bytes of space the line begins with, after a mark.
     pub indent: usize,
+    /// What the line is by the pieces that were closed.
     pub kind: UnitKind,
+    /// The tokens that were closed.
     pub tokens: Vec<Token>,
+    /// The brackets that are open.
     pub brackets: Brackets,
 }
 

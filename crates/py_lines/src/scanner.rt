@@ -16,6 +16,7 @@ use std::marker::Model;
 /// released, the text fed since, the line that is ready, and the text's fault once it was met.
 #[derive(Drop)]
 pub struct Scanner {
+    /// The text that is held, and how far it was scanned.
     feed: Feed,
 }
 

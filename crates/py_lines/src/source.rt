@@ -13,11 +13,13 @@ use std::alloc::Global;
 /// A text and how far it has been read. The tokens of the line read last are kept until the next one.
 #[derive(Drop)]
 pub struct Source<'t> {
+    /// The text.
     pub bytes: &'t [u8],
     /// The bytes up to the first that begin no character.
     pub characters: &'t str,
-    /// Where the line read last begins, and how many bytes its line end has.
+    /// Where the line read last begins.
     pub start: usize,
+    /// How many bytes its line end has.
     pub end_len: usize,
     /// Where the next line begins.
     pub state: LineState,

@@ -1,7 +1,7 @@
 -- The fault of a text, by where the machine stands when it can't go on.
-use Rattle.std.proofs.Common.{◌≡◌, ℕ, ◌<◌, ◌≤◌, Bool, true, false, cond, ◌||◌, eqb, Option, None, Some, List, [], ◌∷◌, ◌++◌, length, refl, sym, ap, ◌∙◌, subst, ⊎_elim, inl, inr, append-nil, arith, ◌⊎◌}
+use Rattle.std.proofs.Common.{◌≡◌, ℕ, ◌<◌, ◌≤◌, Bool, true, false, cond, not, ◌&&◌, ◌||◌, eqb, Option, None, Some, List, [], ◌∷◌, ◌++◌, length, refl, sym, ap, ◌∙◌, subst, ⊎_elim, inl, inr, append-nil, arith, ◌⊎◌}
 use Rattle.std.proofs.lemmas.List.{append_cancel_right}
-use Rattle.std.proofs.lemmas.Bool.{cond_both, and_right, both_ways, cases_lt, cases_Bool, or_left, or_right, or_from}
+use Rattle.std.proofs.lemmas.Bool.{cond_both, and_left, and_right, and_from, both_ways, cases_lt, cases_Bool, or_left, or_right, or_from}
 use Rattle.unicode_ident.proofs.Computing.{unicode_ident}
 use Rattle.py_lines.specs.Character.{is_mark, is_space, is_word_character, is_quote, is_operator, is_line_feed, is_return, is_break, is_backslash}
 use Rattle.py_lines.specs.Piece.{operator, Piece, spelled}
@@ -231,43 +231,22 @@ character_fault characters before after c s st spell steps dead =
       first = (no_string before s c steps.run short, (no_join before s steps.run slash, (no_close before c closing, (no_deep before c opening, tt))));
     }))))
 
--- modes in which the text may not end
+-- the text may end except in a string and after a backslash
+final_is : (m : Mode) → is_final m ≡ not (in_short m) && (not (in_long m) && not (is_after_backslash m))
+final_is modes.Start = refl
+final_is m = refl
+
 pub short_not_end : (m : Mode) → in_short m ≡ true → is_final m ≡ false
-short_not_end (modes.Opened q) h = refl
-short_not_end (modes.Inside q) h = refl
-short_not_end (modes.Escape q) h = refl
-short_not_end (modes.EscapeReturn q) h = refl
-short_not_end m h = absurd (both_ways _ refl h)
+short_not_end m short = final_is m ∙ and_left _ _ (ap not short)
 
 pub long_not_end : (m : Mode) → in_long m ≡ true → is_final m ≡ false
-long_not_end (modes.Long q) h = refl
-long_not_end (modes.LongOne q) h = refl
-long_not_end (modes.LongTwo q) h = refl
-long_not_end (modes.LongEscape q) h = refl
-long_not_end m h = absurd (both_ways _ refl h)
+long_not_end m long = final_is m ∙ and_right _ _ (and_left _ _ (ap not long))
 
 pub slash_not_end : (m : Mode) → is_after_backslash m ≡ true → is_final m ≡ false
-slash_not_end modes.Backslash h = refl
-slash_not_end m h = absurd (both_ways _ refl h)
+slash_not_end m slash = final_is m ∙ and_right _ _ (and_right _ _ (ap not slash))
 
 others_end : (m : Mode) → in_short m ≡ false → in_long m ≡ false → is_after_backslash m ≡ false → is_final m ≡ true
-others_end modes.Start a b d = refl
-others_end modes.Free a b d = refl
-others_end modes.Space a b d = refl
-others_end (modes.Word s) a b d = refl
-others_end modes.Comment a b d = refl
-others_end (modes.Opened q) a b d = absurd (both_ways _ a refl)
-others_end (modes.Inside q) a b d = absurd (both_ways _ a refl)
-others_end (modes.Escape q) a b d = absurd (both_ways _ a refl)
-others_end (modes.EscapeReturn q) a b d = absurd (both_ways _ a refl)
-others_end (modes.Empty q) a b d = refl
-others_end (modes.Long q) a b d = absurd (both_ways _ b refl)
-others_end (modes.LongOne q) a b d = absurd (both_ways _ b refl)
-others_end (modes.LongTwo q) a b d = absurd (both_ways _ b refl)
-others_end (modes.LongEscape q) a b d = absurd (both_ways _ b refl)
-others_end modes.Backslash a b d = absurd (both_ways _ d refl)
-others_end modes.JoinReturn a b d = refl
-others_end modes.Return a b d = refl
+others_end m short long slash = final_is m ∙ and_from _ _ (ap not short) (and_from _ _ (ap not long) (ap not slash))
 
 -- the innermost open bracket
 record IsTop (b : Bracket) (cs : List ℕ) : Type 0 where

@@ -50,9 +50,8 @@ counts_alone c = go (is_return c) (is_line_feed c)
   where
     go : (r f : Bool) → counted (f || (r && true)) ≡ (if r then 1 else (if f && true then 1 else 0))
     go true true = refl
-    go true false = refl
     go false true = refl
-    go false false = refl
+    go r f = refl
 
 counts_two : (x c : ℕ) → counted (ends_line x (c ∷ [])) + counted (ends_line c []) ≡ counted (ends_line x []) + counts_after (is_return x) c
 unfolding counted counts_after
@@ -61,15 +60,10 @@ counts_two x c = go (is_return x) (is_line_feed x) (is_return c) (is_line_feed c
     go : (rx fx rc fc : Bool) → (fx ≡ true → rx ≡ false) → (fc ≡ true → rc ≡ false) → counted (fx || (rx && not fc)) + counted (fc || (rc && true)) ≡ counted (fx || (rx && true)) + (if rc then 1 else (if fc && not rx then 1 else 0))
     go rx fx true true a b = absurd (both_ways _ (b refl) refl)
     go true true rc fc a b = absurd (both_ways _ (a refl) refl)
-    go true false true false a b = refl
     go true false false true a b = refl
-    go true false false false a b = refl
-    go false true true false a b = refl
     go false true false true a b = refl
-    go false true false false a b = refl
-    go false false true false a b = refl
     go false false false true a b = refl
-    go false false false false a b = refl
+    go rx fx rc fc a b = refl
 
 pub line_ends-step : (xs : List ℕ) (c : ℕ) → line_ends (xs ++ c ∷ []) ≡ line_ends xs + counts_after (ends is_return xs) c
 unfolding counted

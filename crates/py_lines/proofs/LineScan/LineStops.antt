@@ -20,7 +20,7 @@ use Rattle.py_lines.specs.Private.Machine.{Scanned, IsSound, start_of}
 use Rattle.py_lines.specs.Private.Scan.{Tallies, IsStacked, TakesNext, Begins, Closes, line_start, stack_of, none_open, is_returned, is_return_mode, IsAtLineEnd, EndsWhole, ScansIn, Scans}
 use Rattle.py_lines.specs.Private.Run.{StandsBefore, Holds, HasAsciiQuote, Reached, ReachedShut, IsNoLonger, LeavesOff, is_free}
 use Rattle.py_lines.proofs.LineScan.EarlyEnds.{TakesFrom, taken_free, taken_open, stands_reached, stands_shut, shut_none}
-use Rattle.py_lines.proofs.LineScan.ShortPieces.{free_is, open_reached}
+use Rattle.py_lines.proofs.LineScan.ShortPieces.{free_is, open_reached, shut_from}
 use Rattle.py_lines.proofs.Text.CharacterTests.{feed_from, feed_is}
 use Rattle.py_lines.proofs.Text.Incomplete.{text_none}
 use Rattle.py_lines.proofs.Text.Utf8Prefixes.{prefix_chars, all_scalars-parts, scalars_more, spell_more}
@@ -63,14 +63,6 @@ pub record TakesTo (old : Scan) (c : ℕ) (p : Progress) (new : Scan) : Type 0 w
   pub taken : is_free old.piece.mode ≡ false → TakesNext old c (Ok p) new
 
 -- what standing in a line tells
-pub goes_room : (old : Scan) (text : List ℕ) (new : Scan) (rest : List ℕ) → StandsBefore old text → GoesTo old text new rest → new.stop + length rest ≡ old.stop + length text
-goes_room old text new rest (m, line, whole, start, r) goes = (stands_reached m line whole new rest start (goes m line whole start r)).room ∙ sym (stands_reached m line whole old text start r).room
-
-pub goes_lines : (old : Scan) (text : List ℕ) (new : Scan) (rest : List ℕ) → StandsBefore old text → GoesTo old text new rest → new.count.line ≤ old.line + new.stop
-goes_lines old text new rest (m, line, whole, start, r) goes =
-    let stood = stands_reached m line whole new rest start (goes m line whole start r) in
-    omega (arith, stood.lines, stood.line, r.line)
-
 pub goes_quote : (old : Scan) (text : List ℕ) (new : Scan) (rest : List ℕ) → StandsBefore old text → GoesTo old text new rest → HasAsciiQuote new.piece.mode
 goes_quote old text new rest (m, line, whole, start, r) goes = let o = goes m line whole start r in way_quote m new o.read o.way start
 
@@ -84,6 +76,16 @@ pub shuts_lines : (old : Scan) (text : List ℕ) (new : Scan) (rest : List ℕ) 
 shuts_lines old text new rest (m, line, whole, start, r) shuts =
     let stood = stands_shut m line whole new rest start (shuts m line whole start r) in
     omega (arith, stood.lines, stood.line, r.line)
+
+-- the same, where no piece was closed early
+goes_shuts : (old : Scan) (text : List ℕ) (new : Scan) (rest : List ℕ) → GoesTo old text new rest → ShutsTo old text new rest
+goes_shuts old text new rest goes m line whole start r = shut_from m line whole new rest (goes m line whole start r)
+
+pub goes_room : (old : Scan) (text : List ℕ) (new : Scan) (rest : List ℕ) → StandsBefore old text → GoesTo old text new rest → new.stop + length rest ≡ old.stop + length text
+goes_room old text new rest before goes = shuts_room old text new rest before (goes_shuts old text new rest goes)
+
+pub goes_lines : (old : Scan) (text : List ℕ) (new : Scan) (rest : List ℕ) → StandsBefore old text → GoesTo old text new rest → new.count.line ≤ old.line + new.stop
+goes_lines old text new rest before goes = shuts_lines old text new rest before (goes_shuts old text new rest goes)
 
 -- a line that its line end has closed ends in LF, where LF may follow it
 pub feed_last : (m : Mode) (scan : Scan) (read : List ℕ) (len : ℕ) → IsAtLineEnd m scan read (encode_utf8_all (10 ∷ [])) len → ends is_return read ≡ false

@@ -263,6 +263,21 @@ run_reached passes next wider mode_of low whole first starts_as steps stops unre
       });
     }) how
 
+-- what such a run comes to
+abbrev EndsRun : (ℕ → Bool) → (List Bracket → ℕ → Bool) → Mode → Scan → Scan → List ℕ → ℕ → Type 0
+EndsRun passes next m scan new after len = (new ≡ opened scan m len) ⊎ (Closes (opened scan m len) new × (begins (next (stack_of scan.brackets)) after ≡ true))
+
+-- the run of a piece from its first character
+from_first : (passes : ℕ → Bool) (next : List Bracket → ℕ → Bool) (mode_of : List ℕ → Mode) (m : Mode) (at : ℕ) (text : List ℕ) (scan new : Scan) (bytes : List ℕ) (len : ℕ) → scan.piece.mode ≡ modes.Free → ReachedShut m at text scan bytes → ((c : ℕ) (cs after : List ℕ) → MeetsPiece m at text scan c (cs ++ after) → list_all passes (c ∷ cs) ≡ true → begins passes after ≡ false → EndsRun passes next (mode_of (c ∷ cs)) scan new after (length (c ∷ cs)) → ReachedShut m at text new after) → TakesRun passes next mode_of scan bytes len new → ReachedShut m at text new (drop len bytes)
+from_first passes next mode_of m at text scan new bytes len free r reaches takes = go takes.run takes.spell takes.size takes.full takes.all takes.how
+  where
+    go : (run : List ℕ) → run ++ takes.after ≡ bytes → length run ≡ len → IsFull run → list_all passes run ≡ true → EndsRun passes next (mode_of run) scan new takes.after len → ReachedShut m at text new (drop len bytes)
+    go [] spell size full all how = absurd full
+    go (c ∷ cs) spell size full all how =
+        let meet = meets m at text scan c (cs ++ takes.after) free (subst (ReachedShut m at text scan) (sym spell) r) in
+        subst (ReachedShut m at text new) (sym (ap (drop len) (sym spell) ∙ ap (λ (n : ℕ). drop n (c ∷ cs ++ takes.after)) (sym size) ∙ drop-append_seam (c ∷ cs) takes.after))
+        (reaches c cs takes.after meet all takes.ends (subst (EndsRun passes next (mode_of (c ∷ cs)) scan new takes.after) (sym size) how))
+
 -- a word
 pub word_starts : (c : ℕ) → is_ascii_word c ≡ true → is_word_start c ≡ true
 word_starts c h = word_byte_starts c (word_byte_low c h) ∙ h
@@ -327,26 +342,16 @@ space_stops : (run : List ℕ) (d : ℕ) (st : List Bracket) → is_space d ≡ 
 unfolding move_of
 space_stops run d st other next = rw other refl
 
--- the run of a piece from its first character
+-- a word, or space, from its first character
 pub word_reached : (m : Mode) (at : ℕ) (text : List ℕ) (scan new : Scan) (bytes : List ℕ) (len : ℕ) → scan.piece.mode ≡ modes.Free → ReachedShut m at text scan bytes → IsSound (line_start m) [] → TakesRun is_ascii_word follows word_mode scan bytes len new → ReachedShut m at text new (drop len bytes)
-word_reached m at text scan new bytes len free r start takes = go takes.run takes.spell takes.size takes.full takes.all takes.how
-  where
-    go : (run : List ℕ) → run ++ takes.after ≡ bytes → length run ≡ len → IsFull run → list_all is_ascii_word run ≡ true → (new ≡ opened scan (word_mode run) len) ⊎ (Closes (opened scan (word_mode run) len) new × (begins (follows (stack_of scan.brackets)) takes.after ≡ true)) → ReachedShut m at text new (drop len bytes)
-    go [] spell size full all how = absurd full
-    go (c ∷ cs) spell size full all how =
-        let meet = meets m at text scan c (cs ++ takes.after) free (subst (ReachedShut m at text scan) (sym spell) r) in
-        subst (ReachedShut m at text new) (sym (ap (drop len) (sym spell) ∙ ap (λ (n : ℕ). drop n (c ∷ cs ++ takes.after)) (sym size) ∙ drop-append_seam (c ∷ cs) takes.after))
-        (run_reached is_ascii_word follows follows_begin word_mode word_byte_low word_whole (λ d. modes.Word (first_spelling d)) (λ d h. start-word d (word_starts d h)) (λ done d ds h. steps_word done (first_spelling d) (d ∷ []) ds (all_words ds h)) word_stops (λ run. refl) m at text scan new c cs takes.after meet start all takes.ends (subst (λ (n : ℕ). (new ≡ opened scan (word_mode (c ∷ cs)) n) ⊎ (Closes (opened scan (word_mode (c ∷ cs)) n) new × (begins (follows (stack_of scan.brackets)) takes.after ≡ true))) (sym size) how))
+word_reached m at text scan new bytes len free r start =
+    from_first is_ascii_word follows word_mode m at text scan new bytes len free r
+    (λ c cs after meet all ends how. run_reached is_ascii_word follows follows_begin word_mode word_byte_low word_whole (λ d. modes.Word (first_spelling d)) (λ d h. start-word d (word_starts d h)) (λ done d ds h. steps_word done (first_spelling d) (d ∷ []) ds (all_words ds h)) word_stops (λ run. refl) m at text scan new c cs after meet start all ends how)
 
 pub space_reached : (m : Mode) (at : ℕ) (text : List ℕ) (scan new : Scan) (bytes : List ℕ) (len : ℕ) → scan.piece.mode ≡ modes.Free → ReachedShut m at text scan bytes → IsSound (line_start m) [] → TakesRun is_space may_begin space_mode scan bytes len new → ReachedShut m at text new (drop len bytes)
-space_reached m at text scan new bytes len free r start takes = go takes.run takes.spell takes.size takes.full takes.all takes.how
-  where
-    go : (run : List ℕ) → run ++ takes.after ≡ bytes → length run ≡ len → IsFull run → list_all is_space run ≡ true → (new ≡ opened scan (space_mode run) len) ⊎ (Closes (opened scan (space_mode run) len) new × (begins (may_begin (stack_of scan.brackets)) takes.after ≡ true)) → ReachedShut m at text new (drop len bytes)
-    go [] spell size full all how = absurd full
-    go (c ∷ cs) spell size full all how =
-        let meet = meets m at text scan c (cs ++ takes.after) free (subst (ReachedShut m at text scan) (sym spell) r) in
-        subst (ReachedShut m at text new) (sym (ap (drop len) (sym spell) ∙ ap (λ (n : ℕ). drop n (c ∷ cs ++ takes.after)) (sym size) ∙ drop-append_seam (c ∷ cs) takes.after))
-        (run_reached is_space may_begin (λ st d h. h) space_mode space_low space_whole (λ d. modes.Space) (λ d h. start-space d h) (λ done d ds h. steps_space done (d ∷ []) ds h) space_stops (λ run. refl) m at text scan new c cs takes.after meet start all takes.ends (subst (λ (n : ℕ). (new ≡ opened scan modes.Space n) ⊎ (Closes (opened scan modes.Space n) new × (begins (may_begin (stack_of scan.brackets)) takes.after ≡ true))) (sym size) how))
+space_reached m at text scan new bytes len free r start =
+    from_first is_space may_begin space_mode m at text scan new bytes len free r
+    (λ c cs after meet all ends how. run_reached is_space may_begin (λ st d h. h) space_mode space_low space_whole (λ d. modes.Space) (λ d h. start-space d h) (λ done d ds h. steps_space done (d ∷ []) ds h) space_stops (λ run. refl) m at text scan new c cs after meet start all ends how)
 
 -- an operator after closed pieces
 operator-no_break : (c : ℕ) → is_operator c ≡ true → is_break c ≡ false

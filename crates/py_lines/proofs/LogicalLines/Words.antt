@@ -46,14 +46,8 @@ pub words_of_line : (offset line : ℕ) (ps : List Piece) → map (word_in (line
 words_of_line offset line ps = words_after [] line ps
 
 one_extent : (start stop line row : ℕ) (class : Class) (text : List ℕ) → map extent_of (tokens_of_piece start stop line class text) ≡ map extent_of (tokens_of_piece start stop row class text)
-one_extent start stop line row mark text = refl
-one_extent start stop line row space text = refl
 one_extent start stop line row word text = refl
-one_extent start stop line row string text = refl
-one_extent start stop line row operator text = refl
-one_extent start stop line row comment text = refl
-one_extent start stop line row join text = refl
-one_extent start stop line row line_end text = refl
+one_extent start stop line row other text = refl
 
 pub same_extents : (start line row : ℕ) (ps : List Piece) → map extent_of (tokens_from start line ps) ≡ map extent_of (tokens_from start row ps)
 same_extents start line row [] = refl

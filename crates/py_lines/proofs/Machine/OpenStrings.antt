@@ -22,59 +22,44 @@ use Rattle.py_lines.proofs.Machine.Soundness.{returned_items}
 fit_held : (s : Scanned) (read : List ℕ) → IsSound s read → AreReadBefore s.done s.held
 fit_held s read sound = subst (AreReadBefore s.done) (append-nil s.held) (sound.fit [])
 
-short_opening : (q : ℕ) (held : List ℕ) → HoldsItems q held → IsShortPrefix held
-short_opening q held items = record {
+short_open : (q : ℕ) (before last : List ℕ) → HoldsItems q before → IsUnescaped last → IsShortPrefix (before ++ last)
+short_open q before last items escapes = record {
   prefix = items.prefix;
   quote = q;
   items = items.items;
-  last = [];
-  spell = items.spell ∙ ap (λ t. items.prefix ++ (q ∷ t)) (sym (append-nil (joined items.items)));
+  last = last;
+  spell = ap (λ t. t ++ last) items.spell ∙ append_assoc items.prefix (q ∷ joined items.items) last;
   begun = items.begun;
   opens = items.opens;
   each = items.each;
-  escapes = inl refl;
+  escapes = escapes;
 }
 
+short_opening : (q : ℕ) (held : List ℕ) → HoldsItems q held → IsShortPrefix held
+short_opening q held items = subst IsShortPrefix (append-nil held) (short_open q held [] items (inl refl))
+
 short_escaped : (q : ℕ) (before : List ℕ) (slash : ℕ) → HoldsItems q before → is_backslash slash ≡ true → IsShortPrefix (before ++ slash ∷ [])
-short_escaped q before slash items slashes = record {
-  prefix = items.prefix;
+short_escaped q before slash items slashes = short_open q before (slash ∷ []) items (inr (slash, refl, slashes))
+
+long_open : (q : ℕ) (before last : List ℕ) → HoldsPrefix q before → IsUnescaped last → IsLongPrefix (before ++ last)
+long_open q before last held escapes = record {
+  prefix = held.prefix;
   quote = q;
-  items = items.items;
-  last = slash ∷ [];
-  spell = ap (λ t. t ++ slash ∷ []) items.spell ∙ append_assoc items.prefix (q ∷ joined items.items) (slash ∷ []);
-  begun = items.begun;
-  opens = items.opens;
-  each = items.each;
-  escapes = inr (slash, refl, slashes);
+  items = held.items;
+  last = last;
+  spell = ap (λ t. t ++ last) held.spell ∙ append_assoc held.prefix (q ∷ q ∷ q ∷ joined held.items) last;
+  begun = held.begun;
+  opens = held.opens;
+  each = held.each;
+  open_yet = held.open_yet;
+  escapes = escapes;
 }
 
 long_opening : (q : ℕ) (held : List ℕ) → HoldsPrefix q held → IsLongPrefix held
-long_opening q held rest = record {
-  prefix = rest.prefix;
-  quote = q;
-  items = rest.items;
-  last = [];
-  spell = rest.spell ∙ ap (λ t. rest.prefix ++ (q ∷ q ∷ q ∷ t)) (sym (append-nil (joined rest.items)));
-  begun = rest.begun;
-  opens = rest.opens;
-  each = rest.each;
-  open_yet = rest.open_yet;
-  escapes = inl refl;
-}
+long_opening q held holds = subst IsLongPrefix (append-nil held) (long_open q held [] holds (inl refl))
 
 long_escaped : (q : ℕ) (before : List ℕ) (slash : ℕ) → HoldsPrefix q before → is_backslash slash ≡ true → IsLongPrefix (before ++ slash ∷ [])
-long_escaped q before slash rest slashes = record {
-  prefix = rest.prefix;
-  quote = q;
-  items = rest.items;
-  last = slash ∷ [];
-  spell = ap (λ t. t ++ slash ∷ []) rest.spell ∙ append_assoc rest.prefix (q ∷ q ∷ q ∷ joined rest.items) (slash ∷ []);
-  begun = rest.begun;
-  opens = rest.opens;
-  each = rest.each;
-  open_yet = rest.open_yet;
-  escapes = inr (slash, refl, slashes);
-}
+long_escaped q before slash holds slashes = long_open q before (slash ∷ []) holds (inr (slash, refl, slashes))
 
 short_held : (m : Mode) (done : List Piece) (held : List ℕ) → Holds m done held → in_short m ≡ true → IsShortPrefix held
 short_held (modes.Opened q) done held holds is = short_opening q held (opened_items q held holds)

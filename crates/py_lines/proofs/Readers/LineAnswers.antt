@@ -1,5 +1,5 @@
 -- The reader's state after a line.
-use Rattle.std.proofs.Common.{◌≡◌, ℕ, ◌+◌, ◌-◌, ◌<◌, ◌≤◌, true, None, Some, List, [], ◌∷◌, ◌++◌, length, take, drop, refl, sym, ap, ◌∙◌, subst, inl, append_assoc, append-nil, arith, length-append, length-drop, length-take}
+use Rattle.std.proofs.Common.{◌≡◌, ℕ, ◌+◌, ◌-◌, ◌<◌, ◌≤◌, true, None, Some, List, [], ◌∷◌, ◌++◌, length, take, drop, refl, sym, ap, ◌∙◌, subst, append_assoc, append-nil, arith, length-append, length-drop, length-take}
 use Rattle.std.specs.Prelude.{encode_utf8_all, IsUtf8}
 use Rattle.std.specs.Str.{all_scalars, IsCharBoundary}
 use Rattle.std.specs.Borrow.{Bor}
@@ -9,8 +9,6 @@ use Rattle.std.proofs.Math.Seq.{take-append_seam}
 use Rattle.py_lines.specs.Piece.{Class, line_end, Piece, spelled}
 use Rattle.py_lines.specs.PieceGrammar.{InClass, AreReadBefore}
 use Rattle.py_lines.specs.LogicalLine.{LogicalLine, cut, byte_len, line_ends, line_of, tokens_from, kind_of, indent_of, end_len_of}
-use Rattle.py_lines.specs.Balance.{depth_after}
-use Rattle.py_lines.specs.Balance as brackets
 use Rattle.py_lines.specs.Reader.{HasGiven, Continues, standing_at}
 use Rattle.py_lines.specs.Private.Machine.{Scanned, steps_from, brackets_of}
 use Rattle.py_lines.specs.declared.line_state.LineState.{LineState}
@@ -24,6 +22,8 @@ use Rattle.py_lines.specs.Reader.View.{reader_of}
 use Rattle.py_lines.specs.Private.LineState.{first_mode}
 use Rattle.py_lines.specs.Private.Source.{line_of_source, PassesLine, HasScanned}
 use Rattle.py_lines.specs.Token.{EachLiesIn}
+use Rattle.py_lines.specs.Reading.{Decodes}
+use Rattle.py_lines.proofs.Lexings.Existence.{first_at}
 use Rattle.py_lines.proofs.Text.Utf8Prefixes.{prefix_chars, all_scalars-parts, one_decoding}
 use Rattle.py_lines.proofs.Pieces.PieceLists.{spelled-append, AreReadBefore-second}
 use Rattle.py_lines.proofs.Lexings.LinePrefix.{line_first}
@@ -189,24 +189,9 @@ few_lines_line old len has =
 pub start_given : (s : Source) → s.state.place ≡ 0 → s.state.line ≡ 1 → s.state.fault ≡ None → HasGiven (reader_of s) []
 start_given s place line fault =
     let utf8 = IsUtf8-had _ s.text in
-    record {
-      first = record {
-        characters = utf8.0;
-        tail = drop (length s.characters.now) s.bytes.now;
-        pieces = [];
-        rest = utf8.0;
-        decodes = record { are = utf8.1.0; spell = ap (λ t. t ++ drop (length s.characters.now) s.bytes.now) (utf8.1.1 ∙ s.prefix) ∙ take-append-drop (length s.characters.now) s.bytes.now; bad = s.bad };
-        spell = refl;
-        fit = tt;
-        balanced = brackets.none [] refl;
-        shallow = tt;
-        ended = inl (inl refl, λ none. refl);
-        here = place;
-        number = line;
-        cut = refl;
-      };
-      no_fault = fault;
-    }
+    let tail = drop (length s.characters.now) s.bytes.now in
+    let decodes : Decodes s.bytes.now utf8.0 tail = record { are = utf8.1.0; spell = ap (λ t. t ++ tail) (utf8.1.1 ∙ s.prefix) ∙ take-append-drop (length s.characters.now) s.bytes.now; bad = s.bad } in
+    record { first = first_at s.bytes.now utf8.0 tail s.state.place s.state.line decodes place line; no_fault = fault }
 
 -- where lines that a reader has given end, a character begins, and the lines before it are no more than its bytes
 pub record Stands (s : Source) (place line : ℕ) : Type 0 where

@@ -1,5 +1,6 @@
 use Rattle.std.proofs.Common.{[]}
-use Rattle.py_lines.proofs.Feeds.Begun.{first_none, begun_scans}
+use Rattle.py_lines.proofs.Feeds.Begun.{begun_scans}
+use Rattle.py_lines.proofs.Lexings.Existence.{first_none}
 use Rattle.py_lines.proofs.scanner.Scanner.new.Goals as goal
 
 pub returns-clause-scans : goal.returns-clause-scans
