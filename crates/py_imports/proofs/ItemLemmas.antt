@@ -61,16 +61,7 @@ at_path-sound modules ts r e = let off = at_module-sound ts r e in record { path
 at_path-sound identifiers (name w ∷ ts) r e =
     let f : record { spelled = w; rest = ts } ≡ r = cc in
     subst (ReadsOffPath identifiers (name w ∷ ts)) f (record { path = name w ∷ []; split = refl; is = (w, refl); spelled = sym (append-nil w) })
-at_path-sound identifiers [] r e = absurd cc
-at_path-sound identifiers (import_word ∷ ts) r e = absurd cc
-at_path-sound identifiers (from_word ∷ ts) r e = absurd cc
-at_path-sound identifiers (as_word ∷ ts) r e = absurd cc
-at_path-sound identifiers (dot ∷ ts) r e = absurd cc
-at_path-sound identifiers (comma ∷ ts) r e = absurd cc
-at_path-sound identifiers (star ∷ ts) r e = absurd cc
-at_path-sound identifiers (opening ∷ ts) r e = absurd cc
-at_path-sound identifiers (closing ∷ ts) r e = absurd cc
-at_path-sound identifiers (other ∷ ts) r e = absurd cc
+at_path-sound identifiers ts r e = absurd cc
 
 -- these terminals begin with such an item
 pub record ReadsOffItem (k : Listed) (ts : List Terminal) (r : ItemRead) : Type 0 where

@@ -123,30 +123,12 @@ begins_comma (comma ∷ ts) = true
 begins_comma _ = false
 
 pub no_comma : (after : Lexeme) (ts : List Terminal) → after ≢ lexeme.Comma → begins_comma (followed_by after ts) ≡ false
-no_comma lexeme.Import ts h = refl
-no_comma lexeme.From ts h = refl
-no_comma lexeme.As ts h = refl
-no_comma (lexeme.Name w) ts h = refl
-no_comma lexeme.Dot ts h = refl
 no_comma lexeme.Comma ts h = absurd (h refl)
-no_comma lexeme.Star ts h = refl
-no_comma lexeme.Opening ts h = refl
-no_comma lexeme.Closing ts h = refl
-no_comma lexeme.Other ts h = refl
-no_comma lexeme.End ts h = refl
+no_comma after ts h = refl
 
 pub no_closing : (after : Lexeme) (ts : List Terminal) → after ≢ lexeme.Closing → begins_closing (followed_by after ts) ≡ false
-no_closing lexeme.Import ts h = refl
-no_closing lexeme.From ts h = refl
-no_closing lexeme.As ts h = refl
-no_closing (lexeme.Name w) ts h = refl
-no_closing lexeme.Dot ts h = refl
-no_closing lexeme.Comma ts h = refl
-no_closing lexeme.Star ts h = refl
-no_closing lexeme.Opening ts h = refl
 no_closing lexeme.Closing ts h = absurd (h refl)
-no_closing lexeme.Other ts h = refl
-no_closing lexeme.End ts h = refl
+no_closing after ts h = refl
 
 pub neither_ends : (ts : List Terminal) → begins_comma ts ≡ false → begins_closing ts ≡ false → ¬ (IsClosing ts)
 neither_ends ts c d (by_bracket t e) = let f : begins_closing ts ≡ true = ap begins_closing e in cc

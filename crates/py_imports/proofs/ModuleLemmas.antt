@@ -109,20 +109,11 @@ pub record ReadsOffFrom (ts : List Terminal) (r : Read) : Type 0 where
   pub is : IsRelativeModule from
   pub spelled : r.spelled ≡ spelling from
 
-import_behind-some : (spelled : List ℕ) (ts : List Terminal) (r : Read) → import_after spelled ts ≡ Some r → (ts ≡ import_word ∷ r.rest) × (spelled ≡ r.spelled)
-import_behind-some spelled (import_word ∷ ts) r e =
+import_after-some : (spelled : List ℕ) (ts : List Terminal) (r : Read) → import_after spelled ts ≡ Some r → (ts ≡ import_word ∷ r.rest) × (spelled ≡ r.spelled)
+import_after-some spelled (import_word ∷ ts) r e =
     let f : record { spelled = spelled; rest = ts } ≡ r = cc in
     (ap (λ x. import_word ∷ x.rest) f, ap (λ x. x.spelled) f)
-import_behind-some spelled [] r e = absurd cc
-import_behind-some spelled (from_word ∷ ts) r e = absurd cc
-import_behind-some spelled (as_word ∷ ts) r e = absurd cc
-import_behind-some spelled (name w ∷ ts) r e = absurd cc
-import_behind-some spelled (dot ∷ ts) r e = absurd cc
-import_behind-some spelled (comma ∷ ts) r e = absurd cc
-import_behind-some spelled (star ∷ ts) r e = absurd cc
-import_behind-some spelled (opening ∷ ts) r e = absurd cc
-import_behind-some spelled (closing ∷ ts) r e = absurd cc
-import_behind-some spelled (other ∷ ts) r e = absurd cc
+import_after-some spelled ts r e = absurd cc
 
 pub option_and_then-some : {A B : Type 0} (f : A → Option B) (o : Option A) (y : B) → option_and_then f o ≡ Some y → (x : A) × (o ≡ Some x) × (f x ≡ Some y)
 option_and_then-some f None y e = absurd cc
@@ -132,7 +123,7 @@ module_first : (ts : List Terminal) (r : Read) → option_and_then (λ x. import
 module_first ts r e =
     let inner = option_and_then-some (λ x. import_after x.spelled x.rest) (at_module ts) r e in
     let off = at_module-sound ts inner.0 inner.1 in
-    let behind = import_behind-some inner.0.spelled inner.0.rest r inner.2 in
+    let behind = import_after-some inner.0.spelled inner.0.rest r inner.2 in
     (off.path, off.split ∙ ap (λ x. off.path ++ x) behind.0, off.is, sym behind.1 ∙ off.spelled)
 
 module_behind : (ts : List Terminal) (r : Read) → option_and_then (λ x. import_after x.spelled x.rest) (at_module ts) ≡ Some r → ReadsFrom ts r

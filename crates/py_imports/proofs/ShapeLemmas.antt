@@ -179,3 +179,9 @@ stand_well_more tokens i after_opening here opening t s within e h o = record {
 -- whether a token passes, from token `i` on
 pub any_from : (passes : Token → Bool) (tokens : List Token) (i : ℕ) (t : Token) → i < length tokens → list_any passes tokens ≡ list_any passes (drop i tokens) → list_any passes tokens ≡ passes (get_or tokens i t) || list_any passes (drop (i + 1) tokens)
 any_from passes tokens i t within e = e ∙ ap (list_any passes) (drop_more tokens i t within)
+
+-- the same, where what the token at the place does is known
+pub any_here : (passes : Token → Bool) (tokens : List Token) (i : ℕ) (b : Bool) → i < length tokens → list_any passes tokens ≡ list_any passes (drop i tokens) → ((t : Token) → slice_get tokens i ≡ Some t → b ≡ passes t) → list_any passes tokens ≡ b || list_any passes (drop (i + 1) tokens)
+any_here passes tokens i b within e here =
+    let none : Token = record { kind = kind.Name; start = 0; stop = 0; line = 0 } in
+    any_from passes tokens i none within e ∙ ap (λ x. x || list_any passes (drop (i + 1) tokens)) (sym (here (get_or tokens i none) (slice_get-get_or tokens i none within)))

@@ -1,6 +1,6 @@
 -- Rows by hand: what texts say, where comments stand well, and where a line's first token stands.
 use Rattle.std.proofs.Common.{◌≡◌, Bool, true, false, ℕ, ◌+◌, List, [], ◌∷◌, map, codes, refl}
-use Rattle.std.specs.List.{list_all}
+use Rattle.std.specs.List.{list_all, list_any}
 use Rattle.py_lines.specs.LogicalLine.{LogicalLine}
 use Rattle.py_lines.specs.declared.token.TokKind.{TokKind}
 use Rattle.py_lines.specs.declared.token.TokKind.TheVariants as kind
@@ -8,37 +8,27 @@ use Rattle.py_lines.specs.declared.unit.UnitKind.TheVariants as unit_kind
 use Rattle.py_imports.specs.Statement.{places_from}
 use Rattle.py_imports.specs.Shape.{stands_first, stands_well}
 use Rattle.py_imports.specs.Action.{says}
+use Rattle.py_imports.specs.declared.action.Action.{Action}
 use Rattle.py_imports.specs.declared.action.Action.TheVariants as action
 
-says_skip_file : says action.SkipFile (codes "# isort: skip_file") ≡ true
-says_skip_file = refl
+-- a comment, and what it is asked for
+record Row : Type 0 where
+  action : Action
+  text : List ℕ
 
-skip_file_is_no_skip : says action.Skip (codes "# isort: skip_file") ≡ false
-skip_file_is_no_skip = refl
+abbrev row : Action → List ℕ → Row
+row action text = record { action = action; text = text }
 
-says_skip : says action.Skip (codes "# isort:skip") ≡ true
-says_skip = refl
+comments_say : list_all (λ r. says r.action r.text) (
+    row action.SkipFile (codes "# isort: skip_file") ∷ row action.Skip (codes "# isort:skip") ∷
+    row action.Skip (codes "isort: skips isort: skip.") ∷ row action.Off (codes "isort:off") ∷
+    row action.On (codes "# isort: on\t") ∷ row action.Split (codes "# isort: split") ∷ []) ≡ true
+comments_say = refl
 
-two_spaces : says action.Skip (codes "# isort:  skip") ≡ false
-two_spaces = refl
-
-says_skip_at_the_second : says action.Skip (codes "isort: skips isort: skip.") ≡ true
-says_skip_at_the_second = refl
-
-says_off : says action.Off (codes "isort:off") ≡ true
-says_off = refl
-
-says_on : says action.On (codes "# isort: on\t") ≡ true
-says_on = refl
-
-one_is_no_on : says action.On (codes "# isort: one") ≡ false
-one_is_no_on = refl
-
-says_split : says action.Split (codes "# isort: split") ≡ true
-says_split = refl
-
-upper_case : says action.On (codes "# Isort: on") ≡ false
-upper_case = refl
+comments_say_nothing : list_any (λ r. says r.action r.text) (
+    row action.Skip (codes "# isort: skip_file") ∷ row action.Skip (codes "# isort:  skip") ∷
+    row action.On (codes "# isort: one") ∷ row action.On (codes "# Isort: on") ∷ []) ≡ false
+comments_say_nothing = refl
 
 -- whether the comments among tokens of these kinds stand well
 abbrev all_stand_well : List TokKind → Bool

@@ -1,24 +1,10 @@
-use Rattle.std.proofs.Common.{◌||◌, ◌+◌, drop, get_or, sym, ap, ◌∙◌}
-use Rattle.std.proofs.lemmas.Option.{slice_get-get_or}
-use Rattle.std.specs.List.{list_any}
-use Rattle.py_lines.specs.declared.token.Token.{Token}
-use Rattle.py_lines.specs.declared.token.TokKind.TheVariants as kind
+use Rattle.std.proofs.Common.{true, false, sym}
 use Rattle.py_imports.specs.Shape.{says_skip}
-use Rattle.py_imports.proofs.ShapeLemmas.{any_from}
+use Rattle.py_imports.proofs.ShapeLemmas.{any_here}
 use Rattle.py_imports.proofs.shape.says_skip.Goals as goal
 
 pub returns-then-is_skip : goal.returns-then-is_skip
-returns-then-is_skip c =
-    let none : Token = record { kind = kind.Name; start = 0; stop = 0; line = 0 } in
-    let tokens = c.args.unit.now.tokens.now in
-    let skips = says_skip c.args.unit.now.text.now in
-    let here = c.if-is_skip.ensures (get_or tokens c.tokens.place none) (slice_get-get_or tokens c.tokens.place none c.tokens-test.true) in
-    sym (any_from skips tokens c.tokens.place none c.tokens-test.true c.tokens.invariant ∙ ap (λ b. b || list_any skips (drop (c.tokens.place + 1) tokens)) (sym here))
+returns-then-is_skip c = sym (any_here (says_skip c.args.unit.now.text.now) c.args.unit.now.tokens.now c.tokens.place true c.tokens-test.true c.tokens.invariant c.if-is_skip.ensures)
 
 pub tokens-preserved : goal.tokens-preserved
-tokens-preserved c =
-    let none : Token = record { kind = kind.Name; start = 0; stop = 0; line = 0 } in
-    let tokens = c.args.unit.now.tokens.now in
-    let skips = says_skip c.args.unit.now.text.now in
-    let here = c.if-is_skip.ensures (get_or tokens c.tokens.place none) (slice_get-get_or tokens c.tokens.place none c.tokens-test.true) in
-    any_from skips tokens c.tokens.place none c.tokens-test.true c.tokens.invariant ∙ ap (λ b. b || list_any skips (drop (c.tokens.place + 1) tokens)) (sym here)
+tokens-preserved c = any_here (says_skip c.args.unit.now.text.now) c.args.unit.now.tokens.now c.tokens.place false c.tokens-test.true c.tokens.invariant c.if-is_skip.ensures
