@@ -9,7 +9,7 @@ use Rattle.py_lines.specs.PieceGrammar.{AreReadBefore}
 use Rattle.py_lines.specs.Balance.{is_opening, is_closing, is_opener, is_closer}
 use Rattle.py_lines.specs.LogicalLine.{byte_len}
 use Rattle.py_lines.specs.Reading.{IsBalancedReading}
-use Rattle.py_lines.specs.Faults.{IsLive, InBracket, IsAtDepth, DiesAt, BreaksString, BreaksJoin, ClosesWrong, OpensTooDeep, IsCharacterFault, IsEndFault, breaks_string, breaks_join, closes_wrong, opens_too_deep, begins_nothing, open_short, open_long, open_join, open_bracket}
+use Rattle.py_lines.specs.Faults.{Cause, Explains, NoneExplains, causes_before, kind_of_cause, IsLive, InBracket, IsAtDepth, DiesAt, BreaksString, BreaksJoin, ClosesWrong, OpensTooDeep, IsCharacterFault, IsEndFault, breaks_string, breaks_join, closes_wrong, opens_too_deep, begins_nothing, open_short, open_long, open_join, open_bracket}
 use Rattle.py_lines.specs.declared.fault.FaultKind.{FaultKind}
 use Rattle.py_lines.specs.declared.fault.FaultKind.TheVariants as faults
 use Rattle.py_lines.specs.declared.mode.Mode.{Mode}
@@ -175,61 +175,26 @@ early s before h = sym (ap (λ (b : Bool). cond b (byte_len (spelled s.done)) (b
 pub late : (s : Scanned) (before : List ℕ) → in_short s.mode ≡ false → is_after_backslash s.mode ≡ false → character_place s before ≡ byte_len before
 late s before short slash = ap (λ (b : Bool). cond b (byte_len (spelled s.done)) (byte_len before)) (or_from _ _ short slash)
 
+-- the fault that such a cause explains
+by_cause : (characters before : List ℕ) (c offset : ℕ) (cause : Cause) → DiesAt characters before c → Explains cause before c offset → NoneExplains (causes_before cause) before c → IsCharacterFault (kind_of_cause cause) characters offset
+by_cause characters before c offset cause dies fits first = record { cause = cause; before = before; c = c; is = refl; dies = dies; fits = fits; first = first }
+
 -- the fault at the first character at which the machine can't go on
 pub character_fault : (characters before after : List ℕ) (c : ℕ) (s : Scanned) (st : List Bracket) → before ++ c ∷ after ≡ characters → RunsTo before s st → ¬ (IsLive (before ++ c ∷ [])) → IsCharacterFault (character_kind s.mode c) characters (character_place s before)
 character_fault characters before after c s st spell steps dead =
     let dies : DiesAt characters before c = record { after = after; spell = spell; live = runs_live before s st steps; dead = dead } in
     let sound = sound_at before s steps.run in
+    let by = by_cause characters before c (character_place s before) in
     let P : FaultKind → Type 0 = λ kind. IsCharacterFault kind characters (character_place s before) in
     cond_both (in_short s.mode) _ _ P
-    (λ short. record {
-      cause = breaks_string;
-      before = before;
-      c = c;
-      is = refl;
-      dies = dies;
-      fits = record { start = spelled s.done; breaks = break_in before s st c steps dead short; inside = in_short_string s before sound short; place = sym (early s before (or_left _ _ short)) };
-      first = tt;
-    })
+    (λ short. by breaks_string dies (record { start = spelled s.done; breaks = break_in before s st c steps dead short; inside = in_short_string s before sound short; place = sym (early s before (or_left _ _ short)) }) tt)
     (λ short. cond_both (is_after_backslash s.mode) _ _ P
-    (λ slash. record {
-      cause = breaks_join;
-      before = before;
-      c = c;
-      is = refl;
-      dies = dies;
-      fits = record { start = spelled s.done; after = after_backslash s before sound slash; place = sym (early s before (or_right _ _ slash)) };
-      first = (no_string before s c steps.run short, tt);
-    })
+    (λ slash. by breaks_join dies (record { start = spelled s.done; after = after_backslash s before sound slash; place = sym (early s before (or_right _ _ slash)) }) (no_string before s c steps.run short, tt))
     (λ slash. cond_both (is_closing c) _ _ P
-    (λ closing. record {
-      cause = closes_wrong;
-      before = before;
-      c = c;
-      is = refl;
-      dies = dies;
-      fits = record { closes = closing; place = late s before short slash };
-      first = (no_string before s c steps.run short, (no_join before s steps.run slash, tt));
-    })
+    (λ closing. by closes_wrong dies (record { closes = closing; place = late s before short slash }) (no_string before s c steps.run short, (no_join before s steps.run slash, tt)))
     (λ closing. cond_both (is_opening c) _ _ P
-    (λ opening. record {
-      cause = opens_too_deep;
-      before = before;
-      c = c;
-      is = refl;
-      dies = dies;
-      fits = record { opens = opening; deep = opens_deep before s st c steps dead short slash opening; place = late s before short slash };
-      first = (no_string before s c steps.run short, (no_join before s steps.run slash, (no_close before c closing, tt)));
-    })
-    (λ opening. record {
-      cause = begins_nothing;
-      before = before;
-      c = c;
-      is = refl;
-      dies = dies;
-      fits = late s before short slash;
-      first = (no_string before s c steps.run short, (no_join before s steps.run slash, (no_close before c closing, (no_deep before c opening, tt))));
-    }))))
+    (λ opening. by opens_too_deep dies (record { opens = opening; deep = opens_deep before s st c steps dead short slash opening; place = late s before short slash }) (no_string before s c steps.run short, (no_join before s steps.run slash, (no_close before c closing, tt))))
+    (λ opening. by begins_nothing dies (late s before short slash) (no_string before s c steps.run short, (no_join before s steps.run slash, (no_close before c closing, (no_deep before c opening, tt))))))))
 
 -- the text may end except in a string and after a backslash
 final_is : (m : Mode) → is_final m ≡ not (in_short m) && (not (in_long m) && not (is_after_backslash m))

@@ -40,6 +40,10 @@ module _ (f : Feed) (read rest : List ℕ) (o : IsOpen f read rest) where
   pub open_size : length f.held.items ≡ byte_len read + length rest
   open_size = ap length (sym o.spell) ∙ length-append (encode_utf8_all read) rest
 
+  -- where the scan stopped in the bytes that are held
+  pub open_within : (bytes : List ℕ) → bytes ≡ f.held.items → f.state.scan.stop ≤ length bytes
+  open_within bytes is = omega (arith, open_stop, open_size, ap length is)
+
   pub open_lines : line_ends read ≤ byte_len read
   open_lines = line_ends-bytes read
 

@@ -107,20 +107,16 @@ run_item done q m held (c ∷ []) short quotes is =
 run_item done q m held (c ∷ d ∷ []) short quotes is =
     let slash = (and_parts (is_backslash c) true is).0 in
     ⊎_elim
-    (λ (h : is_return d ≡ true). record {
-      to = modes.EscapeReturn q;
-      inside = inr refl;
+    (λ (h : is_return d ≡ true). escaped slash (modes.EscapeReturn q) (inr refl) (escape_return q d h))
+    (λ (h : is_return d ≡ false). escaped slash (modes.Inside q) (inl refl) (escape_other q d h)) (cases_Bool (is_return d))
+  where
+    escaped : is_backslash c ≡ true → (to : Mode) → HoldsShort q to → move_of (modes.Escape q) d ≡ moves.Grows to → ShortRun done q m held (c ∷ d ∷ [])
+    escaped slash to inside moves_so = record {
+      to = to;
+      inside = inside;
       steps = grown done m (modes.Escape q) held c (d ∷ []) (short_escapes q c m short quotes slash)
-          ∙ grown done (modes.Escape q) (modes.EscapeReturn q) (held ++ c ∷ []) d [] (escape_return q d h)
-          ∙ grown_two done held _ c d;
-    })
-    (λ (h : is_return d ≡ false). record {
-      to = modes.Inside q;
-      inside = inl refl;
-      steps = grown done m (modes.Escape q) held c (d ∷ []) (short_escapes q c m short quotes slash)
-          ∙ grown done (modes.Escape q) (modes.Inside q) (held ++ c ∷ []) d [] (escape_other q d h)
-          ∙ grown_two done held _ c d;
-    }) (cases_Bool (is_return d))
+          ∙ grown done (modes.Escape q) to (held ++ c ∷ []) d [] moves_so ∙ grown_two done held _ c d;
+    }
 run_item done q m held (c ∷ d ∷ e ∷ []) short quotes is =
     let parts = and_parts (is_backslash c && is_return d && is_line_feed e) true is in
     let first = and_parts (is_backslash c && is_return d) (is_line_feed e) parts.0 in

@@ -123,18 +123,10 @@ class_of modes.Free = operator
 class_of modes.Space = space
 class_of (modes.Word s) = word
 class_of modes.Comment = comment
-class_of (modes.Opened q) = string
-class_of (modes.Inside q) = string
-class_of (modes.Escape q) = string
-class_of (modes.EscapeReturn q) = string
-class_of (modes.Empty q) = string
-class_of (modes.Long q) = string
-class_of (modes.LongOne q) = string
-class_of (modes.LongTwo q) = string
-class_of (modes.LongEscape q) = string
 class_of modes.Backslash = join
 class_of modes.JoinReturn = join
 class_of modes.Return = line_end
+class_of string_mode = string
 
 -- the token that the open piece is, if it is one
 abbrev pub token_of : Mode → Option TokKind
@@ -144,18 +136,10 @@ token_of modes.Space = None
 token_of (modes.Word spellings.Number) = Some kinds.Number
 token_of (modes.Word other) = Some kinds.Name
 token_of modes.Comment = Some kinds.Remark
-token_of (modes.Opened q) = Some kinds.Str
-token_of (modes.Inside q) = Some kinds.Str
-token_of (modes.Escape q) = Some kinds.Str
-token_of (modes.EscapeReturn q) = Some kinds.Str
-token_of (modes.Empty q) = Some kinds.Str
-token_of (modes.Long q) = Some kinds.Str
-token_of (modes.LongOne q) = Some kinds.Str
-token_of (modes.LongTwo q) = Some kinds.Str
-token_of (modes.LongEscape q) = Some kinds.Str
 token_of modes.Backslash = None
 token_of modes.JoinReturn = None
 token_of modes.Return = None
+token_of string_mode = Some kinds.Str
 
 -- the pieces, the open one with them
 abbrev pub closed : Mode → List Piece → List ℕ → List Piece

@@ -4,19 +4,15 @@ use Rattle.py_lines.specs.Private.Run.{Reached}
 use Rattle.py_lines.specs.Private.Feed.{KeepsText}
 use Rattle.py_lines.specs.Private.LineState.{first_mode}
 use Rattle.py_lines.proofs.LineScan.TextSteps.{begun_sound}
-use Rattle.py_lines.proofs.Feeds.Steps.{open_stop, open_size, next_is}
+use Rattle.py_lines.proofs.Feeds.Steps.{open_stop, open_size, open_within, next_is}
 use Rattle.py_lines.proofs.Feeds.Characters.{reached_held, stops_held}
 use Rattle.py_lines.proofs.feed.Feed.scan_characters.Goals as goal
 
 pub slice_bounds-extend-count : goal.slice_bounds-extend-count
-slice_bounds-extend-count c =
-    let o = c.requires.opens in
-    omega (arith, open_stop c.args.self.now o.0 o.1 o.2, open_size c.args.self.now o.0 o.1 o.2, ap length c.deref.ensures.value)
+slice_bounds-extend-count c = let o = c.requires.opens in omega (arith, open_within c.args.self.now o.0 o.1 o.2 _ c.deref.ensures.value)
 
 pub slice_bounds-extend-start : goal.slice_bounds-extend-start
-slice_bounds-extend-start c =
-    let o = c.requires.opens in
-    omega (arith, open_stop c.args.self.now o.0 o.1 o.2, open_size c.args.self.now o.0 o.1 o.2, ap length c.deref.ensures.value)
+slice_bounds-extend-start c = let o = c.requires.opens in omega (arith, open_within c.args.self.now o.0 o.1 o.2 _ c.deref.ensures.value)
 
 pub extend-requires-clause-way : goal.extend-requires-clause-way
 extend-requires-clause-way c =

@@ -1,8 +1,8 @@
-use Rattle.std.proofs.Common.{◌<◌, length, refl, sym, ap, ◌∙◌, subst, ⊎_elim, arith}
+use Rattle.std.proofs.Common.{◌<◌, length, refl, sym, ◌∙◌, subst, ⊎_elim, arith}
 use Rattle.std.proofs.lemmas.Bool.{cases_lt}
 use Rattle.std.specs.Str.{StartsWithNoChar}
 use Rattle.py_lines.specs.Settled.{IsHopeless}
-use Rattle.py_lines.proofs.Feeds.Steps.{open_order, open_stop, open_size, within_held, next_is}
+use Rattle.py_lines.proofs.Feeds.Steps.{open_order, open_stop, open_size, open_within, within_held, next_is}
 use Rattle.py_lines.proofs.Feeds.Loops.{keeps_self, part_all, part_left, part_fails, closes_held}
 use Rattle.py_lines.proofs.Readers.LineAnswers.{all_within}
 use Rattle.py_lines.proofs.feed.Feed.scan_part.Goals as goal
@@ -27,14 +27,10 @@ returns-then-is_returned c =
     closes_held f c.close.new.self c.close.result o.0 o.1 o.2 size o.3 (sym c.is_returned.ensures ∙ c.if-is_returned.true) c.close.ensures
 
 pub slice_bounds-is_hopeless-count : goal.slice_bounds-is_hopeless-count
-slice_bounds-is_hopeless-count c =
-    let o = c.requires.opens in
-    omega (arith, open_stop c.args.self.now o.0 o.1 o.2, open_size c.args.self.now o.0 o.1 o.2, ap length c.deref.ensures.value)
+slice_bounds-is_hopeless-count c = let o = c.requires.opens in omega (arith, open_within c.args.self.now o.0 o.1 o.2 _ c.deref.ensures.value)
 
 pub slice_bounds-is_hopeless-start : goal.slice_bounds-is_hopeless-start
-slice_bounds-is_hopeless-start c =
-    let o = c.requires.opens in
-    omega (arith, open_stop c.args.self.now o.0 o.1 o.2, open_size c.args.self.now o.0 o.1 o.2, ap length c.deref.ensures.value)
+slice_bounds-is_hopeless-start c = let o = c.requires.opens in omega (arith, open_within c.args.self.now o.0 o.1 o.2 _ c.deref.ensures.value)
 
 pub is_hopeless-requires : goal.is_hopeless-requires
 is_hopeless-requires c =
