@@ -222,19 +222,20 @@ pub record TakesString (old : Scan) (bytes : List ℕ) (len : ℕ) (new : Scan) 
   pub all : list_all (is_text_byte q) run ≡ true
   pub adds : AddsToken old kind.Str len new
 
+-- so many bytes were taken, of which this holds, and they end no line; or nothing was taken
+abbrev pub TakesOrNot : (ℕ → Scan → Type 0) → Scan → Result Taken AllocError → Scan → Type 0
+TakesOrNot Takes old (Ok taken.Nothing) new = new ≡ old
+TakesOrNot Takes old (Ok (taken.Bytes len)) new = Takes len new
+TakesOrNot Takes old (Ok (taken.LineEnd len)) new = ⊥
+TakesOrNot Takes old (Err e) new = Unit {0}
+
 -- such a string came, or nothing was taken
 abbrev pub TakesText : Scan → List ℕ → Result Taken AllocError → Scan → Type 0
-TakesText old bytes (Ok taken.Nothing) new = new ≡ old
-TakesText old bytes (Ok (taken.Bytes len)) new = TakesString old bytes len new
-TakesText old bytes (Ok (taken.LineEnd len)) new = ⊥
-TakesText old bytes (Err e) new = Unit {0}
+TakesText old bytes = TakesOrNot (TakesString old bytes) old
 
 -- an operator came, or nothing was taken
 abbrev pub TakesBracket : Scan → List ℕ → Result Taken AllocError → Scan → Type 0
-TakesBracket old bytes (Ok taken.Nothing) new = new ≡ old
-TakesBracket old bytes (Ok (taken.Bytes len)) new = TakesOperator old bytes len new
-TakesBracket old bytes (Ok (taken.LineEnd len)) new = ⊥
-TakesBracket old bytes (Err e) new = Unit {0}
+TakesBracket old bytes = TakesOrNot (TakesOperator old bytes) old
 
 -- a comment that a line end follows came after closed pieces
 pub record TakesComment (old : Scan) (bytes : List ℕ) (len : ℕ) (new : Scan) : Type 0 where
@@ -246,10 +247,7 @@ pub record TakesComment (old : Scan) (bytes : List ℕ) (len : ℕ) (new : Scan)
 
 -- such a comment came, or nothing was taken
 abbrev pub TakesRemark : Scan → List ℕ → Result Taken AllocError → Scan → Type 0
-TakesRemark old bytes (Ok taken.Nothing) new = new ≡ old
-TakesRemark old bytes (Ok (taken.Bytes len)) new = TakesComment old bytes len new
-TakesRemark old bytes (Ok (taken.LineEnd len)) new = ⊥
-TakesRemark old bytes (Err e) new = Unit {0}
+TakesRemark old bytes = TakesOrNot (TakesComment old bytes) old
 
 -- LF came after closed pieces: in brackets the line goes on
 abbrev pub TakesLineFeed : Scan → Taken → Scan → Type 0
