@@ -41,11 +41,14 @@
 -- bytes fed settle, and whether they decide a fault. Of the bytes fed no more are taken than up to the line's end, so
 -- a line is ready as soon as it is settled.
 --
+-- Strings with fields (proofs/Fields) are read by no code yet: what is proved of them is proved of the definitions alone.
+--
 -- proofs/Text has characters, the bytes that spell them, and vectors of bytes (Lanes). Files named WorkedRows and
 -- DepthRows are rows worked out by hand, on the definitions alone.
 pub mod Text
 pub mod Pieces
 pub mod Neighbours
+pub mod Fields
 pub mod Machine
 pub mod Faults
 pub mod LogicalLines

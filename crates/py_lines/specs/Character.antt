@@ -75,3 +75,11 @@ is_f = is_one_of (codes "fF")
 -- `u`, in either case
 unfoldable pub is_u : ℕ → Bool
 is_u = is_one_of (codes "uU")
+
+-- `t`, in either case
+unfoldable pub is_t : ℕ → Bool
+is_t = is_one_of (codes "tT")
+
+-- `{` and `}`
+unfoldable pub is_brace : ℕ → Bool
+is_brace = is_one_of (codes "{}")

@@ -5,6 +5,8 @@ pub mod Character
 pub mod Piece
 pub mod Balance
 pub mod PieceGrammar
+pub mod FieldStrings
+pub mod Fields
 pub mod LogicalLine
 pub mod Reading
 pub mod Faults

@@ -40,9 +40,13 @@ is_prefix (a ∷ []) = is_r a || is_b a || is_f a || is_u a
 is_prefix (a ∷ b ∷ []) = (is_r a && (is_b b || is_f b)) || ((is_b a || is_f a) && is_r b)
 is_prefix (a ∷ b ∷ c ∷ cs) = false
 
+-- no characters, or some that pass
+abbrev pub IsNoneOr : (List ℕ → Bool) → List ℕ → Type 0
+IsNoneOr passes text = (text ≡ []) ⊎ (passes text ≡ true)
+
 -- what may stand before the quotes of a string: nothing or a prefix
 abbrev pub IsPrefix : List ℕ → Type 0
-IsPrefix prefix = (prefix ≡ []) ⊎ (is_prefix prefix ≡ true)
+IsPrefix prefix = IsNoneOr is_prefix prefix
 
 -- An item of a string: a backslash with the line end or the one character after it, or any other one character
 -- (2.4.1). A backslash and CR may be taken for an item before LF too: which strings there are doesn't change.
@@ -102,43 +106,61 @@ pub record IsLongString (text : List ℕ) : Type 0 where
 abbrev pub IsString : List ℕ → Type 0
 IsString text = IsShortString text ⊎ IsLongString text
 
+-- A grammar of strings: which words are their prefixes, and which texts are strings. Python 3.12 reads strings in another
+-- way than Python 3.11, and all other pieces in the same.
+pub record Grammar : Type 1 where
+  pub is_prefix : List ℕ → Bool
+  pub IsString : List ℕ → Type 0
+
+-- strings as Python 3.11 reads them: what stands between the quotes is no more than characters, whatever the prefix
+abbrev pub without_fields : Grammar
+without_fields = record { is_prefix = is_prefix; IsString = IsString }
+
 -- how each class is spelled
+abbrev pub InClassIn : Grammar → Class → List ℕ → Type 0
+InClassIn grammar mark text = IsSingle is_mark text
+InClassIn grammar space text = IsRun is_space text
+InClassIn grammar word text = IsWord text
+InClassIn grammar string text = grammar.IsString text
+InClassIn grammar operator text = IsSingle is_operator text
+InClassIn grammar comment text = IsComment text
+InClassIn grammar join text = IsJoin text
+InClassIn grammar line_end text = IsLineEnd text
+
 abbrev pub InClass : Class → List ℕ → Type 0
-InClass mark text = IsSingle is_mark text
-InClass space text = IsRun is_space text
-InClass word text = IsWord text
-InClass string text = IsString text
-InClass operator text = IsSingle is_operator text
-InClass comment text = IsComment text
-InClass join text = IsJoin text
-InClass line_end text = IsLineEnd text
+InClass class text = InClassIn without_fields class text
 
 -- What a piece may stand before: `rest` is all that follows it. Spaces and words are as long as can be, a prefix
 -- isn't cut from its string, two quotes aren't the beginning of three, a comment goes to the line's end, and CR isn't
 -- cut from the LF after it.
+abbrev pub MayPrecedeIn : Grammar → Class → List ℕ → List ℕ → Type 0
+MayPrecedeIn grammar mark text rest = Unit {0}
+MayPrecedeIn grammar space text rest = begins is_space rest ≡ false
+MayPrecedeIn grammar word text rest = (begins is_word_character rest ≡ false) × (grammar.is_prefix text && begins is_quote rest ≡ false)
+MayPrecedeIn grammar string text rest = (prefix : List ℕ) (quote : ℕ) → text ≡ prefix ++ quote ∷ quote ∷ [] → IsNoneOr grammar.is_prefix prefix → is_quote quote ≡ true → begins (λ c. c == quote) rest ≡ false
+MayPrecedeIn grammar operator text rest = Unit {0}
+MayPrecedeIn grammar comment text rest = (rest ≡ []) ⊎ (begins is_break rest ≡ true)
+MayPrecedeIn grammar join text rest = ends is_return text && begins is_line_feed rest ≡ false
+MayPrecedeIn grammar line_end text rest = ends is_return text && begins is_line_feed rest ≡ false
+
 abbrev pub MayPrecede : Class → List ℕ → List ℕ → Type 0
-MayPrecede mark text rest = Unit {0}
-MayPrecede space text rest = begins is_space rest ≡ false
-MayPrecede word text rest = (begins is_word_character rest ≡ false) × (is_prefix text && begins is_quote rest ≡ false)
-MayPrecede string text rest =
-    (prefix : List ℕ) (quote : ℕ) → text ≡ prefix ++ quote ∷ quote ∷ [] → IsPrefix prefix → is_quote quote ≡ true
-    → begins (λ c. c == quote) rest ≡ false
-MayPrecede operator text rest = Unit {0}
-MayPrecede comment text rest = (rest ≡ []) ⊎ (begins is_break rest ≡ true)
-MayPrecede join text rest = ends is_return text && begins is_line_feed rest ≡ false
-MayPrecede line_end text rest = ends is_return text && begins is_line_feed rest ≡ false
+MayPrecede class text rest = MayPrecedeIn without_fields class text rest
 
 -- each piece is of its class and may precede what follows it, with `rest` at the end; no mark stands after a piece
+abbrev pub AreReadIn : Grammar → List Piece → List ℕ → Type 0
+AreReadIn grammar [] rest = Unit {0}
+AreReadIn grammar (p ∷ ps) rest = InClassIn grammar p.class p.text × MayPrecedeIn grammar p.class p.text (spelled ps ++ rest) × (begins_marked ps ≡ false) × AreReadIn grammar ps rest
+
 abbrev pub AreReadBefore : List Piece → List ℕ → Type 0
-AreReadBefore [] rest = Unit {0}
-AreReadBefore (p ∷ ps) rest =
-    InClass p.class p.text × MayPrecede p.class p.text (spelled ps ++ rest) × (begins_marked ps ≡ false)
-    × AreReadBefore ps rest
+AreReadBefore pieces rest = AreReadIn without_fields pieces rest
 
 -- the pieces read these characters, to the end of the text
-pub record Reads (pieces : List Piece) (characters : List ℕ) : Type 0 where
+pub record ReadsIn (grammar : Grammar) (pieces : List Piece) (characters : List ℕ) : Type 0 where
   pub spell : spelled pieces ≡ characters
-  pub fit : AreReadBefore pieces []
+  pub fit : AreReadIn grammar pieces []
+
+abbrev pub Reads : List Piece → List ℕ → Type 0
+Reads pieces characters = ReadsIn without_fields pieces characters
 
 -- the pieces read this text: it is the UTF-8 of their characters
 pub record ReadsText (pieces : List Piece) (text : List ℕ) : Type 0 where

@@ -1,8 +1,10 @@
 //! Laws of the definitions, which the checker proves as contracts of functions that do nothing.
 
-ghost use Rattle.std.specs.Prelude.{◌≡◌, ℕ, Option, Some, List, [], ◌++◌, map, take};
+ghost use Rattle.std.specs.Prelude.{◌≡◌, ℕ, false, Option, Some, List, [], ◌++◌, map, take};
 ghost use Rattle.py_lines.specs.Piece.{Piece, spelled};
-ghost use Rattle.py_lines.specs.PieceGrammar.{AreReadBefore, Reads, ReadsText};
+ghost use Rattle.py_lines.specs.PieceGrammar.{AreReadBefore, Reads, ReadsIn, ReadsText};
+ghost use Rattle.py_lines.specs.FieldStrings.{may_have_fields};
+ghost use Rattle.py_lines.specs.Fields.{fielded, IsFieldReading};
 ghost use Rattle.py_lines.specs.LogicalLine.{LogicalLine, cut, line_of};
 ghost use Rattle.py_lines.specs.Reading.{IsBalancedReading, EndsLine};
 ghost use Rattle.py_lines.specs.Faults.{IsFaultAt, IsReadOrFaulty};
@@ -57,6 +59,15 @@ pub fn settled_is_final()
     ensures within { (text : List ℕ) (place line : ℕ) (lines others : List LogicalLine) → AreFirstLines text place line lines → IsSettled (take place text) others → (more : List LogicalLine) × (lines ≡ others ++ more) }
     ensures fault { (text more : List ℕ) (fault : Fault) (lines : List LogicalLine) (end : Option Fault) → Decides text fault → IsLexed (text ++ more) lines end → end ≡ Some fault }
     ensures all { (text more : List ℕ) (fault : Fault) (lines : List LogicalLine) → Decides text fault → IsLexed text lines (Some fault) → IsLexed (text ++ more) lines (Some fault) }
+{}
+
+/// A text in which neither `f` nor `t`, alone or followed by `r`, stands directly before a quote is read by the same pieces
+/// whether strings hold fields or not, and these are as deep.
+pub fn fields_change_nothing_elsewhere()
+    ensures read_with { (pieces : List Piece) (characters : List ℕ) → may_have_fields characters ≡ false → Reads pieces characters → ReadsIn fielded pieces characters }
+    ensures read_without { (pieces : List Piece) (characters : List ℕ) → may_have_fields characters ≡ false → ReadsIn fielded pieces characters → Reads pieces characters }
+    ensures balanced_with { (pieces : List Piece) (characters : List ℕ) → may_have_fields characters ≡ false → IsBalancedReading pieces characters → IsFieldReading pieces characters }
+    ensures balanced_without { (pieces : List Piece) (characters : List ℕ) → may_have_fields characters ≡ false → IsFieldReading pieces characters → IsBalancedReading pieces characters }
 {}
 
 /// Pieces other than marks and strings are read where each may touch the next.

@@ -1,0 +1,3 @@
+-- Strings with fields, and texts with them.
+pub mod WorkedRows
+pub mod Elsewhere

@@ -1,0 +1,181 @@
+-- A text that has no string with fields reads the same with them and without.
+use Rattle.std.proofs.Common.{◌≡◌, ℕ, Bool, true, false, ◌||◌, ◌&&◌, List, [], ◌∷◌, ◌++◌, refl, ap, ◌∙◌, subst, inl, inr, ⊎_elim, append_assoc, append-nil}
+use Rattle.std.proofs.lemmas.Bool.{or_parts, or_from, or_cases, both_ways}
+use Rattle.std.specs.Prelude.{if◌then◌else◌}
+use Rattle.py_lines.specs.Character.{is_quote, is_r, is_f, is_t}
+use Rattle.py_lines.specs.Piece.{Class, mark, space, word, string, operator, comment, join, line_end, Piece, begins, spelled}
+use Rattle.py_lines.specs.PieceGrammar.{is_prefix, IsNoneOr, InClass, InClassIn, MayPrecede, MayPrecedeIn, AreReadBefore, AreReadIn, Reads, ReadsIn, joined}
+use Rattle.py_lines.specs.Balance.{IsShallow, depth_after}
+use Rattle.py_lines.specs.Lexed.{IsBalancedReading}
+use Rattle.py_lines.specs.FieldStrings.{is_field_prefix, Host, quotes_of, IsFieldString, with_fields, begins_raw, may_have_fields}
+use Rattle.py_lines.specs.Fields.{Fields, fielded, IsShallowWith, ShallowFields, IsFieldReading}
+
+-- what follows some of the text has none either
+later : (a b : List ℕ) → may_have_fields (a ++ b) ≡ false → may_have_fields b ≡ false
+later [] b h = h
+later (c ∷ a) b h = later a b (or_parts _ (may_have_fields (a ++ b)) h).1
+
+one_false : (x y : Bool) → x && (true || y) ≡ false → x ≡ false
+one_false true y h = h
+one_false false y h = refl
+
+two_false : (x y z : Bool) → x && (y || (z && true)) ≡ false → x && z ≡ false
+two_false false y z h = refl
+two_false true true z h = absurd (both_ways _ h refl)
+two_false true false true h = h
+two_false true false false h = refl
+
+pub none_false : (x : Bool) → x && false ≡ false
+none_false true = refl
+none_false false = refl
+
+-- so no prefix of a string with fields stands directly before a quote
+no_field_prefix : (prefix : List ℕ) (q : ℕ) (after : List ℕ) → is_quote q ≡ true → may_have_fields (prefix ++ q ∷ after) ≡ false → is_field_prefix prefix ≡ false
+no_field_prefix [] q after quotes h = refl
+no_field_prefix (a ∷ []) q after quotes h =
+    let first = (or_parts _ (may_have_fields (q ∷ after)) h).0 in
+    one_false (is_f a || is_t a) (begins_raw (q ∷ after)) (subst (λ b. (is_f a || is_t a) && (b || begins_raw (q ∷ after)) ≡ false) quotes first)
+no_field_prefix (a ∷ b ∷ []) q after quotes h =
+    let parts = or_parts _ (may_have_fields (b ∷ q ∷ after)) h in
+    let second = no_field_prefix (b ∷ []) q after quotes parts.1 in
+    or_from _ _
+    (ap (λ x. is_r a && x) second ∙ none_false (is_r a))
+    (two_false (is_f a || is_t a) (is_quote b) (is_r b) (subst (λ x. (is_f a || is_t a) && (is_quote b || (is_r b && x)) ≡ false) quotes parts.0))
+no_field_prefix (a ∷ b ∷ c ∷ cs) q after quotes h = refl
+
+-- a string of these characters begins with no such prefix
+no_field_string : (text prefix body rest : List ℕ) (q : ℕ) → text ≡ prefix ++ q ∷ body → is_quote q ≡ true → may_have_fields (text ++ rest) ≡ false → is_field_prefix prefix ≡ false
+no_field_string text prefix body rest q is quotes h =
+    no_field_prefix prefix q (body ++ rest) quotes (subst (λ t. may_have_fields t ≡ false) (ap (λ t. t ++ rest) is ∙ append_assoc prefix (q ∷ body) rest) h)
+
+pub quotes_begin : (host : Host) → (others : List ℕ) × (quotes_of host ≡ host.quote ∷ others)
+quotes_begin host = go host.is_long
+  where
+    go : (b : Bool) → (others : List ℕ) × ((if b then host.quote ∷ host.quote ∷ host.quote ∷ [] else host.quote ∷ []) ≡ host.quote ∷ others)
+    go true = (host.quote ∷ host.quote ∷ [], refl)
+    go false = ([], refl)
+
+-- a string with fields begins with one
+has_prefix : (F : Host → List ℕ → Type 0) (text rest : List ℕ) → may_have_fields (text ++ rest) ≡ false → ¬ (IsFieldString F text)
+has_prefix F text rest h is =
+    let begin = quotes_begin is.host in
+    let spell : text ≡ is.prefix ++ is.host.quote ∷ (begin.0 ++ (joined is.parts ++ quotes_of is.host)) =
+    is.spell ∙ ap (λ t. is.prefix ++ (t ++ (joined is.parts ++ quotes_of is.host))) begin.1 in
+    both_ways _ (no_field_string text is.prefix _ rest is.host.quote spell is.opens h) is.begun
+
+-- each class
+class_with : (F : Host → List ℕ → Type 0) (class : Class) (text rest : List ℕ) → may_have_fields (text ++ rest) ≡ false → InClass class text → InClassIn (with_fields F) class text
+class_with F mark text rest h is = is
+class_with F space text rest h is = is
+class_with F word text rest h is = is
+class_with F string text rest h (inl short) = inl (inl (short, no_field_string text short.prefix _ rest short.quote short.spell short.opens h))
+class_with F string text rest h (inr long) = inl (inr (long, no_field_string text long.prefix _ rest long.quote long.spell long.opens h))
+class_with F operator text rest h is = is
+class_with F comment text rest h is = is
+class_with F join text rest h is = is
+class_with F line_end text rest h is = is
+
+class_without : (F : Host → List ℕ → Type 0) (class : Class) (text rest : List ℕ) → may_have_fields (text ++ rest) ≡ false → InClassIn (with_fields F) class text → InClass class text
+class_without F mark text rest h is = is
+class_without F space text rest h is = is
+class_without F word text rest h is = is
+class_without F string text rest h (inl (inl short)) = inl short.0
+class_without F string text rest h (inl (inr long)) = inr long.0
+class_without F string text rest h (inr is) = absurd (has_prefix F text rest h is)
+class_without F operator text rest h is = is
+class_without F comment text rest h is = is
+class_without F join text rest h is = is
+class_without F line_end text rest h is = is
+
+-- and what it may precede
+more_false : (x y z : Bool) → x && z ≡ false → (z ≡ true → y ≡ false) → (x || y) && z ≡ false
+more_false x y false h later = none_false (x || y)
+more_false false y true h later = ap (λ b. b && true) (later refl)
+more_false true y true h later = absurd (both_ways _ h refl)
+
+fewer_false : (x y z : Bool) → (x || y) && z ≡ false → x && z ≡ false
+fewer_false false y z h = refl
+fewer_false true y z h = h
+
+word_with : (text rest : List ℕ) → may_have_fields (text ++ rest) ≡ false → is_prefix text && begins is_quote rest ≡ false → (is_prefix text || is_field_prefix text) && begins is_quote rest ≡ false
+word_with text [] h before = none_false (is_prefix text || is_field_prefix text)
+word_with text (q ∷ cs) h before = more_false (is_prefix text) (is_field_prefix text) (is_quote q) before (λ quotes. no_field_prefix text q cs quotes h)
+
+fewer_prefixes : (text rest prefix : List ℕ) (q : ℕ) → may_have_fields (text ++ rest) ≡ false → text ≡ prefix ++ q ∷ q ∷ [] → is_quote q ≡ true → IsNoneOr (λ p. is_prefix p || is_field_prefix p) prefix → IsNoneOr is_prefix prefix
+fewer_prefixes text rest prefix q h is quotes (inl none) = inl none
+fewer_prefixes text rest prefix q h is quotes (inr some) =
+    inr (⊎_elim (λ plain. plain) (λ fielded. absurd (both_ways _ (no_field_string text prefix _ rest q is quotes h) fielded)) (or_cases (is_prefix prefix) (is_field_prefix prefix) some))
+
+more_prefixes : (prefix : List ℕ) → IsNoneOr is_prefix prefix → IsNoneOr (λ p. is_prefix p || is_field_prefix p) prefix
+more_prefixes prefix (inl none) = inl none
+more_prefixes prefix (inr some) = inr (ap (λ b. b || is_field_prefix prefix) some)
+
+precede_with : (F : Host → List ℕ → Type 0) (class : Class) (text rest : List ℕ) → may_have_fields (text ++ rest) ≡ false → MayPrecede class text rest → MayPrecedeIn (with_fields F) class text rest
+precede_with F mark text rest h before = before
+precede_with F space text rest h before = before
+precede_with F word text rest h before = (before.0, word_with text rest h before.1)
+precede_with F string text rest h before = λ prefix q is begun quotes. before prefix q is (fewer_prefixes text rest prefix q h is quotes begun) quotes
+precede_with F operator text rest h before = before
+precede_with F comment text rest h before = before
+precede_with F join text rest h before = before
+precede_with F line_end text rest h before = before
+
+pub precede_without : (F : Host → List ℕ → Type 0) (class : Class) (text rest : List ℕ) → MayPrecedeIn (with_fields F) class text rest → MayPrecede class text rest
+precede_without F mark text rest before = before
+precede_without F space text rest before = before
+precede_without F word text rest before = (before.0, fewer_false (is_prefix text) (is_field_prefix text) (begins is_quote rest) before.1)
+precede_without F string text rest before = λ prefix q is begun quotes. before prefix q is (more_prefixes prefix begun) quotes
+precede_without F operator text rest before = before
+precede_without F comment text rest before = before
+precede_without F join text rest before = before
+precede_without F line_end text rest before = before
+
+-- so all pieces of the text
+read_with : (F : Host → List ℕ → Type 0) (ps : List Piece) (rest : List ℕ) → may_have_fields (spelled ps ++ rest) ≡ false → AreReadBefore ps rest → AreReadIn (with_fields F) ps rest
+read_with F [] rest h fit = tt
+read_with F (p ∷ ps) rest h fit =
+    let here : may_have_fields (p.text ++ (spelled ps ++ rest)) ≡ false = subst (λ t. may_have_fields t ≡ false) (append_assoc p.text (spelled ps) rest) h in
+    (class_with F p.class p.text _ here fit.0, precede_with F p.class p.text _ here fit.1, fit.2, read_with F ps rest (later p.text (spelled ps ++ rest) here) fit.3)
+
+read_without : (F : Host → List ℕ → Type 0) (ps : List Piece) (rest : List ℕ) → may_have_fields (spelled ps ++ rest) ≡ false → AreReadIn (with_fields F) ps rest → AreReadBefore ps rest
+read_without F [] rest h fit = tt
+read_without F (p ∷ ps) rest h fit =
+    let here : may_have_fields (p.text ++ (spelled ps ++ rest)) ≡ false = subst (λ t. may_have_fields t ≡ false) (append_assoc p.text (spelled ps) rest) h in
+    (class_without F p.class p.text _ here fit.0, precede_without F p.class p.text _ fit.1, fit.2, read_without F ps rest (later p.text (spelled ps ++ rest) here) fit.3)
+
+none_after : (pieces : List Piece) (characters : List ℕ) → may_have_fields characters ≡ false → spelled pieces ≡ characters → may_have_fields (spelled pieces ++ []) ≡ false
+none_after pieces characters h is = ap may_have_fields (append-nil (spelled pieces) ∙ is) ∙ h
+
+pub reads_with : (pieces : List Piece) (characters : List ℕ) → may_have_fields characters ≡ false → Reads pieces characters → ReadsIn fielded pieces characters
+reads_with pieces characters h reads = record { spell = reads.spell; fit = read_with Fields pieces [] (none_after pieces characters h reads.spell) reads.fit }
+
+pub reads_without : (pieces : List Piece) (characters : List ℕ) → may_have_fields characters ≡ false → ReadsIn fielded pieces characters → Reads pieces characters
+reads_without pieces characters h reads = record { spell = reads.spell; fit = read_without Fields pieces [] (none_after pieces characters h reads.spell) reads.fit }
+
+-- and their depth: strings without fields are shallow at each
+shallow_with : (Shallow : ℕ → Host → List ℕ → Type 0) (ps : List Piece) (rest : List ℕ) (depth : ℕ) → may_have_fields (spelled ps ++ rest) ≡ false → AreReadBefore ps rest → IsShallow depth ps → IsShallowWith Shallow depth ps
+shallow_with Shallow [] rest depth h fit shallow = tt
+shallow_with Shallow (p ∷ ps) rest depth h fit shallow =
+    let here : may_have_fields (p.text ++ (spelled ps ++ rest)) ≡ false = subst (λ t. may_have_fields t ≡ false) (append_assoc p.text (spelled ps) rest) h in (
+      shallow.0,
+      λ is. class_with (Shallow depth) string p.text _ here (subst (λ c. InClass c p.text) is fit.0),
+      shallow_with Shallow ps rest (depth_after depth p) (later p.text (spelled ps ++ rest) here) fit.3 shallow.1,
+    )
+
+shallow_without : (Shallow : ℕ → Host → List ℕ → Type 0) (ps : List Piece) (depth : ℕ) → IsShallowWith Shallow depth ps → IsShallow depth ps
+shallow_without Shallow [] depth shallow = tt
+shallow_without Shallow (p ∷ ps) depth shallow = (shallow.0, shallow_without Shallow ps (depth_after depth p) shallow.2)
+
+pub balanced_with : (pieces : List Piece) (characters : List ℕ) → may_have_fields characters ≡ false → IsBalancedReading pieces characters → IsFieldReading pieces characters
+balanced_with pieces characters h is =
+    let plain : Reads pieces characters = record { spell = is.spell; fit = is.fit } in
+    record {
+      reads = reads_with pieces characters h plain;
+      balanced = is.balanced;
+      shallow = shallow_with ShallowFields pieces [] 0 (none_after pieces characters h is.spell) is.fit is.shallow;
+    }
+
+pub balanced_without : (pieces : List Piece) (characters : List ℕ) → may_have_fields characters ≡ false → IsFieldReading pieces characters → IsBalancedReading pieces characters
+balanced_without pieces characters h is =
+    let plain = reads_without pieces characters h is.reads in
+    record { spell = plain.spell; fit = plain.fit; balanced = is.balanced; shallow = shallow_without ShallowFields pieces 0 is.shallow }
