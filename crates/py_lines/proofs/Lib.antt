@@ -42,6 +42,9 @@
 -- a line is ready as soon as it is settled.
 --
 -- Strings with fields (proofs/Fields) are read by no code yet: what is proved of them is proved of the definitions alone.
+-- Two readings of a text are compared from left to right. The first pieces are the same: two strings with fields by their
+-- parts, where each part is told by the characters that follow, and all other pieces by the machine. Where a list of pieces
+-- or parts ends, so does the other. Fields are the same if those in them are, so this goes by how many stand one in another.
 --
 -- proofs/Text has characters, the bytes that spell them, and vectors of bytes (Lanes). Files named WorkedRows and
 -- DepthRows are rows worked out by hand, on the definitions alone.

@@ -24,6 +24,11 @@ pub fn one_reading()
     ensures of_text { (pieces others : List Piece) (text : List ℕ) → ReadsText pieces text → ReadsText others text → pieces ≡ others }
 {}
 
+/// A text has at most one reading with fields in strings too, however deep they stand in one another.
+pub fn one_reading_with_fields()
+    ensures { (pieces others : List Piece) (characters : List ℕ) → ReadsIn fielded pieces characters → ReadsIn fielded others characters → pieces ≡ others }
+{}
+
 /// A text is read or has a lexical fault, and its fault is one: of one kind, at one byte.
 pub fn one_fault()
     ensures some { (characters tail : List ℕ) → IsReadOrFaulty characters tail }

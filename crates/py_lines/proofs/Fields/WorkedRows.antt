@@ -1,23 +1,25 @@
 -- Strings with fields: rows worked out by hand, on the definitions.
-use Rattle.std.proofs.Common.{◌≡◌, ◌==◌, ℕ, zero, suc, true, false, List, [], ◌∷◌, refl, inl}
+use Rattle.std.proofs.Common.{◌≡◌, ◌==◌, ℕ, zero, suc, true, false, List, [], ◌∷◌, ◌++◌, refl, sym, ap, ◌∙◌, inl, inr, append-nil}
 use Rattle.std.specs.Prelude.{codes}
+use Rattle.std.proofs.lemmas.Bool.{both_ways}
 use Rattle.unicode_ident.proofs.Computing.{unicode_ident}
 use Rattle.py_lines.specs.Character.{is_space, is_word_character, is_word_start, is_digit, is_quote, is_operator, is_line_feed, is_return, is_break, is_hash, is_backslash, is_barred, is_brace, is_r, is_b, is_f, is_t, is_u}
-use Rattle.py_lines.specs.Piece.{Class, word, string, operator, line_end, Piece}
-use Rattle.py_lines.specs.PieceGrammar.{feed, InClassIn}
+use Rattle.py_lines.specs.Piece.{Class, space, word, string, operator, line_end, Piece}
+use Rattle.py_lines.specs.PieceGrammar.{feed, InClassIn, ReadsIn}
 use Rattle.py_lines.specs.Balance as balance
 use Rattle.py_lines.specs.Balance.{is_opening, is_closing, IsBalanced}
 use Rattle.py_lines.specs.FieldStrings.{Host, bare, slash, escape, name, double, field, IsFieldString, with_fields}
-use Rattle.py_lines.specs.Fields.{simple, specified, FieldsWithin, Fields}
+use Rattle.py_lines.specs.Fields.{simple, specified, FieldsWithin, Fields, fielded}
 use Rattle.py_lines.proofs.Text.CharacterTests.{not_quote}
 use Rattle.py_lines.proofs.Fields.Elsewhere.{none_false}
+use Rattle.py_lines.proofs.Fields.OneReading.{one_fielded_reading}
 
 -- what the rows compute with
-unfoldable tested : Unit {0}
+unfoldable pub tested : Unit {0}
 unfolding unicode_ident is_space is_word_character is_word_start is_digit is_quote is_operator is_line_feed is_return is_break is_hash is_backslash is_barred is_brace is_r is_b is_f is_t is_u is_opening is_closing
 tested = tt
 
-abbrev piece : Class → List ℕ → Piece
+abbrev pub piece : Class → List ℕ → Piece
 piece class text = record { class = class; text = text }
 
 -- each character by itself
@@ -25,7 +27,7 @@ abbrev ones : List ℕ → List (List ℕ)
 ones [] = []
 ones (c ∷ cs) = (c ∷ []) ∷ ones cs
 
-abbrev short : Host
+abbrev pub short : Host
 short = record { quote = 34; is_long = false; is_raw = false }
 
 abbrev single : Host
@@ -358,3 +360,84 @@ quotes_in_specification = record {
   );
   first = refl;
 }
+
+-- a string alone is a reading of its characters
+alone : (text : List ℕ) → InClassIn fielded string text → ReadsIn fielded (piece string text ∷ []) text
+alone text is = record { spell = append-nil text; fit = (is, λ prefix q spell begun quotes. refl, refl, tt) }
+
+-- f"{{" f"}}" : two strings
+two_strings : ReadsIn fielded (piece string (codes "f\"{{\"") ∷ piece space (codes " ") ∷ piece string (codes "f\"}}\"") ∷ []) (codes "f\"{{\" f\"}}\"")
+unfolding tested
+two_strings =
+    let second : IsFieldString Fields (codes "f\"}}\"") = record {
+      prefix = codes "f";
+      host = short;
+      parts = codes "}" ∷ codes "}" ∷ [];
+      spell = refl;
+      begun = refl;
+      raw = refl;
+      opens = refl;
+      each = (bare 125 refl refl refl refl, (bare 125 refl refl refl refl, tt));
+      first = refl;
+    } in
+    record { spell = refl; fit = (inr two_braces, λ prefix q spell begun quotes. not_quote 32 q quotes refl, refl, ((32, [], refl, refl), refl, refl, (inr second, λ prefix q spell begun quotes. refl, refl, tt))) }
+
+-- and not one
+no_string_over_two : ¬ (InClassIn fielded string (codes "f\"{{\" f\"}}\""))
+no_string_over_two is =
+    let same = one_fielded_reading _ _ _ (alone (codes "f\"{{\" f\"}}\"") is) two_strings in
+    absurd (cc)
+
+-- f"{""}" : an empty string in a field
+empty_string_inside : IsFieldString Fields (codes "f\"{\"\"}\"")
+unfolding tested
+empty_string_inside =
+    let inner = piece string (codes "\"\"") in
+    record {
+      prefix = codes "f";
+      host = short;
+      parts = codes "{\"\"}" ∷ [];
+      spell = refl;
+      begun = refl;
+      raw = refl;
+      opens = refl;
+      each = (
+        field (
+          suc zero,
+          simple (inner ∷ []) refl (record {
+            fit = (inl (inl (record { prefix = []; quote = 34; items = []; spell = refl; begun = inl refl; opens = refl; each = refl }, refl)), λ prefix q spell begun quotes. not_quote 125 q quotes refl, refl, tt);
+            unmarked = refl;
+            balanced = balance.one _ inner refl refl;
+            colon = (refl, tt);
+          }) tt,
+        ) (λ h. refl) refl,
+        tt,
+      );
+      first = refl;
+    }
+
+not_empty : (x y : List ℕ) (c : ℕ) → [] ≡ x ++ c ∷ y → ⊥
+not_empty [] y c h = cc
+not_empty (d ∷ x) y c h = cc
+
+-- f"{" : no string, since a quote opens a string in a field
+no_string_with_open_field : ¬ (InClassIn fielded string (codes "f\"{\""))
+unfolding tested
+no_string_with_open_field is =
+    let brace : InClassIn fielded string (codes "\"}\"") = inl (inl (record { prefix = []; quote = 34; items = codes "}" ∷ []; spell = refl; begun = inl refl; opens = refl; each = refl }, refl)) in
+    let two : ReadsIn fielded (piece string (codes "f\"{\"") ∷ piece string (codes "\"}\"") ∷ []) (codes "f\"{\"\"}\"") =
+    record { spell = refl; fit = (is, λ prefix q spell begun quotes. absurd (not_doubled prefix q spell), refl, (brace, λ prefix q spell begun quotes. refl, refl, tt)) } in
+    let same = one_fielded_reading _ _ _ two (alone (codes "f\"{\"\"}\"") (inr empty_string_inside)) in
+    absurd (cc)
+  where
+    not_doubled : (prefix : List ℕ) (q : ℕ) → codes "f\"{\"" ≡ prefix ++ q ∷ q ∷ [] → ⊥
+    not_doubled [] q h = cc
+    not_doubled (a ∷ []) q h = cc
+    not_doubled (a ∷ b ∷ []) q h =
+        let one : 123 ≡ q = cc in
+        let other : 34 ≡ q = cc in
+        both_ways _ refl (ap (λ x. x == 34) (one ∙ sym other))
+    not_doubled (a ∷ b ∷ c ∷ []) q h = cc
+    not_doubled (a ∷ b ∷ c ∷ d ∷ prefix) q h =
+        let none : [] ≡ prefix ++ q ∷ q ∷ [] = cc in
+        not_empty prefix (q ∷ []) q none

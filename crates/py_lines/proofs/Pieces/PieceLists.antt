@@ -1,7 +1,7 @@
 -- Lists of pieces one after another.
 use Rattle.std.proofs.Common.{◌≡◌, ℕ, false, List, [], ◌∷◌, ◌++◌, refl, sym, ap, ◌∙◌, subst, append_assoc, append-nil}
 use Rattle.py_lines.specs.Piece.{Class, Piece, is_mark_class, begins_marked, spelled}
-use Rattle.py_lines.specs.PieceGrammar.{InClass, MayPrecede, AreReadBefore, joined}
+use Rattle.py_lines.specs.PieceGrammar.{Grammar, without_fields, InClass, MayPrecede, AreReadIn, AreReadBefore, joined}
 
 abbrev pub piece : Class → List ℕ → Piece
 piece class text = record { class = class; text = text }
@@ -33,10 +33,13 @@ AreReadBefore-append (p ∷ ps) qs rest first second follows = (
     later [] h = tt
     later (o ∷ os) h = h
 
--- the second part of pieces that are read
+-- the second part of pieces that are read, by any grammar of strings
+pub AreReadIn-second : (grammar : Grammar) (ps qs : List Piece) (rest : List ℕ) → AreReadIn grammar (ps ++ qs) rest → AreReadIn grammar qs rest
+AreReadIn-second grammar [] qs rest fit = fit
+AreReadIn-second grammar (p ∷ ps) qs rest fit = AreReadIn-second grammar ps qs rest fit.3
+
 pub AreReadBefore-second : (ps qs : List Piece) (rest : List ℕ) → AreReadBefore (ps ++ qs) rest → AreReadBefore qs rest
-AreReadBefore-second [] qs rest fit = fit
-AreReadBefore-second (p ∷ ps) qs rest fit = AreReadBefore-second ps qs rest fit.3
+AreReadBefore-second ps qs rest fit = AreReadIn-second without_fields ps qs rest fit
 
 -- one more piece
 pub AreReadBefore-push : (ps : List Piece) (class : Class) (text rest : List ℕ) → AreReadBefore ps (text ++ rest) → InClass class text → MayPrecede class text rest → MayFollow ps (piece class text ∷ []) → AreReadBefore (ps ++ piece class text ∷ []) rest

@@ -1,0 +1,115 @@
+-- Lists of which one begins with the other, and the prefixes of strings before their quotes.
+use Rattle.std.proofs.Common.{◌≡◌, ℕ, Bool, true, false, ◌||◌, ◌&&◌, List, [], ◌∷◌, ◌++◌, refl, sym, ap, ◌∙◌, ⊎_elim, inl, inr}
+use Rattle.std.specs.Prelude.{codes}
+use Rattle.std.specs.List.{list_all, list_any}
+use Rattle.std.proofs.lemmas.Bool.{and_parts, and_from, or_from, or_cases, both_ways, false_from_ne_true}
+use Rattle.py_lines.specs.Character.{is_mark, is_space, is_operator, is_hash, is_backslash, is_line_feed, is_return, is_quote, is_r, is_f, is_t, is_word_start, is_word_character, is_digit}
+use Rattle.py_lines.specs.Piece.{begins}
+use Rattle.py_lines.specs.PieceGrammar.{IsPrefix}
+use Rattle.py_lines.specs.FieldStrings.{is_field_prefix}
+use Rattle.py_lines.proofs.Text.CharacterTests.{each_of, none_of, prefix_word, quote-not-word, quote-not-start}
+use Rattle.unicode_ident.proofs.Computing.{unicode_ident}
+
+-- of two lists, one begins with the other
+pub data Compared (A : Type 0) (xs ys : List A) : Type 0 where
+  same : xs ≡ ys → Compared A xs ys
+  longer : (y : A) (ys' : List A) → xs ≡ ys ++ y ∷ ys' → Compared A xs ys
+  shorter : (x : A) (xs' : List A) → ys ≡ xs ++ x ∷ xs' → Compared A xs ys
+
+pub compared_more : (A : Type 0) (x y : A) (xs ys : List A) → x ≡ y → Compared A xs ys → Compared A (x ∷ xs) (y ∷ ys)
+compared_more A x y xs ys first (same is) = same (cc)
+compared_more A x y xs ys first (longer z zs is) = longer z zs (cc)
+compared_more A x y xs ys first (shorter z zs is) = shorter z zs (cc)
+
+-- the letters of the prefixes of strings with fields are those of words, and no quotes
+letter : (c : ℕ) → is_r c || is_f c || is_t c ≡ true → (is_word_start c ≡ true) × (is_word_character c ≡ true) × (is_quote c ≡ false)
+unfolding unicode_ident is_r is_f is_t is_word_start is_word_character is_digit is_quote
+letter c h =
+    let P : ℕ → Type 0 = λ x. (is_word_start x ≡ true) × (is_word_character x ≡ true) × (is_quote x ≡ false) in
+    let all : P 114 = (refl, refl, refl) in
+    ⊎_elim
+    (λ rf. ⊎_elim (λ r. each_of P (codes "rR") c ((refl, refl, refl), ((refl, refl, refl), tt)) r) (λ f. each_of P (codes "fF") c ((refl, refl, refl), ((refl, refl, refl), tt)) f) (or_cases (is_r c) (is_f c) rf))
+    (λ t. each_of P (codes "tT") c ((refl, refl, refl), ((refl, refl, refl), tt)) t)
+    (or_cases (is_r c || is_f c) (is_t c) h)
+
+-- Booleans
+third_of : (a b c : Bool) → b || c ≡ true → a || b || c ≡ true
+third_of true b c h = refl
+third_of false b c h = h
+
+first_of : (a b c : Bool) → a ≡ true → a || b || c ≡ true
+first_of true b c h = refl
+first_of false b c h = absurd (both_ways _ refl h)
+
+abbrev IsLetter : ℕ → Type 0
+IsLetter c = is_r c || is_f c || is_t c ≡ true
+
+letters : (a b : ℕ) → is_field_prefix (a ∷ b ∷ []) ≡ true → IsLetter a × IsLetter b
+letters a b h =
+    ⊎_elim
+    (λ one. let parts = and_parts _ _ one in (first_of (is_r a) (is_f a) (is_t a) parts.0, third_of (is_r b) (is_f b) (is_t b) parts.1))
+    (λ two. let parts = and_parts _ _ two in (third_of (is_r a) (is_f a) (is_t a) parts.0, first_of (is_r b) (is_f b) (is_t b) parts.1))
+    (or_cases (is_r a && (is_f b || is_t b)) ((is_f a || is_t a) && is_r b) h)
+
+-- a prefix: its first letter begins a word, the others continue it, and none is a quote
+pub record IsLetters (prefix : List ℕ) : Type 0 where
+  pub first : ℕ
+  pub others : List ℕ
+  pub is : prefix ≡ first ∷ others
+  pub is_letter : is_r first || is_f first || is_t first ≡ true
+  pub starts : is_word_start first ≡ true
+  pub all : list_all is_word_character prefix ≡ true
+  pub quotes : list_any is_quote prefix ≡ false
+
+pub field_letters : (prefix : List ℕ) → is_field_prefix prefix ≡ true → IsLetters prefix
+field_letters [] h = absurd (both_ways _ refl h)
+field_letters (a ∷ []) h =
+    let is = third_of (is_r a) (is_f a) (is_t a) h in
+    let one = letter a is in
+    record { first = a; others = []; is = refl; is_letter = is; starts = one.0; all = and_from _ _ one.1 refl; quotes = or_from _ _ one.2 refl }
+field_letters (a ∷ b ∷ []) h =
+    let both = letters a b h in
+    let one = letter a both.0 in
+    let two = letter b both.1 in
+    record { first = a; others = b ∷ []; is = refl; is_letter = both.0; starts = one.0; all = and_from _ _ one.1 (and_from _ _ two.1 refl); quotes = or_from _ _ one.2 (or_from _ _ two.2 refl) }
+field_letters (a ∷ b ∷ c ∷ cs) h = absurd (both_ways _ refl h)
+
+-- nor is one of another prefix
+character_no_quote : (c : ℕ) → is_word_character c ≡ true → is_quote c ≡ false
+character_no_quote c h = false_from_ne_true _ (λ k. both_ways _ (quote-not-word c k) h)
+
+word_quotes : (cs : List ℕ) → list_all is_word_character cs ≡ true → list_any is_quote cs ≡ false
+word_quotes [] h = refl
+word_quotes (c ∷ cs) h =
+    let parts = and_parts _ _ h in
+    or_from _ _ (character_no_quote c parts.0) (word_quotes cs parts.1)
+
+pub plain_quotes : (prefix : List ℕ) → IsPrefix prefix → list_any is_quote prefix ≡ false
+plain_quotes [] h = refl
+plain_quotes (a ∷ bs) (inl none) = absurd (cc)
+plain_quotes (a ∷ bs) (inr is) =
+    let letters = prefix_word a bs is in
+    or_from _ _ (false_from_ne_true _ (λ k. both_ways _ (quote-not-start a k) letters.0)) (word_quotes bs letters.1)
+
+-- what begins the pieces that are neither words nor strings
+abbrev pub begins_other : ℕ → Bool
+begins_other c = is_mark c || is_space c || is_operator c || is_hash c || is_backslash c || is_line_feed c || is_return c
+
+pub letter_no_other : (c : ℕ) → is_r c || is_f c || is_t c ≡ true → begins_other c ≡ false
+unfolding is_r is_f is_t is_mark is_space is_operator is_hash is_backslash is_line_feed is_return
+letter_no_other c h =
+    ⊎_elim
+    (λ rf. ⊎_elim (λ r. none_of begins_other (codes "rR") c refl r) (λ f. none_of begins_other (codes "fF") c refl f) (or_cases (is_r c) (is_f c) rf))
+    (λ t. none_of begins_other (codes "tT") c refl t)
+    (or_cases (is_r c || is_f c) (is_t c) h)
+
+-- two runs that end where they may not go on
+pub same_run : (f : ℕ → Bool) (xs ys r u : List ℕ) → list_all f xs ≡ true → list_all f ys ≡ true → begins f r ≡ false → begins f u ≡ false → xs ++ r ≡ ys ++ u → (xs ≡ ys) × (r ≡ u)
+same_run f [] [] r u one two left right at = (refl, at)
+same_run f [] (y ∷ ys) r u one two left right at = absurd (both_ways _ left (ap (begins f) at ∙ (and_parts _ _ two).0))
+same_run f (x ∷ xs) [] r u one two left right at = absurd (both_ways _ right (ap (begins f) (sym at) ∙ (and_parts _ _ one).0))
+same_run f (x ∷ xs) (y ∷ ys) r u one two left right at =
+    let here : x ≡ y = cc in
+    let others : xs ++ r ≡ ys ++ u = cc in
+    let rest = same_run f xs ys r u (and_parts _ _ one).1 (and_parts _ _ two).1 left right others in
+    (ap (λ c. c ∷ xs) here ∙ ap (λ l. y ∷ l) rest.0, rest.1)
