@@ -8,4 +8,6 @@ pub mod SameStrings
 pub mod PlainPieces
 pub mod SamePieces
 pub mod OneReading
+pub mod Nesting
 pub mod DepthRows
+pub mod WholeTexts

@@ -5,6 +5,8 @@ use Rattle.std.specs.Str.{byte}
 use Rattle.py_lines.specs.Piece.{string, Piece, begins_marked, spelled}
 use Rattle.py_lines.specs.PieceGrammar.{joined, has_triple, Grammar, AreReadIn, ReadsIn}
 use Rattle.py_lines.specs.Balance.{is_operator_that, is_opener, IsBalanced, depth_after}
+use Rattle.py_lines.specs.LogicalLine.{LogicalLine, lines_of}
+use Rattle.py_lines.specs.Lexed.{Decodes}
 use Rattle.py_lines.specs.FieldStrings.{Host, specification, AreParts, named_through, with_fields}
 
 -- whether the piece is `:`
@@ -39,10 +41,14 @@ pub data IsField (grammar : Grammar) (Passes : List Piece → Type 0) (Parts : H
   specified : (inside : List Piece) (parts : List (List ℕ)) → text ≡ byte "{" ∷ spelled inside ++ (byte ":" ∷ joined parts ++ byte "}" ∷ [])
       → AreInside grammar inside (byte ":" ∷ []) → Passes inside → IsSpecification Parts host parts → IsField grammar Passes Parts host text
 
+-- no more condition
+abbrev pub AnyPieces : List Piece → Type 0
+AnyPieces pieces = Unit {0}
+
 -- fields with fewer than `n` fields one in another
 abbrev pub FieldsWithin : ℕ → Host → List ℕ → Type 0
 FieldsWithin zero host text = ⊥
-FieldsWithin (suc n) host text = IsField (with_fields (FieldsWithin n)) (λ pieces. Unit {0}) (FieldsWithin n) host text
+FieldsWithin (suc n) host text = IsField (with_fields (FieldsWithin n)) AnyPieces (FieldsWithin n) host text
 
 -- fields, however many stand one in another
 abbrev pub Fields : Host → List ℕ → Type 0
@@ -81,3 +87,11 @@ pub record IsFieldReading (pieces : List Piece) (characters : List ℕ) : Type 0
   pub reads : ReadsIn fielded pieces characters
   pub balanced : IsBalanced pieces
   pub shallow : IsShallowFielded 0 pieces
+
+-- the text is read whole with fields, and these are its logical lines
+pub record IsFieldLexed (text : List ℕ) (lines : List LogicalLine) : Type 0 where
+  pub characters : List ℕ
+  pub pieces : List Piece
+  pub decodes : Decodes text characters []
+  pub reading : IsFieldReading pieces characters
+  pub cut : lines ≡ lines_of pieces

@@ -6,11 +6,11 @@ pub mod Piece
 pub mod Balance
 pub mod PieceGrammar
 pub mod FieldStrings
-pub mod Fields
 pub mod LogicalLine
 pub mod Reading
 pub mod Faults
 pub mod Lexed
+pub mod Fields
 pub mod Neighbours
 pub mod Words
 pub mod Settled

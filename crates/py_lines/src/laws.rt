@@ -1,14 +1,12 @@
 //! Laws of the definitions, which the checker proves as contracts of functions that do nothing.
 
-ghost use Rattle.std.specs.Prelude.{◌≡◌, ℕ, false, Option, Some, List, [], ◌++◌, map, take};
+ghost use Rattle.std.specs.Prelude.{◌≡◌, ℕ, ◌+◌, ◌<◌, false, Option, None, Some, List, [], ◌++◌, map, take};
 ghost use Rattle.py_lines.specs.Piece.{Piece, spelled};
 ghost use Rattle.py_lines.specs.PieceGrammar.{AreReadBefore, Reads, ReadsIn, ReadsText};
-ghost use Rattle.py_lines.specs.FieldStrings.{may_have_fields};
-ghost use Rattle.py_lines.specs.Fields.{fielded, IsFieldReading};
+ghost use Rattle.py_lines.specs.FieldStrings.{Host, may_have_fields};
+ghost use Rattle.py_lines.specs.Fields.{IsField, AnyPieces, Fields, fielded, IsShallowFielded, ShallowFields, IsFieldReading, IsFieldLexed};
 ghost use Rattle.py_lines.specs.LogicalLine.{LogicalLine, cut, line_of};
-ghost use Rattle.py_lines.specs.Reading.{IsBalancedReading, EndsLine};
-ghost use Rattle.py_lines.specs.Faults.{IsFaultAt, IsReadOrFaulty};
-ghost use Rattle.py_lines.specs.Lexed.{IsLexed, BeginsLexing};
+ghost use Rattle.py_lines.specs.Lexed.{Decodes, IsBalancedReading, EndsLine, IsFaultAt, IsReadOrFaulty, IsLexed, BeginsLexing};
 ghost use Rattle.py_lines.specs.Neighbours.{AreSimple, MayTouch, MayFollowLines};
 ghost use Rattle.py_lines.specs.Words.{word_in, words_of, extent_of};
 ghost use Rattle.py_lines.specs.Reader.{Reader, HasGiven};
@@ -24,9 +22,21 @@ pub fn one_reading()
     ensures of_text { (pieces others : List Piece) (text : List ℕ) → ReadsText pieces text → ReadsText others text → pieces ≡ others }
 {}
 
-/// A text has at most one reading with fields in strings too, however deep they stand in one another.
+/// A text has at most one reading with fields in strings too, however deep they stand in one another. So it has at most one
+/// list of logical lines.
 pub fn one_reading_with_fields()
-    ensures { (pieces others : List Piece) (characters : List ℕ) → ReadsIn fielded pieces characters → ReadsIn fielded others characters → pieces ≡ others }
+    ensures of_characters { (pieces others : List Piece) (characters : List ℕ) → ReadsIn fielded pieces characters → ReadsIn fielded others characters → pieces ≡ others }
+    ensures of_lines { (text : List ℕ) (lines others : List LogicalLine) → IsFieldLexed text lines → IsFieldLexed text others → lines ≡ others }
+{}
+
+/// Fields are defined by how many of them stand one in another, and this says no less than the plain words: a field holds
+/// pieces whose strings hold fields, and its specification does. So it is with those of which none opens too deep, where the
+/// string stands at this depth.
+pub fn fields_hold_fields()
+    ensures whole { (host : Host) (text : List ℕ) → IsField fielded AnyPieces Fields host text → Fields host text }
+    ensures parts { (host : Host) (text : List ℕ) → Fields host text → IsField fielded AnyPieces Fields host text }
+    ensures shallow_whole { (depth : ℕ) (host : Host) (text : List ℕ) → depth < 200 → IsField fielded (IsShallowFielded (depth + 1)) (ShallowFields (depth + 1)) host text → ShallowFields depth host text }
+    ensures shallow_parts { (depth : ℕ) (host : Host) (text : List ℕ) → ShallowFields depth host text → (depth < 200) × IsField fielded (IsShallowFielded (depth + 1)) (ShallowFields (depth + 1)) host text }
 {}
 
 /// A text is read or has a lexical fault, and its fault is one: of one kind, at one byte.
@@ -67,12 +77,14 @@ pub fn settled_is_final()
 {}
 
 /// A text in which neither `f` nor `t`, alone or followed by `r`, stands directly before a quote is read by the same pieces
-/// whether strings hold fields or not, and these are as deep.
+/// whether strings hold fields or not, and these are as deep. So it has the same logical lines.
 pub fn fields_change_nothing_elsewhere()
     ensures read_with { (pieces : List Piece) (characters : List ℕ) → may_have_fields characters ≡ false → Reads pieces characters → ReadsIn fielded pieces characters }
     ensures read_without { (pieces : List Piece) (characters : List ℕ) → may_have_fields characters ≡ false → ReadsIn fielded pieces characters → Reads pieces characters }
     ensures balanced_with { (pieces : List Piece) (characters : List ℕ) → may_have_fields characters ≡ false → IsBalancedReading pieces characters → IsFieldReading pieces characters }
     ensures balanced_without { (pieces : List Piece) (characters : List ℕ) → may_have_fields characters ≡ false → IsFieldReading pieces characters → IsBalancedReading pieces characters }
+    ensures lines_with { (text characters : List ℕ) (lines : List LogicalLine) → Decodes text characters [] → may_have_fields characters ≡ false → IsLexed text lines None → IsFieldLexed text lines }
+    ensures lines_without { (text characters : List ℕ) (lines : List LogicalLine) → Decodes text characters [] → may_have_fields characters ≡ false → IsFieldLexed text lines → IsLexed text lines None }
 {}
 
 /// Pieces other than marks and strings are read where each may touch the next.

@@ -1,4 +1,5 @@
 use Rattle.py_lines.proofs.Fields.Elsewhere.{reads_with, reads_without, balanced_with, balanced_without}
+use Rattle.py_lines.proofs.Fields.WholeTexts.{lexed_with, lexed_without}
 use Rattle.py_lines.proofs.laws.fields_change_nothing_elsewhere.Goals as goal
 
 pub returns-clause-read_with : goal.returns-clause-read_with
@@ -12,3 +13,9 @@ returns-clause-balanced_with c = balanced_with
 
 pub returns-clause-balanced_without : goal.returns-clause-balanced_without
 returns-clause-balanced_without c = balanced_without
+
+pub returns-clause-lines_with : goal.returns-clause-lines_with
+returns-clause-lines_with c = lexed_with
+
+pub returns-clause-lines_without : goal.returns-clause-lines_without
+returns-clause-lines_without c = lexed_without

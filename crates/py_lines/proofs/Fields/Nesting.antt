@@ -1,0 +1,219 @@
+-- A field whose own fields are fields is one: what holds of some number of them, one in another, holds of more.
+use Rattle.std.proofs.Common.{◌≡◌, ℕ, zero, suc, ◌+◌, ◌<◌, ◌≤◌, Bool, List, [], ◌∷◌, ◌++◌, refl, inl, inr, arith}
+use Rattle.py_lines.specs.Piece.{Class, mark, space, word, string, operator, comment, join, line_end, Piece}
+use Rattle.py_lines.specs.PieceGrammar.{joined, InClassIn, MayPrecedeIn, AreReadIn}
+use Rattle.py_lines.specs.Balance.{depth_after}
+use Rattle.py_lines.specs.FieldStrings.{Host, Place, IsPart, bare, slash, escape, escaped_end, name, double, field, named_after, AreParts, with_fields}
+use Rattle.py_lines.specs.Fields.{AreInside, IsSpecification, IsField, simple, specified, FieldsWithin, Fields, fielded, IsShallowWith, ShallowWithin, ShallowFields, IsShallowFielded, AnyPieces}
+
+-- more fields than others: what is made of these is made of those
+abbrev Within : (Host → List ℕ → Type 0) → (Host → List ℕ → Type 0) → Type 0
+Within F G = (host : Host) (text : List ℕ) → F host text → G host text
+
+part_map : (F G : Host → List ℕ → Type 0) → Within F G → (host : Host) (place : Place) (named : Bool) (part rest : List ℕ) → IsPart F host place named part rest → IsPart G host place named part rest
+part_map F G f host place named part rest (bare c a b d e) = bare c a b d e
+part_map F G f host place named part rest (slash s a b d) = slash s a b d
+part_map F G f host place named part rest (escape s c a b d e g h) = escape s c a b d e g h
+part_map F G f host place named part rest (escaped_end s r c a b d e g) = escaped_end s r c a b d e g
+part_map F G f host place named part rest (name s c d a b e g) = name s c d a b e g
+part_map F G f host place named part rest (double c d a b e g h) = double c d a b e g h
+part_map F G f host place named part rest (field is a b) = field (f host part is) a b
+
+parts_map : (F G : Host → List ℕ → Type 0) → Within F G → (host : Host) (place : Place) (named : Bool) (parts : List (List ℕ)) (rest : List ℕ) → AreParts F host place named parts rest → AreParts G host place named parts rest
+parts_map F G f host place named [] rest each = tt
+parts_map F G f host place named (p ∷ ps) rest each = (part_map F G f host place named p _ each.0, parts_map F G f host place (named_after named p) ps rest each.1)
+
+string_map : (F G : Host → List ℕ → Type 0) → Within F G → (text : List ℕ) → InClassIn (with_fields F) string text → InClassIn (with_fields G) string text
+string_map F G f text (inl plain) = inl plain
+string_map F G f text (inr is) = inr (record { prefix = is.prefix; host = is.host; parts = is.parts; spell = is.spell; begun = is.begun; raw = is.raw; opens = is.opens; each = parts_map F G f is.host _ _ is.parts _ is.each; first = is.first })
+
+class_map : (F G : Host → List ℕ → Type 0) → Within F G → (class : Class) (text : List ℕ) → InClassIn (with_fields F) class text → InClassIn (with_fields G) class text
+class_map F G f mark text is = is
+class_map F G f space text is = is
+class_map F G f word text is = is
+class_map F G f string text is = string_map F G f text is
+class_map F G f operator text is = is
+class_map F G f comment text is = is
+class_map F G f join text is = is
+class_map F G f line_end text is = is
+
+-- what a piece may stand before doesn't depend on fields
+precede_map : (F G : Host → List ℕ → Type 0) (class : Class) (text rest : List ℕ) → MayPrecedeIn (with_fields F) class text rest → MayPrecedeIn (with_fields G) class text rest
+precede_map F G mark text rest before = before
+precede_map F G space text rest before = before
+precede_map F G word text rest before = before
+precede_map F G string text rest before = before
+precede_map F G operator text rest before = before
+precede_map F G comment text rest before = before
+precede_map F G join text rest before = before
+precede_map F G line_end text rest before = before
+
+read_map : (F G : Host → List ℕ → Type 0) → Within F G → (ps : List Piece) (rest : List ℕ) → AreReadIn (with_fields F) ps rest → AreReadIn (with_fields G) ps rest
+read_map F G f [] rest fit = tt
+read_map F G f (p ∷ ps) rest fit = (class_map F G f p.class p.text fit.0, precede_map F G p.class p.text _ fit.1, fit.2, read_map F G f ps rest fit.3)
+
+inside_map : (F G : Host → List ℕ → Type 0) → Within F G → (ps : List Piece) (rest : List ℕ) → AreInside (with_fields F) ps rest → AreInside (with_fields G) ps rest
+inside_map F G f ps rest is = record { fit = read_map F G f ps rest is.fit; unmarked = is.unmarked; balanced = is.balanced; colon = is.colon }
+
+specification_map : (F G : Host → List ℕ → Type 0) → Within F G → (host : Host) (parts : List (List ℕ)) → IsSpecification F host parts → IsSpecification G host parts
+specification_map F G f host parts is = record { each = parts_map F G f host _ _ parts _ is.each; ended = is.ended; open_yet = is.open_yet }
+
+-- a field, by its pieces, what they meet, and its specification
+field_map : (F G D E : Host → List ℕ → Type 0) (P Q : List Piece → Type 0) → Within F G → Within D E → ((ps : List Piece) → P ps → Q ps) → (host : Host) (text : List ℕ) → IsField (with_fields F) P D host text → IsField (with_fields G) Q E host text
+field_map F G D E P Q f g h host text (simple inside spell is passes) = simple inside spell (inside_map F G f inside _ is) (h inside passes)
+field_map F G D E P Q f g h host text (specified inside parts spell is passes own) = specified inside parts spell (inside_map F G f inside _ is) (h inside passes) (specification_map D E g host parts own)
+
+within_more : (n m : ℕ) → n ≤ m → Within (FieldsWithin n) (FieldsWithin m)
+within_more zero m le host text is = absurd is
+within_more (suc n) zero le host text is = absurd (omega arith)
+within_more (suc n) (suc m) le host text is =
+    let f : Within (FieldsWithin n) (FieldsWithin m) = within_more n m (omega arith) in
+    field_map (FieldsWithin n) (FieldsWithin m) (FieldsWithin n) (FieldsWithin m) _ _ f f (λ ps passes. passes) host text is
+
+-- fields of one number, of two, each no more than the sum
+module _ (W : ℕ → Host → List ℕ → Type 0) (more : (n m : ℕ) → n ≤ m → Within (W n) (W m)) where
+  abbrev Some : Host → List ℕ → Type 0
+  Some host text = (n : ℕ) × W n host text
+
+  left : (n m : ℕ) → Within (W n) (W (n + m))
+  left n m = more n (n + m) (omega arith)
+
+  right : (n m : ℕ) → Within (W m) (W (n + m))
+  right n m = more m (n + m) (omega arith)
+
+  part_within : (host : Host) (place : Place) (named : Bool) (part rest : List ℕ) → IsPart Some host place named part rest → (n : ℕ) × IsPart (W n) host place named part rest
+  part_within host place named part rest (bare c a b d e) = (zero, bare c a b d e)
+  part_within host place named part rest (slash s a b d) = (zero, slash s a b d)
+  part_within host place named part rest (escape s c a b d e g h) = (zero, escape s c a b d e g h)
+  part_within host place named part rest (escaped_end s r c a b d e g) = (zero, escaped_end s r c a b d e g)
+  part_within host place named part rest (name s c d a b e g) = (zero, name s c d a b e g)
+  part_within host place named part rest (double c d a b e g h) = (zero, double c d a b e g h)
+  part_within host place named part rest (field is a b) = (is.0, field is.1 a b)
+
+  parts_within : (host : Host) (place : Place) (named : Bool) (parts : List (List ℕ)) (rest : List ℕ) → AreParts Some host place named parts rest → (n : ℕ) × AreParts (W n) host place named parts rest
+  parts_within host place named [] rest each = (zero, tt)
+  parts_within host place named (p ∷ ps) rest each =
+      let first = part_within host place named p (joined ps ++ rest) each.0 in
+      let others = parts_within host place (named_after named p) ps rest each.1 in
+      let n = first.0 in
+      let m = others.0 in
+      (n + m, (part_map (W n) (W (n + m)) (left n m) host place named p _ first.1, parts_map (W m) (W (n + m)) (right n m) host place _ ps rest others.1))
+
+  pub string_within : (text : List ℕ) → InClassIn (with_fields Some) string text → (n : ℕ) × InClassIn (with_fields (W n)) string text
+  string_within text (inl plain) = (zero, inl plain)
+  string_within text (inr is) =
+      let each = parts_within is.host _ _ is.parts _ is.each in
+      (each.0, inr (record { prefix = is.prefix; host = is.host; parts = is.parts; spell = is.spell; begun = is.begun; raw = is.raw; opens = is.opens; each = each.1; first = is.first }))
+
+  class_within : (class : Class) (text : List ℕ) → InClassIn (with_fields Some) class text → (n : ℕ) × InClassIn (with_fields (W n)) class text
+  class_within mark text is = (zero, is)
+  class_within space text is = (zero, is)
+  class_within word text is = (zero, is)
+  class_within string text is = string_within text is
+  class_within operator text is = (zero, is)
+  class_within comment text is = (zero, is)
+  class_within join text is = (zero, is)
+  class_within line_end text is = (zero, is)
+
+  read_within : (ps : List Piece) (rest : List ℕ) → AreReadIn (with_fields Some) ps rest → (n : ℕ) × AreReadIn (with_fields (W n)) ps rest
+  read_within [] rest fit = (zero, tt)
+  read_within (p ∷ ps) rest fit =
+      let first = class_within p.class p.text fit.0 in
+      let others = read_within ps rest fit.3 in
+      let n = first.0 in
+      let m = others.0 in
+      (n + m, (class_map (W n) (W (n + m)) (left n m) p.class p.text first.1, precede_map Some (W (n + m)) p.class p.text _ fit.1, fit.2, read_map (W m) (W (n + m)) (right n m) ps rest others.1))
+
+  pub inside_within : (ps : List Piece) (rest : List ℕ) → AreInside (with_fields Some) ps rest → (n : ℕ) × AreInside (with_fields (W n)) ps rest
+  inside_within ps rest is =
+      let fit = read_within ps rest is.fit in
+      (fit.0, record { fit = fit.1; unmarked = is.unmarked; balanced = is.balanced; colon = is.colon })
+
+  pub specification_within : (host : Host) (parts : List (List ℕ)) → IsSpecification Some host parts → (n : ℕ) × IsSpecification (W n) host parts
+  specification_within host parts is =
+      let each = parts_within host _ _ parts _ is.each in
+      (each.0, record { each = each.1; ended = is.ended; open_yet = is.open_yet })
+
+-- so a field of strings whose fields are fields is one
+pub field_is : (host : Host) (text : List ℕ) → IsField fielded AnyPieces Fields host text → Fields host text
+field_is host text (simple inside spell is passes) =
+    let own = inside_within FieldsWithin within_more inside _ is in
+    (suc own.0, simple inside spell own.1 passes)
+field_is host text (specified inside parts spell is passes specification) =
+    let own = inside_within FieldsWithin within_more inside _ is in
+    let later = specification_within FieldsWithin within_more host parts specification in
+    let n = own.0 in
+    let m = later.0 in (
+      suc (n + m),
+      specified inside parts spell (inside_map (FieldsWithin n) (FieldsWithin (n + m)) (within_more n (n + m) (omega arith)) inside _ own.1) passes
+          (specification_map (FieldsWithin m) (FieldsWithin (n + m)) (within_more m (n + m) (omega arith)) host parts later.1),
+    )
+
+-- and each field is such a one
+pub field_of : (host : Host) (text : List ℕ) → Fields host text → IsField fielded AnyPieces Fields host text
+field_of host text (zero, is) = absurd is
+field_of host text (suc n, is) =
+    let f : Within (FieldsWithin n) Fields = λ h t one. (n, one) in
+    field_map (FieldsWithin n) Fields (FieldsWithin n) Fields _ _ f f (λ ps passes. passes) host text is
+
+-- the same at each depth
+shallow_map : (A B : ℕ → Host → List ℕ → Type 0) → ((depth : ℕ) → Within (A depth) (B depth)) → (depth : ℕ) (ps : List Piece) → IsShallowWith A depth ps → IsShallowWith B depth ps
+shallow_map A B f depth [] shallow = tt
+shallow_map A B f depth (p ∷ ps) shallow = (shallow.0, λ is. string_map (A depth) (B depth) (f depth) p.text (shallow.1 is), shallow_map A B f (depth_after depth p) ps shallow.2)
+
+shallow_more : (n m : ℕ) → n ≤ m → (depth : ℕ) → Within (ShallowWithin n depth) (ShallowWithin m depth)
+shallow_more zero m le depth host text is = absurd is
+shallow_more (suc n) zero le depth host text is = absurd (omega arith)
+shallow_more (suc n) (suc m) le depth host text is =
+    let f : (d : ℕ) → Within (ShallowWithin n d) (ShallowWithin m d) = shallow_more n m (omega arith) in
+    (is.0, field_map Fields Fields (ShallowWithin n (depth + 1)) (ShallowWithin m (depth + 1)) _ _ (λ h t one. one) (f (depth + 1)) (shallow_map (ShallowWithin n) (ShallowWithin m) f (depth + 1)) host text is.1)
+
+shallow_within : (depth : ℕ) (ps : List Piece) → IsShallowFielded depth ps → (n : ℕ) × IsShallowWith (ShallowWithin n) depth ps
+shallow_within depth [] shallow = (zero, tt)
+shallow_within depth (p ∷ ps) shallow =
+    let first = at p.class shallow.1 in
+    let others = shallow_within (depth_after depth p) ps shallow.2 in
+    let n = first.0 in
+    let m = others.0 in (
+      n + m,
+      (
+        shallow.0,
+        λ is. string_map (ShallowWithin n depth) (ShallowWithin (n + m) depth) (shallow_more n (n + m) (omega arith) depth) p.text (first.1 is),
+        shallow_map (ShallowWithin m) (ShallowWithin (n + m)) (shallow_more m (n + m) (omega arith)) (depth_after depth p) ps others.1,
+      ),
+    )
+  where
+    at : (class : Class) → (class ≡ string → InClassIn (with_fields (ShallowFields depth)) string p.text) → (n : ℕ) × (class ≡ string → InClassIn (with_fields (ShallowWithin n depth)) string p.text)
+    at string h =
+        let own = string_within (λ n. ShallowWithin n depth) (λ n m le. shallow_more n m le depth) p.text (h refl) in
+        (own.0, λ is. own.1)
+    at mark h = (zero, λ is. absurd (cc))
+    at space h = (zero, λ is. absurd (cc))
+    at word h = (zero, λ is. absurd (cc))
+    at operator h = (zero, λ is. absurd (cc))
+    at comment h = (zero, λ is. absurd (cc))
+    at join h = (zero, λ is. absurd (cc))
+    at line_end h = (zero, λ is. absurd (cc))
+
+pub shallow_is : (depth : ℕ) (host : Host) (text : List ℕ) → depth < 200 → IsField fielded (IsShallowFielded (depth + 1)) (ShallowFields (depth + 1)) host text → ShallowFields depth host text
+shallow_is depth host text room (simple inside spell is passes) =
+    let own = shallow_within (depth + 1) inside passes in
+    (suc own.0, (room, simple inside spell is own.1))
+shallow_is depth host text room (specified inside parts spell is passes specification) =
+    let own = shallow_within (depth + 1) inside passes in
+    let later = specification_within (λ n. ShallowWithin n (depth + 1)) (λ n m le. shallow_more n m le (depth + 1)) host parts specification in
+    let n = own.0 in
+    let m = later.0 in (
+      suc (n + m),
+      (
+        room,
+        specified inside parts spell is (shallow_map (ShallowWithin n) (ShallowWithin (n + m)) (shallow_more n (n + m) (omega arith)) (depth + 1) inside own.1)
+            (specification_map (ShallowWithin m (depth + 1)) (ShallowWithin (n + m) (depth + 1)) (shallow_more m (n + m) (omega arith) (depth + 1)) host parts later.1),
+      ),
+    )
+
+pub shallow_of : (depth : ℕ) (host : Host) (text : List ℕ) → ShallowFields depth host text → (depth < 200) × IsField fielded (IsShallowFielded (depth + 1)) (ShallowFields (depth + 1)) host text
+shallow_of depth host text (zero, is) = absurd is
+shallow_of depth host text (suc n, is) =
+    let f : (d : ℕ) → Within (ShallowWithin n d) (ShallowFields d) = λ d h t one. (n, one) in
+    (is.0, field_map Fields Fields (ShallowWithin n (depth + 1)) (ShallowFields (depth + 1)) _ _ (λ h t one. one) (f (depth + 1)) (shallow_map (ShallowWithin n) ShallowFields f (depth + 1)) host text is.1)
