@@ -45,6 +45,7 @@
 -- Two readings of a text are compared from left to right. The first pieces are the same: two strings with fields by their
 -- parts, where each part is told by the characters that follow, and all other pieces by the machine. Where a list of pieces
 -- or parts ends, so does the other. Fields are the same if those in them are, so this goes by how many stand one in another.
+-- What is open in a text with fields (proofs/OpenFields) is defined, and shown by rows alone.
 --
 -- proofs/Text has characters, the bytes that spell them, and vectors of bytes (Lanes). Files named WorkedRows and
 -- DepthRows are rows worked out by hand, on the definitions alone.
@@ -52,6 +53,7 @@ pub mod Text
 pub mod Pieces
 pub mod Neighbours
 pub mod Fields
+pub mod OpenFields
 pub mod Machine
 pub mod Faults
 pub mod LogicalLines

@@ -11,6 +11,7 @@ pub mod Reading
 pub mod Faults
 pub mod Lexed
 pub mod Fields
+pub mod OpenFields
 pub mod Neighbours
 pub mod Words
 pub mod Settled
