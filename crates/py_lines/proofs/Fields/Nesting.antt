@@ -7,7 +7,7 @@ use Rattle.py_lines.specs.FieldStrings.{Host, Place, IsPart, bare, slash, escape
 use Rattle.py_lines.specs.Fields.{AreInside, IsSpecification, IsField, simple, specified, FieldsWithin, Fields, fielded, IsShallowWith, ShallowWithin, ShallowFields, IsShallowFielded, AnyPieces}
 
 -- more fields than others: what is made of these is made of those
-abbrev Within : (Host → List ℕ → Type 0) → (Host → List ℕ → Type 0) → Type 0
+abbrev pub Within : (Host → List ℕ → Type 0) → (Host → List ℕ → Type 0) → Type 0
 Within F G = (host : Host) (text : List ℕ) → F host text → G host text
 
 part_map : (F G : Host → List ℕ → Type 0) → Within F G → (host : Host) (place : Place) (named : Bool) (part rest : List ℕ) → IsPart F host place named part rest → IsPart G host place named part rest
@@ -23,7 +23,7 @@ parts_map : (F G : Host → List ℕ → Type 0) → Within F G → (host : Host
 parts_map F G f host place named [] rest each = tt
 parts_map F G f host place named (p ∷ ps) rest each = (part_map F G f host place named p _ each.0, parts_map F G f host place (named_after named p) ps rest each.1)
 
-string_map : (F G : Host → List ℕ → Type 0) → Within F G → (text : List ℕ) → InClassIn (with_fields F) string text → InClassIn (with_fields G) string text
+pub string_map : (F G : Host → List ℕ → Type 0) → Within F G → (text : List ℕ) → InClassIn (with_fields F) string text → InClassIn (with_fields G) string text
 string_map F G f text (inl plain) = inl plain
 string_map F G f text (inr is) = inr (record { prefix = is.prefix; host = is.host; parts = is.parts; spell = is.spell; begun = is.begun; raw = is.raw; opens = is.opens; each = parts_map F G f is.host _ _ is.parts _ is.each; first = is.first })
 
@@ -59,7 +59,7 @@ specification_map : (F G : Host → List ℕ → Type 0) → Within F G → (hos
 specification_map F G f host parts is = record { each = parts_map F G f host _ _ parts _ is.each; ended = is.ended; open_yet = is.open_yet }
 
 -- a field, by its pieces, what they meet, and its specification
-field_map : (F G D E : Host → List ℕ → Type 0) (P Q : List Piece → Type 0) → Within F G → Within D E → ((ps : List Piece) → P ps → Q ps) → (host : Host) (text : List ℕ) → IsField (with_fields F) P D host text → IsField (with_fields G) Q E host text
+pub field_map : (F G D E : Host → List ℕ → Type 0) (P Q : List Piece → Type 0) → Within F G → Within D E → ((ps : List Piece) → P ps → Q ps) → (host : Host) (text : List ℕ) → IsField (with_fields F) P D host text → IsField (with_fields G) Q E host text
 field_map F G D E P Q f g h host text (simple inside spell is passes) = simple inside spell (inside_map F G f inside _ is) (h inside passes)
 field_map F G D E P Q f g h host text (specified inside parts spell is passes own) = specified inside parts spell (inside_map F G f inside _ is) (h inside passes) (specification_map D E g host parts own)
 

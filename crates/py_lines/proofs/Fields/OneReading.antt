@@ -88,7 +88,7 @@ read_before grammar [] c r s fit = tt
 read_before grammar (p ∷ ps) c r s fit = (fit.0, precede_before grammar p.class p.text (spelled ps) c r s fit.1, fit.2, read_before grammar ps c r s fit.3)
 
 -- `}` or `:`, which ends the pieces in a field
-abbrev IsEnd : ℕ → Type 0
+abbrev pub IsEnd : ℕ → Type 0
 IsEnd c = (c ≡ 125) ⊎ (c ≡ 58)
 
 end_operator : (c : ℕ) → IsEnd c → is_operator c ≡ true
@@ -130,7 +130,7 @@ agree_back : (F G : Host → List ℕ → Type 0) → Agree F G → Agree G F
 agree_back F G agree host s t r u one two at = sym (agree host t s u r two one (sym at))
 
 -- the pieces in a field, and what follows
-same_inside : (F G : Host → List ℕ → Type 0) → BeginOpen F → BeginOpen G → Agree F G → (ps qs : List Piece) (a b : ℕ) (r u : List ℕ) → IsEnd a → IsEnd b → AreInside (with_fields F) ps (a ∷ []) → AreInside (with_fields G) qs (b ∷ []) → spelled ps ++ a ∷ r ≡ spelled qs ++ b ∷ u → (ps ≡ qs) × (a ∷ r ≡ b ∷ u)
+pub same_inside : (F G : Host → List ℕ → Type 0) → BeginOpen F → BeginOpen G → Agree F G → (ps qs : List Piece) (a b : ℕ) (r u : List ℕ) → IsEnd a → IsEnd b → AreInside (with_fields F) ps (a ∷ []) → AreInside (with_fields G) qs (b ∷ []) → spelled ps ++ a ∷ r ≡ spelled qs ++ b ∷ u → (ps ≡ qs) × (a ∷ r ≡ b ∷ u)
 same_inside F G begin_f begin_g agree ps qs a b r u end_a end_b one two at =
     let is = go (compare_pieces F G begin_f begin_g agree ps qs (a ∷ r) (b ∷ u) (read_before (with_fields F) ps a [] r one.fit) (read_before (with_fields G) qs b [] u two.fit) at) in
     (is, append_cancel_left (spelled ps) _ _ (at ∙ ap (λ (l : List Piece). spelled l ++ b ∷ u) (sym is)))
@@ -155,13 +155,13 @@ specified_text inside parts text rest is =
     ap (λ t. t ++ rest) is ∙ ap (λ t. 123 ∷ t) (append_assoc (spelled inside) (58 ∷ (joined parts ++ 125 ∷ [])) rest)
     ∙ ap (λ t. 123 ∷ (spelled inside ++ 58 ∷ t)) (append_assoc (joined parts) (125 ∷ []) rest)
 
-brace : IsEnd 125
+pub brace : IsEnd 125
 brace = inl refl
 
-colon : IsEnd 58
+pub colon : IsEnd 58
 colon = inr refl
 
-no_colon : (r u : List ℕ) → 125 ∷ r ≡ 58 ∷ u → ⊥
+pub no_colon : (r u : List ℕ) → 125 ∷ r ≡ 58 ∷ u → ⊥
 no_colon r u h =
     let heads : 125 ≡ 58 = ap first_or_zero h in
     both_ways _ refl (ap (λ x. x == 125) (sym heads))
@@ -208,10 +208,10 @@ within_agree zero m host s t r u one two at = absurd one
 within_agree (suc n) zero host s t r u one two at = absurd two
 within_agree (suc n) (suc m) host s t r u one two at = same_field (FieldsWithin n) (FieldsWithin m) _ _ (within_begin n) (within_begin m) (within_agree n m) host s t r u one two at
 
-fields_begin : BeginOpen Fields
+pub fields_begin : BeginOpen Fields
 fields_begin host text (n, is) = within_begin n host text is
 
-fields_agree : Agree Fields Fields
+pub fields_agree : Agree Fields Fields
 fields_agree host s t r u (n, one) (m, two) at = within_agree n m host s t r u one two at
 
 -- no piece is empty

@@ -71,7 +71,7 @@ word_cut t u prefix q x all ends before is letters quotes at =
 
 module _ (F G : Host → List ℕ → Type 0) where
   -- what begins where a string with fields does is one
-  fielded_alone : (class : Class) (s t r u : List ℕ) → IsFieldString F s → InClassIn (with_fields G) class t → MayPrecedeIn (with_fields G) class t u → s ++ r ≡ t ++ u → (class ≡ string) × IsFieldString G t
+  pub fielded_alone : (class : Class) (s t r u : List ℕ) → IsFieldString F s → InClassIn (with_fields G) class t → MayPrecedeIn (with_fields G) class t u → s ++ r ≡ t ++ u → (class ≡ string) × IsFieldString G t
   fielded_alone class s t r u is other before at = go class other before
     where
       q : ℕ

@@ -107,9 +107,16 @@ not_empty F text rest is before none short =
     ∙ ap (λ b. is.prefix ++ (quotes_of (host_of host.quote b host.is_raw) ++ quotes_of (host_of host.quote b host.is_raw))) short in
     before is.prefix host.quote spell (inr (or_right (is_prefix is.prefix) (is_field_prefix is.prefix) is.begun)) is.opens
 
+-- what two strings with fields have in common
+pub record AreAlike {F G : Host → List ℕ → Type 0} {s t : List ℕ} (one : IsFieldString F s) (two : IsFieldString G t) : Type 0 where
+  pub prefix : one.prefix ≡ two.prefix
+  pub quote : one.host.quote ≡ two.host.quote
+  pub long : one.host.is_long ≡ two.host.is_long
+  pub parts : one.parts ≡ two.parts
+
 -- two strings with fields
-pub same_field_string : (F G : Host → List ℕ → Type 0) → BeginOpen F → BeginOpen G → Agree F G → (s t r u : List ℕ) → IsFieldString F s → IsFieldString G t → MayPrecedeIn (with_fields F) string s r → MayPrecedeIn (with_fields G) string t u → s ++ r ≡ t ++ u → s ≡ t
-same_field_string F G begin_f begin_g agree s t r u one two before after at =
+pub alike_strings : (F G : Host → List ℕ → Type 0) → BeginOpen F → BeginOpen G → Agree F G → (s t r u : List ℕ) → (one : IsFieldString F s) → (two : IsFieldString G t) → MayPrecedeIn (with_fields F) string s r → MayPrecedeIn (with_fields G) string t u → s ++ r ≡ t ++ u → AreAlike one two
+alike_strings F G begin_f begin_g agree s t r u one two before after at =
     let h = one.host in
     let k = two.host in
     let x = (joined one.parts ++ quotes_of h) ++ r in
@@ -129,9 +136,16 @@ same_field_string F G begin_f begin_g agree s t r u one two before after at =
     (not_empty F s r one before)
     (subst (λ q. NotEmpty q k.is_long two.parts u) (sym same_quote) (not_empty G t u two after))
     (bodies ∙ ap (λ q. quotes_of (host_of q k.is_long k.is_raw) ++ ((joined two.parts ++ quotes_of (host_of q k.is_long k.is_raw)) ++ u)) (sym same_quote)) in
+    record { prefix = cut.0; quote = same_quote; long = is.0; parts = is.1 }
+
+pub same_field_string : (F G : Host → List ℕ → Type 0) → BeginOpen F → BeginOpen G → Agree F G → (s t r u : List ℕ) → IsFieldString F s → IsFieldString G t → MayPrecedeIn (with_fields F) string s r → MayPrecedeIn (with_fields G) string t u → s ++ r ≡ t ++ u → s ≡ t
+same_field_string F G begin_f begin_g agree s t r u one two before after at =
+    let h = one.host in
+    let k = two.host in
+    let alike = alike_strings F G begin_f begin_g agree s t r u one two before after at in
     one.spell
-    ∙ ap (λ p. p ++ (quotes_of h ++ (joined one.parts ++ quotes_of h))) cut.0
-    ∙ ap (λ q. two.prefix ++ (quotes_of (host_of q h.is_long false) ++ (joined one.parts ++ quotes_of (host_of q h.is_long false)))) same_quote
-    ∙ ap (λ b. two.prefix ++ (quotes_of (host_of k.quote b false) ++ (joined one.parts ++ quotes_of (host_of k.quote b false)))) is.0
-    ∙ ap (λ ps. two.prefix ++ (quotes_of k ++ (joined ps ++ quotes_of k))) is.1
+    ∙ ap (λ p. p ++ (quotes_of h ++ (joined one.parts ++ quotes_of h))) alike.prefix
+    ∙ ap (λ q. two.prefix ++ (quotes_of (host_of q h.is_long false) ++ (joined one.parts ++ quotes_of (host_of q h.is_long false)))) alike.quote
+    ∙ ap (λ b. two.prefix ++ (quotes_of (host_of k.quote b false) ++ (joined one.parts ++ quotes_of (host_of k.quote b false)))) alike.long
+    ∙ ap (λ ps. two.prefix ++ (quotes_of k ++ (joined ps ++ quotes_of k))) alike.parts
     ∙ sym two.spell
