@@ -36,30 +36,7 @@
 -- bytes fed, line by line, and by the text's end (PieceFeeding, PieceLines, PieceFed); by what is asked of it
 -- (PieceAnswers, PieceNone, PieceEnds). PieceUndecided and PieceHeld: where nothing is ready, all that is settled was
 -- given, no fault is decided, and the rest is held.
-pub mod KeyLemmas
-pub mod TakeLemmas
-pub mod FirstsLemmas
-pub mod CountedLemmas
-pub mod LexingLemmas
-pub mod PlaceLemmas
-pub mod TakingLemmas
-pub mod ReadingLemmas
-pub mod StepLemmas
-pub mod GoingLemmas
-pub mod BeginningLemmas
-pub mod OneFoundLemmas
-pub mod PieceStarts
-pub mod SettledFoundLemmas
-pub mod SettledGrowing
-pub mod PieceReading
-pub mod PieceTaking
-pub mod PieceAnswers
-pub mod PieceEnds
-pub mod PieceHeld
-pub mod PieceNone
-pub mod PieceUndecided
-pub mod PieceNew
-pub mod PieceTries
-pub mod PieceFeeding
-pub mod PieceLines
-pub mod PieceFed
+pub mod Keys
+pub mod Finds
+pub mod Wholes
+pub mod Fed

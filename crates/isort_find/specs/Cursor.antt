@@ -23,12 +23,12 @@ pub record CursorState : Type 0 where
   pub keys : List Key
 
 -- what a cursor is seen as, by its fields
-abbrev pub standing : FindOptions → Place → ℕ → ℕ → List Key → CursorState
-standing options place taken given keys = record { options = options; offset = place.offset; line = place.line; taken = taken; given = given; keys = keys }
+abbrev pub cursor_state : FindOptions → Place → ℕ → ℕ → List Key → CursorState
+cursor_state options place taken given keys = record { options = options; offset = place.offset; line = place.line; taken = taken; given = given; keys = keys }
 
 -- at the start of a text
-abbrev pub first_standing : FindOptions → CursorState
-first_standing options = record { options = options; offset = 0; line = 1; taken = 0; given = 0; keys = [] }
+abbrev pub first_cursor : FindOptions → CursorState
+first_cursor options = record { options = options; offset = 0; line = 1; taken = 0; given = 0; keys = [] }
 
 -- one more than n, but never above what 64 bits hold
 abbrev pub next_count : ℕ → ℕ
@@ -58,8 +58,8 @@ pub record BeginsNext (text : List ℕ) (options : FindOptions) (lines : List Lo
   pub in_top : ends_top options line ≡ false
 
 -- `part` are the first bindings, so many, of the logical line after `lines`: none, or some of a line that counts
-abbrev pub IsPart : List ℕ → FindOptions → List LogicalLine → ℕ → List Bound → Type 0
-IsPart text options lines taken part = (taken ≡ length part) × ((part ≡ []) ⊎ BeginsNext text options lines part)
+abbrev pub IsPartOfNext : List ℕ → FindOptions → List LogicalLine → ℕ → List Bound → Type 0
+IsPartOfNext text options lines taken part = (taken ≡ length part) × ((part ≡ []) ⊎ BeginsNext text options lines part)
 
 -- After logical lines of the text, at this byte and line, and after the first bindings, so many, of the next line:
 -- so far these bindings were found.
@@ -70,11 +70,11 @@ pub record IsAfter (text : List ℕ) (options : FindOptions) (offset line taken 
   pub given : HasGiven (standing_at text offset line) lines
   pub binds : BindAll lines before
   pub in_top : list_all (λ l. not (ends_top options l)) lines ≡ true
-  pub is_part : IsPart text options lines taken part
+  pub is_part : IsPartOfNext text options lines taken part
   pub found : bounds ≡ firsts options.unique [] (before ++ part)
 
 -- A finder of this text stopped here, once it had found just these first bindings.
 pub record HasStopped (text : List ℕ) (cursor : CursorState) (bounds : List Bound) : Type 0 where
-  pub behind : IsAfter text cursor.options cursor.offset cursor.line cursor.taken bounds
+  pub after : IsAfter text cursor.options cursor.offset cursor.line cursor.taken bounds
   pub keys : cursor.keys ≡ keys_of cursor.options.unique bounds
   pub given : cursor.given ≡ min (length bounds) (2 ^ 64 - 1)

@@ -44,15 +44,15 @@ reader_from reader text None = reader
 reader_from reader text (Some place) = standing_at text place.offset place.line
 
 -- what a finder is seen as, by its fields
-abbrev pub finding : Reader → List ℕ → Option Place → ℕ → PendingState → Outcome → CursorState → FinderState
-finding reader text again skip pending outcome cursor = record { reader = reader_from reader text again; again = is_some again; skip = skip; pending = pending; outcome = outcome; cursor = cursor }
+abbrev pub finder_state : Reader → List ℕ → Option Place → ℕ → PendingState → Outcome → CursorState → FinderState
+finder_state reader text again skip pending outcome cursor = record { reader = reader_from reader text again; again = is_some again; skip = skip; pending = pending; outcome = outcome; cursor = cursor }
 
 -- how far the reader has to go at most, and then the bindings that are left: it falls with each import that is given
 abbrev pub left_of : FinderState → ℕ
 left_of f = (if f.again then length (text_of f) + 1 else length (text_of f) - f.reader.place) * 2 ^ 64 + length f.pending.left
 
 -- inside a logical line, some of whose bindings were looked at
-pub record IsWithin (f : FinderState) (bounds : List Bound) : Type 0 where
+pub record IsInLine (f : FinderState) (bounds : List Bound) : Type 0 where
   pub lines : List LogicalLine
   pub line : LogicalLine
   pub before : List Bound
@@ -68,10 +68,10 @@ pub record IsWithin (f : FinderState) (bounds : List Bound) : Type 0 where
   pub found : bounds ≡ firsts (options_of f).unique [] (before ++ part)
 
 -- between two logical lines
-pub record IsBetween (f : FinderState) (bounds : List Bound) : Type 0 where
+pub record IsBeforeLine (f : FinderState) (bounds : List Bound) : Type 0 where
   pub none : f.pending.left ≡ []
   pub no_fault : f.reader.fault ≡ None
-  pub behind : IsAfter (text_of f) (options_of f) f.reader.place f.reader.line f.skip bounds
+  pub after : IsAfter (text_of f) (options_of f) f.reader.place f.reader.line f.skip bounds
 
 -- where a binding comes from: its logical line begins at this byte
 abbrev pub BindsFrom : List ℕ → ℕ → Bound → Type 0
@@ -87,7 +87,7 @@ MeetsFaultAt text offset fault = LineAt text offset (λ line. IsBadAt line fault
 
 -- where a finder has got, by whether it has met the end or a fault
 abbrev pub HasReached : FinderState → List Bound → Outcome → Type 0
-HasReached f bounds outcome.Open = IsBetween f bounds ⊎ IsWithin f bounds
+HasReached f bounds outcome.Open = IsBeforeLine f bounds ⊎ IsInLine f bounds
 HasReached f bounds outcome.End = IsFound (text_of f) (options_of f) bounds None × MeetsEndAt (text_of f) (options_of f) f.cursor.offset
 HasReached f bounds (outcome.Fault fault) = IsFound (text_of f) (options_of f) bounds (Some fault) × MeetsFaultAt (text_of f) f.cursor.offset fault
 

@@ -37,7 +37,7 @@ counted_end options lines end = if list_any (ends_top options) lines then None e
 -- those of the lines before the first bad one, and its fault.
 pub data AreFound : Option ImportKey → List LogicalLine → Option Fault → List Bound → Option Fault → Type 0 where
   of_all : (unique : Option ImportKey) (lines : List LogicalLine) (last : Option Fault) (bounds : List Bound) (end : Option Fault) (all : List Bound) → BindAll lines all → bounds ≡ firsts unique [] all → end ≡ last → AreFound unique lines last bounds end
-  before_bad : (unique : Option ImportKey) (lines : List LogicalLine) (last : Option Fault) (bounds : List Bound) (end : Option Fault) (before : List LogicalLine) (line : LogicalLine) (behind : List LogicalLine) (all : List Bound) (fault : Fault) → lines ≡ before ++ line ∷ behind → BindAll before all → IsBadAt line fault → bounds ≡ firsts unique [] all → end ≡ Some fault → AreFound unique lines last bounds end
+  before_bad : (unique : Option ImportKey) (lines : List LogicalLine) (last : Option Fault) (bounds : List Bound) (end : Option Fault) (before : List LogicalLine) (line : LogicalLine) (after : List LogicalLine) (all : List Bound) (fault : Fault) → lines ≡ before ++ line ∷ after → BindAll before all → IsBadAt line fault → bounds ≡ firsts unique [] all → end ≡ Some fault → AreFound unique lines last bounds end
 
 -- the imports of a text that are found with these options, and then its end, or its fault
 pub record IsFound (text : List ℕ) (options : FindOptions) (bounds : List Bound) (end : Option Fault) : Type 0 where

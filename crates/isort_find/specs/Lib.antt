@@ -7,4 +7,4 @@ pub mod Cursor
 pub mod Pending
 pub mod Finder
 pub mod Pieces
-pub mod Steps
+pub mod Private

@@ -11,5 +11,5 @@ pub record PendingState : Type 0 where
   pub left : List Bound
 
 -- the bindings that are left, by the fields of a `Pending`
-abbrev pub looking_at : Place → ℕ → List Binding → PendingState
-looking_at place taken bindings = record { place = place; taken = taken; left = map bound_of bindings }
+abbrev pub pending_state : Place → ℕ → List Binding → PendingState
+pending_state place taken bindings = record { place = place; taken = taken; left = map bound_of bindings }

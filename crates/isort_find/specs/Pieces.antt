@@ -102,8 +102,8 @@ AreKnown s text lines = IsSettled (take (fed_of s) text) lines ⊎ ((s.ended ≡
 -- between two logical lines, the next of which may be ready but was left unread
 pub record IsBetweenLines (f : PieceFinderState) (text : List ℕ) (bounds : List Bound) : Type 0 where
   pub none : f.pending.left ≡ []
-  pub behind : IsAfter text (options_for f) f.scanning.place f.scanning.line f.skip bounds
-  pub released : HasReleased f.scanning text behind.lines
+  pub after : IsAfter text (options_for f) f.scanning.place f.scanning.line f.skip bounds
+  pub released : HasReleased f.scanning text after.lines
   pub unread : f.unread ≡ false → f.scanning.ready ≡ None
   pub stands : (f.skip ≡ 0) ⊎ (f.cursor.offset ≡ f.scanning.place)
 

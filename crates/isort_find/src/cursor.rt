@@ -22,22 +22,22 @@ pub struct Cursor {
 }
 
 impl Model for Cursor {
-    ghost use Rattle.isort_find.specs.Cursor.{CursorState, standing};
+    ghost use Rattle.isort_find.specs.Cursor.{CursorState, cursor_state};
     ghost use Rattle.isort_find.specs.KeyText.{key_in};
     ghost use Rattle.std.specs.Prelude.{map};
 
     ghost Value = { CursorState };
 
-    ghost view = { λ c. standing c.options c.place c.taken c.given (map key_in c.keys.keys) };
+    ghost view = { λ c. cursor_state c.options c.place c.taken c.given (map key_in c.keys.keys) };
 }
 
 impl Cursor {
-    ghost use Rattle.isort_find.specs.Cursor.{first_standing, has_key};
-    ghost use Rattle.isort_find.specs.Steps.Standings.{Admits, standing_after, standing_before};
+    ghost use Rattle.isort_find.specs.Cursor.{first_cursor, has_key};
+    ghost use Rattle.isort_find.specs.Private.CursorMoves.{Admits, cursor_after, cursor_before};
 
     /// At the start of a text, before its first import.
     pub(crate) fn start(alloc: Global, options: FindOptions) -> Cursor
-        ensures { result ≡ first_standing options }
+        ensures { result ≡ first_cursor options }
     {
         Cursor {
             options,
@@ -80,7 +80,7 @@ impl Cursor {
 
     /// A binding of the logical line at `place` was given, and so many of its bindings were looked at.
     pub(crate) fn give(&mut self, place: Place, taken: usize)
-        ensures { self.new ≡ standing_after self.old place taken }
+        ensures { self.new ≡ cursor_after self.old place taken }
     {
         self.given = self.given.saturating_add(1);
         self.place = place;
@@ -89,7 +89,7 @@ impl Cursor {
 
     /// What follows is at `place`, and nothing there was looked at.
     pub(crate) fn stand(&mut self, place: Place)
-        ensures { self.new ≡ standing_before self.old place }
+        ensures { self.new ≡ cursor_before self.old place }
     {
         self.place = place;
         self.taken = 0;

@@ -38,24 +38,24 @@ pub struct Finder<'t> {
 
 impl<'t> Model for Finder<'t> {
     ghost use Rattle.std.specs.Prelude.{◌≡◌};
-    ghost use Rattle.isort_find.specs.Finder.{FinderState, finding};
+    ghost use Rattle.isort_find.specs.Finder.{FinderState, finder_state};
 
     ghost Value = { FinderState };
 
-    ghost view = { λ f. finding f.lines f.text.now f.again f.skip f.pending f.outcome f.cursor };
+    ghost view = { λ f. finder_state f.lines f.text.now f.again f.skip f.pending f.outcome f.cursor };
 
     ghost invariant = { λ f. f.lines.text ≡ f.text.now };
 }
 
 impl<'t> Finder<'t> {
-    ghost use Rattle.isort_find.specs.Cursor.{first_standing, HasStopped};
+    ghost use Rattle.isort_find.specs.Cursor.{first_cursor, HasStopped};
     ghost use Rattle.isort_find.specs.Finder.{HasFound, GivesNext, text_of};
-    ghost use Rattle.isort_find.specs.Steps.Findings.{GivesNew, GoesBack, Follows, ReadsLine};
+    ghost use Rattle.isort_find.specs.Private.FinderSteps.{GivesNew, GoesBack, FollowsStepOf, ReadsNextLine};
 
     /// A finder at the start of the text, which is any bytes. It answers `Memory` alone.
     pub fn new(alloc: Global, text: &'t [u8], options: FindOptions) -> Result<Finder<'t>, FindError>
         ensures text { IfOk result (λ f. text_of f ≡ text.now) }
-        ensures cursor { IfOk result (λ f. f.cursor ≡ first_standing options) }
+        ensures cursor { IfOk result (λ f. f.cursor ≡ first_cursor options) }
         ensures found { IfOk result (λ f. HasFound f []) }
         ensures err { IfErr result (λ e. e ≡ FindError.Memory) }
     {
@@ -117,7 +117,7 @@ impl<'t> Finder<'t> {
     /// Does what follows from a step, which was read at `place`.
     fn follow(&mut self, place: Place, step: Step) -> Result<(), FindError>
         requires { self.old.again ≡ false }
-        ensures { Follows self.old place step result self.new }
+        ensures { FollowsStepOf self.old place step result self.new }
     {
         match step {
             Step::Bindings(bindings) => {
@@ -147,7 +147,7 @@ impl<'t> Finder<'t> {
     fn read_line(&mut self) -> Result<(), FindError>
         requires is_open { self.old.outcome ≡ Outcome.Open }
         requires none_left { self.old.pending.left ≡ [] }
-        ensures { ReadsLine self.old result self.new }
+        ensures { ReadsNextLine self.old result self.new }
     {
         one_lexing();
         given_lines_begin_the_text();

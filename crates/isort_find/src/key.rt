@@ -35,7 +35,7 @@ fn package_of(name: &str) -> &str
 }
 
 /// A copy of the text, if there is one.
-fn copy_of(text: &Option<String>) -> Result<Option<String>, AllocError>
+fn text_copy(text: &Option<String>) -> Result<Option<String>, AllocError>
     ensures { IfOk result (λ copy. option_map string_bytes copy ≡ option_map string_bytes text.now) }
 {
     match text {
@@ -56,8 +56,8 @@ fn key_with(
 {
     Ok(KeyText {
         text: String::from_str(alloc, text)?,
-        attribute: copy_of(attribute)?,
-        alias: copy_of(alias)?,
+        attribute: text_copy(attribute)?,
+        alias: text_copy(alias)?,
     })
 }
 

@@ -26,11 +26,11 @@ pub struct Pending {
 impl Model for Pending {
     ghost use Rattle.std.specs.Prelude.{ℕ, ◌+◌, ◌^◌, ◌<◌, map};
     ghost use Rattle.std.specs.VecDeque.{deque_len};
-    ghost use Rattle.isort_find.specs.Pending.{PendingState, looking_at};
+    ghost use Rattle.isort_find.specs.Pending.{PendingState, pending_state};
 
     ghost Value = { PendingState };
 
-    ghost view = { λ p. looking_at p.place p.taken p.bindings.items };
+    ghost view = { λ p. pending_state p.place p.taken p.bindings.items };
 
     ghost invariant = { λ p. p.taken + deque_len p.bindings < 2 ^ 64 };
 }
@@ -45,7 +45,7 @@ fn skip_first(bindings: &mut VecDeque<Binding>, count: usize)
 }
 
 impl Pending {
-    ghost use Rattle.isort_find.specs.Steps.Lookings.{Looks};
+    ghost use Rattle.isort_find.specs.Private.LooksAtBindings.{Looks};
 
     /// Nothing to look at yet.
     pub fn none(alloc: Global, place: Place) -> Pending

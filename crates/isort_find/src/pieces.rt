@@ -42,13 +42,13 @@ impl Model for PieceFinder {
 }
 
 impl PieceFinder {
-    ghost use Rattle.isort_find.specs.Cursor.{first_standing, HasStopped};
+    ghost use Rattle.isort_find.specs.Cursor.{first_cursor, HasStopped};
     ghost use Rattle.isort_find.specs.Pieces.{PieceFinderState, HasFoundIn, AreAllSettled, IsUndecided, IsOpenYet, FeedsPiece, GivesReady, EndsFeeding, fed_by, held_by, has_ready};
-    ghost use Rattle.isort_find.specs.Steps.Feedings.{IsNextPlace, LetsGo, FollowsStep, HoldsPlain, ReadsReady, LooksAhead, TriesReady, TakesBytesOf, GoesOn, TakesAll, ReadsUnread, TakesReady, Rests, with_fault, with_read};
+    ghost use Rattle.isort_find.specs.Private.PieceSteps.{IsNextPlace, LetsLineGo, FollowsStep, HoldsPlain, ReadsReady, LooksAhead, TriesReady, TakesBytesOf, IsToGoOn, HasTakenAll, ReadsUnread, TakesReady, Rests, with_fault, with_read};
 
     /// A finder at the start of a text, before its first piece. It answers `Memory` alone.
     pub fn new(alloc: Global, options: FindOptions) -> Result<PieceFinder, FindError>
-        ensures cursor { IfOk result (λ f. f.cursor ≡ first_standing options) }
+        ensures cursor { IfOk result (λ f. f.cursor ≡ first_cursor options) }
         ensures fed { IfOk result (λ f. fed_by f ≡ 0) }
         ensures open_yet { IfOk result (λ f. f.scanning.ended ≡ false) }
         ensures is_open { IfOk result (λ f. f.outcome ≡ Outcome.Open) }
@@ -100,7 +100,7 @@ impl PieceFinder {
 
     /// Lets the logical line go that was read last, if it is held yet.
     fn let_go(&mut self)
-        ensures { LetsGo self.old self.new }
+        ensures { LetsLineGo self.old self.new }
     {
         if self.scanner.ready().is_some() {
             self.scanner.release();
@@ -229,7 +229,7 @@ impl PieceFinder {
         requires is_open { self.old.outcome ≡ Outcome.Open }
         requires none_ready { has_ready self.old ≡ false }
         ensures takes { TakesBytesOf self.old piece.now result self.new }
-        ensures done { (n : ℕ) → result ≡ Ok n → has_ready self.new ≡ false → TakesAll piece.now n self.new }
+        ensures done { (n : ℕ) → result ≡ Ok n → has_ready self.new ≡ false → HasTakenAll piece.now n self.new }
     {
         let mut taken = 0;
         'lines: loop {
@@ -250,7 +250,7 @@ impl PieceFinder {
 
     /// Whether nothing is ready, and there is more of the piece, or a line is held that gave nothing.
     fn goes_on(&self, more: bool) -> bool
-        ensures goes { IsTrue result → GoesOn self.now more }
+        ensures goes { IsTrue result → IsToGoOn self.now more }
         ensures done { result ≡ false → has_ready self.now ≡ false → (self.now.outcome ≡ Outcome.Open → ⊥) ⊎ ((more ≡ false) × (self.now.scanning.ready ≡ None)) }
     {
         if !self.is_open() || self.has_ready() {

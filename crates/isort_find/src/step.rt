@@ -3,7 +3,7 @@ ghost use Rattle.std.specs.Prelude.{◌≡◌, [], false, IsTrue};
 ghost use Rattle.py_lines.specs.Lines.{line_in};
 ghost use Rattle.py_imports.specs.Binds.{Binds};
 ghost use Rattle.isort_find.specs.Found.{ends_top};
-ghost use Rattle.isort_find.specs.Steps.Readings.{Judges, StepsTo};
+ghost use Rattle.isort_find.specs.Private.LineSteps.{Judges, StepsTo};
 
 use crate::options::FindOptions;
 use py_imports::{Binding, ImportError, bindings_of, has_first_word, is_declaration};

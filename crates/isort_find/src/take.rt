@@ -1,5 +1,5 @@
 //! Taking the next binding whose key is new.
-ghost use Rattle.isort_find.specs.Steps.Lookings.{TakesNext, PassesKnown};
+ghost use Rattle.isort_find.specs.Private.LooksAtBindings.{TakesNextBinding, PassesKnown};
 
 use crate::cursor::Cursor;
 use crate::error::FindError;
@@ -13,7 +13,7 @@ pub fn take_new(
     pending: &mut Pending,
     cursor: &mut Cursor,
 ) -> Result<Option<Binding>, FindError>
-    ensures { TakesNext cursor.old pending.old result cursor.new pending.new }
+    ensures { TakesNextBinding cursor.old pending.old result cursor.new pending.new }
 {
     'bindings: while let Some(binding) = pending.front() {
         let is_new = cursor.admit(alloc, binding)?;

@@ -1,8 +1,8 @@
 use Rattle.std.proofs.Common.{◌∙◌, sym, ap}
 use Rattle.isort_find.specs.KeyText.{key_in}
 use Rattle.isort_find.specs.Key.{Key, key_eq}
-use Rattle.isort_find.proofs.KeyLemmas.{text_eq}
-use Rattle.isort_find.proofs.FirstsLemmas.{key_same, key_refl}
+use Rattle.isort_find.proofs.Keys.KeyTexts.{text_eq}
+use Rattle.isort_find.proofs.Keys.Firsts.{key_same, key_refl}
 use Rattle.isort_find.proofs.laws.equal_keys.Goals as goal
 
 pub returns : goal.returns

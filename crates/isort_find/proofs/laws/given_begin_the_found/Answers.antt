@@ -1,4 +1,4 @@
-use Rattle.isort_find.proofs.BeginningLemmas.{begins_found, stopped_begins}
+use Rattle.isort_find.proofs.Finds.Beginnings.{begins_found, stopped_begins}
 use Rattle.isort_find.proofs.laws.given_begin_the_found.Goals as goal
 
 pub returns : goal.returns

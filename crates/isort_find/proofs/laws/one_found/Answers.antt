@@ -1,6 +1,6 @@
-use Rattle.isort_find.proofs.BeginningLemmas.{some_found}
-use Rattle.isort_find.proofs.LexingLemmas.{Laws}
-use Rattle.isort_find.proofs.OneFoundLemmas.{EndLaws, one_list_found, one_end_found}
+use Rattle.isort_find.proofs.Finds.Beginnings.{some_found}
+use Rattle.isort_find.proofs.Finds.NextLines.{Laws}
+use Rattle.isort_find.proofs.Finds.OneFound.{EndLaws, one_list_found, one_end_found}
 use Rattle.isort_find.proofs.laws.one_found.Goals as goal
 
 pub returns : goal.returns

@@ -1,7 +1,7 @@
-use Rattle.isort_find.proofs.LexingLemmas.{Laws}
-use Rattle.isort_find.proofs.OneFoundLemmas.{EndLaws}
-use Rattle.isort_find.proofs.SettledFoundLemmas.{SettledLaws, settled_begin, decided_end, decided_all}
-use Rattle.isort_find.proofs.SettledGrowing.{found_grow, some_found_settled, bad_decided}
+use Rattle.isort_find.proofs.Finds.NextLines.{Laws}
+use Rattle.isort_find.proofs.Finds.OneFound.{EndLaws}
+use Rattle.isort_find.proofs.Finds.SettledFound.{SettledLaws, settled_begin, decided_end, decided_all}
+use Rattle.isort_find.proofs.Finds.SettledGrowing.{found_grow, some_found_settled, bad_decided}
 use Rattle.isort_find.proofs.laws.settled_found_is_final.Goals as goal
 
 pub returns : goal.returns

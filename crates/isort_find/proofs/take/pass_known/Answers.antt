@@ -1,4 +1,4 @@
-use Rattle.isort_find.proofs.TakeLemmas.{passed_known}
+use Rattle.isort_find.proofs.Keys.TakenBindings.{passed_known}
 use Rattle.isort_find.proofs.take.pass_known.Goals as goal
 
 pub bindings-preserved-else-not-branch : goal.bindings-preserved-else-not-branch

@@ -1,6 +1,6 @@
 -- The bindings looked at so far have keys that were given before.
 use Rattle.std.proofs.Common.{length}
-use Rattle.isort_find.specs.Steps.Lookings.{Passes}
+use Rattle.isort_find.specs.Private.LooksAtBindings.{Passes}
 use Rattle.isort_find.proofs.take.pass_known.Given as goal
 
 abbrev pub invariant-bindings : goal.invariant-bindings

@@ -1,5 +1,5 @@
 use Rattle.std.proofs.Common.{arith}
-use Rattle.isort_find.proofs.TakeLemmas.{takes_known, takes_fewer, takes_new}
+use Rattle.isort_find.proofs.Keys.TakenBindings.{takes_known, takes_fewer, takes_new}
 use Rattle.isort_find.proofs.take.take_new.Goals as goal
 
 pub returns-then-is_new : goal.returns-then-is_new

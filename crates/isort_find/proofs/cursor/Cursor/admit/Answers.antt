@@ -1,14 +1,14 @@
 use Rattle.std.proofs.Common.{refl, map}
 use Rattle.py_imports.specs.Bound.{bound_of}
 use Rattle.isort_find.specs.KeyText.{key_in}
-use Rattle.isort_find.specs.Cursor.{standing}
+use Rattle.isort_find.specs.Cursor.{cursor_state}
 use Rattle.isort_find.specs.contracts.key.KeyTextPartialEq.TheImpl as same
-use Rattle.isort_find.proofs.KeyLemmas.{text_eq, admits}
+use Rattle.isort_find.proofs.Keys.KeyTexts.{text_eq, admits}
 use Rattle.isort_find.proofs.cursor.Cursor.admit.Goals as goal
 
 pub returns-in_ok-is_new-in-Some-clause-ok : goal.returns-in_ok-is_new-in-Some-clause-ok
 returns-in_ok-is_new-in-Some-clause-ok c =
-    let old = standing c.self.inside.options c.self.inside.place c.self.inside.taken c.self.inside.given (map key_in c.self.inside.keys.keys) in
+    let old = cursor_state c.self.inside.options c.self.inside.place c.self.inside.taken c.self.inside.given (map key_in c.self.inside.keys.keys) in
     let added = c.in_ok-is_new-in-Some.ensures.added in
     let keys = c.in_ok-is_new-in-Some.ensures.keys in
     let made = c.in_ok-key-in-Some.ensures.ok in

@@ -1,6 +1,6 @@
 use Rattle.py_imports.specs.Bound.{bound_of}
 use Rattle.std.proofs.Common.{◌∙◌}
-use Rattle.isort_find.proofs.KeyLemmas.{text_eq, knows}
+use Rattle.isort_find.proofs.Keys.KeyTexts.{text_eq, knows}
 use Rattle.isort_find.specs.contracts.key.KeyTextPartialEq.TheImpl as same
 use Rattle.isort_find.proofs.cursor.Cursor.knows.Goals as goal
 

@@ -1,4 +1,4 @@
-use Rattle.isort_find.proofs.StepLemmas.{goes_back}
+use Rattle.isort_find.proofs.Wholes.LineSteps.{goes_back}
 use Rattle.isort_find.proofs.finder.Finder.go_back.Goals as goal
 
 pub returns-in-Ok-clause-ok : goal.returns-in-Ok-clause-ok

@@ -2,7 +2,7 @@ use Rattle.std.proofs.Common.{Option, Result, sym, ap, ◌∙◌, subst}
 use Rattle.py_imports.specs.declared.binding.Binding.{Binding}
 use Rattle.isort_find.specs.Finder.{FinderState, GivesNext}
 use Rattle.isort_find.specs.declared.error.FindError.{FindError}
-use Rattle.isort_find.proofs.GoingLemmas.{goes_start, is_end, goes_to_end, goes_to_fault}
+use Rattle.isort_find.proofs.Wholes.Calls.{goes_start, is_end, goes_to_end, goes_to_fault}
 use Rattle.isort_find.proofs.finder.Finder.next_import.Goals as goal
 use Rattle.isort_find.proofs.finder.Finder.next_import.Goals.{in-Fault, in-Open-outcome}
 

@@ -1,7 +1,7 @@
 -- What was given before the call is what has been given so far.
 use Rattle.isort_find.specs.Finder.{left_of}
-use Rattle.isort_find.specs.Steps.Findings.{Goes}
-use Rattle.isort_find.proofs.GoingLemmas.{work}
+use Rattle.isort_find.specs.Private.FinderSteps.{Goes}
+use Rattle.isort_find.proofs.Wholes.Calls.{work}
 use Rattle.isort_find.proofs.finder.Finder.next_import.Given as goal
 
 abbrev pub invariant-lines : goal.invariant-lines

@@ -1,14 +1,14 @@
 use Rattle.std.proofs.Common.{◌∙◌, sym, ap, subst}
-use Rattle.isort_find.specs.Finder.{FinderState, finding}
-use Rattle.isort_find.specs.Steps.Findings.{GoesBack}
-use Rattle.isort_find.proofs.LexingLemmas.{Laws}
-use Rattle.isort_find.proofs.StepLemmas.{IsAbout, reads_line}
+use Rattle.isort_find.specs.Finder.{FinderState, finder_state}
+use Rattle.isort_find.specs.Private.FinderSteps.{GoesBack}
+use Rattle.isort_find.proofs.Finds.NextLines.{Laws}
+use Rattle.isort_find.proofs.Wholes.LineSteps.{IsAbout, reads_line}
 use Rattle.isort_find.proofs.finder.Finder.read_line.Goals as goal
 
 pub returns : goal.returns
 returns c =
     let s = c.self.inside in
-    let f = finding s.lines s.text.now s.again s.skip s.pending s.outcome s.cursor in
+    let f = finder_state s.lines s.text.now s.again s.skip s.pending s.outcome s.cursor in
     let laws : Laws = record { one_lexing = c.one_lexing.ensures.one_list; begins = c.given_lines_begin_the_text.ensures.begin; one_list = c.binds_or_is_bad.ensures.one_list; not_both = c.binds_or_is_bad.ensures.not_both } in
     let about : IsAbout c.args.self.now f c.place-place.result c.options.result = record {
       is_open = c.requires.is_open;

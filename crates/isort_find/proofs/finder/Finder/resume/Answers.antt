@@ -1,4 +1,4 @@
-use Rattle.isort_find.proofs.StepLemmas.{resumed}
+use Rattle.isort_find.proofs.Wholes.LineSteps.{resumed}
 use Rattle.isort_find.proofs.finder.Finder.resume.Goals as goal
 
 pub returns-in-Ok-clause-found : goal.returns-in-Ok-clause-found

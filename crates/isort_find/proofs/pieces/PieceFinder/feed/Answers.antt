@@ -1,12 +1,12 @@
 use Rattle.std.proofs.Common.{ℕ, ◌+◌, length, refl, sym, ap, ◌∙◌, subst}
 use Rattle.std.proofs.lemmas.List.{take_rest}
 use Rattle.isort_find.specs.Pieces.{PieceFinderState, TakesPiece}
-use Rattle.isort_find.proofs.LexingLemmas.{Laws}
-use Rattle.isort_find.proofs.OneFoundLemmas.{EndLaws}
-use Rattle.isort_find.proofs.SettledFoundLemmas.{SettledLaws}
-use Rattle.isort_find.proofs.PieceEnds.{AscentLaws}
-use Rattle.isort_find.proofs.PieceFed.{with_passed, feeds_none, feeds_top, feeds_lines, passes_piece}
-use Rattle.isort_find.proofs.PieceFed.{yet_open, yet_end}
+use Rattle.isort_find.proofs.Finds.NextLines.{Laws}
+use Rattle.isort_find.proofs.Finds.OneFound.{EndLaws}
+use Rattle.isort_find.proofs.Finds.SettledFound.{SettledLaws}
+use Rattle.isort_find.proofs.Fed.Rests.{AscentLaws}
+use Rattle.isort_find.proofs.Fed.WholePiece.{with_passed, feeds_none, feeds_top, feeds_lines, passes_piece}
+use Rattle.isort_find.proofs.Fed.WholePiece.{yet_open, yet_end}
 use Rattle.isort_find.proofs.pieces.PieceFinder.feed.Goals as goal
 
 pub returns-in-End-outcome : goal.returns-in-End-outcome

@@ -1,9 +1,9 @@
-use Rattle.isort_find.proofs.LexingLemmas.{Laws}
-use Rattle.isort_find.proofs.OneFoundLemmas.{EndLaws}
-use Rattle.isort_find.proofs.SettledFoundLemmas.{SettledLaws}
-use Rattle.isort_find.proofs.PieceEnds.{AscentLaws}
-use Rattle.isort_find.proofs.PieceNew.{new_settled, new_undecided}
-use Rattle.isort_find.proofs.PieceStarts.{begins_pieces}
+use Rattle.isort_find.proofs.Finds.NextLines.{Laws}
+use Rattle.isort_find.proofs.Finds.OneFound.{EndLaws}
+use Rattle.isort_find.proofs.Finds.SettledFound.{SettledLaws}
+use Rattle.isort_find.proofs.Fed.Rests.{AscentLaws}
+use Rattle.isort_find.proofs.Fed.NothingFed.{new_settled, new_undecided}
+use Rattle.isort_find.proofs.Fed.Starts.{begins_pieces}
 use Rattle.isort_find.proofs.pieces.PieceFinder.new.Goals as goal
 
 pub returns-clause-found : goal.returns-clause-found

@@ -1,13 +1,13 @@
 use Rattle.std.proofs.Common.{Option, Ok, sym, ap, ◌∙◌, subst}
 use Rattle.py_imports.specs.declared.binding.Binding.{Binding}
 use Rattle.isort_find.specs.Pieces.{PieceFinderState}
-use Rattle.isort_find.specs.Steps.Feedings.{TakesReady}
-use Rattle.isort_find.proofs.LexingLemmas.{Laws}
-use Rattle.isort_find.proofs.OneFoundLemmas.{EndLaws}
-use Rattle.isort_find.proofs.SettledFoundLemmas.{SettledLaws}
-use Rattle.isort_find.proofs.PieceEnds.{AscentLaws}
-use Rattle.isort_find.proofs.PieceNone.{none_top, left_same, gives_none}
-use Rattle.isort_find.proofs.PieceAnswers.{gives_binding, gives_error}
+use Rattle.isort_find.specs.Private.PieceSteps.{TakesReady}
+use Rattle.isort_find.proofs.Finds.NextLines.{Laws}
+use Rattle.isort_find.proofs.Finds.OneFound.{EndLaws}
+use Rattle.isort_find.proofs.Finds.SettledFound.{SettledLaws}
+use Rattle.isort_find.proofs.Fed.Rests.{AscentLaws}
+use Rattle.isort_find.proofs.Fed.NoneReady.{none_top, left_same, gives_none}
+use Rattle.isort_find.proofs.Fed.Answers.{gives_binding, gives_error}
 use Rattle.isort_find.proofs.pieces.PieceFinder.next_ready.Goals as goal
 
 pub returns-in-Ok-Some : goal.returns-in-Ok-Some

@@ -1,4 +1,4 @@
-use Rattle.isort_find.proofs.PieceStarts.{resumes_from}
+use Rattle.isort_find.proofs.Fed.Starts.{resumes_from}
 use Rattle.isort_find.proofs.pieces.PieceFinder.resume.Goals as goal
 
 pub returns-in-Ok-clause-found : goal.returns-in-Ok-clause-found

@@ -1,15 +1,15 @@
 use Rattle.std.proofs.Common.{Err, List, ℕ, length, take, drop, inr, sym, ◌∙◌, subst, ◌-◌, arith}
 use Rattle.std.proofs.lemmas.List.{take_rest, length-drop}
 use Rattle.isort_find.specs.Pieces.{PieceFinderState, MeetsFaultIn}
-use Rattle.isort_find.specs.Steps.Feedings.{TakesSome, TakesBytesOf, with_unread}
+use Rattle.isort_find.specs.Private.PieceSteps.{TakesLines, TakesBytesOf, with_unread}
 use Rattle.isort_find.specs.declared.error.FindError.{FindError}
-use Rattle.isort_find.proofs.PieceLines.{takes_next, fault_next, unread_next, keeps_next}
+use Rattle.isort_find.proofs.Fed.MoreLines.{takes_next, fault_next, unread_next, keeps_next}
 use Rattle.isort_find.proofs.pieces.PieceFinder.take_lines.Goals as goal
 
 pub lines-preserved : goal.lines-preserved
 lines-preserved c =
     let rest = take_rest c.args.piece.now c.lines.taken in
-    let next = subst (λ (bytes : List ℕ). TakesSome c.lines.self bytes c.in-Ok.more c.take_line.new.self) rest c.in-Ok.ensures in
+    let next = subst (λ (bytes : List ℕ). TakesLines c.lines.self bytes c.in-Ok.more c.take_line.new.self) rest c.in-Ok.ensures in
     let size = length-drop c.lines.taken c.args.piece.now in
     let goes = c.goes_on.ensures.goes c.if-not-goes_on.false in
     record {
@@ -23,7 +23,7 @@ lines-preserved c =
 
 pub returns-then-not-goes_on-clause-takes : goal.returns-then-not-goes_on-clause-takes
 returns-then-not-goes_on-clause-takes c =
-    let next = subst (λ (bytes : List ℕ). TakesSome c.lines.self bytes c.in-Ok.more c.take_line.new.self) (take_rest c.args.piece.now c.lines.taken) c.in-Ok.ensures in
+    let next = subst (λ (bytes : List ℕ). TakesLines c.lines.self bytes c.in-Ok.more c.take_line.new.self) (take_rest c.args.piece.now c.lines.taken) c.in-Ok.ensures in
     takes_next c.args.self.now c.lines.self c.take_line.new.self c.args.piece.now c.lines.taken c.in-Ok.more c.lines.invariant.takes next
 
 pub returns-in-Err-Fault-clause-takes : goal.returns-in-Err-Fault-clause-takes
@@ -47,4 +47,4 @@ returns-in-Err-Memory-2-clause-takes c =
     let bytes = take (length c.args.piece.now - c.lines.taken) (drop c.lines.taken c.args.piece.now) in
     let keeps = subst (λ (e : FindError). TakesBytesOf c.lines.self bytes (Err e) last) c.in-Err-Memory.field-0-is c.in-Err-Memory.ensures in
     let all = unread_next c.args.self.now c.lines.self last c.args.piece.now c.lines.taken c.if-taken-eq0.false c.lines.invariant.takes keeps.0 keeps.1 keeps.2 in
-    subst (λ (f : PieceFinderState). TakesSome c.args.self.now c.args.piece.now c.lines.taken (with_unread f)) (sym c.self.view_is) all
+    subst (λ (f : PieceFinderState). TakesLines c.args.self.now c.args.piece.now c.lines.taken (with_unread f)) (sym c.self.view_is) all

@@ -3,7 +3,7 @@ use Rattle.std.proofs.Common.{◌≡◌, ◌+◌, ◌-◌, ◌*◌, ◌≤◌, f
 use Rattle.py_lines.specs.ScannerState.{ready_lines}
 use Rattle.isort_find.specs.Pieces.{fed_by, has_ready}
 use Rattle.isort_find.specs.declared.finder.Outcome.TheVariants as outcome
-use Rattle.isort_find.proofs.PieceLines.{HasTaken}
+use Rattle.isort_find.proofs.Fed.MoreLines.{HasTaken}
 use Rattle.isort_find.proofs.pieces.PieceFinder.take_lines.Given as goal
 
 abbrev pub invariant-lines : goal.invariant-lines

@@ -1,7 +1,7 @@
 use Rattle.std.proofs.Common.{Ok, [], map, refl, ap, sym, subst, inr, arith}
 use Rattle.py_imports.specs.Binds.{Binds}
 use Rattle.py_imports.specs.Bound.{bound_of}
-use Rattle.isort_find.specs.Steps.Feedings.{HoldsPlain}
+use Rattle.isort_find.specs.Private.PieceSteps.{HoldsPlain}
 use Rattle.isort_find.specs.declared.step.Step.TheVariants as step
 use Rattle.isort_find.proofs.pieces.PieceFinder.try_line.Goals as goal
 
