@@ -3,7 +3,7 @@ use Rattle.std.proofs.Common.{◌≡◌, ℕ, List, [], ◌∷◌, ◌++◌, Opt
 use Rattle.std.proofs.lemmas.List.{append_assoc, append-nil}
 use Rattle.py_imports.specs.Bound.{Bound, bound_of}
 use Rattle.py_imports.specs.declared.binding.Binding.{Binding}
-use Rattle.isort_find.specs.Finder.{FinderState, HasFound, FindsNext, GivesNext, text_of, options_of}
+use Rattle.isort_find.specs.Finder.{FinderState, HasFound, FindsNext, GivesNext, finder_text, options_of}
 use Rattle.isort_find.specs.declared.error.FindError.{FindError}
 use Rattle.isort_find.specs.declared.options.FindOptions.{FindOptions}
 use Rattle.isort_c.specs.Records.{bound_record, bound_records}
@@ -13,7 +13,7 @@ pub record HasListed (text : List ℕ) (options : FindOptions) (f : FinderState)
   pub bounds : List Bound
   pub found : HasFound f bounds
   pub written : bytes ≡ bound_records bounds
-  pub text_is : text_of f ≡ text
+  pub text_is : finder_text f ≡ text
   pub options_is : options_of f ≡ options
 
 pub records_more : (bs : List Bound) (b : Bound) → bound_records (bs ++ b ∷ []) ≡ bound_records bs ++ bound_record b

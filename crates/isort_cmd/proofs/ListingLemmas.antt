@@ -8,12 +8,14 @@ use Rattle.py_imports.specs.declared.binding.Binding.{Binding}
 use Rattle.isort_find.specs.Cursor.{CursorState, HasStopped}
 use Rattle.isort_find.specs.Found.{IsFound, BeginsFound}
 use Rattle.isort_find.specs.Settled.{IsFoundSettled, DecidesFound}
-use Rattle.isort_find.specs.Pieces.{PieceFinderState, HasFoundIn, HasReachedIn, GivesBinding, GivesNone, GivesReady, has_ready, ready_in, options_for, fed_by}
+use Rattle.isort_find.specs.Pieces.{PieceFinderState, HasFoundIn, HasReachedIn, GivesBinding, GivesNone, GivesReady, has_ready, options_for, fed_by}
 use Rattle.isort_find.specs.declared.options.FindOptions.{FindOptions}
 use Rattle.isort_find.specs.declared.error.FindError.{FindError}
 use Rattle.isort_find.specs.declared.error.FindError.TheVariants as find
-use Rattle.isort_find.specs.declared.finder.Outcome.{Outcome}
-use Rattle.isort_find.specs.declared.finder.Outcome.TheVariants as outcome
+use Rattle.isort_find.specs.Stand.{phase_in, ready_in}
+use Rattle.isort_find.specs.declared.walker.Stand.{Stand}
+use Rattle.isort_find.specs.declared.walker.Stand.TheVariants as stand
+use Rattle.isort_find.specs.declared.walker.Phase.TheVariants as phase
 use Rattle.isort_cmd.specs.Printed.{printed, line_text}
 use Rattle.isort_cmd.specs.RunError.{run_error_of}
 use Rattle.isort_cmd.specs.Steps.{IsListed, LeavesReady}
@@ -43,9 +45,9 @@ lists_nothing some path text options contents =
     }
 
 -- a finder that met a fault has found all before it
-pub found_fault : (finder : PieceFinderState) (text : List ℕ) (bounds : List Bound) (fault : Fault) → HasFoundIn finder text bounds → finder.outcome ≡ outcome.Fault fault → IsFound text (options_for finder) bounds (Some fault)
+pub found_fault : (finder : PieceFinderState) (text : List ℕ) (bounds : List Bound) (fault : Fault) → HasFoundIn finder text bounds → finder.stand ≡ stand.Fault fault → IsFound text (options_for finder) bounds (Some fault)
 found_fault finder text bounds fault found is =
-    let at : HasReachedIn finder text bounds (outcome.Fault fault) = subst (λ (o : Outcome). HasReachedIn finder text bounds o) is found.reached in
+    let at : HasReachedIn finder text bounds (stand.Fault fault) = subst (HasReachedIn finder text bounds) is found.reached in
     at.0
 
 -- one more binding was given, and its line was written
@@ -115,8 +117,12 @@ pub gives_error : (old : PieceFinderState) (r : Result (Option Binding) FindErro
 gives_error old r e new h same = subst (λ x. GivesReady old x new) same h
 
 -- nothing is ready after the top
-pub not_after_top : (finder : PieceFinderState) → has_ready finder ≡ true → finder.outcome ≡ outcome.End → ⊥
-not_after_top finder ready top = not_both false refl (subst (λ (o : Outcome). ready_in o finder.unread finder.pending.left ≡ true) top ready)
+pub not_after_top : (finder : PieceFinderState) → has_ready finder ≡ true → phase_in finder.stand ≡ phase.End → ⊥
+not_after_top finder ready top = by finder.stand ready top
+  where
+    by : (s : Stand) → ready_in s ≡ true → phase_in s ≡ phase.End → ⊥
+    by (stand.End passed) h k = not_both false refl h
+    by other h k = cc
   where
     not_both : (b : Bool) → b ≡ false → b ≡ true → ⊥
     not_both b h k = cc

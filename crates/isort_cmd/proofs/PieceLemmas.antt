@@ -10,15 +10,17 @@ use Rattle.py_imports.specs.Bound.{Bound}
 use Rattle.isort_find.specs.Cursor.{CursorState}
 use Rattle.isort_find.specs.Found.{IsFound}
 use Rattle.isort_find.specs.Settled.{IsFoundSettled, DecidesFound}
-use Rattle.isort_find.specs.Pieces.{PieceFinderState, AreSettled, TakesPiece, MeetsFaultIn, FeedsPiece, options_for, fed_by, has_ready}
+use Rattle.isort_find.specs.Pieces.{PieceFinderState, HasNoFault, AreSettled, TakesPiece, MeetsFaultIn, FeedsPiece, options_for, fed_by, has_ready}
 use Rattle.isort_find.specs.declared.options.FindOptions.{FindOptions}
 use Rattle.isort_find.specs.declared.error.FindError.{FindError}
 use Rattle.isort_find.specs.declared.error.FindError.TheVariants as find
-use Rattle.isort_find.specs.declared.finder.Outcome.{Outcome}
-use Rattle.isort_find.specs.declared.finder.Outcome.TheVariants as outcome
+use Rattle.isort_find.specs.Stand.{phase_in}
+use Rattle.isort_find.specs.declared.walker.Stand.{Stand}
+use Rattle.isort_find.specs.declared.walker.Stand.TheVariants as stand
+use Rattle.isort_find.specs.declared.walker.Phase.TheVariants as phase
 use Rattle.isort_cmd.specs.Printed.{printed}
 use Rattle.isort_cmd.specs.RunError.{run_error_of}
-use Rattle.isort_cmd.specs.Steps.{IsListed, HasListed, HasListedTo, HasNoFault, LeavesReady, LeavesPiece, MeetsFaultAfter}
+use Rattle.isort_cmd.specs.Steps.{IsListed, HasListed, HasListedTo, LeavesReady, LeavesPiece, MeetsFaultAfter}
 use Rattle.isort_cmd.specs.Written.{Lists, ListsPrefix}
 use Rattle.isort_cmd.specs.declared.error.RunError.{RunError}
 use Rattle.isort_cmd.specs.declared.error.RunError.TheVariants as run
@@ -104,10 +106,10 @@ leaves_each laws path known rest options mid run.Read start now fed open_yet lea
 leaves_each laws path known rest options mid run.TooLong start now fed open_yet leaves = leaves (known ++ rest) (goes_begin known rest)
 leaves_each laws path known rest options mid run.NeverEnds start now fed open_yet leaves = leaves (known ++ rest) (goes_begin known rest)
 
-is_open : (o : Outcome) → (o ≡ outcome.End → ⊥) → ((fault : Fault) → o ≡ outcome.Fault fault → ⊥) → o ≡ outcome.Open
-is_open outcome.Open top fault = refl
-is_open outcome.End top fault = absurd (top refl)
-is_open (outcome.Fault f) top fault = absurd (fault f refl)
+is_open : (s : Stand) → (phase_in s ≡ phase.End → ⊥) → ((fault : Fault) → s ≡ stand.Fault fault → ⊥) → phase_in s ≡ phase.Open
+is_open (stand.End passed) top fault = absurd (top refl)
+is_open (stand.Fault f) top fault = absurd (fault f refl)
+is_open other top fault = refl
 
 -- a prefix of the lines was written, whatever follows the known bytes
 pub front_each : GivenBegin → (path known : List ℕ) (options : FindOptions) (finder : PieceFinderState) (start now : Option (List ℕ)) → ((text : List ℕ) → GoesOnWith text 0 known → IsListed path text options finder start now) → (more : List ℕ) → ListsPrefix path (known ++ more) options start now
@@ -121,7 +123,7 @@ fed_fault laws path known piece options old fault new start now meets to =
     let at : GoesOnWith text (fed_by old) piece = subst (λ (m : ℕ). GoesOnWith text m piece) (sym to.fed) (ap (take (length piece)) (drop-append_seam known piece) ∙ ap (λ x. take (length piece) x) (sym (append-nil piece)) ∙ take-append_seam piece []) in
     let found = found_fault new text listed.bounds fault (meets.found text listed.bounds listed.found at) meets.kept in
     let lists : Lists path text options (Some fault) start now = record { bounds = listed.bounds; found = subst (λ (o : FindOptions). IsFound text o listed.bounds (Some fault)) (meets.options ∙ listed.same_options) found; written = listed.written } in
-    let decided = meets.decided text listed.bounds listed.found at (is_open old.outcome meets.was_in_top to.no_fault) in
+    let decided = meets.decided text listed.bounds listed.found at (is_open old.stand meets.was_in_top to.no_fault) in
     let n = decided.0 in
     let first = known ++ take n piece in
     let rest = drop n piece in

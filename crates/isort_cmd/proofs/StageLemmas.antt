@@ -1,5 +1,5 @@
 -- What listing all that is ready leaves.
-use Rattle.std.proofs.Common.{◌≡◌, ℕ, Bool, true, false, Option, None, Ok, Err, List, refl, sym, ◌∙◌, subst}
+use Rattle.std.proofs.Common.{◌≡◌, ℕ, Bool, true, false, Option, None, Ok, Err, List, refl, sym, ap, ◌∙◌, subst}
 use Rattle.std.specs.Io.KnownBytes.{Appends}
 use Rattle.py_lines.specs.declared.fault.Fault.{Fault}
 use Rattle.py_imports.specs.Bound.{Bound}
@@ -8,8 +8,10 @@ use Rattle.isort_find.specs.Pieces.{PieceFinderState, GivesBinding, GivesNone, G
 use Rattle.isort_find.specs.declared.options.FindOptions.{FindOptions}
 use Rattle.isort_find.specs.declared.error.FindError.{FindError}
 use Rattle.isort_find.specs.declared.error.FindError.TheVariants as find
-use Rattle.isort_find.specs.declared.finder.Outcome.{Outcome}
-use Rattle.isort_find.specs.declared.finder.Outcome.TheVariants as outcome
+use Rattle.isort_find.specs.Stand.{phase_in}
+use Rattle.isort_find.specs.declared.walker.Stand.{Stand}
+use Rattle.isort_find.specs.declared.walker.Stand.TheVariants as stand
+use Rattle.isort_find.specs.declared.walker.Phase.TheVariants as phase
 use Rattle.isort_sort.specs.Metered.{IsGivenUp}
 use Rattle.isort_sort.specs.Written.{AppendsPrefix}
 use Rattle.isort_sort.specs.declared.metered.Last.{Last}
@@ -29,8 +31,8 @@ pub error_of_find : (e : FindError) (l : Last) → l ≡ last.Fine → IsOutputE
 error_of_find find.Memory l fine = fine
 error_of_find (find.Fault f) l fine = fine
 
-open_has_no_fault : (o : Outcome) (fault : Fault) → o ≡ outcome.Open → o ≡ outcome.Fault fault → ⊥
-open_has_no_fault o fault is other = cc
+open_has_no_fault : (s : Stand) (fault : Fault) → phase_in s ≡ phase.Open → s ≡ stand.Fault fault → ⊥
+open_has_no_fault s fault is other = let both : phase_in s ≡ phase.Fault fault = ap phase_in other in cc
 
 -- ---- one import
 
@@ -42,7 +44,7 @@ lists_one old new b out same fine gives put wrote = record {
     fine = fine;
     fed = gives.fed;
     open_yet = gives.open_yet;
-    no_fault = λ h fault is. open_has_no_fault new.finder.outcome fault gives.is_open is;
+    no_fault = λ h fault is. open_has_no_fault new.finder.stand fault gives.is_open is;
     stays = λ top. absurd (not_after_top old.finder gives.was_ready top);
     listed = λ text options start h. listed_next old.path text options old.finder new.finder b out start old.written new.written gives put wrote h;
   };

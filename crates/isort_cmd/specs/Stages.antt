@@ -1,15 +1,16 @@
 -- What the calls of a listing promise one another. Contracts of private functions alone cite these.
 use Rattle.std.specs.Prelude.{◌≡◌, ◌<◌, ◌+◌, ℕ, Bool, true, false, Option, None, IfSome, Result, Ok, Err, List, ◌++◌, length}
 use Rattle.std.specs.Io.KnownBytes.{IsAtEnd}
-use Rattle.isort_find.specs.Pieces.{PieceFinderState, options_for, due_by, fed_by, has_ready}
+use Rattle.isort_find.specs.Pieces.{PieceFinderState, IsOver, HasNoFault, options_for, due_by, fed_by, has_ready}
 use Rattle.isort_find.specs.declared.options.FindOptions.{FindOptions}
-use Rattle.isort_find.specs.declared.finder.Outcome.TheVariants as outcome
+use Rattle.isort_find.specs.Stand.{phase_in}
+use Rattle.isort_find.specs.declared.walker.Phase.TheVariants as phase
 use Rattle.isort_sort.specs.Metered.{inner_of, last_of}
 use Rattle.isort_sort.specs.declared.metered.Last.{Last}
 use Rattle.isort_sort.specs.declared.metered.Last.TheVariants as last
 use Rattle.isort_sort.specs.declared.metered.Metered.{Metered}
 use Rattle.isort_cmd.specs.RunError.{LeavesWriter}
-use Rattle.isort_cmd.specs.Steps.{IsOutputError, HasNoFault, IsOver, IsListed, HasListed, LeavesReady, LeavesPiece, ListsRead, LeavesRead}
+use Rattle.isort_cmd.specs.Steps.{IsOutputError, IsListed, HasListed, LeavesReady, LeavesPiece, ListsRead, LeavesRead}
 use Rattle.isort_cmd.specs.Written.{Lists, LeavesAtError}
 use Rattle.isort_cmd.specs.declared.error.RunError.{RunError}
 use Rattle.isort_cmd.specs.declared.error.RunError.TheVariants as run
@@ -33,7 +34,7 @@ pub record GoesOn (old new : Stage) : Type 0 where
   pub fed : fed_by new.finder ≡ fed_by old.finder
   pub open_yet : new.finder.scanning.ended ≡ old.finder.scanning.ended
   pub no_fault : HasNoFault old.finder → HasNoFault new.finder
-  pub stays : old.finder.outcome ≡ outcome.End → new.finder.outcome ≡ outcome.End
+  pub stays : phase_in old.finder.stand ≡ phase.End → phase_in new.finder.stand ≡ phase.End
   pub listed : (text : List ℕ) (options : FindOptions) (start : Option (List ℕ)) → IsListed old.path text options old.finder start old.written → IsListed old.path text options new.finder start new.written
 
 -- one import that was ready was listed

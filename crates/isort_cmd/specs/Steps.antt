@@ -6,9 +6,8 @@ use Rattle.py_lines.specs.declared.fault.Fault.{Fault}
 use Rattle.py_imports.specs.Bound.{Bound}
 use Rattle.isort_find.specs.Found.{IsFound}
 use Rattle.isort_find.specs.Settled.{DecidesFound}
-use Rattle.isort_find.specs.Pieces.{PieceFinderState, HasFoundIn, AreSettled, AreAllSettled, IsUndecided, options_for, fed_by, has_ready}
+use Rattle.isort_find.specs.Pieces.{PieceFinderState, HasNoFault, IsOver, HasFoundIn, AreSettled, AreAllSettled, IsUndecided, options_for, fed_by, has_ready}
 use Rattle.isort_find.specs.declared.options.FindOptions.{FindOptions}
-use Rattle.isort_find.specs.declared.finder.Outcome.TheVariants as outcome
 use Rattle.isort_cmd.specs.Printed.{printed}
 use Rattle.isort_cmd.specs.Written.{AreFed, Lists, ListsPrefix}
 use Rattle.isort_sort.specs.Metered.{IsGivenUp}
@@ -29,14 +28,6 @@ IsOutputError (run.Fault f) l = l ≡ last.Fine
 IsOutputError run.Write l = IsGivenUp l
 IsOutputError run.Memory l = l ≡ last.Fine
 IsOutputError _ l = ⊥
-
--- the finder met no fault
-abbrev pub HasNoFault : PieceFinderState → Type 0
-HasNoFault finder = (fault : Fault) → finder.outcome ≡ outcome.Fault fault → ⊥
-
--- the text has ended, or the top
-abbrev pub IsOver : PieceFinderState → Type 0
-IsOver finder = (finder.scanning.ended ≡ true) ⊎ (finder.outcome ≡ outcome.End)
 
 -- What a finder over pieces gave of this text was listed, and before the text's end the bytes fed settle it.
 pub record IsListed (path text : List ℕ) (options : FindOptions) (finder : PieceFinderState) (start now : Option (List ℕ)) : Type 0 where

@@ -1,14 +1,13 @@
 -- A finder that is fed a text in pieces.
+pub mod Known
 pub mod Starts
-pub mod ReadLines
-pub mod TakenNext
-pub mod Rests
-pub mod Held
-pub mod Answers
-pub mod NoneReady
-pub mod Undecided
-pub mod NothingFed
+pub mod LetGo
 pub mod TriedLines
+pub mod Settled
+pub mod Held
 pub mod OneLine
 pub mod MoreLines
 pub mod WholePiece
+pub mod NothingFed
+pub mod Ready
+pub mod NoneReady

@@ -1,5 +1,4 @@
 -- A finder that has the whole text.
 pub mod TakenNext
-pub mod ReadLines
-pub mod LineSteps
+pub mod ReadLine
 pub mod Calls

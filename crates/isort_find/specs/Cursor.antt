@@ -10,7 +10,7 @@ use Rattle.isort_find.specs.Key.{Key, key_of, key_eq}
 use Rattle.isort_find.specs.Found.{firsts, ends_top}
 use Rattle.isort_find.specs.declared.options.ImportKey.{ImportKey}
 use Rattle.isort_find.specs.declared.options.FindOptions.{FindOptions}
-use Rattle.isort_find.specs.declared.pending.Place.{Place}
+use Rattle.isort_find.specs.declared.pending.LineStart.{LineStart}
 
 -- the options, the byte to go on from with its line, how many bindings of the logical line there were looked at, how
 -- many were given in all, and the keys of those
@@ -23,8 +23,15 @@ pub record CursorState : Type 0 where
   pub keys : List Key
 
 -- what a cursor is seen as, by its fields
-abbrev pub cursor_state : FindOptions → Place → ℕ → ℕ → List Key → CursorState
-cursor_state options place taken given keys = record { options = options; offset = place.offset; line = place.line; taken = taken; given = given; keys = keys }
+abbrev pub cursor_state : FindOptions → LineStart → ℕ → ℕ → List Key → CursorState
+cursor_state options start taken given keys = record {
+  options = options;
+  offset = start.offset;
+  line = start.line;
+  taken = taken;
+  given = given;
+  keys = keys;
+}
 
 -- at the start of a text
 abbrev pub first_cursor : FindOptions → CursorState

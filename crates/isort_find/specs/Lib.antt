@@ -1,3 +1,4 @@
+-- What the finders' contracts cite, and in Private what those of private functions alone cite.
 pub mod Key
 pub mod KeyText
 pub mod Found
@@ -5,6 +6,7 @@ pub mod Settled
 pub mod Lexing
 pub mod Cursor
 pub mod Pending
+pub mod Stand
 pub mod Finder
 pub mod Pieces
 pub mod Private

@@ -1,15 +1,19 @@
 -- The bindings of the logical line read last that weren't looked at yet, as contracts see them.
-use Rattle.std.specs.Prelude.{ℕ, List, map}
+use Rattle.std.specs.Prelude.{ℕ, List, length, map, min, drop}
 use Rattle.py_imports.specs.Bound.{Bound, bound_of}
 use Rattle.py_imports.specs.declared.binding.Binding.{Binding}
-use Rattle.isort_find.specs.declared.pending.Place.{Place}
+use Rattle.isort_find.specs.declared.pending.LineStart.{LineStart}
 
 -- where the line begins, how many of its bindings were looked at, and those that are left
 pub record PendingState : Type 0 where
-  pub place : Place
+  pub start : LineStart
   pub taken : ℕ
   pub left : List Bound
 
 -- the bindings that are left, by the fields of a `Pending`
-abbrev pub pending_state : Place → ℕ → List Binding → PendingState
-pending_state place taken bindings = record { place = place; taken = taken; left = map bound_of bindings }
+abbrev pub pending_state : LineStart → ℕ → List Binding → PendingState
+pending_state start taken bindings = record { start = start; taken = taken; left = map bound_of bindings }
+
+-- these bindings of the line are to be looked at, except so many that were
+abbrev pub pending_after : LineStart → ℕ → List Bound → PendingState
+pending_after start skip bounds = record { start = start; taken = min skip (length bounds); left = drop skip bounds }

@@ -5,7 +5,7 @@ ghost use Rattle.py_imports.specs.Bound.{bound_of};
 use crate::error::FindError;
 use crate::key::{KeyText, key_of};
 use crate::options::FindOptions;
-use crate::pending::Place;
+use crate::pending::LineStart;
 use indexmap::IndexSet;
 use py_imports::Binding;
 use std::alloc::Global;
@@ -14,10 +14,15 @@ use std::marker::Model;
 /// Where a finder stands in a text, with what it needs to go on: another finder goes on from here.
 #[derive(Drop)]
 pub struct Cursor {
+    /// Which imports are found.
     options: FindOptions,
-    place: Place,
+    /// Where the logical line begins from which a finder goes on.
+    start: LineStart,
+    /// How many bindings of that line were given or passed over.
     taken: usize,
+    /// How many imports were given.
     given: u64,
+    /// The keys of the imports given, where only the first under each is found.
     keys: IndexSet<KeyText>,
 }
 
@@ -28,7 +33,7 @@ impl Model for Cursor {
 
     ghost Value = { CursorState };
 
-    ghost view = { λ c. cursor_state c.options c.place c.taken c.given (map key_in c.keys.keys) };
+    ghost view = { λ c. cursor_state c.options c.start c.taken c.given (map key_in c.keys.keys) };
 }
 
 impl Cursor {
@@ -41,7 +46,7 @@ impl Cursor {
     {
         Cursor {
             options,
-            place: Place { offset: 0, line: 1 },
+            start: LineStart { offset: 0, line: 1 },
             taken: 0,
             given: 0,
             keys: IndexSet::new(alloc),
@@ -78,29 +83,29 @@ impl Cursor {
         }
     }
 
-    /// A binding of the logical line at `place` was given, and so many of its bindings were looked at.
-    pub(crate) fn give(&mut self, place: Place, taken: usize)
-        ensures { self.new ≡ cursor_after self.old place taken }
+    /// A binding of the logical line that begins at `start` was given, and so many of its bindings were looked at.
+    pub(crate) fn give(&mut self, start: LineStart, taken: usize)
+        ensures { self.new ≡ cursor_after self.old start taken }
     {
         self.given = self.given.saturating_add(1);
-        self.place = place;
+        self.start = start;
         self.taken = taken;
     }
 
-    /// What follows is at `place`, and nothing there was looked at.
-    pub(crate) fn stand(&mut self, place: Place)
-        ensures { self.new ≡ cursor_before self.old place }
+    /// What follows begins at `start`, and nothing of it was looked at.
+    pub(crate) fn move_to(&mut self, start: LineStart)
+        ensures { self.new ≡ cursor_before self.old start }
     {
-        self.place = place;
+        self.start = start;
         self.taken = 0;
     }
 
     /// Where the logical line begins from which a finder goes on.
-    pub(crate) fn place(&self) -> Place
+    pub(crate) fn start_of_line(&self) -> LineStart
         ensures offset { result.offset ≡ self.now.offset }
         ensures line { result.line ≡ self.now.line }
     {
-        self.place
+        self.start
     }
 
     /// How many bindings of that line were given or passed over.
@@ -116,7 +121,7 @@ impl Cursor {
     pub fn offset(&self) -> u64
         ensures { result ≡ self.now.offset }
     {
-        self.place.offset
+        self.start.offset
     }
 
     /// How many imports were given, over all finders that went on from one another. It stays at `u64::MAX`.

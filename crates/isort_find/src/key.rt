@@ -14,8 +14,11 @@ use std::alloc::{AllocError, Global};
 /// imports count as one.
 #[derive(Debug, Drop, PartialEq, Eq, Hash)]
 pub struct KeyText {
+    /// The module, or its leading dots and first name.
     text: String,
+    /// The attribute, if it counts.
     attribute: Option<String>,
+    /// The alias, if it counts.
     alias: Option<String>,
 }
 
@@ -51,7 +54,8 @@ fn key_with(
     attribute: &Option<String>,
     alias: &Option<String>,
 ) -> Result<KeyText, FindError>
-    ensures ok { IfOk result (λ k. key_in k ≡ key_with text.now (option_map string_bytes attribute.now) (option_map string_bytes alias.now)) }
+    ensures ok { IfOk result (λ k. key_in k
+        ≡ key_with text.now (option_map string_bytes attribute.now) (option_map string_bytes alias.now)) }
     ensures err { IfErr result (λ e. e ≡ FindError.Memory) }
 {
     Ok(KeyText {

@@ -8,7 +8,7 @@ ghost use Rattle.isort_find.specs.Cursor.{CursorState, HasStopped};
 ghost use Rattle.isort_find.specs.Found.{IsFound, BeginsFound};
 ghost use Rattle.isort_find.specs.Settled.{IsFoundSettled, DecidesFound};
 ghost use Rattle.isort_find.specs.declared.options.FindOptions.{FindOptions};
-ghost use Rattle.isort_find.specs.Finder.{FinderState, HasFound, text_of, options_of};
+ghost use Rattle.isort_find.specs.Finder.{FinderState, HasFound, finder_text, options_of};
 
 use crate::key::KeyText;
 use py_imports::laws::binds_or_is_bad;
@@ -25,7 +25,7 @@ pub fn equal_keys(one: &KeyText, other: &KeyText) -> bool
 /// What a finder has given, with those that it goes on from, begins what is found in its text: the rest comes after
 /// it. So does what was given by then where a finder, over pieces or over the whole text, stops.
 pub fn given_begin_the_found()
-    ensures begin { (f : FinderState) (bounds : List Bound) → HasFound f bounds → BeginsFound (text_of f) (options_of f) bounds }
+    ensures begin { (f : FinderState) (bounds : List Bound) → HasFound f bounds → BeginsFound (finder_text f) (options_of f) bounds }
     ensures stopped { (text : List ℕ) (cursor : CursorState) (bounds : List Bound) → HasStopped text cursor bounds → BeginsFound text cursor.options bounds }
 {
     given_lines_begin_the_text();

@@ -5,12 +5,14 @@ mod cursor;
 mod error;
 mod finder;
 mod key;
+mod known;
 pub mod laws;
 mod options;
 mod pending;
 mod pieces;
 mod step;
 mod take;
+mod walker;
 
 pub use cursor::Cursor;
 pub use error::{FindError, ResumeError};

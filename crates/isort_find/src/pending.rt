@@ -10,16 +10,21 @@ use std::marker::Model;
 
 /// Where a logical line begins: its first byte in the text, and that byte's line.
 #[derive(Clone, Copy)]
-pub struct Place {
+pub struct LineStart {
+    /// The first byte, from the text's start.
     pub offset: u64,
+    /// The line of that byte, from 1.
     pub line: u64,
 }
 
 /// The bindings of the logical line read last that weren't looked at yet.
 #[derive(Drop)]
 pub struct Pending {
+    /// Those that are left.
     bindings: VecDeque<Binding>,
-    place: Place,
+    /// Where the logical line begins.
+    start: LineStart,
+    /// How many of its bindings were looked at.
     taken: usize,
 }
 
@@ -30,7 +35,7 @@ impl Model for Pending {
 
     ghost Value = { PendingState };
 
-    ghost view = { λ p. pending_state p.place p.taken p.bindings.items };
+    ghost view = { λ p. pending_state p.start p.taken p.bindings.items };
 
     ghost invariant = { λ p. p.taken + deque_len p.bindings < 2 ^ 64 };
 }
@@ -48,21 +53,21 @@ impl Pending {
     ghost use Rattle.isort_find.specs.Private.LooksAtBindings.{Looks};
 
     /// Nothing to look at yet.
-    pub fn none(alloc: Global, place: Place) -> Pending
-        ensures place { result.place ≡ place }
+    pub fn none(alloc: Global, start: LineStart) -> Pending
+        ensures start { result.start ≡ start }
         ensures taken { result.taken ≡ 0 }
         ensures left { result.left ≡ [] }
     {
         Pending {
             bindings: VecDeque::new(alloc),
-            place,
+            start,
             taken: 0,
         }
     }
 
-    /// The bindings of the logical line at `place`, except the first `taken`, which were looked at before.
-    pub fn new(bindings: Vec<Binding>, place: Place, taken: usize) -> Pending
-        ensures place { result.place ≡ place }
+    /// The bindings of the logical line that begins at `start`, except the first `taken`, which were looked at before.
+    pub fn new(bindings: Vec<Binding>, start: LineStart, taken: usize) -> Pending
+        ensures start { result.start ≡ start }
         ensures taken { result.taken ≡ min taken (vec_len bindings) }
         ensures left { result.left ≡ drop taken (map bound_of bindings.items) }
     {
@@ -71,33 +76,8 @@ impl Pending {
         skip_first(&mut bindings, taken);
         Pending {
             bindings,
-            place,
+            start,
             taken,
-        }
-    }
-
-    /// The same as `refill`, which seldom calls it: most lines bind nothing.
-    #[cold]
-    fn replace(&mut self, bindings: Vec<Binding>, place: Place, taken: usize)
-        ensures place { self.new.place ≡ place }
-        ensures taken { self.new.taken ≡ min taken (vec_len bindings) }
-        ensures left { self.new.left ≡ drop taken (map bound_of bindings.items) }
-    {
-        *self = Pending::new(bindings, place, taken);
-    }
-
-    /// Puts the bindings of the logical line at `place`, except the first `taken`, in place of those that are left.
-    #[inline(always)]
-    pub fn refill(&mut self, bindings: Vec<Binding>, place: Place, taken: usize)
-        ensures place { self.new.place ≡ place }
-        ensures taken { self.new.taken ≡ min taken (vec_len bindings) }
-        ensures left { self.new.left ≡ drop taken (map bound_of bindings.items) }
-    {
-        if bindings.is_empty() && self.bindings.is_empty() {
-            self.place = place;
-            self.taken = 0;
-        } else {
-            self.replace(bindings, place, taken);
         }
     }
 
@@ -118,10 +98,10 @@ impl Pending {
     }
 
     /// Where the logical line begins.
-    pub fn place(&self) -> Place
-        ensures { result ≡ self.now.place }
+    pub fn start(&self) -> LineStart
+        ensures { result ≡ self.now.start }
     {
-        self.place
+        self.start
     }
 
     /// How many of its bindings were looked at.

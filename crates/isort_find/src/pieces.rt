@@ -1,18 +1,15 @@
 //! The imports of a text that comes in pieces.
-ghost use Rattle.std.specs.Prelude.{◌≡◌, ◌↔◌, ◌+◌, ◌≤◌, ◌^◌, ◌⊎◌, ℕ, List, [], true, false, None, Ok, length, map, IsTrue, IfOk, IfErr};
-ghost use Rattle.py_imports.specs.Bound.{Bound, bound_of};
+ghost use Rattle.std.specs.Prelude.{◌≡◌, ◌↔◌, ◌+◌, ◌≤◌, ◌^◌, ℕ, List, [], true, false, Ok, length, IsTrue, IfOk, IfErr};
+ghost use Rattle.py_imports.specs.Bound.{Bound};
 
 use crate::cursor::Cursor;
 use crate::error::{FindError, ResumeError};
-use crate::finder::Outcome;
+use crate::known::known_laws;
 use crate::options::FindOptions;
-use crate::pending::{Pending, Place};
-use crate::step::{Step, is_plain, judge};
-use crate::take::{pass_known, take_new};
+use crate::pending::LineStart;
+use crate::walker::{Phase, Walker};
 use py_imports::Binding;
-use py_imports::laws::binds_or_is_bad;
-use py_lines::laws::{given_lines_begin_the_text, one_lexing, settled_is_final};
-use py_lines::{Fault, LexError, Scanner};
+use py_lines::{LexError, Scanner};
 use std::alloc::Global;
 use std::marker::Model;
 
@@ -23,14 +20,10 @@ use std::marker::Model;
 /// what is ready then.
 #[derive(Drop)]
 pub struct PieceFinder {
-    alloc: Global,
+    /// Makes the logical lines, and holds the one that was read last until all of it was given.
     scanner: Scanner,
-    unread: bool,
-    skip: usize,
-    pending: Pending,
-    outcome: Outcome,
-    passed: u64,
-    cursor: Cursor,
+    /// Goes through them.
+    walker: Walker,
 }
 
 impl Model for PieceFinder {
@@ -38,20 +31,23 @@ impl Model for PieceFinder {
 
     ghost Value = { PieceFinderState };
 
-    ghost view = { λ f. piece_finder_state f.scanner f.unread f.skip f.pending f.outcome f.passed f.cursor };
+    ghost view = { λ f. piece_finder_state f.scanner f.walker.stand f.walker.cursor };
 }
 
 impl PieceFinder {
     ghost use Rattle.isort_find.specs.Cursor.{first_cursor, HasStopped};
-    ghost use Rattle.isort_find.specs.Pieces.{PieceFinderState, HasFoundIn, AreAllSettled, IsUndecided, IsOpenYet, FeedsPiece, GivesReady, EndsFeeding, fed_by, held_by, has_ready};
-    ghost use Rattle.isort_find.specs.Private.PieceSteps.{IsNextPlace, LetsLineGo, FollowsStep, HoldsPlain, ReadsReady, LooksAhead, TriesReady, TakesBytesOf, IsToGoOn, HasTakenAll, ReadsUnread, TakesReady, Rests, with_fault, with_read};
+    ghost use Rattle.isort_find.specs.Pieces.{PieceFinderState, HasFoundIn, AreAllSettled, IsUndecided, IsOpenYet, FeedsPiece};
+    ghost use Rattle.isort_find.specs.Pieces.{GivesReady, EndsFeeding, GoesOnFrom, fed_by, held_by, has_ready};
+    ghost use Rattle.isort_find.specs.Stand.{phase_in};
+    ghost use Rattle.isort_find.specs.Private.PieceSteps.{IsNextStart, LetsLineGo, TriesReady, TakesBytesOf, IsToGoOn, IsToStop};
+    ghost use Rattle.isort_find.specs.Private.PieceSteps.{HasTakenAll, ReadsUnread, TakesReady, Rests, with_passed};
 
     /// A finder at the start of a text, before its first piece. It answers `Memory` alone.
     pub fn new(alloc: Global, options: FindOptions) -> Result<PieceFinder, FindError>
         ensures cursor { IfOk result (λ f. f.cursor ≡ first_cursor options) }
         ensures fed { IfOk result (λ f. fed_by f ≡ 0) }
         ensures open_yet { IfOk result (λ f. f.scanning.ended ≡ false) }
-        ensures is_open { IfOk result (λ f. f.outcome ≡ Outcome.Open) }
+        ensures is_open { IfOk result (λ f. phase_in f.stand ≡ Phase.Open) }
         ensures none_ready { IfOk result (λ f. has_ready f ≡ false) }
         ensures found { IfOk result (λ f. (text : List ℕ) → HasFoundIn f text []) }
         ensures settled { IfOk result (λ f. (text : List ℕ) → AreAllSettled f text []) }
@@ -59,43 +55,22 @@ impl PieceFinder {
         ensures held { IfOk result (λ f. held_by f ≡ []) }
         ensures err { IfErr result (λ e. e ≡ FindError.Memory) }
     {
-        one_lexing();
-        given_lines_begin_the_text();
-        settled_is_final();
-        binds_or_is_bad();
+        known_laws();
         let Ok(scanner) = Scanner::new(alloc) else {
             return Err(FindError::Memory);
         };
-        Ok(PieceFinder {
-            alloc,
-            scanner,
-            unread: false,
-            skip: 0,
-            pending: Pending::none(alloc, Place { offset: 0, line: 1 }),
-            outcome: Outcome::Open,
-            passed: 0,
-            cursor: Cursor::start(alloc, options),
-        })
+        let walker = Walker::at(alloc, Cursor::start(alloc, options));
+        Ok(PieceFinder { scanner, walker })
     }
 
     /// Where the next logical line begins.
-    fn place(&self) -> Place
-        ensures { IsNextPlace self.now result }
+    fn start(&self) -> LineStart
+        ensures { IsNextStart self.now.scanning result }
     {
-        Place {
+        LineStart {
             offset: self.scanner.offset(),
             line: self.scanner.line(),
         }
-    }
-
-    /// The text has this fault, from now on. The logical line that has it begins at `place`.
-    fn fail(&mut self, place: Place, fault: Fault) -> FindError
-        ensures answer { result ≡ FindError.Fault fault }
-        ensures kept { self.new ≡ with_fault self.old place fault }
-    {
-        self.outcome = Outcome::Fault(fault);
-        self.cursor.stand(place);
-        FindError::Fault(fault)
     }
 
     /// Lets the logical line go that was read last, if it is held yet.
@@ -105,94 +80,18 @@ impl PieceFinder {
         if self.scanner.ready().is_some() {
             self.scanner.release();
         }
-    }
-
-    /// The bindings of the logical line at `place` are to be looked at, except those that were.
-    #[inline(always)]
-    fn look_at(&mut self, bindings: Vec<Binding>, place: Place)
-        ensures { self.new ≡ with_read self.old place (map bound_of bindings.items) }
-    {
-        self.pending.refill(bindings, place, self.skip);
-        self.skip = 0;
-        self.unread = false;
-    }
-
-    /// Does what follows from the logical line that is ready, which begins at `place`.
-    fn follow(&mut self, place: Place, step: Step) -> Result<(), FindError>
-        ensures { FollowsStep self.old place step result self.new }
-    {
-        match step {
-            Step::Bindings(bindings) => {
-                self.look_at(bindings, place);
-                Ok(())
-            }
-            Step::End => {
-                self.passed = self.scanner.fed();
-                self.outcome = Outcome::End;
-                Ok(())
-            }
-            Step::Fault(fault) => Err(self.fail(place, fault)),
-            Step::LineLost | Step::NoMemory => {
-                self.unread = true;
-                Err(FindError::Memory)
-            }
-        }
-    }
-
-    /// Whether a logical line is ready that binds nothing, as is seen at once.
-    #[inline(always)]
-    fn holds_plain(&self) -> bool
-        ensures { IsTrue result → HoldsPlain self.now }
-    {
-        match self.scanner.ready() {
-            Some(unit) => is_plain(&unit, self.cursor.options()),
-            None => false,
-        }
+        self.walker.leave();
     }
 
     /// Reads the logical line that is ready, if one is. Without memory for its bindings it is left unread.
-    fn read_line(&mut self) -> Result<(), FindError>
-        ensures { ReadsReady self.old result self.new }
-    {
-        let place = self.place();
-        let Some(unit) = self.scanner.ready() else {
-            self.unread = false;
-            return Ok(());
-        };
-        let step = judge(self.alloc, &unit, self.cursor.options());
-        self.follow(place, step)
-    }
-
-    /// Passes over bindings whose keys were given. Without memory the next one is left as if it were new.
-    fn look_ahead(&mut self)
-        ensures { LooksAhead self.old self.new }
-    {
-        let _ = pass_known(self.alloc, &mut self.pending, &self.cursor);
-    }
-
-    /// The same as `read_line`, where a line that is left unread is no error, and what is ready then is known.
     #[inline(always)]
     fn try_line(&mut self) -> Result<(), FindError>
         ensures { TriesReady self.old result self.new }
     {
-        if self.holds_plain() {
-            self.look_at(Vec::new(self.alloc), self.place());
-            return Ok(());
-        }
-        self.try_words()
-    }
-
-    /// The same, for a logical line that may bind something. It is apart so that other lines take few steps.
-    #[cold]
-    fn try_words(&mut self) -> Result<(), FindError>
-        ensures { TriesReady self.old result self.new }
-    {
-        match self.read_line() {
-            Err(FindError::Fault(fault)) => Err(FindError::Fault(fault)),
-            Ok(()) | Err(FindError::Memory) => {
-                self.look_ahead();
-                Ok(())
-            }
+        let start = self.start();
+        match self.scanner.ready() {
+            Some(unit) => self.walker.try_line(&unit, start),
+            None => Ok(()),
         }
     }
 
@@ -201,22 +100,19 @@ impl PieceFinder {
     fn take_line(&mut self, piece: &[u8]) -> Result<usize, FindError>
         requires fits { fed_by self.old + length piece.now ≤ 2 ^ 62 }
         requires open_yet { self.old.scanning.ended ≡ false }
-        requires is_open { self.old.outcome ≡ Outcome.Open }
+        requires is_open { phase_in self.old.stand ≡ Phase.Open }
         requires none_ready { has_ready self.old ≡ false }
         ensures { TakesBytesOf self.old piece.now result self.new }
     {
-        one_lexing();
-        given_lines_begin_the_text();
-        settled_is_final();
-        binds_or_is_bad();
+        known_laws();
         self.let_go();
-        let place = self.place();
+        let start = self.start();
         match self.scanner.feed(piece) {
             Ok(taken) => {
                 self.try_line()?;
                 Ok(taken)
             }
-            Err(LexError::Fault(fault)) => Err(self.fail(place, fault)),
+            Err(LexError::Fault(fault)) => Err(self.walker.fail(start, fault)),
             Err(LexError::Memory) => Err(FindError::Memory),
         }
     }
@@ -226,7 +122,7 @@ impl PieceFinder {
     fn take_lines(&mut self, piece: &[u8]) -> Result<usize, FindError>
         requires fits { fed_by self.old + length piece.now ≤ 2 ^ 62 }
         requires open_yet { self.old.scanning.ended ≡ false }
-        requires is_open { self.old.outcome ≡ Outcome.Open }
+        requires is_open { phase_in self.old.stand ≡ Phase.Open }
         requires none_ready { has_ready self.old ≡ false }
         ensures takes { TakesBytesOf self.old piece.now result self.new }
         ensures done { (n : ℕ) → result ≡ Ok n → has_ready self.new ≡ false → HasTakenAll piece.now n self.new }
@@ -238,7 +134,8 @@ impl PieceFinder {
                 Err(FindError::Fault(fault)) => return Err(FindError::Fault(fault)),
                 Err(FindError::Memory) if taken == 0 => return Err(FindError::Memory),
                 Err(FindError::Memory) => {
-                    self.unread = true;
+                    let start = self.start();
+                    self.walker.lose(start);
                     return Ok(taken);
                 }
             }
@@ -251,7 +148,7 @@ impl PieceFinder {
     /// Whether nothing is ready, and there is more of the piece, or a line is held that gave nothing.
     fn goes_on(&self, more: bool) -> bool
         ensures goes { IsTrue result → IsToGoOn self.now more }
-        ensures done { result ≡ false → has_ready self.now ≡ false → (self.now.outcome ≡ Outcome.Open → ⊥) ⊎ ((more ≡ false) × (self.now.scanning.ready ≡ None)) }
+        ensures done { result ≡ false → has_ready self.now ≡ false → IsToStop self.now more }
     {
         if !self.is_open() || self.has_ready() {
             return false;
@@ -264,18 +161,19 @@ impl PieceFinder {
 
     /// Whether neither the end nor a fault was met.
     fn is_open(&self) -> bool
-        ensures { IsTrue result ↔ (self.now.outcome ≡ Outcome.Open) }
+        ensures { IsTrue result ↔ (phase_in self.now.stand ≡ Phase.Open) }
     {
-        matches!(self.outcome, Outcome::Open)
+        self.walker.is_open()
     }
 
     /// After the top every piece is taken whole.
     fn pass(&mut self, piece: &[u8]) -> usize
-        requires { self.old.passed + length piece.now ≤ 2 ^ 62 }
+        requires { fed_by self.old + length piece.now ≤ 2 ^ 62 }
         ensures all { result ≡ length piece.now }
-        ensures passed { self.new ≡ record self.old { passed = self.old.passed + length piece.now } }
+        ensures passed { self.new ≡ with_passed self.old (length piece.now) }
     {
-        self.passed += piece.len() as u64;
+        let fed = self.fed();
+        self.walker.pass_to(fed + piece.len() as u64);
         piece.len()
     }
 
@@ -290,17 +188,14 @@ impl PieceFinder {
         requires open_yet { IsOpenYet self.old }
         ensures feeds { FeedsPiece self.old piece.now result self.new }
     {
-        one_lexing();
-        given_lines_begin_the_text();
-        settled_is_final();
-        binds_or_is_bad();
-        match self.outcome {
-            Outcome::Fault(fault) => Err(FindError::Fault(fault)),
-            Outcome::End => Ok(self.pass(piece)),
-            Outcome::Open if self.has_ready() => Ok(0),
-            Outcome::Open => {
+        known_laws();
+        match self.walker.phase() {
+            Phase::Fault(fault) => Err(FindError::Fault(fault)),
+            Phase::End => Ok(self.pass(piece)),
+            Phase::Open if self.has_ready() => Ok(0),
+            Phase::Open => {
                 let taken = self.take_lines(piece)?;
-                if let Outcome::End = self.outcome {
+                if let Phase::End = self.walker.phase() {
                     return Ok(taken + self.pass(&piece[taken..]));
                 }
                 Ok(taken)
@@ -313,7 +208,7 @@ impl PieceFinder {
     pub fn has_ready(&self) -> bool
         ensures { result ≡ has_ready self.now }
     {
-        self.is_open() && (self.unread || self.pending.front().is_some())
+        self.walker.has_ready()
     }
 
     /// Nothing is ready: the line read last is let go, and the cursor goes to where the next one begins. It stands there
@@ -324,34 +219,35 @@ impl PieceFinder {
         if self.is_open() {
             self.let_go();
         }
-        if self.skip == 0 {
-            let place = self.place();
-            self.cursor.stand(place);
-        }
+        let start = self.start();
+        self.walker.rest(start);
     }
 
     /// Reads the last logical line, if it was left unread.
     fn read_unread(&mut self) -> Result<(), FindError>
         ensures { ReadsUnread self.old result self.new }
     {
-        if self.unread {
-            return self.read_line();
+        if self.walker.unread().is_none() {
+            return Ok(());
         }
-        Ok(())
+        let start = self.start();
+        match self.scanner.ready() {
+            Some(unit) => self.walker.read(&unit, start),
+            None => {
+                self.walker.go_back();
+                Ok(())
+            }
+        }
     }
 
     /// The next binding of the last logical line whose key wasn't given yet. A line that was left unread is read first.
     fn take_ready(&mut self) -> Result<Option<Binding>, FindError>
-        requires is_open { self.old.outcome ≡ Outcome.Open }
         ensures { TakesReady self.old result self.new }
     {
         self.read_unread()?;
-        if !self.is_open() {
-            return Ok(None);
-        }
-        match take_new(self.alloc, &mut self.pending, &mut self.cursor) {
+        match self.walker.next_new() {
             Ok(binding) => {
-                self.look_ahead();
+                self.walker.look_ahead();
                 Ok(binding)
             }
             Err(error) => Err(error),
@@ -366,17 +262,14 @@ impl PieceFinder {
     pub fn next_ready(&mut self) -> Result<Option<Binding>, FindError>
         ensures next { GivesReady self.old result self.new }
     {
-        one_lexing();
-        given_lines_begin_the_text();
-        settled_is_final();
-        binds_or_is_bad();
-        match self.outcome {
-            Outcome::Fault(_) => Ok(None),
-            Outcome::End => {
+        known_laws();
+        match self.walker.phase() {
+            Phase::Fault(_) => Ok(None),
+            Phase::End => {
                 self.rest();
                 Ok(None)
             }
-            Outcome::Open => match self.take_ready() {
+            Phase::Open => match self.take_ready() {
                 Ok(Some(binding)) => Ok(Some(binding)),
                 Ok(None) => {
                     self.rest();
@@ -398,20 +291,17 @@ impl PieceFinder {
         requires open_yet { IsOpenYet self.old }
         ensures finishes { EndsFeeding self.old result self.new }
     {
-        one_lexing();
-        given_lines_begin_the_text();
-        settled_is_final();
-        binds_or_is_bad();
-        match self.outcome {
-            Outcome::Fault(fault) => return Err(FindError::Fault(fault)),
-            Outcome::End => return Ok(()),
-            Outcome::Open => {}
+        known_laws();
+        match self.walker.phase() {
+            Phase::Fault(fault) => return Err(FindError::Fault(fault)),
+            Phase::End => return Ok(()),
+            Phase::Open => {}
         }
         self.let_go();
-        let place = self.place();
+        let start = self.start();
         match self.scanner.finish() {
             Ok(()) => self.try_line(),
-            Err(LexError::Fault(fault)) => Err(self.fail(place, fault)),
+            Err(LexError::Fault(fault)) => Err(self.walker.fail(start, fault)),
             Err(LexError::Memory) => Err(FindError::Memory),
         }
     }
@@ -421,9 +311,9 @@ impl PieceFinder {
     pub fn held(&self) -> &[u8]
         ensures { result.now ≡ held_by self.now }
     {
-        match self.outcome {
-            Outcome::End => &[],
-            Outcome::Open | Outcome::Fault(_) => self.scanner.held(),
+        match self.walker.phase() {
+            Phase::End => &[],
+            Phase::Open | Phase::Fault(_) => self.scanner.held(),
         }
     }
 
@@ -431,10 +321,7 @@ impl PieceFinder {
     pub fn fed(&self) -> u64
         ensures { result ≡ fed_by self.now }
     {
-        match self.outcome {
-            Outcome::End => self.passed,
-            Outcome::Open | Outcome::Fault(_) => self.scanner.fed(),
-        }
+        self.scanner.fed().max(self.walker.passed())
     }
 
     /// The cursor from which another finder goes on, over pieces or over the whole text. It takes no memory.
@@ -442,8 +329,8 @@ impl PieceFinder {
         ensures cursor { result ≡ self.cursor }
         ensures stopped { (text : List ℕ) (bounds : List Bound) → HasFoundIn self text bounds → HasStopped text result bounds }
     {
-        let PieceFinder { cursor, .. } = self;
-        cursor
+        let PieceFinder { walker, .. } = self;
+        walker.stop()
     }
 
     /// A finder that goes on from the cursor, whose offset is at most 2^62: it is fed the text from that byte on. In
@@ -455,25 +342,19 @@ impl PieceFinder {
         ensures fed { IfOk result (λ f. fed_by f ≡ cursor.offset) }
         ensures open_yet { IfOk result (λ f. f.scanning.ended ≡ false) }
         ensures none_ready { IfOk result (λ f. has_ready f ≡ false) }
-        ensures found { IfOk result (λ f. (text : List ℕ) (bounds : List Bound) → HasStopped text cursor bounds → HasFoundIn f text bounds) }
+        ensures found { IfOk result (GoesOnFrom cursor) }
         ensures held { IfOk result (λ f. held_by f ≡ []) }
         ensures back { IfErr result (λ e. e.0 ≡ cursor) }
         ensures memory { IfErr result (λ e. e.1 ≡ ResumeError.Memory) }
     {
-        let place = cursor.place();
+        let start = cursor.start_of_line();
         // A cursor of a text stands on a line from 1 to its offset and 1.
-        let line = place.line.max(1).min(place.offset + 1);
-        match Scanner::at(alloc, place.offset, line) {
-            Ok(scanner) => Ok(PieceFinder {
-                alloc,
-                scanner,
-                unread: false,
-                skip: cursor.taken(),
-                pending: Pending::none(alloc, place),
-                outcome: Outcome::Open,
-                passed: 0,
-                cursor,
-            }),
+        let line = start.line.max(1).min(start.offset + 1);
+        match Scanner::at(alloc, start.offset, line) {
+            Ok(scanner) => {
+                let walker = Walker::at(alloc, cursor);
+                Ok(PieceFinder { scanner, walker })
+            }
             Err(_) => Err((cursor, ResumeError::Memory)),
         }
     }

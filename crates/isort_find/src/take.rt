@@ -19,7 +19,7 @@ pub fn take_new(
         let is_new = cursor.admit(alloc, binding)?;
         let taken = pending.take();
         if is_new {
-            cursor.give(pending.place(), pending.taken());
+            cursor.give(pending.start(), pending.taken());
             return Ok(taken);
         }
     }

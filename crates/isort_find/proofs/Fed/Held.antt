@@ -1,64 +1,55 @@
 -- What a finder over pieces holds of the text.
-use Rattle.std.proofs.Common.{◌≡◌, ℕ, ◌+◌, ◌<◌, Bool, true, false, ◌||◌, Option, None, Some, List, [], ◌++◌, length, take, inl, inr, ◌⊎◌, refl, sym, ap, ◌∙◌, subst}
+use Rattle.std.proofs.Common.{◌≡◌, ℕ, ◌<◌, true, false, Option, None, Some, List, ◌++◌, length, take, inl, inr, ◌⊎◌, refl, ◌∙◌, subst}
 use Rattle.py_lines.specs.LogicalLine.{LogicalLine}
 use Rattle.py_lines.specs.Lexed.{IsLexed}
 use Rattle.py_lines.specs.Settled.{IsSettled}
-use Rattle.py_lines.specs.ScannerState.{ScannerState, fed_of, ready_lines, GoesOnWith, HoldsReady, IsScanning}
+use Rattle.py_lines.specs.ScannerState.{ScannerState, fed_of, ready_lines, HoldsReady, IsScanning}
 use Rattle.py_imports.specs.Bound.{Bound}
-use Rattle.isort_find.specs.Pieces.{PieceFinderState, held_by, held_in, has_ready, ready_in, HasReleased, IsBetweenLines, IsWithinLine, HasFoundIn, HoldsRest, HoldsLine}
-use Rattle.isort_find.specs.declared.finder.Outcome.{Outcome}
-use Rattle.isort_find.specs.declared.finder.Outcome.TheVariants as outcome
+use Rattle.isort_find.specs.Cursor.{CursorState}
+use Rattle.isort_find.specs.Stand.{phase_in, is_unread, ready_in}
+use Rattle.isort_find.specs.Pieces.{piece_finder_state, held_in, HasReleased, IsBetweenLines, HasFoundIn, HoldsRest, HoldsLine}
+use Rattle.isort_find.specs.declared.walker.Stand.{Stand}
+use Rattle.isort_find.specs.declared.walker.Stand.TheVariants as stand
+use Rattle.isort_find.specs.declared.walker.Phase.TheVariants as phase
 use Rattle.isort_find.proofs.Finds.SettledFound.{append-nil-lines}
-use Rattle.isort_find.proofs.Fed.ReadLines.{reached_so}
-use Rattle.isort_find.proofs.Fed.Rests.{fed_open}
-
-true_or_false : (b : Bool) → b ≡ false → b ≡ true → ⊥
-true_or_false b h k = cc
-
-none_or_some : (r : Option LogicalLine) (line : LogicalLine) → r ≡ None → r ≡ Some line → ⊥
-none_or_some r line h k = cc
-
-held_open : (f : PieceFinderState) → f.outcome ≡ outcome.Open → held_by f ≡ f.scanning.held
-held_open f opened = ap (λ (o : Outcome). held_in o f.scanning) opened
+use Rattle.isort_find.proofs.Fed.Known.{none_or_some, still_scanning}
 
 -- the scanner stands in the text, and no line is ready
-rest_of : (f : PieceFinderState) (text : List ℕ) (lines : List LogicalLine) → f.outcome ≡ outcome.Open → f.scanning.ready ≡ None → IsScanning f.scanning text lines → HoldsRest f text
-rest_of f text lines opened none h =
-    let held = held_open f opened in
-    let fed = fed_open f opened in
-    let known = take (fed_of f.scanning) text in
-    record {
-      lines = lines;
-      first = h.first;
-      held = subst (λ (bytes : List ℕ). GoesOnWith text f.scanning.place bytes) (sym held) h.held;
-      fed = fed ∙ ap (λ (bytes : List ℕ). f.scanning.place + length bytes) (sym held);
-      settled = λ some.
-          let now : IsSettled known (lines ++ []) = subst (λ (r : Option LogicalLine). IsSettled known (lines ++ ready_lines r)) none (h.settled (subst (λ (bytes : List ℕ). 0 < length bytes) held some)) in
-          subst (λ (n : ℕ). IsSettled (take n text) lines) (sym fed) (subst (λ (ls : List LogicalLine). IsSettled known ls) (append-nil-lines lines) now);
-    }
-
-still_scanning : (s : ScannerState) (text : List ℕ) (lines : List LogicalLine) → s.ended ≡ false → HasReleased s text lines → IsScanning s text lines
-still_scanning s text lines yet (inl h) = h
-still_scanning s text lines yet (inr h) = absurd (true_or_false _ yet h.ended)
+rest_of : (s : ScannerState) (skip : ℕ) (cursor : CursorState) (text : List ℕ) (lines : List LogicalLine) → s.ready ≡ None → IsScanning s text lines → HoldsRest (piece_finder_state s (stand.Between skip) cursor) text
+rest_of s skip cursor text lines none h = record {
+  lines = lines;
+  first = h.first;
+  held = h.held;
+  fed = refl;
+  settled = λ some. subst (IsSettled (take (fed_of s) text)) (append-nil-lines lines) (subst (λ (r : Option LogicalLine). IsSettled (take (fed_of s) text) (lines ++ ready_lines r)) none (h.settled some));
+}
 
 -- between two lines
-pub between_rest : (f : PieceFinderState) (text : List ℕ) (bounds : List Bound) → f.outcome ≡ outcome.Open → f.scanning.ended ≡ false → f.scanning.ready ≡ None → IsBetweenLines f text bounds → HoldsRest f text
-between_rest f text bounds opened yet none b = rest_of f text b.after.lines opened none (still_scanning f.scanning text b.after.lines yet b.released)
+pub between_rest : (s : ScannerState) (skip : ℕ) (cursor : CursorState) (text : List ℕ) (bounds : List Bound) → s.ended ≡ false → s.ready ≡ None → IsBetweenLines s cursor text skip bounds → HoldsRest (piece_finder_state s (stand.Between skip) cursor) text
+between_rest s skip cursor text bounds yet none b = rest_of s skip cursor text b.after.lines none (still_scanning s text b.after.lines yet b.released)
 
 -- where no line is ready
-pub rest_any : (f : PieceFinderState) (text : List ℕ) (bounds : List Bound) → f.outcome ≡ outcome.Open → f.scanning.ended ≡ false → f.scanning.ready ≡ None → HasFoundIn f text bounds → HoldsRest f text
-rest_any f text bounds opened yet none h = by (reached_so f text bounds opened h)
-  where
-    by : IsBetweenLines f text bounds ⊎ IsWithinLine f text bounds → HoldsRest f text
-    by (inl b) = between_rest f text bounds opened yet none b
-    by (inr w) = absurd (none_or_some _ w.line none w.ready)
+pub rest_any : (s : ScannerState) (at : Stand) (cursor : CursorState) (text : List ℕ) (bounds : List Bound) → phase_in at ≡ phase.Open → s.ended ≡ false → s.ready ≡ None → HasFoundIn (piece_finder_state s at cursor) text bounds → HoldsRest (piece_finder_state s at cursor) text
+rest_any s (stand.Between skip) cursor text bounds opened yet none h = between_rest s skip cursor text bounds yet none h.reached.0
+rest_any s (stand.Unread start skip) cursor text bounds opened yet none h =
+    let r = between_rest s skip cursor text bounds yet none h.reached in
+    record { lines = r.lines; first = r.first; held = r.held; fed = r.fed; settled = r.settled }
+rest_any s (stand.Within p) cursor text bounds opened yet none h = absurd (none_or_some _ h.reached.line none h.reached.ready)
+rest_any s (stand.End passed) cursor text bounds opened yet none h = absurd cc
+rest_any s (stand.Fault fault) cursor text bounds opened yet none h = absurd cc
+
+held_open : (s : ScannerState) (at : Stand) → phase_in at ≡ phase.Open → held_in at s ≡ s.held
+held_open s (stand.Between skip) opened = refl
+held_open s (stand.Unread start skip) opened = refl
+held_open s (stand.Within p) opened = refl
+held_open s (stand.End passed) opened = absurd cc
+held_open s (stand.Fault fault) opened = refl
 
 -- after these lines one is ready
-line_of : (f : PieceFinderState) (text : List ℕ) (lines : List LogicalLine) (line : LogicalLine) → f.outcome ≡ outcome.Open → f.scanning.ready ≡ Some line → HasReleased f.scanning text lines → HoldsLine f text
-line_of f text lines line opened ready (inl h) =
-    let held = held_open f opened in
-    let known = take (fed_of f.scanning) text in
-    let whole = subst (HoldsReady f.scanning.held) ready h.whole in
+line_of : (s : ScannerState) (at : Stand) (cursor : CursorState) (text : List ℕ) (lines : List LogicalLine) (line : LogicalLine) → phase_in at ≡ phase.Open → s.ready ≡ Some line → HasReleased s text lines → HoldsLine (piece_finder_state s at cursor) text
+line_of s at cursor text lines line opened ready (inl h) =
+    let held = held_open s at opened in
+    let whole = subst (HoldsReady s.held) ready h.whole in
     record {
       lines = lines;
       line = line;
@@ -67,51 +58,44 @@ line_of f text lines line opened ready (inl h) =
       ready = ready;
       held = held ∙ whole.1;
       few = whole.2;
-      known = λ some. inl (subst (λ (r : Option LogicalLine). IsSettled known (lines ++ ready_lines r)) ready (h.settled (subst (λ (bytes : List ℕ). 0 < length bytes) held some)));
+      known = λ some. inl (subst (λ (r : Option LogicalLine). IsSettled (take (fed_of s) text) (lines ++ ready_lines r)) ready (h.settled (subst (λ (bytes : List ℕ). 0 < length bytes) held some)));
     }
-line_of f text lines line opened ready (inr h) =
-    let whole = subst (HoldsReady f.scanning.held) ready h.whole in
+line_of s at cursor text lines line opened ready (inr h) =
+    let whole = subst (HoldsReady s.held) ready h.whole in
     record {
       lines = lines;
       line = line;
       more = whole.0;
       first = h.first;
       ready = ready;
-      held = held_open f opened ∙ whole.1;
+      held = held_open s at opened ∙ whole.1;
       few = whole.2;
       known = λ some. inr (h.ended, subst (λ (r : Option LogicalLine). IsLexed text (lines ++ ready_lines r) None) ready h.lexed);
     }
 
 -- where a line is ready
-pub line_any : (f : PieceFinderState) (text : List ℕ) (bounds : List Bound) (line : LogicalLine) → f.outcome ≡ outcome.Open → f.scanning.ready ≡ Some line → HasFoundIn f text bounds → HoldsLine f text
-line_any f text bounds line opened ready h = by (reached_so f text bounds opened h)
-  where
-    by : IsBetweenLines f text bounds ⊎ IsWithinLine f text bounds → HoldsLine f text
-    by (inl b) = line_of f text b.after.lines line opened ready b.released
-    by (inr w) = line_of f text w.lines line opened ready w.released
+pub line_any : (s : ScannerState) (at : Stand) (cursor : CursorState) (text : List ℕ) (bounds : List Bound) (line : LogicalLine) → phase_in at ≡ phase.Open → s.ready ≡ Some line → HasFoundIn (piece_finder_state s at cursor) text bounds → HoldsLine (piece_finder_state s at cursor) text
+line_any s (stand.Between skip) cursor text bounds line opened ready h = line_of s (stand.Between skip) cursor text h.reached.0.after.lines line opened ready h.reached.0.released
+line_any s (stand.Unread start skip) cursor text bounds line opened ready h = line_of s (stand.Unread start skip) cursor text h.reached.after.lines line opened ready h.reached.released
+line_any s (stand.Within p) cursor text bounds line opened ready h = line_of s (stand.Within p) cursor text h.reached.lines line opened ready h.reached.released
+line_any s (stand.End passed) cursor text bounds line opened ready h = absurd cc
+line_any s (stand.Fault fault) cursor text bounds line opened ready h = absurd cc
 
-pub open_ready : (f : PieceFinderState) → has_ready f ≡ true → f.outcome ≡ outcome.Open
-open_ready f ready = by f.outcome refl
-  where
-    by : (o : Outcome) → f.outcome ≡ o → f.outcome ≡ outcome.Open
-    by outcome.Open is = is
-    by outcome.End is = absurd (true_or_false (has_ready f) (λ i. ready_in (is i) f.unread f.pending.left) ready)
-    by (outcome.Fault fault) is = absurd (true_or_false (has_ready f) (λ i. ready_in (is i) f.unread f.pending.left) ready)
-
-only_unread : (b : Bool) → b || false ≡ true → b ≡ true
-only_unread true h = refl
-only_unread false h = absurd (true_or_false false refl h)
+pub open_ready : (s : Stand) → ready_in s ≡ true → phase_in s ≡ phase.Open
+open_ready (stand.Between skip) ready = refl
+open_ready (stand.Unread start skip) ready = refl
+open_ready (stand.Within p) ready = refl
+open_ready (stand.End passed) ready = absurd cc
+open_ready (stand.Fault fault) ready = absurd cc
 
 -- where something is ready: a line, or the next one was left unread before it was whole
-pub ready_any : (f : PieceFinderState) (text : List ℕ) (bounds : List Bound) → f.scanning.ended ≡ false → has_ready f ≡ true → HasFoundIn f text bounds → HoldsLine f text ⊎ ((f.unread ≡ true) × HoldsRest f text)
-ready_any f text bounds yet ready h = by f.scanning.ready refl (reached_so f text bounds opened h)
+pub ready_any : (s : ScannerState) (at : Stand) (cursor : CursorState) (text : List ℕ) (bounds : List Bound) → s.ended ≡ false → ready_in at ≡ true → HasFoundIn (piece_finder_state s at cursor) text bounds → HoldsLine (piece_finder_state s at cursor) text ⊎ ((is_unread at ≡ true) × HoldsRest (piece_finder_state s at cursor) text)
+ready_any s (stand.Unread start skip) cursor text bounds yet ready h = by s.ready refl
   where
-    opened : f.outcome ≡ outcome.Open
-    opened = open_ready f ready
-
-    by : (r : Option LogicalLine) → f.scanning.ready ≡ r → IsBetweenLines f text bounds ⊎ IsWithinLine f text bounds → HoldsLine f text ⊎ ((f.unread ≡ true) × HoldsRest f text)
-    by (Some line) is at = inl (line_any f text bounds line opened is h)
-    by None is (inl b) =
-        let unread : f.unread || false ≡ true = (λ i. ready_in (sym opened i) f.unread (sym b.none i)) ∙ ready in
-        inr (only_unread f.unread unread, between_rest f text bounds opened yet is b)
-    by None is (inr w) = absurd (none_or_some _ w.line is w.ready)
+    by : (r : Option LogicalLine) → s.ready ≡ r → HoldsLine (piece_finder_state s (stand.Unread start skip) cursor) text ⊎ ((true ≡ true) × HoldsRest (piece_finder_state s (stand.Unread start skip) cursor) text)
+    by (Some line) is = inl (line_any s (stand.Unread start skip) cursor text bounds line refl is h)
+    by None is = inr (refl, rest_any s (stand.Unread start skip) cursor text bounds refl yet is h)
+ready_any s (stand.Within p) cursor text bounds yet ready h = inl (line_any s (stand.Within p) cursor text bounds h.reached.line refl h.reached.ready h)
+ready_any s (stand.Between skip) cursor text bounds yet ready h = absurd cc
+ready_any s (stand.End passed) cursor text bounds yet ready h = absurd cc
+ready_any s (stand.Fault fault) cursor text bounds yet ready h = absurd cc

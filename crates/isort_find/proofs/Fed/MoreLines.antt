@@ -1,33 +1,23 @@
 -- What a finder over pieces is once bytes were taken line by line.
-use Rattle.std.proofs.Common.{◌≡◌, ℕ, ◌+◌, ◌≤◌, Bool, true, false, Option, None, Some, Err, List, ◌++◌, length, take, drop, inl, inr, ◌⊎◌, refl, sym, ap, ◌∙◌, subst, length-append, arith}
+use Rattle.std.proofs.Common.{◌≡◌, ℕ, ◌+◌, ◌≤◌, false, None, List, ◌++◌, length, take, drop, inl, inr, ◌⊎◌, refl, sym, ap, ◌∙◌, subst, length-append, arith}
 use Rattle.std.proofs.Math.Seq.{take-add, take-append_seam}
 use Rattle.std.proofs.lemmas.List.{length-take-le, length-drop, drop-take}
-use Rattle.py_lines.specs.LogicalLine.{LogicalLine}
-use Rattle.py_lines.specs.ScannerState.{GoesOnWith}
+use Rattle.py_lines.specs.ScannerState.{ScannerState, GoesOnWith}
 use Rattle.py_lines.specs.declared.fault.Fault.{Fault}
 use Rattle.py_imports.specs.Bound.{Bound}
 use Rattle.isort_find.specs.Settled.{DecidesFound}
 use Rattle.isort_find.specs.Cursor.{CursorState}
-use Rattle.isort_find.specs.Pieces.{PieceFinderState, options_for, fed_by, has_ready, ready_in, IsBetweenLines, IsWithinLine, HasFoundIn, PieceFinderRunsOut, MeetsFaultIn}
-use Rattle.isort_find.specs.Private.PieceSteps.{TakesLines, TakesBytesOf, with_unread}
-use Rattle.isort_find.specs.declared.error.FindError.TheVariants as error
+use Rattle.isort_find.specs.Stand.{phase_in, skip_in}
+use Rattle.isort_find.specs.Pieces.{PieceFinderState, piece_finder_state, options_for, fed_by, has_ready, HasFoundIn, PieceFinderRunsOut, MeetsFaultIn}
+use Rattle.isort_find.specs.Private.PieceSteps.{TakesLines, TakesNothing}
 use Rattle.isort_find.specs.declared.options.FindOptions.{FindOptions}
-use Rattle.isort_find.specs.declared.finder.Outcome.{Outcome}
-use Rattle.isort_find.specs.declared.finder.Outcome.TheVariants as outcome
-use Rattle.isort_find.proofs.Fed.ReadLines.{gap_of, between_unread, reached_at, reached_so}
-use Rattle.isort_find.proofs.Fed.OneLine.{goes_both}
-
-true_or_false : (b : Bool) → b ≡ false → b ≡ true → ⊥
-true_or_false b h k = cc
-
-none_or_some : (r : Option LogicalLine) (line : LogicalLine) → r ≡ None → r ≡ Some line → ⊥
-none_or_some r line h k = cc
-
-some_fault : (o : Outcome) (fault : Fault) → o ≡ outcome.Open → o ≡ outcome.Fault fault → ⊥
-some_fault o fault h k = cc
-
-open_or_end : (o : Outcome) → o ≡ outcome.Open → o ≡ outcome.End → ⊥
-open_or_end o h k = cc
+use Rattle.isort_find.specs.declared.pending.LineStart.{LineStart}
+use Rattle.isort_find.specs.declared.walker.Stand.{Stand}
+use Rattle.isort_find.specs.declared.walker.Stand.TheVariants as stand
+use Rattle.isort_find.specs.declared.walker.Phase.TheVariants as phase
+use Rattle.isort_find.proofs.Fed.Known.{true_or_false, none_or_some}
+use Rattle.isort_find.proofs.Fed.LetGo.{fed_open}
+use Rattle.isort_find.proofs.Fed.OneLine.{goes_both, open_or_fault, open_or_end}
 
 -- the text goes on with the bytes taken first, and then with those taken next
 pub goes_then : (text : List ℕ) (place : ℕ) (piece : List ℕ) (t n : ℕ) → t ≤ length piece → n ≤ length (drop t piece) → GoesOnWith text place (take (t + n) piece) → GoesOnWith text place (take t piece) × GoesOnWith text (place + t) (take n (drop t piece))
@@ -61,7 +51,7 @@ takes_more old mid new piece t n first next =
     }
 
 -- bytes were taken, and then a fault was met
-fault_after : (old mid new : PieceFinderState) (piece : List ℕ) (t : ℕ) (fault : Fault) → old.outcome ≡ outcome.Open → has_ready old ≡ false → mid.outcome ≡ outcome.Open → TakesLines old piece t mid → MeetsFaultIn mid (drop t piece) fault new → MeetsFaultIn old piece fault new
+fault_after : (old mid new : PieceFinderState) (piece : List ℕ) (t : ℕ) (fault : Fault) → phase_in old.stand ≡ phase.Open → has_ready old ≡ false → phase_in mid.stand ≡ phase.Open → TakesLines old piece t mid → MeetsFaultIn mid (drop t piece) fault new → MeetsFaultIn old piece fault new
 fault_after old mid new piece t fault opened none going first next =
     let goes : (text : List ℕ) → GoesOnWith text (fed_by old) piece → GoesOnWith text (fed_by old) (take t piece) × GoesOnWith text (fed_by mid) (drop t piece) = λ text whole. let both = goes_both text (fed_by old) piece t first.within whole in (both.0, subst (λ (p : ℕ). GoesOnWith text p (drop t piece)) (sym first.fed) both.1) in
     let options : options_for mid ≡ options_for old = ap (λ (c : CursorState). c.options) first.cursor in
@@ -74,7 +64,7 @@ fault_after old mid new piece t fault opened none going first next =
           let place : fed_by mid + d.0 ≡ fed_by old + (t + d.0) = ap (λ k. k + d.0) first.fed ∙ omega arith in
           (t + d.0, (let k = first.within in let m = d.1 in omega (arith, size, k, m)), subst (λ (o : FindOptions). DecidesFound (take (fed_by old + (t + d.0)) text) o fault) options (subst (λ (p : ℕ). DecidesFound (take p text) (options_for mid) fault) place d.2));
       none_ready = none;
-      again = λ other was. absurd (some_fault _ other opened was);
+      again = λ other was. absurd (open_or_fault old.stand other opened was);
       was_in_top = λ top. open_or_end _ opened top;
       options = next.options ∙ options;
       given = next.given ∙ ap (λ (c : CursorState). c.given) first.cursor;
@@ -82,30 +72,36 @@ fault_after old mid new piece t fault opened none going first next =
       kept = next.kept;
     }
 
--- bytes were taken, and then memory ran out: the next line is left unread
-unread_after : (old mid last : PieceFinderState) (piece : List ℕ) (t : ℕ) → TakesLines old piece t mid → PieceFinderRunsOut mid last → last.scanning.ready ≡ None → length last.scanning.held ≤ length mid.scanning.held → TakesLines old piece t (with_unread last)
-unread_after old mid last piece t first keeps none shorter =
-    let ready : has_ready (with_unread last) ≡ true = (λ i. ready_in (keeps.is_open i) true last.pending.left) in
+-- memory ran out, and the next line is left unread
+abbrev pub lost : PieceFinderState → LineStart → PieceFinderState
+lost f start = record f { stand = stand.Unread start (skip_in f.stand) }
+
+-- where no line is ready, the finder is between two
+lost_found : (s : ScannerState) (at : Stand) (cursor : CursorState) (start : LineStart) (text : List ℕ) (bounds : List Bound) → phase_in at ≡ phase.Open → s.ready ≡ None → HasFoundIn (piece_finder_state s at cursor) text bounds → HasFoundIn (piece_finder_state s (stand.Unread start (skip_in at)) cursor) text bounds
+lost_found s (stand.Between skip) cursor start text bounds opened none h = record { stopped = h.stopped; reached = h.reached.0 }
+lost_found s (stand.Unread other skip) cursor start text bounds opened none h = record { stopped = h.stopped; reached = h.reached }
+lost_found s (stand.Within p) cursor start text bounds opened none h = absurd (none_or_some _ h.reached.line none h.reached.ready)
+lost_found s (stand.End passed) cursor start text bounds opened none h = absurd cc
+lost_found s (stand.Fault fault) cursor start text bounds opened none h = absurd cc
+
+-- bytes were taken, and then memory ran out
+lost_after : (old mid last : PieceFinderState) (piece : List ℕ) (t : ℕ) (start : LineStart) → TakesLines old piece t mid → TakesNothing mid last → TakesLines old piece t (lost last start)
+lost_after old mid last piece t start first nothing =
+    let keeps = nothing.keeps in
+    let shorter = nothing.held in
     record {
       within = first.within;
-      found = λ text bounds h goes. unread (keeps.found text bounds (first.found text bounds h goes));
-      all = λ text bounds h goes nothing. absurd (true_or_false _ nothing ready);
-      undecided = λ text bounds h goes nothing drained. absurd (true_or_false _ nothing ready);
+      found = λ text bounds h goes. lost_found last.scanning last.stand last.cursor start text bounds keeps.is_open nothing.none_ready (keeps.found text bounds (first.found text bounds h goes));
+      all = λ text bounds h goes none. absurd (true_or_false _ none refl);
+      undecided = λ text bounds h goes none drained. absurd (true_or_false _ none refl);
       some = first.some;
       held = let k = first.held in omega (arith, k, shorter);
       gone = λ line was. let k = first.gone line was in omega (arith, k, shorter);
-      fed = keeps.fed ∙ first.fed;
+      fed = sym (fed_open last keeps.is_open) ∙ keeps.fed ∙ first.fed;
       cursor = keeps.cursor ∙ first.cursor;
-      no_fault = λ fault at. some_fault _ fault keeps.is_open at;
+      no_fault = λ fault at. cc;
       open_yet = keeps.open_yet ∙ first.open_yet;
     }
-  where
-    unread : {text : List ℕ} {bounds : List Bound} → HasFoundIn last text bounds → HasFoundIn (with_unread last) text bounds
-    unread {text} {bounds} h = record { stopped = h.stopped; reached = reached_at (with_unread last) text bounds keeps.is_open (inl (by (reached_so last text bounds keeps.is_open h))) }
-      where
-        by : IsBetweenLines last text bounds ⊎ IsWithinLine last text bounds → IsBetweenLines (with_unread last) text bounds
-        by (inl b) = between_unread last text bounds (gap_of last text bounds b)
-        by (inr w) = absurd (none_or_some _ w.line none w.ready)
 
 -- what was taken so far within a call: nothing yet, or bytes
 abbrev pub HasTaken : PieceFinderState → List ℕ → ℕ → PieceFinderState → Type 0
@@ -120,17 +116,17 @@ takes_next old mid new piece t n (inl begun) next =
 takes_next old mid new piece t n (inr first) next = takes_more old mid new piece t n first next
 
 -- a fault was met
-pub fault_next : (old mid new : PieceFinderState) (piece : List ℕ) (t : ℕ) (fault : Fault) → old.outcome ≡ outcome.Open → has_ready old ≡ false → mid.outcome ≡ outcome.Open → HasTaken old piece t mid → MeetsFaultIn mid (drop t piece) fault new → MeetsFaultIn old piece fault new
+pub fault_next : (old mid new : PieceFinderState) (piece : List ℕ) (t : ℕ) (fault : Fault) → phase_in old.stand ≡ phase.Open → has_ready old ≡ false → phase_in mid.stand ≡ phase.Open → HasTaken old piece t mid → MeetsFaultIn mid (drop t piece) fault new → MeetsFaultIn old piece fault new
 fault_next old mid new piece t fault opened none going (inl begun) next = subst (λ (f : PieceFinderState). MeetsFaultIn f piece fault new) begun.1 (subst (λ (k : ℕ). MeetsFaultIn mid (drop k piece) fault new) begun.0 next)
 fault_next old mid new piece t fault opened none going (inr first) next = fault_after old mid new piece t fault opened none going first next
 
 -- memory ran out after the first byte
-pub unread_next : (old mid last : PieceFinderState) (piece : List ℕ) (t : ℕ) → (t ≡ 0 → ⊥) → HasTaken old piece t mid → PieceFinderRunsOut mid last → last.scanning.ready ≡ None → length last.scanning.held ≤ length mid.scanning.held → TakesLines old piece t (with_unread last)
-unread_next old mid last piece t some (inl begun) keeps none shorter = absurd (some begun.0)
-unread_next old mid last piece t some (inr first) keeps none shorter = unread_after old mid last piece t first keeps none shorter
+pub lost_next : (old mid last : PieceFinderState) (piece : List ℕ) (t : ℕ) (start : LineStart) → (t ≡ 0 → ⊥) → HasTaken old piece t mid → TakesNothing mid last → TakesLines old piece t (lost last start)
+lost_next old mid last piece t start some (inl begun) nothing = absurd (some begun.0)
+lost_next old mid last piece t start some (inr first) nothing = lost_after old mid last piece t start first nothing
 
 -- memory ran out after lines of no byte of the piece
-keeps_after : (old mid last : PieceFinderState) (piece : List ℕ) → old.outcome ≡ outcome.Open → has_ready old ≡ false → has_ready mid ≡ false → TakesLines old piece 0 mid → PieceFinderRunsOut mid last → PieceFinderRunsOut old last
+keeps_after : (old mid last : PieceFinderState) (piece : List ℕ) → phase_in old.stand ≡ phase.Open → has_ready old ≡ false → has_ready mid ≡ false → TakesLines old piece 0 mid → PieceFinderRunsOut mid last → PieceFinderRunsOut old last
 keeps_after old mid last piece opened none none_mid first keeps =
     let found : (text : List ℕ) (bounds : List Bound) → HasFoundIn old text bounds → HasFoundIn mid text bounds = λ text bounds h. first.found text bounds h refl in
     record {
@@ -146,8 +142,8 @@ keeps_after old mid last piece opened none none_mid first keeps =
     }
 
 -- memory ran out before the first byte
-pub keeps_next : (old mid last : PieceFinderState) (piece : List ℕ) (t : ℕ) → t ≡ 0 → old.outcome ≡ outcome.Open → has_ready old ≡ false → has_ready mid ≡ false → HasTaken old piece t mid → TakesBytesOf mid (drop t piece) (Err error.Memory) last → TakesBytesOf old piece (Err error.Memory) last
-keeps_next old mid last piece t is opened none none_mid (inl begun) keeps = subst (λ (f : PieceFinderState). TakesBytesOf f piece (Err error.Memory) last) begun.1 keeps
-keeps_next old mid last piece t is opened none none_mid (inr first) keeps =
-    let begun = subst (λ (k : ℕ). TakesLines old piece k mid) is first in
-    (keeps_after old mid last piece opened none none_mid begun keeps.0, keeps.1, (let k = keeps.2 in let m = begun.held in omega (arith, k, m)))
+pub keeps_next : (old mid last : PieceFinderState) (piece : List ℕ) (t : ℕ) → t ≡ 0 → phase_in old.stand ≡ phase.Open → has_ready old ≡ false → has_ready mid ≡ false → HasTaken old piece t mid → TakesNothing mid last → TakesNothing old last
+keeps_next old mid last piece t is opened none none_mid (inl begun) nothing = subst (λ (f : PieceFinderState). TakesNothing f last) begun.1 nothing
+keeps_next old mid last piece t is opened none none_mid (inr first) nothing =
+    let taken = subst (λ (k : ℕ). TakesLines old piece k mid) is first in
+    record { keeps = keeps_after old mid last piece opened none none_mid taken nothing.keeps; none_ready = nothing.none_ready; held = let k = nothing.held in let m = taken.held in omega (arith, k, m) }

@@ -1,169 +1,204 @@
 -- What a finder over pieces answers where nothing is ready.
-use Rattle.std.proofs.Common.{◌≡◌, ℕ, ◌+◌, ◌-◌, Bool, true, false, ◌&&◌, Option, None, Result, Ok, Err, List, [], ◌∷◌, ◌++◌, take, drop, inl, inr, ◌⊎◌, refl, sym, ap, ◌∙◌, subst, append_assoc, append-nil, arith}
-use Rattle.std.proofs.Math.Seq.{take-add}
-use Rattle.py_lines.specs.LogicalLine.{LogicalLine}
-use Rattle.py_lines.specs.declared.fault.Fault.{Fault}
-use Rattle.py_lines.specs.Settled.{IsSettled}
-use Rattle.py_lines.specs.ScannerState.{ScannerState, fed_of}
-use Rattle.py_imports.specs.Bound.{Bound}
-use Rattle.isort_find.specs.Found.{firsts, counted_lines, AreFound, of_all, IsFound}
-use Rattle.isort_find.specs.Cursor.{CursorState, HasStopped, BeginsNew, has_key}
-use Rattle.isort_find.specs.Finder.{MeetsEndAt}
-use Rattle.isort_find.specs.Pieces.{PieceFinderState, options_for, fed_by, fed_in, has_ready, ready_in, are_left, IsUnsure, AreKnown, IsAtTopEnd, HasReachedIn, HasFoundIn, AreAllSettled, GivesNone}
+use Rattle.std.proofs.Common.{◌≡◌, ℕ, Bool, true, false, ◌&&◌, Option, None, Result, Ok, Err, List, [], ◌∷◌, ◌++◌, inl, inr, ◌⊎◌, refl, sym, ap, ◌∙◌, subst, append-nil, arith}
+use Rattle.std.proofs.lemmas.List.{nil_from_length}
 use Rattle.std.specs.List.{list_all}
+use Rattle.py_lines.specs.LogicalLine.{LogicalLine}
+use Rattle.py_lines.specs.Lexed.{IsLexed}
+use Rattle.py_lines.specs.ScannerState.{ScannerState, ready_lines}
+use Rattle.py_lines.specs.declared.fault.Fault.{Fault}
+use Rattle.py_imports.specs.Bound.{Bound}
 use Rattle.py_imports.specs.declared.binding.Binding.{Binding}
+use Rattle.isort_find.specs.Found.{firsts, IsFound}
+use Rattle.isort_find.specs.Cursor.{CursorState, IsAfter, HasStopped, BeginsNew, has_key}
 use Rattle.isort_find.specs.Pending.{PendingState}
-use Rattle.isort_find.specs.Private.PieceSteps.{LetsLineGo, StandsNext, Rests, ReadsUnread, FollowsStep, TakesRead, TakesAfter, TakesReady, with_top_end}
+use Rattle.isort_find.specs.Stand.{phase_in, skip_in, left_in, is_unread, are_left, ready_in, MeetsEndAt}
+use Rattle.isort_find.specs.Pieces.{PieceFinderState, piece_finder_state, options_for, fed_in, fed_by, has_ready, IsOver, IsUnsure, HasReleased, IsBetweenLines, IsAtTopEnd, HasFoundIn, FindsAll, GivesNone}
+use Rattle.isort_find.specs.Private.CursorMoves.{cursor_before}
+use Rattle.isort_find.specs.Private.KnownLaws.{SettledLaws, OneSettled, AscentLaws}
 use Rattle.isort_find.specs.Private.LooksAtBindings.{Passes}
+use Rattle.isort_find.specs.Private.PieceSteps.{IsNextStart, ReleasesAny, MayStandNext, MayLetLineGo, Rests, ReadsUnread, TakesRead, TakesAfter, TakesReady}
+use Rattle.isort_find.specs.Private.Walks.{WalkerState, LooksAhead, walker_state}
 use Rattle.isort_find.specs.declared.error.FindError.{FindError}
-use Rattle.isort_find.specs.declared.pending.Place.{Place}
-use Rattle.isort_find.specs.declared.step.Step.{Step}
-use Rattle.isort_find.specs.declared.step.Step.TheVariants as step
 use Rattle.isort_find.specs.declared.options.FindOptions.{FindOptions}
-use Rattle.isort_find.specs.declared.finder.Outcome.{Outcome}
-use Rattle.isort_find.specs.declared.finder.Outcome.TheVariants as outcome
-use Rattle.isort_find.proofs.Finds.CountedLines.{counted-cut}
-use Rattle.isort_find.proofs.Finds.OneFound.{one_of}
-use Rattle.isort_find.proofs.Finds.SettledFound.{SettledLaws}
-use Rattle.isort_find.proofs.Fed.ReadLines.{reached_at}
-use Rattle.isort_find.proofs.Fed.TakenNext.{OneSettled, pieces_passed, looked_ahead}
-use Rattle.isort_find.proofs.Fed.Answers.{unread_keeps, unread_found}
-use Rattle.isort_find.proofs.Wholes.TakenNext.{nothing_dropped}
+use Rattle.isort_find.specs.declared.pending.LineStart.{LineStart}
+use Rattle.isort_find.specs.declared.walker.Stand.{Stand}
+use Rattle.isort_find.specs.declared.walker.Stand.TheVariants as stand
+use Rattle.isort_find.specs.declared.walker.Phase.TheVariants as phase
+use Rattle.isort_find.proofs.Finds.LinePlaces.{bytes_given, bytes_lexed}
+use Rattle.isort_find.proofs.Finds.SettledFound.{append-nil-lines}
+use Rattle.isort_find.proofs.Walks.Inside.{nothing_dropped, inside_passed}
+use Rattle.isort_find.proofs.Walks.NextLine.{IsAtNothing, nothing_at_end, found_whole, found_lexed, found_at_top, stops_before}
+use Rattle.isort_find.proofs.Fed.Known.{start_of, known_begins, true_or_false}
+use Rattle.isort_find.proofs.Fed.LetGo.{begun_is, gone_between, fed_gone, ended_gone, fed_open}
+use Rattle.isort_find.proofs.Fed.Settled.{gap_settled, top_settled}
 use Rattle.isort_find.proofs.Fed.Held.{between_rest}
-use Rattle.isort_find.proofs.Fed.Rests.{AscentLaws, IsResting, rests_so, rests_open, rests_top, top_found, ended_found, ended_at, gap_settled}
+use Rattle.isort_find.proofs.Fed.OneLine.{open_or_fault, open_or_end}
+use Rattle.isort_find.proofs.Fed.Ready.{unread_found, unread_so, unread_read}
 
-true_or_false : (b : Bool) → b ≡ false → b ≡ true → ⊥
-true_or_false b h k = cc
+-- after all lines of a text
+all_lexed : (s : ScannerState) (cursor : CursorState) (text : List ℕ) (skip : ℕ) (bounds : List Bound) → s.ended ≡ true → s.ready ≡ None → (b : IsBetweenLines s cursor text skip bounds) → IsLexed text b.after.lines None
+all_lexed s cursor text skip bounds over none b = by b.after.lines b.released
+  where
+    by : (lines : List LogicalLine) → HasReleased s text lines → IsLexed text lines None
+    by lines (inl h) = absurd (true_or_false _ h.open_yet over)
+    by lines (inr h) = subst (λ (ls : List LogicalLine). IsLexed text ls None) (append-nil-lines lines) (subst (λ (x : Option LogicalLine). IsLexed text (lines ++ ready_lines x) None) none h.lexed)
 
-pub known_open : (s : ScannerState) (text : List ℕ) (lines : List LogicalLine) → s.ended ≡ false → AreKnown s text lines → IsSettled (take (fed_of s) text) lines
-known_open s text lines yet (inl settled) = settled
-known_open s text lines yet (inr ended) = absurd (true_or_false _ yet ended.0)
+-- between two lines, where the cursor stands
+record IsResting (s : ScannerState) (cursor : CursorState) (text : List ℕ) (skip : ℕ) (bounds : List Bound) : Type 0 where
+  pub between : IsBetweenLines s cursor text skip bounds
+  pub stopped : HasStopped text cursor bounds
+  pub stands : cursor.offset ≡ s.place
 
--- after the top all that is settled was given
-pub top_settled : SettledLaws → AscentLaws → (f : PieceFinderState) (text : List ℕ) (bounds : List Bound) → f.outcome ≡ outcome.End → f.scanning.ended ≡ false → IsAtTopEnd f text bounds → AreAllSettled f text bounds
-top_settled laws ascent f text bounds at yet t = λ found bad s.
-    let unique = (options_for f).unique in
-    let first = fed_of f.scanning in
-    let more = f.passed - first in
-    let fed : fed_by f ≡ first + more = ap (λ (o : Outcome). fed_in o f.scanning f.passed) at ∙ omega (arith, t.fed) in
-    let now : IsSettled (take first text ++ take more (drop first text)) s.lines = subst (λ (known : List ℕ). IsSettled known s.lines) (ap (λ n. take n text) fed ∙ take-add first more text) s.settled in
-    let grown = ascent.grow (take first text) (take more (drop first text)) (t.lines ++ t.line ∷ []) s.lines (known_open f.scanning text (t.lines ++ t.line ∷ []) yet t.known) now in
-    let counted : counted_lines (options_for f) s.lines ≡ t.lines = ap (counted_lines (options_for f)) (grown.1 ∙ append_assoc t.lines (t.line ∷ []) grown.0) ∙ counted-cut (options_for f) t.lines t.line grown.0 t.in_top t.ends in
-    let are = subst (λ (ls : List LogicalLine). AreFound unique ls None found bad) counted s.found in
-    let is = (one_of laws.ends unique t.lines None found (firsts unique [] t.before) bad None are (of_all unique t.lines None (firsts unique [] t.before) None t.before t.binds refl refl)).0 in
-    ([], t.found ∙ sym is ∙ sym (append-nil found))
+-- the cursor goes there
+goes_next : (s : ScannerState) (cursor : CursorState) (start : LineStart) (text : List ℕ) (skip : ℕ) (bounds : List Bound) → IsNextStart s start → skip ≡ 0 → IsBetweenLines s cursor text skip bounds → HasStopped text cursor bounds → IsResting s (cursor_before cursor start) text skip bounds
+goes_next s cursor start text skip bounds here fresh b stopped =
+    let is : start ≡ start_of s = (λ i. record { offset = here.offset i; line = here.line i }) in
+    let none = nil_from_length b.after.part (sym b.after.is_part.0 ∙ fresh) in
+    let n : IsAtNothing b.after = record { none = none; found = found_whole b.after none } in
+    record {
+      between = record { after = b.after; released = b.released; stands = inl fresh };
+      stopped = subst (λ (x : LineStart). HasStopped text (cursor_before cursor x) bounds) (sym is) (stops_before cursor (start_of s) b.after n stopped);
+      stands = here.offset;
+    }
+
+-- or stands there
+stays_there : (s : ScannerState) (cursor : CursorState) (text : List ℕ) (skip : ℕ) (bounds : List Bound) → ¬ (skip ≡ 0) → IsBetweenLines s cursor text skip bounds → HasStopped text cursor bounds → IsResting s cursor text skip bounds
+stays_there s cursor text skip bounds some b stopped = record { between = b; stopped = stopped; stands = there b.stands }
+  where
+    there : (skip ≡ 0) ⊎ (cursor.offset ≡ s.place) → cursor.offset ≡ s.place
+    there (inl fresh) = absurd (some fresh)
+    there (inr at) = at
+
+-- where the finder stands then: at the same byte and line, with its cursor moved or not
+record RestsAt (t : ScannerState) (skip : ℕ) (cursor : CursorState) (new : PieceFinderState) : Type 0 where
+  pub last : CursorState
+  pub same : new ≡ piece_finder_state t (stand.Between skip) last
+  pub options : last.options ≡ cursor.options
+  pub given : last.given ≡ cursor.given
+  pub rests : (text : List ℕ) (bounds : List Bound) → IsBetweenLines t cursor text skip bounds → HasStopped text cursor bounds → IsResting t last text skip bounds
+
+rests_at : (t : ScannerState) (skip : ℕ) (cursor : CursorState) (new : PieceFinderState) → MayStandNext (piece_finder_state t (stand.Between skip) cursor) new → RestsAt t skip cursor new
+rests_at t skip cursor new (inl s) = record { last = cursor_before cursor s.start; same = s.same; options = refl; given = refl; rests = λ text bounds b stopped. goes_next t cursor s.start text skip bounds s.here s.fresh b stopped }
+rests_at t skip cursor new (inr s) = record { last = cursor; same = s.1; options = refl; given = refl; rests = λ text bounds b stopped. stays_there t cursor text skip bounds s.0 b stopped }
 
 -- a finder that has given the same as another, with nothing left to give
-pub record IsLeft (old f : PieceFinderState) : Type 0 where
+record IsLeft (old f : PieceFinderState) : Type 0 where
   pub found : (text : List ℕ) (bounds : List Bound) → HasFoundIn old text bounds → HasFoundIn f text bounds
   pub fed : fed_by f ≡ fed_by old
   pub ended : f.scanning.ended ≡ old.scanning.ended
   pub options : options_for f ≡ options_for old
   pub given : f.cursor.given ≡ old.cursor.given
-  pub stays : old.outcome ≡ outcome.End → f.outcome ≡ outcome.End
+  pub stays : phase_in old.stand ≡ phase.End → phase_in f.stand ≡ phase.End
   pub unsure : has_ready old ≡ true → IsUnsure old
 
-open_or_end : (o : Outcome) → o ≡ outcome.Open → o ≡ outcome.End → ⊥
-open_or_end o h k = cc
-
-open_or_fault : (o : Outcome) (fault : Fault) → o ≡ outcome.Open → o ≡ outcome.Fault fault → ⊥
-open_or_fault o fault h k = cc
-
-end_or_fault : (o : Outcome) (fault : Fault) → o ≡ outcome.End → o ≡ outcome.Fault fault → ⊥
-end_or_fault o fault h k = cc
+not_over : (f : PieceFinderState) → phase_in f.stand ≡ phase.Open → IsOver f → f.scanning.ended ≡ true
+not_over f opened (inl over) = over
+not_over f opened (inr top) = absurd (open_or_end _ opened top)
 
 -- nothing is ready in a line or between two
-pub none_open : SettledLaws → OneSettled → AscentLaws → (old f new : PieceFinderState) → IsLeft old f → f.outcome ≡ outcome.Open → f.pending.left ≡ [] → f.unread ≡ false → Rests f new → GivesNone old new
-none_open laws one ascent old f new left opened none read r =
-    let so = rests_so f new r in
-    let here : new.outcome ≡ outcome.Open = so.outcome ∙ opened in
-    let unread : new.unread ≡ false = so.unread ∙ read in
-    let options : options_for new ≡ options_for old = so.options ∙ left.options in
-    let ended : new.scanning.ended ≡ old.scanning.ended = so.ended ∙ left.ended in
-    let resting : (text : List ℕ) (bounds : List Bound) → HasFoundIn old text bounds → IsResting new text bounds = λ text bounds h. rests_open f new text bounds opened none read r (left.found text bounds h) in
-    record {
-      found = λ text bounds h. let q = resting text bounds h in record { stopped = q.stopped; reached = reached_at new text bounds here (inl q.between) };
-      all = λ text bounds h yet fine. let q = resting text bounds h in gap_settled laws one ascent new text bounds here (ended ∙ yet) (q.between.unread unread) q.between;
-      whole = λ text bounds h over fine. whole new here unread options over text bounds (resting text bounds h);
-      rest = λ text bounds h yet going. let q = resting text bounds h in between_rest new text bounds here (ended ∙ yet) (q.between.unread unread) q.between;
+none_open : SettledLaws → OneSettled → AscentLaws → (old f : PieceFinderState) (t : ScannerState) (new : PieceFinderState) → IsLeft old f → phase_in f.stand ≡ phase.Open → has_ready f ≡ false → ReleasesAny f.scanning t → t.ready ≡ None → RestsAt t (skip_in f.stand) f.cursor new → GivesNone old new
+none_open laws one ascent old f t new left opened none gone nothing r =
+    let skip = skip_in f.stand in
+    let g = piece_finder_state t (stand.Between skip) r.last in
+    let options : r.last.options ≡ options_for old = r.options ∙ left.options in
+    let ended : t.ended ≡ old.scanning.ended = ended_gone f.scanning t gone ∙ left.ended in
+    let resting : (text : List ℕ) (bounds : List Bound) → HasFoundIn old text bounds → IsResting t r.last text skip bounds = λ text bounds h. let q = left.found text bounds h in r.rests text bounds (gone_between f.scanning t f.stand f.cursor text bounds opened none gone q) q.stopped in
+    subst (GivesNone old) (sym r.same) (record {
+      found = λ text bounds h. let q = resting text bounds h in record { stopped = q.stopped; reached = (q.between, nothing) };
+      all = λ text bounds h yet fine. gap_settled laws one ascent t r.last text skip bounds (ended ∙ yet) nothing (resting text bounds h).between;
+      whole = λ text bounds h over fine. whole g refl nothing options (not_over g refl over) text bounds (resting text bounds h);
+      rest = λ text bounds h yet going. between_rest t skip r.last text bounds (ended ∙ yet) nothing (resting text bounds h).between;
       offset = λ fine text bounds h. (resting text bounds h).stands;
       unsure = left.unsure;
-      none_ready = (λ i. ready_in (here i) (unread i) ((so.left ∙ none) i));
-      no_fault = λ fine fault is. open_or_fault new.outcome fault here is;
-      stays = λ top. absurd (open_or_end f.outcome opened (left.stays top));
+      none_ready = refl;
+      no_fault = λ fine fault is. open_or_fault g.stand fault refl is;
+      stays = λ top. absurd (open_or_end (phase_in f.stand) opened (left.stays top));
       options = options;
-      given = so.given ∙ left.given;
-      fed = ap (λ (o : Outcome). fed_in o new.scanning new.passed) here ∙ so.fed ∙ sym (ap (λ (o : Outcome). fed_in o f.scanning f.passed) opened) ∙ left.fed;
+      given = r.given ∙ left.given;
+      fed = fed_gone f.scanning t gone ∙ sym (fed_open f opened) ∙ left.fed;
       open_yet = ended;
-    }
+    })
   where
-    at_end : (g : PieceFinderState) → g.outcome ≡ outcome.Open → (g.scanning.ended ≡ true) ⊎ (g.outcome ≡ outcome.End) → g.scanning.ended ≡ true
-    at_end g here (inl over) = over
-    at_end g here (inr top) = absurd (open_or_end _ here top)
+    whole : (g : PieceFinderState) → phase_in g.stand ≡ phase.Open → g.scanning.ready ≡ None → options_for g ≡ options_for old → g.scanning.ended ≡ true → (text : List ℕ) (bounds : List Bound) → IsResting g.scanning g.cursor text (skip_in f.stand) bounds → FindsAll old text bounds g.cursor.offset
+    whole g here nothing options over text bounds q =
+        let b = q.between.after in
+        let lexed = all_lexed g.scanning g.cursor text (skip_in f.stand) bounds over nothing q.between in
+        let n = nothing_at_end laws.ends.laws b None lexed in
+        let found = found_lexed text (options_for g) b.lines b.before bounds None lexed b.in_top b.binds n.found in
+        (subst (λ (o : FindOptions). IsFound text o bounds None) options found, inl (q.stands ∙ sym (bytes_given _ b.lines b.given) ∙ bytes_lexed text b.lines lexed))
 
-    whole : (g : PieceFinderState) → g.outcome ≡ outcome.Open → g.unread ≡ false → options_for g ≡ options_for old → (g.scanning.ended ≡ true) ⊎ (g.outcome ≡ outcome.End) → (text : List ℕ) (bounds : List Bound) → IsResting g text bounds → IsFound text (options_for old) bounds None × MeetsEndAt text (options_for old) g.cursor.offset
-    whole g here unread options over text bounds q =
-        let done = at_end g here over in
-        let ready = q.between.unread unread in
-        (subst (λ (o : FindOptions). IsFound text o bounds None) options (ended_found laws g text bounds done ready q.between), inl (q.stands ∙ ended_at laws g text bounds done ready q.between))
-
--- the state at the line that ends the top, with the cursor there
-abbrev IsToppedAt : PieceFinderState → List ℕ → List Bound → Type 0
-IsToppedAt g text bounds = IsAtTopEnd g text bounds × HasStopped text g.cursor bounds × (g.cursor.offset ≡ g.scanning.place)
+-- these bindings are all, whatever the finder
+abbrev AllOf : List ℕ → List Bound → FindOptions → ℕ → Type 0
+AllOf text bounds options offset = IsFound text options bounds None × MeetsEndAt text options offset
 
 -- nothing is ready after the top
-pub none_top : SettledLaws → AscentLaws → (old f new : PieceFinderState) → IsLeft old f → f.outcome ≡ outcome.End → Rests f new → GivesNone old new
-none_top laws ascent old f new left at r =
-    let so = rests_so f new r in
-    let here : new.outcome ≡ outcome.End = so.outcome ∙ at in
-    let options : options_for new ≡ options_for old = so.options ∙ left.options in
-    let ended : new.scanning.ended ≡ old.scanning.ended = so.ended ∙ left.ended in
-    let resting : (text : List ℕ) (bounds : List Bound) → HasFoundIn old text bounds → IsToppedAt new text bounds = λ text bounds h. topped r.goes text bounds (left.found text bounds h) in
+none_top : SettledLaws → AscentLaws → (old : PieceFinderState) (s : ScannerState) (passed : ℕ) (cursor : CursorState) (start : LineStart) → IsNextStart s start → IsLeft old (piece_finder_state s (stand.End passed) cursor) → GivesNone old (piece_finder_state s (stand.End passed) (cursor_before cursor start))
+none_top laws ascent old s passed cursor start here left =
+    let top : (text : List ℕ) (bounds : List Bound) → HasFoundIn old text bounds → IsAtTopEnd s cursor.options text bounds = λ text bounds h. (left.found text bounds h).reached in
+    let is : start ≡ start_of s = (λ i. record { offset = here.offset i; line = here.line i }) in
     record {
-      found = λ text bounds h. let q = resting text bounds h in record { stopped = q.1; reached = subst (HasReachedIn new text bounds) (sym here) q.0 };
-      all = λ text bounds h yet fine. top_settled laws ascent new text bounds here (ended ∙ yet) (resting text bounds h).0;
-      whole = λ text bounds h over fine.
-          let q = resting text bounds h in
-          let found = top_found laws new text bounds q.0 in
-          (subst (λ (o : FindOptions). IsFound text o bounds None) options found.0, subst (λ (o : FindOptions). MeetsEndAt text o new.cursor.offset) options (subst (λ (n : ℕ). MeetsEndAt text (options_for new) n) (sym q.2) (inr found.1)));
-      rest = λ text bounds h yet going. absurd (open_or_end _ going here);
-      offset = λ fine text bounds h. (resting text bounds h).2;
+      found = λ text bounds h. record { stopped = subst (λ (x : LineStart). HasStopped text (cursor_before cursor x) bounds) (sym is) (stops text bounds (top text bounds h) (left.found text bounds h).stopped); reached = top text bounds h };
+      all = λ text bounds h yet fine. top_settled laws ascent s cursor.options text (fed_in (stand.End passed) s) bounds (left.ended ∙ yet) (omega arith) (top text bounds h);
+      whole = λ text bounds h over fine. subst (λ (o : FindOptions). AllOf text bounds o start.offset) left.options (subst (AllOf text bounds cursor.options) (sym here.offset) (top_found text bounds (top text bounds h)));
+      rest = λ text bounds h yet going. absurd (open_or_end _ going refl);
+      offset = λ fine text bounds h. here.offset;
       unsure = left.unsure;
-      none_ready = (λ i. ready_in (here i) new.unread new.pending.left);
-      no_fault = λ fine fault is. end_or_fault new.outcome fault here is;
-      stays = λ top. here;
-      options = options;
-      given = so.given ∙ left.given;
-      fed = ap (λ (o : Outcome). fed_in o new.scanning new.passed) here ∙ so.passed ∙ sym (ap (λ (o : Outcome). fed_in o f.scanning f.passed) at) ∙ left.fed;
-      open_yet = ended;
+      none_ready = refl;
+      no_fault = λ fine fault is. end_is_no_fault (stand.End passed) fault refl is;
+      stays = λ was. refl;
+      options = left.options;
+      given = left.given;
+      fed = left.fed;
+      open_yet = left.ended;
     }
   where
-    topped : ((f.outcome ≡ outcome.Open) × LetsLineGo f r.mid) ⊎ ((f.outcome ≡ outcome.Open → ⊥) × (r.mid ≡ f)) → (text : List ℕ) (bounds : List Bound) → HasFoundIn f text bounds → IsToppedAt new text bounds
-    topped (inl go) text bounds h = absurd (open_or_end _ go.0 at)
-    topped (inr stays) text bounds h = rests_top f new text bounds (subst (HasReachedIn f text bounds) at h.reached) h.stopped (subst (λ (m : PieceFinderState). StandsNext m new ⊎ ((m.skip ≡ 0 → ⊥) × (new ≡ m))) stays.1 r.stands)
+    end_is_no_fault : (x : Stand) (fault : Fault) → phase_in x ≡ phase.End → x ≡ stand.Fault fault → ⊥
+    end_is_no_fault x fault h k = let both : phase_in x ≡ phase.Fault fault = ap phase_in k in cc
+
+    stops : (text : List ℕ) (bounds : List Bound) → IsAtTopEnd s cursor.options text bounds → HasStopped text cursor bounds → HasStopped text (cursor_before cursor (start_of s)) bounds
+    stops text bounds t stopped =
+        let after : IsAfter text cursor.options s.place s.line 0 bounds = record { lines = t.lines; before = t.before; part = []; given = t.given; binds = t.binds; in_top = t.in_top; is_part = (refl, inl refl); found = t.found ∙ ap (firsts cursor.options.unique []) (sym (append-nil t.before)) } in
+        stops_before cursor (start_of s) after (record { none = refl; found = t.found }) stopped
+
+    top_found : (text : List ℕ) (bounds : List Bound) → IsAtTopEnd s cursor.options text bounds → FindsAll (piece_finder_state s (stand.End passed) cursor) text bounds s.place
+    top_found text bounds t =
+        let begins = known_begins laws s text (t.lines ++ t.line ∷ []) t.known in
+        (found_at_top text cursor.options t.lines t.line t.before bounds begins t.in_top t.ends t.binds t.found, inr (record { before = t.lines; line = t.line; begins = begins; place = bytes_given _ t.lines t.given; is = t.ends }))
+
+-- the line is let go, and the cursor goes to the next
+going : SettledLaws → OneSettled → AscentLaws → (old f : PieceFinderState) (mid new : PieceFinderState) → phase_in f.stand ≡ phase.Open → has_ready f ≡ false → IsLeft old f → MayLetLineGo f mid → MayStandNext mid new → GivesNone old new
+going laws one ascent old f mid new opened none left (inl goes) stands =
+    let l = goes.1 in
+    let t = mid.scanning in
+    none_open laws one ascent old f t new left opened none l.scanner l.none_ready (rests_at t (skip_in f.stand) f.cursor new (subst (λ (m : PieceFinderState). MayStandNext m new) (begun_is f mid opened none l) stands))
+going laws one ascent old f mid new opened none left (inr stays) stands = absurd (stays.0 opened)
+
+-- where nothing is ready, or the top has ended
+none_at : SettledLaws → OneSettled → AscentLaws → (old : PieceFinderState) (s : ScannerState) (at : Stand) (cursor : CursorState) (new : PieceFinderState) → ready_in at ≡ false → ((fault : Fault) → at ≡ stand.Fault fault → ⊥) → IsLeft old (piece_finder_state s at cursor) → Rests (piece_finder_state s at cursor) new → GivesNone old new
+none_at laws one ascent old s (stand.End passed) cursor new none fine left r = by r.goes r.stands
+  where
+    by_next : MayStandNext (piece_finder_state s (stand.End passed) cursor) new → GivesNone old new
+    by_next (inl n) = subst (GivesNone old) (sym n.same) (none_top laws ascent old s passed cursor n.start n.here left)
+    by_next (inr n) = absurd (n.0 refl)
+
+    by : MayLetLineGo (piece_finder_state s (stand.End passed) cursor) r.mid → MayStandNext r.mid new → GivesNone old new
+    by (inl goes) stands = absurd (open_or_end _ goes.0 refl)
+    by (inr stays) stands = by_next (subst (λ (m : PieceFinderState). MayStandNext m new) stays.1 stands)
+none_at laws one ascent old s (stand.Fault fault) cursor new none fine left r = absurd (fine fault refl)
+none_at laws one ascent old s (stand.Unread start skip) cursor new none fine left r = absurd cc
+none_at laws one ascent old s (stand.Between skip) cursor new none fine left r = going laws one ascent old (piece_finder_state s (stand.Between skip) cursor) r.mid new refl refl left r.goes r.stands
+none_at laws one ascent old s (stand.Within p) cursor new none fine left r = going laws one ascent old (piece_finder_state s (stand.Within p) cursor) r.mid new refl none left r.goes r.stands
 
 -- a finder that is asked after the top
-pub left_same : (old : PieceFinderState) → old.outcome ≡ outcome.End → IsLeft old old
-left_same old at = record { found = λ text bounds h. h; fed = refl; ended = refl; options = refl; given = refl; stays = λ top. top; unsure = λ e. absurd (true_or_false (has_ready old) (λ i. ready_in (at i) old.unread old.pending.left) e) }
+left_same : (old : PieceFinderState) → phase_in old.stand ≡ phase.End → ready_in old.stand ≡ false → IsLeft old old
+left_same old at none = record { found = λ text bounds h. h; fed = refl; ended = refl; options = refl; given = refl; stays = λ top. top; unsure = λ e. absurd (true_or_false _ none e) }
 
-not_ok : (e : FindError) (r : Result (Unit {0}) FindError) → r ≡ Err e → r ≡ Ok tt → ⊥
-not_ok e r h k = cc
+end_none : (s : Stand) → phase_in s ≡ phase.End → ready_in s ≡ false
+end_none (stand.End passed) at = refl
+end_none other at = absurd cc
 
--- a line that was left unread was read: it ends the top, or nothing is left unread
-abbrev ReadOrTop : PieceFinderState → PieceFinderState → Type 0
-ReadOrTop old mid = ((mid.outcome ≡ old.outcome) × (mid.unread ≡ false)) ⊎ ((old.unread ≡ true) × (mid ≡ with_top_end old))
-
-step_read : (old mid : PieceFinderState) (place : Place) (s : Step) (r : Result (Unit {0}) FindError) → r ≡ Ok tt → old.unread ≡ true → FollowsStep old place s r mid → ReadOrTop old mid
-step_read old mid place (step.Bindings bindings) r is unread follows = inl (ap (λ (f : PieceFinderState). f.outcome) follows.1, ap (λ (f : PieceFinderState). f.unread) follows.1)
-step_read old mid place step.End r is unread follows = inr (unread, follows.1)
-step_read old mid place (step.Fault fault) r is unread follows = absurd (not_ok _ r follows.0 is)
-step_read old mid place step.LineLost r is unread follows = absurd (not_ok _ r follows.0 is)
-step_read old mid place step.NoMemory r is unread follows = absurd (not_ok _ r follows.0 is)
-
-read_or_top : (old mid : PieceFinderState) (r : Result (Unit {0}) FindError) → r ≡ Ok tt → ReadsUnread old r mid → ReadOrTop old mid
-read_or_top old mid r is (inl (unread, inl here)) = inl (ap (λ (f : PieceFinderState). f.outcome) here.2, ap (λ (f : PieceFinderState). f.unread) here.2)
-read_or_top old mid r is (inl (unread, inr j)) = step_read old mid j.place j.step r is unread j.follows
-read_or_top old mid r is (inr here) = inl (ap (λ (f : PieceFinderState). f.outcome) here.2, ap (λ (f : PieceFinderState). f.unread) here.2 ∙ here.0)
+pub gives_none_at_top : SettledLaws → OneSettled → AscentLaws → (old new : PieceFinderState) → phase_in old.stand ≡ phase.End → Rests old new → GivesNone old new
+gives_none_at_top laws one ascent old new at rests = none_at laws one ascent old old.scanning old.stand old.cursor new (end_none old.stand at) (λ fault is. let both : phase_in old.stand ≡ phase.Fault fault = ap phase_in is in cc) (left_same old at (end_none old.stand at)) rests
 
 first_known : (s : CursorState) (b : Bound) (bs : List Bound) → list_all (has_key s.options.unique s.keys) (b ∷ bs) ≡ true → has_key s.options.unique s.keys b ≡ true
 first_known s b bs h = both _ _ h
@@ -177,63 +212,68 @@ not_new : (s : CursorState) (left : List Bound) → list_all (has_key s.options.
 not_new s [] known some = absurd (true_or_false false refl some)
 not_new s (b ∷ bs) known some = λ new. true_or_false _ new (first_known s b bs known)
 
-was_unsure : (old mid : PieceFinderState) (p : PendingState) (r : Result (Unit {0}) FindError) → old.outcome ≡ outcome.Open → ReadsUnread old r mid → Passes mid.cursor mid.pending p → p.left ≡ [] → has_ready old ≡ true → IsUnsure old
-was_unsure old mid p r opened (inl read) passes none some = inl read.0
-was_unsure old mid p r opened (inr here) passes none some =
-    let left : old.pending.left ≡ passes.dropped = ap (λ (f : PieceFinderState). f.pending.left) (sym here.2) ∙ passes.split ∙ ap (λ l. passes.dropped ++ l) none ∙ append-nil passes.dropped in
-    let known : list_all (has_key old.cursor.options.unique old.cursor.keys) passes.dropped ≡ true = subst (λ (f : PieceFinderState). list_all (has_key f.cursor.options.unique f.cursor.keys) passes.dropped ≡ true) here.2 passes.known in
-    let ready : are_left old.pending.left ≡ true = (λ i. ready_in (sym opened i) (sym here.0 i) old.pending.left) ∙ some in
-    inr (not_new old.cursor old.pending.left (subst (λ (l : List Bound). list_all (has_key old.cursor.options.unique old.cursor.keys) l ≡ true) (sym left) known) ready)
+-- nothing was left to take: the finder means the same, and nothing is ready
+record IsThrough (mid f : PieceFinderState) : Type 0 where
+  pub found : (text : List ℕ) (bounds : List Bound) → HasFoundIn mid text bounds → HasFoundIn f text bounds
+  pub scanning : f.scanning ≡ mid.scanning
+  pub cursor : f.cursor ≡ mid.cursor
+  pub none : ready_in f.stand ≡ false
+  pub fine : ((fault : Fault) → mid.stand ≡ stand.Fault fault → ⊥) → (fault : Fault) → f.stand ≡ stand.Fault fault → ⊥
+  pub fed : fed_by f ≡ fed_by mid
+  pub unsure : has_ready mid ≡ true → ¬ (BeginsNew mid.cursor (left_in mid.stand))
 
--- nothing was left to take of the last line
-none_after : SettledLaws → OneSettled → AscentLaws → (old mid f new : PieceFinderState) (r : Result (Unit {0}) FindError) → old.outcome ≡ outcome.Open → r ≡ Ok tt → ReadsUnread old r mid → mid.outcome ≡ outcome.Open → mid.unread ≡ false → TakesRead mid (Ok None) f → Rests f new → GivesNone old new
-none_after laws one ascent old mid f new r opened is reads going read k rests =
-    let g : PieceFinderState = record mid { pending = k.pending; cursor = k.cursor } in
-    let keeps = unread_keeps old mid r is reads in
-    let same : g ≡ record mid { pending = k.pending } = ap (λ (c : CursorState). record mid { pending = k.pending; cursor = c }) k.takes.2 in
-    let going_on : f.outcome ≡ outcome.Open = ap (λ (x : PieceFinderState). x.outcome) k.looks.same ∙ going in
-    let scanning : f.scanning ≡ old.scanning = ap (λ (x : PieceFinderState). x.scanning) k.looks.same ∙ keeps.scanning in
-    let cursor : f.cursor ≡ old.cursor = ap (λ (x : PieceFinderState). x.cursor) k.looks.same ∙ k.takes.2 ∙ keeps.cursor in
+same_through : (s : ScannerState) (at : Stand) (cursor : CursorState) (f : PieceFinderState) → ready_in at ≡ false → f ≡ piece_finder_state s at cursor → IsThrough (piece_finder_state s at cursor) f
+same_through s at cursor f none is = subst (IsThrough (piece_finder_state s at cursor)) (sym is) (record { found = λ text bounds h. h; scanning = refl; cursor = refl; none = none; fine = λ fine. fine; fed = refl; unsure = λ ready. absurd (true_or_false _ none ready) })
+
+line_through : (s : ScannerState) (p q r : PendingState) (cursor : CursorState) (f : PieceFinderState) → Passes cursor p q → q.left ≡ [] → Passes cursor q r → f ≡ piece_finder_state s (stand.Within r) cursor → IsThrough (piece_finder_state s (stand.Within p) cursor) f
+line_through s p q r cursor f first none next is =
+    let nothing : r.left ≡ [] = nothing_dropped next.dropped r.left (sym none ∙ next.split) in
+    let all : p.left ≡ first.dropped = first.split ∙ ap (λ l. first.dropped ++ l) none ∙ append-nil first.dropped in
+    subst (IsThrough (piece_finder_state s (stand.Within p) cursor)) (sym is) (record {
+      found = λ text bounds h.
+          let w = h.reached in
+          let mid = inside_passed text cursor w.lines w.line p q bounds h.stopped first w.inside in
+          record { stopped = h.stopped; reached = record { lines = w.lines; line = w.line; released = w.released; ready = w.ready; known = w.known; inside = inside_passed text cursor w.lines w.line q r bounds h.stopped next mid } };
+      scanning = refl;
+      cursor = refl;
+      none = ap are_left nothing;
+      fine = λ fine fault e. open_or_fault (stand.Within r) fault refl e;
+      fed = refl;
+      unsure = λ some. not_new cursor p.left (subst (λ (l : List Bound). list_all (has_key cursor.options.unique cursor.keys) l ≡ true) (sym all) first.known) some;
+    })
+
+through : (s : ScannerState) (at : Stand) (cursor : CursorState) (f : PieceFinderState) → is_unread at ≡ false → TakesRead (piece_finder_state s at cursor) (Ok None) f → IsThrough (piece_finder_state s at cursor) f
+through s (stand.Within p) cursor f read k =
+    let looks = subst (λ (w : WalkerState). LooksAhead w k.walker) (k.takes.same ∙ ap (λ (c : CursorState). walker_state (stand.Within k.takes.rest) c) k.takes.takes.2) k.looks in
+    line_through s p k.takes.rest looks.rest cursor f k.takes.takes.0 k.takes.takes.1 looks.passes (k.same ∙ ap (λ (w : WalkerState). piece_finder_state s w.stand w.cursor) looks.same)
+through s (stand.Unread start skip) cursor f read k = absurd cc
+through s (stand.Between skip) cursor f read k = same_through s (stand.Between skip) cursor f refl (k.same ∙ ap (λ (w : WalkerState). piece_finder_state s w.stand w.cursor) (subst (λ (w : WalkerState). LooksAhead w k.walker) k.takes.1 k.looks))
+through s (stand.End passed) cursor f read k = same_through s (stand.End passed) cursor f refl (k.same ∙ ap (λ (w : WalkerState). piece_finder_state s w.stand w.cursor) (subst (λ (w : WalkerState). LooksAhead w k.walker) k.takes.1 k.looks))
+through s (stand.Fault fault) cursor f read k = same_through s (stand.Fault fault) cursor f refl (k.same ∙ ap (λ (w : WalkerState). piece_finder_state s w.stand w.cursor) (subst (λ (w : WalkerState). LooksAhead w k.walker) k.takes.1 k.looks))
+
+was_unsure : (old mid : PieceFinderState) → ReadsUnread old (Ok tt) mid → (has_ready mid ≡ true → ¬ (BeginsNew mid.cursor (left_in mid.stand))) → has_ready old ≡ true → IsUnsure old
+was_unsure old mid (inl read) unsure ready = inl read.0
+was_unsure old mid (inr here) unsure ready = inr (subst (λ (f : PieceFinderState). ¬ (BeginsNew f.cursor (left_in f.stand))) here.2 (unsure (ap has_ready here.2 ∙ ready)))
+
+none_by : SettledLaws → OneSettled → AscentLaws → (old mid f new : PieceFinderState) (r : Result (Unit {0}) FindError) → phase_in old.stand ≡ phase.Open → ReadsUnread old r mid → TakesAfter r mid (Ok None) f → Rests f new → GivesNone old new
+none_by laws one ascent old mid f new (Ok done) opened reads after rests =
+    let so = unread_so old mid opened reads in
+    let t = through mid.scanning mid.stand mid.cursor f (unread_read old mid reads) after in
     let left : IsLeft old f = record {
-      found = λ text bounds h. looked_ahead g f text bounds going k.looks (subst (λ (x : PieceFinderState). HasFoundIn x text bounds) (sym same) (pieces_passed mid text bounds k.pending going k.takes.0 (unread_found laws old mid text bounds r opened reads h)));
-      fed = ap (λ (o : Outcome). fed_in o f.scanning f.passed) going_on ∙ ap fed_of scanning ∙ sym (ap (λ (o : Outcome). fed_in o old.scanning old.passed) opened);
-      ended = ap (λ (s : ScannerState). s.ended) scanning;
-      options = ap (λ (c : CursorState). c.options) cursor;
-      given = ap (λ (c : CursorState). c.given) cursor;
-      stays = λ top. absurd (open_or_end old.outcome opened top);
-      unsure = was_unsure old mid k.pending r opened reads k.takes.0 k.takes.1;
+      found = λ text bounds h. t.found text bounds (unread_found laws old mid text bounds (Ok tt) reads h);
+      fed = t.fed ∙ so.fed ∙ sym (fed_open old opened);
+      ended = ap (λ (s : ScannerState). s.ended) (t.scanning ∙ so.scanning);
+      options = ap (λ (c : CursorState). c.options) (t.cursor ∙ so.cursor);
+      given = ap (λ (c : CursorState). c.given) (t.cursor ∙ so.cursor);
+      stays = λ top. absurd (open_or_end _ opened top);
+      unsure = was_unsure old mid reads t.unsure;
     } in
-    let none : f.pending.left ≡ [] = ap (λ (x : PieceFinderState). x.pending.left) k.looks.same ∙ nothing_dropped k.looks.passes.dropped k.looks.looking.left (sym k.takes.1 ∙ k.looks.passes.split) in
-    none_open laws one ascent old f new left going_on none (ap (λ (x : PieceFinderState). x.unread) k.looks.same ∙ read) rests
-
--- the last line ends the top
-none_topped : SettledLaws → AscentLaws → (old mid f new : PieceFinderState) (r : Result (Unit {0}) FindError) → old.outcome ≡ outcome.Open → ReadsUnread old r mid → old.unread ≡ true → mid ≡ with_top_end old → f ≡ mid → Rests f new → GivesNone old new
-none_topped laws ascent old mid f new r opened reads unread is same rests =
-    let top : f ≡ with_top_end old = same ∙ is in
-    let left : IsLeft old f = record {
-      found = λ text bounds h. subst (λ (x : PieceFinderState). HasFoundIn x text bounds) (sym same) (unread_found laws old mid text bounds r opened reads h);
-      fed = ap fed_by top ∙ sym (ap (λ (o : Outcome). fed_in o old.scanning old.passed) opened);
-      ended = ap (λ (x : PieceFinderState). x.scanning.ended) top;
-      options = ap options_for top;
-      given = ap (λ (x : PieceFinderState). x.cursor.given) top;
-      stays = λ ended. ap (λ (x : PieceFinderState). x.outcome) top;
-      unsure = λ e. inl unread;
-    } in
-    none_top laws ascent old f new left (ap (λ (x : PieceFinderState). x.outcome) top) rests
-
-none_either : SettledLaws → OneSettled → AscentLaws → (old mid f new : PieceFinderState) (r : Result (Unit {0}) FindError) → old.outcome ≡ outcome.Open → r ≡ Ok tt → ReadsUnread old r mid → ReadOrTop old mid → TakesAfter (Ok tt) mid (Ok None) f → Rests f new → GivesNone old new
-none_either laws one ascent old mid f new r opened is reads (inl read) (inl k) rests = none_after laws one ascent old mid f new r opened is reads k.0 read.1 k.1 rests
-none_either laws one ascent old mid f new r opened is reads (inl read) (inr k) rests = absurd (k.0 (read.0 ∙ opened))
-none_either laws one ascent old mid f new r opened is reads (inr top) (inl k) rests = absurd (open_or_end _ k.0 (ap (λ (x : PieceFinderState). x.outcome) top.1))
-none_either laws one ascent old mid f new r opened is reads (inr top) (inr k) rests = none_topped laws ascent old mid f new r opened reads top.0 top.1 k.2 rests
-
-none_by : SettledLaws → OneSettled → AscentLaws → (old mid f new : PieceFinderState) (r : Result (Unit {0}) FindError) → old.outcome ≡ outcome.Open → ReadsUnread old r mid → TakesAfter r mid (Ok None) f → Rests f new → GivesNone old new
-none_by laws one ascent old mid f new (Ok done) opened reads after rests = none_either laws one ascent old mid f new (Ok done) opened refl reads (read_or_top old mid (Ok done) refl reads) after rests
+    none_at laws one ascent old f.scanning f.stand f.cursor new t.none (t.fine so.fine) left rests
 none_by laws one ascent old mid f new (Err e) opened reads after rests = absurd (differ (Ok None) e refl after.0)
   where
     differ : (a : Result (Option Binding) FindError) (x : FindError) → a ≡ Ok None → a ≡ Err x → ⊥
     differ a x h k = cc
 
 -- nothing was ready
-pub gives_none : SettledLaws → OneSettled → AscentLaws → (old f new : PieceFinderState) → old.outcome ≡ outcome.Open → TakesReady old (Ok None) f → Rests f new → GivesNone old new
+pub gives_none : SettledLaws → OneSettled → AscentLaws → (old f new : PieceFinderState) → phase_in old.stand ≡ phase.Open → TakesReady old (Ok None) f → Rests f new → GivesNone old new
 gives_none laws one ascent old f new opened t rests = none_by laws one ascent old t.mid f new t.read opened t.reads t.takes rests

@@ -1,5 +1,5 @@
 -- What a finder over pieces settles and decides before its first byte: nothing.
-use Rattle.std.proofs.Common.{◌≡◌, ℕ, ◌+◌, false, List, [], length, take, refl, sym, ap, ◌∙◌, length-append, arith, encode_utf8_all}
+use Rattle.std.proofs.Common.{◌≡◌, ℕ, ◌+◌, List, [], length, take, refl, sym, ap, ◌∙◌, length-append, arith, encode_utf8_all}
 use Rattle.std.proofs.lemmas.List.{nil_from_length}
 use Rattle.std.proofs.lemmas.Str.{length-le-encodes}
 use Rattle.py_lines.specs.Settled.{Decides}
@@ -7,14 +7,11 @@ use Rattle.py_lines.specs.Balance.{none}
 use Rattle.py_lines.specs.ScannerState.{ScannerState, begun_at, IsScanning}
 use Rattle.py_lines.specs.declared.fault.Fault.{Fault}
 use Rattle.isort_find.specs.Cursor.{CursorState, first_cursor}
-use Rattle.isort_find.specs.Pending.{PendingState}
 use Rattle.isort_find.specs.Pieces.{piece_finder_state, AreAllSettled, IsUndecided}
+use Rattle.isort_find.specs.Private.KnownLaws.{SettledLaws, OneSettled, AscentLaws}
 use Rattle.isort_find.specs.declared.options.FindOptions.{FindOptions}
-use Rattle.isort_find.specs.declared.finder.Outcome.TheVariants as outcome
-use Rattle.isort_find.proofs.Finds.SettledFound.{SettledLaws}
-use Rattle.isort_find.proofs.Fed.TakenNext.{OneSettled}
-use Rattle.isort_find.proofs.Fed.Rests.{AscentLaws, gap_settled}
-use Rattle.isort_find.proofs.Fed.Undecided.{gap_undecided}
+use Rattle.isort_find.specs.declared.walker.Stand.TheVariants as stand
+use Rattle.isort_find.proofs.Fed.Settled.{gap_settled, gap_undecided}
 use Rattle.isort_find.proofs.Fed.Starts.{begins_between}
 
 -- no byte decides a lexical fault: the empty text is read
@@ -30,12 +27,8 @@ none_decided text fault empty d =
 fed_none : (s : ScannerState) (text : List ℕ) → s ≡ begun_at 0 1 → take (s.place + length s.held) text ≡ []
 fed_none s text start = ap (λ (x : ScannerState). take (x.place + length x.held) text) start
 
-pub new_settled : SettledLaws → OneSettled → AscentLaws → (s : ScannerState) (p : PendingState) (passed : ℕ) (options : FindOptions) (cursor : CursorState) → s ≡ begun_at 0 1 → ((text : List ℕ) → IsScanning s text []) → p.left ≡ [] → cursor ≡ first_cursor options → (text : List ℕ) → AreAllSettled (piece_finder_state s false 0 p outcome.Open passed cursor) text []
-new_settled laws one ascent s p passed options cursor start scans left is text =
-    let f = piece_finder_state s false 0 p outcome.Open passed cursor in
-    gap_settled laws one ascent f text [] refl (ap (λ (x : ScannerState). x.ended) start) (ap (λ (x : ScannerState). x.ready) start) (begins_between s p passed options cursor start scans left is text)
+pub new_settled : SettledLaws → OneSettled → AscentLaws → (s : ScannerState) (options : FindOptions) (cursor : CursorState) → s ≡ begun_at 0 1 → ((text : List ℕ) → IsScanning s text []) → cursor ≡ first_cursor options → (text : List ℕ) → AreAllSettled (piece_finder_state s (stand.Between cursor.taken) cursor) text []
+new_settled laws one ascent s options cursor start scans is text = gap_settled laws one ascent s cursor text cursor.taken [] (ap (λ (x : ScannerState). x.ended) start) (ap (λ (x : ScannerState). x.ready) start) (begins_between s options cursor scans is text)
 
-pub new_undecided : SettledLaws → OneSettled → AscentLaws → (s : ScannerState) (p : PendingState) (passed : ℕ) (options : FindOptions) (cursor : CursorState) → s ≡ begun_at 0 1 → ((text : List ℕ) → IsScanning s text []) → p.left ≡ [] → cursor ≡ first_cursor options → (text : List ℕ) → IsUndecided (piece_finder_state s false 0 p outcome.Open passed cursor) text
-new_undecided laws one ascent s p passed options cursor start scans left is text =
-    let f = piece_finder_state s false 0 p outcome.Open passed cursor in
-    gap_undecided laws one ascent f text [] refl (ap (λ (x : ScannerState). x.ended) start) (ap (λ (x : ScannerState). x.ready) start) (λ fault. none_decided (take (s.place + length s.held) text) fault (fed_none s text start)) (begins_between s p passed options cursor start scans left is text)
+pub new_undecided : SettledLaws → OneSettled → AscentLaws → (s : ScannerState) (options : FindOptions) (cursor : CursorState) → s ≡ begun_at 0 1 → ((text : List ℕ) → IsScanning s text []) → cursor ≡ first_cursor options → (text : List ℕ) → IsUndecided (piece_finder_state s (stand.Between cursor.taken) cursor) text
+new_undecided laws one ascent s options cursor start scans is text = gap_undecided laws one ascent s cursor text cursor.taken [] (ap (λ (x : ScannerState). x.ended) start) (ap (λ (x : ScannerState). x.ready) start) (λ fault. none_decided (take (s.place + length s.held) text) fault (fed_none s text start)) (begins_between s options cursor scans is text)

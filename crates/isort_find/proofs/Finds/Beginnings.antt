@@ -1,22 +1,19 @@
 -- What a finder has given begins what is found in its text.
 use Rattle.std.proofs.Common.{◌≡◌, ℕ, Bool, true, false, not, Option, Some, List, [], ◌∷◌, ◌++◌, inl, inr, ◌⊎◌, refl, sym, ap, ◌∙◌, subst, append_assoc, append-nil, if◌then◌else◌}
 use Rattle.py_lines.specs.LogicalLine.{LogicalLine}
-use Rattle.py_lines.specs.Lexed.{IsLexed, BeginsLexing}
+use Rattle.py_lines.specs.Lexed.{BeginsLexing}
 use Rattle.py_lines.specs.declared.fault.Fault.{Fault}
 use Rattle.py_imports.specs.Bound.{Bound}
 use Rattle.py_imports.specs.Binds.{BindAll, BindsOrIsBad, IsBadAt}
 use Rattle.isort_find.specs.Found.{has_one_like, firsts, ends_top, counted_lines, counted_end, of_all, before_bad, IsFound, BeginsFound}
 use Rattle.isort_find.specs.Cursor.{CursorState, HasStopped, BeginsNext, IsAfter}
-use Rattle.isort_find.specs.Finder.{FinderState, HasFound, text_of, options_of}
+use Rattle.isort_find.specs.Finder.{FinderState, HasFound, finder_text, options_of}
 use Rattle.isort_find.specs.declared.options.FindOptions.{FindOptions}
 use Rattle.isort_find.specs.declared.options.ImportKey.{ImportKey}
+use Rattle.isort_find.specs.Private.KnownLaws.{EachBindsOrIsBad, EachIsLexed, GivenBegin}
 use Rattle.isort_find.proofs.Keys.TakenBindings.{list_all-snoc}
 use Rattle.isort_find.proofs.Finds.CountedLines.{AllCount, counted-append}
-use Rattle.isort_find.proofs.Finds.NextLines.{GivenBegin, BindAll-snoc}
-
--- the law `some` of `py_imports::binds_or_is_bad`
-abbrev pub EachBindsOrIsBad : Type 0
-EachBindsOrIsBad = (line : LogicalLine) → BindsOrIsBad line
+use Rattle.isort_find.proofs.Finds.NextLines.{BindAll-snoc}
 
 append_step : (unique : Option ImportKey) (earlier xs ys : List Bound) (x : Bound) (known : Bool) → firsts unique (earlier ++ x ∷ []) (xs ++ ys) ≡ firsts unique (earlier ++ x ∷ []) xs ++ firsts unique ((earlier ++ x ∷ []) ++ xs) ys → (if known then firsts unique (earlier ++ x ∷ []) (xs ++ ys) else x ∷ firsts unique (earlier ++ x ∷ []) (xs ++ ys)) ≡ (if known then firsts unique (earlier ++ x ∷ []) xs else x ∷ firsts unique (earlier ++ x ∷ []) xs) ++ firsts unique (earlier ++ x ∷ xs) ys
 append_step unique earlier xs ys x true more = more ∙ (λ i. firsts unique (earlier ++ x ∷ []) xs ++ firsts unique (append_assoc earlier (x ∷ []) xs i) ys)
@@ -112,12 +109,8 @@ stopped_begins given each text cursor bounds stopped =
     begins_part given each text cursor.options cursor.offset cursor.line cursor.taken bounds after after.is_part.1
 
 -- What a finder has given, with those that it goes on from, begins what is found in its text.
-pub begins_found : GivenBegin → EachBindsOrIsBad → (f : FinderState) (bounds : List Bound) → HasFound f bounds → BeginsFound (text_of f) (options_of f) bounds
-begins_found given each f bounds has = stopped_begins given each (text_of f) f.cursor bounds has.stopped
-
--- the law `some` of `py_lines::laws::one_lexing`
-abbrev pub EachIsLexed : Type 0
-EachIsLexed = (text : List ℕ) → (lines : List LogicalLine) × (end : Option Fault) × IsLexed text lines end
+pub begins_found : GivenBegin → EachBindsOrIsBad → (f : FinderState) (bounds : List Bound) → HasFound f bounds → BeginsFound (finder_text f) (options_of f) bounds
+begins_found given each f bounds has = stopped_begins given each (finder_text f) f.cursor bounds has.stopped
 
 -- Something is found in every text.
 pub some_found : EachIsLexed → EachBindsOrIsBad → (text : List ℕ) (options : FindOptions) → (bounds : List Bound) × (end : Option Fault) × IsFound text options bounds end

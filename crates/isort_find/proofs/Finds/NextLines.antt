@@ -2,21 +2,11 @@
 use Rattle.std.proofs.Common.{◌≡◌, ℕ, Option, None, List, [], ◌∷◌, ◌++◌, length, refl, sym, ap, ◌∙◌, append_assoc, length-append, append-nil, arith}
 use Rattle.py_lines.specs.LogicalLine.{LogicalLine}
 use Rattle.py_lines.specs.Lexed.{IsLexed, BeginsLexing}
-use Rattle.py_lines.specs.Reader.{Reader, HasGiven, standing_at}
+use Rattle.py_lines.specs.Reader.{Reader, standing_at}
 use Rattle.py_lines.specs.declared.fault.Fault.{Fault}
 use Rattle.py_imports.specs.Bound.{Bound}
-use Rattle.py_imports.specs.Binds.{Binds, BindAll, IsBadAt}
-
--- the law of `py_lines::laws::given_lines_begin_the_text`
-abbrev pub GivenBegin : Type 0
-GivenBegin = (reader : Reader) (lines : List LogicalLine) → HasGiven reader lines → BeginsLexing reader.text lines
-
--- the laws of `py_lines` and of `py_imports::binds_or_is_bad` that these lemmas stand on
-pub record Laws : Type 0 where
-  pub one_lexing : (text : List ℕ) (lines others : List LogicalLine) (end other : Option Fault) → IsLexed text lines end → IsLexed text others other → lines ≡ others
-  pub begins : GivenBegin
-  pub one_list : (line : LogicalLine) (bounds others : List Bound) → Binds line bounds → Binds line others → bounds ≡ others
-  pub not_both : (line : LogicalLine) (bounds : List Bound) (fault : Fault) → Binds line bounds → ¬ (IsBadAt line fault)
+use Rattle.py_imports.specs.Binds.{Binds, BindAll}
+use Rattle.isort_find.specs.Private.KnownLaws.{Laws}
 
 -- a reader without a fault is one that stands where it stands
 pub reader_is : (r : Reader) → r.fault ≡ None → r ≡ standing_at r.text r.place r.line

@@ -1,14 +1,13 @@
 -- What is found in a text is one list, and then its end, or one fault.
 use Rattle.std.proofs.Common.{◌≡◌, ℕ, Option, Some, List, [], ◌∷◌, ◌++◌, sym, ap, ◌∙◌, subst}
 use Rattle.py_lines.specs.LogicalLine.{LogicalLine}
-use Rattle.py_lines.specs.Lexed.{IsLexed}
 use Rattle.py_lines.specs.declared.fault.Fault.{Fault}
 use Rattle.py_imports.specs.Bound.{Bound}
 use Rattle.py_imports.specs.Binds.{Binds, BindAll, IsBadAt}
 use Rattle.isort_find.specs.Found.{firsts, counted_lines, counted_end, AreFound, of_all, before_bad, IsFound}
 use Rattle.isort_find.specs.declared.options.ImportKey.{ImportKey}
 use Rattle.isort_find.specs.declared.options.FindOptions.{FindOptions}
-use Rattle.isort_find.proofs.Finds.NextLines.{Laws}
+use Rattle.isort_find.specs.Private.KnownLaws.{EndLaws, Laws}
 
 -- logical lines bind one list
 bind_all_one : Laws → (lines : List LogicalLine) (bs others : List Bound) → BindAll lines bs → BindAll lines others → bs ≡ others
@@ -22,12 +21,6 @@ bind_all_one laws (line ∷ lines) bs others h k =
 pub none_bad : Laws → (before : List LogicalLine) (line : LogicalLine) (after : List LogicalLine) (bs : List Bound) (fault : Fault) → BindAll (before ++ line ∷ after) bs → IsBadAt line fault → ⊥
 none_bad laws [] line after bs fault h bad = laws.not_both line h.0 fault h.3 bad
 none_bad laws (l ∷ before) line after bs fault h bad = none_bad laws before line after h.1 fault h.4 bad
-
--- the laws that a text has one end and a logical line one fault, beside those of its lines
-pub record EndLaws : Type 0 where
-  pub laws : Laws
-  pub one_end : (text : List ℕ) (lines others : List LogicalLine) (end other : Option Fault) → IsLexed text lines end → IsLexed text others other → end ≡ other
-  pub one_fault : (line : LogicalLine) (fault other : Fault) → IsBadAt line fault → IsBadAt line other → fault ≡ other
 
 -- two answers for one text: the lists and the ends
 abbrev pub AreOne : List Bound → List Bound → Option Fault → Option Fault → Type 0

@@ -3,7 +3,7 @@ use Rattle.std.proofs.Common.{◌≡◌, ℕ, Bool, true, false, not, ◌&&◌, 
 use Rattle.std.specs.List.{list_all}
 use Rattle.py_lines.specs.LogicalLine.{LogicalLine}
 use Rattle.py_lines.specs.Lexed.{IsLexed, BeginsLexing}
-use Rattle.py_lines.specs.Settled.{IsSettled, Decides}
+use Rattle.py_lines.specs.Settled.{Decides}
 use Rattle.py_lines.specs.declared.fault.Fault.{Fault}
 use Rattle.py_imports.specs.Bound.{Bound}
 use Rattle.py_imports.specs.Binds.{BindAll, IsBadAt}
@@ -11,18 +11,10 @@ use Rattle.isort_find.specs.Found.{firsts, ends_top, counted_lines, counted_end,
 use Rattle.isort_find.specs.Settled.{IsFoundSettled, SettlesBadLine, DecidesFound}
 use Rattle.isort_find.specs.declared.options.ImportKey.{ImportKey}
 use Rattle.isort_find.specs.declared.options.FindOptions.{FindOptions}
-use Rattle.isort_find.proofs.Finds.NextLines.{Laws}
-use Rattle.isort_find.proofs.Finds.OneFound.{EndLaws, none_bad, one_end_found}
+use Rattle.isort_find.specs.Private.KnownLaws.{EachBindsOrIsBad, Laws, SettledLaws}
+use Rattle.isort_find.proofs.Finds.OneFound.{none_bad, one_end_found}
 use Rattle.isort_find.proofs.Finds.CountedLines.{AllCount, counted-append, counted-all, counted-cut, end-cut}
-use Rattle.isort_find.proofs.Finds.Beginnings.{EachBindsOrIsBad, begins_behind}
-
--- the laws of `py_lines::settled_is_final`, beside those of one lexing
-pub record SettledLaws : Type 0 where
-  pub ends : EndLaws
-  pub each : EachBindsOrIsBad
-  pub lines : (text more : List ℕ) (lines : List LogicalLine) → IsSettled text lines → BeginsLexing (text ++ more) lines
-  pub fault : (text more : List ℕ) (fault : Fault) (lines : List LogicalLine) (end : Option Fault) → Decides text fault → IsLexed (text ++ more) lines end → end ≡ Some fault
-  pub all : (text more : List ℕ) (fault : Fault) (lines : List LogicalLine) → Decides text fault → IsLexed text lines (Some fault) → IsLexed (text ++ more) lines (Some fault)
+use Rattle.isort_find.proofs.Finds.Beginnings.{begins_behind}
 
 -- a line that ends the top, and none before it
 pub record HasTopEnd (options : FindOptions) (lines : List LogicalLine) : Type 0 where

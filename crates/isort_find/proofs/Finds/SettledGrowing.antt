@@ -10,10 +10,11 @@ use Rattle.isort_find.specs.Found.{firsts, counted_lines, counted_end, AreFound,
 use Rattle.isort_find.specs.Settled.{IsFoundSettled, DecidesFound}
 use Rattle.isort_find.specs.declared.options.ImportKey.{ImportKey}
 use Rattle.isort_find.specs.declared.options.FindOptions.{FindOptions}
-use Rattle.isort_find.proofs.Finds.OneFound.{EndLaws, one_of}
+use Rattle.isort_find.specs.Private.KnownLaws.{EachBindsOrIsBad, EndLaws, SettledLaws}
+use Rattle.isort_find.proofs.Finds.OneFound.{one_of}
 use Rattle.isort_find.proofs.Finds.CountedLines.{AllCount, counted-append, counted-all}
-use Rattle.isort_find.proofs.Finds.Beginnings.{EachBindsOrIsBad, BindOrOneIsBad, firsts-append, BindAll-append, decide}
-use Rattle.isort_find.proofs.Finds.SettledFound.{SettledLaws, HasTopEnd, top_of, counted_top, append-nil-lines}
+use Rattle.isort_find.proofs.Finds.Beginnings.{BindOrOneIsBad, firsts-append, BindAll-append, decide}
+use Rattle.isort_find.proofs.Finds.SettledFound.{HasTopEnd, top_of, counted_top, append-nil-lines}
 
 -- the law `some` of `py_lines::laws::settled_is_final`
 abbrev pub SomeSettled : Type 0

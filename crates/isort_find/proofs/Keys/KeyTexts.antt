@@ -43,7 +43,7 @@ admits eq same old key keys after k b is_new unique are made new added =
     let shown : (if not (list_any (eq k) keys) then map key_in keys ++ key_of key b ∷ [] else map key_in keys) ≡ (if is_new then old.keys ++ keys_of old.options.unique (b ∷ []) else old.keys) = (λ i. if sym new i then sym are i ++ keys_of (sym unique i) (b ∷ []) else sym are i) in
     record {
       answer = new ∙ ap not there;
-      cursor_state = ap (λ (ks : List Key). record old { keys = ks }) (after ∙ shown);
+      same = ap (λ (ks : List Key). record old { keys = ks }) (after ∙ shown);
     }
 
 -- the set has a key where it has it among its keys

@@ -7,7 +7,7 @@ use Rattle.isort_find.specs.Cursor.{CursorState, has_key}
 use Rattle.isort_find.specs.Private.LooksAtBindings.{Looks, Passes, TakesNew, TakesNextBinding}
 use Rattle.isort_find.specs.Private.CursorMoves.{Admits, cursor_after}
 use Rattle.isort_find.specs.Pending.{PendingState}
-use Rattle.isort_find.specs.declared.pending.Place.{Place}
+use Rattle.isort_find.specs.declared.pending.LineStart.{LineStart}
 
 pub list_all-snoc : {A : Type 0} (p : A → Bool) (xs : List A) (x : A) → list_all p xs ≡ true → p x ≡ true → list_all p (xs ++ x ∷ []) ≡ true
 list_all-snoc p [] x all here = ap (λ t. t && true) here
@@ -23,7 +23,7 @@ passes_more s old mid new b passes known looks = record {
   dropped = passes.dropped ++ b ∷ [];
   split = passes.split ∙ ap (λ t. passes.dropped ++ t) looks.left ∙ sym (append_assoc passes.dropped (b ∷ []) new.left);
   known = list_all-snoc (has_key s.options.unique s.keys) passes.dropped b passes.known known;
-  place = looks.place ∙ passes.place;
+  start = looks.start ∙ passes.start;
   taken = omega (arith, looks.taken, passes.taken, length-append passes.dropped (b ∷ []));
 }
 
@@ -55,7 +55,7 @@ unchanged s cursor new b true same admits is = absurd (ne is)
   where
     ne : true ≡ false → ⊥
     ne h = cc
-unchanged s cursor new b false same admits is = (admits.cursor_state ∙ same, subst (λ (c : CursorState). has_key c.options.unique c.keys b ≡ true) same (not_true _ admits.answer))
+unchanged s cursor new b false same admits is = (admits.same ∙ same, subst (λ (c : CursorState). has_key c.options.unique c.keys b ≡ true) same (not_true _ admits.answer))
 
 -- a binding with a known key was taken
 pub record Known (s cursor : CursorState) (old new : PendingState) : Type 0 where
@@ -72,8 +72,8 @@ pub takes_fewer : (mid new : PendingState) (b : Bound) (rest : List Bound) (r : 
 takes_fewer mid new b rest r front took = ap length (is_taken mid new b rest r front took).looks.left ∙ omega arith
 
 -- a binding with a new key was taken
-pub takes_new : (s cursor admitted t : CursorState) (old mid new : PendingState) (b : Bound) (rest : List Bound) (is_new : Bool) (r : Option Binding) (place : Place) (taken : ℕ) → Passes s old mid → cursor ≡ s → mid.left ≡ b ∷ rest → Admits cursor b is_new admitted → is_new ≡ true → MatchOption r ((mid.left ≡ []) × (new ≡ mid)) (λ x. Looks mid (bound_of x) new) → t ≡ cursor_after admitted place taken → place ≡ new.place → taken ≡ new.taken → TakesNextBinding s old (Ok r) t new
-takes_new s cursor admitted t old mid new b rest is_new r place taken passes same front admits is took gives here so_many =
+pub takes_new : (s cursor admitted t : CursorState) (old mid new : PendingState) (b : Bound) (rest : List Bound) (is_new : Bool) (r : Option Binding) (start : LineStart) (taken : ℕ) → Passes s old mid → cursor ≡ s → mid.left ≡ b ∷ rest → Admits cursor b is_new admitted → is_new ≡ true → MatchOption r ((mid.left ≡ []) × (new ≡ mid)) (λ x. Looks mid (bound_of x) new) → t ≡ cursor_after admitted start taken → start ≡ new.start → taken ≡ new.taken → TakesNextBinding s old (Ok r) t new
+takes_new s cursor admitted t old mid new b rest is_new r start taken passes same front admits is took gives here so_many =
     let it = is_taken mid new b rest r front took in
     let takes : TakesNew s old b t new = record {
       between = mid;

@@ -1,19 +1,22 @@
 -- A call of `next_import`, from where it begins to the end or the fault.
-use Rattle.std.proofs.Common.{◌≡◌, ℕ, ◌+◌, ◌⊎◌, Option, None, Some, List, inl, inr, refl, sym, ap, ◌∙◌, subst, arith}
+use Rattle.std.proofs.Common.{◌≡◌, ℕ, ◌+◌, ◌⊎◌, None, List, inl, inr, refl, sym, ap, ◌∙◌, subst, arith}
 use Rattle.py_lines.specs.declared.fault.Fault.{Fault}
 use Rattle.py_imports.specs.Bound.{Bound}
 use Rattle.isort_find.specs.Found.{IsFound}
-use Rattle.isort_find.specs.Finder.{FinderState, HasReached, SameTask, MeetsEndAt, MeetsFaultAt, FindsEnd, FindsFault, text_of, options_of}
+use Rattle.isort_find.specs.Stand.{phase_in, MeetsEndAt, EndsInFaultAt}
+use Rattle.isort_find.specs.Finder.{FinderState, HasFound, HasReached, FindsEnd, FindsFault, finder_text, options_of}
 use Rattle.isort_find.specs.Private.FinderSteps.{Goes}
 use Rattle.isort_find.specs.declared.options.FindOptions.{FindOptions}
-use Rattle.isort_find.specs.declared.finder.Outcome.{Outcome}
-use Rattle.isort_find.specs.declared.finder.Outcome.TheVariants as outcome
+use Rattle.isort_find.specs.declared.walker.Stand.{Stand}
+use Rattle.isort_find.specs.declared.walker.Stand.TheVariants as stand
+use Rattle.isort_find.specs.declared.walker.Phase.{Phase}
+use Rattle.isort_find.specs.declared.walker.Phase.TheVariants as phase
 
 -- how much is left to do
-abbrev pub work : Outcome → ℕ → ℕ
-work outcome.Open n = n + 1
-work outcome.End n = 0
-work (outcome.Fault fault) n = 0
+abbrev pub work : Phase → ℕ → ℕ
+work phase.Open n = n + 1
+work phase.End n = 0
+work (phase.Fault fault) n = 0
 
 -- the call has just begun
 pub goes_start : (i : FinderState) → Goes i i
@@ -24,45 +27,60 @@ goes_start i = record {
   start = inr refl;
 }
 
--- what is found for one finder is found for the other
-found_for : (i f : FinderState) (bounds : List Bound) (end : Option Fault) → SameTask i f → IsFound (text_of f) (options_of f) bounds end → IsFound (text_of i) (options_of i) bounds end
-found_for i f bounds end task h = subst (λ (t : List ℕ). IsFound t (options_of i) bounds end) task.text (subst (λ (o : FindOptions). IsFound (text_of f) o bounds end) task.options h)
+-- where a finder has got that has met the end
+at_end : (f : FinderState) (bounds : List Bound) (s : Stand) → phase_in s ≡ phase.End → HasReached f bounds s → IsFound (finder_text f) (options_of f) bounds None × MeetsEndAt (finder_text f) (options_of f) f.cursor.offset
+at_end f bounds (stand.End passed) at h = h
+at_end f bounds (stand.Between skip) at h = absurd cc
+at_end f bounds (stand.Unread start skip) at h = absurd cc
+at_end f bounds (stand.Within pending) at h = absurd cc
+at_end f bounds (stand.Fault fault) at h = absurd cc
+
+-- a finder that has met a fault stands there
+pub at_fault : (s : Stand) (fault : Fault) → phase_in s ≡ phase.Fault fault → s ≡ stand.Fault fault
+at_fault (stand.Fault other) fault at = let same : other ≡ fault = cc in ap (λ (f : Fault). stand.Fault f) same
+at_fault (stand.Between skip) fault at = absurd cc
+at_fault (stand.Unread start skip) fault at = absurd cc
+at_fault (stand.Within pending) fault at = absurd cc
+at_fault (stand.End passed) fault at = absurd cc
 
 -- a call that ends elsewhere than it began was open there
-not_met : (i f : FinderState) (met other : Outcome) → (i.outcome ≡ outcome.Open) ⊎ (f ≡ i) → f.outcome ≡ met → i.outcome ≡ other → (outcome.Open ≡ other → ⊥) → met ≡ other
+not_met : (i f : FinderState) (met other : Phase) → (phase_in i.stand ≡ phase.Open) ⊎ (f ≡ i) → phase_in f.stand ≡ met → phase_in i.stand ≡ other → (phase.Open ≡ other → ⊥) → met ≡ other
 not_met i f met other (inl opened) at is differs = absurd (differs (sym opened ∙ is))
-not_met i f met other (inr same) at is differs = sym at ∙ ap (λ (x : FinderState). x.outcome) same ∙ is
-
--- an outcome that isn't open, and is open or the end, is the end
-pub is_end : (o here there : Outcome) → o ≡ here → o ≡ there → (here ≡ outcome.Open) ⊎ (here ≡ outcome.End) → (there ≡ outcome.Open → ⊥) → o ≡ outcome.End
-is_end o here there e d (inl opened) closed = absurd (closed (sym d ∙ e ∙ opened))
-is_end o here there e d (inr ended) closed = e ∙ ended
+not_met i f met other (inr same) at is differs = sym at ∙ ap (λ (x : FinderState). phase_in x.stand) same ∙ is
 
 -- the end was met
-pub goes_to_end : (i f : FinderState) → Goes i f → f.outcome ≡ outcome.End → FindsEnd i f
+pub goes_to_end : (i f : FinderState) → Goes i f → phase_in f.stand ≡ phase.End → FindsEnd i f
 goes_to_end i f goes at =
     let task = goes.keeps.task in
+    let met : (bounds : List Bound) → HasFound i bounds → IsFound (finder_text i) (options_of i) bounds None × MeetsEndAt (finder_text i) (options_of i) f.cursor.offset = λ bounds h. subst (λ (t : List ℕ). IsFound t (options_of i) bounds None × MeetsEndAt t (options_of i) f.cursor.offset) task.text (subst (λ (o : FindOptions). IsFound (finder_text f) o bounds None × MeetsEndAt (finder_text f) o f.cursor.offset) task.options (at_end f bounds f.stand at (goes.keeps.kept bounds h).reached)) in
     record {
-      all = λ bounds h. found_for i f bounds None task (subst (HasReached f bounds) at (goes.keeps.kept bounds h).reached).0;
-      offset = λ bounds h. subst (λ (t : List ℕ). MeetsEndAt t (options_of i) f.cursor.offset) task.text (subst (λ (o : FindOptions). MeetsEndAt (text_of f) o f.cursor.offset) task.options (subst (HasReached f bounds) at (goes.keeps.kept bounds h).reached).1);
+      all = λ bounds h. (met bounds h).0;
+      offset = λ bounds h. (met bounds h).1;
       kept = goes.keeps.kept;
       task = task;
       given = goes.keeps.given;
-      no_fault = λ fault e. let both = not_met i f outcome.End (outcome.Fault fault) goes.start at e (λ x. cc) in cc;
+      no_fault = λ fault e. let both = not_met i f phase.End (phase.Fault fault) goes.start at (ap phase_in e) (λ x. cc) in cc;
       ended = at;
     }
 
 -- the fault was met
-pub goes_to_fault : (i f : FinderState) (fault : Fault) → Goes i f → f.outcome ≡ outcome.Fault fault → FindsFault i fault f
+pub goes_to_fault : (i f : FinderState) (fault : Fault) → Goes i f → phase_in f.stand ≡ phase.Fault fault → FindsFault i fault f
 goes_to_fault i f fault goes at =
     let task = goes.keeps.task in
+    let stands = at_fault f.stand fault at in
+    let met : (bounds : List Bound) → HasFound i bounds → EndsInFaultAt (finder_text i) (options_of i) bounds f.cursor.offset fault = λ bounds h. subst (λ (t : List ℕ). EndsInFaultAt t (options_of i) bounds f.cursor.offset fault) task.text (subst (λ (o : FindOptions). EndsInFaultAt (finder_text f) o bounds f.cursor.offset fault) task.options (subst (HasReached f bounds) stands (goes.keeps.kept bounds h).reached)) in
     record {
-      all = λ bounds h. found_for i f bounds (Some fault) task (subst (HasReached f bounds) at (goes.keeps.kept bounds h).reached).0;
-      offset = λ bounds h. subst (λ (t : List ℕ). MeetsFaultAt t f.cursor.offset fault) task.text (subst (HasReached f bounds) at (goes.keeps.kept bounds h).reached).1;
+      all = λ bounds h. (met bounds h).0;
+      offset = λ bounds h. (met bounds h).1;
       kept = goes.keeps.kept;
       task = task;
       given = goes.keeps.given;
-      no_end = λ e. let both = not_met i f (outcome.Fault fault) outcome.End goes.start at e (λ x. cc) in cc;
-      again = λ first e. let both = not_met i f (outcome.Fault fault) (outcome.Fault first) goes.start at e (λ x. cc) in cc;
-      failed = at;
+      no_end = λ e. let both = not_met i f (phase.Fault fault) phase.End goes.start at e (λ x. cc) in cc;
+      again = λ first e. let both = not_met i f (phase.Fault fault) (phase.Fault first) goes.start at (ap phase_in e) (λ x. cc) in cc;
+      failed = stands;
     }
+
+-- a phase that isn't open, and is open or the end, is the end
+pub is_end : (p here there : Phase) → p ≡ here → p ≡ there → (here ≡ phase.Open) ⊎ (here ≡ phase.End) → (there ≡ phase.Open → ⊥) → p ≡ phase.End
+is_end p here there e d (inl opened) closed = absurd (closed (sym d ∙ e ∙ opened))
+is_end p here there e d (inr ended) closed = e ∙ ended

@@ -1,18 +1,25 @@
--- How a finder goes from one state to the next within a call.
-use Rattle.std.specs.Prelude.{◌≡◌, ◌<◌, ◌≤◌, ◌⊎◌, true, false, Option, None, Some, Result, Ok, Err, List, [], length, map, min, drop}
-use Rattle.py_lines.specs.LogicalLine.{LogicalLine}
-use Rattle.py_lines.specs.Reader.{HasGiven, standing_at}
+-- How a finder that has the whole text goes from one state to the next within a call.
+use Rattle.std.specs.Prelude.{◌≡◌, ℕ, ◌<◌, ◌≤◌, ◌⊎◌, Option, None, Some, Result, Ok, Err, List, [], map}
+use Rattle.py_lines.specs.Reader.{GoesOnAt}
 use Rattle.py_imports.specs.Bound.{Bound, bound_of}
 use Rattle.py_imports.specs.declared.binding.Binding.{Binding}
-use Rattle.isort_find.specs.Finder.{FinderState, HasFound, SameTask, FindsNext, FinderRunsOut, text_of, left_of}
+use Rattle.isort_find.specs.Finder.{FinderState, HasFound, SameTask, FindsNext, FinderRunsOut, finder_state, finder_text, left_of}
+use Rattle.isort_find.specs.Pending.{pending_after}
+use Rattle.isort_find.specs.Stand.{phase_in, left_in, skip_in}
 use Rattle.isort_find.specs.Private.CursorMoves.{cursor_before}
+use Rattle.isort_find.specs.Private.Walks.{WalkerState, walker_state}
 use Rattle.isort_find.specs.declared.error.FindError.{FindError}
 use Rattle.isort_find.specs.declared.error.FindError.TheVariants as error
-use Rattle.isort_find.specs.declared.finder.Outcome.{Outcome}
-use Rattle.isort_find.specs.declared.finder.Outcome.TheVariants as outcome
-use Rattle.isort_find.specs.declared.pending.Place.{Place}
+use Rattle.isort_find.specs.declared.pending.LineStart.{LineStart}
 use Rattle.isort_find.specs.declared.step.Step.{Step}
 use Rattle.isort_find.specs.declared.step.Step.TheVariants as step
+use Rattle.isort_find.specs.declared.walker.Stand.{Stand}
+use Rattle.isort_find.specs.declared.walker.Stand.TheVariants as stand
+use Rattle.isort_find.specs.declared.walker.Phase.TheVariants as phase
+
+-- the walker of a finder
+abbrev pub walker_in : FinderState → WalkerState
+walker_in f = walker_state f.stand f.cursor
 
 -- from one state to another that has given the same
 pub record KeepsGiven (old new : FinderState) : Type 0 where
@@ -23,10 +30,10 @@ pub record KeepsGiven (old new : FinderState) : Type 0 where
 -- nothing is left of the line read last
 pub record LooksThrough (old new : FinderState) : Type 0 where
   pub keeps : KeepsGiven old new
-  pub none : new.pending.left ≡ []
+  pub none : left_in new.stand ≡ []
   pub cursor : new.cursor ≡ old.cursor
   pub falls : left_of new ≤ left_of old
-  pub is_open : new.outcome ≡ outcome.Open
+  pub is_open : phase_in new.stand ≡ phase.Open
 
 -- the next binding of the line read last with a new key, or that there is none
 abbrev pub GivesNew : FinderState → Result (Option Binding) FindError → FinderState → Type 0
@@ -34,42 +41,47 @@ GivesNew old (Ok (Some b)) new = FindsNext old (bound_of b) new
 GivesNew old (Ok None) new = LooksThrough old new
 GivesNew old (Err e) new = FinderRunsOut old new × (e ≡ error.Memory)
 
--- the reader stands where it has to read again
-pub record GoesBack (old new : FinderState) : Type 0 where
-  pub reader : (lines : List LogicalLine) → HasGiven old.reader lines → new.reader ≡ old.reader
-  pub text : text_of new ≡ text_of old
-  pub here : new.again ≡ false
-  pub skip : new.skip ≡ old.skip
-  pub pending : new.pending ≡ old.pending
-  pub outcome : new.outcome ≡ old.outcome
-  pub cursor : new.cursor ≡ old.cursor
-  pub falls : left_of new ≤ left_of old
+-- the reader goes back to the logical line that begins here, which was left unread
+pub record GoesBackTo (start : LineStart) (skip : ℕ) (old new : FinderState) : Type 0 where
+  pub goes_on : GoesOnAt (finder_text old) start.offset start.line new.reader
+  pub text : finder_text new ≡ finder_text old
+  pub same : new ≡ finder_state new.reader (stand.Between skip) old.cursor
 
--- the bindings of the line at this place are to be looked at, except those that were
-abbrev pub with_line : FinderState → Place → List Bound → FinderState
-with_line f place bounds = record f { pending = record { place = place; taken = min f.skip (length bounds); left = drop f.skip bounds }; skip = 0 }
+-- the reader stands where it reads the next logical line
+abbrev pub GoesBackFrom : Stand → FinderState → FinderState → Type 0
+GoesBackFrom (stand.Unread start skip) old new = GoesBackTo start skip old new
+GoesBackFrom other old new = new ≡ old
 
--- the end or a fault was met at this place
-abbrev pub with_outcome : FinderState → Place → Outcome → FinderState
-with_outcome f place outcome = record f { outcome = outcome; cursor = cursor_before f.cursor place }
+-- the same, from where the finder stands
+abbrev pub GoesBack : FinderState → FinderState → Type 0
+GoesBack old new = GoesBackFrom old.stand old new
 
--- the line at this place has to be read again
-abbrev pub with_line_again : FinderState → Place → FinderState
-with_line_again f place = record f { reader = standing_at (text_of f) place.offset place.line; again = true }
+-- the bindings of the line that begins here are to be looked at, except those that were
+abbrev pub with_line : FinderState → LineStart → List Bound → FinderState
+with_line f start bounds = record f { stand = stand.Within (pending_after start (skip_in f.stand) bounds) }
 
--- what becomes of a finder by a step that was read at this place
-abbrev pub FollowsStepOf : FinderState → Place → Step → Result (Unit {0}) FindError → FinderState → Type 0
-FollowsStepOf old place (step.Bindings bindings) result new = (result ≡ Ok tt) × (new ≡ with_line old place (map bound_of bindings.items))
-FollowsStepOf old place step.End result new = (result ≡ Ok tt) × (new ≡ with_outcome old place outcome.End)
-FollowsStepOf old place (step.Fault fault) result new = (result ≡ Ok tt) × (new ≡ with_outcome old place (outcome.Fault fault))
-FollowsStepOf old place step.LineLost result new = (result ≡ Err error.Memory) × (new ≡ with_line_again old place)
-FollowsStepOf old place step.NoMemory result new = (result ≡ Err error.Memory) × (new ≡ old)
+-- the end or a fault was met in the line that begins here
+abbrev pub closed_at : FinderState → LineStart → Stand → FinderState
+closed_at f start at = finder_state f.reader at (cursor_before f.cursor start)
+
+-- the line that begins here has to be read again
+abbrev pub with_line_again : FinderState → LineStart → FinderState
+with_line_again f start = record f { stand = stand.Unread start (skip_in f.stand) }
+
+-- what becomes of a finder by a step that was read of the line that begins here
+abbrev pub FollowsRead : FinderState → LineStart → Step → Result (Unit {0}) FindError → FinderState → Type 0
+FollowsRead old start (step.Bindings bindings) result new =
+    (result ≡ Ok tt) × (new ≡ with_line old start (map bound_of bindings.items))
+FollowsRead old start step.End result new = (result ≡ Ok tt) × (new ≡ closed_at old start (stand.End 0))
+FollowsRead old start (step.Fault fault) result new = (result ≡ Ok tt) × (new ≡ closed_at old start (stand.Fault fault))
+FollowsRead old start step.LineLost result new = (result ≡ Err error.Memory) × (new ≡ with_line_again old start)
+FollowsRead old start step.NoMemory result new = (result ≡ Err error.Memory) × (new ≡ old)
 
 -- the next logical line was read, or the end or a fault was met
 pub record ReadsOn (old new : FinderState) : Type 0 where
   pub keeps : KeepsGiven old new
-  pub falls : new.outcome ≡ outcome.Open → left_of new < left_of old
-  pub cursor : new.outcome ≡ outcome.Open → new.cursor ≡ old.cursor
+  pub falls : phase_in new.stand ≡ phase.Open → left_of new < left_of old
+  pub cursor : phase_in new.stand ≡ phase.Open → new.cursor ≡ old.cursor
 
 -- what comes of reading the next logical line
 abbrev pub ReadsNextLine : FinderState → Result (Unit {0}) FindError → FinderState → Type 0
@@ -79,6 +91,6 @@ ReadsNextLine old (Err e) new = FinderRunsOut old new × (e ≡ error.Memory)
 -- from one state of a call of `next_import` to another
 pub record Goes (old new : FinderState) : Type 0 where
   pub keeps : KeepsGiven old new
-  pub falls : new.outcome ≡ outcome.Open → left_of new ≤ left_of old
-  pub cursor : new.outcome ≡ outcome.Open → new.cursor ≡ old.cursor
-  pub start : (old.outcome ≡ outcome.Open) ⊎ (new ≡ old)
+  pub falls : phase_in new.stand ≡ phase.Open → left_of new ≤ left_of old
+  pub cursor : phase_in new.stand ≡ phase.Open → new.cursor ≡ old.cursor
+  pub start : (phase_in old.stand ≡ phase.Open) ⊎ (new ≡ old)

@@ -12,7 +12,7 @@ use Rattle.isort_find.specs.declared.error.FindError.TheVariants as error
 -- one more was looked at
 pub record Looks (old : PendingState) (b : Bound) (new : PendingState) : Type 0 where
   pub left : old.left ≡ b ∷ new.left
-  pub place : new.place ≡ old.place
+  pub start : new.start ≡ old.start
   pub taken : new.taken ≡ old.taken + 1
 
 -- bindings were looked at whose keys were given before
@@ -20,7 +20,7 @@ pub record Passes (s : CursorState) (old new : PendingState) : Type 0 where
   pub dropped : List Bound
   pub split : old.left ≡ dropped ++ new.left
   pub known : list_all (has_key s.options.unique s.keys) dropped ≡ true
-  pub place : new.place ≡ old.place
+  pub start : new.start ≡ old.start
   pub taken : new.taken ≡ old.taken + length dropped
 
 -- after such bindings one with a new key was taken
@@ -30,7 +30,7 @@ pub record TakesNew (s : CursorState) (old : PendingState) (b : Bound) (t : Curs
   pub passes : Passes s old between
   pub looks : Looks between b new
   pub admits : Admits s b true admitted
-  pub gives : t ≡ cursor_after admitted new.place new.taken
+  pub gives : t ≡ cursor_after admitted new.start new.taken
 
 -- what is taken of the bindings that are left
 abbrev pub TakesNextBinding : CursorState → PendingState → Result (Option Binding) FindError → CursorState → PendingState → Type 0

@@ -1,174 +1,170 @@
 -- How a finder over pieces goes from one state to the next within a call.
-use Rattle.std.specs.Prelude.{◌≡◌, ℕ, ◌+◌, ◌<◌, ◌≤◌, ◌⊎◌, Bool, true, false, Option, None, Some, Result, Ok, Err, List, [], length, map, min, drop, take}
+use Rattle.std.specs.Prelude.{◌≡◌, ℕ, ◌+◌, ◌<◌, ◌≤◌, ◌⊎◌, Bool, true, false, Option, None, Some, Result, Ok, Err, List, [], length, take}
 use Rattle.py_lines.specs.LogicalLine.{LogicalLine}
-use Rattle.py_lines.specs.ScannerState.{fed_of, GoesOnWith, Releases}
-use Rattle.py_lines.specs.declared.fault.Fault.{Fault}
-use Rattle.py_imports.specs.Bound.{Bound, bound_of}
-use Rattle.py_imports.specs.Binds.{Binds}
-use Rattle.isort_find.specs.Found.{ends_top}
-use Rattle.isort_find.specs.Pending.{PendingState}
-use Rattle.isort_find.specs.Pieces.{PieceFinderState, HasFoundIn, AreAllSettled, IsUndecided, PieceFinderRunsOut, MeetsFaultIn, options_for, fed_by, has_ready}
-use Rattle.isort_find.specs.Private.LooksAtBindings.{Passes, TakesNextBinding}
-use Rattle.isort_find.specs.Private.LineSteps.{Judges}
-use Rattle.isort_find.specs.Private.CursorMoves.{cursor_before}
-use Rattle.isort_find.specs.Cursor.{CursorState}
+use Rattle.py_lines.specs.ScannerState.{ScannerState, Releases}
 use Rattle.py_imports.specs.declared.binding.Binding.{Binding}
+use Rattle.isort_find.specs.Pieces.{PieceFinderState, HasFoundIn, InEachText, HasNoFault, AreAllSettled, IsUndecided, PieceFinderRunsOut, MeetsFaultIn, piece_finder_state, fed_by, has_ready}
+use Rattle.isort_find.specs.Stand.{phase_in, is_unread, skip_in}
+use Rattle.isort_find.specs.Private.CursorMoves.{cursor_before}
+use Rattle.isort_find.specs.Private.Walks.{WalkerState, LooksAhead, Reads, TakesOne, TriesLine, after_line, passed_to, read_again, walker_state}
 use Rattle.isort_find.specs.declared.error.FindError.{FindError}
 use Rattle.isort_find.specs.declared.error.FindError.TheVariants as error
-use Rattle.isort_find.specs.declared.finder.Outcome.TheVariants as outcome
-use Rattle.isort_find.specs.declared.pending.Place.{Place}
-use Rattle.isort_find.specs.declared.step.Step.{Step}
-use Rattle.isort_find.specs.declared.step.Step.TheVariants as step
+use Rattle.isort_find.specs.declared.pending.LineStart.{LineStart}
+use Rattle.isort_find.specs.declared.walker.Phase.TheVariants as phase
 
--- this place is where the lines end that the scanner has released
-pub record IsNextPlace (f : PieceFinderState) (place : Place) : Type 0 where
-  pub offset : place.offset ≡ f.scanning.place
-  pub line : place.line ≡ f.scanning.line
+-- the walker of a finder
+abbrev pub walker_of : PieceFinderState → WalkerState
+walker_of f = walker_state f.stand f.cursor
 
--- the fault was met in the logical line at this place
-abbrev pub with_fault : PieceFinderState → Place → Fault → PieceFinderState
-with_fault f place fault = record f { outcome = outcome.Fault fault; cursor = cursor_before f.cursor place }
+-- a finder with another walker
+abbrev pub with_walker : PieceFinderState → WalkerState → PieceFinderState
+with_walker f w = piece_finder_state f.scanning w.stand w.cursor
 
--- the bindings of the line at this place are to be looked at, except those that were
-abbrev pub with_read : PieceFinderState → Place → List Bound → PieceFinderState
-with_read f place bounds = record f { unread = false; skip = 0; pending = record { place = place; taken = min f.skip (length bounds); left = drop f.skip bounds } }
+-- this is where the lines end that the scanner has released
+pub record IsNextStart (s : ScannerState) (start : LineStart) : Type 0 where
+  pub offset : start.offset ≡ s.place
+  pub line : start.line ≡ s.line
 
--- the line that is ready ends the top
-abbrev pub with_top_end : PieceFinderState → PieceFinderState
-with_top_end f = record f { outcome = outcome.End; passed = fed_of f.scanning }
-
--- the line that is ready is left unread
-abbrev pub with_unread : PieceFinderState → PieceFinderState
-with_unread f = record f { unread = true }
-
--- no line is left unread
-abbrev pub with_none_unread : PieceFinderState → PieceFinderState
-with_none_unread f = record f { unread = false }
+-- the logical line that is ready, if one is, was released
+abbrev pub ReleasesAny : ScannerState → ScannerState → Type 0
+ReleasesAny old new = ((old.ready ≡ None) × (new ≡ old)) ⊎ Releases old new
 
 -- the line read last is let go
 pub record LetsLineGo (old new : PieceFinderState) : Type 0 where
-  pub rest : new ≡ record old { scanning = new.scanning }
-  pub scanner : ((old.scanning.ready ≡ None) × (new.scanning ≡ old.scanning)) ⊎ Releases old.scanning new.scanning
+  pub same : new ≡ record old { scanning = new.scanning; stand = after_line old.stand }
+  pub scanner : ReleasesAny old.scanning new.scanning
   pub none_ready : new.scanning.ready ≡ None
   pub some_text : (line : LogicalLine) → old.scanning.ready ≡ Some line → 0 < length line.text
 
--- what becomes of a finder by what the line at this place is
-abbrev pub FollowsStep : PieceFinderState → Place → Step → Result (Unit {0}) FindError → PieceFinderState → Type 0
-FollowsStep old place (step.Bindings bindings) result new = (result ≡ Ok tt) × (new ≡ with_read old place (map bound_of bindings.items))
-FollowsStep old place step.End result new = (result ≡ Ok tt) × (new ≡ with_top_end old)
-FollowsStep old place (step.Fault fault) result new = (result ≡ Err (error.Fault fault)) × (new ≡ with_fault old place fault)
-FollowsStep old place step.LineLost result new = (result ≡ Err error.Memory) × (new ≡ with_unread old)
-FollowsStep old place step.NoMemory result new = (result ≡ Err error.Memory) × (new ≡ with_unread old)
-
--- the line that is ready was read, or memory ran out for it
-pub record JudgesReady (old : PieceFinderState) (result : Result (Unit {0}) FindError) (new : PieceFinderState) : Type 0 where
-  pub line : LogicalLine
-  pub place : Place
-  pub step : Step
-  pub ready : old.scanning.ready ≡ Some line
+-- a logical line is ready that begins here
+pub record HasReady (s : ScannerState) (line : LogicalLine) (start : LineStart) : Type 0 where
+  pub ready : s.ready ≡ Some line
   pub some_text : 0 < length line.text
-  pub here : IsNextPlace old place
-  pub judges : Judges (options_for old) line step
-  pub follows : FollowsStep old place step result new
+  pub here : IsNextStart s start
+
+-- the line that is ready was tried
+pub record TriesHeld (old : PieceFinderState) (result : Result (Unit {0}) FindError) (new : PieceFinderState) : Type 0 where
+  pub line : LogicalLine
+  pub start : LineStart
+  pub walker : WalkerState
+  pub at : HasReady old.scanning line start
+  pub tries : TriesLine (walker_of old) line start result walker
+  pub same : new ≡ with_walker old walker
 
 -- the same, if a line is ready
-abbrev pub ReadsReady : PieceFinderState → Result (Unit {0}) FindError → PieceFinderState → Type 0
-ReadsReady old result new = ((old.scanning.ready ≡ None) × (result ≡ Ok tt) × (new ≡ with_none_unread old)) ⊎ JudgesReady old result new
-
--- a line is ready that counts and binds nothing
-pub record HoldsPlain (f : PieceFinderState) : Type 0 where
-  pub line : LogicalLine
-  pub ready : f.scanning.ready ≡ Some line
-  pub some_text : 0 < length line.text
-  pub binds : Binds line []
-  pub counts : ends_top (options_for f) line ≡ false
-
--- bindings were looked at whose keys were given
-pub record LooksAhead (old new : PieceFinderState) : Type 0 where
-  pub looking : PendingState
-  pub passes : Passes old.cursor old.pending looking
-  pub same : new ≡ record old { pending = looking }
-
--- what is done once the line that is ready was read: a fault is handed on
-abbrev pub LeavesTried : Result (Unit {0}) FindError → PieceFinderState → Result (Unit {0}) FindError → PieceFinderState → Type 0
-LeavesTried (Ok done) mid result new = (result ≡ Ok tt) × LooksAhead mid new
-LeavesTried (Err (error.Fault fault)) mid result new = (result ≡ Err (error.Fault fault)) × (new ≡ mid)
-LeavesTried (Err error.Memory) mid result new = (result ≡ Ok tt) × LooksAhead mid new
-
--- the line that is ready was read, or was left unread for want of memory
-pub record TriesReady (old : PieceFinderState) (result : Result (Unit {0}) FindError) (new : PieceFinderState) : Type 0 where
-  pub read : Result (Unit {0}) FindError
-  pub mid : PieceFinderState
-  pub reads : ReadsReady old read mid
-  pub leaves : LeavesTried read mid result new
+abbrev pub TriesReady : PieceFinderState → Result (Unit {0}) FindError → PieceFinderState → Type 0
+TriesReady old result new =
+    ((old.scanning.ready ≡ None) × (result ≡ Ok tt) × (new ≡ old)) ⊎ TriesHeld old result new
 
 -- no line is held that was read, or it ends the top
 abbrev pub IsDrained : PieceFinderState → Type 0
-IsDrained f = (f.scanning.ready ≡ None) ⊎ (f.outcome ≡ outcome.End)
+IsDrained f = (f.scanning.ready ≡ None) ⊎ (phase_in f.stand ≡ phase.End)
 
 -- Bytes were taken up to a line's end or the piece's, and that line was read. With a line that is ready one byte more may
 -- be held, which wasn't looked at yet.
 pub record TakesLines (old : PieceFinderState) (piece : List ℕ) (n : ℕ) (new : PieceFinderState) : Type 0 where
   pub within : n ≤ length piece
-  pub found : (text : List ℕ) (bounds : List Bound) → HasFoundIn old text bounds → GoesOnWith text (fed_by old) (take n piece) → HasFoundIn new text bounds
-  pub all : (text : List ℕ) (bounds : List Bound) → HasFoundIn old text bounds → GoesOnWith text (fed_by old) (take n piece) → has_ready new ≡ false → AreAllSettled new text bounds
-  pub undecided : (text : List ℕ) (bounds : List Bound) → HasFoundIn old text bounds → GoesOnWith text (fed_by old) (take n piece) → has_ready new ≡ false → IsDrained new → IsUndecided new text
+  pub found : InEachText old (take n piece) (HasFoundIn new)
+  pub all : InEachText old (take n piece) (λ text bounds. has_ready new ≡ false → AreAllSettled new text bounds)
+  pub undecided : InEachText old (take n piece) (λ text bounds. has_ready new ≡ false → IsDrained new → IsUndecided new text)
   pub some : n ≡ 0 → piece ≡ []
   pub held : length new.scanning.held ≤ length old.scanning.held + n
   pub gone : (line : LogicalLine) → old.scanning.ready ≡ Some line → length new.scanning.held < length old.scanning.held + n
   pub fed : fed_by new ≡ fed_by old + n
   pub cursor : new.cursor ≡ old.cursor
-  pub no_fault : (fault : Fault) → new.outcome ≡ outcome.Fault fault → ⊥
+  pub no_fault : HasNoFault new
   pub open_yet : new.scanning.ended ≡ old.scanning.ended
+
+-- a growth was refused before the first byte, and no line is held that was read
+pub record TakesNothing (old new : PieceFinderState) : Type 0 where
+  pub keeps : PieceFinderRunsOut old new
+  pub none_ready : new.scanning.ready ≡ None
+  pub held : length new.scanning.held ≤ length old.scanning.held
 
 -- what comes of taking bytes where nothing is ready
 abbrev pub TakesBytesOf : PieceFinderState → List ℕ → Result ℕ FindError → PieceFinderState → Type 0
 TakesBytesOf old piece (Ok n) new = TakesLines old piece n new
 TakesBytesOf old piece (Err (error.Fault fault)) new = MeetsFaultIn old piece fault new
-TakesBytesOf old piece (Err error.Memory) new = PieceFinderRunsOut old new × (new.scanning.ready ≡ None) × (length new.scanning.held ≤ length old.scanning.held)
+TakesBytesOf old piece (Err error.Memory) new = TakesNothing old new
 
 -- the line that ends the top was read, or the whole piece was taken and no line is held that was read
 abbrev pub HasTakenAll : List ℕ → ℕ → PieceFinderState → Type 0
-HasTakenAll piece n f = (f.outcome ≡ outcome.End) ⊎ ((n ≡ length piece) × (f.scanning.ready ≡ None))
+HasTakenAll piece n f = (phase_in f.stand ≡ phase.End) ⊎ ((n ≡ length piece) × (f.scanning.ready ≡ None))
 
 -- nothing is ready, and there is more to take, or a line is held that was read
 pub record IsToGoOn (f : PieceFinderState) (more : Bool) : Type 0 where
-  pub is_open : f.outcome ≡ outcome.Open
+  pub is_open : phase_in f.stand ≡ phase.Open
   pub none_ready : has_ready f ≡ false
   pub either : (more ≡ true) ⊎ ((line : LogicalLine) × (f.scanning.ready ≡ Some line))
 
+-- the end or a fault was met, or there is no more to take and no line is held that was read
+abbrev pub IsToStop : PieceFinderState → Bool → Type 0
+IsToStop f more = ¬ (phase_in f.stand ≡ phase.Open) ⊎ ((more ≡ false) × (f.scanning.ready ≡ None))
+
+-- more was passed over after the top
+abbrev pub with_passed : PieceFinderState → ℕ → PieceFinderState
+with_passed f n = record f { stand = passed_to f.stand (fed_by f + n) }
+
 -- the cursor goes to where the next line begins, of which nothing was looked at
 pub record StandsNext (old new : PieceFinderState) : Type 0 where
-  pub place : Place
-  pub here : IsNextPlace old place
-  pub fresh : old.skip ≡ 0
-  pub same : new ≡ record old { cursor = cursor_before old.cursor place }
+  pub start : LineStart
+  pub here : IsNextStart old.scanning start
+  pub fresh : skip_in old.stand ≡ 0
+  pub same : new ≡ record old { cursor = cursor_before old.cursor start }
+
+-- the same, or it stands there
+abbrev pub MayStandNext : PieceFinderState → PieceFinderState → Type 0
+MayStandNext old new = StandsNext old new ⊎ ((¬ (skip_in old.stand ≡ 0)) × (new ≡ old))
+
+-- before the end and a fault, the line read last is let go
+abbrev pub MayLetLineGo : PieceFinderState → PieceFinderState → Type 0
+MayLetLineGo old new =
+    ((phase_in old.stand ≡ phase.Open) × LetsLineGo old new) ⊎ ((¬ (phase_in old.stand ≡ phase.Open)) × (new ≡ old))
 
 -- nothing is ready: the line read last is let go, and the cursor goes to where the next line begins, or stands there
 pub record Rests (old new : PieceFinderState) : Type 0 where
   pub mid : PieceFinderState
-  pub goes : ((old.outcome ≡ outcome.Open) × LetsLineGo old mid) ⊎ ((old.outcome ≡ outcome.Open → ⊥) × (mid ≡ old))
-  pub stands : StandsNext mid new ⊎ ((mid.skip ≡ 0 → ⊥) × (new ≡ mid))
+  pub goes : MayLetLineGo old mid
+  pub stands : MayStandNext mid new
+
+-- the line that is ready was read, or memory ran out for it
+pub record ReadsHeld (old : PieceFinderState) (result : Result (Unit {0}) FindError) (new : PieceFinderState) : Type 0 where
+  pub line : LogicalLine
+  pub start : LineStart
+  pub walker : WalkerState
+  pub at : HasReady old.scanning line start
+  pub reads : Reads (walker_of old) line start result walker
+  pub same : new ≡ with_walker old walker
+
+-- the same, if a line is ready: else it comes next
+abbrev pub ReadsReady : PieceFinderState → Result (Unit {0}) FindError → PieceFinderState → Type 0
+ReadsReady old result new =
+    ((old.scanning.ready ≡ None) × (result ≡ Ok tt) × (new ≡ record old { stand = read_again old.stand }))
+    ⊎ ReadsHeld old result new
 
 -- the line that was left unread was read, if one was
 abbrev pub ReadsUnread : PieceFinderState → Result (Unit {0}) FindError → PieceFinderState → Type 0
-ReadsUnread old result new = ((old.unread ≡ true) × ReadsReady old result new) ⊎ ((old.unread ≡ false) × (result ≡ Ok tt) × (new ≡ old))
+ReadsUnread old result new =
+    ((is_unread old.stand ≡ true) × ReadsReady old result new)
+    ⊎ ((is_unread old.stand ≡ false) × (result ≡ Ok tt) × (new ≡ old))
 
 -- after a binding, or where none is left, those are passed over whose keys were given
-abbrev pub LooksOn : PieceFinderState → Result (Option Binding) FindError → PieceFinderState → Type 0
+abbrev pub LooksOn : WalkerState → Result (Option Binding) FindError → WalkerState → Type 0
 LooksOn old (Ok b) new = LooksAhead old new
 LooksOn old (Err e) new = new ≡ old
 
--- after the line was read, what is taken of its bindings
+-- what is taken of the bindings of the line
 pub record TakesRead (old : PieceFinderState) (result : Result (Option Binding) FindError) (new : PieceFinderState) : Type 0 where
-  pub cursor : CursorState
-  pub pending : PendingState
-  pub takes : TakesNextBinding old.cursor old.pending result cursor pending
-  pub looks : LooksOn (record old { cursor = cursor; pending = pending }) result new
+  pub mid : WalkerState
+  pub walker : WalkerState
+  pub takes : TakesOne (walker_of old) result mid
+  pub looks : LooksOn mid result walker
+  pub same : new ≡ with_walker old walker
 
 -- what is taken once the line was read: an error is handed on
-abbrev pub TakesAfter : Result (Unit {0}) FindError → PieceFinderState → Result (Option Binding) FindError → PieceFinderState → Type 0
-TakesAfter (Ok done) old result new = ((old.outcome ≡ outcome.Open) × TakesRead old result new) ⊎ ((old.outcome ≡ outcome.Open → ⊥) × (result ≡ Ok None) × (new ≡ old))
+abbrev pub TakesAfter : Result (Unit {0}) FindError → PieceFinderState → Result (Option Binding) FindError
+    → PieceFinderState → Type 0
+TakesAfter (Ok done) old result new = TakesRead old result new
 TakesAfter (Err e) old result new = (result ≡ Err e) × (new ≡ old)
 
 -- what is taken of the last line

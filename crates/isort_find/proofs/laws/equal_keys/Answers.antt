@@ -1,3 +1,4 @@
+-- The keys are compared part by part.
 use Rattle.std.proofs.Common.{◌∙◌, sym, ap}
 use Rattle.isort_find.specs.KeyText.{key_in}
 use Rattle.isort_find.specs.Key.{Key, key_eq}

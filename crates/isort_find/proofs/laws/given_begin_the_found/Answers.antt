@@ -1,3 +1,4 @@
+-- What was given is found in lines that begin the text.
 use Rattle.isort_find.proofs.Finds.Beginnings.{begins_found, stopped_begins}
 use Rattle.isort_find.proofs.laws.given_begin_the_found.Goals as goal
 

@@ -1,7 +1,8 @@
+-- A text has one lexing, and a line one list of bindings.
 use Rattle.isort_find.proofs.Finds.Beginnings.{some_found}
-use Rattle.isort_find.proofs.Finds.NextLines.{Laws}
-use Rattle.isort_find.proofs.Finds.OneFound.{EndLaws, one_list_found, one_end_found}
+use Rattle.isort_find.proofs.Finds.OneFound.{one_list_found, one_end_found}
 use Rattle.isort_find.proofs.laws.one_found.Goals as goal
+use Rattle.isort_find.specs.Private.KnownLaws.{EndLaws, Laws}
 
 pub returns : goal.returns
 returns c =

@@ -1,8 +1,8 @@
-use Rattle.isort_find.proofs.Finds.NextLines.{Laws}
-use Rattle.isort_find.proofs.Finds.OneFound.{EndLaws}
-use Rattle.isort_find.proofs.Finds.SettledFound.{SettledLaws, settled_begin, decided_end, decided_all}
+-- Each clause is a lemma on what settled lines hold.
+use Rattle.isort_find.proofs.Finds.SettledFound.{settled_begin, decided_end, decided_all}
 use Rattle.isort_find.proofs.Finds.SettledGrowing.{found_grow, some_found_settled, bad_decided}
 use Rattle.isort_find.proofs.laws.settled_found_is_final.Goals as goal
+use Rattle.isort_find.specs.Private.KnownLaws.{EndLaws, Laws, SettledLaws}
 
 pub returns : goal.returns
 returns c =

@@ -1,3 +1,4 @@
+-- One more binding has a key that was given.
 use Rattle.isort_find.proofs.Keys.TakenBindings.{passed_known}
 use Rattle.isort_find.proofs.take.pass_known.Goals as goal
 

@@ -1,9 +1,10 @@
+-- A binding has a new key, or one that was given.
 use Rattle.std.proofs.Common.{arith}
 use Rattle.isort_find.proofs.Keys.TakenBindings.{takes_known, takes_fewer, takes_new}
 use Rattle.isort_find.proofs.take.take_new.Goals as goal
 
 pub returns-then-is_new : goal.returns-then-is_new
-returns-then-is_new c = takes_new _ c.bindings.cursor c.admit.new.self _ _ c.bindings.pending _ _ _ _ _ _ _ c.bindings.invariant.passes c.bindings.invariant.cursor c.in-Some.ensures c.in_ok-is_new.ensures.ok c.if-is_new.true c.take-taken.ensures c.give.ensures c.place.ensures c.taken.ensures
+returns-then-is_new c = takes_new _ c.bindings.cursor c.admit.new.self _ _ c.bindings.pending _ _ _ _ _ _ _ c.bindings.invariant.passes c.bindings.invariant.cursor c.in-Some.ensures c.in_ok-is_new.ensures.ok c.if-is_new.true c.take-taken.ensures c.give.ensures c.start.ensures c.taken.ensures
 
 pub bindings-preserved-else-is_new : goal.bindings-preserved-else-is_new
 bindings-preserved-else-is_new c =

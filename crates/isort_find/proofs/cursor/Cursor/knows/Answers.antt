@@ -1,3 +1,4 @@
+-- The set of keys answers.
 use Rattle.py_imports.specs.Bound.{bound_of}
 use Rattle.std.proofs.Common.{◌∙◌}
 use Rattle.isort_find.proofs.Keys.KeyTexts.{text_eq, knows}

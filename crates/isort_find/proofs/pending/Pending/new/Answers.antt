@@ -1,3 +1,4 @@
+-- The first bindings are skipped.
 use Rattle.std.proofs.Common.{◌∙◌, sym, ap, map, drop, min}
 use Rattle.std.proofs.lemmas.List.{drop-map, drop_min}
 use Rattle.py_imports.specs.Bound.{bound_of}

@@ -1,41 +1,43 @@
+-- The scanner ends the text, and its last line is tried.
 use Rattle.std.proofs.Common.{Err, sym, ap, ◌∙◌, subst}
 use Rattle.py_lines.specs.ScannerState.{ScannerState, Finishes}
 use Rattle.py_lines.specs.declared.fault.LexError.{LexError}
-use Rattle.isort_find.specs.Pieces.{PieceFinderState, piece_finder_state, EndsFeeding}
-use Rattle.isort_find.specs.Private.PieceSteps.{LetsLineGo, IsNextPlace}
+use Rattle.isort_find.specs.Stand.{phase_in}
+use Rattle.isort_find.specs.Pieces.{PieceFinderState, piece_finder_state, PieceFinderRunsOut, EndsInFault, EndsFeeding}
+use Rattle.isort_find.specs.Private.PieceSteps.{LetsLineGo, IsNextStart, TriesReady}
 use Rattle.isort_find.specs.declared.error.FindError.{FindError}
-use Rattle.isort_find.proofs.Finds.NextLines.{Laws}
-use Rattle.isort_find.proofs.Finds.OneFound.{EndLaws}
-use Rattle.isort_find.proofs.Finds.SettledFound.{SettledLaws}
-use Rattle.isort_find.proofs.Fed.OneLine.{ends_tried, ends_lexical, keeps_begun}
+use Rattle.isort_find.proofs.Fed.LetGo.{begun_is, begins}
+use Rattle.isort_find.proofs.Fed.OneLine.{ends_tried, ends_lexical, failed_is, takes_nothing}
 use Rattle.isort_find.proofs.Fed.WholePiece.{yet_open}
 use Rattle.isort_find.proofs.pieces.PieceFinder.finish.Goals as goal
 
 pub returns-in-Ok : goal.returns-in-Ok
 returns-in-Ok c =
-    let lines : Laws = record { one_lexing = c.one_lexing.ensures.one_list; begins = c.given_lines_begin_the_text.ensures.begin; one_list = c.binds_or_is_bad.ensures.one_list; not_both = c.binds_or_is_bad.ensures.not_both } in
-    let ends : EndLaws = record { laws = lines; one_end = c.one_lexing.ensures.one_end; one_fault = c.binds_or_is_bad.ensures.one_fault } in
-    let laws : SettledLaws = record { ends = ends; each = c.binds_or_is_bad.ensures.some; lines = c.settled_is_final.ensures.lines; fault = c.settled_is_final.ensures.fault; all = c.settled_is_final.ensures.all } in
-    let opened = ap (λ (f : PieceFinderState). f.outcome) (sym c.self.view_is) ∙ c.in-Open.is in
-    let go = subst (λ (g : PieceFinderState). LetsLineGo c.args.self.now g) (sym c.self-2.view_is) c.let_go.ensures in
-    record { finishes = ends_tried laws c.args.self.now _ (record { opened = opened; none = c.requires.none_ready; yet = yet_open c.args.self.now opened c.requires.open_yet; go = go }) c.finish.new.self c.in-Ok.ensures.finishes c.try_line.new.self c.try_line.result c.try_line.ensures }
+    let old = c.args.self.now in
+    let opened = ap (λ (f : PieceFinderState). phase_in f.stand) (sym c.self.view_is) ∙ sym c.phase.ensures ∙ c.in-Open.is in
+    let go = subst (LetsLineGo old) (sym c.self-2.view_is) c.let_go.ensures in
+    let is = begun_is old _ opened c.requires.none_ready go in
+    let tries = subst (λ (g : PieceFinderState). TriesReady (record g { scanning = c.finish.new.self }) c.try_line.result c.try_line.new.self) is c.try_line.ensures in
+    record { finishes = ends_tried c.known_laws.ensures.settled old c.self-2.inside.scanner (begins old _ opened c.requires.none_ready (yet_open old opened c.requires.open_yet) go) c.finish.new.self c.in-Ok.ensures.finishes c.try_line.new.self c.try_line.result tries }
 
 pub returns-in-Err-Fault : goal.returns-in-Err-Fault
 returns-in-Err-Fault c =
-    let lines : Laws = record { one_lexing = c.one_lexing.ensures.one_list; begins = c.given_lines_begin_the_text.ensures.begin; one_list = c.binds_or_is_bad.ensures.one_list; not_both = c.binds_or_is_bad.ensures.not_both } in
-    let ends : EndLaws = record { laws = lines; one_end = c.one_lexing.ensures.one_end; one_fault = c.binds_or_is_bad.ensures.one_fault } in
-    let laws : SettledLaws = record { ends = ends; each = c.binds_or_is_bad.ensures.some; lines = c.settled_is_final.ensures.lines; fault = c.settled_is_final.ensures.fault; all = c.settled_is_final.ensures.all } in
-    let opened = ap (λ (f : PieceFinderState). f.outcome) (sym c.self.view_is) ∙ c.in-Open.is in
-    let go = subst (λ (g : PieceFinderState). LetsLineGo c.args.self.now g) (sym c.self-2.view_is) c.let_go.ensures in
+    let old = c.args.self.now in
+    let opened = ap (λ (f : PieceFinderState). phase_in f.stand) (sym c.self.view_is) ∙ sym c.phase.ensures ∙ c.in-Open.is in
+    let go = subst (LetsLineGo old) (sym c.self-2.view_is) c.let_go.ensures in
+    let is = begun_is old _ opened c.requires.none_ready go in
+    let here = subst (λ (g : PieceFinderState). IsNextStart g.scanning c.start-start.result) (sym c.self-2.view_is) c.start-start.ensures in
     let ends = subst (λ (e : LexError). Finishes c.self-2.inside.scanner (Err e) c.finish.new.self) c.in-Err-Fault.field-0-is c.in-Err-Fault.ensures.finishes in
-    let here = subst (λ (g : PieceFinderState). IsNextPlace g c.place-place.result) (sym c.self-2.view_is) c.place-place.ensures in
-    let met = ends_lexical laws c.args.self.now _ (record { opened = opened; none = c.requires.none_ready; yet = yet_open c.args.self.now opened c.requires.open_yet; go = go }) c.finish.new.self c.in-Err-Fault.fault c.place-place.result here ends c.fail.new.self c.fail.ensures.kept in
-    record { finishes = subst (λ (e : FindError). EndsFeeding c.args.self.now (Err e) c.fail.new.self) (sym c.fail.ensures.answer) met }
+    let met = ends_lexical c.known_laws.ensures.settled old c.self-2.inside.scanner (begins old _ opened c.requires.none_ready (yet_open old opened c.requires.open_yet) go) c.finish.new.self c.in-Err-Fault.fault c.start-start.result here ends in
+    let same = failed_is old c.self-2.inside.walker c.fail.new.self c.self-2.inside.scanner c.finish.new.self c.start-start.result c.in-Err-Fault.fault is c.fail.ensures.kept in
+    record { finishes = subst (λ (e : FindError). EndsFeeding old (Err e) (piece_finder_state c.finish.new.self c.fail.new.self.stand c.fail.new.self.cursor)) (sym c.fail.ensures.answer) (subst (EndsInFault old c.in-Err-Fault.fault) (sym same) met) }
 
 pub returns-in-Err-Memory : goal.returns-in-Err-Memory
 returns-in-Err-Memory c =
-    let opened = ap (λ (f : PieceFinderState). f.outcome) (sym c.self.view_is) ∙ c.in-Open.is in
-    let go = subst (λ (g : PieceFinderState). LetsLineGo c.args.self.now g) (sym c.self-2.view_is) c.let_go.ensures in
+    let old = c.args.self.now in
+    let opened = ap (λ (f : PieceFinderState). phase_in f.stand) (sym c.self.view_is) ∙ sym c.phase.ensures ∙ c.in-Open.is in
+    let go = subst (LetsLineGo old) (sym c.self-2.view_is) c.let_go.ensures in
+    let is = begun_is old _ opened c.requires.none_ready go in
     let short = subst (λ (e : LexError). Finishes c.self-2.inside.scanner (Err e) c.finish.new.self) c.in-Err-Memory.field-0-is c.in-Err-Memory.ensures.finishes in
-    let at = c.self-2.inside in
-    record { finishes = (keeps_begun c.args.self.now _ _ (record { opened = opened; none = c.requires.none_ready; yet = yet_open c.args.self.now opened c.requires.open_yet; go = go }) (ap (λ (s : ScannerState). piece_finder_state s at.unread at.skip at.pending at.outcome at.passed at.cursor) short.same)).0 }
+    let w = c.self-2.inside.walker in
+    record { finishes = subst (PieceFinderRunsOut old) (sym (ap (λ (s : ScannerState). piece_finder_state s w.stand w.cursor) short.same ∙ is)) (takes_nothing old c.self-2.inside.scanner (begins old _ opened c.requires.none_ready (yet_open old opened c.requires.open_yet) go)).keeps }

@@ -1,3 +1,4 @@
+-- A line is held that gave nothing.
 use Rattle.std.proofs.Common.{ap, ◌∙◌, sym, inr}
 use Rattle.py_lines.specs.UnitLine.{line_in}
 use Rattle.isort_find.specs.Pieces.{PieceFinderState}

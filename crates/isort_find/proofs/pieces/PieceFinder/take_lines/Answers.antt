@@ -1,9 +1,11 @@
-use Rattle.std.proofs.Common.{Err, List, ℕ, length, take, drop, inr, sym, ◌∙◌, subst, ◌-◌, arith}
+-- Lines are taken until one gives a binding, or the piece is out.
+use Rattle.std.proofs.Common.{Err, List, ℕ, length, take, drop, inr, sym, ◌∙◌, subst, ap, ◌-◌, arith}
 use Rattle.std.proofs.lemmas.List.{take_rest, length-drop}
-use Rattle.isort_find.specs.Pieces.{PieceFinderState, MeetsFaultIn}
-use Rattle.isort_find.specs.Private.PieceSteps.{TakesLines, TakesBytesOf, with_unread}
+use Rattle.isort_find.specs.Pieces.{PieceFinderState, piece_finder_state, MeetsFaultIn}
+use Rattle.isort_find.specs.Private.PieceSteps.{TakesLines, TakesBytesOf}
+use Rattle.isort_find.specs.Private.Walks.{WalkerState}
 use Rattle.isort_find.specs.declared.error.FindError.{FindError}
-use Rattle.isort_find.proofs.Fed.MoreLines.{takes_next, fault_next, unread_next, keeps_next}
+use Rattle.isort_find.proofs.Fed.MoreLines.{takes_next, fault_next, lost, lost_next, keeps_next}
 use Rattle.isort_find.proofs.pieces.PieceFinder.take_lines.Goals as goal
 
 pub lines-preserved : goal.lines-preserved
@@ -46,5 +48,6 @@ returns-in-Err-Memory-2-clause-takes c =
     let last = c.take_line.new.self in
     let bytes = take (length c.args.piece.now - c.lines.taken) (drop c.lines.taken c.args.piece.now) in
     let keeps = subst (λ (e : FindError). TakesBytesOf c.lines.self bytes (Err e) last) c.in-Err-Memory.field-0-is c.in-Err-Memory.ensures in
-    let all = unread_next c.args.self.now c.lines.self last c.args.piece.now c.lines.taken c.if-taken-eq0.false c.lines.invariant.takes keeps.0 keeps.1 keeps.2 in
-    subst (λ (f : PieceFinderState). TakesLines c.args.self.now c.args.piece.now c.lines.taken (with_unread f)) (sym c.self.view_is) all
+    let all = lost_next c.args.self.now c.lines.self last c.args.piece.now c.lines.taken c.start-start.result c.if-taken-eq0.false c.lines.invariant.takes keeps in
+    let same = ap (λ (x : WalkerState). piece_finder_state c.self.inside.scanner x.stand x.cursor) c.lose.ensures ∙ ap (λ (f : PieceFinderState). lost f c.start-start.result) c.self.view_is in
+    subst (TakesLines c.args.self.now c.args.piece.now c.lines.taken) (sym same) all

@@ -1,0 +1,125 @@
+-- Inside a logical line, whose bindings are looked at one by one.
+use Rattle.std.proofs.Common.{◌≡◌, ℕ, Bool, true, false, not, List, [], ◌∷◌, ◌++◌, inl, inr, refl, sym, ap, ◌∙◌, subst, append_assoc, append-nil, length-append, arith}
+use Rattle.std.specs.List.{list_all}
+use Rattle.py_lines.specs.LogicalLine.{LogicalLine}
+use Rattle.py_lines.specs.Reader.{HasGiven, standing_at}
+use Rattle.py_imports.specs.Bound.{Bound}
+use Rattle.py_imports.specs.Binds.{Binds}
+use Rattle.isort_find.specs.Key.{Key}
+use Rattle.isort_find.specs.Found.{firsts, has_one_like, ends_top}
+use Rattle.isort_find.specs.Cursor.{CursorState, next_count, keys_of, IsAfter, HasStopped, has_key}
+use Rattle.isort_find.specs.Pending.{PendingState}
+use Rattle.isort_find.specs.Stand.{IsInside, BindsFrom}
+use Rattle.isort_find.specs.Private.CursorMoves.{cursor_after}
+use Rattle.isort_find.specs.Private.LooksAtBindings.{Looks, Passes, TakesNew}
+use Rattle.isort_find.specs.declared.options.FindOptions.{FindOptions}
+use Rattle.isort_find.specs.declared.pending.LineStart.{LineStart}
+use Rattle.isort_find.proofs.Keys.Firsts.{known_is, firsts-all_known, firsts-new, keys_of-snoc, given-snoc}
+use Rattle.isort_find.proofs.Keys.TakenBindings.{list_all-snoc}
+use Rattle.isort_find.proofs.Finds.LinePlaces.{bytes_given}
+use Rattle.isort_find.proofs.Finds.NextLines.{BindAll-snoc}
+
+pub nothing_dropped : (dropped rest : List Bound) → [] ≡ dropped ++ rest → rest ≡ []
+nothing_dropped [] rest h = sym h
+nothing_dropped (d ∷ ds) rest h = absurd cc
+
+-- bindings with known keys were looked at
+pub inside_passed : (text : List ℕ) (cursor : CursorState) (lines : List LogicalLine) (line : LogicalLine) (p q : PendingState) (bounds : List Bound) → HasStopped text cursor bounds → Passes cursor p q → IsInside text cursor.options lines line p bounds → IsInside text cursor.options lines line q bounds
+inside_passed text cursor lines line p q bounds stopped passes w =
+    let unique = cursor.options.unique in
+    record {
+      before = w.before;
+      part = w.part ++ passes.dropped;
+      begins = w.begins;
+      start = subst (λ (x : LineStart). HasGiven (standing_at text x.offset x.line) lines) (sym passes.start) w.start;
+      binds = w.binds;
+      binds_line = subst (Binds line) (ap (λ t. w.part ++ t) passes.split ∙ sym (append_assoc w.part passes.dropped q.left)) w.binds_line;
+      taken = omega (arith, passes.taken, w.taken, length-append w.part passes.dropped);
+      in_top = w.in_top;
+      line_in_top = w.line_in_top;
+      found = w.found ∙ sym (firsts-all_known unique (w.before ++ w.part) passes.dropped (subst (λ (ks : List Key). list_all (has_key unique ks) passes.dropped ≡ true) (stopped.keys ∙ ap (keys_of unique) w.found) passes.known)) ∙ ap (firsts unique []) (append_assoc w.before w.part passes.dropped);
+    }
+
+-- the cursor after a binding that was given
+abbrev pub given_at : CursorState → PendingState → Bound → CursorState
+given_at s p b = record { options = s.options; offset = p.start.offset; line = p.start.line; taken = p.taken; given = next_count s.given; keys = s.keys ++ keys_of s.options.unique (b ∷ []) }
+
+pub gives_at : (s t : CursorState) (old new : PendingState) (b : Bound) → TakesNew s old b t new → t ≡ given_at s new b
+gives_at s t old new b takes = takes.gives ∙ ap (λ (x : CursorState). cursor_after x new.start new.taken) takes.admits.same
+
+not_not : (a : Bool) → true ≡ not a → a ≡ false
+not_not true h = h
+not_not false h = refl
+
+-- a binding with a new key was looked at
+inside_given : (text : List ℕ) (cursor : CursorState) (lines : List LogicalLine) (line : LogicalLine) (p q : PendingState) (bounds : List Bound) (b : Bound) → HasStopped text cursor bounds → has_key cursor.options.unique cursor.keys b ≡ false → Looks p b q → IsInside text cursor.options lines line p bounds → IsInside text cursor.options lines line q (bounds ++ b ∷ [])
+inside_given text cursor lines line p q bounds b stopped new looks w =
+    let looked = w.before ++ w.part in
+    let unique = cursor.options.unique in
+    let unseen : has_one_like unique looked b ≡ false = sym (known_is unique looked b) ∙ ap (λ ks. has_key unique ks b) (sym (stopped.keys ∙ ap (keys_of unique) w.found)) ∙ new in
+    record {
+      before = w.before;
+      part = w.part ++ b ∷ [];
+      begins = w.begins;
+      start = subst (λ (x : LineStart). HasGiven (standing_at text x.offset x.line) lines) (sym looks.start) w.start;
+      binds = w.binds;
+      binds_line = subst (Binds line) (ap (λ t. w.part ++ t) looks.left ∙ sym (append_assoc w.part (b ∷ []) q.left)) w.binds_line;
+      taken = omega (arith, looks.taken, w.taken, length-append w.part (b ∷ []));
+      in_top = w.in_top;
+      line_in_top = w.line_in_top;
+      found = ap (λ t. t ++ b ∷ []) w.found ∙ sym (firsts-new unique looked b unseen) ∙ ap (firsts unique []) (append_assoc w.before w.part (b ∷ []));
+    }
+
+-- inside a line a finder may stop
+inside_after : (text : List ℕ) (options : FindOptions) (lines : List LogicalLine) (line : LogicalLine) (p : PendingState) (bounds : List Bound) → IsInside text options lines line p bounds → IsAfter text options p.start.offset p.start.line p.taken bounds
+inside_after text options lines line p bounds w = record {
+  lines = lines;
+  before = w.before;
+  part = w.part;
+  given = w.start;
+  binds = w.binds;
+  in_top = w.in_top;
+  is_part = (w.taken, inr (record { line = line; rest = p.left; begins = w.begins; binds = w.binds_line; in_top = w.line_in_top }));
+  found = w.found;
+}
+
+-- what there is once a binding was given: where the finder stands, that it may stop, and where the binding comes from
+pub record HasGivenOne (text : List ℕ) (cursor : CursorState) (lines : List LogicalLine) (line : LogicalLine) (q : PendingState) (bounds : List Bound) (b : Bound) : Type 0 where
+  pub inside : IsInside text cursor.options lines line q (bounds ++ b ∷ [])
+  pub stopped : HasStopped text cursor (bounds ++ b ∷ [])
+  pub from : BindsFrom text cursor.offset b
+
+-- the next binding with a new key was given
+pub one_given : (text : List ℕ) (cursor t : CursorState) (lines : List LogicalLine) (line : LogicalLine) (p q : PendingState) (bounds : List Bound) (b : Bound) → HasStopped text cursor bounds → TakesNew cursor p b t q → IsInside text cursor.options lines line p bounds → HasGivenOne text t lines line q bounds b
+one_given text cursor t lines line p q bounds b stopped takes w =
+    let unique = cursor.options.unique in
+    let mid = inside_passed text cursor lines line p takes.between bounds stopped takes.passes w in
+    let inside = inside_given text cursor lines line takes.between q bounds b stopped (not_not _ takes.admits.answer) takes.looks mid in
+    subst (λ (s : CursorState). HasGivenOne text s lines line q bounds b) (sym (gives_at cursor t p q b takes)) (record {
+      inside = inside;
+      stopped = record {
+        after = inside_after text cursor.options lines line q (bounds ++ b ∷ []) inside;
+        keys = ap (λ ks. ks ++ keys_of unique (b ∷ [])) stopped.keys ∙ sym (keys_of-snoc unique bounds b);
+        given = ap next_count stopped.given ∙ given-snoc bounds b;
+      };
+      from = record {
+        before = lines;
+        line = line;
+        begins = w.begins;
+        place = bytes_given _ lines mid.start ∙ ap (λ (x : LineStart). x.offset) (sym takes.looks.start);
+        is = (mid.part, q.left, subst (Binds line) (ap (λ t. mid.part ++ t) takes.looks.left) mid.binds_line);
+      };
+    })
+
+-- a line of which nothing is left was looked through
+abbrev pub line_over : (text : List ℕ) (options : FindOptions) (place number : ℕ) (lines : List LogicalLine) (line : LogicalLine) (p : PendingState) (bounds : List Bound) → p.left ≡ [] → HasGiven (standing_at text place number) (lines ++ line ∷ []) → IsInside text options lines line p bounds → IsAfter text options place number 0 bounds
+line_over text options place number lines line p bounds none given w = record {
+  lines = lines ++ line ∷ [];
+  before = w.before ++ w.part;
+  part = [];
+  given = given;
+  binds = BindAll-snoc lines line w.before w.part w.binds (subst (Binds line) (ap (λ t. w.part ++ t) none ∙ append-nil w.part) w.binds_line);
+  in_top = list_all-snoc (λ l. not (ends_top options l)) lines line w.in_top (ap not w.line_in_top);
+  is_part = (refl, inl refl);
+  found = w.found ∙ ap (firsts options.unique []) (sym (append-nil (w.before ++ w.part)));
+}

@@ -1,0 +1,124 @@
+-- How a walker goes from one state to the next.
+use Rattle.std.specs.Prelude.{◌≡◌, ℕ, Option, None, Some, Result, Ok, Err, List, map}
+use Rattle.py_lines.specs.LogicalLine.{LogicalLine}
+use Rattle.py_lines.specs.declared.fault.Fault.{Fault}
+use Rattle.py_imports.specs.Bound.{Bound, bound_of}
+use Rattle.py_imports.specs.declared.binding.Binding.{Binding}
+use Rattle.isort_find.specs.Cursor.{CursorState}
+use Rattle.isort_find.specs.Pending.{PendingState, pending_after}
+use Rattle.isort_find.specs.Stand.{skip_in}
+use Rattle.isort_find.specs.Private.CursorMoves.{cursor_before}
+use Rattle.isort_find.specs.Private.LooksAtBindings.{Passes, TakesNextBinding}
+use Rattle.isort_find.specs.Private.LineSteps.{Judges, Trial, TurnsOut, binding, ending, failing, lost}
+use Rattle.isort_find.specs.declared.error.FindError.{FindError}
+use Rattle.isort_find.specs.declared.error.FindError.TheVariants as error
+use Rattle.isort_find.specs.declared.pending.LineStart.{LineStart}
+use Rattle.isort_find.specs.declared.step.Step.{Step}
+use Rattle.isort_find.specs.declared.step.Step.TheVariants as step
+use Rattle.isort_find.specs.declared.walker.Stand.{Stand}
+use Rattle.isort_find.specs.declared.walker.Stand.TheVariants as stand
+
+-- where a walker stands, and the cursor at which it would stop
+pub record WalkerState : Type 0 where
+  pub stand : Stand
+  pub cursor : CursorState
+
+-- what a walker is seen as, by its fields
+abbrev pub walker_state : Stand → CursorState → WalkerState
+walker_state at cursor = record { stand = at; cursor = cursor }
+
+-- it stands elsewhere
+abbrev pub with_stand : WalkerState → Stand → WalkerState
+with_stand w at = record w { stand = at }
+
+-- the fault was met in the logical line that begins here
+abbrev pub with_fault : WalkerState → LineStart → Fault → WalkerState
+with_fault w start fault = walker_state (stand.Fault fault) (cursor_before w.cursor start)
+
+-- the bindings of the line that begins here are to be looked at, except those that were
+abbrev pub with_bindings : WalkerState → LineStart → List Bound → WalkerState
+with_bindings w start bounds = with_stand w (stand.Within (pending_after start (skip_in w.stand) bounds))
+
+-- where the logical line begins that was left unread
+abbrev pub unread_in : Stand → Option LineStart
+unread_in (stand.Unread start skip) = Some start
+unread_in other = None
+
+-- once the logical line read last is left
+abbrev pub after_line : Stand → Stand
+after_line (stand.Within pending) = stand.Between 0
+after_line other = other
+
+-- once the logical line that was left unread comes next
+abbrev pub read_again : Stand → Stand
+read_again (stand.Unread start skip) = stand.Between skip
+read_again other = other
+
+-- once text after the end was passed over up to this byte
+abbrev pub passed_to : Stand → ℕ → Stand
+passed_to (stand.End passed) place = stand.End place
+passed_to other place = other
+
+-- what becomes of a walker by what the logical line is that begins here
+abbrev pub FollowsStep : WalkerState → LineStart → Step → Result (Unit {0}) FindError → WalkerState → Type 0
+FollowsStep old start (step.Bindings bindings) result new =
+    (result ≡ Ok tt) × (new ≡ with_bindings old start (map bound_of bindings.items))
+FollowsStep old start step.End result new = (result ≡ Ok tt) × (new ≡ with_stand old (stand.End 0))
+FollowsStep old start (step.Fault fault) result new = (result ≡ Err (error.Fault fault)) × (new ≡ with_fault old start fault)
+FollowsStep old start step.LineLost result new =
+    (result ≡ Err error.Memory) × (new ≡ with_stand old (stand.Unread start (skip_in old.stand)))
+FollowsStep old start step.NoMemory result new = (result ≡ Err error.Memory) × (new ≡ old)
+
+-- the logical line that begins here was read, or memory ran out for it
+pub record Reads (old : WalkerState) (line : LogicalLine) (start : LineStart) (result : Result (Unit {0}) FindError)
+    (new : WalkerState) : Type 0 where
+  pub step : Step
+  pub judges : Judges old.cursor.options line step
+  pub follows : FollowsStep old start step result new
+
+-- inside a logical line bindings were looked at whose keys were given
+pub record LooksAheadFrom (pending : PendingState) (cursor : CursorState) (new : WalkerState) : Type 0 where
+  pub rest : PendingState
+  pub passes : Passes cursor pending rest
+  pub same : new ≡ walker_state (stand.Within rest) cursor
+
+-- the same, wherever the walker stands
+abbrev pub LooksAheadAt : Stand → CursorState → WalkerState → Type 0
+LooksAheadAt (stand.Within pending) cursor new = LooksAheadFrom pending cursor new
+LooksAheadAt other cursor new = new ≡ walker_state other cursor
+
+-- bindings were looked at whose keys were given
+abbrev pub LooksAhead : WalkerState → WalkerState → Type 0
+LooksAhead old new = LooksAheadAt old.stand old.cursor new
+
+-- what becomes of a walker that tries the line that begins here: one that is left unread is no error
+abbrev pub FollowsTrial : WalkerState → LineStart → Trial → Result (Unit {0}) FindError → WalkerState → Type 0
+FollowsTrial old start (binding bounds) result new =
+    (result ≡ Ok tt) × LooksAheadFrom (pending_after start (skip_in old.stand) bounds) old.cursor new
+FollowsTrial old start ending result new = (result ≡ Ok tt) × (new ≡ with_stand old (stand.End 0))
+FollowsTrial old start (failing fault) result new = (result ≡ Err (error.Fault fault)) × (new ≡ with_fault old start fault)
+FollowsTrial old start lost result new =
+    (result ≡ Ok tt) × (new ≡ with_stand old (stand.Unread start (skip_in old.stand)))
+
+-- the logical line that begins here was read, or was left unread, since memory ran out
+pub record TriesLine (old : WalkerState) (line : LogicalLine) (start : LineStart) (result : Result (Unit {0}) FindError)
+    (new : WalkerState) : Type 0 where
+  pub trial : Trial
+  pub turns : TurnsOut old.cursor.options line trial
+  pub follows : FollowsTrial old start trial result new
+
+-- the next binding with a new key was taken of those that are left of a logical line
+pub record TakesFrom (pending : PendingState) (cursor : CursorState) (result : Result (Option Binding) FindError)
+    (new : WalkerState) : Type 0 where
+  pub rest : PendingState
+  pub takes : TakesNextBinding cursor pending result new.cursor rest
+  pub same : new ≡ walker_state (stand.Within rest) new.cursor
+
+-- the same, wherever the walker stands
+abbrev pub TakesAt : Stand → CursorState → Result (Option Binding) FindError → WalkerState → Type 0
+TakesAt (stand.Within pending) cursor result new = TakesFrom pending cursor result new
+TakesAt other cursor result new = (result ≡ Ok None) × (new ≡ walker_state other cursor)
+
+-- the next binding of the logical line read last whose key wasn't given, or that there is none
+abbrev pub TakesOne : WalkerState → Result (Option Binding) FindError → WalkerState → Type 0
+TakesOne old result new = TakesAt old.stand old.cursor result new

@@ -1,0 +1,89 @@
+-- Where a finder stands in its text, and what that says of the text.
+use Rattle.std.specs.Prelude.{◌≡◌, ℕ, Bool, true, false, not, ◌⊎◌, Some, List, [], ◌∷◌, ◌++◌, length}
+use Rattle.std.specs.List.{list_all}
+use Rattle.py_lines.specs.LogicalLine.{LogicalLine}
+use Rattle.py_lines.specs.Lexed.{IsLexed, BeginsLexing}
+use Rattle.py_lines.specs.Reader.{HasGiven, standing_at}
+use Rattle.py_lines.specs.declared.fault.Fault.{Fault}
+use Rattle.py_imports.specs.Bound.{Bound}
+use Rattle.py_imports.specs.Binds.{Binds, BindAll, IsBadAt}
+use Rattle.isort_find.specs.Found.{firsts, ends_top, IsFound}
+use Rattle.isort_find.specs.Lexing.{bytes_of, LineAt}
+use Rattle.isort_find.specs.Pending.{PendingState}
+use Rattle.isort_find.specs.declared.options.FindOptions.{FindOptions}
+use Rattle.isort_find.specs.declared.walker.Stand.{Stand}
+use Rattle.isort_find.specs.declared.walker.Stand.TheVariants as stand
+use Rattle.isort_find.specs.declared.walker.Phase.{Phase}
+use Rattle.isort_find.specs.declared.walker.Phase.TheVariants as phase
+
+-- whether a finder goes on, or has met the end of what counts or the text's fault
+abbrev pub phase_in : Stand → Phase
+phase_in (stand.End passed) = phase.End
+phase_in (stand.Fault fault) = phase.Fault fault
+phase_in other = phase.Open
+
+-- how many bindings of the next logical line were looked at
+abbrev pub skip_in : Stand → ℕ
+skip_in (stand.Between skip) = skip
+skip_in (stand.Unread start skip) = skip
+skip_in other = 0
+
+-- the bindings that are left of the logical line read last
+abbrev pub left_in : Stand → List Bound
+left_in (stand.Within pending) = pending.left
+left_in other = []
+
+-- the byte up to which text was passed over after the end
+abbrev pub passed_in : Stand → ℕ
+passed_in (stand.End passed) = passed
+passed_in other = 0
+
+-- whether a logical line was left unread
+abbrev pub is_unread : Stand → Bool
+is_unread (stand.Unread start skip) = true
+is_unread other = false
+
+-- whether any are left
+abbrev pub are_left : List Bound → Bool
+are_left [] = false
+are_left (b ∷ bs) = true
+
+-- whether something is to be given: a line that was left unread, or bindings that are left
+abbrev pub ready_in : Stand → Bool
+ready_in (stand.Unread start skip) = true
+ready_in (stand.Within pending) = are_left pending.left
+ready_in other = false
+
+-- Inside this logical line of the text, which comes after these lines: some of its bindings were looked at, and the others
+-- are left. So far these bindings were found.
+pub record IsInside (text : List ℕ) (options : FindOptions) (lines : List LogicalLine) (line : LogicalLine)
+    (pending : PendingState) (bounds : List Bound) : Type 0 where
+  pub before : List Bound
+  pub part : List Bound
+  pub begins : BeginsLexing text (lines ++ line ∷ [])
+  pub start : HasGiven (standing_at text pending.start.offset pending.start.line) lines
+  pub binds : BindAll lines before
+  pub binds_line : Binds line (part ++ pending.left)
+  pub taken : pending.taken ≡ length part
+  pub in_top : list_all (λ l. not (ends_top options l)) lines ≡ true
+  pub line_in_top : ends_top options line ≡ false
+  pub found : bounds ≡ firsts options.unique [] (before ++ part)
+
+-- where a binding comes from: its logical line begins at this byte
+abbrev pub BindsFrom : List ℕ → ℕ → Bound → Type 0
+BindsFrom text offset b =
+    LineAt text offset (λ line. (earlier : List Bound) × (later : List Bound) × Binds line (earlier ++ b ∷ later))
+
+-- where a finder ends: after the text, or at the logical line that ends the top
+abbrev pub MeetsEndAt : List ℕ → FindOptions → ℕ → Type 0
+MeetsEndAt text options offset = (offset ≡ length text) ⊎ LineAt text offset (λ line. ends_top options line ≡ true)
+
+-- where a finder meets a fault: at the bad logical line, or after the lines before a lexical fault
+abbrev pub MeetsFaultAt : List ℕ → ℕ → Fault → Type 0
+MeetsFaultAt text offset fault =
+    LineAt text offset (λ line. IsBadAt line fault)
+    ⊎ ((lines : List LogicalLine) × IsLexed text lines (Some fault) × (bytes_of lines ≡ offset))
+
+-- what is found ends in this fault, which is met at this byte
+abbrev pub EndsInFaultAt : List ℕ → FindOptions → List Bound → ℕ → Fault → Type 0
+EndsInFaultAt text options bounds offset fault = IsFound text options bounds (Some fault) × MeetsFaultAt text offset fault

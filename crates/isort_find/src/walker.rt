@@ -1,0 +1,301 @@
+//! What a finder over a whole text and one over pieces have in common: where each stands in its text, and its cursor.
+ghost use Rattle.std.specs.Prelude.{◌≡◌, ◌↔◌, IsTrue, [], map};
+ghost use Rattle.py_lines.specs.UnitLine.{line_in};
+ghost use Rattle.py_imports.specs.Bound.{bound_of};
+
+use crate::cursor::Cursor;
+use crate::error::FindError;
+use crate::options::FindOptions;
+use crate::pending::{LineStart, Pending};
+use crate::step::{Step, is_plain, judge};
+use crate::take::{pass_known, take_new};
+use py_imports::Binding;
+use py_lines::{Fault, Unit};
+use std::alloc::Global;
+use std::marker::Model;
+
+/// Where a finder stands in its text.
+#[derive(Drop)]
+pub enum Stand {
+    /// Between two logical lines. So many bindings of the next one were looked at.
+    Between { skip: usize },
+    /// Before the logical line that begins at `start`, which was left unread, since memory ran out. So many of its bindings
+    /// were looked at.
+    Unread { start: LineStart, skip: usize },
+    /// Within the logical line read last, some of whose bindings were looked at.
+    Within(Pending),
+    /// At the end of what counts. Text after it was passed over up to this byte, or not at all.
+    End { passed: u64 },
+    /// At the text's fault.
+    Fault(Fault),
+}
+
+/// Whether a finder goes on, or has met the end of what counts or the text's fault.
+#[derive(Clone, Copy)]
+pub enum Phase {
+    /// It goes on.
+    Open,
+    /// It has met the end of the top, or of the text.
+    End,
+    /// It has met this fault.
+    Fault(Fault),
+}
+
+/// Goes through the logical lines of a text, which are handed to it one by one, and gives their imports.
+#[derive(Drop)]
+pub struct Walker {
+    /// Where its memory comes from.
+    alloc: Global,
+    /// Where it stands.
+    stand: Stand,
+    /// Where another finder would go on.
+    cursor: Cursor,
+}
+
+impl Model for Walker {
+    ghost use Rattle.isort_find.specs.Private.Walks.{WalkerState, walker_state};
+
+    ghost Value = { WalkerState };
+
+    ghost view = { λ w. walker_state w.stand w.cursor };
+}
+
+impl Walker {
+    ghost use Rattle.isort_find.specs.Pending.{pending_state};
+    ghost use Rattle.isort_find.specs.Stand.{passed_in, phase_in, ready_in, skip_in};
+    ghost use Rattle.isort_find.specs.Private.CursorMoves.{cursor_before};
+    ghost use Rattle.isort_find.specs.Private.Walks.{FollowsStep, LooksAhead, Reads, TakesOne, TriesLine, walker_state, with_fault};
+    ghost use Rattle.isort_find.specs.Private.Walks.{with_stand, after_line, passed_to, read_again, unread_in};
+
+    /// Where the cursor stands.
+    pub fn at(alloc: Global, cursor: Cursor) -> Walker
+        ensures { result ≡ walker_state (Stand.Between cursor.taken) cursor }
+    {
+        Walker {
+            alloc,
+            stand: Stand::Between {
+                skip: cursor.taken(),
+            },
+            cursor,
+        }
+    }
+
+    /// Which imports are found.
+    pub fn options(&self) -> FindOptions
+        ensures { result ≡ self.now.cursor.options }
+    {
+        self.cursor.options()
+    }
+
+    /// Whether it goes on, or has met the end or the fault.
+    pub fn phase(&self) -> Phase
+        ensures { result ≡ phase_in self.now.stand }
+    {
+        match &self.stand {
+            Stand::Between { .. } | Stand::Unread { .. } | Stand::Within(_) => Phase::Open,
+            Stand::End { .. } => Phase::End,
+            Stand::Fault(fault) => Phase::Fault(*fault),
+        }
+    }
+
+    /// Whether neither the end nor a fault was met.
+    pub fn is_open(&self) -> bool
+        ensures { IsTrue result ↔ (phase_in self.now.stand ≡ Phase.Open) }
+    {
+        matches!(self.phase(), Phase::Open)
+    }
+
+    /// Whether a binding is left, or a logical line was left unread.
+    pub fn has_ready(&self) -> bool
+        ensures { result ≡ ready_in self.now.stand }
+    {
+        match &self.stand {
+            Stand::Unread { .. } => true,
+            Stand::Within(pending) => pending.front().is_some(),
+            Stand::Between { .. } | Stand::End { .. } | Stand::Fault(_) => false,
+        }
+    }
+
+    /// Where the logical line begins that was left unread, if one was.
+    pub fn unread(&self) -> Option<LineStart>
+        ensures { result ≡ unread_in self.now.stand }
+    {
+        match &self.stand {
+            Stand::Unread { start, .. } => Some(*start),
+            _ => None,
+        }
+    }
+
+    /// How many bindings of the next logical line were looked at.
+    pub fn skip(&self) -> usize
+        ensures { result ≡ skip_in self.now.stand }
+    {
+        match &self.stand {
+            Stand::Between { skip } | Stand::Unread { skip, .. } => *skip,
+            _ => 0,
+        }
+    }
+
+    /// The byte up to which text was passed over after the end, or 0.
+    pub fn passed(&self) -> u64
+        ensures { result ≡ passed_in self.now.stand }
+    {
+        match &self.stand {
+            Stand::End { passed } => *passed,
+            _ => 0,
+        }
+    }
+
+    /// The text has this fault, from now on. The logical line that has it begins at `start`.
+    pub fn fail(&mut self, start: LineStart, fault: Fault) -> FindError
+        ensures answer { result ≡ FindError.Fault fault }
+        ensures kept { self.new ≡ with_fault self.old start fault }
+    {
+        self.stand = Stand::Fault(fault);
+        self.cursor.move_to(start);
+        FindError::Fault(fault)
+    }
+
+    /// Does what follows from the logical line that begins at `start`.
+    pub fn follow(&mut self, start: LineStart, step: Step) -> Result<(), FindError>
+        ensures { FollowsStep self.old start step result self.new }
+    {
+        match step {
+            Step::Bindings(bindings) => {
+                let skip = self.skip();
+                self.stand = Stand::Within(Pending::new(bindings, start, skip));
+                Ok(())
+            }
+            Step::End => {
+                self.stand = Stand::End { passed: 0 };
+                Ok(())
+            }
+            Step::Fault(fault) => Err(self.fail(start, fault)),
+            Step::LineLost => {
+                self.lose(start);
+                Err(FindError::Memory)
+            }
+            Step::NoMemory => Err(FindError::Memory),
+        }
+    }
+
+    /// Reads a logical line, which begins at `start`. Without memory for its bindings it is left unread.
+    pub fn read(&mut self, unit: &Unit<'_>, start: LineStart) -> Result<(), FindError>
+        ensures { Reads self.old (line_in unit.now) start result self.new }
+    {
+        let step = judge(self.alloc, unit, self.cursor.options());
+        self.follow(start, step)
+    }
+
+    /// The same, where a line that is left unread is no error, and what is ready then is known.
+    #[inline(always)]
+    pub fn try_line(&mut self, unit: &Unit<'_>, start: LineStart) -> Result<(), FindError>
+        ensures { TriesLine self.old (line_in unit.now) start result self.new }
+    {
+        if is_plain(unit, self.options()) {
+            self.pass_by(start);
+            return Ok(());
+        }
+        self.try_words(unit, start)
+    }
+
+    /// The logical line that begins at `start` binds nothing.
+    #[inline(always)]
+    fn pass_by(&mut self, start: LineStart)
+        ensures { self.new ≡ with_stand self.old (Stand.Within (pending_state start 0 [])) }
+    {
+        self.stand = Stand::Within(Pending::none(self.alloc, start));
+    }
+
+    /// The same, for a logical line that may bind something. It is apart so that other lines take few steps.
+    #[cold]
+    fn try_words(&mut self, unit: &Unit<'_>, start: LineStart) -> Result<(), FindError>
+        ensures { TriesLine self.old (line_in unit.now) start result self.new }
+    {
+        match self.read(unit, start) {
+            Err(FindError::Fault(fault)) => Err(FindError::Fault(fault)),
+            Ok(()) | Err(FindError::Memory) => {
+                self.look_ahead();
+                Ok(())
+            }
+        }
+    }
+
+    /// The next binding of the logical line read last whose key wasn't given yet.
+    pub fn next_new(&mut self) -> Result<Option<Binding>, FindError>
+        ensures { TakesOne self.old result self.new }
+    {
+        match &mut self.stand {
+            Stand::Within(pending) => take_new(self.alloc, pending, &mut self.cursor),
+            Stand::Between { .. } | Stand::Unread { .. } | Stand::End { .. } | Stand::Fault(_) => {
+                Ok(None)
+            }
+        }
+    }
+
+    /// Passes over bindings whose keys were given. Without memory the next one is left as if it were new.
+    pub fn look_ahead(&mut self)
+        ensures { LooksAhead self.old self.new }
+    {
+        match &mut self.stand {
+            Stand::Within(pending) => {
+                let _ = pass_known(self.alloc, pending, &self.cursor);
+            }
+            Stand::Between { .. } | Stand::Unread { .. } | Stand::End { .. } | Stand::Fault(_) => {}
+        }
+    }
+
+    /// Leaves the logical line read last.
+    pub fn leave(&mut self)
+        ensures { self.new ≡ with_stand self.old (after_line self.old.stand) }
+    {
+        if let Stand::Within(_) = &self.stand {
+            self.stand = Stand::Between { skip: 0 };
+        }
+    }
+
+    /// Memory ran out for the logical line that begins at `start`.
+    pub fn lose(&mut self, start: LineStart)
+        ensures { self.new ≡ with_stand self.old (Stand.Unread start (skip_in self.old.stand)) }
+    {
+        let skip = self.skip();
+        self.stand = Stand::Unread { start, skip };
+    }
+
+    /// The logical line that was left unread comes next.
+    pub fn go_back(&mut self)
+        ensures { self.new ≡ with_stand self.old (read_again self.old.stand) }
+    {
+        if let Stand::Unread { skip, .. } = &self.stand {
+            let skip = *skip;
+            self.stand = Stand::Between { skip };
+        }
+    }
+
+    /// What follows begins at `start`. The cursor goes there, except where some of the next line's bindings were looked at.
+    pub fn rest(&mut self, start: LineStart)
+        ensures fresh { skip_in self.old.stand ≡ 0 → self.new ≡ walker_state self.old.stand (cursor_before self.old.cursor start) }
+        ensures stays { ¬ (skip_in self.old.stand ≡ 0) → self.new ≡ self.old }
+    {
+        if self.skip() == 0 {
+            self.cursor.move_to(start);
+        }
+    }
+
+    /// After the end text is passed over up to this byte.
+    pub fn pass_to(&mut self, place: u64)
+        ensures { self.new ≡ with_stand self.old (passed_to self.old.stand place) }
+    {
+        if let Stand::End { passed } = &mut self.stand {
+            *passed = place;
+        }
+    }
+
+    /// The cursor from which another finder goes on. It takes no memory.
+    pub fn stop(self) -> Cursor
+        ensures { result ≡ self.cursor }
+    {
+        let Walker { cursor, .. } = self;
+        cursor
+    }
+}
