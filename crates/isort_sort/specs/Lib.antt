@@ -10,6 +10,7 @@ pub mod Blocks
 pub mod BlocksReplaced
 pub mod Sorted
 pub mod LaidAgain
+pub mod WrittenLine
 pub mod Answers
 pub mod Errors
 pub mod Metered
