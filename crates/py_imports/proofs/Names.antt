@@ -1,6 +1,8 @@
 -- The names in a line that is read are words.
 use Rattle.std.proofs.Common.{◌≡◌, ℕ, Bool, true, false, cond, not, List, [], ◌∷◌, ◌++◌, map, refl, sym, ap, ◌∙◌, subst}
 use Rattle.std.specs.Prelude.{encode_utf8_all, filter, ◌==◌}
+use Rattle.std.specs.Str.{all_scalars}
+use Rattle.std.proofs.lemmas.Bool.{and_parts, and_from}
 use Rattle.py_lines.specs.Character.{is_digit}
 use Rattle.py_lines.specs.Piece.{Class, mark, space, word, string, operator, comment, join, line_end, Piece, begins, spelled}
 use Rattle.py_lines.specs.PieceGrammar.{InClass, AreReadBefore}
@@ -8,7 +10,7 @@ use Rattle.py_lines.specs.LogicalLine.{first_or_zero, line_of, tokens_from}
 use Rattle.py_lines.specs.Words.{Word, word_in, words_of_piece, words_of}
 use Rattle.py_lines.specs.declared.token.TokKind.TheVariants as kind
 use Rattle.py_lines.specs.declared.token.Token.{Token}
-use Rattle.py_imports.specs.Grammar.{Terminal, import_word, from_word, as_word, name, dot, comma, star, opening, closing, other, terminal_of, terminal_of_operator}
+use Rattle.py_imports.specs.Grammar.{import_word, from_word, as_word, name, dot, comma, star, opening, closing, other, terminal_of, terminal_of_operator}
 use Rattle.py_imports.specs.Binds.{terminal_in}
 use Rattle.py_imports.specs.Names.{terminals_in, HasName, HaveNames, IsName}
 use Rattle.py_imports.specs.Shape.{terminals_of}
@@ -48,27 +50,34 @@ operator_good c = by (c == 46) (c == 44) (c == 42) (c == 40) (c == 41)
     by false false false false true = tt
     by false false false false false = tt
 
-word_good : (text : List ℕ) → InClass word text → (d : Bool) → begins is_digit text ≡ d → HasName (terminal_of (cond d kind.Number kind.Name) (encode_utf8_all text))
-word_good text is true h = tt
-word_good text is false h = name_of_word (encode_utf8_all text) _ _ _ _ (λ k. record { characters = text; spell = refl; word = is; no_number = h; no_keyword = k })
+word_good : (text : List ℕ) → InClass word text → all_scalars text ≡ true → (d : Bool) → begins is_digit text ≡ d → HasName (terminal_of (cond d kind.Number kind.Name) (encode_utf8_all text))
+word_good text is fine true h = tt
+word_good text is fine false h = name_of_word (encode_utf8_all text) _ _ _ _ (λ k. record { characters = text; scalars = fine; spell = refl; word = is; no_number = h; no_keyword = k })
 
-piece_good : (class : Class) (text : List ℕ) (ws : List Word) → InClass class text → HaveNames (terminals_in ws) → HaveNames (terminals_in (words_of_piece class text ++ ws))
-piece_good mark text ws is h = h
-piece_good space text ws is h = h
-piece_good join text ws is h = h
-piece_good line_end text ws is h = h
-piece_good comment text ws is h = h
-piece_good string text ws is h = (tt, h)
-piece_good operator text ws is h = (operator_good (first_or_zero text), h)
-piece_good word text ws is h = by (begins is_digit text) refl
+piece_good : (class : Class) (text : List ℕ) (ws : List Word) → InClass class text → all_scalars text ≡ true → HaveNames (terminals_in ws) → HaveNames (terminals_in (words_of_piece class text ++ ws))
+piece_good mark text ws is fine h = h
+piece_good space text ws is fine h = h
+piece_good join text ws is fine h = h
+piece_good line_end text ws is fine h = h
+piece_good comment text ws is fine h = h
+piece_good string text ws is fine h = (tt, h)
+piece_good operator text ws is fine h = (operator_good (first_or_zero text), h)
+piece_good word text ws is fine h = by (begins is_digit text) refl
   where
     by : (d : Bool) → begins is_digit text ≡ d → HaveNames (terminals_in (record { kind = cond d kind.Number kind.Name; bytes = encode_utf8_all text } ∷ ws))
     by true e = (tt, h)
-    by false e = (word_good text is false e, h)
+    by false e = (word_good text is fine false e, h)
 
-words_good : (ps : List Piece) (rest : List ℕ) → AreReadBefore ps rest → HaveNames (terminals_in (words_of ps))
-words_good [] rest fit = tt
-words_good (p ∷ ps) rest fit = piece_good p.class p.text (words_of ps) fit.0 (words_good ps rest fit.3)
+parts : (a b : List ℕ) → all_scalars (a ++ b) ≡ true → (all_scalars a ≡ true) × (all_scalars b ≡ true)
+parts [] b h = (refl, h)
+parts (c ∷ cs) b h =
+    let both = and_parts _ _ h in
+    let others = parts cs b both.1 in
+    (and_from _ _ both.0 others.0, others.1)
 
-pub names_in_line : TokensAreWords → (offset line : ℕ) (ps : List Piece) (rest : List ℕ) → AreReadBefore ps rest → HaveNames (terminals_of (line_of offset line ps))
-names_in_line law offset line ps rest fit = subst HaveNames (sym (terminals_of_pieces law offset line ps)) (words_good ps rest fit)
+words_good : (ps : List Piece) (rest : List ℕ) → AreReadBefore ps rest → all_scalars (spelled ps) ≡ true → HaveNames (terminals_in (words_of ps))
+words_good [] rest fit fine = tt
+words_good (p ∷ ps) rest fit fine = let both = parts p.text (spelled ps) fine in piece_good p.class p.text (words_of ps) fit.0 both.0 (words_good ps rest fit.3 both.1)
+
+pub names_in_line : TokensAreWords → (offset line : ℕ) (ps : List Piece) (rest : List ℕ) → AreReadBefore ps rest → all_scalars (spelled ps) ≡ true → HaveNames (terminals_of (line_of offset line ps))
+names_in_line law offset line ps rest fit fine = subst HaveNames (sym (terminals_of_pieces law offset line ps)) (words_good ps rest fit fine)

@@ -1,6 +1,7 @@
 -- The words of a logical line as the import grammar sees them, and which of them are names. Python Language Reference, 2.3
 -- and 7.11.
-use Rattle.std.specs.Prelude.{◌≡◌, ℕ, false, not, Option, None, Some, List, [], ◌∷◌, map, filter, codes, encode_utf8_all}
+use Rattle.std.specs.Prelude.{◌≡◌, ℕ, true, false, not, Option, None, Some, List, [], ◌∷◌, map, filter, codes, encode_utf8_all}
+use Rattle.std.specs.Str.{all_scalars}
 use Rattle.py_lines.specs.Character.{is_digit}
 use Rattle.py_lines.specs.Piece.{begins}
 use Rattle.py_lines.specs.PieceGrammar.{IsWord}
@@ -15,6 +16,7 @@ terminals_in words = map (λ w. terminal_of w.kind w.bytes) (filter (λ w. not (
 -- the bytes are a word, no number and no keyword
 pub record IsName (bytes : List ℕ) : Type 0 where
   pub characters : List ℕ
+  pub scalars : all_scalars characters ≡ true
   pub spell : encode_utf8_all characters ≡ bytes
   pub word : IsWord characters
   pub no_number : begins is_digit characters ≡ false

@@ -2,8 +2,9 @@
 
 ghost use Rattle.std.specs.Prelude.{◌≡◌, ◌∷◌, ◌++◌, ◌⊎◌, ℕ, List, true, false, codes, map, nat_lt};
 ghost use Rattle.std.specs.List.{list_any};
+ghost use Rattle.std.specs.Str.{all_scalars};
 ghost use Rattle.py_lines.specs.LogicalLine.{LogicalLine, line_of};
-ghost use Rattle.py_lines.specs.Piece.{Piece};
+ghost use Rattle.py_lines.specs.Piece.{Piece, spelled};
 ghost use Rattle.py_lines.specs.PieceGrammar.{AreReadBefore};
 ghost use Rattle.py_lines.specs.Words.{words_of};
 ghost use Rattle.py_lines.specs.declared.fault.Fault.{Fault};
@@ -34,12 +35,12 @@ pub fn binds_or_is_bad()
 {}
 
 /// What a logical line says to the import grammar is what the words of its pieces say, wherever the line stands. Where the
-/// pieces are read, each name among them is a word, and no number and no keyword.
+/// pieces are read, of Unicode's characters, each name among them is a word, and no number and no keyword.
 pub fn names_are_words()
     ensures words { (offset line : ℕ) (pieces : List Piece)
         → terminals_of (line_of offset line pieces) ≡ terminals_in (words_of pieces) }
     ensures names { (offset line : ℕ) (pieces : List Piece) (rest : List ℕ)
-        → AreReadBefore pieces rest → HaveNames (terminals_of (line_of offset line pieces)) }
+        → AreReadBefore pieces rest → all_scalars (spelled pieces) ≡ true → HaveNames (terminals_of (line_of offset line pieces)) }
 {
     tokens_are_words();
 }

@@ -52,8 +52,7 @@
 pub mod Text
 pub mod Pieces
 pub mod Neighbours
-pub mod Fields
-pub mod OpenFields
+pub mod Letters
 pub mod Machine
 pub mod Faults
 pub mod LogicalLines
