@@ -46,3 +46,4 @@ pub mod Rows
 pub mod Finding
 pub mod Readings
 pub mod SortedTexts
+pub mod Stable

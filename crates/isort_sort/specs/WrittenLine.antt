@@ -1,13 +1,12 @@
 -- A statement that sorting has written, read back: the pieces of its lines, and the one logical line that they are.
 use Rattle.std.specs.Prelude.{◌≡◌, ℕ, Bool, true, false, nat_lt, List, [], ◌∷◌, ◌++◌, map, encode_utf8_all}
-use Rattle.std.specs.List.{join_by, list_all, list_any}
+use Rattle.std.specs.List.{join_by, list_any}
 use Rattle.std.specs.Str.{all_scalars}
 use Rattle.py_lines.specs.Balance.{IsBalanced, IsShallow, depth_through}
-use Rattle.py_lines.specs.Character.{is_space, is_break, is_line_feed}
+use Rattle.py_lines.specs.Character.{is_break, is_line_feed}
 use Rattle.py_lines.specs.LogicalLine.{LogicalLine, cut, line_of}
 use Rattle.py_lines.specs.Neighbours.{AreSimple, MayTouch}
 use Rattle.py_lines.specs.Piece.{mark, line_end, Piece, begins, spelled}
-use Rattle.py_lines.specs.PieceGrammar.{IsLineEnd}
 use Rattle.py_lines.specs.declared.unit.UnitKind.TheVariants as unit_kind
 use Rattle.py_imports.specs.Action.{says}
 use Rattle.py_imports.specs.Names.{AreNamed}
@@ -62,11 +61,11 @@ AreReadMembers (m ∷ ms) = IsReadMember m × AreReadMembers ms
 
 -- The logical line is a member of a block: it imports what the statement imports, with its joined comments, has this
 -- indentation, and says no action in a comment that none of the comments said.
-pub record IsWrittenLine (indentation : List ℕ) (s : Laid) (marked ended : Bool) (line : LogicalLine) : Type 0 where
+pub record IsWrittenLine (space : List ℕ) (s : Laid) (marked closed : Bool) (line : LogicalLine) : Type 0 where
   pub role : HasRole false line (member (map (import_of s.statement) s.items) (joined_comments s.comments))
-  pub indentation : indentation_of line ≡ indentation
+  pub indentation : indentation_of line ≡ space
   pub mark : mark_len line ≡ mark_bytes marked
-  pub ended : nat_lt 0 line.end_len ≡ ended
+  pub ended : nat_lt 0 line.end_len ≡ closed
   pub code : line.kind ≡ unit_kind.Code
   pub says_no_more : (a : Action) → list_any (says a) s.comments ≡ false → list_any (says a) (comment_texts line) ≡ false
   pub no_string : (lines : List LogicalLine) → first_string_skips (line ∷ lines) ≡ false

@@ -1,7 +1,9 @@
 //! Laws of the definitions, each proved as the contract of a function that does nothing.
-ghost use Rattle.std.specs.Prelude.{◌≡◌, ◌∷◌, ◌++◌, ℕ, Bool, List, codes, length, map};
-ghost use Rattle.std.specs.List.{join_by};
+ghost use Rattle.std.specs.Prelude.{◌≡◌, ◌∷◌, ◌++◌, ℕ, Bool, true, List, codes, length, map};
+ghost use Rattle.std.specs.List.{join_by, list_all};
+ghost use Rattle.py_lines.specs.Character.{is_space};
 ghost use Rattle.py_lines.specs.LogicalLine.{LogicalLine};
+ghost use Rattle.py_lines.specs.PieceGrammar.{IsLineEnd};
 ghost use Rattle.py_imports.specs.Binds.{Binds};
 ghost use Rattle.py_imports.specs.Bound.{Bound};
 ghost use Rattle.py_imports.specs.Grammar.{Item};
@@ -17,11 +19,14 @@ ghost use Rattle.isort_sort.specs.Row.{Role, Row, HasRole, is_off_after};
 ghost use Rattle.isort_sort.specs.Sorted.{IsAccepted, IsSorted, blanks_after};
 ghost use Rattle.isort_sort.specs.Statement.{Statement};
 ghost use Rattle.isort_sort.specs.Wrapping.{fits_line, IsCut};
+ghost use Rattle.isort_sort.specs.WrittenLine.{AreReadMembers, EachIsWritten};
 ghost use Rattle.isort_sort.specs.declared.answer.Block.{Block};
 
 use isort_settings::laws::{modules_are_totally_ordered, names_are_totally_ordered};
-use py_imports::laws::binds_or_is_bad;
-use py_lines::laws::one_lexing;
+use py_imports::laws::{
+    binds_or_is_bad, joined_texts_say_no_more, names_are_words, one_statement_binds_its_imports,
+};
+use py_lines::laws::{letters_are_words, one_lexing, tokens_are_words};
 
 /// The statements of a block have one order.
 pub fn one_order_of_statements()
@@ -69,6 +74,22 @@ pub fn joined_comments_are_read_back()
         → stripped (without_hash (codes "# " ++ join_by (λ (t : List ℕ). t) (codes "; ") (c ∷ cs)))
         ≡ join_by (λ (t : List ℕ). t) (codes "; ") (c ∷ cs) }
 {}
+
+/// Each statement of a block, as it is written with any line end, is one logical line, wherever it stands: one that can be
+/// sorted, and that imports what the statement imports, with its joined comments.
+pub fn written_statements_are_read_back()
+    ensures { (v : Values) (indentation end : List ℕ) (members : List Member) (laid : List Laid)
+        → list_all is_space indentation ≡ true → IsLineEnd end → AreReadMembers members → AreLaid v indentation members laid
+        → EachIsWritten v indentation end laid }
+{
+    letters_are_words();
+    tokens_are_words();
+    names_are_words();
+    one_statement_binds_its_imports();
+    joined_texts_say_no_more();
+    modules_are_totally_ordered();
+    names_are_totally_ordered();
+}
 
 /// Items have one cut into lines.
 pub fn one_cut()

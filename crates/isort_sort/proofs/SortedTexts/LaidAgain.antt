@@ -41,11 +41,11 @@ import_back v m (Some n) None =
     by false is true = refl
     by false is false = refl
 
-import_again : (v : Values) (x : Imported) → import_of (statement_of v x) (item_of x) ≡ x
+pub import_again : (v : Values) (x : Imported) → import_of (statement_of v x) (item_of x) ≡ x
 import_again v x = import_back v x.module_name x.attribute_name x.alias_name
 
 -- what lists hold that are made of lists
-in_flat_map : {X Y : Type 0} (f : X → List Y) (xs : List X) (y : Y) → Contains (flat_map f xs) y → (x : X) × Contains xs x × Contains (f x) y
+pub in_flat_map : {X Y : Type 0} (f : X → List Y) (xs : List X) (y : Y) → Contains (flat_map f xs) y → (x : X) × Contains xs x × Contains (f x) y
 in_flat_map f [] y h = absurd (nothing_in y h)
 in_flat_map f (x ∷ xs) y h = ⊎_elim (λ t. (x, head_in x xs, t)) (λ t. let r = in_flat_map f xs y t in (r.0, tail_in x xs r.0 r.1, r.2)) (Contains-append_cases (f x) (flat_map f xs) y h)
 
@@ -78,12 +78,12 @@ same_items v a b s is same o =
     )) o
 
 -- what holds of each statement of a block
-laid_at : (v : Values) (indentation : List ℕ) (members : List Member) (laid : List Laid) (s : Laid) → EachIsLaid v indentation members laid → Contains laid s → IsLaid v indentation members s
+pub laid_at : (v : Values) (indentation : List ℕ) (members : List Member) (laid : List Laid) (s : Laid) → EachIsLaid v indentation members laid → Contains laid s → IsLaid v indentation members s
 laid_at v indentation members [] s each h = absurd (nothing_in s h)
 laid_at v indentation members (t ∷ ts) s each h = ⊎_elim (λ (e : t ≡ s). subst (IsLaid v indentation members) e each.0) (λ k. laid_at v indentation members ts s each.1 k) (in_cons t ts s h)
 
 -- an item of a statement is that of an import, which it imports again
-item_import : (v : Values) (members : List Member) (s : Statement) (items : List Item) (i : Item) → AreItemsOf v members s items → Contains items i → Contains (imports_of members) (import_of s i) × (statement_of v (import_of s i) ≡ s)
+pub item_import : (v : Values) (members : List Member) (s : Statement) (items : List Item) (i : Item) → AreItemsOf v members s items → Contains items i → Contains (imports_of members) (import_of s i) × (statement_of v (import_of s i) ≡ s)
 item_import v members s items i o h =
     let y = in_map item_of (filter (belongs v s) (imports_of members)) i ((o.exactly i).0 h) in
     let found = in_filter (belongs v s) (imports_of members) y.0 y.1 in
@@ -121,7 +121,7 @@ begins_itself v members t s o some h = by t.items (λ i k. (item_import v member
     by (i ∷ is) each k = ap (λ w. same_statement w s) (each i (head_in i is))
 
 -- each statement has an item
-some_item : (v : Values) (indentation : List ℕ) (members : List Member) (laid : List Laid) (t : Laid) → AreLaid v indentation members laid → Contains laid t → (i : Item) × Contains t.items i
+pub some_item : (v : Values) (indentation : List ℕ) (members : List Member) (laid : List Laid) (t : Laid) → AreLaid v indentation members laid → Contains laid t → (i : Item) × Contains t.items i
 some_item v indentation members laid t o h =
     let x = in_map (statement_of v) (imports_of members) t.statement ((o.statements.exactly t.statement).0 (map_in (λ (l : Laid). l.statement) laid t h)) in
     let is = laid_at v indentation members laid t o.each h in

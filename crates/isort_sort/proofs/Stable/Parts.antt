@@ -1,0 +1,244 @@
+-- Parts of a written statement: pieces, with the bytes that they spell and what they say.
+use Rattle.std.proofs.Common.{◌≡◌, ℕ, ◌<◌, Bool, true, false, not, cond, ◌||◌, nat_lt, ltb-true, List, [], ◌∷◌, ◌++◌, map, codes, refl, sym, ap, ◌∙◌, subst, append-nil, append_assoc, arith}
+use Rattle.std.specs.Prelude.{encode_utf8_all, filter}
+use Rattle.std.specs.Char.{is_ascii_alphabetic}
+use Rattle.std.specs.List.{list_any, list_all}
+use Rattle.std.specs.Str.{all_scalars, chars}
+use Rattle.std.proofs.Math.Utf8.{low_scalar}
+use Rattle.std.proofs.lemmas.Bool.{and_parts, and_from, or_parts, false_from_ne_true}
+use Rattle.std.proofs.lemmas.Bool.Decides.{nat_tests}
+use Rattle.std.proofs.lemmas.List.{map-append}
+use Rattle.std.proofs.lemmas.List.Elements.{filter-append}
+use Rattle.std.proofs.lemmas.List.Folds.{list_any-append}
+use Rattle.std.proofs.lemmas.Str.{encodes-append, encode_ascii, chars-encodes}
+use Rattle.py_lines.specs.Character.{is_space, is_digit, is_operator, is_break, is_hash, is_backslash}
+use Rattle.py_lines.specs.Neighbours.{AreSimple}
+use Rattle.py_lines.specs.Piece.{Class, space, word, operator, comment, join, line_end, Piece, spelled}
+use Rattle.py_lines.specs.PieceGrammar.{IsWord, IsLineEnd, feed, return_feed, return}
+use Rattle.py_lines.specs.Words.{Word, words_of_piece, words_of}
+use Rattle.py_lines.specs.declared.token.TokKind.TheVariants as kind
+use Rattle.py_imports.specs.Grammar.{Terminal, import_word, from_word, as_word, name, other, terminal_of, terminal_of_word, terminal_of_operator, is_keyword, keywords}
+use Rattle.py_imports.specs.Names.{terminals_in, IsName}
+use Rattle.py_imports.specs.Statement.{is_comment, is_divider}
+use Rattle.std.specs.Str.{bytes_eq}
+use Rattle.std.proofs.Common.{get_or, length, zero, suc, lit<}
+use Rattle.std.proofs.lemmas.Slice.Eq.{bytes_eq-Decides}
+use Rattle.std.proofs.lemmas.Bool.{both_ways}
+
+abbrev pub piece : Class → List ℕ → Piece
+piece class text = record { class = class; text = text }
+
+-- the comments among words
+abbrev pub remarks_in : List Word → List (List ℕ)
+remarks_in words = map (λ w. w.bytes) (filter (λ w. is_comment w.kind) words)
+
+-- whether a word is `;` or `:`
+abbrev pub divides : Word → Bool
+divides w = is_divider w.kind
+
+-- simple pieces of scalar characters, with their bytes, what they say to the import grammar, and their comments
+pub record IsPart (pieces : List Piece) (bytes : List ℕ) (terminals : List Terminal) (said : List (List ℕ)) : Type 0 where
+  pub simple : AreSimple pieces
+  pub scalars : all_scalars (spelled pieces) ≡ true
+  pub spell : encode_utf8_all (spelled pieces) ≡ bytes
+  pub says : terminals_in (words_of pieces) ≡ terminals
+  pub remarks : remarks_in (words_of pieces) ≡ said
+  pub undivided : list_any divides (words_of pieces) ≡ false
+
+-- pieces one after another
+pub spelled-append : (ps qs : List Piece) → spelled (ps ++ qs) ≡ spelled ps ++ spelled qs
+spelled-append [] qs = refl
+spelled-append (p ∷ ps) qs = ap (λ t. p.text ++ t) (spelled-append ps qs) ∙ sym (append_assoc p.text (spelled ps) (spelled qs))
+
+pub words-append : (ps qs : List Piece) → words_of (ps ++ qs) ≡ words_of ps ++ words_of qs
+words-append [] qs = refl
+words-append (p ∷ ps) qs = ap (λ l. words_of_piece p.class p.text ++ l) (words-append ps qs) ∙ sym (append_assoc (words_of_piece p.class p.text) (words_of ps) (words_of qs))
+
+pub simple-append : (ps qs : List Piece) → AreSimple ps → AreSimple qs → AreSimple (ps ++ qs)
+simple-append [] qs s t = t
+simple-append (p ∷ ps) qs s t = (s.0, s.1, simple-append ps qs s.2 t)
+
+pub scalars-append : (a b : List ℕ) → all_scalars a ≡ true → all_scalars b ≡ true → all_scalars (a ++ b) ≡ true
+scalars-append [] b h k = k
+scalars-append (c ∷ cs) b h k = let parts = and_parts _ _ h in and_from _ _ parts.0 (scalars-append cs b parts.1 k)
+
+terminals-append : (a b : List Word) → terminals_in (a ++ b) ≡ terminals_in a ++ terminals_in b
+terminals-append a b =
+    ap (map (λ w. terminal_of w.kind w.bytes)) (filter-append (λ w. not (is_comment w.kind)) a b)
+    ∙ map-append (λ w. terminal_of w.kind w.bytes) (filter (λ w. not (is_comment w.kind)) a) (filter (λ w. not (is_comment w.kind)) b)
+
+remarks-append : (a b : List Word) → remarks_in (a ++ b) ≡ remarks_in a ++ remarks_in b
+remarks-append a b =
+    ap (map (λ w. w.bytes)) (filter-append (λ w. is_comment w.kind) a b)
+    ∙ map-append (λ w. w.bytes) (filter (λ w. is_comment w.kind) a) (filter (λ w. is_comment w.kind) b)
+
+pub part-append : (ps qs : List Piece) (b c : List ℕ) (t u : List Terminal) (r s : List (List ℕ)) → IsPart ps b t r → IsPart qs c u s → IsPart (ps ++ qs) (b ++ c) (t ++ u) (r ++ s)
+part-append ps qs b c t u r s p q = record {
+  simple = simple-append ps qs p.simple q.simple;
+  scalars = ap all_scalars (spelled-append ps qs) ∙ scalars-append (spelled ps) (spelled qs) p.scalars q.scalars;
+  spell = ap encode_utf8_all (spelled-append ps qs) ∙ encodes-append (spelled ps) (spelled qs) ∙ (λ i. p.spell i ++ q.spell i);
+  says = ap terminals_in (words-append ps qs) ∙ terminals-append (words_of ps) (words_of qs) ∙ (λ i. p.says i ++ q.says i);
+  remarks = ap remarks_in (words-append ps qs) ∙ remarks-append (words_of ps) (words_of qs) ∙ (λ i. p.remarks i ++ q.remarks i);
+  undivided = ap (list_any divides) (words-append ps qs) ∙ list_any-append divides (words_of ps) (words_of qs) ∙ (λ i. p.undivided i || q.undivided i);
+}
+
+pub part-nil : IsPart [] [] [] []
+part-nil = record { simple = tt; scalars = refl; spell = refl; says = refl; remarks = refl; undivided = refl }
+
+-- a part whose terminals and bytes are others by equations
+pub part-as : (ps : List Piece) (b c : List ℕ) (t u : List Terminal) (r s : List (List ℕ)) → b ≡ c → t ≡ u → r ≡ s → IsPart ps b t r → IsPart ps c u s
+part-as ps b c t u r s e f g p = record { simple = p.simple; scalars = p.scalars; spell = p.spell ∙ e; says = p.says ∙ f; remarks = p.remarks ∙ g; undivided = p.undivided }
+
+-- ASCII is spelled by itself
+pub low-spell : (cs : List ℕ) → list_all (λ c. nat_lt c 128) cs ≡ true → encode_utf8_all cs ≡ cs
+low-spell [] h = refl
+low-spell (c ∷ cs) h = let both = and_parts _ _ h in (λ i. encode_ascii c (ltb-true c 128 both.0) i ++ low-spell cs both.1 i)
+
+low-scalars : (cs : List ℕ) → list_all (λ c. nat_lt c 128) cs ≡ true → all_scalars cs ≡ true
+low-scalars [] h = refl
+low-scalars (c ∷ cs) h = let both = and_parts _ _ h in and_from _ _ (low_scalar c (let k = ltb-true c 128 both.0 in omega arith)) (low-scalars cs both.1)
+
+-- space
+abbrev pub space_pieces : List ℕ → List Piece
+space_pieces [] = []
+space_pieces (c ∷ cs) = piece space (c ∷ cs) ∷ []
+
+pub space_low : (c : ℕ) → is_space c ≡ true → nat_lt c 128 ≡ true
+unfolding is_space
+space_low c h = grind (arith, nat_tests)
+
+pub spaces_low : (cs : List ℕ) → list_all is_space cs ≡ true → list_all (λ c. nat_lt c 128) cs ≡ true
+spaces_low [] h = refl
+spaces_low (c ∷ cs) h = let both = and_parts _ _ h in and_from _ _ (space_low c both.0) (spaces_low cs both.1)
+
+pub part-space : (t : List ℕ) → list_all is_space t ≡ true → IsPart (space_pieces t) t [] []
+part-space [] h = part-nil
+part-space (c ∷ cs) h =
+    let low = spaces_low (c ∷ cs) h in
+    let nil = append-nil (c ∷ cs) in
+    record {
+      simple = (refl, (c, cs, refl, h), tt);
+      scalars = ap all_scalars nil ∙ low-scalars (c ∷ cs) low;
+      spell = ap encode_utf8_all nil ∙ low-spell (c ∷ cs) low;
+      says = refl;
+      remarks = refl;
+      undivided = refl;
+    }
+
+-- one character of an operator
+pub part-operator : (c : ℕ) → is_operator c ≡ true → nat_lt c 128 ≡ true → is_divider (kind.Op c) ≡ false → IsPart (piece operator (c ∷ []) ∷ []) (c ∷ []) (terminal_of_operator c ∷ []) []
+part-operator c o low h =
+    let one = and_from _ _ low refl in
+    record {
+      simple = (refl, (c, refl, o), tt);
+      scalars = low-scalars (c ∷ []) one;
+      spell = low-spell (c ∷ []) one;
+      says = refl;
+      remarks = refl;
+      undivided = ap (λ b. b || false) h;
+    }
+
+-- a line end, and a join
+pub end_low : (end : List ℕ) → IsLineEnd end → list_all (λ c. nat_lt c 128) end ≡ true
+end_low end (feed e) = ap (list_all (λ c. nat_lt c 128)) e
+end_low end (return_feed e) = ap (list_all (λ c. nat_lt c 128)) e
+end_low end (return e) = ap (list_all (λ c. nat_lt c 128)) e
+
+pub part-end : (end : List ℕ) → IsLineEnd end → IsPart (piece line_end end ∷ []) end [] []
+part-end end e =
+    let nil = append-nil end in
+    record {
+      simple = (refl, e, tt);
+      scalars = ap all_scalars nil ∙ low-scalars end (end_low end e);
+      spell = ap encode_utf8_all nil ∙ low-spell end (end_low end e);
+      says = refl;
+      remarks = refl;
+      undivided = refl;
+    }
+
+pub part-join : (end : List ℕ) → IsLineEnd end → IsPart (piece join (92 ∷ end) ∷ []) (92 ∷ end) [] []
+unfolding is_backslash
+part-join end e =
+    let nil = append-nil (92 ∷ end) in
+    record {
+      simple = (refl, (92, end, refl, refl, e), tt);
+      scalars = ap all_scalars nil ∙ low-scalars (92 ∷ end) (end_low end e);
+      spell = ap encode_utf8_all nil ∙ low-spell (92 ∷ end) (end_low end e);
+      says = refl;
+      remarks = refl;
+      undivided = refl;
+    }
+
+-- a comment, by its characters after the `#`
+pub part-comment : (body : List ℕ) → all_scalars body ≡ true → list_any is_break body ≡ false → IsPart (piece comment (35 ∷ body) ∷ []) (35 ∷ encode_utf8_all body) [] ((35 ∷ encode_utf8_all body) ∷ [])
+unfolding is_hash
+part-comment body fine unbroken =
+    let nil = append-nil (35 ∷ body) in
+    let bytes : encode_utf8_all (35 ∷ body) ≡ 35 ∷ encode_utf8_all body = ap (λ t. t ++ encode_utf8_all body) (encode_ascii 35 (omega arith)) in
+    record {
+      simple = (refl, (35, body, refl, refl, unbroken), tt);
+      scalars = ap all_scalars nil ∙ and_from _ _ (low_scalar 35 (omega arith)) fine;
+      spell = ap encode_utf8_all nil ∙ bytes;
+      says = refl;
+      remarks = ap (λ t. t ∷ []) bytes;
+      undivided = refl;
+    }
+
+-- words of letters are words, as a law of py_lines has it
+abbrev pub LettersAreWords : Type 0
+LettersAreWords = (first : ℕ) (others : List ℕ) → list_all is_ascii_alphabetic (first ∷ others) ≡ true → IsWord (first ∷ others)
+
+pub part-letters : LettersAreWords → (c : ℕ) (cs : List ℕ) → list_all is_ascii_alphabetic (c ∷ cs) ≡ true → list_all (λ d. nat_lt d 128) (c ∷ cs) ≡ true → is_digit c ≡ false → IsPart (piece word (c ∷ cs) ∷ []) (c ∷ cs) (terminal_of_word (c ∷ cs) ∷ []) []
+part-letters law c cs letters low no_digit =
+    let nil = append-nil (c ∷ cs) in
+    let bytes = low-spell (c ∷ cs) low in
+    record {
+      simple = (refl, law c cs letters, tt);
+      scalars = ap all_scalars nil ∙ low-scalars (c ∷ cs) low;
+      spell = ap encode_utf8_all nil ∙ bytes;
+      says = ap (λ (d : Bool). terminals_in (record { kind = cond d kind.Number kind.Name; bytes = encode_utf8_all (c ∷ cs) } ∷ [])) no_digit ∙ ap (λ (t : List ℕ). terminal_of_word t ∷ []) bytes;
+      remarks = ap (λ (d : Bool). remarks_in (record { kind = cond d kind.Number kind.Name; bytes = encode_utf8_all (c ∷ cs) } ∷ [])) no_digit;
+      undivided = ap (λ (d : Bool). list_any divides (record { kind = cond d kind.Number kind.Name; bytes = encode_utf8_all (c ∷ cs) } ∷ [])) no_digit;
+    }
+
+-- a name is none of the keywords
+none_at : (p : List ℕ → Bool) (ws : List (List ℕ)) (i : ℕ) → list_any p ws ≡ false → p (get_or ws i []) ≡ true → i < length ws → ⊥
+none_at p [] i h k below = omega arith
+none_at p (w ∷ ws) zero h k below = both_ways _ (or_parts (p w) (list_any p ws) h).0 k
+none_at p (w ∷ ws) (suc i) h k below = none_at p ws i (or_parts (p w) (list_any p ws) h).1 k (omega (arith, below))
+
+other_word : (b k : List ℕ) → (bytes_eq k b ≡ true → ⊥) → bytes_eq b k ≡ false
+other_word b k h = false_from_ne_true _ (λ same. h ((bytes_eq-Decides k b).1 (sym ((bytes_eq-Decides b k).0 same))))
+
+name_terminal : (b : List ℕ) → is_keyword b ≡ false → terminal_of_word b ≡ name b
+unfolding is_keyword
+name_terminal b h =
+    let not : (i : ℕ) → i < length keywords → bytes_eq b (get_or keywords i []) ≡ false = λ i below. other_word b (get_or keywords i []) (λ same. none_at (λ k. bytes_eq k b) keywords i h same below) in
+    let no_import : bytes_eq b (codes "import") ≡ false = not 21 (lit< tt) in
+    let no_from : bytes_eq b (codes "from") ≡ false = not 18 (lit< tt) in
+    let no_as : bytes_eq b (codes "as") ≡ false = not 4 (lit< tt) in
+    let other : is_keyword b ≡ false = h in
+    by_tests _ _ _ _ b no_import no_from no_as other
+  where
+    by_tests : (i f a k : Bool) (b : List ℕ) → i ≡ false → f ≡ false → a ≡ false → k ≡ false → cond i import_word (cond f from_word (cond a as_word (cond k other (name b)))) ≡ name b
+    by_tests true f a k b h x y z = absurd (cc)
+    by_tests false true a k b h x y z = absurd (cc)
+    by_tests false false true k b h x y z = absurd (cc)
+    by_tests false false false true b h x y z = absurd (cc)
+    by_tests false false false false b h x y z = refl
+
+-- a name as a word
+abbrev pub name_piece : List ℕ → Piece
+name_piece bytes = piece word (chars bytes)
+
+pub part-name : (b : List ℕ) → IsName b → IsPart (name_piece b ∷ []) b (name b ∷ []) []
+part-name b n =
+    subst (λ (t : List ℕ). IsPart (piece word t ∷ []) b (name b ∷ []) []) (sym (ap chars (sym n.spell) ∙ chars-encodes n.characters n.scalars))
+    (record {
+      simple = (refl, n.word, tt);
+      scalars = ap all_scalars (append-nil n.characters) ∙ n.scalars;
+      spell = ap encode_utf8_all (append-nil n.characters) ∙ n.spell;
+      says = ap (λ (d : Bool). terminals_in (record { kind = cond d kind.Number kind.Name; bytes = encode_utf8_all n.characters } ∷ [])) n.no_number ∙ ap (λ (t : List ℕ). terminal_of_word t ∷ []) n.spell ∙ ap (λ t. t ∷ []) (name_terminal b n.no_keyword);
+      remarks = ap (λ (d : Bool). remarks_in (record { kind = cond d kind.Number kind.Name; bytes = encode_utf8_all n.characters } ∷ [])) n.no_number;
+      undivided = ap (λ (d : Bool). list_any divides (record { kind = cond d kind.Number kind.Name; bytes = encode_utf8_all n.characters } ∷ [])) n.no_number;
+    })
