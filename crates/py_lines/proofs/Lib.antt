@@ -53,6 +53,7 @@ pub mod Text
 pub mod Pieces
 pub mod Neighbours
 pub mod Letters
+pub mod WordBreaks
 pub mod Machine
 pub mod Faults
 pub mod LogicalLines

@@ -1,8 +1,9 @@
 //! Laws of the definitions, which the checker proves as contracts of functions that do nothing.
 
-ghost use Rattle.std.specs.Prelude.{◌≡◌, ℕ, true, Option, Some, List, [], ◌∷◌, ◌++◌, map, take};
+ghost use Rattle.std.specs.Prelude.{◌≡◌, ℕ, true, false, Option, Some, List, [], ◌∷◌, ◌++◌, map, take};
 ghost use Rattle.std.specs.Char.{is_ascii_alphabetic};
-ghost use Rattle.std.specs.List.{list_all};
+ghost use Rattle.std.specs.List.{list_all, list_any};
+ghost use Rattle.py_lines.specs.Character.{is_break};
 ghost use Rattle.py_lines.specs.Piece.{Piece, spelled};
 ghost use Rattle.py_lines.specs.PieceGrammar.{AreReadBefore, IsWord, Reads, ReadsText};
 ghost use Rattle.py_lines.specs.LogicalLine.{LogicalLine, cut, line_of};
@@ -74,6 +75,11 @@ pub fn settled_is_final()
     ensures within { (text : List ℕ) (place line : ℕ) (lines others : List LogicalLine) → AreFirstLines text place line lines → IsSettled (take place text) others → (more : List LogicalLine) × (lines ≡ others ++ more) }
     ensures fault { (text more : List ℕ) (fault : Fault) (lines : List LogicalLine) (end : Option Fault) → Decides text fault → IsLexed (text ++ more) lines end → end ≡ Some fault }
     ensures all { (text more : List ℕ) (fault : Fault) (lines : List LogicalLine) → Decides text fault → IsLexed text lines (Some fault) → IsLexed (text ++ more) lines (Some fault) }
+{}
+
+/// A word holds no line end.
+pub fn words_hold_no_line_end()
+    ensures { (text : List ℕ) → IsWord text → list_any is_break text ≡ false }
 {}
 
 /// ASCII letters, at least one, are a word.
