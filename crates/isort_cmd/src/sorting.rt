@@ -17,8 +17,8 @@ use std::io::{Read, Write};
 /// Sorts the imports of a Python text: reads `reader` to its end, and then writes the sorted text to `writer`, also
 /// where it is the text itself.
 ///
-/// `Same` and `Skipped` say that it is: the text is sorted, or asks to be left as it is. `max` is how many bytes the
-/// text may have.
+/// `Same` and `Skipped` say that it is: the text is sorted, or asks to be left as it is. Sorted again under the same
+/// settings, what was written stays as it is. `max` is how many bytes the text may have.
 ///
 /// - `Read`: a read failed; nothing was written.
 /// - `TooLong`: more than `max` bytes came; nothing was written.

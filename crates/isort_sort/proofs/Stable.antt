@@ -1,4 +1,4 @@
--- A written statement, read back.
+-- Sorting a sorted text changes nothing: a written statement, read back; and a text of written blocks.
 pub mod Parts
 pub mod Touching
 pub mod Modules
@@ -16,3 +16,23 @@ pub mod Texts
 pub mod Sources
 pub mod Imports
 pub mod Written
+pub mod Units
+pub mod UnitRows
+pub mod LineUnits
+pub mod Joined
+pub mod BlockUnits
+pub mod OldBlock
+pub mod Marked
+pub mod FirstCharacters
+pub mod UnitBinds
+pub mod FirstEnds
+pub mod WrittenBlocks
+pub mod Again
+pub mod SortedAgain
+pub mod AtStart
+pub mod Stripped
+pub mod ReadComments
+pub mod ReadImports
+pub mod ReadMembers
+pub mod UnbrokenLines
+pub mod Sorted

@@ -24,6 +24,11 @@ Sorts text v (Ok (sorted.Changed s)) = IsLaidOut text v (string_bytes s) × (str
 Sorts text v (Ok sorted.Skipped) = IsSkipped text
 Sorts text v (Err e) = IsRefused text e
 
+-- the text of `Changed`, sorted again under the same settings, is `Same`
+abbrev pub StaysSorted : Values → Sorted → Type 0
+StaysSorted v (sorted.Changed s) = Sorts (string_bytes s) v (Ok sorted.Same)
+StaysSorted v _ = Unit {0}
+
 -- whether the sorted text is the text
 abbrev pub Checks : List ℕ → Values → Result Bool SortError → Type 0
 Checks text v (Ok same) = (sorted : List ℕ) × IsSorted text v sorted × MatchBool same (sorted ≡ text) (sorted ≢ text)

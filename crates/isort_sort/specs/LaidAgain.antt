@@ -30,6 +30,10 @@ as_member s = record { imports = map (import_of s.statement) s.items; comments =
 abbrev pub with_joined_comments : Laid → Laid
 with_joined_comments s = record s { comments = joined_comments s.comments }
 
+-- the statement without the comments above it, as where it stands first: they are then read as standing before the block
+abbrev pub without_above : Laid → Laid
+without_above s = record s { above = [] }
+
 -- what rows ask of the blank lines before them, if there is a row
 abbrev pub asked_by : List Row → Option Before
 asked_by [] = None

@@ -21,10 +21,11 @@ IsSortedAs text v outcome.Same sorted = IsLaidOut text v sorted × (sorted ≡ t
 IsSortedAs text v outcome.Changed sorted = IsLaidOut text v sorted × (sorted ≢ text)
 IsSortedAs text v outcome.Skipped sorted = IsSkipped text × (sorted ≡ text)
 
--- the sorted text was written whole
+-- the sorted text was written whole; sorted again under the same settings, it stays as it is
 pub record WritesSorted (text : List ℕ) (v : Values) (outcome : Outcome) (old new : Option (List ℕ)) : Type 0 where
   pub sorted : List ℕ
   pub is : IsSortedAs text v outcome sorted
+  pub stays : IsSorted sorted v sorted
   pub written : Appends old new sorted
 
 -- a prefix of the sorted text was written

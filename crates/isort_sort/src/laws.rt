@@ -1,5 +1,5 @@
 //! Laws of the definitions, each proved as the contract of a function that does nothing.
-ghost use Rattle.std.specs.Prelude.{◌≡◌, ◌∷◌, ◌++◌, ℕ, Bool, true, List, codes, length, map};
+ghost use Rattle.std.specs.Prelude.{◌≡◌, ◌∷◌, ◌++◌, ℕ, Bool, true, Some, List, codes, length, map};
 ghost use Rattle.std.specs.List.{join_by, list_all};
 ghost use Rattle.py_lines.specs.Character.{is_space};
 ghost use Rattle.py_lines.specs.LogicalLine.{LogicalLine};
@@ -11,12 +11,12 @@ ghost use Rattle.isort_settings.specs.Values.{Values};
 ghost use Rattle.isort_sort.specs.Answers.{AreBlocksOf, StandBetween, with_layouts};
 ghost use Rattle.isort_sort.specs.Blocks.{Cut, Run, AreBlocks, IsCutAtBlocks};
 ghost use Rattle.isort_sort.specs.BlocksReplaced.{AreReplaced};
-ghost use Rattle.isort_sort.specs.LaidAgain.{IsMoved, SwitchNothing, as_member, asked_by, with_joined_comments};
+ghost use Rattle.isort_sort.specs.LaidAgain.{IsMoved, SwitchNothing, as_member, asked_by, with_joined_comments, without_above};
 ghost use Rattle.isort_sort.specs.Layout.{Laid, AreLaid, block_lines};
 ghost use Rattle.isort_sort.specs.Line.{stripped, without_hash, own_comments, imported_of, AreOwnComments};
 ghost use Rattle.isort_sort.specs.Member.{Member, AreStatements, AreItemsOf};
-ghost use Rattle.isort_sort.specs.Row.{Role, Row, HasRole, is_off_after};
-ghost use Rattle.isort_sort.specs.Sorted.{IsAccepted, IsSorted, blanks_after};
+ghost use Rattle.isort_sort.specs.Row.{as_many, Role, Row, HasRole, is_off_after};
+ghost use Rattle.isort_sort.specs.Sorted.{IsAccepted, IsLaidOut, IsSorted, blanks_after};
 ghost use Rattle.isort_sort.specs.Statement.{Statement};
 ghost use Rattle.isort_sort.specs.Wrapping.{fits_line, IsCut};
 ghost use Rattle.isort_sort.specs.WrittenLine.{AreReadMembers, EachIsWritten};
@@ -24,9 +24,13 @@ ghost use Rattle.isort_sort.specs.declared.answer.Block.{Block};
 
 use isort_settings::laws::{modules_are_totally_ordered, names_are_totally_ordered};
 use py_imports::laws::{
-    binds_or_is_bad, joined_texts_say_no_more, names_are_words, one_statement_binds_its_imports,
+    binds_or_is_bad, imports_of_words_are_named, joined_texts_say_no_more, names_are_words,
+    one_statement_binds_its_imports,
 };
-use py_lines::laws::{letters_are_words, one_lexing, tokens_are_words};
+use py_lines::laws::{
+    letters_are_words, lines_before_a_text, neighbours_are_read, one_lexing, tokens_are_words,
+    words_hold_no_line_end,
+};
 
 /// The statements of a block have one order.
 pub fn one_order_of_statements()
@@ -47,11 +51,15 @@ pub fn one_order_of_items()
 }
 
 /// A block that was laid out, with each statement as a member of its own, is laid out as it was: the same statements with the
-/// same items, each with its joined comments as one and the comments above it, and the same lines.
+/// same items, each with its joined comments as one and the comments above it, and the same lines. The comments above the first
+/// statement may be left out: they stand before the block when it is read again.
 pub fn written_blocks_stay()
     ensures laid { (v : Values) (indentation : List ℕ) (members : List Member) (laid : List Laid)
         → AreLaid v indentation members laid
         → AreLaid v indentation (map as_member laid) (map with_joined_comments laid) }
+    ensures first { (v : Values) (indentation : List ℕ) (members : List Member) (s : Laid) (ss : List Laid)
+        → AreLaid v indentation members (s ∷ ss)
+        → AreLaid v indentation (map as_member (without_above s ∷ ss)) (map with_joined_comments (without_above s ∷ ss)) }
     ensures lines { (v : Values) (indentation : List ℕ) (laid : List Laid)
         → block_lines v indentation (map with_joined_comments laid) ≡ block_lines v indentation laid }
 {
@@ -59,11 +67,15 @@ pub fn written_blocks_stay()
     names_are_totally_ordered();
 }
 
-/// The blank lines that are written after a block are those that would be written again, before rows that ask for the same.
+/// The blank lines that are written after a block are those that would be written again, before rows that ask for the same,
+/// or for as many as there are, as comments do that now stand before another block.
 pub fn blank_lines_after_a_block_stay()
-    ensures { (v : Values) (run new : Run) (kept : ℕ) (rows others : List Row)
+    ensures same { (v : Values) (run new : Run) (kept : ℕ) (rows others : List Row)
         → new.first.indentation ≡ run.first.indentation → asked_by others ≡ asked_by rows
         → blanks_after v new (blanks_after v run kept rows) others ≡ blanks_after v run kept rows }
+    ensures as_many { (v : Values) (run new : Run) (kept : ℕ) (row : Row) (rows others : List Row)
+        → new.first.indentation ≡ run.first.indentation → asked_by others ≡ Some as_many
+        → blanks_after v new (blanks_after v run kept (row ∷ rows)) others ≡ blanks_after v run kept (row ∷ rows) }
 {}
 
 /// The comments of a line are not empty and have no space at their ends. Such comments, joined and written, are read back as
@@ -130,6 +142,24 @@ pub fn one_sorted_text()
 {
     one_lexing();
     binds_or_is_bad();
+    modules_are_totally_ordered();
+    names_are_totally_ordered();
+}
+
+/// Sorting a sorted text changes nothing: it is accepted, and under the same settings it is its own sorted text. Where
+/// sorting replaced blocks, sorting again finds the same blocks, with these layouts.
+pub fn sorted_texts_stay()
+    ensures sorted { (text : List ℕ) (v : Values) (sorted : List ℕ) → IsSorted text v sorted → IsSorted sorted v sorted }
+    ensures laid { (text : List ℕ) (v : Values) (sorted : List ℕ) → IsLaidOut text v sorted → IsLaidOut sorted v sorted }
+{
+    lines_before_a_text();
+    neighbours_are_read();
+    tokens_are_words();
+    words_hold_no_line_end();
+    names_are_words();
+    imports_of_words_are_named();
+    joined_comments_are_read_back();
+    written_statements_are_read_back();
     modules_are_totally_ordered();
     names_are_totally_ordered();
 }

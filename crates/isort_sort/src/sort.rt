@@ -1,7 +1,7 @@
 //! Sorting a text, in memory or to a writer.
 ghost use Rattle.std.specs.Prelude.{◌≡◌, ◌≢◌, IfOk, IfErr};
 ghost use Rattle.isort_settings.specs.Values.{values};
-ghost use Rattle.isort_sort.specs.Answers.{AreBlocksOf, Checks, IsRefused, Sorts};
+ghost use Rattle.isort_sort.specs.Answers.{AreBlocksOf, Checks, IsRefused, Sorts, StaysSorted};
 ghost use Rattle.isort_sort.specs.Private.Found.{span_of};
 ghost use Rattle.isort_sort.specs.Private.FoundValues.{found_value};
 ghost use Rattle.isort_sort.specs.Metered.{inner_of, last_of, IsGivenUp};
@@ -9,6 +9,7 @@ ghost use Rattle.isort_sort.specs.Written.{LeavesUnwritten, WritesSorted};
 
 use crate::answer::{Block, Outcome, SortError, Sorted};
 use crate::finder::FoundBlock;
+use crate::laws::sorted_texts_stay;
 use crate::metered::{Last, Metered};
 use crate::parts::Parts;
 use crate::read::{FoundText, find_blocks};
@@ -46,12 +47,14 @@ pub fn blocks(alloc: Global, text: &[u8]) -> Result<Vec<Block>, SortError>
     Ok(blocks)
 }
 
-/// The sorted text: each block replaced by its layout, and no other byte.
+/// The sorted text: each block replaced by its layout, and no other byte. Sorted again under the same settings, it is `Same`.
 ///
 /// The errors are the fault of a text that isn't accepted, also where it asks to be left as it is, and `Memory`.
 pub fn sort_code(alloc: Global, text: &[u8], settings: &Settings) -> Result<Sorted, SortError>
-    ensures { Sorts text.now (values settings.now) result }
+    ensures sorts { Sorts text.now (values settings.now) result }
+    ensures stays { IfOk result (λ sorted. StaysSorted (values settings.now) sorted) }
 {
+    sorted_texts_stay();
     let FoundText::Blocks(found) = find_blocks(alloc, text)? else {
         return Ok(Sorted::Skipped);
     };
@@ -88,7 +91,8 @@ pub fn check_code(alloc: Global, text: &[u8], settings: &Settings) -> Result<boo
 /// Writes the sorted text to `writer`, also where it is the text itself: its unchanged parts as they stand in the text,
 /// and the layouts of its blocks. No second text is made.
 ///
-/// `Same` and `Skipped` say that it is the text: the text is sorted, or asks to be left as it is.
+/// `Same` and `Skipped` say that it is the text: the text is sorted, or asks to be left as it is. Sorted again under the
+/// same settings, what was written stays as it is.
 ///
 /// - `Fault`: the text has this fault; nothing was written.
 /// - `Memory`: memory ran out; nothing was written.
@@ -110,6 +114,7 @@ pub fn sort_to<W: Write>(
     ensures stopped { result ≡ Err SortError.Write → IsGivenUp (last_of writer.new) }
     ensures fine { result ≢ Err SortError.Write → last_of writer.new ≡ Last.Fine }
 {
+    sorted_texts_stay();
     let sorted = match find_blocks(alloc, text)? {
         FoundText::Blocks(found) => SortedText::new(alloc, text, settings, found)?,
         FoundText::Skipped => {

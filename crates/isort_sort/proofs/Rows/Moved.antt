@@ -152,7 +152,7 @@ terminal_alike text (t ∷ ts) (u ∷ us) h = λ i. of (h.0 i) ∷ terminal_alik
     of e = terminal_in text (record { kind = e.kind; start = e.start; stop = e.stop; line = 0 })
 
 -- what a bound imports is what it was made of
-imported_again : (line : ℕ) (indented : Bool) (is : List Imported) → map imported_of (map (bound_at line indented) is) ≡ is
+pub imported_again : (line : ℕ) (indented : Bool) (is : List Imported) → map imported_of (map (bound_at line indented) is) ≡ is
 imported_again line indented [] = refl
 imported_again line indented (i ∷ is) = ap (λ l. i ∷ l) (imported_again line indented is)
 

@@ -33,16 +33,16 @@ is_code unit_kind.Comment = inr (λ e. cc)
 is_code unit_kind.Blank = inr (λ e. cc)
 
 -- an import statement begins with `import` or `from`
-begins_import_so : (ts : List Terminal) (is : List Imported) → IsImport ts is → begins_import ts ≡ true
+pub begins_import_so : (ts : List Terminal) (is : List Imported) → IsImport ts is → begins_import ts ≡ true
 begins_import_so ts is (import_statement rest items are) = refl
 begins_import_so ts is (from_statement all from rest items e relative names) = ap begins_import e
 
 -- a statement that no `;` ends is all of the line
-tokens_again : (b ts : List Token) → map (λ p. p.token) (places_from b ts) ≡ ts
+pub tokens_again : (b ts : List Token) → map (λ p. p.token) (places_from b ts) ≡ ts
 tokens_again b [] = refl
 tokens_again b (t ∷ ts) = ap (λ l. t ∷ l) (tokens_again (b ++ t ∷ []) ts)
 
-all_taken : (ps : List Place) → list_any is_end ps ≡ false → take_while (λ q. not (is_end q)) ps ≡ ps
+pub all_taken : (ps : List Place) → list_any is_end ps ≡ false → take_while (λ q. not (is_end q)) ps ≡ ps
 all_taken [] h = refl
 all_taken (p ∷ ps) h =
     let parts = or_parts (is_end p) (list_any is_end ps) h in

@@ -14,9 +14,9 @@ use Rattle.isort_sort.specs.Order.{AreInOrder}
 use Rattle.isort_sort.specs.Blocks.{Run}
 use Rattle.isort_sort.specs.Row.{Before, two, as_many, one, Row}
 use Rattle.isort_sort.specs.Sorted.{before_role, number_before, asked, is_indented, blanks_after}
-use Rattle.isort_sort.specs.Statement.{Statement, star, names, single, stands_alone, statement_of, statement_with, statement_cmp, same_statement}
+use Rattle.isort_sort.specs.Statement.{Statement, star, names, single, stands_alone, statement_of, statement_with, statement_cmp, item_cmp, same_statement}
 use Rattle.isort_sort.specs.Wrapping.{remark, statement_lines}
-use Rattle.isort_sort.specs.LaidAgain.{asked_by, import_of, joined_comments, as_member, with_joined_comments}
+use Rattle.isort_sort.specs.LaidAgain.{asked_by, import_of, joined_comments, as_member, with_joined_comments, without_above}
 use Rattle.isort_sort.proofs.Orders.Contained.{in_map, map_in, in_filter, filter_in}
 use Rattle.isort_sort.proofs.Orders.Equality.{is_same, itself}
 use Rattle.isort_sort.proofs.Orders.InOrder.{nothing_in, in_cons, head_in, tail_in, all_in, never_less}
@@ -234,3 +234,140 @@ blanks_again v run new kept (r ∷ rs) (o ∷ os) same asks =
     by : (x : Bool) → (if x then written x else asked v.lines_after_imports (number_before (written x) (before_role r.role))) ≡ written x
     by true = refl
     by false = same_asked v.lines_after_imports kept (before_role r.role)
+
+-- before rows that begin with comments as many are written as there were
+pub blanks_kept : (v : Values) (run new : Run) (kept : ℕ) (row : Row) (rows others : List Row) → new.first.indentation ≡ run.first.indentation → asked_by others ≡ Some as_many → blanks_after v new (blanks_after v run kept (row ∷ rows)) others ≡ blanks_after v run kept (row ∷ rows)
+blanks_kept v run new kept row rows [] same asks = refl
+blanks_kept v run new kept row rows (o ∷ os) same asks =
+    let b = same_before (before_role o.role) as_many asks in
+    let indented : is_indented new ≡ is_indented run = ap (λ (t : List ℕ). nat_lt 0 (length t)) same in
+    (λ i. if indented i then blanks_after v run kept (row ∷ rows) else asked v.lines_after_imports (number_before (blanks_after v run kept (row ∷ rows)) (b i)))
+    ∙ by (is_indented run)
+  where
+    written : Bool → ℕ
+    written x = if x then kept else asked v.lines_after_imports (number_before kept (before_role row.role))
+
+    twice : (after : ℤ) (n : ℕ) → asked after (asked after n) ≡ asked after n
+    twice (pos m) n = refl
+    twice (negsuc m) n = refl
+
+    by : (x : Bool) → (if x then written x else asked v.lines_after_imports (written x)) ≡ written x
+    by true = refl
+    by false = twice v.lines_after_imports (number_before kept (before_role row.role))
+
+-- members, of which those that a statement begins have no comments above
+quiet : Values → Statement → Member → Member
+quiet v s m = if begins_with v s m.imports then record { imports = m.imports; comments = m.comments; above = [] } else m
+
+quiet_true : (v : Values) (s : Statement) (m : Member) → begins_with v s m.imports ≡ true → quiet v s m ≡ record { imports = m.imports; comments = m.comments; above = [] }
+unfolding quiet
+quiet_true v s m h = ap (λ b. if b then record { imports = m.imports; comments = m.comments; above = [] } else m) h
+
+quiet_false : (v : Values) (s : Statement) (m : Member) → begins_with v s m.imports ≡ false → quiet v s m ≡ m
+unfolding quiet
+quiet_false v s m h = ap (λ b. if b then record { imports = m.imports; comments = m.comments; above = [] } else m) h
+
+record IsQuiet (m n : Member) : Type 0 where
+  imports_same : n.imports ≡ m.imports
+  comments_same : n.comments ≡ m.comments
+
+quiet_same : (v : Values) (s : Statement) (m : Member) → IsQuiet m (quiet v s m)
+unfolding quiet
+quiet_same v s m = by (begins_with v s m.imports)
+  where
+    by : (b : Bool) → IsQuiet m (if b then record { imports = m.imports; comments = m.comments; above = [] } else m)
+    by true = record { imports_same = refl; comments_same = refl }
+    by false = record { imports_same = refl; comments_same = refl }
+
+quiet_imports : (v : Values) (s : Statement) (ms : List Member) → imports_of ms ≡ imports_of (map (quiet v s) ms)
+quiet_imports v s [] = refl
+quiet_imports v s (m ∷ ms) = λ i. sym (quiet_same v s m).imports_same i ++ quiet_imports v s ms i
+
+-- what a statement takes of members, one by one
+taken : {X : Type 0} (f : Member → List X) (v : Values) (t : Statement) (m : Member) (ms : List Member) → flat_map f (owned v (m ∷ ms) t) ≡ cond (begins_with v t m.imports) (f m) [] ++ flat_map f (owned v ms t)
+taken f v t m ms = by (begins_with v t m.imports)
+  where
+    by : (b : Bool) → flat_map f (cond b (m ∷ owned v ms t) (owned v ms t)) ≡ cond b (f m) [] ++ flat_map f (owned v ms t)
+    by true = refl
+    by false = refl
+
+quiet_comments : (v : Values) (s t : Statement) (ms : List Member) → flat_map (λ m. m.comments) (owned v ms t) ≡ flat_map (λ m. m.comments) (owned v (map (quiet v s) ms) t)
+quiet_comments v s t [] = refl
+quiet_comments v s t (m ∷ ms) =
+    let q = quiet_same v s m in
+    taken (λ n. n.comments) v t m ms
+    ∙ (λ i. cond (begins_with v t (sym q.imports_same i)) (sym q.comments_same i) [] ++ quiet_comments v s t ms i)
+    ∙ sym (taken (λ n. n.comments) v t (quiet v s m) (map (quiet v s) ms))
+
+quiet_own : (v : Values) (s : Statement) (ms : List Member) → flat_map (λ m. m.above) (owned v (map (quiet v s) ms) s) ≡ []
+quiet_own v s [] = refl
+quiet_own v s (m ∷ ms) =
+    taken (λ n. n.above) v s (quiet v s m) (map (quiet v s) ms)
+    ∙ (λ i. by (begins_with v s m.imports) refl i ++ quiet_own v s ms i)
+  where
+    by : (b : Bool) → begins_with v s m.imports ≡ b → cond (begins_with v s (quiet v s m).imports) (quiet v s m).above [] ≡ []
+    by true e = (λ i. cond (begins_with v s (quiet_true v s m e i).imports) (quiet_true v s m e i).above []) ∙ ap (λ b. cond b [] []) e
+    by false e = (λ i. cond (begins_with v s (quiet_false v s m e i).imports) (quiet_false v s m e i).above []) ∙ ap (λ b. cond b m.above []) e
+
+-- another statement takes what it took
+begins_one : (v : Values) (s t : Statement) (is : List Imported) → (s ≡ t → ⊥) → begins_with v t is ≡ true → begins_with v s is ≡ false
+begins_one v s t [] apart h = refl
+begins_one v s t (i ∷ is) apart h = false_from_ne_true _ (λ k. apart (sym (is_same (statement_of v i) s k) ∙ is_same (statement_of v i) t h))
+
+quiet_other : (v : Values) (s t : Statement) (ms : List Member) → (s ≡ t → ⊥) → flat_map (λ m. m.above) (owned v ms t) ≡ flat_map (λ m. m.above) (owned v (map (quiet v s) ms) t)
+quiet_other v s t [] apart = refl
+quiet_other v s t (m ∷ ms) apart =
+    taken (λ n. n.above) v t m ms
+    ∙ (λ i. by (begins_with v t m.imports) refl i ++ quiet_other v s t ms apart i)
+    ∙ sym (taken (λ n. n.above) v t (quiet v s m) (map (quiet v s) ms))
+  where
+    by : (b : Bool) → begins_with v t m.imports ≡ b → cond (begins_with v t m.imports) m.above [] ≡ cond (begins_with v t (quiet v s m).imports) (quiet v s m).above []
+    by true e = let same = quiet_false v s m (begins_one v s t m.imports apart e) in λ i. cond (begins_with v t (sym same i).imports) (sym same i).above []
+    by false e =
+        ap (λ b. cond b m.above []) e
+        ∙ sym (ap (λ (is : List Imported). cond (begins_with v t is) (quiet v s m).above []) (quiet_same v s m).imports_same ∙ ap (λ b. cond b (quiet v s m).above []) e)
+
+-- a block whose first statement has no comments above is laid out as the others are
+pub first_again : (v : Values) → AreOrders v → (indentation : List ℕ) (members : List Member) (s : Laid) (ss : List Laid) → AreLaid v indentation members (s ∷ ss) → AreLaid v indentation (map as_member (without_above s ∷ ss)) (map with_joined_comments (without_above s ∷ ss))
+unfolding IsStrictlySortedBy
+first_again v o indentation members s ss is = laid_again v o indentation others (without_above s ∷ ss) quieted
+  where
+    others : List Member
+    others = map (quiet v s.statement) members
+
+    same : imports_of members ≡ imports_of others
+    same = quiet_imports v s.statement members
+
+    apart : (t : Laid) → Contains ss t → (s.statement ≡ t.statement → ⊥)
+    apart t h e =
+        never_less (statement_cmp_total v o) t.statement
+        (subst (λ (x : Statement). statement_cmp v x t.statement ≡ Less) e (all_in (λ w. statement_cmp v s.statement w ≡ Less) (map (λ (l : Laid). l.statement) ss) t.statement is.statements.ascend.0 (map_in (λ (l : Laid). l.statement) ss t h)))
+
+    items : (t : Laid) → AreItemsOf v members t.statement t.items → AreItemsOf v others t.statement t.items
+    items t h = subst (λ (l : List Imported). AreInOrder (item_cmp v) (map item_of (filter (belongs v t.statement) l)) t.items) same h
+
+    one : (t : Laid) → Contains ss t → IsLaid v indentation members t → IsLaid v indentation others t
+    one t h l = record {
+      items = items t l.items;
+      cut = l.cut;
+      comments = l.comments ∙ ap first_texts (quiet_comments v s.statement t.statement members);
+      above = l.above ∙ quiet_other v s.statement t.statement members (apart t h);
+    }
+
+    each : (ls : List Laid) → ((t : Laid) → Contains ls t → Contains ss t) → EachIsLaid v indentation members ls → EachIsLaid v indentation others ls
+    each [] inside h = tt
+    each (l ∷ ls) inside h = (one l (inside l (head_in l ls)) h.0, each ls (λ t k. inside t (tail_in l ls t k)) h.1)
+
+    first : IsLaid v indentation members s → IsLaid v indentation others (without_above s)
+    first l = record {
+      items = items s l.items;
+      cut = l.cut;
+      comments = l.comments ∙ ap first_texts (quiet_comments v s.statement s.statement members);
+      above = sym (quiet_own v s.statement members);
+    }
+
+    quieted : AreLaid v indentation others (without_above s ∷ ss)
+    quieted = record {
+      statements = subst (λ (l : List Imported). AreInOrder (statement_cmp v) (map (statement_of v) l) (map (λ (l : Laid). l.statement) (s ∷ ss))) same is.statements;
+      each = (first is.each.0, each ss (λ t k. k) is.each.1);
+    }
