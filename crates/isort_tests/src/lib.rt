@@ -35,6 +35,8 @@ mod settings;
 #[cfg(test)]
 mod sort;
 #[cfg(test)]
+mod sorted_again;
+#[cfg(test)]
 mod sorting_runs;
 #[cfg(test)]
 mod writing;

@@ -36,7 +36,11 @@ fn is_sorted(alloc: Global, settings: &Settings, text: &str, want: &str) -> bool
 }
 
 /// Lines of `[tool.isort]`, a text, and what it is sorted to under these settings. That one stays as it is.
-struct Under(&'static str, &'static str, &'static str);
+pub(crate) struct Under(
+    pub(crate) &'static str,
+    pub(crate) &'static str,
+    pub(crate) &'static str,
+);
 
 impl Under {
     fn holds_under(&self, alloc: Global, table: &[u8]) -> bool {
@@ -59,7 +63,7 @@ impl Case for Under {
     }
 }
 
-const STATEMENTS: &[Under] = &[
+pub(crate) const STATEMENTS: &[Under] = &[
     Under(
         "",
         "from . import z\nimport sys\nimport requests\nfrom __future__ import annotations\nimport os\n",
@@ -112,7 +116,7 @@ fn orders_statements(rt: HostRuntime) -> Result<(), Fail> {
     each_holds_again(rt.alloc(), STATEMENTS)
 }
 
-const MERGED: &[Under] = &[
+pub(crate) const MERGED: &[Under] = &[
     Under(
         "",
         "from a import c as d, b\n",
@@ -160,7 +164,7 @@ fn merges_statements(rt: HostRuntime) -> Result<(), Fail> {
     each_holds_again(rt.alloc(), MERGED)
 }
 
-const BETWEEN: &[Under] = &[
+pub(crate) const BETWEEN: &[Under] = &[
     Under(
         "lines_between_types = 1",
         "import b\nfrom a import x\n",
@@ -194,7 +198,7 @@ fn puts_blank_lines_and_line_ends(rt: HostRuntime) -> Result<(), Fail> {
 
 const NAMES: &str = "from m import dddd, aaaa, cccc, bbbb\n";
 
-const WRAPPED: &[Under] = &[
+pub(crate) const WRAPPED: &[Under] = &[
     Under(
         "line_length = 30\nmulti_line_output = 0",
         NAMES,
@@ -274,7 +278,7 @@ const HANGING_THREE_AND_ONE: &str = "from m import \\\n    aa, bb, cc, \\\n    d
 
 const HANGING_TWO_AND_TWO: &str = "from m import \\\n    aa, bb, \\\n    cc, dd\n";
 
-const PACKED: &[Under] = &[
+pub(crate) const PACKED: &[Under] = &[
     Under("line_length = 28", FOUR, FOUR),
     Under("line_length = 27", FOUR, THREE_AND_ONE),
     Under("line_length = 26", FOUR, THREE_AND_ONE),
@@ -339,7 +343,7 @@ const LONG: &str =
 const LONG_WRAPPED: &str =
     "from a import (\n    nnnnnnnnnnnnnnnnnnnnnnnnnnnnnnnnnnnnnnnnnnnnnnnnnnnnnnnnnnnnnnnnnnnnnnnnnnn,\n)\n";
 
-const OF_BLACK: &[Under] = &[
+pub(crate) const OF_BLACK: &[Under] = &[
     Under("profile = \"black\"", FITS, FITS),
     Under("profile = \"black\"", LONG, LONG_WRAPPED),
 ];
@@ -350,7 +354,7 @@ fn wraps_at_the_profile_of_black(rt: HostRuntime) -> Result<(), Fail> {
     each_holds_again(rt.alloc(), OF_BLACK)
 }
 
-const BLOCKS: &[Under] = &[
+pub(crate) const BLOCKS: &[Under] = &[
     Under(
         "",
         "import b\nimport a\nx = 1\nimport d\nimport c\n",
@@ -423,7 +427,7 @@ fn sorts_each_block(rt: HostRuntime) -> Result<(), Fail> {
     each_holds_again(rt.alloc(), BLOCKS)
 }
 
-const COMMENTS: &[Under] = &[
+pub(crate) const COMMENTS: &[Under] = &[
     Under(
         "",
         "import z  # one\n# about a\nimport a\nimport z  # two\n",
@@ -471,7 +475,7 @@ fn moves_comments_with_their_statements(rt: HostRuntime) -> Result<(), Fail> {
     each_holds_again(rt.alloc(), COMMENTS)
 }
 
-const AFTER: &[Under] = &[
+pub(crate) const AFTER: &[Under] = &[
     Under(
         "",
         "import b\nimport a\ndef f(): pass\n",
@@ -533,7 +537,7 @@ fn puts_blank_lines_after_blocks(rt: HostRuntime) -> Result<(), Fail> {
     each_holds_again(rt.alloc(), AFTER)
 }
 
-const ACTIONS: &[Under] = &[
+pub(crate) const ACTIONS: &[Under] = &[
     Under(
         "",
         "import b\nimport a  # isort: skip\nimport d\nimport c\n# isort: off\nimport z\nimport y\n# isort: on\nimport x\nimport w\n",

@@ -1,0 +1,112 @@
+//! Sorted texts, sorted again under the same settings: they stay as they are.
+use crate::sort::{
+    ACTIONS, AFTER, BETWEEN, BLOCKS, COMMENTS, MERGED, OF_BLACK, PACKED, STATEMENTS, Under, WRAPPED,
+};
+use isort_settings::Settings;
+use isort_sort::{Sorted, check_code, sort_code};
+use std::alloc::{AllocError, Global};
+use std::test::Fail;
+
+/// Lines of `[tool.isort]` under which each text is sorted, beside its own: a profile, and each mode with short lines.
+const TABLES: &[&str] = &[
+    "profile = \"black\"",
+    "line_length = 30\nmulti_line_output = 0",
+    "line_length = 30\nmulti_line_output = 1",
+    "line_length = 30\nmulti_line_output = 2",
+    "line_length = 30\nmulti_line_output = 3",
+];
+
+/// The text with this line end in the place of each LF.
+fn with_line_ends(alloc: Global, text: &str, end: &[u8]) -> Result<Vec<u8>, AllocError> {
+    let mut bytes = Vec::new(alloc);
+    for byte in text.as_bytes() {
+        if *byte == b'\n' {
+            bytes.extend_from_slice(end)?;
+        } else {
+            bytes.push(*byte)?;
+        }
+    }
+    Ok(bytes)
+}
+
+/// Whether the text is its own sorted text, both when it is sorted and when it is checked.
+fn is_sorted(alloc: Global, text: &[u8], settings: &Settings) -> bool {
+    match sort_code(alloc, text, settings) {
+        Ok(Sorted::Same) => check_code(alloc, text, settings) == Ok(true),
+        _ => false,
+    }
+}
+
+/// Whether what the text is sorted to is sorted. A text that is skipped stays as it is.
+fn stays_sorted(alloc: Global, text: &[u8], settings: &Settings) -> bool {
+    match sort_code(alloc, text, settings) {
+        Ok(Sorted::Changed(sorted)) => is_sorted(alloc, sorted.as_bytes(), settings),
+        Ok(Sorted::Same) => check_code(alloc, text, settings) == Ok(true),
+        Ok(Sorted::Skipped) => true,
+        Err(_) => false,
+    }
+}
+
+fn stays_with(alloc: Global, text: &str, end: &[u8], settings: &Settings) -> bool {
+    match with_line_ends(alloc, text, end) {
+        Ok(bytes) => stays_sorted(alloc, bytes.as_slice(), settings),
+        Err(_) => false,
+    }
+}
+
+/// Whether the text stays sorted under these lines of `[tool.isort]`, with each line end.
+fn stays_under(alloc: Global, table: &str, text: &str) -> bool {
+    let Ok(table) = format!(in alloc; "[tool.isort]\n{}\n", table) else {
+        return false;
+    };
+    match Settings::from_pyproject(alloc, table.as_bytes(), None) {
+        Ok((settings, _)) => {
+            stays_with(alloc, text, b"\n", &settings)
+                && stays_with(alloc, text, b"\r\n", &settings)
+                && stays_with(alloc, text, b"\r", &settings)
+        }
+        Err(_) => false,
+    }
+}
+
+/// Whether the row's text stays sorted under its own settings and under each of the others.
+fn row_stays(alloc: Global, row: &Under) -> bool {
+    for table in TABLES {
+        if !stays_under(alloc, table, row.1) {
+            return false;
+        }
+    }
+    stays_under(alloc, row.0, row.1)
+}
+
+/// Every row stays sorted. One that doesn't is tried once more, as in `each_holds_again`.
+fn each_stays(alloc: Global, rows: &[Under]) -> Result<(), Fail> {
+    for (i, row) in rows.iter().enumerate() {
+        if !row_stays(alloc, row) && !row_stays(alloc, row) {
+            return Err(Fail::new(format_args!("row {i} does not stay sorted")));
+        }
+    }
+    Ok(())
+}
+
+#[test]
+fn statements_stay_sorted(rt: HostRuntime) -> Result<(), Fail> {
+    each_stays(rt.alloc(), STATEMENTS)?;
+    each_stays(rt.alloc(), MERGED)?;
+    each_stays(rt.alloc(), BETWEEN)
+}
+
+#[test]
+fn wrapped_statements_stay_sorted(rt: HostRuntime) -> Result<(), Fail> {
+    each_stays(rt.alloc(), WRAPPED)?;
+    each_stays(rt.alloc(), PACKED)?;
+    each_stays(rt.alloc(), OF_BLACK)
+}
+
+#[test]
+fn blocks_stay_sorted(rt: HostRuntime) -> Result<(), Fail> {
+    each_stays(rt.alloc(), BLOCKS)?;
+    each_stays(rt.alloc(), COMMENTS)?;
+    each_stays(rt.alloc(), AFTER)?;
+    each_stays(rt.alloc(), ACTIONS)
+}
