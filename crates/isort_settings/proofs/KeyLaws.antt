@@ -1,5 +1,5 @@
 -- Facts about the table of keys.
-use Rattle.std.proofs.Common.{◌≡◌, ℕ, Bool, true, ◌&&◌, List, [], ◌∷◌, ◌++◌, map, Contains, Ordering, Less, Equal, Greater, refl, lit<}
+use Rattle.std.proofs.Common.{◌≡◌, ℕ, Bool, true, ◌&&◌, List, [], ◌∷◌, ◌++◌, ◌⊎◌, inl, inr, map, Contains, Ordering, Less, Equal, Greater, refl, lit<}
 use Rattle.std.proofs.lemmas.Bool.{and_parts}
 use Rattle.std.specs.Cmp.Lexicographic.{slice_cmp}
 use Rattle.std.specs.List.{AllByRecursion, list_all}
@@ -7,35 +7,37 @@ use Rattle.std.specs.List.Sorted.{IsStrictlySortedBy}
 use Rattle.std.specs.Ordering.{nat_cmp, is_lt}
 use Rattle.isort_settings.specs.declared.key.SettingKey.{SettingKey}
 use Rattle.isort_settings.specs.declared.key.SettingKey.TheVariants as key
-use Rattle.isort_settings.specs.Keys.{name_of, keys_in_order, Ascends}
+use Rattle.isort_settings.specs.Keys.{name_of, keys_in_order, IsOwnList, Ascends}
 
--- each key stands in the list at its place
-pub keys-complete : (k : SettingKey) → Contains (keys_in_order ++ key.Profile ∷ key.Tool ∷ key.ToolIsort ∷ []) k
+-- each key but those of own lists stands in the list at its place
+pub keys-complete : (k : SettingKey) → IsOwnList k ⊎ Contains (keys_in_order ++ key.Profile ∷ key.Sections ∷ key.Tool ∷ key.ToolIsort ∷ []) k
 unfolding keys_in_order
-keys-complete key.CaseSensitive = (0, lit< tt, refl)
-keys-complete key.CombineAsImports = (1, lit< tt, refl)
-keys-complete key.DefaultSection = (2, lit< tt, refl)
-keys-complete key.EnsureNewlineBeforeComments = (3, lit< tt, refl)
-keys-complete key.ExtraStandardLibrary = (4, lit< tt, refl)
-keys-complete key.ForceGridWrap = (5, lit< tt, refl)
-keys-complete key.ForceSingleLine = (6, lit< tt, refl)
-keys-complete key.ForceSortWithinSections = (7, lit< tt, refl)
-keys-complete key.IncludeTrailingComma = (8, lit< tt, refl)
-keys-complete key.KnownFirstParty = (9, lit< tt, refl)
-keys-complete key.KnownFutureLibrary = (10, lit< tt, refl)
-keys-complete key.KnownLocalFolder = (11, lit< tt, refl)
-keys-complete key.KnownStandardLibrary = (12, lit< tt, refl)
-keys-complete key.KnownThirdParty = (13, lit< tt, refl)
-keys-complete key.LineLength = (14, lit< tt, refl)
-keys-complete key.LinesAfterImports = (15, lit< tt, refl)
-keys-complete key.LinesBetweenSections = (16, lit< tt, refl)
-keys-complete key.LinesBetweenTypes = (17, lit< tt, refl)
-keys-complete key.MultiLineOutput = (18, lit< tt, refl)
-keys-complete key.OrderByType = (19, lit< tt, refl)
-keys-complete key.UseParentheses = (20, lit< tt, refl)
-keys-complete key.Profile = (21, lit< tt, refl)
-keys-complete key.Tool = (22, lit< tt, refl)
-keys-complete key.ToolIsort = (23, lit< tt, refl)
+keys-complete key.CaseSensitive = inr (0, lit< tt, refl)
+keys-complete key.CombineAsImports = inr (1, lit< tt, refl)
+keys-complete key.DefaultSection = inr (2, lit< tt, refl)
+keys-complete key.EnsureNewlineBeforeComments = inr (3, lit< tt, refl)
+keys-complete key.ExtraStandardLibrary = inr (4, lit< tt, refl)
+keys-complete key.ForceGridWrap = inr (5, lit< tt, refl)
+keys-complete key.ForceSingleLine = inr (6, lit< tt, refl)
+keys-complete key.ForceSortWithinSections = inr (7, lit< tt, refl)
+keys-complete key.IncludeTrailingComma = inr (8, lit< tt, refl)
+keys-complete key.KnownFirstParty = inr (9, lit< tt, refl)
+keys-complete key.KnownFutureLibrary = inr (10, lit< tt, refl)
+keys-complete key.KnownLocalFolder = inr (11, lit< tt, refl)
+keys-complete key.KnownStandardLibrary = inr (12, lit< tt, refl)
+keys-complete key.KnownThirdParty = inr (13, lit< tt, refl)
+keys-complete key.LineLength = inr (14, lit< tt, refl)
+keys-complete key.LinesAfterImports = inr (15, lit< tt, refl)
+keys-complete key.LinesBetweenSections = inr (16, lit< tt, refl)
+keys-complete key.LinesBetweenTypes = inr (17, lit< tt, refl)
+keys-complete key.MultiLineOutput = inr (18, lit< tt, refl)
+keys-complete key.OrderByType = inr (19, lit< tt, refl)
+keys-complete key.UseParentheses = inr (20, lit< tt, refl)
+keys-complete key.Profile = inr (21, lit< tt, refl)
+keys-complete key.Sections = inr (22, lit< tt, refl)
+keys-complete key.Tool = inr (23, lit< tt, refl)
+keys-complete key.ToolIsort = inr (24, lit< tt, refl)
+keys-complete (key.OwnList name) = inl (name, refl)
 
 -- `Ascends` as a test
 ascends : List (List ℕ) → Bool

@@ -5,12 +5,15 @@
 -- One key (proofs/Readings, Entries, Table): what a reader of value.rt answers is `read_value`, for a list entry by
 -- entry, and taking it changes the field of this key alone.
 --
--- All keys (proofs/Table): after each key, those before it have their values, and none of them was refused. So the
--- loop ends with `values_in`, or with the first refusal.
+-- All keys (proofs/Table, Refusals): after each key, those before it have their values, and none of them was refused. So
+-- the loop ends with `values_in`, or with the refusal whose key comes first by its bytes.
+--
+-- Own sections (proofs/Names, OwnListsRead): what `sections` lists, name by name, and the lists, one after another.
 --
 -- The list of keys (proofs/KeyLaws): it is complete and ascends.
 --
--- Sections (proofs/Prefixes): the first of all pairs of a prefix and a list is what prefix by prefix finds.
+-- Sections (proofs/Prefixes, Places, Indexes): the own lists come first, and their index gives the first that holds a
+-- prefix. The first of all pairs of a prefix and a list is what prefix by prefix finds.
 --
 -- Lists of modules (proofs/ModuleLists): the standard library is sorted, so a binary search finds what it holds, and two
 -- lists are compared place by place.
@@ -21,15 +24,20 @@
 -- Total orders (proofs/OrderLaws, OrderThen): one order and then another is total if both are, and so the orders are
 -- total. proofs/OrderRows has rows worked out by hand.
 pub mod Documents
+pub mod Indexes
 pub mod KeyLaws
 pub mod ModuleLists
+pub mod Names
 pub mod OrderLaws
 pub mod OrderNumbers
 pub mod OrderParts
 pub mod OrderRows
 pub mod OrderRuns
 pub mod OrderThen
+pub mod OwnListsRead
+pub mod Places
 pub mod Prefixes
 pub mod Readings
+pub mod Refusals
 pub mod Table
 pub mod Entries

@@ -1,5 +1,5 @@
 -- What taking a key's value does, where the code has matched the key.
-use Rattle.std.proofs.Common.{◌≡◌, ◌≢◌, sym, subst, ap, Result, Ok, Err, IsOkAnd, OnOk, IfOk, IfErr, MatchResult}
+use Rattle.std.proofs.Common.{◌≡◌, ◌≢◌, ◌≤◌, ℕ, List, length, sym, subst, ap, Result, Ok, Err, IsOkAnd, OnOk, IfOk, IfErr, MatchResult}
 use Rattle.toml.specs.Data.{Data}
 use Rattle.isort_settings.specs.declared.error.SettingsError.{SettingsError}
 use Rattle.isort_settings.specs.declared.error.SettingsError.TheVariants.{Memory}
@@ -13,28 +13,28 @@ use Rattle.isort_settings.specs.Values.{Values}
 use Rattle.isort_settings.specs.Values.OneKey.{with_value}
 
 -- a refusal that is known at the key which the code has matched
-pub refused : (k j : SettingKey) (d : Data) (e : SettingsError) → k ≡ j → read_value (row_of j).kind k d ≡ Err e → read_value (row_of k).kind k d ≡ Err e
-refused k j d e same read =
-    let P : SettingKey → Type 0 = λ i. read_value (row_of i).kind k d ≡ Err e in
+pub refused : (own : List (List ℕ)) (k j : SettingKey) (d : Data) (e : SettingsError) → k ≡ j → read_value own (row_of j).kind k d ≡ Err e → read_value own (row_of k).kind k d ≡ Err e
+refused own k j d e same read =
+    let P : SettingKey → Type 0 = λ i. read_value own (row_of i).kind k d ≡ Err e in
     subst P (sym same) read
 
-at_key : (k : SettingKey) (d : Data) (new old : Values) (x : Meaning (row_of k).kind) → read_value (row_of k).kind k d ≡ Ok x → new ≡ with_value k x old → IsOkAnd (read_value (row_of k).kind k d) (λ y. new ≡ with_value k y old)
-at_key k d new old x read put = rw read put
+at_key : (own : List (List ℕ)) (k : SettingKey) (d : Data) (new old : Values) (x : Meaning (row_of k).kind) → read_value own (row_of k).kind k d ≡ Ok x → new ≡ with_value k x old → IsOkAnd (read_value own (row_of k).kind k d) (λ y. new ≡ with_value k y old)
+at_key own k d new old x read put = rw read put
 
 -- a value that is known at the key which the code has matched
-pub taken : (k j : SettingKey) (d : Data) (new old : Values) (x : Meaning (row_of j).kind) → k ≡ j → read_value (row_of j).kind k d ≡ Ok x → new ≡ with_value j x old → IsOkAnd (read_value (row_of k).kind k d) (λ y. new ≡ with_value k y old)
-taken k j d new old x same read put =
-    let P : SettingKey → Type 0 = λ i. read_value (row_of j).kind i d ≡ Ok x → IsOkAnd (read_value (row_of i).kind i d) (λ y. new ≡ with_value i y old) in
-    subst P (sym same) (λ r. at_key j d new old x r put) read
+pub taken : (own : List (List ℕ)) (k j : SettingKey) (d : Data) (new old : Values) (x : Meaning (row_of j).kind) → k ≡ j → read_value own (row_of j).kind k d ≡ Ok x → new ≡ with_value j x old → IsOkAnd (read_value own (row_of k).kind k d) (λ y. new ≡ with_value k y old)
+taken own k j d new old x same read put =
+    let P : SettingKey → Type 0 = λ i. read_value own (row_of j).kind i d ≡ Ok x → IsOkAnd (read_value own (row_of i).kind i d) (λ y. new ≡ with_value i y old) in
+    subst P (sym same) (λ r. at_key own j d new old x r put) read
 
 -- a key's value was taken, or refused
-abbrev pub Takes : SettingKey → Data → Result (Unit {0}) SettingsError → Values → Values → Type 0
-Takes k d answer old new = record {
-  ok : OnOk answer (IsOkAnd (read_value (row_of k).kind k d) (λ x. new ≡ with_value k x old));
-  refused : IfErr answer (λ e. e ≢ Memory → read_value (row_of k).kind k d ≡ Err e);
+abbrev pub Takes : List (List ℕ) → SettingKey → Data → Result (Unit {0}) SettingsError → Values → Values → Type 0
+Takes own k d answer old new = record {
+  ok : OnOk answer (IsOkAnd (read_value own (row_of k).kind k d) (λ x. new ≡ with_value k x old));
+  refused : IfErr answer (λ e. e ≢ Memory → read_value own (row_of k).kind k d ≡ Err e);
 }
 
--- the numbers of settings are in their ranges
+-- the numbers of settings are in their ranges, and each of the few own sections has its list
 abbrev pub AreInRanges : Settings → Type 0
 AreInRanges s = record {
   line_length_in_range : IsWithin LINE_LENGTH s.line_length;
@@ -43,6 +43,8 @@ AreInRanges s = record {
   section_gap_in_range : IsWithin SECTION_GAP s.lines_between_sections;
   type_gap_in_range : IsWithin TYPE_GAP s.lines_between_types;
   end_gap_in_range : IsWithinSigned END_GAP s.lines_after_imports;
+  few_own_sections : length s.own_names.items ≤ 64;
+  list_for_each_own : length s.own_lists ≡ length s.own_names.items;
 }
 
 pub in_ranges : (s : Settings) → AreInRanges s
@@ -53,6 +55,8 @@ in_ranges s = record {
   section_gap_in_range = s.section_gap_in_range;
   type_gap_in_range = s.type_gap_in_range;
   end_gap_in_range = s.end_gap_in_range;
+  few_own_sections = s.few_own_sections;
+  list_for_each_own = s.list_for_each_own;
 }
 
 -- what was put in a field's place is what the key says, or its refusal
@@ -60,14 +64,14 @@ abbrev pub Puts : {T : Type 0} → Result T SettingsError → Result (Unit {0}) 
 Puts read answer before now = MatchResult read (λ x. (answer ≡ Ok tt) × (now ≡ x)) (λ e. (answer ≡ Err e) × (now ≡ before))
 
 -- a reader's answer was put in the place of the key that the code has matched, where a value of the field is shown so
-pub took_shown : {T : Type 0} (k j : SettingKey) (d : Data) (v : Values) (shown : T → Meaning (row_of j).kind) (read : Result T SettingsError)
+pub took_shown : (own : List (List ℕ)) {T : Type 0} (k j : SettingKey) (d : Data) (v : Values) (shown : T → Meaning (row_of j).kind) (read : Result T SettingsError)
     (answer : Result (Unit {0}) SettingsError) (before now : T) → k ≡ j
-    → IfOk read (λ x. read_value (row_of j).kind k d ≡ Ok (shown x)) → IfErr read (λ e. e ≢ Memory → read_value (row_of j).kind k d ≡ Err e)
-    → Puts read answer before now → Takes k d answer v (with_value j (shown now) v)
-took_shown k j d v shown (Ok x) answer before now same ok err put =
-    rw put.0 (record { ok = taken k j d _ v (shown x) same ok (ap (λ y. with_value j (shown y) v) put.1); refused = tt })
-took_shown k j d v shown (Err e) answer before now same ok err put =
-    rw put.0 (record { ok = tt; refused = λ other. refused k j d e same (err other) })
+    → IfOk read (λ x. read_value own (row_of j).kind k d ≡ Ok (shown x)) → IfErr read (λ e. e ≢ Memory → read_value own (row_of j).kind k d ≡ Err e)
+    → Puts read answer before now → Takes own k d answer v (with_value j (shown now) v)
+took_shown own k j d v shown (Ok x) answer before now same ok err put =
+    rw put.0 (record { ok = taken own k j d _ v (shown x) same ok (ap (λ y. with_value j (shown y) v) put.1); refused = tt })
+took_shown own k j d v shown (Err e) answer before now same ok err put =
+    rw put.0 (record { ok = tt; refused = λ other. refused own k j d e same (err other) })
 
 ok_of : {T : Type 0} (read said : Result T SettingsError) → read ≡ said → IfOk read (λ x. said ≡ Ok x)
 ok_of (Ok x) said same = sym same
@@ -78,8 +82,8 @@ err_of (Ok x) said same = tt
 err_of (Err e) said same = λ _. sym same
 
 -- the same where the reader answers with the value itself
-pub took : (k j : SettingKey) (d : Data) (v : Values) (read : Result (Meaning (row_of j).kind) SettingsError)
-    (answer : Result (Unit {0}) SettingsError) (before now : Meaning (row_of j).kind) → k ≡ j → read ≡ read_value (row_of j).kind k d
-    → Puts read answer before now → Takes k d answer v (with_value j now v)
-took k j d v read answer before now same said put =
-    took_shown k j d v (λ x. x) read answer before now same (ok_of read _ said) (err_of read _ said) put
+pub took : (own : List (List ℕ)) (k j : SettingKey) (d : Data) (v : Values) (read : Result (Meaning (row_of j).kind) SettingsError)
+    (answer : Result (Unit {0}) SettingsError) (before now : Meaning (row_of j).kind) → k ≡ j → read ≡ read_value own (row_of j).kind k d
+    → Puts read answer before now → Takes own k d answer v (with_value j now v)
+took own k j d v read answer before now same said put =
+    took_shown own k j d v (λ x. x) read answer before now same (ok_of read _ said) (err_of read _ said) put

@@ -1,5 +1,5 @@
 -- The table of keys: how each is spelled, what it may hold, its default, and its value under the profile `black`.
-use Rattle.std.specs.Prelude.{codes, ◌||◌, ℕ, ℤ, pos, negsuc, Bool, true, false, List, [], ◌∷◌, bytes_eq}
+use Rattle.std.specs.Prelude.{◌≡◌, codes, ◌||◌, ℕ, ℤ, pos, negsuc, Bool, true, false, List, [], ◌∷◌, bytes_eq}
 use Rattle.std.specs.Cmp.Lexicographic.{slice_cmp}
 use Rattle.std.specs.List.{list_any}
 use Rattle.std.specs.List.Sorted.{IsStrictlySortedBy}
@@ -11,7 +11,8 @@ use Rattle.isort_settings.specs.declared.section.Section.TheVariants.{ThirdParty
 use Rattle.isort_settings.specs.StandardLibrary.{standard_library}
 
 -- what a key may hold: a whole number from the first to the second (not negative, or of either sign), a wrap mode,
--- true or false, the name of a section, a list of texts; or nothing that a field keeps
+-- true or false, the name of a section, a list of texts; or nothing that this table tells: the tables around, the profile
+-- (specs/Pyproject), `sections` and the lists of own sections (specs/SectionNames)
 pub data Kind : Type 0 where
   count : ℕ → ℕ → Kind
   whole : ℤ → ℤ → Kind
@@ -68,6 +69,8 @@ row_of key.KnownFirstParty = same texts []
 row_of key.KnownLocalFolder = same texts []
 row_of key.KnownFutureLibrary = same texts (codes "__future__" ∷ [])
 row_of key.Profile = same no_field tt
+row_of key.Sections = same no_field tt
+row_of (key.OwnList name) = same no_field tt
 row_of key.Tool = same no_field tt
 row_of key.ToolIsort = same no_field tt
 
@@ -97,8 +100,10 @@ name_of key.LinesBetweenTypes = codes "lines_between_types"
 name_of key.MultiLineOutput = codes "multi_line_output"
 name_of key.OrderByType = codes "order_by_type"
 name_of key.UseParentheses = codes "use_parentheses"
+name_of key.Sections = codes "sections"
+name_of (key.OwnList name) = name
 
--- the keys that a field keeps, by the bytes of their names
+-- the keys that are read one by one, by the bytes of their names
 unfoldable pub keys_in_order : List SettingKey
 keys_in_order =
     key.CaseSensitive ∷ key.CombineAsImports ∷ key.DefaultSection ∷ key.EnsureNewlineBeforeComments
@@ -108,9 +113,14 @@ keys_in_order =
     ∷ key.LinesBetweenSections ∷ key.LinesBetweenTypes ∷ key.MultiLineOutput ∷ key.OrderByType
     ∷ key.UseParentheses ∷ []
 
--- a name that the table of keys has
+-- the key of an own section's list
+abbrev pub IsOwnList : SettingKey → Type 0
+IsOwnList k = (name : List ℕ) × (k ≡ key.OwnList name)
+
+-- a name that is a key whatever own sections there are
 unfoldable pub is_known : List ℕ → Bool
-is_known name = bytes_eq (name_of key.Profile) name || list_any (λ k. bytes_eq (name_of k) name) keys_in_order
+is_known name =
+    bytes_eq (name_of key.Profile) name || bytes_eq (name_of key.Sections) name || list_any (λ k. bytes_eq (name_of k) name) keys_in_order
 
 -- each text is below those after it, byte by byte
 abbrev pub Ascends : List (List ℕ) → Type 0

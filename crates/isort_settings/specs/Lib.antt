@@ -1,9 +1,14 @@
 pub mod StandardLibrary
+pub mod Holds
+pub mod OwnLists
 pub mod Limits
 pub mod Modules
+pub mod FiveSections
 pub mod Keys
+pub mod SectionNames
 pub mod Values
 pub mod Reading
+pub mod TableSections
 pub mod Pyproject
 pub mod Sections
 pub mod Orders

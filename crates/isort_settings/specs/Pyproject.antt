@@ -1,7 +1,8 @@
 -- The settings that the text of a `pyproject.toml` stands for, with a profile handed in, or its first refusal.
-use Rattle.std.specs.Prelude.{codes, ℕ, not, if◌then◌else◌, List, [], ◌∷◌, filter, filter_map, slice_get, Option, Some, None, unwrap_or, ok_or, Result, Ok, Err}
+use Rattle.std.specs.Prelude.{codes, ℕ, Bool, not, ◌||◌, if◌then◌else◌, List, [], ◌∷◌, ◌++◌, map, filter, filter_map, Option, Some, None, option_map, unwrap_or, ok_or, Result, Ok, Err, bytes_eq}
+use Rattle.std.specs.List.{list_any}
 use Rattle.std.specs.Option.{option_map_or}
-use Rattle.std.specs.Result.{result_err, result_unwrap_or, result_map_both}
+use Rattle.std.specs.Result.{result_unwrap_or, result_map_both}
 use Rattle.std.specs.Str.{is_utf8}
 use Rattle.toml.specs.Data.{Data, string, Members, no_members, member, get_member, as_table}
 use Rattle.toml.specs.Parse.{parse_document}
@@ -13,6 +14,8 @@ use Rattle.isort_settings.specs.declared.profile.Profile.{Profile}
 use Rattle.isort_settings.specs.declared.profile.Profile.TheVariants.{Black}
 use Rattle.isort_settings.specs.Keys.{Meaning, row_of, name_of, keys_in_order, is_known}
 use Rattle.isort_settings.specs.Reading.{profile_named, read_value}
+use Rattle.isort_settings.specs.SectionNames.{list_key}
+use Rattle.isort_settings.specs.TableSections.{sections_in, own_names_in, own_list, Refused, refused_by, first_of, sections_refused}
 use Rattle.isort_settings.specs.Values.{Values, values_from}
 
 -- what follows from an answer that is no refusal
@@ -50,13 +53,17 @@ abbrev pub profile_of : Option Profile → Members → Result (Option Profile) S
 profile_of (Some p) ms = Ok (Some p)
 profile_of None ms = profile_value (get_member (name_of key.Profile) ms)
 
--- how the table's value of a key is refused, if it has one that is
-abbrev pub refusal_at : Members → SettingKey → Option SettingsError
-refusal_at ms k = option_map_or (λ d. result_err (read_value (row_of k).kind k d)) (get_member (name_of k) ms) None
+-- whether the table's value of a key is refused
+abbrev pub refused_at : Members → SettingKey → Option Refused
+refused_at ms k = option_map_or (λ d. refused_by k (read_value (own_names_in ms) (row_of k).kind k d)) (get_member (name_of k) ms) None
+
+-- all keys that are refused: those that are read one by one, `sections`, and the lists of own sections
+abbrev pub all_refused : Members → List Refused
+all_refused ms = filter_map (refused_at ms) keys_in_order ++ sections_refused ms
 
 -- the first refusal by the byte order of the keys
 abbrev pub first_refusal : Members → Option SettingsError
-first_refusal ms = slice_get (filter_map (refusal_at ms) keys_in_order) 0
+first_refusal ms = option_map (λ r. r.why) (first_of (all_refused ms))
 
 -- a key's value where the table says nothing
 abbrev pub base_value : Option Profile → (k : SettingKey) → Meaning (row_of k).kind
@@ -65,20 +72,33 @@ base_value (Some Black) k = (row_of k).black
 
 -- a key's value: what the table says, or else the base
 abbrev pub value_at : Members → (k : SettingKey) → Meaning (row_of k).kind → Meaning (row_of k).kind
-value_at ms k base = option_map_or (λ d. result_unwrap_or (read_value (row_of k).kind k d) base) (get_member (name_of k) ms) base
+value_at ms k base =
+    option_map_or (λ d. result_unwrap_or (read_value (own_names_in ms) (row_of k).kind k d) base) (get_member (name_of k) ms) base
 
 -- the names of the members, in the table's order, which is that of their bytes
 abbrev pub names_of : Members → List (List ℕ)
 names_of no_members = []
 names_of (member name d ms) = name ∷ names_of ms
 
+-- a name that is a key where these are the keys of the own sections' lists
+unfoldable pub is_key : List (List ℕ) → List ℕ → Bool
+is_key own_keys name = is_known name || list_any (λ k. bytes_eq k name) own_keys
+
 -- the names of the table that are no key
 abbrev pub unknown_names : Members → List (List ℕ)
-unknown_names ms = filter (λ name. not (is_known name)) (names_of ms)
+unknown_names ms = filter (λ name. not (is_key (map list_key (own_names_in ms)) name)) (names_of ms)
+
+-- the values with the sections of a table, and with its list for each own one
+abbrev pub with_sections : Members → Values → Values
+with_sections ms v = record v {
+  sections = (sections_in ms).order;
+  own_names = own_names_in ms;
+  own_lists = map (λ name. result_unwrap_or (own_list ms name) []) (own_names_in ms);
+}
 
 -- the values of a table under a profile
 unfoldable pub values_in : Members → Option Profile → Values
-values_in ms profile = values_from (λ k. value_at ms k (base_value profile k))
+values_in ms profile = with_sections ms (values_from (λ k. value_at ms k (base_value profile k)))
 
 -- the settings that a table stands for under a profile, and the unknown names; or the first refusal
 abbrev pub settings_in : Members → Option Profile → Result (Values × List (List ℕ)) SettingsError

@@ -1,5 +1,5 @@
 -- What a TOML value says for a key of each kind, or how it is refused.
-use Rattle.std.specs.Prelude.{codes, ℕ, ℤ, pos, negsuc, Bool, ◌&&◌, ◌||◌, ◌==◌, nat_le, int_le, if◌then◌else◌, List, [], ◌∷◌, Option, Some, None, option_map, option_and_then, ok_or, Result, Ok, Err, find, bytes_eq}
+use Rattle.std.specs.Prelude.{codes, ℕ, ℤ, pos, negsuc, Bool, ◌&&◌, ◌||◌, ◌==◌, nat_le, int_le, if◌then◌else◌, List, [], ◌∷◌, Option, Some, None, option_map, option_and_then, ok_or, Result, Ok, Err, bytes_eq}
 use Rattle.std.specs.List.{list_any}
 use Rattle.std.specs.Option.{option_map_or}
 use Rattle.std.specs.Str.{byte}
@@ -9,21 +9,8 @@ use Rattle.isort_settings.specs.declared.error.SettingsError.TheVariants.{BadVal
 use Rattle.isort_settings.specs.declared.key.SettingKey.{SettingKey}
 use Rattle.isort_settings.specs.declared.profile.Profile.{Profile}
 use Rattle.isort_settings.specs.declared.profile.Profile.TheVariants.{Black}
-use Rattle.isort_settings.specs.declared.section.Section.{Section}
-use Rattle.isort_settings.specs.declared.section.Section.TheVariants.{Future, Stdlib, ThirdParty, FirstParty, LocalFolder}
+use Rattle.isort_settings.specs.SectionNames.{section_named}
 use Rattle.isort_settings.specs.Keys.{Kind, count, whole, wrap_mode, flag, section, texts, no_field, Meaning}
-
--- how the settings spell a section
-abbrev pub section_spelling : Section → List ℕ
-section_spelling Future = codes "FUTURE"
-section_spelling Stdlib = codes "STDLIB"
-section_spelling ThirdParty = codes "THIRDPARTY"
-section_spelling FirstParty = codes "FIRSTPARTY"
-section_spelling LocalFolder = codes "LOCALFOLDER"
-
--- the section that a text spells
-abbrev pub section_spelled : List ℕ → Option Section
-section_spelled text = find (λ s. bytes_eq (section_spelling s) text) (Future ∷ Stdlib ∷ ThirdParty ∷ FirstParty ∷ LocalFolder ∷ [])
 
 -- the profile that a text names
 abbrev pub profile_named : List ℕ → Result Profile SettingsError
@@ -50,13 +37,13 @@ count_within low high (negsuc n) = None
 abbrev pub whole_within : ℤ → ℤ → ℤ → Option ℤ
 whole_within low high z = if int_le low z && int_le z high then Some z else None
 
--- what a TOML value says for a key of this kind, or its refusal: a whole number that is no wrap mode is refused as
+-- what a TOML value says for a key of this kind, with these own sections, or its refusal: a whole number that is no wrap mode is refused as
 -- one, and every other value of another kind or out of range as a bad value for the key
-abbrev pub read_value : (kind : Kind) → SettingKey → Data → Result (Meaning kind) SettingsError
-read_value (count low high) k d = ok_or (option_and_then (count_within low high) (as_integer d)) (BadValue k)
-read_value (whole low high) k d = ok_or (option_and_then (whole_within low high) (as_integer d)) (BadValue k)
-read_value wrap_mode k d = option_map_or (λ z. ok_or (count_within 0 3 z) UnsupportedMode) (as_integer d) (Err (BadValue k))
-read_value flag k d = ok_or (as_bool d) (BadValue k)
-read_value section k d = ok_or (option_and_then section_spelled (as_str d)) (BadValue k)
-read_value texts k d = ok_or (option_and_then entries_of (as_array d)) (BadValue k)
-read_value no_field k d = Ok tt
+abbrev pub read_value : List (List ℕ) → (kind : Kind) → SettingKey → Data → Result (Meaning kind) SettingsError
+read_value own (count low high) k d = ok_or (option_and_then (count_within low high) (as_integer d)) (BadValue k)
+read_value own (whole low high) k d = ok_or (option_and_then (whole_within low high) (as_integer d)) (BadValue k)
+read_value own wrap_mode k d = option_map_or (λ z. ok_or (count_within 0 3 z) UnsupportedMode) (as_integer d) (Err (BadValue k))
+read_value own flag k d = ok_or (as_bool d) (BadValue k)
+read_value own section k d = ok_or (option_and_then (section_named own) (as_str d)) (BadValue k)
+read_value own texts k d = ok_or (option_and_then entries_of (as_array d)) (BadValue k)
+read_value own no_field k d = Ok tt

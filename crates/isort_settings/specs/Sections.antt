@@ -1,26 +1,33 @@
 -- The section of a module: the first pair of a dotted prefix, longest first, and a list that holds it.
 pub mod OnePrefix
-use Rattle.std.specs.Prelude.{ℕ, ◌==◌, Bool, if◌then◌else◌, List, [], ◌∷◌, ◌++◌, map, filter, length, take, slice_index, Option, option_map, find, flat_map, bytes_eq, zero, suc}
-use Rattle.std.specs.List.{list_any}
+use Rattle.std.specs.Prelude.{ℕ, ◌==◌, Bool, if◌then◌else◌, List, [], ◌∷◌, ◌++◌, map, filter, length, take, slice_index, Option, option_map, find, flat_map, zero, suc}
+use Rattle.std.specs.List.{enumerate_from, position_or_len}
 use Rattle.std.specs.Option.{option_map_or}
 use Rattle.std.specs.Str.{byte}
 use Rattle.isort_settings.specs.declared.section.Section.{Section}
-use Rattle.isort_settings.specs.declared.section.Section.TheVariants.{Future, Stdlib, ThirdParty, FirstParty, LocalFolder}
+use Rattle.isort_settings.specs.declared.section.Section.TheVariants.{Future, Stdlib, ThirdParty, FirstParty, LocalFolder, Own}
+use Rattle.isort_settings.specs.FiveSections.{same_section}
+pub use Rattle.isort_settings.specs.Holds.{holds}
 use Rattle.isort_settings.specs.Values.{Values}
 
--- the place of a section: sections are printed in this order
-abbrev pub section_place : Section → ℕ
-section_place Future = 0
-section_place Stdlib = 1
-section_place ThirdParty = 2
-section_place FirstParty = 3
-section_place LocalFolder = 4
+-- the place of a section among those of the settings, in the order in which they are printed, or how many there are where
+-- it isn't one of them
+abbrev pub section_rank : Values → Section → ℕ
+section_rank v section = position_or_len (λ s. same_section s section) v.sections
 
--- the sections with their lists, in the order in which they are looked up
-abbrev pub lists_of : Values → List (Section × List (List ℕ))
-lists_of v =
+-- the own sections with their lists, in their order
+abbrev pub own_lists_of : Values → List (Section × List (List ℕ))
+own_lists_of v = map (λ l. (Own l.0, l.1)) (enumerate_from 0 v.own_lists)
+
+-- the five with their lists, in the order in which they are looked up
+abbrev pub five_lists_of : Values → List (Section × List (List ℕ))
+five_lists_of v =
     (LocalFolder, v.known_local_folder) ∷ (FirstParty, v.known_first_party) ∷ (ThirdParty, v.known_third_party)
     ∷ (Stdlib, v.known_standard_library ++ v.extra_standard_library) ∷ (Future, v.known_future_library) ∷ []
+
+-- the sections with their lists, in the order in which they are looked up: the own ones first
+abbrev pub lists_of : Values → List (Section × List (List ℕ))
+lists_of v = own_lists_of v ++ five_lists_of v
 
 -- the numbers below n, the largest first
 abbrev pub below : ℕ → List ℕ
@@ -30,10 +37,6 @@ below (suc n) = n ∷ below n
 -- the dotted prefixes of a module: all of it, and what stands before each dot, longest first
 abbrev pub dotted_prefixes : List ℕ → List (List ℕ)
 dotted_prefixes name = name ∷ map (λ i. take i name) (filter (λ i. slice_index name i == byte ".") (below (length name)))
-
--- the list holds the text
-abbrev pub holds : List (List ℕ) → List ℕ → Bool
-holds texts text = list_any (λ t. bytes_eq t text) texts
 
 -- each prefix with each list, prefix by prefix
 abbrev pub pairs_of : Values → List ℕ → List (List ℕ × (Section × List (List ℕ)))

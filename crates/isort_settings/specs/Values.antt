@@ -1,14 +1,16 @@
 -- The values of settings, one for each key that a field keeps.
 pub mod OneKey
-use Rattle.std.specs.Prelude.{ℕ, ℤ, Bool, List}
+use Rattle.std.specs.Prelude.{ℕ, ℤ, Bool, List, [], map, string_bytes}
 use Rattle.isort_settings.specs.declared.key.SettingKey.{SettingKey}
 use Rattle.isort_settings.specs.declared.key.SettingKey.TheVariants as key
 use Rattle.isort_settings.specs.declared.section.Section.{Section}
 use Rattle.isort_settings.specs.declared.settings.Settings.{Settings}
 use Rattle.isort_settings.specs.Keys.{Meaning, row_of}
 use Rattle.isort_settings.specs.Modules.{texts_of}
+use Rattle.isort_settings.specs.FiveSections.{usual_order, order_of}
 
--- what settings say: a value for each key, the lists as lists of bytes
+-- what settings say: a value for each key, the lists as lists of bytes; and the sections in the order in which they are
+-- printed, the names of the own ones, and the list of each
 pub record Values : Type 0 where
   pub line_length : ℕ
   pub multi_line_output : ℕ
@@ -31,6 +33,9 @@ pub record Values : Type 0 where
   pub known_first_party : List (List ℕ)
   pub known_local_folder : List (List ℕ)
   pub known_future_library : List (List ℕ)
+  pub sections : List Section
+  pub own_names : List (List ℕ)
+  pub own_lists : List (List (List ℕ))
 
 -- the values of some settings
 abbrev pub values : Settings → Values
@@ -56,9 +61,12 @@ values s = record {
   known_first_party = texts_of s.known_first_party;
   known_local_folder = texts_of s.known_local_folder;
   known_future_library = texts_of s.known_future_library;
+  sections = order_of s.sections;
+  own_names = map string_bytes s.own_names.items;
+  own_lists = s.own_lists;
 }
 
--- the values that a rule gives to the keys
+-- the values that a rule gives to the keys, with the five sections alone
 abbrev pub values_from : ((k : SettingKey) → Meaning (row_of k).kind) → Values
 values_from value = record {
   line_length = value key.LineLength;
@@ -82,6 +90,9 @@ values_from value = record {
   known_first_party = value key.KnownFirstParty;
   known_local_folder = value key.KnownLocalFolder;
   known_future_library = value key.KnownFutureLibrary;
+  sections = usual_order;
+  own_names = [];
+  own_lists = [];
 }
 
 -- each key's default, and each key's value under the profile `black`

@@ -1,9 +1,14 @@
 //! The keys of the settings table.
-ghost use Rattle.std.specs.Prelude.{◌≡◌, bytes_eq};
+ghost use Rattle.std.specs.Prelude.{◌≡◌, ◌||◌, bytes_eq};
+ghost use Rattle.std.specs.Cmp.Lexicographic.{slice_cmp};
+ghost use Rattle.std.specs.Ordering.{is_lt, nat_cmp};
 ghost use Rattle.isort_settings.specs.Keys.{name_of, keys_in_order, is_known};
 
+use crate::own_key::OwnKey;
+use std::cmp::Ordering;
+
 /// A key of the table `[tool.isort]`, or one of the two tables around it.
-#[derive(Clone, Copy, Debug, PartialEq, Eq)]
+#[derive(Debug, Drop, PartialEq, Eq)]
 pub enum SettingKey {
     Tool,
     ToolIsort,
@@ -29,32 +34,10 @@ pub enum SettingKey {
     MultiLineOutput,
     OrderByType,
     UseParentheses,
+    Sections,
+    /// The list of an own section.
+    OwnList(OwnKey),
 }
-
-/// The keys that a field of the settings keeps, by the bytes of their names.
-const IN_ORDER: [SettingKey; 21] = [
-    SettingKey::CaseSensitive,
-    SettingKey::CombineAsImports,
-    SettingKey::DefaultSection,
-    SettingKey::EnsureNewlineBeforeComments,
-    SettingKey::ExtraStandardLibrary,
-    SettingKey::ForceGridWrap,
-    SettingKey::ForceSingleLine,
-    SettingKey::ForceSortWithinSections,
-    SettingKey::IncludeTrailingComma,
-    SettingKey::KnownFirstParty,
-    SettingKey::KnownFutureLibrary,
-    SettingKey::KnownLocalFolder,
-    SettingKey::KnownStandardLibrary,
-    SettingKey::KnownThirdParty,
-    SettingKey::LineLength,
-    SettingKey::LinesAfterImports,
-    SettingKey::LinesBetweenSections,
-    SettingKey::LinesBetweenTypes,
-    SettingKey::MultiLineOutput,
-    SettingKey::OrderByType,
-    SettingKey::UseParentheses,
-];
 
 impl SettingKey {
     /// The key as the table spells it; `tool` and `tool.isort` for the tables.
@@ -86,6 +69,8 @@ impl SettingKey {
             SettingKey::MultiLineOutput => "multi_line_output",
             SettingKey::OrderByType => "order_by_type",
             SettingKey::UseParentheses => "use_parentheses",
+            SettingKey::Sections => "sections",
+            SettingKey::OwnList(key) => key.as_str(),
         }
     }
 
@@ -96,18 +81,54 @@ impl SettingKey {
         self.name() == name
     }
 
-    /// The keys that a field of the settings keeps, by the bytes of their names.
-    pub(crate) fn in_order() -> &'static [SettingKey]
-        ensures { result.now ≡ keys_in_order }
+    /// The keys that are read one by one, by the bytes of their names.
+    pub(crate) fn in_order() -> [SettingKey; 21]
+        ensures { result ≡ keys_in_order }
     {
-        &IN_ORDER
+        [
+            SettingKey::CaseSensitive,
+            SettingKey::CombineAsImports,
+            SettingKey::DefaultSection,
+            SettingKey::EnsureNewlineBeforeComments,
+            SettingKey::ExtraStandardLibrary,
+            SettingKey::ForceGridWrap,
+            SettingKey::ForceSingleLine,
+            SettingKey::ForceSortWithinSections,
+            SettingKey::IncludeTrailingComma,
+            SettingKey::KnownFirstParty,
+            SettingKey::KnownFutureLibrary,
+            SettingKey::KnownLocalFolder,
+            SettingKey::KnownStandardLibrary,
+            SettingKey::KnownThirdParty,
+            SettingKey::LineLength,
+            SettingKey::LinesAfterImports,
+            SettingKey::LinesBetweenSections,
+            SettingKey::LinesBetweenTypes,
+            SettingKey::MultiLineOutput,
+            SettingKey::OrderByType,
+            SettingKey::UseParentheses,
+        ]
     }
 
-    /// Whether a key is spelled so.
+    /// Whether the key's name comes before another's by its bytes.
+    pub(crate) fn comes_before(&self, other: &SettingKey) -> bool
+        ensures { result ≡ is_lt (slice_cmp nat_cmp (name_of self.now) (name_of other.now)) }
+    {
+        self.name().as_bytes().cmp(other.name().as_bytes()) == Ordering::Less
+    }
+
+    /// Whether a key is spelled so that isn't read with the others: `profile` or `sections`.
+    fn is_read_apart(name: &str) -> bool
+        ensures { result ≡ (bytes_eq (name_of SettingKey.Profile) name.now || bytes_eq (name_of SettingKey.Sections) name.now) }
+    {
+        SettingKey::Profile.is_spelled(name) || SettingKey::Sections.is_spelled(name)
+    }
+
+    /// Whether a key is spelled so whatever own sections there are.
     pub(crate) fn is_known(name: &str) -> bool
         ensures { result ≡ is_known name.now }
     {
-        SettingKey::Profile.is_spelled(name)
+        SettingKey::is_read_apart(name)
             || SettingKey::in_order()
                 .iter()
                 .any(|key| key.is_spelled(name))

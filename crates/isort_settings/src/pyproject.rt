@@ -1,12 +1,15 @@
 //! Reading a `pyproject.toml` down to the table `[tool.isort]`.
-ghost use Rattle.std.specs.Prelude.{◌≡◌, ◌≢◌, IfOk, IfErr, Ok, Err, map, option_map, string_bytes, unwrap_or};
+ghost use Rattle.std.specs.Prelude.{◌≡◌, ◌≢◌, IfOk, IfErr, Ok, Err, bytes_eq, filter, map, not, option_map, string_bytes, unwrap_or};
+ghost use Rattle.std.specs.List.{list_any};
 ghost use Rattle.toml.specs.Data.{get_member, no_members};
 ghost use Rattle.toml.specs.View.{view, table_view};
 ghost use Rattle.isort_settings.specs.Keys.{Ascends};
-ghost use Rattle.isort_settings.specs.Pyproject.{document_of, table_value, table_in, profile_of, unknown_names};
+ghost use Rattle.isort_settings.specs.Pyproject.{document_of, table_value, table_in, profile_of, names_of, is_key};
+ghost use Rattle.isort_settings.specs.SectionNames.{list_key};
 
 use crate::error::SettingsError;
 use crate::key::SettingKey;
+use crate::own_key::OwnKey;
 use crate::profile::Profile;
 use std::alloc::{AllocError, Global};
 use toml::{Table, Value};
@@ -81,16 +84,56 @@ pub fn chosen_profile(
     Ok(Some(Profile::read(name)?))
 }
 
-/// The names in the table that are no key.
-pub fn unknown_keys(alloc: Global, table: &Table) -> Result<Vec<String>, AllocError>
-    ensures names { IfOk result (λ v. map string_bytes v.items ≡ unknown_names (table_view table.now)) }
+/// The keys of the lists of own sections.
+fn own_keys(alloc: Global, own_names: &[String]) -> Result<Vec<OwnKey>, AllocError>
+    ensures { IfOk result (λ keys. keys.items ≡ map list_key (map string_bytes own_names.now)) }
+{
+    let mut keys = Vec::new(alloc);
+    for name in own_names {
+        keys.push(OwnKey::of_section(alloc, name.as_str())?)?;
+    }
+    Ok(keys)
+}
+
+/// Whether one of the keys is spelled so.
+fn has_key(own_keys: &[OwnKey], name: &str) -> bool
+    ensures { result ≡ list_any (λ key. bytes_eq key name.now) own_keys.now }
+{
+    own_keys.iter().any(|key| key.as_str() == name)
+}
+
+/// Whether the name is a key, where these are the keys of the lists of own sections.
+fn is_key(own_keys: &[OwnKey], name: &str) -> bool
+    ensures { result ≡ is_key own_keys.now name.now }
+{
+    SettingKey::is_known(name) || has_key(own_keys, name)
+}
+
+/// The names in the table that are no key, where these are the keys of the lists of own sections.
+fn other_names(alloc: Global, table: &Table, own_keys: &[OwnKey]) -> Result<Vec<String>, AllocError>
+    ensures names { IfOk result (λ v. map string_bytes v.items
+        ≡ filter (λ name. not (is_key own_keys.now name)) (names_of (table_view table.now))) }
     ensures ascend { IfOk result (λ v. Ascends (map string_bytes v.items)) }
 {
     let mut unknown = Vec::new(alloc);
     for name in table.keys() {
-        if !SettingKey::is_known(name.as_str()) {
+        if !is_key(own_keys, name.as_str()) {
             unknown.push(name.clone()?)?;
         }
     }
     Ok(unknown)
+}
+
+/// The names in the table that are no key, where these are the names of the own sections.
+pub fn unknown_keys(
+    alloc: Global,
+    table: &Table,
+    own_names: &[String],
+) -> Result<Vec<String>, AllocError>
+    ensures names { IfOk result (λ v. map string_bytes v.items
+        ≡ filter (λ name. not (is_key (map list_key (map string_bytes own_names.now)) name)) (names_of (table_view table.now))) }
+    ensures ascend { IfOk result (λ v. Ascends (map string_bytes v.items)) }
+{
+    let own_keys = own_keys(alloc, own_names)?;
+    other_names(alloc, table, own_keys.as_slice())
 }

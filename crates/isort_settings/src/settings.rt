@@ -1,6 +1,10 @@
 //! The settings, one field for each key.
-ghost use Rattle.std.specs.Prelude.{◌≡◌, ◌==◌, Ok, Err, MatchResult, slice_index};
+ghost use Rattle.std.specs.Prelude.{◌≡◌, ◌≤◌, ◌==◌, false, Ok, Err, MatchResult, length, slice_index};
+ghost use Rattle.std.specs.Cmp.Lexicographic.{slice_cmp};
+ghost use Rattle.std.specs.Option.{option_map_or};
+ghost use Rattle.std.specs.Ordering.{is_lt, nat_cmp};
 ghost use Rattle.std.specs.Str.{byte};
+ghost use Rattle.isort_settings.specs.Keys.{name_of};
 ghost use Rattle.isort_settings.specs.Limits.{IsWithin, IsWithinSigned};
 ghost use Rattle.isort_settings.specs.declared.limits.TheConstants.{LINE_LENGTH, MODES, GRID_WRAP, SECTION_GAP, TYPE_GAP, END_GAP};
 
@@ -9,9 +13,12 @@ use crate::key::SettingKey as Key;
 use crate::limits::{END_GAP, GRID_WRAP, LINE_LENGTH, MODES, SECTION_GAP, TYPE_GAP};
 use crate::modules::Modules;
 use crate::order::{class_cmp, natural_cmp, split_dots};
+use crate::own_lists::OwnLists;
 use crate::profile::Profile;
 use crate::pyproject;
 use crate::section::Section;
+use crate::section_order::SectionOrder;
+use crate::table_sections::TableSections;
 use crate::value::KeyValue;
 use std::alloc::Global;
 use std::cmp::Ordering;
@@ -62,22 +69,33 @@ pub struct Settings {
     pub known_local_folder: Modules,
     /// The modules of the section `FUTURE`.
     pub known_future_library: Modules,
+    /// All sections in the order in which they are printed.
+    pub sections: SectionOrder,
+    /// The names of the own sections, as `sections` spells them.
+    pub own_names: Vec<String>,
+    /// The modules of each own section.
+    pub own_lists: OwnLists,
     pub ghost line_length_in_range: { IsWithin LINE_LENGTH line_length },
     pub ghost mode_in_range: { IsWithin MODES multi_line_output },
     pub ghost grid_wrap_in_range: { IsWithin GRID_WRAP force_grid_wrap },
     pub ghost section_gap_in_range: { IsWithin SECTION_GAP lines_between_sections },
     pub ghost type_gap_in_range: { IsWithin TYPE_GAP lines_between_types },
     pub ghost end_gap_in_range: { IsWithinSigned END_GAP lines_after_imports },
+    pub ghost few_own_sections: { length own_names.items ≤ 64 },
+    pub ghost list_for_each_own: { length own_lists ≡ length own_names.items },
 }
 
 impl Settings {
-    ghost use Rattle.std.specs.Prelude.{◌≡◌, ◌≢◌, ◌≤◌, ◌↔◌, IsOk, IfOk, IfErr, IsOkAnd, OnOk, OnErr, IsOkUnless, Ok, Err, Some, None, map, string_bytes};
+    ghost use Rattle.std.specs.Prelude.{◌≡◌, ◌≢◌, ◌≤◌, ◌↔◌, IsOk, IfOk, IfErr, IsOkAnd, OnOk, OnErr, IsOkUnless, Ok, Err, Some, None, map, Option, option_map, string_bytes};
     ghost use Rattle.toml.specs.View.{view, table_view};
     ghost use Rattle.isort_settings.specs.Keys.{row_of, Ascends};
+    ghost use Rattle.isort_settings.specs.declared.profile.Profile.{Profile};
     ghost use Rattle.isort_settings.specs.Orders.{module_cmp, name_cmp};
-    ghost use Rattle.isort_settings.specs.Pyproject.{settings_of, base_value, first_refusal, values_in};
+    ghost use Rattle.isort_settings.specs.Pyproject.{settings_of, base_value, first_refusal, values_in, with_sections};
+    ghost use Rattle.isort_settings.specs.TableSections.{own_names_in, first_of, sections_refused};
+    ghost use Rattle.isort_settings.specs.TableSections.Steps.{bad_key};
     ghost use Rattle.isort_settings.specs.Reading.{read_value};
-    ghost use Rattle.isort_settings.specs.Sections.{lists_of, section_in};
+    ghost use Rattle.isort_settings.specs.Sections.{five_lists_of, lists_of, section_in, section_rank};
     ghost use Rattle.isort_settings.specs.Sections.OnePrefix.{section_holding};
     ghost use Rattle.isort_settings.specs.Values.{values, values_from, plain_values, black_values};
     ghost use Rattle.isort_settings.specs.Values.OneKey.{with_value};
@@ -110,6 +128,9 @@ impl Settings {
             known_first_party: Modules::Listed(Vec::new(alloc)),
             known_local_folder: Modules::Listed(Vec::new(alloc)),
             known_future_library: Modules::Future,
+            sections: SectionOrder::Usual,
+            own_names: Vec::new(alloc),
+            own_lists: OwnLists::none(alloc),
         })
     }
 
@@ -149,8 +170,8 @@ impl Settings {
             return Ok((Settings::of_profile(alloc, profile)?, Vec::new(alloc)));
         };
         let profile = pyproject::chosen_profile(profile, table)?;
-        let unknown = pyproject::unknown_keys(alloc, table)?;
         let settings = Settings::from_table(alloc, table, profile)?;
+        let unknown = pyproject::unknown_keys(alloc, table, settings.own_names.as_slice())?;
         Ok((settings, unknown))
     }
 
@@ -177,27 +198,62 @@ impl Settings {
             → first_refusal (table_view table.now) ≡ Some e) }
     {
         let mut settings = Settings::of_profile(alloc, profile)?;
-        let keys = Key::in_order();
-        for key in keys {
+        let TableSections {
+            listed,
+            own_lists,
+            refused,
+        } = TableSections::read(alloc, table)?;
+        settings.sections = listed.order;
+        settings.own_names = listed.own_names;
+        settings.own_lists = own_lists;
+        settings.take_values(alloc, table, &refused)?;
+        match refused {
+            Some(key) => Err(SettingsError::BadValue(key)),
+            None => Ok(settings),
+        }
+    }
+
+    /// Takes the values of the keys that are read one by one, except those after a key that is refused.
+    fn take_values(
+        &mut self,
+        alloc: Global,
+        table: &Table,
+        refused: &Option<Key>,
+    ) -> Result<(), SettingsError>
+        requires own_names { (values self.old).own_names ≡ own_names_in (table_view table.now) }
+        requires refused { option_map bad_key refused.now ≡ first_of (sections_refused (table_view table.now)) }
+        ensures first { OnOk result (first_refusal (table_view table.now) ≡ option_map (λ k. SettingsError.BadValue k) refused.now) }
+        ensures filled { OnOk result (refused.now ≡ None → (profile : Option Profile)
+            → values self.old ≡ with_sections (table_view table.now) (values_from (base_value profile))
+            → values self.new ≡ values_in (table_view table.now) profile) }
+        ensures refused { IfErr result (λ e. e ≢ SettingsError.Memory → first_refusal (table_view table.now) ≡ Some e) }
+    {
+        for key in Key::in_order() {
+            if is_after(&key, refused) {
+                return Ok(());
+            }
             if let Some(value) = pyproject::member(table, key.name()) {
-                settings.take_value(alloc, *key, value)?;
+                self.take_value(alloc, key, value)?;
             }
         }
-        Ok(settings)
+        Ok(())
     }
 
     /// Takes a key's value from the table.
     fn take_value(&mut self, alloc: Global, key: Key, value: &Value) -> Result<(), SettingsError>
-        ensures ok { OnOk result (IsOkAnd (read_value (row_of key).kind key (view value.now))
+        ensures ok { OnOk result (IsOkAnd (read_value (values self.old).own_names (row_of key).kind key (view value.now))
             (λ x. values self.new ≡ with_value key x (values self.old))) }
         ensures refused { IfErr result (λ e. e ≢ SettingsError.Memory
-            → read_value (row_of key).kind key (view value.now) ≡ Err e) }
+            → read_value (values self.old).own_names (row_of key).kind key (view value.now) ≡ Err e) }
     {
         let read = KeyValue { key, value };
-        match key {
+        match read.key {
             Key::CaseSensitive => put(&mut self.case_sensitive, read.flag()),
             Key::CombineAsImports => put(&mut self.combine_as_imports, read.flag()),
-            Key::DefaultSection => put(&mut self.default_section, read.section()),
+            Key::DefaultSection => put(
+                &mut self.default_section,
+                read.section(self.own_names.as_slice()),
+            ),
             Key::EnsureNewlineBeforeComments => put(
                 &mut self.ensure_newline_before_comments,
                 read.flag(),
@@ -222,7 +278,7 @@ impl Settings {
             Key::MultiLineOutput => put(&mut self.multi_line_output, read.mode()),
             Key::OrderByType => put(&mut self.order_by_type, read.flag()),
             Key::UseParentheses => put(&mut self.use_parentheses, read.flag()),
-            Key::Tool | Key::ToolIsort | Key::Profile => Ok(()),
+            Key::Tool | Key::ToolIsort | Key::Profile | Key::Sections | Key::OwnList(_) => Ok(()),
         }
     }
 
@@ -255,8 +311,8 @@ impl Settings {
     }
 
     /// The section of a module: `LocalFolder` after a leading dot; else the longest dotted prefix that a list holds
-    /// decides, and among lists that hold it the first of local folder, first party, third party, standard library,
-    /// future; else the default section.
+    /// decides, and among lists that hold it the first of those of the own sections, in their order, and then of local
+    /// folder, first party, third party, standard library, future; else the default section.
     pub fn section_of(&self, module: &str) -> Section
         ensures { result ≡ section_in (values self.now) «module».now }
     {
@@ -264,12 +320,12 @@ impl Settings {
         if is_relative(name) {
             return Section::LocalFolder;
         }
-        if let Some(section) = self.listed(name) {
+        if let Some(section) = self.listed(module) {
             return section;
         }
         for stop in (0..name.len()).rev() {
             if name[stop] == b'.' {
-                if let Some(section) = self.listed(&name[..stop]) {
+                if let Some(section) = self.listed(&module[..stop]) {
                     return section;
                 }
             }
@@ -311,9 +367,26 @@ impl Settings {
         }
     }
 
-    /// The section of the first list that holds the prefix.
-    fn listed(&self, prefix: &[u8]) -> Option<Section>
+    /// The place of a section among `sections`, or how many there are where it isn't among them.
+    pub fn section_rank(&self, section: Section) -> usize
+        ensures { result ≡ section_rank (values self.now) section }
+    {
+        self.sections.rank(section)
+    }
+
+    /// The section of the first list that holds the prefix: those of the own sections come first.
+    fn listed(&self, prefix: &str) -> Option<Section>
         ensures { result ≡ section_holding (lists_of (values self.now)) prefix.now }
+    {
+        match self.own_lists.holder(prefix) {
+            Some(place) => Some(Section::Own(place)),
+            None => self.listed_in_five(prefix.as_bytes()),
+        }
+    }
+
+    /// The section of the first list among those of the five that holds the prefix.
+    fn listed_in_five(&self, prefix: &[u8]) -> Option<Section>
+        ensures { result ≡ section_holding (five_lists_of (values self.now)) prefix.now }
     {
         if self.known_local_folder.holds(prefix) {
             Some(Section::LocalFolder)
@@ -330,6 +403,16 @@ impl Settings {
         } else {
             None
         }
+    }
+}
+
+/// Whether the key comes after one that is refused.
+fn is_after(key: &Key, refused: &Option<Key>) -> bool
+    ensures { result ≡ option_map_or (λ k. is_lt (slice_cmp nat_cmp (name_of k) (name_of key.now))) refused.now false }
+{
+    match refused {
+        Some(refused) => refused.comes_before(key),
+        None => false,
     }
 }
 

@@ -1,17 +1,19 @@
 //! A reader for each kind of value that a key may have.
-ghost use Rattle.std.specs.Prelude.{◌≡◌, ◌≢◌, IfOk, IfErr, Ok, Err, option_copied};
+ghost use Rattle.std.specs.Prelude.{◌≡◌, ◌≢◌, ◌≤◌, [], IfOk, IfErr, Ok, Err, length, map, option_and_then, option_copied, option_map, string_bytes};
 ghost use Rattle.std.specs.List.{list_any};
+ghost use Rattle.toml.specs.Data.{as_array};
 ghost use Rattle.toml.specs.View.{view};
 ghost use Rattle.isort_settings.specs.Keys.{count, whole, wrap_mode, flag, section, texts};
 ghost use Rattle.isort_settings.specs.Modules.{texts_of};
-ghost use Rattle.isort_settings.specs.Reading.{is_wildcard, entry_of, count_within, whole_within, read_value};
+ghost use Rattle.isort_settings.specs.Reading.{is_wildcard, entry_of, entries_of, count_within, whole_within, read_value};
 
 use crate::error::SettingsError;
 use crate::key::SettingKey;
 use crate::limits::{Limits, MODES};
 use crate::modules::Modules;
 use crate::section::Section;
-use std::alloc::Global;
+use crate::section_names::section_named;
+use std::alloc::{AllocError, Global};
 use toml::Value;
 
 /// The whole number, if it is within the limits.
@@ -59,7 +61,7 @@ impl KeyValue<'_> {
     /// A whole number within the limits.
     pub fn count(self, limits: Limits<u32>) -> Result<u32, SettingsError>
         ensures { result
-            ≡ read_value (count limits.least limits.most) self.entry.key (view self.entry.value.now) }
+            ≡ read_value [] (count limits.least limits.most) self.entry.key (view self.entry.value.now) }
     {
         self.value
             .as_integer()
@@ -70,7 +72,7 @@ impl KeyValue<'_> {
     /// A whole number of either sign within the limits.
     pub fn whole(self, limits: Limits<i32>) -> Result<i32, SettingsError>
         ensures { result
-            ≡ read_value (whole limits.least limits.most) self.entry.key (view self.entry.value.now) }
+            ≡ read_value [] (whole limits.least limits.most) self.entry.key (view self.entry.value.now) }
     {
         self.value
             .as_integer()
@@ -80,7 +82,7 @@ impl KeyValue<'_> {
 
     /// A wrap mode.
     pub fn mode(self) -> Result<u32, SettingsError>
-        ensures { result ≡ read_value wrap_mode self.entry.key (view self.entry.value.now) }
+        ensures { result ≡ read_value [] wrap_mode self.entry.key (view self.entry.value.now) }
     {
         match self.value.as_integer() {
             Some(n) => within(n, MODES).ok_or(SettingsError::UnsupportedMode),
@@ -90,40 +92,52 @@ impl KeyValue<'_> {
 
     /// `true` or `false`.
     pub fn flag(self) -> Result<bool, SettingsError>
-        ensures { result ≡ read_value flag self.entry.key (view self.entry.value.now) }
+        ensures { result ≡ read_value [] flag self.entry.key (view self.entry.value.now) }
     {
         self.value
             .as_bool()
             .ok_or(SettingsError::BadValue(self.key))
     }
 
-    /// A section by its name.
-    pub fn section(self) -> Result<Section, SettingsError>
-        ensures { result ≡ read_value section self.entry.key (view self.entry.value.now) }
+    /// A section by its name, where these are the names of the own ones.
+    pub fn section(self, own: &[String]) -> Result<Section, SettingsError>
+        requires { length own.now ≤ 256 }
+        ensures { result ≡ read_value (map string_bytes own.now) section self.entry.key (view self.entry.value.now) }
     {
-        self.value
-            .as_str()
-            .and_then(Section::spelled)
-            .ok_or(SettingsError::BadValue(self.key))
+        match self.value.as_str() {
+            Some(text) => section_named(own, text).ok_or(SettingsError::BadValue(self.key)),
+            None => Err(SettingsError::BadValue(self.key)),
+        }
     }
 
     /// A list of modules.
     pub fn modules(self, alloc: Global) -> Result<Modules, SettingsError>
-        ensures ok { IfOk result (λ m. read_value texts self.entry.key (view self.entry.value.now)
+        ensures ok { IfOk result (λ m. read_value [] texts self.entry.key (view self.entry.value.now)
             ≡ Ok (texts_of m)) }
         ensures err { IfErr result (λ e. e ≢ SettingsError.Memory
-            → read_value texts self.entry.key (view self.entry.value.now) ≡ Err e) }
+            → read_value [] texts self.entry.key (view self.entry.value.now) ≡ Err e) }
     {
-        let Some(items) = self.value.as_array() else {
-            return Err(SettingsError::BadValue(self.key));
-        };
-        let mut list = Vec::new(alloc);
-        for item in items {
-            let Some(text) = entry(item) else {
-                return Err(SettingsError::BadValue(self.key));
-            };
-            list.push(String::from_str(alloc, text)?)?;
+        match texts(alloc, self.value)? {
+            Some(texts) => Ok(Modules::Listed(texts)),
+            None => Err(SettingsError::BadValue(self.key)),
         }
-        Ok(Modules::Listed(list))
     }
+}
+
+/// The entries of a list of texts, if the value is one.
+pub fn texts(alloc: Global, value: &Value) -> Result<Option<Vec<String>>, AllocError>
+    ensures { IfOk result (λ list. option_map (λ l. map string_bytes l.items) list
+        ≡ option_and_then entries_of (as_array (view value.now))) }
+{
+    let Some(items) = value.as_array() else {
+        return Ok(None);
+    };
+    let mut list = Vec::new(alloc);
+    for item in items {
+        let Some(text) = entry(item) else {
+            return Ok(None);
+        };
+        list.push(String::from_str(alloc, text)?)?;
+    }
+    Ok(Some(list))
 }

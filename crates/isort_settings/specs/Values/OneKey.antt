@@ -30,3 +30,5 @@ with_value key.KnownFutureLibrary x v = record v { known_future_library = x }
 with_value key.Profile x v = v
 with_value key.Tool x v = v
 with_value key.ToolIsort x v = v
+with_value key.Sections x v = v
+with_value (key.OwnList name) x v = v

@@ -8,4 +8,4 @@ use Rattle.isort_settings.proofs.settings.Settings.section_of.Given as goal
 
 abbrev pub invariant-loop-stop : goal.invariant-loop-stop
 invariant-loop-stop l =
-    section_in (values l.self) l.«module» ≡ option_map_or (λ s. s) (section_of_cuts (lists_of (values l.self)) l.name l.stop) l.self.default_section
+    section_in (values l.self) l.«module» ≡ option_map_or (λ s. s) (section_of_cuts (lists_of (values l.self)) l.«module» l.stop) l.self.default_section

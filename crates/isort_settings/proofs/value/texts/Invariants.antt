@@ -2,7 +2,7 @@
 use Rattle.std.proofs.Common.{◌≡◌, ◌++◌, drop, map, string_bytes, option_map}
 use Rattle.toml.specs.View.{items_view}
 use Rattle.isort_settings.specs.Reading.{entries_of}
-use Rattle.isort_settings.proofs.value.KeyValue.modules.Given as goal
+use Rattle.isort_settings.proofs.value.texts.Given as goal
 
 abbrev pub invariant-loop-item : goal.invariant-loop-item
 invariant-loop-item l =

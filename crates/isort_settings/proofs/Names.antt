@@ -1,0 +1,66 @@
+-- The names that `sections` lists, one after another.
+use Rattle.std.proofs.Common.{◌≡◌, ◌↔◌, ℕ, ◌+◌, ◌<◌, Bool, true, false, not, ◌||◌, cond, IsTrue, List, [], ◌∷◌, ◌++◌, map, length, take, drop, get_or, Option, Some, None, bytes_eq, string_bytes, String, Global, refl, sym, ◌∙◌, ap}
+use Rattle.std.proofs.lemmas.Bool.{false_from_ne_true}
+use Rattle.std.proofs.lemmas.List.{length-map, map-append, take_more, drop_more}
+use Rattle.std.proofs.lemmas.List.Elements.{filter-append, filter_map-append}
+use Rattle.std.proofs.lemmas.Slice.Eq.{bytes_eq-Decides}
+use Rattle.std.specs.List.{list_any, filter, filter_map, cons_option, position, prefix_len}
+use Rattle.isort_settings.specs.declared.section.Section.{Section}
+
+-- an answer that says whether two texts are equal
+pub says_equal : (b : Bool) (xs ys : List ℕ) → IsTrue b ↔ (xs ≡ ys) → b ≡ bytes_eq xs ys
+says_equal true xs ys h = sym ((bytes_eq-Decides xs ys).1 (h.0 refl))
+says_equal false xs ys h = sym (false_from_ne_true _ (λ t. absurd_false (h.1 ((bytes_eq-Decides xs ys).0 t))))
+  where
+    absurd_false : false ≡ true → ⊥
+    absurd_false e = cc
+
+-- a test of the entries is that test of their bytes
+pub any-map : (p : List ℕ → Bool) (names : List (String Global)) → list_any (λ n. p (string_bytes n)) names ≡ list_any p (map string_bytes names)
+any-map p [] = refl
+any-map p (n ∷ ns) = ap (λ b. p (string_bytes n) || b) (any-map p ns)
+
+-- the bytes of a name more
+pub bytes_more : (names : List (String Global)) (i : ℕ) (name : String Global) → i < length names → name ≡ get_or names i name
+    → map string_bytes (take (i + 1) names) ≡ map string_bytes (take i names) ++ string_bytes name ∷ []
+bytes_more names i name within at =
+    ap (map string_bytes) (take_more names i name within ∙ ap (λ x. take i names ++ x ∷ []) (sym at)) ∙ map-append string_bytes (take i names) (name ∷ [])
+
+-- the bytes of the names that are left, at one of them
+pub bytes_left : (names : List (String Global)) (i : ℕ) (name : String Global) → i < length names → name ≡ get_or names i name
+    → map string_bytes (drop i names) ≡ string_bytes name ∷ map string_bytes (drop (i + 1) names)
+bytes_left names i name within at =
+    ap (map string_bytes) (drop_more names i name within ∙ ap (λ x. x ∷ drop (i + 1) names) (sym at))
+
+-- a filter of one text more
+pub filter_one : (p : List ℕ → Bool) (xs : List (List ℕ)) (x : List ℕ) (b : Bool) → p x ≡ b → filter p (xs ++ x ∷ []) ≡ filter p xs ++ cond b (x ∷ []) []
+filter_one p xs x b is = filter-append p xs (x ∷ []) ∙ ap (λ c. filter p xs ++ cond c (x ∷ []) []) is
+
+-- the place of a text is that among the bytes of the entries
+prefix-map : (p : List ℕ → Bool) (names : List (String Global)) → prefix_len p (map string_bytes names) ≡ prefix_len (λ n. p (string_bytes n)) names
+prefix-map p [] = refl
+prefix-map p (n ∷ ns) = ap (λ k. cond (p (string_bytes n)) (1 + k) 0) (prefix-map p ns)
+
+pub place-map : (p : List ℕ → Bool) (names : List (String Global)) → position (λ n. p (string_bytes n)) names ≡ position p (map string_bytes names)
+place-map p names = sym (rw (prefix-map (λ x. not (p x)) names, length-map names string_bytes) refl)
+
+-- a list with what an answer has
+abbrev pub with_answer : List Section → Option Section → List Section
+with_answer xs None = xs
+with_answer xs (Some s) = xs ++ s ∷ []
+
+no_more : (xs : List Section) → xs ++ [] ≡ xs
+no_more [] = refl
+no_more (x ∷ xs) = ap (λ ys. x ∷ ys) (no_more xs)
+
+answer_one : (h : List ℕ → Option Section) (xs : List (List ℕ)) (x : List ℕ) (found : Option Section) → h x ≡ found → filter_map h (xs ++ x ∷ []) ≡ with_answer (filter_map h xs) found
+answer_one h xs x None is = filter_map-append h xs (x ∷ []) ∙ ap (λ o. filter_map h xs ++ cons_option o []) is ∙ no_more (filter_map h xs)
+answer_one h xs x (Some s) is = filter_map-append h xs (x ∷ []) ∙ ap (λ o. filter_map h xs ++ cons_option o []) is
+
+-- the section of a name more
+pub sections_more : (h : List ℕ → Option Section) (names : List (String Global)) (i : ℕ) (name : String Global) (text : List ℕ) (found : Option Section) (order : List Section)
+    → i < length names → name ≡ get_or names i name → text ≡ string_bytes name → found ≡ h text → order ≡ filter_map h (map string_bytes (take i names))
+    → with_answer order found ≡ filter_map h (map string_bytes (take (i + 1) names))
+sections_more h names i name text found order within at same is so_far =
+    ap (λ xs. with_answer xs found) so_far
+    ∙ sym (ap (filter_map h) (bytes_more names i name within at) ∙ answer_one h (map string_bytes (take i names)) (string_bytes name) found (ap h (sym same) ∙ sym is))

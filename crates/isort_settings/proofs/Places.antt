@@ -1,0 +1,58 @@
+-- The place of the first element that passes a test, and the lists of own sections by their places.
+use Rattle.std.proofs.Common.{◌≡◌, ℕ, ◌+◌, suc, Bool, true, false, not, cond, List, [], ◌∷◌, ◌++◌, map, length, Option, Some, None, option_map, unwrap_or, refl, ◌∙◌, ap, arith, inl, inr}
+use Rattle.std.proofs.lemmas.Bool.{cases_lt, lt-ltb, le-ltb}
+use Rattle.std.proofs.lemmas.List.Folds.{find-append}
+use Rattle.std.proofs.lemmas.List.Sums.{prefix_len-le-length}
+use Rattle.std.specs.List.{find, position, position_from, position_or_len, enumerate_from}
+use Rattle.std.specs.Option.{option_or}
+use Rattle.isort_settings.specs.declared.section.Section.{Section}
+use Rattle.isort_settings.specs.declared.section.Section.TheVariants.{Own}
+use Rattle.isort_settings.specs.Holds.{holds}
+use Rattle.isort_settings.specs.Sections.{lists_of, own_lists_of, five_lists_of}
+use Rattle.isort_settings.specs.Sections.OnePrefix.{section_holding}
+use Rattle.isort_settings.specs.Values.{Values}
+
+-- the place, if there is one, and else the length
+pub place_or_len : {X : Type 0} (p : X → Bool) (xs : List X) → unwrap_or (position p xs) (length xs) ≡ position_or_len p xs
+place_or_len p xs =
+    elim (cases_lt (position_or_len p xs) (length xs)) [
+      | inl below ↦ rw (lt-ltb (position_or_len p xs) (length xs) below) refl
+      | inr above ↦
+          let at_end : length xs ≡ position_or_len p xs = omega (arith, above, prefix_len-le-length (λ x. not (p x)) xs) in
+          rw (le-ltb (position_or_len p xs) (length xs) above) at_end
+    ]
+
+-- an element more at the end
+pub place-push : {X : Type 0} (p : X → Bool) (i : ℕ) (xs : List X) (y : X)
+    → position_from p i (xs ++ y ∷ []) ≡ option_or (position_from p i xs) (cond (p y) (Some (i + length xs)) None)
+place-push p i [] y = ap (λ n. cond (p y) (Some n) None) (omega arith)
+place-push p i (x ∷ xs) y =
+    elim (p x) as (λ b. cond b (Some i) (position_from p (i + 1) (xs ++ y ∷ [])) ≡ option_or (cond b (Some i) (position_from p (i + 1) xs)) (cond (p y) (Some (i + suc (length xs))) None)) [
+      | true ↦ refl
+      | false ↦ place-push p (i + 1) xs y ∙ ap (λ n. option_or (position_from p (i + 1) xs) (cond (p y) (Some n) None)) (omega arith)
+    ]
+
+abbrev Entry : Type 0
+Entry = Section × List (List ℕ)
+
+-- the own section whose list is the first to hold a text
+own_holding : (i : ℕ) (lists : List (List (List ℕ))) (text : List ℕ)
+    → section_holding (map (λ l. (Own l.0, l.1)) (enumerate_from i lists)) text ≡ option_map (λ n. Own n) (position_from (λ l. holds l text) i lists)
+own_holding i [] text = refl
+own_holding i (l ∷ ls) text =
+    elim (holds l text) as (λ b. option_map (λ (s : Entry). s.0) (cond b (Some (Own i, l)) (find (λ (s : Entry). holds s.1 text) (map (λ (k : ℕ × List (List ℕ)). (Own k.0, k.1)) (enumerate_from (i + 1) ls)))) ≡ option_map (λ n. Own n) (cond b (Some i) (position_from (λ k. holds k text) (i + 1) ls))) [
+      | true ↦ refl
+      | false ↦ own_holding (i + 1) ls text
+    ]
+
+or_map : {A : Type 0} (f : A → Section) (o p : Option A) → option_map f (option_or o p) ≡ option_or (option_map f o) (option_map f p)
+or_map f None p = refl
+or_map f (Some x) p = refl
+
+-- the own lists are looked up first, and then those of the five
+pub own_lists_first : (v : Values) (text : List ℕ)
+    → section_holding (lists_of v) text ≡ option_or (option_map (λ n. Own n) (position_from (λ l. holds l text) 0 v.own_lists)) (section_holding (five_lists_of v) text)
+own_lists_first v text =
+    ap (option_map (λ (s : Entry). s.0)) (find-append (λ (s : Entry). holds s.1 text) (own_lists_of v) (five_lists_of v))
+    ∙ or_map (λ (s : Entry). s.0) (find (λ (s : Entry). holds s.1 text) (own_lists_of v)) _
+    ∙ ap (λ o. option_or o (section_holding (five_lists_of v) text)) (own_holding 0 v.own_lists text)
