@@ -1,9 +1,10 @@
 -- The layout of a block.
-use Rattle.std.specs.Prelude.{◌≡◌, ℕ, ◌==◌, Bool, not, ◌&&◌, List, [], ◌∷◌, ◌++◌, map, flat_map, if◌then◌else◌, max, replicate}
+use Rattle.std.specs.Prelude.{◌≡◌, ℕ, Bool, not, ◌&&◌, List, [], ◌∷◌, ◌++◌, map, flat_map, if◌then◌else◌, max, replicate}
 use Rattle.std.specs.List.{join_by}
 use Rattle.py_imports.specs.Grammar.{Item}
+use Rattle.isort_settings.specs.FiveSections.{same_section}
 use Rattle.isort_settings.specs.Values.{Values}
-use Rattle.isort_sort.specs.Statement.{Statement, module_of, is_from, section_of, section_place}
+use Rattle.isort_sort.specs.Statement.{Statement, module_of, is_from, section_of}
 use Rattle.isort_sort.specs.Member.{Member, AreStatements, AreItemsOf, comments_of, above_of}
 use Rattle.isort_sort.specs.Wrapping.{IsCut, fits_line, remark, statement_lines}
 
@@ -34,7 +35,7 @@ pub record AreLaid (v : Values) (indentation : List ℕ) (members : List Member)
 -- how many blank lines stand between two statements by their sections and forms
 abbrev pub gap_by_kind : Values → Statement → Statement → ℕ
 gap_by_kind v a b =
-    if not (section_place (section_of v a) == section_place (section_of v b)) then v.lines_between_sections
+    if not (same_section (section_of v a) (section_of v b)) then v.lines_between_sections
     else (if not v.force_sort_within_sections && not (is_from a) && is_from b then v.lines_between_types else 0)
 
 -- how many a comment above a statement asks for

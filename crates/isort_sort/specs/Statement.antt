@@ -7,8 +7,7 @@ use Rattle.std.specs.declared.cmp.Ordering.{Ordering}
 use Rattle.py_imports.specs.Grammar.{Imported, Item}
 use Rattle.isort_settings.specs.Values.{Values}
 use Rattle.isort_settings.specs.Orders.{module_cmp, name_cmp}
-use Rattle.isort_settings.specs.Sections.{section_in}
-pub use Rattle.isort_settings.specs.Sections.{section_place}
+use Rattle.isort_settings.specs.Sections.{section_in, section_rank}
 use Rattle.isort_settings.specs.declared.section.Section.{Section}
 
 -- `import MODULE`, perhaps with an alias; `from MODULE import *`; `from MODULE import` with names; the same with one item
@@ -69,6 +68,10 @@ own_item other = no_item
 abbrev pub section_of : Values → Statement → Section
 section_of v s = section_in v (module_of s)
 
+-- the place of a statement's section in the order of sections
+abbrev pub rank_of : Values → Statement → ℕ
+rank_of v s = section_rank v (section_of v s)
+
 -- straight statements stand before the others of their section, unless the settings say otherwise
 abbrev pub group_place : Values → Statement → ℕ
 group_place v s = if v.force_sort_within_sections || not (is_from s) then 0 else 1
@@ -77,10 +80,10 @@ group_place v s = if v.force_sort_within_sections || not (is_from s) then 0 else
 abbrev pub item_cmp : Values → Item → Item → Ordering
 item_cmp v i j = ordering_then (name_cmp v i.path j.path) (option_cmp (name_cmp v) i.alias j.alias)
 
--- the order of statements
+-- the order of statements: by section first
 abbrev pub statement_cmp : Values → Statement → Statement → Ordering
 statement_cmp v a b =
-    ordering_then (nat_cmp (section_place (section_of v a)) (section_place (section_of v b)))
+    ordering_then (nat_cmp (rank_of v a) (rank_of v b))
     (ordering_then (nat_cmp (group_place v a) (group_place v b))
     (ordering_then (module_cmp v (module_of a) (module_of b))
     (ordering_then (nat_cmp (form_place a) (form_place b)) (item_cmp v (own_item a) (own_item b)))))

@@ -13,7 +13,7 @@ ghost use Rattle.isort_sort.specs.Private.Values.{item_value, member_value};
 
 use crate::answer::SortError;
 use crate::member::Member;
-use crate::statement::{Item, Statement, item_cmp, section_cmp};
+use crate::statement::{Item, Statement, item_cmp};
 use indexmap::{IndexMap, IndexSet};
 use isort_settings::laws::{modules_are_totally_ordered, names_are_totally_ordered};
 use isort_settings::{Section, Settings};
@@ -26,6 +26,8 @@ use std::mem;
 pub(crate) struct Group {
     /// The section of its module.
     pub(crate) section: Section,
+    /// The place of that section in the order of sections.
+    pub(crate) rank: usize,
     /// The statement.
     pub(crate) statement: Statement,
     /// The items of `Names`, in order; none for the other statements.
@@ -98,8 +100,10 @@ impl Gathered {
             above,
         } = self;
         order_items(settings, &mut items)?;
+        let section = settings.section_of(statement.module());
         Ok(Group {
-            section: settings.section_of(statement.module()),
+            section,
+            rank: settings.section_rank(section),
             statement,
             items,
             comments: each_once(alloc, comments)?,
@@ -130,9 +134,9 @@ fn order_items(settings: &Settings, items: &mut Vec<Item>) -> Result<(), AllocEr
 fn group_cmp(settings: &Settings, a: &Group, b: &Group) -> Ordering
     ensures { result ≡ group_cmp (values settings.now) (group_value a.now) (group_value b.now) }
 {
-    section_cmp(a.section, b.section).then_with(|| a
-        .statement
-        .cmp_in_section(settings, &b.statement))
+    a.rank
+        .cmp(&b.rank)
+        .then_with(|| a.statement.cmp_in_section(settings, &b.statement))
 }
 
 /// What was seen of each statement, in the order in which the statements were seen.

@@ -1,7 +1,6 @@
 //! The statements of a block, and their items.
 ghost use Rattle.std.specs.Prelude.{◌≡◌, string_bytes, option_copied, option_to_list};
 ghost use Rattle.std.specs.Option.{option_cmp, option_map};
-ghost use Rattle.std.specs.Ordering.{nat_cmp};
 ghost use Rattle.py_imports.specs.Bound.{bound_of};
 ghost use Rattle.isort_settings.specs.Orders.{name_cmp};
 ghost use Rattle.isort_settings.specs.Values.{values};
@@ -9,10 +8,10 @@ ghost use Rattle.isort_sort.specs.Private.Gathered.{listed_item};
 ghost use Rattle.isort_sort.specs.Private.GroupOrder.{cmp_in_module, cmp_in_section};
 ghost use Rattle.isort_sort.specs.Line.{imported_of};
 ghost use Rattle.isort_sort.specs.Statement.{form_place, group_place, is_from, item_cmp, module_of, own_item};
-ghost use Rattle.isort_sort.specs.Statement.{section_place, statement_of};
+ghost use Rattle.isort_sort.specs.Statement.{statement_of};
 ghost use Rattle.isort_sort.specs.Private.Values.{item_value, statement_value};
 
-use isort_settings::{Section, Settings};
+use isort_settings::Settings;
 use py_imports::Binding;
 use std::cmp::Ordering;
 
@@ -192,11 +191,4 @@ pub(crate) fn item_cmp(settings: &Settings, a: &Item, b: &Item) -> Ordering
     settings
         .order_names(a.name.as_str(), b.name.as_str())
         .then_with(|| alias_cmp(settings, text_of(&a.alias), text_of(&b.alias)))
-}
-
-/// The order of two sections.
-pub(crate) fn section_cmp(a: Section, b: Section) -> Ordering
-    ensures { result ≡ nat_cmp (section_place a) (section_place b) }
-{
-    a.cmp(&b)
 }

@@ -111,9 +111,10 @@ made_group v members k g group there seen made =
     let s = statement_value k in
     let bs = brought v members in
     let all : seen_value g ≡ gathered nothing_seen (for s bs) = some_is (seen_after s None bs) (seen_value g) nothing_seen (sym seen) ∙ seen_is_gathered s None bs in
-    subst (λ (t : Statement). IsGrouped v members (record { section = group.section; statement = t; items = items_with t (map item_value group.items.items); comments = map string_bytes group.comments.items; above = map string_bytes group.above.items })) (sym made.statement)
+    subst (λ (t : Statement). IsGrouped v members (record { section = group.section; rank = group.rank; statement = t; items = items_with t (map item_value group.items.items); comments = map string_bytes group.comments.items; above = map string_bytes group.above.items })) (sym made.statement)
     (record {
       section = made.section;
+      rank = made.rank;
       items = made_items v members s (map item_value group.items.items) there (subst (λ (xs : List Item). AreInOrder (item_cmp v) xs (map item_value group.items.items)) (ap (λ (x : Seen). x.items) all) made.items);
       comments = made.comments ∙ ap first_texts (ap (λ (x : Seen). x.comments) all ∙ parts_of_members (λ b. b.comments) (λ m. m.comments) (λ t l. refl) (λ t l m. refl) v s members);
       above = made.above ∙ ap (λ (x : Seen). x.above) all ∙ parts_of_members (λ b. b.above) (λ m. m.above) (λ t l. refl) (λ t l m. refl) v s members;

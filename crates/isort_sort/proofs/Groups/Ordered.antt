@@ -17,7 +17,7 @@ use Rattle.isort_sort.specs.Private.Gathered.{brought, found, seen_after, AreMad
 use Rattle.isort_sort.specs.Private.GroupOrder.{group_cmp, cmp_in_section}
 use Rattle.isort_sort.specs.Private.Group.{Group, group_value, IsGrouped, AreGrouped}
 use Rattle.isort_sort.specs.Member.{Member}
-use Rattle.isort_sort.specs.Statement.{Statement, section_place, group_place, module_of, form_place, own_item, item_cmp, statement_cmp, same_statement}
+use Rattle.isort_sort.specs.Statement.{Statement, group_place, module_of, form_place, own_item, item_cmp, statement_cmp, same_statement}
 use Rattle.isort_sort.specs.Private.Values.{statement_value}
 use Rattle.isort_sort.specs.declared.group.Group as code
 use Rattle.isort_sort.proofs.Orders.Contained.{in_map, map_in}
@@ -31,7 +31,7 @@ use Rattle.isort_sort.proofs.Orders.Statements.{AreOrders, item_cmp_total, exact
 -- the order of groups is total
 pub group_cmp_total : (v : Values) → AreOrders v → IsTotalOrder (group_cmp v)
 group_cmp_total v o =
-    then_total (on_total (λ (g : Group). section_place g.section) nat_cmp_total)
+    then_total (on_total (λ (g : Group). g.rank) nat_cmp_total)
     (then_total (on_total (λ (g : Group). group_place v g.statement) nat_cmp_total)
     (then_total (on_total (λ (g : Group). module_of g.statement) o.modules)
     (then_total (on_total (λ (g : Group). form_place g.statement) nat_cmp_total) (on_total (λ (g : Group). own_item g.statement) (item_cmp_total v o)))))
@@ -49,7 +49,7 @@ is_equal Greater h = absurd (cc)
 -- groups that the order doesn't tell apart have one statement
 same_group : (v : Values) → AreOrders v → (a b : Group) → group_cmp v a b ≡ Equal → a.statement ≡ b.statement
 same_group v o a b h =
-    let by_section = equal_then (nat_cmp (section_place a.section) (section_place b.section)) _ h in
+    let by_section = equal_then (nat_cmp a.rank b.rank) _ h in
     let by_group = equal_then (nat_cmp (group_place v a.statement) (group_place v b.statement)) _ by_section.1 in
     let by_module = equal_then (module_cmp v (module_of a.statement) (module_of b.statement)) _ by_group.1 in
     let by_form = equal_then (nat_cmp (form_place a.statement) (form_place b.statement)) (item_cmp v (own_item a.statement) (own_item b.statement)) by_module.1 in
@@ -96,10 +96,10 @@ kept E flips (x ∷ xs) h = kept_from E flips x xs h
 strictly : {X : Type 0} {R : X → X → Ordering} (o : IsTotalOrder R) (xs : List X) → IsSorted R xs → IsDistinct (eq_by_cmp R) xs → IsStrictlySortedBy R xs
 strictly {X} {R} o xs sorted distinct = subst (IsStrictlySortedBy R) (kept (eq_by_cmp R) (eq_by_cmp_equiv o).symm xs distinct) (IsStrictlySortedBy-dedup o (λ x y. refl) xs sorted)
 
--- the order of groups with the sections of their statements is that of their statements
+-- the order of groups with the ranks of their statements is that of their statements
 in_section : (v : Values) (members : List Member) (a b : Group) → IsGrouped v members a → IsGrouped v members b → group_cmp v a b ≡ Less → statement_cmp v a.statement b.statement ≡ Less
 in_section v members a b ga gb h =
-    (λ i. ordering_then (nat_cmp (section_place (sym ga.section i)) (section_place (sym gb.section i))) (cmp_in_section v a.statement b.statement)) ∙ h
+    (λ i. ordering_then (nat_cmp (sym ga.rank i) (sym gb.rank i)) (cmp_in_section v a.statement b.statement)) ∙ h
 
 below_group : (v : Values) (members : List Member) (x : code.Group) (xs : List code.Group) → IsGrouped v members (group_value x) → AllByRecursion (λ g. IsGrouped v members (group_value g)) xs → AllByRecursion (λ y. group_cmp v (group_value x) (group_value y) ≡ Less) xs → AllByRecursion (λ s. statement_cmp v (statement_value x.statement) s ≡ Less) (map (λ g. g.statement) (map group_value xs))
 below_group v members x [] gx gs h = tt

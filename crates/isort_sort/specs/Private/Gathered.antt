@@ -7,7 +7,7 @@ use Rattle.py_imports.specs.Grammar.{Imported, Item}
 use Rattle.isort_settings.specs.Values.{Values}
 use Rattle.isort_sort.specs.Order.{AreInOrder}
 use Rattle.isort_sort.specs.Member.{Member, item_of, first_texts}
-use Rattle.isort_sort.specs.Statement.{Statement, names, statement_of, same_statement, section_of, item_cmp}
+use Rattle.isort_sort.specs.Statement.{Statement, names, statement_of, same_statement, section_of, rank_of, item_cmp}
 use Rattle.isort_sort.specs.Private.Values.{item_value, statement_value}
 use Rattle.isort_sort.specs.declared.group.Gathered as code
 use Rattle.isort_sort.specs.declared.group.Group as code_group
@@ -102,6 +102,7 @@ AreDistinct statements = IsDistinct (λ a b. same_statement (statement_value a) 
 -- the group that is made of a statement and what was seen of it
 pub record IsMade (v : Values) (s : code_statement.Statement) (g : code.Gathered) (group : code_group.Group) : Type 0 where
   pub section : group.section ≡ section_of v (statement_value s)
+  pub rank : group.rank ≡ rank_of v (statement_value s)
   pub statement : statement_value group.statement ≡ statement_value s
   pub items : AreInOrder (item_cmp v) (seen_value g).items (map item_value group.items.items)
   pub comments : map string_bytes group.comments.items ≡ first_texts (seen_value g).comments

@@ -6,14 +6,15 @@ use Rattle.isort_settings.specs.Values.{Values}
 use Rattle.isort_settings.specs.declared.section.Section.{Section}
 use Rattle.isort_sort.specs.Layout.{Laid, block_lines, text_of_lines}
 use Rattle.isort_sort.specs.Member.{Member, AreStatements, AreItemsOf, comments_of, above_of}
-use Rattle.isort_sort.specs.Statement.{Statement, straight, star, names, single, module_of, section_of}
+use Rattle.isort_sort.specs.Statement.{Statement, straight, star, names, single, module_of, section_of, rank_of}
 use Rattle.isort_sort.specs.Private.Values.{item_value, statement_value}
 use Rattle.isort_sort.specs.Wrapping.{IsCut, fits_line}
 use Rattle.isort_sort.specs.declared.group.Group as code
 
--- a statement with its section, its items in order, the comments that it joins, and those above it
+-- a statement with its section and that section's rank, its items in order, the comments that it joins, and those above it
 pub record Group : Type 0 where
   pub section : Section
+  pub rank : ℕ
   pub statement : Statement
   pub items : List Item
   pub comments : List (List ℕ)
@@ -30,6 +31,7 @@ items_with (single m i) listed = i ∷ []
 abbrev pub group_value : code.Group → Group
 group_value g = record {
   section = g.section;
+  rank = g.rank;
   statement = statement_value g.statement;
   items = items_with (statement_value g.statement) (map item_value g.items.items);
   comments = map string_bytes g.comments.items;
@@ -39,6 +41,7 @@ group_value g = record {
 -- the group holds what its statement takes from the members
 pub record IsGrouped (v : Values) (members : List Member) (g : Group) : Type 0 where
   pub section : g.section ≡ section_of v g.statement
+  pub rank : g.rank ≡ rank_of v g.statement
   pub items : AreItemsOf v members g.statement g.items
   pub comments : g.comments ≡ comments_of v members g.statement
   pub above : g.above ≡ above_of v members g.statement

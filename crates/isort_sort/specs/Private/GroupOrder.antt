@@ -4,7 +4,7 @@ use Rattle.std.specs.declared.cmp.Ordering.{Ordering}
 use Rattle.isort_settings.specs.Orders.{module_cmp}
 use Rattle.isort_settings.specs.Values.{Values}
 use Rattle.isort_sort.specs.Private.Group.{Group}
-use Rattle.isort_sort.specs.Statement.{Statement, section_place, group_place, module_of, form_place, own_item, item_cmp}
+use Rattle.isort_sort.specs.Statement.{Statement, group_place, module_of, form_place, own_item, item_cmp}
 
 -- the order among the statements of one section and module: by form, and then by what tells them apart
 abbrev pub cmp_in_module : Values → Statement → Statement → Ordering
@@ -16,7 +16,7 @@ cmp_in_section v a b =
     ordering_then (nat_cmp (group_place v a) (group_place v b))
     (ordering_then (module_cmp v (module_of a) (module_of b)) (cmp_in_module v a b))
 
--- the order of groups: that of their statements, with the sections that the groups have
+-- the order of groups: that of their statements, with the ranks that the groups have
 abbrev pub group_cmp : Values → Group → Group → Ordering
 group_cmp v a b =
-    ordering_then (nat_cmp (section_place a.section) (section_place b.section)) (cmp_in_section v a.statement b.statement)
+    ordering_then (nat_cmp a.rank b.rank) (cmp_in_section v a.statement b.statement)

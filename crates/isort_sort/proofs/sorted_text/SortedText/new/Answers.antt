@@ -21,3 +21,10 @@ rest-requires c =
     let made = flat_map part_text c.parts.parts.items in
     let makes = subst (λ o. Makes c.parts.made o c.next.new.self) c.in_default.is c.in_ok-part.ensures.ok in
     (c.args.text.now, v, made, makes.1 c.args.text.now v made c.parts.invariant.made)
+
+pub returns-clause-laid : goal.returns-clause-laid
+returns-clause-laid c =
+    let v = values c.args.settings.now in
+    let made = flat_map part_text c.parts.parts.items in
+    let makes = subst (λ o. Makes c.parts.made o c.next.new.self) c.in_default.is c.in_ok-part.ensures.ok in
+    c.rest.ensures.laid c.args.text.now v made (makes.1 c.args.text.now v made c.parts.invariant.made) makes.0
