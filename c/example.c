@@ -45,14 +45,16 @@ static text read_file(const char *path) {
 }
 
 /* Tells a refusal. */
-static int refused(fihroste_answer answer) {
-    uint8_t key[32];
+static int refused(fihroste_answer answer, text settings) {
     if (answer.status == FIHROSTE_MEMORY) give_up("out of memory");
     if (answer.status == FIHROSTE_FAULT) {
         printf("F%" PRIu32 " at line %" PRIu64 ", byte %" PRIu64 "\n", answer.label, answer.line, answer.offset);
     } else {
-        size_t size = fihroste_key_name(answer.key, key, sizeof key);
-        printf("S%" PRIu32 "%s%.*s\n", answer.label, size > 0 ? " " : "", (int)size, (const char *)key);
+        size_t room = settings.size + 16;
+        uint8_t *key = block(room);
+        answer = fihroste_settings(settings.bytes, settings.size, FIHROSTE_NO_PROFILE, key, room);
+        printf("S%" PRIu32 "%s%.*s\n", answer.label, answer.size > 0 ? " " : "", (int)answer.size, (const char *)key);
+        free(key);
     }
     return 1;
 }
@@ -76,11 +78,14 @@ static const uint8_t *print_option(const char *before, const uint8_t *at) {
     return *at == 0 ? at + 1 : print_text(before, at + 1);
 }
 
+/* Prints the name of a module's section. That of an own section stands in the settings, so there is room for it. */
 static void print_section(const uint8_t *module, text settings) {
-    static const char *const names[] = {"FUTURE", "STDLIB", "THIRDPARTY", "FIRSTPARTY", "LOCALFOLDER"};
+    size_t room = settings.size + 16;
+    uint8_t *name = block(room);
     fihroste_answer answer = fihroste_place(module + 8, (size_t)number_at(module), settings.bytes, settings.size,
-                                            FIHROSTE_NO_PROFILE);
-    if (answer.status == FIHROSTE_SAME) printf(" (%s)", names[answer.section]);
+                                            FIHROSTE_NO_PROFILE, name, room);
+    if (answer.status == FIHROSTE_SAME) printf(" (%.*s)", (int)answer.size, (const char *)name);
+    free(name);
 }
 
 /* Lists the imports, one a line: the line, the module with its section, the attribute, the alias. */
@@ -103,7 +108,7 @@ static int list(text code, text settings) {
         printf("\n");
     }
     free(out);
-    return answer.status == FIHROSTE_SAME ? 0 : refused(answer);
+    return answer.status == FIHROSTE_SAME ? 0 : refused(answer, settings);
 }
 
 /* Prints the text sorted. */
@@ -123,7 +128,7 @@ static int sort(text code, text settings) {
     } else if (answer.status == FIHROSTE_SAME || answer.status == FIHROSTE_SKIPPED) {
         fwrite(code.bytes, 1, code.size, stdout);
     } else {
-        status = refused(answer);
+        status = refused(answer, settings);
     }
     free(out);
     return status;
@@ -133,7 +138,7 @@ static int sort(text code, text settings) {
 static void warn(text settings) {
     uint8_t *out = block(settings.size * 9);
     fihroste_answer answer = fihroste_settings(settings.bytes, settings.size, FIHROSTE_NO_PROFILE, out, settings.size * 9);
-    for (const uint8_t *at = out; at < out + answer.size;) {
+    for (const uint8_t *at = out; answer.status == FIHROSTE_SAME && at < out + answer.size;) {
         at = print_text("unknown key: ", at);
         printf("\n");
     }

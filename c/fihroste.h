@@ -3,7 +3,8 @@
 
    All memory is the caller's. A call that makes something fills the buffer `out`, which has room for `room` bytes, and
    answers in `size` how many bytes the result has. If `size` is above `room`, then `out` is as it was, and the call can
-   be made again with a larger buffer. After FIHROSTE_MEMORY, FIHROSTE_SETTINGS and FIHROSTE_ARGUMENT `out` is as it was.
+   be made again with a larger buffer. After FIHROSTE_MEMORY and FIHROSTE_ARGUMENT `out` is as it was, and so it is after
+   FIHROSTE_SETTINGS, except by fihroste_settings.
 
    A call takes memory from malloc for its own use, and gives all of it back before it returns. Nothing stays between
    calls, and calls may run in threads side by side.
@@ -74,21 +75,28 @@ enum fihroste_unique {
     FIHROSTE_ALIAS = 4
 };
 
-/* The sections, in the order in which they are printed. */
+/* The sections. Own ones have FIHROSTE_OWN and the numbers after it, in the order of `sections` in the settings. */
 enum fihroste_section {
     FIHROSTE_FUTURE = 0,
     FIHROSTE_STDLIB = 1,
     FIHROSTE_THIRDPARTY = 2,
     FIHROSTE_FIRSTPARTY = 3,
-    FIHROSTE_LOCALFOLDER = 4
+    FIHROSTE_LOCALFOLDER = 4,
+    FIHROSTE_OWN = 5
+};
+
+/* The number of a key that has no name of its own: the list of an own section, such as `known_django`. fihroste_settings
+   tells its name. */
+enum fihroste_key {
+    FIHROSTE_OWN_LIST = 26
 };
 
 /* An answer. What a status doesn't speak of is 0. */
 typedef struct fihroste_answer {
     uint32_t status;  /* an enum fihroste_status */
     uint32_t label;   /* the number of a label: of a fault an enum fihroste_fault, of settings an enum fihroste_refusal */
-    uint32_t key;     /* at S2 (bad value) the number of the key: fihroste_key_name has its name */
-    uint32_t section; /* of fihroste_place: an enum fihroste_section */
+    uint32_t key;     /* at S2 (bad value) the number of the key: fihroste_settings and fihroste_key_name have its name */
+    uint32_t section; /* of fihroste_place: an enum fihroste_section, or more */
     uint64_t offset;  /* of a fault: its byte, from 0 */
     uint64_t line;    /* of a fault: the line of that byte, from 1 */
     size_t size;      /* how many bytes the result has */
@@ -118,18 +126,20 @@ fihroste_answer fihroste_check(const uint8_t *text, size_t text_size, const uint
 fihroste_answer fihroste_find(const uint8_t *text, size_t text_size, uint32_t unique, bool top_only, uint8_t *out,
                               size_t room);
 
-/* The section of the module of this name, in `section`. */
+/* The section of the module of this name, by its number in `section`. The result, at FIHROSTE_SAME, is its name, as the
+   settings spell it: `STDLIB`, say. */
 fihroste_answer fihroste_place(const uint8_t *name, size_t name_size, const uint8_t *settings, size_t settings_size,
-                               uint32_t profile);
+                               uint32_t profile, uint8_t *out, size_t room);
 
 /* Whether the settings are refused, and which keys of [tool.isort] are unknown. The result, at FIHROSTE_SAME, is a text
-   for each unknown key, its name, written as in fihroste_find. */
+   for each unknown key, its name, written as in fihroste_find; at S2 (bad value) it is the name of the key, and nothing
+   else. */
 fihroste_answer fihroste_settings(const uint8_t *settings, size_t settings_size, uint32_t profile, uint8_t *out,
                                   size_t room);
 
 /* The name of a key of the settings by its number, as in `key` of an answer: `tool` and `tool.isort` for the tables. It
-   is written to `out`, with no zero at its end, and its length is answered: 0 if no key has the number. If the length
-   is above `room`, then `out` is as it was; 32 bytes are enough. */
+   is written to `out`, with no zero at its end, and its length is answered: 0 if no key has the number, or if it is
+   FIHROSTE_OWN_LIST. If the length is above `room`, then `out` is as it was; 32 bytes are enough. */
 size_t fihroste_key_name(uint32_t key, uint8_t *out, size_t room);
 
 #ifdef __cplusplus

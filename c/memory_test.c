@@ -75,9 +75,8 @@ static fihroste_answer find(const task *given, uint8_t *out, size_t room) {
 }
 
 static fihroste_answer place(const task *given, uint8_t *out, size_t room) {
-    (void)out, (void)room;
     return fihroste_place(given->module.bytes, given->module.size, given->settings.bytes, given->settings.size,
-                          given->profile);
+                          given->profile, out, room);
 }
 
 static fihroste_answer settings(const task *given, uint8_t *out, size_t room) {
@@ -178,6 +177,8 @@ static const char *const all_settings[] = {
     "[tool.isort]\nprofile = 'black'\nknown_first_party = ['a', 'b']\nknown_local_folder = ['c']\nx = 1\nother = 'two'\n",
     "[tool.isort]\nforce_single_line = true\nforce_sort_within_sections = true\nmulti_line_output = 3\nline_length = 40\n",
     "[tool.isort]\ncombine_as_imports = true\nlines_after_imports = 2\norder_by_type = false\nmulti_line_output = 1\n",
+    "[tool.isort]\nsections = ['Near', 'FUTURE', 'Far']\nknown_far = ['a', 'os.path']\nknown_near = ['unknown']\nknown_x = 1\n",
+    "[tool.isort]\nsections = ['Near']\nknown_near = ['a*']\n",
     "[tool.isort]\nline_length = 'long'\n",
     "[tool.isort]\nprofile = 'white'\n",
     "[tool.isort]\nmulti_line_output = 7\n",
@@ -195,7 +196,7 @@ static text text_of(const char *words) {
 /* The calls that read the text of a file. */
 static void try_file(const char *path, text code) {
     task given = {.code = code};
-    for (size_t i = 0; i < 4; i++) {
+    for (size_t i = 0; i < 5; i++) {
         given.settings = text_of(all_settings[i]);
         given.profile = i == 3 ? FIHROSTE_BLACK : FIHROSTE_NO_PROFILE;
         try_call(SORT, &given, 2 * code.size + 4096, path);
@@ -218,7 +219,7 @@ static void try_settings(text code) {
             try_call(CHECK, &given, 1, all_settings[i]);
             for (size_t j = 0; j < COUNT(modules); j++) {
                 given.module = text_of(modules[j]);
-                try_call(PLACE, &given, 1, all_settings[i]);
+                try_call(PLACE, &given, 16, all_settings[i]);
             }
         }
     }

@@ -35,7 +35,7 @@ static void find(void) {
 }
 
 static void place(void) {
-    fihroste_place((const uint8_t *)"a.b", 3, settings, settings_size, FIHROSTE_NO_PROFILE);
+    fihroste_place((const uint8_t *)"a.b", 3, settings, settings_size, FIHROSTE_NO_PROFILE, out, room);
 }
 
 static void tell_settings(void) {

@@ -25,7 +25,8 @@ typedef struct task {
     uint8_t *result;
 } task;
 
-static const char settings[] = "[tool.isort]\nknown_first_party = ['a', 'b']\nmulti_line_output = 3\nx = 1\n";
+static const char settings[] =
+    "[tool.isort]\nsections = ['Own', 'FUTURE']\nknown_own = ['a']\nknown_first_party = ['b']\nmulti_line_output = 3\nx = 1\n";
 #define SETTINGS_SIZE (sizeof settings - 1)
 
 enum { SORT, CHECK, FIND, PLACE, SETTINGS, CALLS };
@@ -46,7 +47,7 @@ static fihroste_answer run(const task *it, uint8_t *out) {
     case SORT: return fihroste_sort(it->text, it->size, toml, SETTINGS_SIZE, FIHROSTE_BLACK, out, it->room);
     case CHECK: return fihroste_check(it->text, it->size, toml, SETTINGS_SIZE, FIHROSTE_BLACK);
     case FIND: return fihroste_find(it->text, it->size, FIHROSTE_ALIAS, false, out, it->room);
-    case PLACE: return fihroste_place((const uint8_t *)"a.b", 3, toml, SETTINGS_SIZE, FIHROSTE_NO_PROFILE);
+    case PLACE: return fihroste_place((const uint8_t *)"a.b", 3, toml, SETTINGS_SIZE, FIHROSTE_NO_PROFILE, out, it->room);
     default: return fihroste_settings(toml, SETTINGS_SIZE, FIHROSTE_NO_PROFILE, out, it->room);
     }
 }

@@ -3,7 +3,6 @@ use Rattle.std.proofs.Common.{◌≡◌, ◌⊎◌, ℕ, List, Result, Ok, Err, 
 use Rattle.isort_settings.specs.Values.{Values}
 use Rattle.isort_sort.specs.declared.answer.SortError.TheVariants as error
 use Rattle.isort_c.specs.Answers.{plain_answer}
-use Rattle.isort_c.specs.Readings.{AnswersSettings}
 use Rattle.isort_c.specs.Sorting.{AnswersSort, AnswersCheck}
 use Rattle.isort_c.specs.declared.answer.Answer.{Answer}
 use Rattle.isort_c.specs.declared.answer.TheConstants.{MEMORY}
@@ -17,10 +16,6 @@ pub check_memory : (text : List ℕ) (r : Result (Values × List (List ℕ)) Ans
 check_memory text (Ok (v, unknown)) = (Err error.Memory, tt, refl)
 check_memory text (Err e) = inr refl
 
-pub settings_memory : (r : Result (Values × List (List ℕ)) Answer) (out : List ℕ) → AnswersSettings r (plain_answer MEMORY) out out
-settings_memory (Ok (v, unknown)) out = inr (refl, refl)
-settings_memory (Err e) out = (inr refl, refl)
-
 -- settings that can't be had
 pub sort_unread : (text : List ℕ) (r : Result (Values × List (List ℕ)) Answer) (a : Answer) (out : List ℕ) → (r ≡ Err a) ⊎ (a ≡ plain_answer MEMORY) → AnswersSort text r a out out
 sort_unread text r a out (inl is) = rw is (inl refl, refl)
@@ -29,7 +24,3 @@ sort_unread text r a out (inr is) = rw is (sort_memory text r out)
 pub check_unread : (text : List ℕ) (r : Result (Values × List (List ℕ)) Answer) (a : Answer) → (r ≡ Err a) ⊎ (a ≡ plain_answer MEMORY) → AnswersCheck text r a
 check_unread text r a (inl is) = rw is (inl refl)
 check_unread text r a (inr is) = rw is (check_memory text r)
-
-pub settings_unread : (r : Result (Values × List (List ℕ)) Answer) (a : Answer) (out : List ℕ) → (r ≡ Err a) ⊎ (a ≡ plain_answer MEMORY) → AnswersSettings r a out out
-settings_unread r a out (inl is) = rw is (inl refl, refl)
-settings_unread r a out (inr is) = rw is (settings_memory r out)

@@ -4,8 +4,9 @@ use Rattle.isort_settings.specs.Keys.{name_of}
 use Rattle.isort_settings.specs.declared.key.SettingKey.{SettingKey}
 use Rattle.isort_settings.specs.declared.key.SettingKey.TheVariants as key
 use Rattle.isort_c.specs.Answers.{filled}
+use Rattle.isort_c.specs.declared.key.TheConstants.{OWN_LIST}
 
--- the two tables, `profile`, and the keys that a field keeps, by the bytes of their names
+-- the two tables, `profile`, keys by the bytes of their names, and those that came later; not the lists of own sections
 unfoldable pub keys : List SettingKey
 keys =
     key.Tool ∷ key.ToolIsort ∷ key.Profile ∷ key.CaseSensitive ∷ key.CombineAsImports ∷ key.DefaultSection
@@ -13,14 +14,14 @@ keys =
     ∷ key.ForceSortWithinSections ∷ key.IncludeTrailingComma ∷ key.KnownFirstParty ∷ key.KnownFutureLibrary
     ∷ key.KnownLocalFolder ∷ key.KnownStandardLibrary ∷ key.KnownThirdParty ∷ key.LineLength
     ∷ key.LinesAfterImports ∷ key.LinesBetweenSections ∷ key.LinesBetweenTypes ∷ key.MultiLineOutput
-    ∷ key.OrderByType ∷ key.UseParentheses ∷ []
+    ∷ key.OrderByType ∷ key.UseParentheses ∷ key.Sections ∷ []
 
 -- the key with this number: the first has 1
 abbrev pub key_at : ℕ → Option SettingKey
 key_at zero = None
 key_at (suc n) = slice_get keys n
 
--- the number of a key
+-- the number of a key; the lists of own sections share one
 abbrev pub key_number : SettingKey → ℕ
 key_number key.Tool = 1
 key_number key.ToolIsort = 2
@@ -46,6 +47,13 @@ key_number key.LinesBetweenTypes = 21
 key_number key.MultiLineOutput = 22
 key_number key.OrderByType = 23
 key_number key.UseParentheses = 24
+key_number key.Sections = 25
+key_number (key.OwnList name) = OWN_LIST
+
+-- the key stands at its number, unless it is the list of an own section: at that number stands none
+abbrev pub IsAtItsNumber : SettingKey → Type 0
+IsAtItsNumber (key.OwnList name) = key_at OWN_LIST ≡ None
+IsAtItsNumber k = key_at (key_number k) ≡ Some k
 
 -- a key's name in the buffer, and its length; nothing where there is no key
 abbrev pub NamesKey : Option SettingKey → ℕ → List ℕ → List ℕ → Type 0

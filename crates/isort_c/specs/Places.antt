@@ -1,18 +1,32 @@
 -- The section of a module, as an answer.
-use Rattle.std.specs.Prelude.{◌≡◌, ◌⊎◌, ℕ, List, Result, Ok, Err}
+use Rattle.std.specs.Prelude.{◌≡◌, ◌⊎◌, ℕ, List, [], length, get_or, Result, Ok, Err}
 use Rattle.std.specs.Str.{IsUtf8}
+use Rattle.isort_settings.specs.FiveSections.{section_number, section_spelling}
 use Rattle.isort_settings.specs.Values.{Values}
-use Rattle.isort_settings.specs.Sections.{section_place, section_in}
-use Rattle.isort_c.specs.Answers.{plain_answer, IsUnlessMemory}
+use Rattle.isort_settings.specs.Sections.{section_in}
+use Rattle.isort_settings.specs.declared.section.Section.{Section}
+use Rattle.isort_settings.specs.declared.section.Section.TheVariants.{Own}
+use Rattle.isort_c.specs.Answers.{plain_answer, IsUnlessMemory, filled}
 use Rattle.isort_c.specs.declared.answer.Answer.{Answer}
-use Rattle.isort_c.specs.declared.answer.TheConstants.{SAME, ARGUMENT}
+use Rattle.isort_c.specs.declared.answer.TheConstants.{SAME, MEMORY, ARGUMENT}
+
+-- the name of a section, as settings spell it
+abbrev pub section_name : Values → Section → List ℕ
+section_name v (Own n) = get_or v.own_names n []
+section_name v s = section_spelling s
+
+-- the section, and its name in the buffer
+abbrev pub TellsSection : Values → Section → Answer → List ℕ → List ℕ → Type 0
+TellsSection v s answer old new =
+    (answer ≡ record (plain_answer SAME) { section = section_number s; size = length (section_name v s) })
+    × (new ≡ filled (section_name v s) old)
 
 -- the section under what the settings stand for, or that memory ran out
-abbrev pub PlacedBy : List ℕ → Result (Values × List (List ℕ)) Answer → Answer → Type 0
-PlacedBy name (Ok (v, unknown)) answer = IsUnlessMemory (record (plain_answer SAME) { section = section_place (section_in v name) }) answer
-PlacedBy name (Err refused) answer = IsUnlessMemory refused answer
+abbrev pub PlacedBy : List ℕ → Result (Values × List (List ℕ)) Answer → Answer → List ℕ → List ℕ → Type 0
+PlacedBy name (Ok (v, unknown)) answer old new = TellsSection v (section_in v name) answer old new ⊎ ((answer ≡ plain_answer MEMORY) × (new ≡ old))
+PlacedBy name (Err refused) answer old new = IsUnlessMemory refused answer × (new ≡ old)
 
 -- a module that is a text has its section, and every other means nothing
-abbrev pub AnswersPlace : List ℕ → Result (Values × List (List ℕ)) Answer → Answer → Type 0
-AnswersPlace name read answer =
-    (IsUtf8 name × PlacedBy name read answer) ⊎ (¬ (IsUtf8 name) × (answer ≡ plain_answer ARGUMENT))
+abbrev pub AnswersPlace : List ℕ → Result (Values × List (List ℕ)) Answer → Answer → List ℕ → List ℕ → Type 0
+AnswersPlace name read answer old new =
+    (IsUtf8 name × PlacedBy name read answer old new) ⊎ (¬ (IsUtf8 name) × (answer ≡ plain_answer ARGUMENT) × (new ≡ old))

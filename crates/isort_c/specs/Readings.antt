@@ -1,13 +1,14 @@
 -- What the text of a `pyproject.toml` stands for, or how it is answered.
-use Rattle.std.specs.Prelude.{◌≡◌, ◌⊎◌, ℕ, ◌==◌, if◌then◌else◌, List, length, Option, None, Some, Result, Ok, Err}
+use Rattle.std.specs.Prelude.{◌≡◌, ◌⊎◌, ℕ, ◌==◌, if◌then◌else◌, List, [], length, Option, None, Some, Result, Ok, Err}
 use Rattle.std.specs.Result.{result_map_both}
+use Rattle.isort_settings.specs.Keys.{name_of}
 use Rattle.isort_settings.specs.Pyproject.{settings_of}
 use Rattle.isort_settings.specs.Values.{Values}
 use Rattle.isort_settings.specs.declared.error.SettingsError.{SettingsError}
 use Rattle.isort_settings.specs.declared.error.SettingsError.TheVariants as refusal
 use Rattle.isort_settings.specs.declared.profile.Profile.{Profile}
 use Rattle.isort_settings.specs.declared.profile.Profile.TheVariants.{Black}
-use Rattle.isort_c.specs.Answers.{plain_answer, IsUnlessMemory, filled}
+use Rattle.isort_c.specs.Answers.{plain_answer, filled}
 use Rattle.isort_c.specs.KeyNumbers.{key_number}
 use Rattle.isort_c.specs.Records.{name_records}
 use Rattle.isort_c.specs.declared.answer.Answer.{Answer}
@@ -35,12 +36,18 @@ reading_with text (Err answer) = Err answer
 abbrev pub reading : List ℕ → ℕ → Result (Values × List (List ℕ)) Answer
 reading text n = reading_with text (profile_at n)
 
--- the names of unknown keys in the buffer
-abbrev pub TellsNames : List (List ℕ) → Answer → List ℕ → List ℕ → Type 0
-TellsNames names answer old new =
-    (answer ≡ record (plain_answer SAME) { size = length (name_records names) }) × (new ≡ filled (name_records names) old)
+-- the name of the key whose value is bad, if that is why settings are refused
+abbrev pub bad_key : SettingsError → List ℕ
+bad_key (refusal.BadValue k) = name_of k
+bad_key other = []
 
--- what settings say
-abbrev pub AnswersSettings : Result (Values × List (List ℕ)) Answer → Answer → List ℕ → List ℕ → Type 0
-AnswersSettings (Ok (v, unknown)) answer old new = TellsNames unknown answer old new ⊎ ((answer ≡ plain_answer MEMORY) × (new ≡ old))
-AnswersSettings (Err refused) answer old new = IsUnlessMemory refused answer × (new ≡ old)
+-- the names of the unknown keys in the buffer; or why settings are refused, and the name of the key whose value is bad
+abbrev pub TellsOf : Result (Values × List (List ℕ)) SettingsError → Answer → List ℕ → List ℕ → Type 0
+TellsOf (Ok (v, unknown)) answer old new =
+    (answer ≡ record (plain_answer SAME) { size = length (name_records unknown) }) × (new ≡ filled (name_records unknown) old)
+TellsOf (Err e) answer old new = (answer ≡ record (refused_answer e) { size = length (bad_key e) }) × (new ≡ filled (bad_key e) old)
+
+-- what the text of settings says with this profile, or that memory ran out
+abbrev pub AnswersSettings : List ℕ → Result (Option Profile) Answer → Answer → List ℕ → List ℕ → Type 0
+AnswersSettings text (Ok profile) answer old new = TellsOf (settings_of text profile) answer old new ⊎ ((answer ≡ plain_answer MEMORY) × (new ≡ old))
+AnswersSettings text (Err refused) answer old new = (answer ≡ refused) × (new ≡ old)

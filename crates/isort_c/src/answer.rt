@@ -19,6 +19,9 @@ pub const MEMORY: u32 = 5;
 /// An argument means nothing: a module that is not UTF-8, or a number that no key and no profile has.
 pub const ARGUMENT: u32 = 6;
 
+/// The number of the first own section.
+pub const OWN: u32 = 5;
+
 /// What a call came to. A number that isn't spoken of is 0.
 #[repr(C)]
 #[derive(Clone, Copy)]
@@ -27,9 +30,10 @@ pub struct Answer {
     pub status: u32,
     /// The number in the label: at `FAULT` 1 to 9 for F1 to F9, at `SETTINGS` 1 to 4 for S1 to S4.
     pub label: u32,
-    /// At S2 the number of the key whose value is bad.
+    /// At S2 the number of the key whose value is bad: 26 for the list of an own section.
     pub key: u32,
-    /// The section of a module: 0 to 4, in the order in which sections are printed.
+    /// The section of a module: 0 to 4 for `FUTURE`, `STDLIB`, `THIRDPARTY`, `FIRSTPARTY` and `LOCALFOLDER`, 5 and more for
+    /// own ones, in their order.
     pub section: u32,
     /// At `FAULT` the byte at which the fault stands, from 0.
     pub offset: u64,

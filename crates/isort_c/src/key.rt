@@ -1,42 +1,17 @@
 //! The keys of the settings, by numbers.
-ghost use Rattle.std.specs.Prelude.{◌≡◌, Some};
+ghost use Rattle.std.specs.Prelude.{◌≡◌};
 ghost use Rattle.isort_settings.specs.declared.key.SettingKey.{SettingKey};
-ghost use Rattle.isort_c.specs.KeyNumbers.{keys, key_at, key_number, NamesKey};
+ghost use Rattle.isort_c.specs.KeyNumbers.{key_at, key_number, IsAtItsNumber, NamesKey};
 
 use crate::buffer::fill;
 use isort_settings::SettingKey;
 
-/// The keys, and the two tables around them: the first has the number 1.
-const KEYS: [SettingKey; 24] = [
-    SettingKey::Tool,
-    SettingKey::ToolIsort,
-    SettingKey::Profile,
-    SettingKey::CaseSensitive,
-    SettingKey::CombineAsImports,
-    SettingKey::DefaultSection,
-    SettingKey::EnsureNewlineBeforeComments,
-    SettingKey::ExtraStandardLibrary,
-    SettingKey::ForceGridWrap,
-    SettingKey::ForceSingleLine,
-    SettingKey::ForceSortWithinSections,
-    SettingKey::IncludeTrailingComma,
-    SettingKey::KnownFirstParty,
-    SettingKey::KnownFutureLibrary,
-    SettingKey::KnownLocalFolder,
-    SettingKey::KnownStandardLibrary,
-    SettingKey::KnownThirdParty,
-    SettingKey::LineLength,
-    SettingKey::LinesAfterImports,
-    SettingKey::LinesBetweenSections,
-    SettingKey::LinesBetweenTypes,
-    SettingKey::MultiLineOutput,
-    SettingKey::OrderByType,
-    SettingKey::UseParentheses,
-];
+/// The number that the lists of own sections share, the keys `known_` and the section's name in small letters.
+pub const OWN_LIST: u32 = 26;
 
-/// The number of a key.
-pub fn number_of(key: SettingKey) -> u32
-    ensures { result ≡ key_number key }
+/// The number of a key: that of the first of them is 1. New keys go after the others.
+pub fn number_of(key: &SettingKey) -> u32
+    ensures { result ≡ key_number key.now }
 {
     match key {
         SettingKey::Tool => 1,
@@ -63,33 +38,52 @@ pub fn number_of(key: SettingKey) -> u32
         SettingKey::MultiLineOutput => 22,
         SettingKey::OrderByType => 23,
         SettingKey::UseParentheses => 24,
+        SettingKey::Sections => 25,
+        SettingKey::OwnList(_) => OWN_LIST,
     }
-}
-
-/// The keys in the order of their numbers.
-#[tactic(auto, unfolding(crate::specs::KeyNumbers::keys))]
-fn in_order() -> &'static [SettingKey]
-    ensures { result.now ≡ keys }
-{
-    &KEYS
 }
 
 /// The key with this number, if there is one.
+#[tactic(auto, unfolding(crate::specs::KeyNumbers::keys))]
 fn key_of(number: u32) -> Option<SettingKey>
     ensures { result ≡ key_at number }
 {
-    if number == 0 {
-        return None;
-    }
-    in_order().get(number as usize - 1).copied()
+    Some(match number {
+        1 => SettingKey::Tool,
+        2 => SettingKey::ToolIsort,
+        3 => SettingKey::Profile,
+        4 => SettingKey::CaseSensitive,
+        5 => SettingKey::CombineAsImports,
+        6 => SettingKey::DefaultSection,
+        7 => SettingKey::EnsureNewlineBeforeComments,
+        8 => SettingKey::ExtraStandardLibrary,
+        9 => SettingKey::ForceGridWrap,
+        10 => SettingKey::ForceSingleLine,
+        11 => SettingKey::ForceSortWithinSections,
+        12 => SettingKey::IncludeTrailingComma,
+        13 => SettingKey::KnownFirstParty,
+        14 => SettingKey::KnownFutureLibrary,
+        15 => SettingKey::KnownLocalFolder,
+        16 => SettingKey::KnownStandardLibrary,
+        17 => SettingKey::KnownThirdParty,
+        18 => SettingKey::LineLength,
+        19 => SettingKey::LinesAfterImports,
+        20 => SettingKey::LinesBetweenSections,
+        21 => SettingKey::LinesBetweenTypes,
+        22 => SettingKey::MultiLineOutput,
+        23 => SettingKey::OrderByType,
+        24 => SettingKey::UseParentheses,
+        25 => SettingKey::Sections,
+        _ => return None,
+    })
 }
 
 /// Writes the name of the key with this number to the beginning of `out`, where `out` has room for it, and else leaves
-/// `out` as it was. It answers the name's length: 0 where no key has the number.
+/// `out` as it was. It answers the name's length: 0 where no key has the number, or where it is `OWN_LIST`.
 #[unsafe(no_mangle)]
 pub extern "C" fn fihroste_key_name(number: u32, out: &mut [u8]) -> usize
     ensures name { NamesKey (key_at number) result out.old out.new }
-    ensures every_key { (key : SettingKey) → key_at (key_number key) ≡ Some key }
+    ensures every_key { (key : SettingKey) → IsAtItsNumber key }
 {
     match key_of(number) {
         Some(key) => {

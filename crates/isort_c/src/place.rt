@@ -1,18 +1,20 @@
 //! The section of a module.
 ghost use Rattle.std.specs.Prelude.{◌≡◌};
-ghost use Rattle.isort_settings.specs.Sections.{section_place};
-ghost use Rattle.isort_c.specs.Places.{AnswersPlace};
+ghost use Rattle.isort_settings.specs.FiveSections.{section_number};
+ghost use Rattle.isort_settings.specs.Values.{values};
+ghost use Rattle.isort_c.specs.Places.{section_name, AnswersPlace, TellsSection};
 ghost use Rattle.isort_c.specs.Readings.{reading};
 
-use crate::answer::{ARGUMENT, Answer, SAME};
+use crate::answer::{ARGUMENT, Answer, OWN, SAME};
+use crate::buffer::fill;
 use crate::settings::read;
-use isort_settings::Section;
+use isort_settings::{Section, Settings};
 use std::alloc::Global;
 use std::str;
 
-/// The place of a section among the five.
-fn place_of(section: Section) -> u32
-    ensures { result ≡ section_place section }
+/// The number of a section: the five, and then the own ones in their order.
+fn number_of(section: Section) -> u32
+    ensures { result ≡ section_number section }
 {
     match section {
         Section::Future => 0,
@@ -20,31 +22,60 @@ fn place_of(section: Section) -> u32
         Section::ThirdParty => 2,
         Section::FirstParty => 3,
         Section::LocalFolder => 4,
+        Section::Own(place) => OWN + u32::from(place),
     }
 }
 
-/// The section of the module of this name, in `section`, under the settings that the text of a `pyproject.toml` stands
-/// for, with the profile of this number.
+/// The name of a section, as the settings spell it.
+fn name_of(settings: &Settings, section: Section) -> &str
+    ensures { result.now ≡ section_name (values settings.now) section }
+{
+    match section {
+        Section::Future => "FUTURE",
+        Section::Stdlib => "STDLIB",
+        Section::ThirdParty => "THIRDPARTY",
+        Section::FirstParty => "FIRSTPARTY",
+        Section::LocalFolder => "LOCALFOLDER",
+        Section::Own(place) => match settings.own_names.get(place as usize) {
+            Some(name) => name.as_str(),
+            None => "",
+        },
+    }
+}
+
+/// Tells the section, with its name in the buffer.
+fn tell(settings: &Settings, section: Section, out: &mut [u8]) -> Answer
+    ensures { TellsSection (values settings.now) section result out.old out.new }
+{
+    let name = name_of(settings, section).as_bytes();
+    fill(name, out);
+    let mut answer = Answer::plain(SAME);
+    answer.section = number_of(section);
+    answer.size = name.len();
+    answer
+}
+
+/// The section of the module of this name, by its number in `section` and by its name, under the settings that the text
+/// of a `pyproject.toml` stands for, with the profile of this number.
 ///
-/// `ARGUMENT`: the module is not UTF-8, or no profile has the number.
+/// `SAME`: the section's name has `size` bytes. It stands at the beginning of `out` where it has so many bytes, and else
+/// `out` is as it was. After every other answer it is as it was. `ARGUMENT`: the module is not UTF-8, or no profile has
+/// the number.
 #[unsafe(no_mangle)]
 pub extern "C" fn fihroste_place(
     alloc: Global,
     name: &[u8],
     settings: &[u8],
     profile: u32,
+    out: &mut [u8],
 ) -> Answer
-    ensures { AnswersPlace name.now (reading settings.now profile) result }
+    ensures { AnswersPlace name.now (reading settings.now profile) result out.old out.new }
 {
     let Ok(module_name) = str::from_utf8(name) else {
         return Answer::plain(ARGUMENT);
     };
     match read(alloc, settings, profile) {
-        Ok((settings, _unknown)) => {
-            let mut answer = Answer::plain(SAME);
-            answer.section = place_of(settings.section_of(module_name));
-            answer
-        }
+        Ok((settings, _unknown)) => tell(&settings, settings.section_of(module_name), out),
         Err(answer) => answer,
     }
 }

@@ -1,8 +1,8 @@
 //! What settings say.
-ghost use Rattle.std.specs.Prelude.{◌≡◌, ◌⊎◌, Ok, Err, IfOk, IfErr, OnOk, [], map, string_bytes};
+ghost use Rattle.std.specs.Prelude.{◌≡◌, ◌⊎◌, Ok, Err, IfOk, IfErr, length, map, string_bytes};
 ghost use Rattle.isort_settings.specs.Values.{values};
 ghost use Rattle.isort_c.specs.Answers.{plain_answer, filled};
-ghost use Rattle.isort_c.specs.Readings.{profile_at, refused_answer, reading, AnswersSettings};
+ghost use Rattle.isort_c.specs.Readings.{bad_key, profile_at, refused_answer, reading, AnswersSettings};
 ghost use Rattle.isort_c.specs.Records.{name_records};
 ghost use Rattle.isort_c.specs.declared.answer.TheConstants.{MEMORY};
 
@@ -25,8 +25,8 @@ fn profile_of(number: u32) -> Result<Option<Profile>, Answer>
 }
 
 /// The answer where settings are refused.
-fn refused(error: SettingsError) -> Answer
-    ensures { result ≡ refused_answer error }
+fn refused(error: &SettingsError) -> Answer
+    ensures { result ≡ refused_answer error.now }
 {
     let mut answer = Answer::plain(SETTINGS);
     match error {
@@ -51,7 +51,7 @@ pub fn read(alloc: Global, text: &[u8], profile: u32) -> Result<(Settings, Vec<S
     let profile = profile_of(profile)?;
     match Settings::from_pyproject(alloc, text, profile) {
         Ok(read) => Ok(read),
-        Err(error) => Err(refused(error)),
+        Err(error) => Err(refused(&error)),
     }
 }
 
@@ -66,10 +66,25 @@ fn records_of(alloc: Global, names: &[String]) -> Result<Vec<u8>, AllocError>
     Ok(records)
 }
 
+/// The answer where settings are refused, with the name of the key whose value is bad.
+fn tell_refusal(error: &SettingsError, out: &mut [u8]) -> Answer
+    ensures answer { result ≡ record (refused_answer error.now) { size = length (bad_key error.now) } }
+    ensures out { out.new ≡ filled (bad_key error.now) out.old }
+{
+    let mut answer = refused(error);
+    if let SettingsError::BadValue(key) = error {
+        let name = key.name().as_bytes();
+        fill(name, out);
+        answer.size = name.len();
+    }
+    answer
+}
+
 /// Tells whether the settings are refused, and which of their keys are unknown.
 ///
-/// `SAME`: the records of the unknown keys' names have `size` bytes. They stand at the beginning of `out` where it has so
-/// many bytes, and else `out` is as it was. After every other answer it is as it was.
+/// `SAME`: the records of the unknown keys' names have `size` bytes; `SETTINGS` at S2: the name of the key whose value is
+/// bad. They stand at the beginning of `out` where it has so many bytes, and else `out` is as it was. After every other
+/// answer it is as it was.
 #[unsafe(no_mangle)]
 pub extern "C" fn fihroste_settings(
     alloc: Global,
@@ -77,11 +92,15 @@ pub extern "C" fn fihroste_settings(
     profile: u32,
     out: &mut [u8],
 ) -> Answer
-    ensures { AnswersSettings (reading settings.now profile) result out.old out.new }
+    ensures { AnswersSettings settings.now (profile_at profile) result out.old out.new }
 {
-    let unknown = match read(alloc, settings, profile) {
-        Ok((_settings, unknown)) => unknown,
+    let profile = match profile_of(profile) {
+        Ok(profile) => profile,
         Err(answer) => return answer,
+    };
+    let unknown = match Settings::from_pyproject(alloc, settings, profile) {
+        Ok((_settings, unknown)) => unknown,
+        Err(error) => return tell_refusal(&error, out),
     };
     let Ok(records) = records_of(alloc, &unknown) else {
         return Answer::plain(MEMORY);
