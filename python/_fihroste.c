@@ -12,8 +12,8 @@
 #define SHORT 4096
 /* The longest text that is taken, in bytes, as it is the program's. */
 #define LONGEST (1 << 30)
-/* Room for the name of every key. */
-#define KEY_ROOM 32
+/* Room for the names of most sections. */
+#define NAME_ROOM 64
 
 typedef struct call {
     fihroste_answer (*run)(const struct call *, size_t room);
@@ -42,8 +42,7 @@ static fihroste_answer run_find(const call *c, size_t room) {
 }
 
 static fihroste_answer run_place(const call *c, size_t room) {
-    (void)room;
-    return fihroste_place(TEXT(c), SETTINGS(c));
+    return fihroste_place(TEXT(c), SETTINGS(c), c->out, room);
 }
 
 static fihroste_answer run_settings(const call *c, size_t room) {
@@ -91,6 +90,11 @@ static PyObject *answer(call *c, PyObject *value) {
 
 static PyObject *none(void) { return Py_BuildValue(""); }
 
+/* The result as one text. */
+static PyObject *whole(const call *c) {
+    return PyUnicode_FromStringAndSize((const char *)c->out, (Py_ssize_t)c->answer.size);
+}
+
 static uint64_t read_number(const uint8_t **at) {
     uint64_t number = 0;
     for (int i = 0; i < 8; i++) number |= (uint64_t)(*at)[i] << (8 * i);
@@ -134,7 +138,7 @@ static PyObject *py_sort(PyObject *self, PyObject *args) {
     if (!PyArg_ParseTuple(args, "s#y#I", &c.text, &c.text_size, &c.settings, &c.settings_size, &c.number)) return NULL;
     if (!make(&c, (size_t)c.text_size + (size_t)c.text_size / 8 + SHORT)) return NULL;
     if (c.answer.status != FIHROSTE_CHANGED) return answer(&c, none());
-    return answer(&c, PyUnicode_FromStringAndSize((const char *)c.out, (Py_ssize_t)c.answer.size));
+    return answer(&c, whole(&c));
 }
 
 static PyObject *py_check(PyObject *self, PyObject *args) {
@@ -155,25 +159,22 @@ static PyObject *py_place(PyObject *self, PyObject *args) {
     (void)self;
     call c = {.run = run_place};
     if (!PyArg_ParseTuple(args, "s#y#I", &c.text, &c.text_size, &c.settings, &c.settings_size, &c.number)) return NULL;
-    return make(&c, 1) ? answer(&c, PyLong_FromUnsignedLong(c.answer.section)) : NULL;
+    return make(&c, NAME_ROOM) ? answer(&c, whole(&c)) : NULL;
 }
 
 static PyObject *py_settings(PyObject *self, PyObject *args) {
     (void)self;
-    char name[KEY_ROOM];
     call c = {.run = run_settings};
     if (!PyArg_ParseTuple(args, "y#I", &c.text, &c.text_size, &c.number)) return NULL;
     if (!make(&c, SHORT)) return NULL;
-    if (c.answer.status == FIHROSTE_SAME) return answer(&c, list(&c, read_text));
-    size_t size = fihroste_key_name(c.answer.key, (uint8_t *)name, KEY_ROOM);
-    return answer(&c, PyUnicode_FromStringAndSize(name, size > KEY_ROOM ? 0 : (Py_ssize_t)size));
+    return answer(&c, c.answer.status == FIHROSTE_SAME ? list(&c, read_text) : whole(&c));
 }
 
 static PyMethodDef methods[] = {
     {"sort", py_sort, METH_VARARGS, "sort(text, settings, profile): the sorted text, where it differs"},
     {"check", py_check, METH_VARARGS, "check(text, settings, profile): no value"},
     {"find", py_find, METH_VARARGS, "find(text, unique, top_only): the list of imports"},
-    {"place", py_place, METH_VARARGS, "place(module, settings, profile): the number of the section"},
+    {"place", py_place, METH_VARARGS, "place(module, settings, profile): the name of the section"},
     {"settings", py_settings, METH_VARARGS, "settings(settings, profile): the unknown keys, or the key that is refused"},
     {NULL, NULL, 0, NULL}};
 

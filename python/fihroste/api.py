@@ -27,7 +27,6 @@ _WORDS = (
     "more than 200 brackets open",
     "import statement not understood",
 )
-_SECTIONS = ("FUTURE", "STDLIB", "THIRDPARTY", "FIRSTPARTY", "LOCALFOLDER")
 # No file is read beyond this: it is the size at which a text is too long, and one byte.
 _MOST_BYTES = 2**30 + 1
 
@@ -203,12 +202,13 @@ def find_imports_in_file(
 
 
 def place_module(name: str, config: Config = DEFAULT_CONFIG, **config_kwargs: Any) -> str:
-    """The section of a module: "FUTURE", "STDLIB", "THIRDPARTY", "FIRSTPARTY" or "LOCALFOLDER"."""
+    """The section of a module: "FUTURE", "STDLIB", "THIRDPARTY", "FIRSTPARTY", "LOCALFOLDER", or an own one."""
     config = _config(config, None, config_kwargs)
     answer = _answered(_fihroste.place, None, _expect_text(name), config._toml, config._profile)
     if answer[0] == _ARGUMENT:
         raise ValueError("the module's name is not UTF-8")
-    return _SECTIONS[answer[4]]
+    section: str = answer[4]
+    return section
 
 
 def _refuse_parameters(**given: Any) -> None:

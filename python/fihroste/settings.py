@@ -2,6 +2,7 @@
 
 import importlib
 import os
+import re
 import warnings
 from pathlib import Path
 from types import MappingProxyType
@@ -31,6 +32,7 @@ _KINDS: Mapping[str, type] = MappingProxyType(
         "lines_between_types": int,
         "lines_after_imports": int,
         "default_section": str,
+        "sections": list,
         "known_standard_library": list,
         "extra_standard_library": list,
         "known_third_party": list,
@@ -40,6 +42,9 @@ _KINDS: Mapping[str, type] = MappingProxyType(
     }
 )
 _COLLECTIONS = (list, tuple, set, frozenset)
+
+# The keys that may be the list of an own section. The libraries tell whether there is such a section.
+_OWN_LIST = re.compile("known_[a-z][a-z0-9_]*")
 
 # The statuses and labels of fihroste.h.
 _REFUSED = 4
@@ -75,8 +80,11 @@ class Config:
         path = os.fspath(settings_file or "") or _search(settings_path)
         self._text: bytes = _read(path) if path else config._text if config else b""
         self._keywords: Dict[str, Any] = {**(config._keywords if config else {}), **_known(config_overrides)}
-        self._toml, self._profile, unknown = _whole(self._text, self._keywords)
-        unknown += _expect_accepted(self._toml, self._profile, self._keywords)
+        self._toml, self._profile = _whole(self._text, self._keywords)
+        unknown = _expect_accepted(self._toml, self._profile, self._keywords)
+        for key in unknown:
+            if key in self._keywords:
+                raise UnsupportedSettings(f"unknown setting {key}", key)
         for key in unknown if path else ():
             warnings.warn(f"{path}: settings: {key} ignored", stacklevel=2)
 
@@ -89,7 +97,7 @@ def _known(keywords: Mapping[str, Any]) -> Dict[str, Any]:
     """The keywords, with collections as tuples. Refuses those that are no keys, or whose values have another type."""
     known: Dict[str, Any] = {}
     for key, value in keywords.items():
-        kind = _KINDS.get(key)
+        kind = list if _OWN_LIST.fullmatch(key) else _KINDS.get(key)
         if kind is None:
             raise UnsupportedSettings(f"unknown setting {key}", key)
         if kind is list:
@@ -103,17 +111,14 @@ def _known(keywords: Mapping[str, Any]) -> Dict[str, Any]:
     return known
 
 
-def _whole(text: bytes, keywords: Mapping[str, Any]) -> Tuple[bytes, int, List[str]]:
-    """The text of settings that stands for a text under keywords, the number of the profile that wins over it, and the
-    unknown keys that this text has lost."""
+def _whole(text: bytes, keywords: Mapping[str, Any]) -> Tuple[bytes, int]:
+    """The text of settings that stands for a text under keywords, and the number of the profile that wins over it."""
     profile = _PROFILES.get(keywords.get("profile", ""), _NO_PROFILE)
     lines = {key: value for key, value in keywords.items() if key != "profile" or not profile}
     if not lines:
-        return text, profile, []
+        return text, profile
     table = _table(text, next(iter(lines))) if text else {}
-    unknown = sorted(table.keys() - _KINDS.keys())
-    known = {key: value for key, value in table.items() if key in _KINDS}
-    return _toml({**known, **lines}), profile, unknown
+    return _toml({**table, **lines}), profile
 
 
 def _table(text: bytes, key: str) -> Dict[str, Any]:
@@ -142,28 +147,33 @@ def _toml_reader(key: str) -> Any:
 
 
 def _toml(lines: Mapping[str, Any]) -> bytes:
-    text = "".join(f"{key} = {_toml_value(key, value)}\n" for key, value in lines.items())
+    text = "".join(f"{_toml_text(key)} = {_toml_value(value)}\n" for key, value in lines.items())
     return f"[tool.isort]\n{text}".encode()
 
 
-def _toml_value(key: str, value: Any) -> str:
+def _toml_value(value: Any) -> str:
+    """The value as TOML. One that no key may have becomes a table, which no key may have either."""
     if isinstance(value, bool):
         return "true" if value else "false"
     if isinstance(value, int) and -(2**63) <= value < 2**63:
         return str(int(value))
-    if isinstance(value, str):
-        return _toml_text(key, value)
-    if isinstance(value, _COLLECTIONS):
-        return "[" + ", ".join(_toml_text(key, item) for item in value) + "]"
-    raise UnsupportedSettings(f"bad value for {key}: {value!r}", key, f"S{_BAD_VALUE}")
+    if isinstance(value, str) and _is_utf8(value):
+        return _toml_text(value)
+    if isinstance(value, _COLLECTIONS) and all(isinstance(item, str) and _is_utf8(item) for item in value):
+        return "[" + ", ".join(map(_toml_text, value)) + "]"
+    return "{}"
 
 
-def _toml_text(key: str, text: Any) -> str:
-    """The text as a string of TOML."""
+def _is_utf8(text: str) -> bool:
     try:
         text.encode()
-    except (AttributeError, UnicodeEncodeError):
-        raise UnsupportedSettings(f"bad value for {key}: {text!r}", key, f"S{_BAD_VALUE}") from None
+    except UnicodeEncodeError:
+        return False
+    return True
+
+
+def _toml_text(text: str) -> str:
+    """The text as a string of TOML."""
     escaped = [f"\\u{ord(c):04x}" if c < " " or c in '"\\\x7f' else c for c in text]
     return f'"{"".join(escaped)}"'
 

@@ -100,6 +100,13 @@ class Sections(unittest.TestCase):
         self.assertEqual(fihroste.place_module("ab", config), "THIRDPARTY")
         self.assertEqual(fihroste.place_module("os.path", known_third_party=["os"]), "THIRDPARTY")
 
+    def test_own_sections_have_names(self):
+        config = fihroste.Config(sections=["Own", "Other"], known_own=["a"], known_other=["a.b", "os"])
+        self.assertEqual(fihroste.place_module("a.b.c", config), "Other")
+        self.assertEqual(fihroste.place_module("a.c", config), "Own")
+        self.assertEqual(fihroste.place_module("os.path", config), "Other")
+        self.assertEqual(fihroste.place_module(".a", config), "LOCALFOLDER")
+
     def test_names_that_are_no_text(self):
         with self.assertRaises(TypeError):
             fihroste.place_module(b"os")

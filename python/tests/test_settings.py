@@ -65,6 +65,21 @@ class Keywords(unittest.TestCase):
         for name in ('"', "\\", "\n", "\x7f", "\0", "\u00e4", "'''", "\U0001d400"):
             self.assertEqual(fihroste.place_module(name, known_first_party=[name]), "FIRSTPARTY", name)
 
+    def test_own_sections(self):
+        config = Config(sections=["FUTURE", "STDLIB", "Django", "THIRDPARTY"], known_django=["django"])
+        text = "import requests\nimport django.db\nimport os\nfrom . import z\n"
+        wanted = "import os\n\nimport django.db\n\nimport requests\n\nfrom . import z\n"
+        self.assertEqual(fihroste.code(text, config=config), wanted)
+        self.assertEqual(fihroste.place_module("django.db", config), "Django")
+        self.assertEqual(fihroste.place_module("os", config), "STDLIB")
+        long = "a" * 1000
+        self.assertEqual(fihroste.place_module("b", sections=[long], default_section=long), long)
+
+    def test_a_config_goes_on_from_another_with_own_sections(self):
+        other = Config(sections=("Own",), known_own={"mine"})
+        self.assertEqual(fihroste.place_module("mine", Config(config=other, line_length=100)), "Own")
+        self.assertEqual(fihroste.place_module("yours", Config(config=other, known_own=["yours"])), "Own")
+
     def test_a_config_goes_on_from_another(self):
         config = Config(config=Config(profile="black", known_first_party=["mine"]), line_length=200)
         self.assertEqual(fihroste.code(NAMES, config=config), NAMES)
@@ -79,8 +94,10 @@ class Refusals(unittest.TestCase):
         self.assertEqual(fihroste.code("import b\nimport a\n"), "import a\nimport b\n")
 
     def test_unknown_keys_are_named(self):
-        for key in ("skip", "length_sort", "Line_Length", "known_django", "quiet"):
+        for key in ("skip", "length_sort", "Line_Length", "Known_django", "known_Django", "known_1", "known_\ud800", "quiet"):
             self.expect(key, None, **{key: True})
+        self.expect("known_django", None, known_django=["django"])
+        self.expect("known_django", None, sections=["Own"], known_django=["django"])
 
     def test_bad_values_name_their_key(self):
         self.expect("line_length", "S2", line_length=0)
@@ -89,6 +106,10 @@ class Refusals(unittest.TestCase):
         self.expect("default_section", "S2", default_section="third")
         self.expect("known_third_party", "S2", known_third_party=["a*"])
         self.expect("known_third_party", "S2", known_third_party=["\ud800"])
+        self.expect("sections", "S2", sections=["Own", "own"])
+        self.expect("sections", "S2", sections=["1"], known_first_party=["a"])
+        self.expect("known_own", "S2", sections=["Own"], known_own=["a*"])
+        self.expect("default_section", "S2", sections=["Own"], default_section="own")
         self.expect("multi_line_output", "S4", multi_line_output=4)
 
     def test_other_profiles_do_not_exist(self):
@@ -107,6 +128,8 @@ class Refusals(unittest.TestCase):
             {"known_first_party": "abc"},
             {"known_first_party": [1]},
             {"known_first_party": {"a": 1}},
+            {"sections": "FUTURE"},
+            {"known_own": "abc"},
             {"config": {}},
             {"settings_file": 1.5},
         ):
@@ -190,6 +213,17 @@ class Files(unittest.TestCase):
             self.assertEqual(fihroste.code(NAMES, settings_file=path, case_sensitive=True), NAMES)
         self.assertEqual(fihroste.code(NAMES, settings_file=self.write("", "empty.toml"), line_length=200), NAMES)
 
+    @unittest.skipUnless(HAS_READER, "needs a reader of TOML")
+    def test_keywords_win_over_a_file_with_own_sections(self):
+        path = self.write('[tool.isort]\nsections = ["Own"]\nknown_own = ["mine"]\nknown_x = [1.5]\n', "settings.toml")
+        with warnings.catch_warnings(record=True) as told:
+            warnings.simplefilter("always")
+            self.assertEqual(fihroste.place_module("mine", settings_file=path, line_length=100), "Own")
+            self.assertEqual(fihroste.place_module("mine", settings_file=path, known_own=["a"]), "THIRDPARTY")
+            self.assertEqual(fihroste.place_module("mine", settings_file=path, sections=["X"], known_x=["mine"]), "X")
+        wanted = [f"{path}: settings: {key} ignored" for key in ("known_x", "known_x", "known_own")]
+        self.assertEqual([str(one.message) for one in told], wanted)
+
     @unittest.skipIf(HAS_READER, "there is a reader of TOML")
     def test_keywords_over_a_file_need_a_reader(self):
         path = self.write("[tool.isort]\nline_length = 200\n", "settings.toml")
@@ -214,6 +248,8 @@ class Files(unittest.TestCase):
             ("[tool]\nisort = 1\n", UnsupportedSettings, "tool.isort", "S2"),
             ("[tool]\nisort = []\n", UnsupportedSettings, "tool.isort", "S2"),
             ("[tool.isort]\nmulti_line_output = 9\n", UnsupportedSettings, "multi_line_output", "S4"),
+            ("[tool.isort]\nsections = ['A']\nknown_a = 1.5\nline_length = 2.5\n", UnsupportedSettings, "known_a", "S2"),
+            ("[tool.isort]\nsections = ['1a']\nknown_1a = 1.5\n", UnsupportedSettings, "sections", "S2"),
         ):
             path = self.write(text, "settings.toml")
             for keywords in ({}, {"case_sensitive": True}) if HAS_READER else ({},):

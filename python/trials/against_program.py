@@ -22,6 +22,8 @@ from fihroste.exceptions import ExistingSyntaxErrors, FileSkipComment
 SETTINGS = """[tool.isort]
 profile = "black"
 line_length = 60
+sections = ["Network", "FUTURE", "STDLIB"]
+known_network = ["socket", "http", "urllib.request"]
 known_first_party = ["test", "pip"]
 force_sort_within_sections = true
 """

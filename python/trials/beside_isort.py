@@ -29,6 +29,10 @@ TEXTS = [
     ("from basket import zero, one\nimport os, json\n\nx = 1\n", {"profile": "black"}),
     ("import shop\nimport os\n", {"known_first_party": ["shop"], "lines_between_sections": 2}),
     ("import os\n", {"line_length": 40}),
+    (
+        "import requests\nimport django.db\nimport os\n",
+        {"sections": ["STDLIB", "DJANGO", "THIRDPARTY"], "known_django": ["django"]},
+    ),
 ]
 
 

@@ -44,6 +44,7 @@ SETTINGS = [
     {"lines_between_sections": 0, "lines_between_types": 2, "lines_after_imports": 3},
     {"force_grid_wrap": 2, "ensure_newline_before_comments": True},
     {"default_section": "LOCALFOLDER", "known_first_party": ["a", "m"], "known_third_party": ["a.b"]},
+    {"sections": ["Own", "LOCALFOLDER"], "known_own": ["a", "b"], "default_section": "Own"},
 ]
 
 
