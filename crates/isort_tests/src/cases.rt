@@ -53,6 +53,26 @@ pub(crate) fn each_holds_plainly<C: PlainCase>(alloc: Global, cases: &[C]) -> Re
     Ok(())
 }
 
+/// A row of a test's table that is tried under lines of `[tool.isort]`.
+pub(crate) trait LinesCase {
+    /// Whether what the row says is so with these lines added to its own. Where a call fails that has to go well, it isn't.
+    fn holds_with(&self, alloc: Global, more: &str) -> bool;
+}
+
+/// Every row holds with these lines added. One that doesn't is tried once more, as above.
+pub(crate) fn each_holds_with<C: LinesCase>(
+    alloc: Global,
+    more: &str,
+    cases: &[C],
+) -> Result<(), Fail> {
+    for (i, case) in cases.iter().enumerate() {
+        if !case.holds_with(alloc, more) && !case.holds_with(alloc, more) {
+            return Err(Fail::new(format_args!("row {i} does not hold")));
+        }
+    }
+    Ok(())
+}
+
 /// More bytes than a row tells.
 const ROOM: usize = 4096;
 

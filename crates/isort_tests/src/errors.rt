@@ -1,7 +1,7 @@
-use crate::cases::{Case, each_holds_again};
+use crate::cases::{Case, all_are_so, each_holds_again};
 use isort_cmd::{RunError, fault_text, settings_text};
 use isort_find::{FindError, ResumeError};
-use isort_settings::{SettingKey, SettingsError};
+use isort_settings::{Settings, SettingsError};
 use isort_sort::SortError;
 use py_imports::ImportError;
 use py_lines::{Fault, FaultKind, LexError};
@@ -70,21 +70,6 @@ const RESUMING: &[Shown<ResumeError>] = &[
     ),
 ];
 
-const SETTINGS: &[Shown<SettingsError>] = &[
-    Shown(SettingsError::Memory, NO_MEMORY),
-    Shown(SettingsError::BadToml, "the settings are not TOML"),
-    Shown(
-        SettingsError::BadValue(SettingKey::LineLength),
-        "bad value for line_length",
-    ),
-    Shown(
-        SettingsError::BadValue(SettingKey::ToolIsort),
-        "bad value for tool.isort",
-    ),
-    Shown(SettingsError::UnknownProfile, "unknown profile"),
-    Shown(SettingsError::UnsupportedMode, "unsupported wrap mode"),
-];
-
 const SORTING: &[Shown<SortError>] = &[
     Shown(SortError::Memory, NO_MEMORY),
     Shown(SortError::Fault(FAULT), FAULT_TEXT),
@@ -98,7 +83,6 @@ fn displays_errors(rt: HostRuntime) -> Result<(), Fail> {
     each_holds_again(rt.alloc(), IMPORTS)?;
     each_holds_again(rt.alloc(), FINDING)?;
     each_holds_again(rt.alloc(), RESUMING)?;
-    each_holds_again(rt.alloc(), SETTINGS)?;
     each_holds_again(rt.alloc(), SORTING)
 }
 
@@ -159,40 +143,76 @@ fn tells_errors(rt: HostRuntime) -> Result<(), Fail> {
     each_holds_again(rt.alloc(), RUN_ERRORS)
 }
 
-/// Why settings are refused, and the line that tells of it.
-struct SettingsLine(SettingsError, &'static str);
+/// Lines of settings that are refused, the text of the error, and the line that tells of it.
+struct Refusal(&'static str, &'static str, &'static str);
 
-impl Case for SettingsLine {
+/// Whether the error has this text, and this line tells of it.
+fn is_told(alloc: Global, error: &SettingsError, shown: &str, line: &str) -> bool {
+    match (format!(in alloc; "{error}"), settings_text(alloc, error)) {
+        (Ok(text), Ok(told)) => text.as_str() == shown && told.as_str() == line,
+        _ => false,
+    }
+}
+
+impl Case for Refusal {
     fn holds(&self, alloc: Global) -> bool {
-        match settings_text(alloc, &self.0) {
-            Ok(text) => text.as_str() == self.1,
-            Err(_) => false,
+        match Settings::from_pyproject(alloc, self.0.as_bytes(), None) {
+            Ok(_) => false,
+            Err(error) => is_told(alloc, &error, self.1, self.2),
         }
     }
 }
 
-const REFUSALS: &[SettingsLine] = &[
-    SettingsLine(SettingsError::BadToml, "isort: settings: S1 not TOML\n"),
-    SettingsLine(
-        SettingsError::BadValue(SettingKey::LineLength),
+const REFUSALS: &[Refusal] = &[
+    Refusal(
+        "[tool",
+        "the settings are not TOML",
+        "isort: settings: S1 not TOML\n",
+    ),
+    Refusal(
+        "[tool.isort]\nline_length = 0",
+        "bad value for line_length",
         "isort: settings: S2 bad value for line_length\n",
     ),
-    SettingsLine(
-        SettingsError::BadValue(SettingKey::ToolIsort),
+    Refusal(
+        "[tool]\nisort = 1",
+        "bad value for tool.isort",
         "isort: settings: S2 bad value for tool.isort\n",
     ),
-    SettingsLine(
-        SettingsError::UnknownProfile,
+    Refusal(
+        "[tool.isort]\nsections = [\"A\", \"a\"]",
+        "bad value for sections",
+        "isort: settings: S2 bad value for sections\n",
+    ),
+    Refusal(
+        "[tool.isort]\nsections = [\"Django\"]\nknown_django = 1",
+        "bad value for known_django",
+        "isort: settings: S2 bad value for known_django\n",
+    ),
+    Refusal(
+        "[tool.isort]\nprofile = \"white\"",
+        "unknown profile",
         "isort: settings: S3 unknown profile\n",
     ),
-    SettingsLine(
-        SettingsError::UnsupportedMode,
+    Refusal(
+        "[tool.isort]\nmulti_line_output = 4",
+        "unsupported wrap mode",
         "isort: settings: S4 unsupported multi_line_output\n",
     ),
-    SettingsLine(SettingsError::Memory, "isort: R5 out of memory\n"),
 ];
+
+fn tells_of_memory(alloc: Global) -> bool {
+    is_told(
+        alloc,
+        &SettingsError::Memory,
+        NO_MEMORY,
+        "isort: R5 out of memory\n",
+    )
+}
 
 #[test]
 fn tells_of_settings(rt: HostRuntime) -> Result<(), Fail> {
-    each_holds_again(rt.alloc(), REFUSALS)
+    let alloc = rt.alloc();
+    all_are_so(&[tells_of_memory(alloc) || tells_of_memory(alloc)])?;
+    each_holds_again(alloc, REFUSALS)
 }

@@ -23,6 +23,8 @@ mod lines;
 #[cfg(test)]
 mod metered;
 #[cfg(test)]
+mod own_sections;
+#[cfg(test)]
 mod pieces;
 #[cfg(test)]
 mod report;

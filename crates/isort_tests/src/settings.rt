@@ -1,4 +1,7 @@
-use crate::cases::{Case, PlainCase, all_are_so, are_texts, each_holds_again, each_holds_plainly};
+use crate::cases::{
+    Case, LinesCase, PlainCase, all_are_so, are_texts, each_holds_again, each_holds_plainly,
+    each_holds_with,
+};
 use isort_settings::{Modules, Profile, Section, SettingKey, Settings, SettingsError, laws};
 use std::alloc::{AllocError, Global};
 use std::cmp::Ordering;
@@ -24,12 +27,45 @@ fn ascend(settings: &Settings, names: &[&str]) -> bool {
 
 const BLACK: Option<Profile> = Some(Profile::Black);
 
-/// A text, the profile that is handed in, and how the text is refused.
-struct Refused(&'static [u8], Option<Profile>, SettingsError);
+/// Why settings are refused.
+#[derive(Clone, Copy)]
+pub(crate) enum Why {
+    /// The text is not TOML.
+    Toml,
+    /// The value of the key of this name is bad.
+    Value(&'static str),
+    /// The profile is unknown.
+    Profile,
+    /// The wrap mode is not supported.
+    Mode,
+}
+
+impl Why {
+    /// Whether the error says so.
+    fn is_said_by(self, error: &SettingsError) -> bool {
+        match (self, error) {
+            (Why::Toml, SettingsError::BadToml)
+            | (Why::Profile, SettingsError::UnknownProfile)
+            | (Why::Mode, SettingsError::UnsupportedMode) => true,
+            (Why::Value(name), SettingsError::BadValue(key)) => key.name() == name,
+            _ => false,
+        }
+    }
+}
+
+/// A text, the profile that is handed in, and why the text is refused.
+pub(crate) struct Refused(
+    pub(crate) &'static [u8],
+    pub(crate) Option<Profile>,
+    pub(crate) Why,
+);
 
 impl Case for Refused {
     fn holds(&self, alloc: Global) -> bool {
-        Settings::from_pyproject(alloc, self.0, self.1).err() == Some(self.2)
+        match Settings::from_pyproject(alloc, self.0, self.1) {
+            Ok(_) => false,
+            Err(error) => self.2.is_said_by(&error),
+        }
     }
 }
 
@@ -37,105 +73,77 @@ const REFUSED: &[Refused] = &[
     Refused(
         b"[tool.isort]\nline_length = \"x\"",
         None,
-        SettingsError::BadValue(SettingKey::LineLength),
+        Why::Value("line_length"),
     ),
     Refused(
         b"[tool.isort]\nline_length = 0",
         None,
-        SettingsError::BadValue(SettingKey::LineLength),
+        Why::Value("line_length"),
     ),
     Refused(
         b"[tool.isort]\nline_length = 10001",
         None,
-        SettingsError::BadValue(SettingKey::LineLength),
+        Why::Value("line_length"),
     ),
     Refused(
         b"[tool.isort]\nline_length = 0\ncombine_as_imports = 3",
         None,
-        SettingsError::BadValue(SettingKey::CombineAsImports),
+        Why::Value("combine_as_imports"),
     ),
     Refused(
         b"[tool.isort]\ncase_sensitive = 1\nprofile = \"google\"",
         None,
-        SettingsError::UnknownProfile,
+        Why::Profile,
     ),
-    Refused(
-        b"[tool.isort]\nprofile = \"google\"",
-        None,
-        SettingsError::UnknownProfile,
-    ),
-    Refused(
-        b"[tool.isort]\nprofile = 1",
-        None,
-        SettingsError::BadValue(SettingKey::Profile),
-    ),
-    Refused(
-        b"[tool.isort]\nmulti_line_output = 7",
-        None,
-        SettingsError::UnsupportedMode,
-    ),
-    Refused(
-        b"[tool.isort]\nmulti_line_output = -1",
-        None,
-        SettingsError::UnsupportedMode,
-    ),
+    Refused(b"[tool.isort]\nprofile = \"google\"", None, Why::Profile),
+    Refused(b"[tool.isort]\nprofile = 1", None, Why::Value("profile")),
+    Refused(b"[tool.isort]\nmulti_line_output = 7", None, Why::Mode),
+    Refused(b"[tool.isort]\nmulti_line_output = -1", None, Why::Mode),
     Refused(
         b"[tool.isort]\nmulti_line_output = \"3\"",
         None,
-        SettingsError::BadValue(SettingKey::MultiLineOutput),
+        Why::Value("multi_line_output"),
     ),
     Refused(
         b"[tool.isort]\nknown_first_party = [\"a*\"]",
         None,
-        SettingsError::BadValue(SettingKey::KnownFirstParty),
+        Why::Value("known_first_party"),
     ),
     Refused(
         b"[tool.isort]\nknown_third_party = [\"a\", \"b?\"]",
         None,
-        SettingsError::BadValue(SettingKey::KnownThirdParty),
+        Why::Value("known_third_party"),
     ),
     Refused(
         b"[tool.isort]\nknown_third_party = \"a,b\"",
         None,
-        SettingsError::BadValue(SettingKey::KnownThirdParty),
+        Why::Value("known_third_party"),
     ),
     Refused(
         b"[tool.isort]\ndefault_section = \"future\"",
         None,
-        SettingsError::BadValue(SettingKey::DefaultSection),
+        Why::Value("default_section"),
     ),
     Refused(
         b"[tool.isort]\nlines_after_imports = -2",
         None,
-        SettingsError::BadValue(SettingKey::LinesAfterImports),
+        Why::Value("lines_after_imports"),
     ),
     Refused(
         b"[tool.isort]\nlines_between_types = 101",
         None,
-        SettingsError::BadValue(SettingKey::LinesBetweenTypes),
+        Why::Value("lines_between_types"),
     ),
     Refused(
         b"[tool.isort]\nforce_grid_wrap = 1.0",
         None,
-        SettingsError::BadValue(SettingKey::ForceGridWrap),
+        Why::Value("force_grid_wrap"),
     ),
-    Refused(b"[tool", BLACK, SettingsError::BadToml),
-    Refused(b"# \xff\n", BLACK, SettingsError::BadToml),
-    Refused(
-        b"tool = 1",
-        BLACK,
-        SettingsError::BadValue(SettingKey::Tool),
-    ),
-    Refused(
-        b"[tool]\nisort = 1",
-        BLACK,
-        SettingsError::BadValue(SettingKey::ToolIsort),
-    ),
-    Refused(
-        b"[[tool.isort]]\n",
-        BLACK,
-        SettingsError::BadValue(SettingKey::ToolIsort),
-    ),
+    Refused(b"[tool", BLACK, Why::Toml),
+    Refused(b"# \xff\n", BLACK, Why::Toml),
+    Refused(b"tool = 1", BLACK, Why::Value("tool")),
+    Refused(b"[tool]\nisort = 1", BLACK, Why::Value("tool.isort")),
+    Refused(b"[[tool.isort]]\n", BLACK, Why::Value("tool.isort")),
 ];
 
 #[test]
@@ -270,38 +278,42 @@ fn texts(rt: HostRuntime) -> Result<(), Fail> {
     each_holds_again(rt.alloc(), STANDS)
 }
 
-const OUT_OF_RANGE: Result<(), SettingsError> = Err(SettingsError::BadValue(
-    SettingKey::LineLength,
-));
-
-/// A line length, what its setter answers, and the length that the settings then have.
-const LENGTHS: &[(u32, Result<(), SettingsError>, u32)] = &[
-    (0, OUT_OF_RANGE, 79),
-    (1, Ok(()), 1),
-    (10_000, Ok(()), 10_000),
-    (10_001, OUT_OF_RANGE, 10_000),
+/// A line length, whether its setter takes it, and the length that the settings then have.
+const LENGTHS: &[(u32, bool, u32)] = &[
+    (0, false, 79),
+    (1, true, 1),
+    (10_000, true, 10_000),
+    (10_001, false, 10_000),
 ];
+
+/// What a setter answers, as whether it takes the value; none where that is another refusal than this one.
+fn is_taken(set: Result<(), SettingsError>, refusal: Why) -> Option<bool> {
+    match set {
+        Ok(()) => Some(true),
+        Err(error) if refusal.is_said_by(&error) => Some(false),
+        Err(_) => None,
+    }
+}
 
 /// Whether each length is set so, one after another.
 fn sets_lengths(settings: &mut Settings) -> bool {
     for (length, want, kept) in LENGTHS {
-        if settings.set_line_length(*length) != *want || settings.line_length != *kept {
+        let taken = is_taken(settings.set_line_length(*length), Why::Value("line_length"));
+        if taken != Some(*want) || settings.line_length != *kept {
             return false;
         }
     }
     true
 }
 
-/// A wrap mode, and what its setter answers.
-const MODES: &[(u32, Result<(), SettingsError>)] = &[
-    (3, Ok(())),
-    (4, Err(SettingsError::UnsupportedMode)),
-];
+/// A wrap mode, and whether its setter takes it.
+const MODES: &[(u32, bool)] = &[(3, true), (4, false)];
 
 /// Whether each mode is set so, one after another.
 fn sets_modes(settings: &mut Settings) -> bool {
     for (mode, want) in MODES {
-        if settings.set_mode(*mode) != *want || settings.multi_line_output != 3 {
+        let taken = is_taken(settings.set_mode(*mode), Why::Mode);
+        if taken != Some(*want) || settings.multi_line_output != 3 {
             return false;
         }
     }
@@ -348,17 +360,33 @@ fn lists_of_modules(rt: HostRuntime) -> Result<(), Fail> {
     all_are_so(&[are_lists(alloc) == Ok(true) || are_lists(alloc) == Ok(true)])
 }
 
-/// A text, a module, and its section under the settings of the text.
-struct Sectioned(&'static str, &'static str, Section);
+/// Lines of `[tool.isort]`, a module, and its section under these settings.
+pub(crate) struct Sectioned(
+    pub(crate) &'static str,
+    pub(crate) &'static str,
+    pub(crate) Section,
+);
 
-impl Case for Sectioned {
-    fn holds(&self, alloc: Global) -> bool {
-        match Settings::from_pyproject(alloc, self.0.as_bytes(), None) {
+impl Sectioned {
+    fn holds_under(&self, alloc: Global, table: &[u8]) -> bool {
+        match Settings::from_pyproject(alloc, table, None) {
             Ok((settings, _)) => settings.section_of(self.1) == self.2,
             Err(_) => false,
         }
     }
 }
+
+impl LinesCase for Sectioned {
+    fn holds_with(&self, alloc: Global, more: &str) -> bool {
+        match format!(in alloc; "[tool.isort]\n{}\n{more}", self.0) {
+            Ok(table) => self.holds_under(alloc, table.as_bytes()),
+            Err(_) => false,
+        }
+    }
+}
+
+/// An own section that holds no module of the other rows.
+pub(crate) const OWN: &str = "sections = [\"FUTURE\", \"Own\"]\nknown_own = [\"own\"]\n";
 
 const SECTIONS: &[Sectioned] = &[
     Sectioned("", "os.path", Section::Stdlib),
@@ -367,42 +395,34 @@ const SECTIONS: &[Sectioned] = &[
     Sectioned("", ".", Section::LocalFolder),
     Sectioned("", "__future__", Section::Future),
     Sectioned(
-        "[tool.isort]\nknown_third_party = [\"os\"]",
+        "known_third_party = [\"os\"]",
         "os.path",
         Section::ThirdParty,
     ),
     Sectioned(
-        "[tool.isort]\nknown_first_party = [\"a\"]\nknown_third_party = [\"a\"]",
+        "known_first_party = [\"a\"]\nknown_third_party = [\"a\"]",
         "a",
         Section::FirstParty,
     ),
     Sectioned(
-        "[tool.isort]\nextra_standard_library = [\"six\"]",
+        "extra_standard_library = [\"six\"]",
         "six.moves",
         Section::Stdlib,
     ),
+    Sectioned("known_standard_library = []", "os", Section::ThirdParty),
     Sectioned(
-        "[tool.isort]\nknown_standard_library = []",
-        "os",
-        Section::ThirdParty,
-    ),
-    Sectioned(
-        "[tool.isort]\ndefault_section = \"FIRSTPARTY\"",
+        "default_section = \"FIRSTPARTY\"",
         "requests",
         Section::FirstParty,
     ),
+    Sectioned("known_first_party = [\"a\"]", "ab", Section::ThirdParty),
     Sectioned(
-        "[tool.isort]\nknown_first_party = [\"a\"]",
-        "ab",
-        Section::ThirdParty,
-    ),
-    Sectioned(
-        "[tool.isort]\nknown_first_party = [\"a\"]\nknown_third_party = [\"a.b\"]",
+        "known_first_party = [\"a\"]\nknown_third_party = [\"a.b\"]",
         "a.b.c",
         Section::ThirdParty,
     ),
     Sectioned(
-        "[tool.isort]\nknown_first_party = [\"a\"]\nknown_third_party = [\"a.b\"]",
+        "known_first_party = [\"a\"]\nknown_third_party = [\"a.b\"]",
         "a.c",
         Section::FirstParty,
     ),
@@ -410,7 +430,12 @@ const SECTIONS: &[Sectioned] = &[
 
 #[test]
 fn sections(rt: HostRuntime) -> Result<(), Fail> {
-    each_holds_again(rt.alloc(), SECTIONS)
+    each_holds_with(rt.alloc(), "", SECTIONS)
+}
+
+#[test]
+fn sections_beside_own_ones(rt: HostRuntime) -> Result<(), Fail> {
+    each_holds_with(rt.alloc(), OWN, SECTIONS)
 }
 
 /// Whether names are ordered by their classes, whether their case counts, and names in their order.
@@ -482,6 +507,6 @@ fn names() -> Result<(), Fail> {
         SettingKey::LineLength.name() == "line_length",
         SettingKey::Tool.name() == "tool",
         SettingKey::ToolIsort.name() == "tool.isort",
-        laws::sections_are_in_order(Section::Future, Section::Stdlib) == Less,
+        SettingKey::Sections.name() == "sections",
     ])
 }

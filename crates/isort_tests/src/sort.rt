@@ -1,4 +1,7 @@
-use crate::cases::{Case, PlainCase, all_are_so, each_holds_again, each_holds_plainly};
+use crate::cases::{
+    Case, LinesCase, PlainCase, all_are_so, each_holds_again, each_holds_plainly, each_holds_with,
+};
+use crate::settings::OWN;
 use crate::writing::is_written;
 use isort_settings::Settings;
 use isort_sort::{Outcome, SortError, Sorted, blocks, check_code, sort_code};
@@ -54,16 +57,22 @@ impl Under {
     }
 }
 
-impl Case for Under {
-    fn holds(&self, alloc: Global) -> bool {
-        match format!(in alloc; "[tool.isort]\n{}\n", self.0) {
+impl LinesCase for Under {
+    fn holds_with(&self, alloc: Global, more: &str) -> bool {
+        match format!(in alloc; "[tool.isort]\n{}\n{more}", self.0) {
             Ok(table) => self.holds_under(alloc, table.as_bytes()),
             Err(_) => false,
         }
     }
 }
 
-pub(crate) const STATEMENTS: &[Under] = &[
+impl Case for Under {
+    fn holds(&self, alloc: Global) -> bool {
+        self.holds_with(alloc, "")
+    }
+}
+
+const STATEMENTS: &[Under] = &[
     Under(
         "",
         "from . import z\nimport sys\nimport requests\nfrom __future__ import annotations\nimport os\n",
@@ -116,7 +125,12 @@ fn orders_statements(rt: HostRuntime) -> Result<(), Fail> {
     each_holds_again(rt.alloc(), STATEMENTS)
 }
 
-pub(crate) const MERGED: &[Under] = &[
+#[test]
+fn orders_statements_beside_own_sections(rt: HostRuntime) -> Result<(), Fail> {
+    each_holds_with(rt.alloc(), OWN, STATEMENTS)
+}
+
+const MERGED: &[Under] = &[
     Under(
         "",
         "from a import c as d, b\n",

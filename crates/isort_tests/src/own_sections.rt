@@ -1,0 +1,392 @@
+use crate::cases::{Case, LinesCase, all_are_so, are_texts, each_holds_again, each_holds_with};
+use crate::settings::{Refused, Sectioned, Why};
+use crate::sort::Under;
+use isort_cmd::{Metered, sort_run};
+use isort_settings::{Section, Settings};
+use isort_sort::Outcome;
+use std::alloc::Global;
+use std::test::Fail;
+
+/// A Django project, a text, and what it is sorted to.
+const DJANGO: &str =
+    "sections = [\"FUTURE\", \"STDLIB\", \"Django\", \"THIRDPARTY\"]\nknown_django = [\"django\"]\n";
+
+const UNSORTED: &str = "import requests\nimport django.db\nimport os\nfrom . import z\n";
+
+const SORTED: &str = "import os\n\nimport django.db\n\nimport requests\n\nfrom . import z\n";
+
+/// Two own sections before the five, the second of which comes first by its name.
+const TWO: &str =
+    "sections = [\"Web\", \"Data_2\"]\nknown_web = [\"flask\", \"m\"]\nknown_data_2 = [\"m.n\", \"m\", \"os\"]\n";
+
+const REFUSED: &[Refused] = &[
+    Refused(
+        b"[tool.isort]\nsections = [\"A\", \"a\"]",
+        None,
+        Why::Value("sections"),
+    ),
+    Refused(
+        b"[tool.isort]\nsections = [\"1a\"]",
+        None,
+        Why::Value("sections"),
+    ),
+    Refused(
+        b"[tool.isort]\nsections = [\"stdlib\"]",
+        None,
+        Why::Value("sections"),
+    ),
+    Refused(
+        b"[tool.isort]\nsections = [\"First_Party\"]",
+        None,
+        Why::Value("sections"),
+    ),
+    Refused(
+        b"[tool.isort]\nsections = [\"A00\", \"A01\", \"A02\", \"A03\", \"A04\", \"A05\", \"A06\", \"A07\", \"A08\", \"A09\", \"A10\", \"A11\", \"A12\", \"A13\", \"A14\", \"A15\", \"A16\", \"A17\", \"A18\", \"A19\", \"A20\", \"A21\", \"A22\", \"A23\", \"A24\", \"A25\", \"A26\", \"A27\", \"A28\", \"A29\", \"A30\", \"A31\", \"A32\", \"A33\", \"A34\", \"A35\", \"A36\", \"A37\", \"A38\", \"A39\", \"A40\", \"A41\", \"A42\", \"A43\", \"A44\", \"A45\", \"A46\", \"A47\", \"A48\", \"A49\", \"A50\", \"A51\", \"A52\", \"A53\", \"A54\", \"A55\", \"A56\", \"A57\", \"A58\", \"A59\", \"A60\", \"A61\", \"A62\", \"A63\", \"A64\"]",
+        None,
+        Why::Value("sections"),
+    ),
+    Refused(
+        b"[tool.isort]\nsections = [\"A\"]\nknown_a = 1",
+        None,
+        Why::Value("known_a"),
+    ),
+    Refused(
+        b"[tool.isort]\nsections = [\"1a\"]\ndefault_section = \"1a\"",
+        None,
+        Why::Value("default_section"),
+    ),
+    // A name twice, names that are no words, and the five in other capitals.
+    Refused(
+        b"[tool.isort]\nsections = [\"STDLIB\", \"STDLIB\"]",
+        None,
+        Why::Value("sections"),
+    ),
+    Refused(
+        b"[tool.isort]\nsections = [\"\"]",
+        None,
+        Why::Value("sections"),
+    ),
+    Refused(
+        b"[tool.isort]\nsections = [\"_a\"]",
+        None,
+        Why::Value("sections"),
+    ),
+    Refused(
+        b"[tool.isort]\nsections = [\"a-b\"]",
+        None,
+        Why::Value("sections"),
+    ),
+    Refused(
+        b"[tool.isort]\nsections = [\"\xc3\xa9\"]",
+        None,
+        Why::Value("sections"),
+    ),
+    Refused(
+        b"[tool.isort]\nsections = [\"Future\"]",
+        None,
+        Why::Value("sections"),
+    ),
+    Refused(
+        b"[tool.isort]\nsections = [\"thirdparty\"]",
+        None,
+        Why::Value("sections"),
+    ),
+    // Names whose list would be a key of the table.
+    Refused(
+        b"[tool.isort]\nsections = [\"standard_library\"]",
+        None,
+        Why::Value("sections"),
+    ),
+    Refused(
+        b"[tool.isort]\nsections = [\"Third_Party\"]",
+        None,
+        Why::Value("sections"),
+    ),
+    Refused(
+        b"[tool.isort]\nsections = [\"LOCAL_FOLDER\"]",
+        None,
+        Why::Value("sections"),
+    ),
+    Refused(
+        b"[tool.isort]\nsections = [\"Future_Library\"]",
+        None,
+        Why::Value("sections"),
+    ),
+    // Values that are no lists of texts.
+    Refused(
+        b"[tool.isort]\nsections = \"A\"",
+        None,
+        Why::Value("sections"),
+    ),
+    Refused(
+        b"[tool.isort]\nsections = [\"A\", 1]",
+        None,
+        Why::Value("sections"),
+    ),
+    Refused(
+        b"[tool.isort]\nsections = [\"A\"]\nknown_a = [\"b\", \"c*\"]",
+        None,
+        Why::Value("known_a"),
+    ),
+    // The first refusal by the bytes of the keys. Where `sections` is refused, no own list is judged.
+    Refused(
+        b"[tool.isort]\nsections = [\"1a\"]\nknown_1a = 1",
+        None,
+        Why::Value("sections"),
+    ),
+    Refused(
+        b"[tool.isort]\nsections = [\"A\", \"a\"]\nknown_a = 1\nuse_parentheses = 1",
+        None,
+        Why::Value("sections"),
+    ),
+    Refused(
+        b"[tool.isort]\nsections = [\"A\"]\nknown_a = 1\nline_length = 0",
+        None,
+        Why::Value("known_a"),
+    ),
+    Refused(
+        b"[tool.isort]\nsections = [\"A\"]\nknown_a = 1\nknown_third_party = 1",
+        None,
+        Why::Value("known_a"),
+    ),
+    Refused(
+        b"[tool.isort]\nsections = [\"A\"]\nknown_a = 1\ndefault_section = \"B\"",
+        None,
+        Why::Value("default_section"),
+    ),
+    Refused(
+        b"[tool.isort]\nsections = [\"A\"]\ndefault_section = \"a\"",
+        None,
+        Why::Value("default_section"),
+    ),
+];
+
+#[test]
+fn refuses_sections(rt: HostRuntime) -> Result<(), Fail> {
+    each_holds_again(rt.alloc(), REFUSED)
+}
+
+/// Lines of `[tool.isort]`, and its unknown keys.
+struct Accepted(&'static str, &'static [&'static str]);
+
+impl Accepted {
+    fn is_accepted(&self, alloc: Global, table: &[u8]) -> bool {
+        match Settings::from_pyproject(alloc, table, None) {
+            Ok((_, unknown)) => are_texts(unknown.as_slice(), self.1),
+            Err(_) => false,
+        }
+    }
+}
+
+impl Case for Accepted {
+    fn holds(&self, alloc: Global) -> bool {
+        match format!(in alloc; "[tool.isort]\n{}\n", self.0) {
+            Ok(table) => self.is_accepted(alloc, table.as_bytes()),
+            Err(_) => false,
+        }
+    }
+}
+
+const ACCEPTED: &[Accepted] = &[
+    Accepted("sections = []", &[]),
+    Accepted(
+        "sections = [\"A00\", \"A01\", \"A02\", \"A03\", \"A04\", \"A05\", \"A06\", \"A07\", \"A08\", \"A09\", \"A10\", \"A11\", \"A12\", \"A13\", \"A14\", \"A15\", \"A16\", \"A17\", \"A18\", \"A19\", \"A20\", \"A21\", \"A22\", \"A23\", \"A24\", \"A25\", \"A26\", \"A27\", \"A28\", \"A29\", \"A30\", \"A31\", \"A32\", \"A33\", \"A34\", \"A35\", \"A36\", \"A37\", \"A38\", \"A39\", \"A40\", \"A41\", \"A42\", \"A43\", \"A44\", \"A45\", \"A46\", \"A47\", \"A48\", \"A49\", \"A50\", \"A51\", \"A52\", \"A53\", \"A54\", \"A55\", \"A56\", \"A57\", \"A58\", \"A59\", \"A60\", \"A61\", \"A62\", \"A63\"]",
+        &[],
+    ),
+    Accepted("known_a = [\"x\"]", &["known_a"]),
+    Accepted("known_a = 1", &["known_a"]),
+    Accepted(
+        "sections = [\"A\"]\nknown_A = [\"x\"]\nknown_b = 1",
+        &["known_A", "known_b"],
+    ),
+    Accepted(
+        "sections = [\"A\", \"LOCALFOLDER\"]\nknown_a = []\ndefault_section = \"A\"",
+        &[],
+    ),
+    Accepted(
+        "sections = [\"a_1\", \"B9\"]\nknown_a_1 = [\"x.y\"]\nknown_b9 = []",
+        &[],
+    ),
+];
+
+#[test]
+fn accepts_sections(rt: HostRuntime) -> Result<(), Fail> {
+    each_holds_again(rt.alloc(), ACCEPTED)
+}
+
+const SECTIONS: &[Sectioned] = &[
+    Sectioned(DJANGO, "django.db", Section::Own(0)),
+    Sectioned(DJANGO, "django", Section::Own(0)),
+    Sectioned(DJANGO, "djangox", Section::ThirdParty),
+    Sectioned(DJANGO, "os", Section::Stdlib),
+    Sectioned(DJANGO, ".django", Section::LocalFolder),
+    // The own lists first, in the order of `sections`, but a longer prefix before all.
+    Sectioned(TWO, "m", Section::Own(0)),
+    Sectioned(TWO, "m.n.o", Section::Own(1)),
+    Sectioned(TWO, "m.o", Section::Own(0)),
+    Sectioned(TWO, "os.path", Section::Own(1)),
+    Sectioned(TWO, "requests", Section::ThirdParty),
+    Sectioned(
+        "sections = [\"A\"]\nknown_a = [\"m\"]\nknown_local_folder = [\"m\", \"m.n\"]",
+        "m.o",
+        Section::Own(0),
+    ),
+    Sectioned(
+        "sections = [\"A\"]\nknown_a = [\"m\"]\nknown_local_folder = [\"m\", \"m.n\"]",
+        "m.n",
+        Section::LocalFolder,
+    ),
+    Sectioned(
+        "sections = [\"LOCALFOLDER\", \"B\", \"A\"]\nknown_a = [\"m\"]\nknown_b = [\"m\"]",
+        "m",
+        Section::Own(0),
+    ),
+    Sectioned(
+        "sections = [\"A\", \"B\"]\nknown_a = [\"__future__\"]\ndefault_section = \"B\"",
+        "__future__",
+        Section::Own(0),
+    ),
+    Sectioned(
+        "sections = [\"A\", \"B\"]\ndefault_section = \"B\"",
+        "requests",
+        Section::Own(1),
+    ),
+    Sectioned("known_a = [\"os\"]", "os", Section::Stdlib),
+];
+
+#[test]
+fn finds_own_sections(rt: HostRuntime) -> Result<(), Fail> {
+    each_holds_with(rt.alloc(), "", SECTIONS)
+}
+
+/// Lines of `[tool.isort]`, and the sections in their order.
+struct Ranked(&'static str, &'static [Section]);
+
+impl Ranked {
+    fn are_ranks(&self, settings: &Settings) -> bool {
+        for (rank, section) in self.1.iter().enumerate() {
+            if settings.section_rank(*section) != rank {
+                return false;
+            }
+        }
+        settings.section_rank(Section::Own(200)) == self.1.len()
+    }
+}
+
+impl LinesCase for Ranked {
+    fn holds_with(&self, alloc: Global, more: &str) -> bool {
+        match format!(in alloc; "[tool.isort]\n{}\n{more}", self.0) {
+            Ok(table) => match Settings::from_pyproject(alloc, table.as_bytes(), None) {
+                Ok((settings, _)) => self.are_ranks(&settings),
+                Err(_) => false,
+            },
+            Err(_) => false,
+        }
+    }
+}
+
+const FIVE: &[Section] = &[
+    Section::Future,
+    Section::Stdlib,
+    Section::ThirdParty,
+    Section::FirstParty,
+    Section::LocalFolder,
+];
+
+const RANKS: &[Ranked] = &[
+    Ranked("", FIVE),
+    Ranked("sections = []", FIVE),
+    Ranked(
+        DJANGO,
+        &[
+            Section::Future,
+            Section::Stdlib,
+            Section::Own(0),
+            Section::ThirdParty,
+            Section::FirstParty,
+            Section::LocalFolder,
+        ],
+    ),
+    Ranked(
+        TWO,
+        &[
+            Section::Own(0),
+            Section::Own(1),
+            Section::Future,
+            Section::Stdlib,
+            Section::ThirdParty,
+            Section::FirstParty,
+            Section::LocalFolder,
+        ],
+    ),
+    Ranked(
+        "sections = [\"LOCALFOLDER\", \"B\", \"STDLIB\", \"A\"]",
+        &[
+            Section::LocalFolder,
+            Section::Own(0),
+            Section::Stdlib,
+            Section::Own(1),
+            Section::Future,
+            Section::ThirdParty,
+            Section::FirstParty,
+        ],
+    ),
+];
+
+#[test]
+fn ranks_sections(rt: HostRuntime) -> Result<(), Fail> {
+    each_holds_with(rt.alloc(), "", RANKS)
+}
+
+const STATEMENTS: &[Under] = &[
+    Under(DJANGO, UNSORTED, SORTED),
+    Under(
+        TWO,
+        "import requests\nimport m.n\nfrom flask import g\nimport os\nfrom __future__ import annotations\nimport m\n",
+        "import m\nfrom flask import g\n\nimport m.n\nimport os\n\nfrom __future__ import annotations\n\nimport requests\n",
+    ),
+    Under(
+        "sections = [\"LOCALFOLDER\", \"A\", \"STDLIB\"]\nknown_a = [\"a\"]\nforce_sort_within_sections = true",
+        "import sys\nimport z\nimport a.c\nfrom a import b\nfrom . import y\nfrom os import path\n",
+        "from . import y\n\nfrom a import b\nimport a.c\n\nfrom os import path\nimport sys\n\nimport z\n",
+    ),
+    Under(
+        "sections = [\"A\"]\ndefault_section = \"A\"\nlines_between_sections = 2\nlines_between_types = 1",
+        "import os\nfrom c import d\nimport b\n",
+        "import b\n\nfrom c import d\n\n\nimport os\n",
+    ),
+    Under(
+        "sections = [\"B\", \"A\"]\nknown_a = [\"m\"]\nknown_b = [\"n\"]\nlines_between_sections = 0",
+        "import m\nimport n\nimport o\n",
+        "import n\nimport m\nimport o\n",
+    ),
+];
+
+#[test]
+fn orders_statements_by_own_sections(rt: HostRuntime) -> Result<(), Fail> {
+    each_holds_again(rt.alloc(), STATEMENTS)
+}
+
+/// Whether a run sorts the text under these settings.
+fn runs_under(alloc: Global, settings: &Settings) -> bool {
+    let mut reader = Metered::new(UNSORTED.as_bytes());
+    let mut writer = Metered::new(Vec::new(alloc));
+    let got = sort_run(alloc, &mut reader, &mut writer, settings, 1000);
+    got == Ok(Outcome::Changed) && writer.into_inner().as_slice() == SORTED.as_bytes()
+}
+
+fn runs(alloc: Global) -> bool {
+    match format!(in alloc; "[tool.isort]\n{DJANGO}") {
+        Ok(table) => match Settings::from_pyproject(alloc, table.as_bytes(), None) {
+            Ok((settings, _)) => runs_under(alloc, &settings),
+            Err(_) => false,
+        },
+        Err(_) => false,
+    }
+}
+
+#[test]
+fn sorts_a_run_by_own_sections(rt: HostRuntime) -> Result<(), Fail> {
+    let alloc = rt.alloc();
+    all_are_so(&[runs(alloc) || runs(alloc)])
+}
