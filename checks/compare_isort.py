@@ -5,8 +5,8 @@
 
 PROGRAM is the built isort. The script is run by a Python that has isort 5, as Debian's `/usr/bin/python3` after
 `apt-get install isort`. The files are all `*.py` below the folders, or every N-th. Each is sorted by both, under the
-default settings and under the profile `black`, with the same list of the standard library and with no module found
-on disk. isort 5 writes a file only if it finds it changed, so what counts is its result if it does, and else the text.
+default settings, under the profile `black`, and with two own sections, with the same list of the standard library and
+with no module found on disk. isort 5 writes a file only if it finds it changed, so what counts is its result if it does, and else the text.
 Files that are not UTF-8, or that Python's tokenizer refuses, are left out.
 
 A text is cut at the lines that neither may change. What stands between two of them is a region: imports, comments and
@@ -21,6 +21,7 @@ the text binds. The status is 1 if there is one."""
 import argparse
 import ast
 import io
+import json
 import re
 import subprocess
 import sys
@@ -278,7 +279,14 @@ class Style:
     has_carriage_returns: bool = False
 
 
-STYLES = {"default": Style(79, True), "black": Style(88, False)}
+STYLES = {"default": Style(79, True), "black": Style(88, False), "own sections": Style(79, True)}
+OPTIONS = {"default": [], "black": ["--profile", "black"], "own sections": ["--settings-file", "own.toml"]}
+# Two own sections, one before the standard library and one after it. isort 5 needs all five others in the list.
+OWN = {
+    "sections": ["FUTURE", "TYPES", "STDLIB", "NETWORK", "THIRDPARTY", "FIRSTPARTY", "LOCALFOLDER"],
+    "known_types": ["typing", "typing_extensions", "collections.abc", "numpy.typing"],
+    "known_network": ["socket", "ssl", "http", "urllib", "requests", "pip._vendor.requests"],
+}
 
 
 @dataclass(frozen=True)
@@ -440,8 +448,7 @@ def compared(text: str, ours: str | None, theirs: str | None, style: Style) -> t
 
 
 def sorted_by_isort(program: str, profile: str, text: str, folder: str) -> str | None:
-    options = [] if profile == "default" else ["--profile", profile]
-    run = subprocess.run([program, *options, "-"], input=text.encode(), capture_output=True, cwd=folder)
+    run = subprocess.run([program, *OPTIONS[profile], "-"], input=text.encode(), capture_output=True, cwd=folder)
     return run.stdout.decode() if run.returncode == 0 else None
 
 
@@ -458,7 +465,11 @@ def configs(folder: str) -> dict[str, isort.Config]:
     source = (TOP / "crates/isort_settings/src/standard_library.rt").read_text()
     library = re.findall(r'^    "([^"]+)",$', source, re.MULTILINE)
     same = {"known_standard_library": frozenset(library), "src_paths": (folder,), "directory": folder}
-    return {"default": isort.Config(**same), "black": isort.Config(profile="black", **same)}
+    return {
+        "default": isort.Config(**same),
+        "black": isort.Config(profile="black", **same),
+        "own sections": isort.Config(**OWN, **same),
+    }
 
 
 def read(path: Path) -> str | None:
@@ -484,6 +495,8 @@ def main() -> int:
     counts: Counter[str] = Counter()
     with tempfile.TemporaryDirectory() as folder:
         settings = configs(folder)
+        lines = [f"{key} = {json.dumps(names)}\n" for key, names in OWN.items()]
+        Path(folder, "own.toml").write_text("".join(["[tool.isort]\n", *lines]))
         for path in paths:
             text = read(path)
             if text is None:
@@ -499,7 +512,7 @@ def main() -> int:
                     print(f"{path} ({profile}):\n-- isort\n{left}\n-- isort 5\n{right}")
     for name, count in counts.most_common():
         print(f"{count:6} {name}")
-    print(f"{files} files, each under both settings: {same} results are those of isort {isort.__version__},", end=" ")
+    print(f"{files} files, each under {len(settings)} settings: {same} results are those of isort {isort.__version__},", end=" ")
     print(f"{unexplained} differ in a way that no class explains")
     return 1 if unexplained else 0
 

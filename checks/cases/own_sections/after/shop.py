@@ -1,0 +1,7 @@
+import os
+
+import django.db
+
+import requests
+
+from . import z

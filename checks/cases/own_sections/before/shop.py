@@ -1,0 +1,4 @@
+import requests
+import django.db
+import os
+from . import z
