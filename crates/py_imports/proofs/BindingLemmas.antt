@@ -8,8 +8,8 @@ use Rattle.py_imports.specs.Statement.{is_comment, significant, is_divider, dept
 use Rattle.py_imports.specs.Bound.{Bound, bound_at, bound_of}
 use Rattle.py_imports.specs.Grammar.{Imported}
 use Rattle.py_imports.specs.Binds.{BindsAt, BindEach, Binds, Refuses}
-use Rattle.py_imports.specs.Reading.Items.{StartWith}
-use Rattle.py_imports.specs.Reading.Bindings.{BindsMore, RefusesAt, IsPlaceAt}
+use Rattle.py_imports.specs.Private.Items.{StartWith}
+use Rattle.py_imports.specs.Private.Bindings.{BindsMore, RefusesAt, IsPlaceAt}
 use Rattle.py_imports.specs.declared.binding.Binding.{Binding}
 use Rattle.py_imports.specs.declared.bindings.Head.{Head}
 use Rattle.py_imports.specs.declared.error.ImportError.{ImportError}

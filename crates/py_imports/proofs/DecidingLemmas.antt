@@ -2,9 +2,9 @@
 use Rattle.std.proofs.Common.{◌≡◌, ℕ, zero, suc, ◌+◌, ◌<◌, Bool, true, false, Option, None, Some, ◌⊎◌, inl, inr, List, [], ◌∷◌, ◌++◌, length, map, codes, refl, ap, arith}
 use Rattle.py_lines.specs.LogicalLine.{LogicalLine}
 use Rattle.py_lines.specs.declared.fault.FaultKind.TheVariants.{BadImport}
-use Rattle.py_imports.specs.Grammar.{Terminal, import_word, from_word, as_word, name, dot, comma, star, opening, closing, other, begins_import, spelling, Listed, modules, identifiers, Item, AreItems, AreBracketed, AreNames, plain_names, bracketed, all_names, whole_module, attribute_of, IsImport, import_statement, from_statement}
-use Rattle.py_imports.specs.Reading.Items.{begins_closing}
-use Rattle.py_imports.specs.Reading.Parsing.{Read, at_relative, ItemRead, at_item}
+use Rattle.py_imports.specs.Grammar.{Terminal, import_word, from_word, as_word, name, dot, comma, star, opening, closing, other, begins_import, spelling, NameKind, modules, identifiers, Item, AreItems, AreBracketed, AreNames, plain_names, bracketed, all_names, whole_module, attribute_of, IsImport, import_statement, from_statement}
+use Rattle.py_imports.specs.Private.Items.{begins_closing}
+use Rattle.py_imports.specs.Private.Parsing.{Read, at_relative, ItemRead, at_item}
 use Rattle.py_imports.specs.Statement.{significant, Place, starts}
 use Rattle.py_imports.specs.Bound.{Bound}
 use Rattle.py_imports.specs.Binds.{terminals_at, bounds_at, BindsAt, nothing, imports, IsBadStart, BindEach, BindsOrIsBad}
@@ -25,7 +25,7 @@ behind_item Are now rest i g (some is a) = some (i ∷ is) (g.puts is a)
 behind_item Are now rest i g (none bad) = none (λ is a. let t = g.takes is a in bad t.0 t.2)
 
 -- an item was read, and of shorter lists it is known: by what follows the item
-items_behind : (k : Listed) (now rest : List Terminal) (i : Item) → ((ts : List Terminal) → length ts < length now → SomeOrNone (AreItems k ts)) → at_item k now ≡ Some (record { item = i; rest = rest }) → SomeOrNone (AreItems k now)
+items_behind : (k : NameKind) (now rest : List Terminal) (i : Item) → ((ts : List Terminal) → length ts < length now → SomeOrNone (AreItems k ts)) → at_item k now ≡ Some (record { item = i; rest = rest }) → SomeOrNone (AreItems k now)
 items_behind k now [] i known e = some (i ∷ []) (items_last k now i e)
 items_behind k now (comma ∷ rest) i known e = behind_item (AreItems k) now rest i (items_go_on k now rest i e) (known rest (item_is_some k now rest i e))
 items_behind k now (import_word ∷ rest) i known e = none (items_bad k now (import_word ∷ rest) i e refl)
@@ -38,16 +38,16 @@ items_behind k now (opening ∷ rest) i known e = none (items_bad k now (opening
 items_behind k now (closing ∷ rest) i known e = none (items_bad k now (closing ∷ rest) i e refl)
 items_behind k now (other ∷ rest) i known e = none (items_bad k now (other ∷ rest) i e refl)
 
-items_by : (k : Listed) (now : List Terminal) (o : Option ItemRead) → ((ts : List Terminal) → length ts < length now → SomeOrNone (AreItems k ts)) → at_item k now ≡ o → SomeOrNone (AreItems k now)
+items_by : (k : NameKind) (now : List Terminal) (o : Option ItemRead) → ((ts : List Terminal) → length ts < length now → SomeOrNone (AreItems k ts)) → at_item k now ≡ o → SomeOrNone (AreItems k now)
 items_by k now None known e = none (items_none k now e)
 items_by k now (Some r) known e = items_behind k now r.rest r.item known e
 
-items_below : (n : ℕ) (k : Listed) (now : List Terminal) → length now < n → SomeOrNone (AreItems k now)
+items_below : (n : ℕ) (k : NameKind) (now : List Terminal) → length now < n → SomeOrNone (AreItems k now)
 items_below zero k now h = let z : ⊥ = omega arith in absurd z
 items_below (suc n) k now h = items_by k now (at_item k now) (λ ts less. items_below n k ts (omega arith)) refl
 
 -- terminals are a list of items, or no list: each item takes a terminal at least
-items_or_none : (k : Listed) (now : List Terminal) → SomeOrNone (AreItems k now)
+items_or_none : (k : NameKind) (now : List Terminal) → SomeOrNone (AreItems k now)
 items_or_none k now = items_below (length now + 1) k now (omega arith)
 
 -- in brackets: what follows the item ends the list badly, as it begins with neither a comma nor the bracket

@@ -8,7 +8,7 @@ use Rattle.py_lines.specs.declared.token.Token.{Token}
 use Rattle.py_lines.specs.declared.token.TokKind.{TokKind}
 use Rattle.py_lines.specs.declared.token.TokKind.TheVariants as kind
 use Rattle.py_imports.specs.Statement.{is_comment, significant, is_semicolon, depth_past, depth_after_tokens, Place, places_from, is_end, statement_at}
-use Rattle.py_imports.specs.Reading.Parsing.{up_to_semicolon}
+use Rattle.py_imports.specs.Private.Parsing.{up_to_semicolon}
 use Rattle.py_imports.proofs.TokenLemmas.{depth_behind-snoc, window, significant-cons, significant-comment}
 
 -- the tokens before the first `;` at depth 0, after others

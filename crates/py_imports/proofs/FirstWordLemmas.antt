@@ -10,8 +10,8 @@ use Rattle.py_lines.specs.declared.token.Token.{Token}
 use Rattle.py_imports.specs.Statement.{is_comment, significant, may_start_after, Place, places_from}
 use Rattle.py_imports.specs.Grammar.{Terminal, import_word, from_word, as_word, name, dot, comma, star, opening, closing, other, terminal_of, begins_import, is_keyword}
 use Rattle.py_imports.specs.Binds.{terminal_in, nothing, BindEach, Binds}
-use Rattle.py_imports.specs.Reading.Bindings.{is_first_word}
-use Rattle.py_imports.specs.Reading.Items.{BeginsForm}
+use Rattle.py_imports.specs.Private.Bindings.{is_first_word}
+use Rattle.py_imports.specs.Private.Items.{BeginsForm}
 use Rattle.py_imports.specs.declared.items.Form.{Form}
 use Rattle.py_imports.specs.declared.items.Form.TheVariants as form
 use Rattle.py_imports.proofs.StatementLemmas.{no_import}

@@ -1,9 +1,9 @@
 -- How lists of items go on after their first item.
 use Rattle.std.proofs.Common.{◌≡◌, ◌≢◌, ◌<◌, Bool, true, false, None, Some, List, [], ◌∷◌, length, refl, sym, ap, ◌∙◌, subst, arith, length-append}
-use Rattle.py_imports.specs.Grammar.{Terminal, import_word, from_word, as_word, name, dot, comma, star, opening, closing, other, Listed, identifiers, Item, AreItems, AreBracketed}
-use Rattle.py_imports.specs.Reading.Parsing.{ItemRead, at_item}
-use Rattle.py_imports.specs.Reading.Lexemes.{followed_by}
-use Rattle.py_imports.specs.Reading.Items.{may_follow, begins_closing, IsClosing, by_bracket, by_comma}
+use Rattle.py_imports.specs.Grammar.{Terminal, import_word, from_word, as_word, name, dot, comma, star, opening, closing, other, NameKind, identifiers, Item, AreItems, AreBracketed}
+use Rattle.py_imports.specs.Private.Parsing.{ItemRead, at_item}
+use Rattle.py_imports.specs.Private.Lexemes.{followed_by}
+use Rattle.py_imports.specs.Private.Items.{may_follow, begins_closing, IsClosing, by_bracket, by_comma}
 use Rattle.py_imports.specs.declared.lexeme.Lexeme.{Lexeme}
 use Rattle.py_imports.specs.declared.lexeme.Lexeme.TheVariants as lexeme
 use Rattle.py_imports.proofs.ItemLemmas.{at_item-sound, ListStarts, one_item, many, items_begin, items_then, BeginsBracketed, one_closed, one_comma, many_closed, bracketed_begin, bracketed_then}
@@ -14,16 +14,16 @@ pub record ListGoesOn (Are : List Terminal → List Item → Type 0) (now rest :
   pub takes : (is : List Item) → Are now is → (js : List Item) × (is ≡ i ∷ js) × Are rest js
 
 -- two readings from one place are the same
-pub one_way : (k : Listed) (now : List Terminal) (a b : ItemRead) → at_item k now ≡ Some a → at_item k now ≡ Some b → (a.item ≡ b.item) × (a.rest ≡ b.rest)
+pub one_way : (k : NameKind) (now : List Terminal) (a b : ItemRead) → at_item k now ≡ Some a → at_item k now ≡ Some b → (a.item ≡ b.item) × (a.rest ≡ b.rest)
 one_way k now a b e f =
     let g : Some a ≡ Some b = sym e ∙ f in
     let h : a ≡ b = cc in
     (ap (λ x. x.item) h, ap (λ x. x.rest) h)
 
-no_way : (k : Listed) (now : List Terminal) (a : ItemRead) → at_item k now ≡ None → at_item k now ≡ Some a → ⊥
+no_way : (k : NameKind) (now : List Terminal) (a : ItemRead) → at_item k now ≡ None → at_item k now ≡ Some a → ⊥
 no_way k now a e f = let g : None ≡ Some a = sym e ∙ f in cc
 
-takes_items : (k : Listed) (now rest : List Terminal) (i : Item) → at_item k now ≡ Some (record { item = i; rest = comma ∷ rest }) → (is : List Item) → ListStarts k now is → (js : List Item) × (is ≡ i ∷ js) × AreItems k rest js
+takes_items : (k : NameKind) (now rest : List Terminal) (i : Item) → at_item k now ≡ Some (record { item = i; rest = comma ∷ rest }) → (is : List Item) → ListStarts k now is → (js : List Item) × (is ≡ i ∷ js) × AreItems k rest js
 takes_items k now rest i e is (one_item js j f s) = absurd (let h = one_way k now (record { item = i; rest = comma ∷ rest }) (record { item = j; rest = [] }) e f in let q : comma ∷ rest ≡ [] = h.1 in cc)
 takes_items k now rest i e is (many ks js j after f a s) =
     let h = one_way k now (record { item = i; rest = comma ∷ rest }) (record { item = j; rest = comma ∷ after }) e f in
@@ -32,14 +32,14 @@ takes_items k now rest i e is (many ks js j after f a s) =
     (js, s ∙ ap (λ x. x ∷ js) (sym h.0), subst (λ x. AreItems k x js) q a)
 
 -- items go on after a comma
-pub items_go_on : (k : Listed) (now rest : List Terminal) (i : Item) → at_item k now ≡ Some (record { item = i; rest = comma ∷ rest }) → ListGoesOn (AreItems k) now rest i
+pub items_go_on : (k : NameKind) (now rest : List Terminal) (i : Item) → at_item k now ≡ Some (record { item = i; rest = comma ∷ rest }) → ListGoesOn (AreItems k) now rest i
 items_go_on k now rest i e = record { puts = λ js a. items_then k now rest i js e a; takes = λ is a. takes_items k now rest i e is (items_begin k now is a) }
 
-begins_none : (k : Listed) (now : List Terminal) (is : List Item) → ListStarts k now is → at_item k now ≡ None → ⊥
+begins_none : (k : NameKind) (now : List Terminal) (is : List Item) → ListStarts k now is → at_item k now ≡ None → ⊥
 begins_none k now is (one_item js j f s) e = no_way k now (record { item = j; rest = [] }) e f
 begins_none k now is (many ks js j after f b s) e = no_way k now (record { item = j; rest = comma ∷ after }) e f
 
-begins_bad : (k : Listed) (now rest : List Terminal) (i : Item) (is : List Item) → ListStarts k now is → at_item k now ≡ Some (record { item = i; rest = rest }) → may_follow rest ≡ false → ⊥
+begins_bad : (k : NameKind) (now rest : List Terminal) (i : Item) (is : List Item) → ListStarts k now is → at_item k now ≡ Some (record { item = i; rest = rest }) → may_follow rest ≡ false → ⊥
 begins_bad k now rest i is (one_item js j f s) e h =
     let q : rest ≡ [] = (one_way k now (record { item = i; rest = rest }) (record { item = j; rest = [] }) e f).1 in
     let t : may_follow rest ≡ true = ap may_follow q in cc
@@ -48,11 +48,11 @@ begins_bad k now rest i is (many ks js j after f b s) e h =
     let t : may_follow rest ≡ true = ap may_follow q in cc
 
 -- there is no list where no item is read
-pub items_none : (k : Listed) (now : List Terminal) → at_item k now ≡ None → (is : List Item) → ¬ (AreItems k now is)
+pub items_none : (k : NameKind) (now : List Terminal) → at_item k now ≡ None → (is : List Item) → ¬ (AreItems k now is)
 items_none k now e is a = begins_none k now is (items_begin k now is a) e
 
 -- nor where something else follows the item
-pub items_bad : (k : Listed) (now rest : List Terminal) (i : Item) → at_item k now ≡ Some (record { item = i; rest = rest }) → may_follow rest ≡ false → (is : List Item) → ¬ (AreItems k now is)
+pub items_bad : (k : NameKind) (now rest : List Terminal) (i : Item) → at_item k now ≡ Some (record { item = i; rest = rest }) → may_follow rest ≡ false → (is : List Item) → ¬ (AreItems k now is)
 items_bad k now rest i e h is a = begins_bad k now rest i is (items_begin k now is a) e h
 
 pub no_item_at_closing : (ts : List Terminal) → begins_closing ts ≡ true → at_item identifiers ts ≡ None
@@ -107,7 +107,7 @@ pub bracketed_bad : (now rest : List Terminal) (i : Item) → at_item identifier
 bracketed_bad now rest i e h n is a = begins_bad_bracketed now rest i is (bracketed_begin now is a) e h n
 
 -- less is left after an item
-pub item_is_some : (k : Listed) (now rest : List Terminal) (i : Item) → at_item k now ≡ Some (record { item = i; rest = comma ∷ rest }) → length rest < length now
+pub item_is_some : (k : NameKind) (now rest : List Terminal) (i : Item) → at_item k now ≡ Some (record { item = i; rest = comma ∷ rest }) → length rest < length now
 item_is_some k now rest i e = let off = at_item-sound k now _ e in rw off.split (omega (arith, length-append off.front (comma ∷ rest)))
 
 pub ends_alone : (ts rest : List Terminal) → ts ≡ closing ∷ rest → rest ≢ [] → ¬ (IsClosing ts)

@@ -2,8 +2,8 @@
 use Rattle.std.proofs.Common.{◌≡◌, ℕ, Bool, true, false, Option, None, Some, option_and_then, List, [], ◌∷◌, ◌++◌, refl, sym, ap, ◌∙◌, subst}
 use Rattle.std.specs.Option.{option_map}
 use Rattle.py_imports.specs.Grammar.{Terminal, import_word, from_word, as_word, name, dot, comma, star, opening, closing, other, IsModule, one, more, AreDots, no_dot, one_more, IsRelativeModule, dots, named, spelling}
-use Rattle.py_imports.specs.Reading.Lexemes.{begins_dot}
-use Rattle.py_imports.specs.Reading.Parsing.{Read, spelled_before, at_module, after_name, import_after, at_relative}
+use Rattle.py_imports.specs.Private.Lexemes.{begins_dot}
+use Rattle.py_imports.specs.Private.Parsing.{Read, spelled_before, at_module, after_name, import_after, at_relative}
 
 -- from an equation of what was mapped to its parts
 pub option_map-some : {A B : Type 0} (f : A → B) (o : Option A) (y : B) → option_map f o ≡ Some y → (x : A) × (o ≡ Some x) × (f x ≡ y)

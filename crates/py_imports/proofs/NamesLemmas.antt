@@ -1,7 +1,7 @@
 -- What may stand after `from .. import`, by its first terminal.
 use Rattle.std.proofs.Common.{◌≡◌, ◌≢◌, Bool, true, false, List, [], ◌∷◌, refl, subst}
 use Rattle.py_imports.specs.Grammar.{Terminal, star, opening, identifiers, Item, AreItems, AreBracketed, AreNames, plain_names, bracketed, all_names}
-use Rattle.py_imports.specs.Reading.Lexemes.{followed_by}
+use Rattle.py_imports.specs.Private.Lexemes.{followed_by}
 use Rattle.py_imports.specs.declared.lexeme.Lexeme.{Lexeme}
 use Rattle.py_imports.specs.declared.lexeme.Lexeme.TheVariants as lexeme
 use Rattle.py_imports.proofs.ListLemmas.{items_none}

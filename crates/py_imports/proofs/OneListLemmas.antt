@@ -1,20 +1,20 @@
 -- A statement binds one list.
 use Rattle.std.proofs.Common.{◌≡◌, Bool, true, false, None, Some, List, [], ◌∷◌, ◌++◌, map, codes, refl, sym, ap, ◌∙◌, subst, append_assoc}
 use Rattle.std.proofs.lemmas.List.{append-nil}
-use Rattle.py_imports.specs.Grammar.{Terminal, import_word, from_word, as_word, name, dot, comma, star, opening, closing, other, spelling, Listed, modules, identifiers, Item, AreItems, last, then, AreBracketed, closed, closed_after_comma, AreNames, plain_names, bracketed, all_names, whole_module, attribute_of, Imported, IsImport}
-use Rattle.py_imports.specs.Reading.Items.{begins_closing}
-use Rattle.py_imports.specs.Reading.Parsing.{at_item}
+use Rattle.py_imports.specs.Grammar.{Terminal, import_word, from_word, as_word, name, dot, comma, star, opening, closing, other, spelling, NameKind, modules, identifiers, Item, AreItems, last, then, AreBracketed, closed, closed_after_comma, AreNames, plain_names, bracketed, all_names, whole_module, attribute_of, Imported, IsImport}
+use Rattle.py_imports.specs.Private.Items.{begins_closing}
+use Rattle.py_imports.specs.Private.Parsing.{at_item}
 use Rattle.py_imports.proofs.ItemLemmas.{at_item-whole, ListStarts, one_item, many, items_begin, BeginsBracketed, one_closed, one_comma, many_closed, bracketed_begin}
 use Rattle.py_imports.proofs.ListLemmas.{one_way, no_item_at_closing, bracketed_none, items_none, items_go_on, bracketed_goes_on}
 use Rattle.py_imports.proofs.NamesLemmas.{opening_brackets}
 use Rattle.py_imports.proofs.StatementLemmas.{ImportsBy, import_reads, one_from}
 
 -- a list that is read to its end by one item has no other
-one_alone : (k : Listed) (ts : List Terminal) (i : Item) (js : List Item) → at_item k ts ≡ Some (record { item = i; rest = [] }) → ListStarts k ts js → js ≡ i ∷ []
+one_alone : (k : NameKind) (ts : List Terminal) (i : Item) (js : List Item) → at_item k ts ≡ Some (record { item = i; rest = [] }) → ListStarts k ts js → js ≡ i ∷ []
 one_alone k ts i js e (one_item is j f s) = let h = one_way k ts (record { item = i; rest = [] }) (record { item = j; rest = [] }) e f in s ∙ ap (λ x. x ∷ []) (sym h.0)
 one_alone k ts i js e (many is ks j rest f a s) = let h : [] ≡ comma ∷ rest = (one_way k ts (record { item = i; rest = [] }) (record { item = j; rest = comma ∷ rest }) e f).1 in absurd (let z : ⊥ = cc in z)
 
-one_items : (k : Listed) (ts : List Terminal) (is js : List Item) → AreItems k ts is → AreItems k ts js → is ≡ js
+one_items : (k : NameKind) (ts : List Terminal) (is js : List Item) → AreItems k ts is → AreItems k ts js → is ≡ js
 one_items k ts is js (last l t i p) b = sym (one_alone k ts i js (ap (at_item k) (sym (append-nil ts)) ∙ at_item-whole k ts i p [] refl) (items_begin k ts js b))
 one_items k ts is js (then l t first rest i others e p a) b =
     let read = ap (at_item k) e ∙ at_item-whole k first i p (comma ∷ rest) refl in

@@ -4,12 +4,12 @@ use Rattle.std.proofs.lemmas.List.{map-append, drop-drop}
 use Rattle.std.proofs.Math.Seq.{take-add}
 use Rattle.py_lines.specs.declared.token.Token.{Token}
 use Rattle.py_imports.specs.Binds.{terminal_in}
-use Rattle.py_imports.specs.Grammar.{Terminal, import_word, from_word, comma, star, opening, closing, Listed, modules, identifiers, Item, AreItems, AreBracketed, bracketed, AreNames, plain_names, all_names, whole_module, attribute_of, Imported, IsImport, import_statement, from_statement}
+use Rattle.py_imports.specs.Grammar.{Terminal, import_word, from_word, comma, star, opening, closing, NameKind, modules, identifiers, Item, AreItems, AreBracketed, bracketed, AreNames, plain_names, all_names, whole_module, attribute_of, Imported, IsImport, import_statement, from_statement}
 use Rattle.py_imports.specs.Statement.{significant}
-use Rattle.py_imports.specs.Reading.Lexemes.{followed_by, rest_of, Follows}
+use Rattle.py_imports.specs.Private.Lexemes.{followed_by, rest_of, IsFurther}
 use Rattle.py_imports.specs.declared.lexemes.Lexemes.{Lexemes}
-use Rattle.py_imports.specs.Reading.Parsing.{at_module, at_relative, ItemRead, alias_after, at_item}
-use Rattle.py_imports.specs.Reading.Items.{item_imported, ListsOf, AreLeftAt, AreLeft, most_left_at, AreSameLists, StartWith, IsFirst, FollowsItem, begins_closing, IsClosing, by_bracket, by_comma, IsOutOfBrackets, FollowsBracketed, ReadsStar, ListsFrom, path_of}
+use Rattle.py_imports.specs.Private.Parsing.{at_module, at_relative, ItemRead, alias_after, at_item}
+use Rattle.py_imports.specs.Private.Items.{item_imported, ListsOf, AreLeftAt, AreLeft, most_left_at, AreSameLists, StartWith, IsFirst, FollowsItem, begins_closing, IsClosing, by_bracket, by_comma, IsOutOfBrackets, FollowsBracketed, ReadsStar, ListsFrom, path_of}
 use Rattle.py_imports.specs.declared.items.ImportItem.{ImportItem}
 use Rattle.py_imports.specs.declared.items.ImportItems.{ImportItems}
 use Rattle.py_imports.specs.declared.items.ModulePath.{ModulePath}
@@ -37,10 +37,10 @@ terminals-split text tokens a b c h k =
     ap (λ x. map (terminal_in text) (significant x)) (window-split tokens a b c h k) ∙ ap (map (terminal_in text)) (significant-append (window tokens a b) (window tokens b c)) ∙ map-append (terminal_in text) (significant (window tokens a b)) (significant (window tokens b c))
 
 -- a reader stays, or goes on in two steps
-pub stays : (s : Lexemes) → Follows s s
+pub stays : (s : Lexemes) → IsFurther s s
 stays s = record { unit = refl; end = refl; place = omega arith }
 
-pub follows_on : (a b c : Lexemes) → Follows a b → Follows b c → Follows a c
+pub follows_on : (a b c : Lexemes) → IsFurther a b → IsFurther b c → IsFurther a c
 follows_on a b c f g = record { unit = g.unit ∙ f.unit; end = g.end ∙ f.end; place = omega (arith, f.place, g.place) }
 
 -- the imports of lists that go on after an item
@@ -64,7 +64,7 @@ lists_end Are import i only = record { puts = λ is e. (i ∷ [], only.is, ap (�
     takes : (is : List Imported) → ListsOf import Are is → (js : List Imported) × (is ≡ import i ∷ js) × (js ≡ [])
     takes is (items, a, e) = ([], e ∙ ap (map import) (only.one items a), refl)
 
-items_only : (k : Listed) (now : List Terminal) (i : Item) → at_item k now ≡ Some (record { item = i; rest = [] }) → IsOnly (AreItems k now) i
+items_only : (k : NameKind) (now : List Terminal) (i : Item) → at_item k now ≡ Some (record { item = i; rest = [] }) → IsOnly (AreItems k now) i
 items_only k now i e = record { is = items_last k now i e; one = λ is a. by_first is (items_begin k now is a) }
   where
     by_first : (is : List Item) → ListStarts k now is → is ≡ i ∷ []
@@ -72,14 +72,14 @@ items_only k now i e = record { is = items_last k now i e; one = λ is a. by_fir
     by_first is (many ks js j after f a s) = absurd (let h : [] ≡ comma ∷ after = (one_way k now (record { item = i; rest = [] }) (record { item = j; rest = comma ∷ after }) e f).1 in cc)
 
 -- an item that was read is the first of the imports that are left
-pub item_first : (k : Listed) (import : Item → Imported) (s next : Stage) (now rest after : List Terminal) (i : Item) → at_item k now ≡ Some (record { item = i; rest = rest }) → FollowsItem s rest (Some next) after → ((is : List Imported) → AreLeftAt s after is → ListsOf import (AreItems k after) is) → ((is : List Imported) → ListsOf import (AreItems k after) is → AreLeftAt s after is) → StartWith (ListsOf import (AreItems k now)) (import i) (AreLeftAt next after)
+pub item_first : (k : NameKind) (import : Item → Imported) (s next : Stage) (now rest after : List Terminal) (i : Item) → at_item k now ≡ Some (record { item = i; rest = rest }) → FollowsItem s rest (Some next) after → ((is : List Imported) → AreLeftAt s after is → ListsOf import (AreItems k after) is) → ((is : List Imported) → ListsOf import (AreItems k after) is → AreLeftAt s after is) → StartWith (ListsOf import (AreItems k now)) (import i) (AreLeftAt next after)
 item_first k import s next now rest after i e (inl (n, f)) to from =
     let g = lists_go_on (AreItems k) import now after i (items_go_on k now after i (e ∙ ap (λ x. Some (record { item = i; rest = x })) f)) in
     subst (λ x. StartWith (ListsOf import (AreItems k now)) (import i) (AreLeftAt x after)) (sym n) (record { puts = λ is a. g.puts is (to is a); takes = λ is a. let t = g.takes is a in (t.0, t.1, from t.0 t.2) })
 item_first k import s next now rest after i e (inr (n, f)) to from =
     subst (λ x. StartWith (ListsOf import (AreItems k now)) (import i) (AreLeftAt x after)) (sym n) (lists_end (AreItems k now) import i (items_only k now i (e ∙ ap (λ x. Some (record { item = i; rest = x })) f)))
 
-pub item_fewer : (k : Listed) (s next : Stage) (now rest after : List Terminal) (i : Item) → at_item k now ≡ Some (record { item = i; rest = rest }) → FollowsItem s rest (Some next) after → most_left_at s after ≡ suc (length after) → most_left_at next after ≤ length now
+pub item_fewer : (k : NameKind) (s next : Stage) (now rest after : List Terminal) (i : Item) → at_item k now ≡ Some (record { item = i; rest = rest }) → FollowsItem s rest (Some next) after → most_left_at s after ≡ suc (length after) → most_left_at next after ≤ length now
 item_fewer k s next now rest after i e (inl (n, f)) m =
     let less : length after < length now = item_is_some k now after i (e ∙ ap (λ x. Some (record { item = i; rest = x })) f) in
     let same : most_left_at next after ≡ suc (length after) = ap (λ x. most_left_at x after) n ∙ m in

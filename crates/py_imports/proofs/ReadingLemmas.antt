@@ -5,8 +5,8 @@ use Rattle.std.specs.Option.{option_map}
 use Rattle.py_imports.specs.Grammar.{Terminal, import_word, from_word, as_word, name, dot, comma, star, opening, closing, other, spelling}
 use Rattle.py_imports.specs.declared.lexeme.Lexeme.{Lexeme}
 use Rattle.py_imports.specs.declared.lexeme.Lexeme.TheVariants as lexeme
-use Rattle.py_imports.specs.Reading.Lexemes.{followed_by, begins_dot, begins_import_word, PassesDots}
-use Rattle.py_imports.specs.Reading.Parsing.{Read, spelled_before, at_module, import_after, at_relative}
+use Rattle.py_imports.specs.Private.Lexemes.{followed_by, begins_dot, begins_import_word, PassesDots}
+use Rattle.py_imports.specs.Private.Parsing.{Read, spelled_before, at_module, import_after, at_relative}
 use Rattle.py_imports.proofs.ModuleLemmas.{after_name-other, at_module-sound, at_relative-sound}
 
 before_twice : (a b : List ℕ) (o : Option Read) → option_map (spelled_before a) (option_map (spelled_before b) o) ≡ option_map (spelled_before (a ++ b)) o

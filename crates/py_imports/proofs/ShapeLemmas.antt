@@ -9,15 +9,15 @@ use Rattle.py_lines.specs.declared.token.Token.{Token}
 use Rattle.py_lines.specs.declared.token.TokKind.{TokKind}
 use Rattle.py_lines.specs.declared.token.TokKind.TheVariants as kind
 use Rattle.py_imports.specs.Statement.{is_comment, significant, is_semicolon, depth_past, depth_after_tokens, Place, places_from, is_end}
-use Rattle.py_imports.specs.Reading.Parsing.{up_to_semicolon}
+use Rattle.py_imports.specs.Private.Parsing.{up_to_semicolon}
 use Rattle.py_imports.specs.Shape.{terminals_of, begins_so, is_parenthesis, ends_with_opening, is_nothing, stands_well}
 use Rattle.py_lines.specs.LogicalLine.{LogicalLine}
 use Rattle.py_lines.specs.declared.unit.UnitKind.TheVariants as unit_kind
 use Rattle.py_imports.specs.Binds.{terminal_in}
 use Rattle.py_imports.specs.Declaration.{is_code as line_is_code}
 use Rattle.py_imports.specs.Grammar.{Terminal, terminal_of, begins_import}
-use Rattle.py_imports.specs.Reading.Items.{with_first_word}
-use Rattle.py_imports.specs.Reading.Places.{IsFirstCode, BeginsAt}
+use Rattle.py_imports.specs.Private.Items.{with_first_word}
+use Rattle.py_imports.specs.Private.Places.{IsFirstCode, BeginsAt}
 use Rattle.py_imports.specs.declared.items.Form.{Form}
 use Rattle.py_imports.proofs.StatementLemmas.{token_at}
 use Rattle.py_imports.proofs.TokenLemmas.{depth_behind-snoc}

@@ -8,8 +8,8 @@ use Rattle.py_lines.specs.declared.token.Token.{Token}
 use Rattle.py_lines.specs.declared.unit.UnitKind.TheVariants as unit_kind
 use Rattle.py_imports.specs.Binds.{terminal_in}
 use Rattle.py_imports.specs.Grammar.{Imported, IsImport}
-use Rattle.py_imports.specs.Reading.Items.{with_first_word, AreSameLists, TellsWhether}
-use Rattle.py_imports.specs.Reading.Places.{BeginsAt}
+use Rattle.py_imports.specs.Private.Items.{with_first_word, AreSameLists, TellsWhether}
+use Rattle.py_imports.specs.Private.Places.{BeginsAt}
 use Rattle.py_imports.specs.Shape.{terminals_of, mark_len, stands_first, stands_well, says_skip, begins_at, IsSortable}
 use Rattle.py_imports.specs.Statement.{significant, places_from, is_end}
 use Rattle.py_imports.specs.declared.items.Form.{Form}

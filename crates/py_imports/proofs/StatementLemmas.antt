@@ -9,13 +9,13 @@ use Rattle.py_lines.specs.declared.token.Token.{Token}
 use Rattle.py_lines.specs.declared.token.TokKind.TheVariants as kind
 use Rattle.py_imports.specs.Grammar.{Terminal, terminal_of, import_word, from_word, begins_import, modules, spelling, IsRelativeModule, Item, AreItems, AreNames, whole_module, attribute_of, Imported, IsImport, import_statement, from_statement}
 use Rattle.py_imports.specs.Statement.{significant, is_semicolon, depth_past, Place}
-use Rattle.py_imports.specs.Reading.Parsing.{up_to_semicolon}
+use Rattle.py_imports.specs.Private.Parsing.{up_to_semicolon}
 use Rattle.py_imports.proofs.EndLemmas.{statement_is}
 use Rattle.py_imports.specs.Bound.{bound_of, bound_at}
 use Rattle.py_imports.specs.Binds.{terminal_in, terminals_at, nothing, imports, IsBadStart}
-use Rattle.py_imports.specs.Reading.Parsing.{Read, at_relative}
-use Rattle.py_imports.specs.Reading.Items.{with_first_word, AreSameLists}
-use Rattle.py_imports.specs.Reading.Bindings.{BindsOne, BindsMore, IsPlaceAt, RefusesItems, RefusesAt}
+use Rattle.py_imports.specs.Private.Parsing.{Read, at_relative}
+use Rattle.py_imports.specs.Private.Items.{with_first_word, AreSameLists}
+use Rattle.py_imports.specs.Private.Bindings.{BindsOne, BindsMore, IsPlaceAt, RefusesItems, RefusesAt}
 use Rattle.py_imports.specs.declared.binding.Binding.{Binding}
 use Rattle.py_imports.specs.declared.bindings.Head.{Head}
 use Rattle.py_imports.specs.declared.error.ImportError.{ImportError}

@@ -29,7 +29,8 @@ begins_with_phrase phrase text = starts_with nat_eq text phrase && not (begins_w
 
 -- the text begins with `isort:`, at most one space, and the action
 abbrev pub begins_with_action : Action → List ℕ → Bool
-begins_with_action a text = begins_with_phrase (codes "isort:" ++ action_word a) text || begins_with_phrase (codes "isort: " ++ action_word a) text
+begins_with_action a text =
+    begins_with_phrase (codes "isort:" ++ action_word a) text || begins_with_phrase (codes "isort: " ++ action_word a) text
 
 -- a text and all that is left of it after each of its bytes
 abbrev pub tails : List ℕ → List (List ℕ)

@@ -24,8 +24,11 @@ bounds_at line p is = map (bound_at p.token.line (nat_lt 0 line.indent)) is
 
 -- what the statement that starts here binds: nothing if it's no import statement, else what the grammar says
 pub data BindsAt : LogicalLine → Place → List Bound → Type 0 where
-  nothing : (line : LogicalLine) (p : Place) (bounds : List Bound) → begins_import (terminals_at line p) ≡ false → bounds ≡ [] → BindsAt line p bounds
-  imports : (line : LogicalLine) (p : Place) (bounds : List Bound) (is : List Imported) → begins_import (terminals_at line p) ≡ true → IsImport (terminals_at line p) is → bounds ≡ bounds_at line p is → BindsAt line p bounds
+  nothing : (line : LogicalLine) (p : Place) (bounds : List Bound) → begins_import (terminals_at line p) ≡ false
+      → bounds ≡ [] → BindsAt line p bounds
+  imports : (line : LogicalLine) (p : Place) (bounds : List Bound) (is : List Imported)
+      → begins_import (terminals_at line p) ≡ true → IsImport (terminals_at line p) is → bounds ≡ bounds_at line p is
+      → BindsAt line p bounds
 
 -- an import statement outside the grammar starts here
 pub record IsBadStart (line : LogicalLine) (p : Place) : Type 0 where
@@ -35,7 +38,8 @@ pub record IsBadStart (line : LogicalLine) (p : Place) : Type 0 where
 -- what the statements bind that start at these places, none of them bad, in order
 abbrev pub BindEach : LogicalLine → List Place → List Bound → Type 0
 BindEach line [] bounds = bounds ≡ []
-BindEach line (p ∷ ps) bounds = (first : List Bound) × (others : List Bound) × (bounds ≡ first ++ others) × BindsAt line p first × BindEach line ps others
+BindEach line (p ∷ ps) bounds =
+    (first : List Bound) × (others : List Bound) × (bounds ≡ first ++ others) × BindsAt line p first × BindEach line ps others
 
 -- what a logical line binds
 abbrev pub Binds : LogicalLine → List Bound → Type 0
@@ -64,4 +68,5 @@ Refuses line (import.Fault fault) = IsBadAt line fault
 -- the bindings of logical lines, none of them bad, in order
 abbrev pub BindAll : List LogicalLine → List Bound → Type 0
 BindAll [] bounds = bounds ≡ []
-BindAll (line ∷ lines) bounds = (first : List Bound) × (others : List Bound) × (bounds ≡ first ++ others) × Binds line first × BindAll lines others
+BindAll (line ∷ lines) bounds =
+    (first : List Bound) × (others : List Bound) × (bounds ≡ first ++ others) × Binds line first × BindAll lines others

@@ -14,8 +14,20 @@ pub record Bound : Type 0 where
 
 -- what is imported by a statement on this line
 abbrev pub bound_at : ℕ → Bool → Imported → Bound
-bound_at line indented i = record { line = line; indented = indented; module_name = i.module_name; attribute_name = i.attribute_name; alias_name = i.alias_name }
+bound_at line indented i = record {
+  line = line;
+  indented = indented;
+  module_name = i.module_name;
+  attribute_name = i.attribute_name;
+  alias_name = i.alias_name;
+}
 
 -- what a `Binding` says
 abbrev pub bound_of : Binding → Bound
-bound_of b = record { line = b.line; indented = b.indented; module_name = string_bytes b.module_name; attribute_name = option_map string_bytes b.attribute_name; alias_name = option_map string_bytes b.alias_name }
+bound_of b = record {
+  line = b.line;
+  indented = b.indented;
+  module_name = string_bytes b.module_name;
+  attribute_name = option_map string_bytes b.attribute_name;
+  alias_name = option_map string_bytes b.alias_name;
+}

@@ -32,7 +32,11 @@ is_at (Some t) = is_at_sign t.kind
 
 -- whether the tokens begin with `def`, `class`, `@` or `async def`
 abbrev pub begins_declaration : List ℕ → List Token → Bool
-begins_declaration text tokens = is_word text (codes "def") (slice_get tokens 0) || is_word text (codes "class") (slice_get tokens 0) || is_at (slice_get tokens 0) || (is_word text (codes "async") (slice_get tokens 0) && is_word text (codes "def") (slice_get tokens 1))
+begins_declaration text tokens =
+    is_word text (codes "def") (slice_get tokens 0)
+    || is_word text (codes "class") (slice_get tokens 0)
+    || is_at (slice_get tokens 0)
+    || (is_word text (codes "async") (slice_get tokens 0) && is_word text (codes "def") (slice_get tokens 1))
 
 -- a declaration: code that isn't indented, and begins so
 abbrev pub is_declaration : LogicalLine → Bool

@@ -7,7 +7,12 @@ use Rattle.py_lines.specs.declared.token.TokKind.TheVariants as kind
 
 -- the words that are no names (2.3.1)
 abbrev pub keywords : List (List ℕ)
-keywords = codes "False" ∷ codes "None" ∷ codes "True" ∷ codes "and" ∷ codes "as" ∷ codes "assert" ∷ codes "async" ∷ codes "await" ∷ codes "break" ∷ codes "class" ∷ codes "continue" ∷ codes "def" ∷ codes "del" ∷ codes "elif" ∷ codes "else" ∷ codes "except" ∷ codes "finally" ∷ codes "for" ∷ codes "from" ∷ codes "global" ∷ codes "if" ∷ codes "import" ∷ codes "in" ∷ codes "is" ∷ codes "lambda" ∷ codes "nonlocal" ∷ codes "not" ∷ codes "or" ∷ codes "pass" ∷ codes "raise" ∷ codes "return" ∷ codes "try" ∷ codes "while" ∷ codes "with" ∷ codes "yield" ∷ []
+keywords =
+    codes "False" ∷ codes "None" ∷ codes "True" ∷ codes "and" ∷ codes "as" ∷ codes "assert" ∷ codes "async" ∷ codes "await" ∷
+    codes "break" ∷ codes "class" ∷ codes "continue" ∷ codes "def" ∷ codes "del" ∷ codes "elif" ∷ codes "else" ∷ codes "except" ∷
+    codes "finally" ∷ codes "for" ∷ codes "from" ∷ codes "global" ∷ codes "if" ∷ codes "import" ∷ codes "in" ∷ codes "is" ∷
+    codes "lambda" ∷ codes "nonlocal" ∷ codes "not" ∷ codes "or" ∷ codes "pass" ∷ codes "raise" ∷ codes "return" ∷
+    codes "try" ∷ codes "while" ∷ codes "with" ∷ codes "yield" ∷ []
 
 unfoldable pub is_keyword : List ℕ → Bool
 is_keyword word = list_any (λ k. bytes_eq k word) keywords
@@ -27,11 +32,20 @@ pub data Terminal : Type 0 where
 
 -- a word: one of the three that import statements hold, another keyword, or a name
 abbrev pub terminal_of_word : List ℕ → Terminal
-terminal_of_word word = if bytes_eq word (codes "import") then import_word else (if bytes_eq word (codes "from") then from_word else (if bytes_eq word (codes "as") then as_word else (if is_keyword word then other else name word)))
+terminal_of_word word =
+    if bytes_eq word (codes "import") then import_word else (
+    if bytes_eq word (codes "from") then from_word else (
+    if bytes_eq word (codes "as") then as_word else (
+    if is_keyword word then other else name word)))
 
 -- an operator: `.`, `,`, `*`, `(`, `)` or another
 abbrev pub terminal_of_operator : ℕ → Terminal
-terminal_of_operator c = if c == byte "." then dot else (if c == byte "," then comma else (if c == byte "*" then star else (if c == byte "(" then opening else (if c == byte ")" then closing else other))))
+terminal_of_operator c =
+    if c == byte "." then dot else (
+    if c == byte "," then comma else (
+    if c == byte "*" then star else (
+    if c == byte "(" then opening else (
+    if c == byte ")" then closing else other))))
 
 -- a token by its kind and its text
 abbrev pub terminal_of : TokKind → List ℕ → Terminal
@@ -68,12 +82,12 @@ spelling (dot ∷ ts) = byte "." ∷ spelling ts
 spelling (_ ∷ ts) = spelling ts
 
 -- what a list of names lists: modules after `import`, identifiers after `from .. import`
-pub data Listed : Type 0 where
-  modules : Listed
-  identifiers : Listed
+pub data NameKind : Type 0 where
+  modules : NameKind
+  identifiers : NameKind
 
 -- the names without their alias
-abbrev pub IsPath : Listed → List Terminal → Type 0
+abbrev pub IsPath : NameKind → List Terminal → Type 0
 IsPath modules ts = IsModule ts
 IsPath identifiers ts = (w : List ℕ) × (ts ≡ name w ∷ [])
 
@@ -83,19 +97,24 @@ pub record Item : Type 0 where
   pub alias : Option (List ℕ)
 
 -- `PATH` or `PATH as NAME`
-pub data IsItem : Listed → List Terminal → Item → Type 0 where
-  plain : (k : Listed) (ts : List Terminal) (i : Item) → IsPath k ts → i ≡ record { path = spelling ts; alias = None } → IsItem k ts i
-  renamed : (k : Listed) (ts path : List Terminal) (w : List ℕ) (i : Item) → ts ≡ path ++ as_word ∷ name w ∷ [] → IsPath k path → i ≡ record { path = spelling path; alias = Some w } → IsItem k ts i
+pub data IsItem : NameKind → List Terminal → Item → Type 0 where
+  plain : (k : NameKind) (ts : List Terminal) (i : Item) → IsPath k ts
+      → i ≡ record { path = spelling ts; alias = None } → IsItem k ts i
+  renamed : (k : NameKind) (ts path : List Terminal) (w : List ℕ) (i : Item) → ts ≡ path ++ as_word ∷ name w ∷ [] → IsPath k path
+      → i ≡ record { path = spelling path; alias = Some w } → IsItem k ts i
 
 -- one item, or several with commas between them
-pub data AreItems : Listed → List Terminal → List Item → Type 0 where
-  last : (k : Listed) (ts : List Terminal) (i : Item) → IsItem k ts i → AreItems k ts (i ∷ [])
-  then : (k : Listed) (ts first rest : List Terminal) (i : Item) (is : List Item) → ts ≡ first ++ comma ∷ rest → IsItem k first i → AreItems k rest is → AreItems k ts (i ∷ is)
+pub data AreItems : NameKind → List Terminal → List Item → Type 0 where
+  last : (k : NameKind) (ts : List Terminal) (i : Item) → IsItem k ts i → AreItems k ts (i ∷ [])
+  then : (k : NameKind) (ts first rest : List Terminal) (i : Item) (is : List Item) → ts ≡ first ++ comma ∷ rest
+      → IsItem k first i → AreItems k rest is → AreItems k ts (i ∷ is)
 
 -- identifiers, then `)`, or `,` and `)`
 pub data AreBracketed : List Terminal → List Item → Type 0 where
-  closed : (ts items : List Terminal) (is : List Item) → ts ≡ items ++ closing ∷ [] → AreItems identifiers items is → AreBracketed ts is
-  closed_after_comma : (ts items : List Terminal) (is : List Item) → ts ≡ items ++ comma ∷ closing ∷ [] → AreItems identifiers items is → AreBracketed ts is
+  closed : (ts items : List Terminal) (is : List Item) → ts ≡ items ++ closing ∷ []
+      → AreItems identifiers items is → AreBracketed ts is
+  closed_after_comma : (ts items : List Terminal) (is : List Item) → ts ≡ items ++ comma ∷ closing ∷ []
+      → AreItems identifiers items is → AreBracketed ts is
 
 -- what may stand after `from .. import`: identifiers, identifiers in brackets, or `*`
 pub data AreNames : List Terminal → List Item → Type 0 where
@@ -119,5 +138,7 @@ attribute_of from i = record { module_name = from; attribute_name = Some i.path;
 
 -- an import statement, and what it binds in the order written
 pub data IsImport : List Terminal → List Imported → Type 0 where
-  import_statement : (rest : List Terminal) (is : List Item) → AreItems modules rest is → IsImport (import_word ∷ rest) (map whole_module is)
-  from_statement : (ts from rest : List Terminal) (is : List Item) → ts ≡ from_word ∷ from ++ import_word ∷ rest → IsRelativeModule from → AreNames rest is → IsImport ts (map (attribute_of (spelling from)) is)
+  import_statement : (rest : List Terminal) (is : List Item) → AreItems modules rest is
+      → IsImport (import_word ∷ rest) (map whole_module is)
+  from_statement : (ts from rest : List Terminal) (is : List Item) → ts ≡ from_word ∷ from ++ import_word ∷ rest
+      → IsRelativeModule from → AreNames rest is → IsImport ts (map (attribute_of (spelling from)) is)

@@ -1,10 +1,11 @@
+-- The definitions that contracts cite.
 pub mod Action
 pub mod Binds
 pub mod Bound
 pub mod Declaration
 pub mod Grammar
 pub mod Names
-pub mod Reading
+pub mod Private
 pub mod Shape
 pub mod Spelled
 pub mod Statement

@@ -55,7 +55,8 @@ IsAlias (Some alias) = IsName alias
 pub data IsNamed (i : Imported) : Type 0 where
   whole : IsModuleName i.module_name → i.attribute_name ≡ None → IsAlias i.alias_name → IsNamed i
   all : IsRelativeName i.module_name → i.attribute_name ≡ Some (codes "*") → i.alias_name ≡ None → IsNamed i
-  part : (attribute : List ℕ) → IsRelativeName i.module_name → i.attribute_name ≡ Some attribute → IsName attribute → IsAlias i.alias_name → IsNamed i
+  part : (attribute : List ℕ) → IsRelativeName i.module_name → i.attribute_name ≡ Some attribute → IsName attribute
+      → IsAlias i.alias_name → IsNamed i
 
 abbrev pub AreNamed : List Imported → Type 0
 AreNamed [] = Unit {0}

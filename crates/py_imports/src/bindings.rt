@@ -10,8 +10,8 @@ ghost use Rattle.py_imports.specs.Grammar.{begins_import};
 ghost use Rattle.py_imports.specs.Statement.{Place};
 ghost use Rattle.py_imports.specs.Binds.{terminal_in, Binds, Refuses};
 ghost use Rattle.py_imports.specs.Bound.{bound_of, bound_at};
-ghost use Rattle.py_imports.specs.Reading.Items.{item_imported, AreLeft};
-ghost use Rattle.py_imports.specs.Reading.Bindings.{is_first_word, fault_of, BindsOne, RefusesItems, BindsMoreAt, RefusesAt, IsPlaceAt};
+ghost use Rattle.py_imports.specs.Private.Items.{item_imported, AreLeft};
+ghost use Rattle.py_imports.specs.Private.Bindings.{is_first_word, fault_of, BindsOne, RefusesItems, BindsMoreAt, RefusesAt, IsPlaceAt};
 
 use crate::binding::Binding;
 use crate::error::ImportError;

@@ -2,8 +2,8 @@
 ghost use Rattle.std.specs.Prelude.{◌≡◌, ◌≢◌, ◌≤◌, ◌-◌, ◌++◌, List, [], ◌∷◌, false, None, length, map, take, drop, codes, string_bytes, OnOk, IfSome, MatchOption};
 ghost use Rattle.py_imports.specs.Statement.{significant};
 ghost use Rattle.py_imports.specs.Binds.{terminal_in};
-ghost use Rattle.py_imports.specs.Reading.Lexemes.{rest_of, terminals_between};
-ghost use Rattle.py_imports.specs.Reading.Items.{with_first_word, BeginsForm};
+ghost use Rattle.py_imports.specs.Private.Lexemes.{rest_of, terminals_between};
+ghost use Rattle.py_imports.specs.Private.Items.{with_first_word, BeginsForm};
 ghost use Rattle.py_imports.specs.Grammar.{Terminal, from_word, terminal_of, begins_import, modules, identifiers, AreItems, AreBracketed, AreNames, whole_module, attribute_of, IsImport};
 
 use crate::lexeme::Lexeme;
@@ -14,7 +14,9 @@ use std::alloc::AllocError;
 /// Which import statement it is, by its first word.
 #[derive(Clone, Copy)]
 pub(crate) enum Form {
+    /// `import`
     Import,
+    /// `from`
     From,
 }
 
@@ -33,11 +35,12 @@ pub(crate) fn form_of(kind: TokKind, word: &str) -> Option<Form>
 /// A module of an import statement: its names and dots, with what stands between them.
 #[derive(Clone, Copy)]
 pub(crate) struct ModulePath<'u> {
+    /// Its lexemes, of which those other than names and dots are passed over.
     names: Lexemes<'u>,
 }
 
 impl ModulePath<'_> {
-    ghost use Rattle.py_imports.specs.Reading.Items.{path_of};
+    ghost use Rattle.py_imports.specs.Private.Items.{path_of};
 
     /// Puts its names and dots after `text`, without what stands between them.
     pub(crate) fn push_onto(self, text: &mut String) -> Result<(), AllocError>
@@ -59,25 +62,26 @@ impl ModulePath<'_> {
 /// What one item of an import statement imports, lent out of its logical line.
 #[derive(Clone, Copy)]
 pub(crate) struct ImportItem<'u> {
+    /// The module.
     pub(crate) module: ModulePath<'u>,
-    // The name after `from .. import`, or `*`; none of a whole module.
+    /// The name after `from .. import`, or `*`; none of a whole module.
     pub(crate) attribute: Option<&'u str>,
-    // The name after `as`.
+    /// The name after `as`.
     pub(crate) alias: Option<&'u str>,
 }
 
 /// What has to follow in an import statement.
 #[derive(Clone, Copy)]
 enum Stage<'u> {
-    // MODULE [as NAME] {, MODULE [as NAME]}
+    /// MODULE [as NAME] {, MODULE [as NAME]}
     Modules,
-    // RELATIVE_MODULE `import` and what stands after it
+    /// RELATIVE_MODULE `import` and what stands after it
     From,
-    // NAME [as NAME] {, NAME [as NAME]}
+    /// NAME [as NAME] {, NAME [as NAME]}
     Names(ModulePath<'u>),
-    // NAME [as NAME] {, NAME [as NAME]} [,] and the closing bracket
+    /// NAME [as NAME] {, NAME [as NAME]} [,] and the closing bracket
     Bracketed(ModulePath<'u>),
-    // Nothing: all items were read.
+    /// Nothing: all items were read.
     End,
 }
 
@@ -99,12 +103,14 @@ pub(crate) struct BadStatement;
 /// The items of an import statement, which are read from left to right. Reading them takes no memory.
 #[derive(Clone, Copy)]
 pub(crate) struct ImportItems<'u> {
+    /// What comes next.
     stage: Stage<'u>,
+    /// What is left of the statement.
     tokens: Lexemes<'u>,
 }
 
 impl<'u> ImportItems<'u> {
-    ghost use Rattle.py_imports.specs.Reading.Items.{ReadsStar, ListsFrom, ListsOf, AreLeft, most_left, AreSameLists, IsFirst, IsNext, GetFewer, FollowsItem, FollowsBracketed, TellsWhether};
+    ghost use Rattle.py_imports.specs.Private.Items.{ReadsStar, ListsFrom, ListsOf, AreLeft, most_left, AreSameLists, IsFirst, IsNext, GetFewer, FollowsItem, FollowsBracketed, TellsWhether};
 
     /// The items of the statement whose first word stands directly before the token at `place`, and which ends before
     /// the token at `end`.

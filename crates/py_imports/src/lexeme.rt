@@ -54,7 +54,7 @@ pub(crate) enum Lexeme<'s> {
 }
 
 impl<'s> Lexeme<'s> {
-    ghost use Rattle.py_imports.specs.Reading.Lexemes.{followed_by};
+    ghost use Rattle.py_imports.specs.Private.Lexemes.{followed_by};
 
     /// The lexeme of a token with this text.
     pub(crate) fn of_token(kind: TokKind, word: &'s str) -> Lexeme<'s>

@@ -3,7 +3,7 @@ ghost use Rattle.std.specs.Prelude.{◌≡◌, ◌≢◌, ◌≤◌, ◌-◌, �
 ghost use Rattle.std.specs.Option.{option_map};
 ghost use Rattle.py_imports.specs.Statement.{significant};
 ghost use Rattle.py_imports.specs.Binds.{terminal_in};
-ghost use Rattle.py_imports.specs.Reading.Parsing.{at_module, at_relative, alias_after, at_item};
+ghost use Rattle.py_imports.specs.Private.Parsing.{at_module, at_relative, alias_after, at_item};
 ghost use Rattle.py_imports.specs.Grammar.{identifiers};
 
 use crate::lexeme::Lexeme;
@@ -12,15 +12,18 @@ use py_lines::Unit;
 /// The lexemes of some tokens of a logical line, which are read from left to right.
 #[derive(Clone, Copy)]
 pub(crate) struct Lexemes<'u> {
+    /// The logical line.
     unit: &'u Unit<'u>,
+    /// The place of the next token.
     place: usize,
+    /// The place after the last token.
     end: usize,
     ghost ordered: { place ≤ end },
     ghost within: { end ≤ length unit.now.tokens.now },
 }
 
 impl<'u> Lexemes<'u> {
-    ghost use Rattle.py_imports.specs.Reading.Lexemes.{followed_by, rest_of, terminals_between, Follows, ReadsPath, ReadsAlias, ReadsName, begins_import_word, PassesDots};
+    ghost use Rattle.py_imports.specs.Private.Lexemes.{followed_by, rest_of, terminals_between, IsFurther, ReadsPath, ReadsAlias, ReadsName, begins_import_word, PassesDots};
 
     /// The tokens from `place` up to `end`, of which none was read.
     pub(crate) fn new(unit: &'u Unit<'u>, place: usize, end: usize) -> Lexemes<'u>
@@ -34,7 +37,7 @@ impl<'u> Lexemes<'u> {
     /// The next token that is no comment.
     pub(crate) fn next(&mut self) -> Lexeme<'u>
         ensures lexeme { rest_of self.old ≡ followed_by result (rest_of self.new) }
-        ensures further { Follows self.old self.new }
+        ensures further { IsFurther self.old self.new }
     {
         while self.place < self.end {
             let token = self.unit.tokens[self.place];
@@ -63,7 +66,7 @@ impl<'u> Lexemes<'u> {
 
     /// What was read since `start`.
     fn since(self, start: Lexemes<'u>) -> Lexemes<'u>
-        requires { Follows start self }
+        requires { IsFurther start self }
         ensures { rest_of start.entry ≡ rest_of result ++ rest_of self.entry }
     {
         Lexemes {
@@ -76,7 +79,7 @@ impl<'u> Lexemes<'u> {
     /// Reads a module, and answers its names and dots.
     pub(crate) fn module(&mut self) -> Option<Lexemes<'u>>
         ensures path { ReadsPath (at_module (rest_of self.old)) result (rest_of self.new) }
-        ensures further { Follows self.old self.new }
+        ensures further { IsFurther self.old self.new }
     {
         let start = *self;
         'names: loop {
@@ -94,7 +97,7 @@ impl<'u> Lexemes<'u> {
     /// Passes the dots that a relative module begins with: whether there are any.
     fn pass_dots(&mut self) -> bool
         ensures dots { PassesDots (rest_of self.old) result (rest_of self.new) }
-        ensures further { Follows self.old self.new }
+        ensures further { IsFurther self.old self.new }
     {
         let mut dotted = false;
         let mut after = *self;

@@ -5,7 +5,7 @@ ghost use Rattle.py_lines.specs.Lines.{line_in};
 ghost use Rattle.py_lines.specs.declared.token.Token.{Token};
 ghost use Rattle.py_imports.specs.Statement.{is_comment, significant, places_from, is_end};
 ghost use Rattle.py_imports.specs.Shape.{mark_len, begins_so, is_parenthesis, stands_well, says_skip, IsSortable, HasShape};
-ghost use Rattle.py_imports.specs.Reading.Places.{BeginsAt, begins_line};
+ghost use Rattle.py_imports.specs.Private.Places.{BeginsAt, begins_line};
 
 use crate::action::{Action, says};
 use crate::items::{Form, ImportItems, form_of};

@@ -3,7 +3,7 @@
 ghost use Rattle.std.specs.Prelude.{◌≡◌, ◌==◌, ◌&&◌, ◌≤◌, ◌<◌, ◌+◌, ◌-◌, ◌^◌, Some, true, length, take, drop, slice_get};
 ghost use Rattle.py_lines.specs.declared.token.Token.{Token};
 ghost use Rattle.py_imports.specs.Statement.{is_semicolon, is_divider, depth_past, significant};
-ghost use Rattle.py_imports.specs.Reading.Parsing.{IsStatementBetween};
+ghost use Rattle.py_imports.specs.Private.Parsing.{IsStatementBetween};
 
 use py_lines::{TokKind, Token};
 

@@ -1,3 +1,4 @@
+-- After `isort:` come the action, or a space and the action.
 use Rattle.std.proofs.Common.{ap, ◌∙◌}
 use Rattle.py_imports.specs.Action.{begins_with_phrase}
 use Rattle.py_imports.proofs.ActionLemmas.{action_behind_space, action_behind_name}

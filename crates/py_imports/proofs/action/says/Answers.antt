@@ -1,3 +1,4 @@
+-- The action begins at no place passed.
 use Rattle.py_imports.proofs.ActionLemmas.{passes_place, says_here, says_nowhere}
 use Rattle.py_imports.proofs.action.says.Goals as goal
 

@@ -1,3 +1,4 @@
+-- The items passed are bound, and those that are left go after them.
 use Rattle.py_imports.proofs.BindingLemmas.{bound_one}
 use Rattle.py_imports.proofs.bindings.bind_items.Goals as goal
 

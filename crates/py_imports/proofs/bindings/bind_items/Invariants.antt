@@ -1,5 +1,5 @@
 -- The items that were read so far were bound.
-use Rattle.py_imports.specs.Reading.Items.{AreLeft, most_left}
+use Rattle.py_imports.specs.Private.Items.{AreLeft, most_left}
 use Rattle.py_imports.proofs.BindingLemmas.{BoundSoFar}
 use Rattle.py_imports.proofs.bindings.bind_items.Given as goal
 

@@ -1,3 +1,4 @@
+-- The statement binds its items, or nothing if it is no import statement.
 use Rattle.std.proofs.Common.{◌≡◌, ◌+◌, ◌-◌, ◌∷◌, get_or, map, take, drop, slice_range, ap, sym, ◌∙◌, refl}
 use Rattle.std.proofs.lemmas.Result.{IfErr-weaker, on_ok_weaker}
 use Rattle.py_lines.specs.Lines.{line_in}
@@ -5,8 +6,8 @@ use Rattle.py_lines.specs.declared.token.Token.{Token}
 use Rattle.py_lines.specs.declared.token.TokKind.TheVariants as kind
 use Rattle.py_imports.specs.Binds.{terminal_in}
 use Rattle.py_imports.specs.Grammar.{terminal_of, begins_import}
-use Rattle.py_imports.specs.Reading.Bindings.{BindsOne}
-use Rattle.py_imports.specs.Reading.Items.{AreLeft}
+use Rattle.py_imports.specs.Private.Bindings.{BindsOne}
+use Rattle.py_imports.specs.Private.Items.{AreLeft}
 use Rattle.py_imports.specs.Statement.{significant}
 use Rattle.py_imports.proofs.StatementLemmas.{binds_none, begun_word, binds_import, refuses_import, token_at}
 use Rattle.py_imports.proofs.bindings.bind_statement.Goals as goal

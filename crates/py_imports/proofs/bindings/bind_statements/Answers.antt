@@ -1,3 +1,4 @@
+-- The statements passed bind what was put into the list.
 use Rattle.std.proofs.Common.{◌+◌, get_or, arith, ap, true, sym, subst}
 use Rattle.std.proofs.lemmas.Result.{err_from_is_err_and}
 use Rattle.py_lines.specs.Lines.{line_in}

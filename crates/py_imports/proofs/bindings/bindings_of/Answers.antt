@@ -1,3 +1,4 @@
+-- A line without `import` and `from` binds nothing.
 use Rattle.std.proofs.Common.{map, sym, subst}
 use Rattle.py_lines.specs.Lines.{line_in}
 use Rattle.py_imports.specs.Binds.{Binds}

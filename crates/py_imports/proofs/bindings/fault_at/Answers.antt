@@ -1,3 +1,4 @@
+-- The fault is that of the token at the place.
 use Rattle.std.proofs.Common.{get_or, arith}
 use Rattle.std.proofs.lemmas.Option.{slice_get-get_or}
 use Rattle.py_lines.specs.declared.token.Token.{Token}

@@ -1,7 +1,7 @@
 -- No token so far is such a word.
 use Rattle.std.proofs.Common.{◌≡◌, drop}
 use Rattle.std.specs.List.{list_any}
-use Rattle.py_imports.specs.Reading.Bindings.{is_first_word}
+use Rattle.py_imports.specs.Private.Bindings.{is_first_word}
 use Rattle.py_imports.proofs.bindings.has_first_word.Given as goal
 
 abbrev pub invariant-tokens : goal.invariant-tokens

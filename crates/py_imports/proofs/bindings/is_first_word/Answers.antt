@@ -1,3 +1,4 @@
+-- The length and the first byte rule out other words only.
 use Rattle.std.proofs.Common.{◌≡◌, ◌∷◌, [], get_or, slice_range, ap, sym, ◌∙◌}
 use Rattle.py_lines.specs.declared.token.Token.{Token}
 use Rattle.py_lines.specs.declared.token.TokKind.TheVariants as kind

@@ -1,3 +1,4 @@
+-- The law is a lemma each of proofs/DecidingLemmas, OneListLemmas and OneFaultLemmas.
 use Rattle.py_imports.proofs.DecidingLemmas.{some_list_or_fault}
 use Rattle.py_imports.proofs.OneFaultLemmas.{one_list, one_fault, not_both}
 use Rattle.py_imports.proofs.laws.binds_or_is_bad.Goals as goal

@@ -1,3 +1,4 @@
+-- The law is a lemma of proofs/Names.
 use Rattle.py_imports.proofs.Names.{terminals_of_pieces, names_in_line}
 use Rattle.py_imports.proofs.laws.names_are_words.Goals as goal
 

@@ -1,3 +1,4 @@
+-- The law is a lemma of proofs/OneStatement.
 use Rattle.py_imports.proofs.OneStatement.{binds_its_imports}
 use Rattle.py_imports.proofs.laws.one_statement_binds_its_imports.Goals as goal
 

@@ -1,3 +1,4 @@
+-- The first token that is no comment begins an import statement, or none does.
 use Rattle.py_lines.specs.Lines.{line_in}
 use Rattle.py_lines.specs.declared.token.Token.{Token}
 use Rattle.py_lines.specs.declared.token.TokKind.TheVariants as kind

@@ -1,3 +1,4 @@
+-- Each token passed stands well, and `after_opening` tells of the last one.
 use Rattle.py_lines.specs.declared.token.TokKind.TheVariants as kind
 use Rattle.py_imports.proofs.ShapeLemmas.{stand_well_more}
 use Rattle.py_imports.proofs.shape.comments_stand_well.Goals as goal

@@ -1,3 +1,4 @@
+-- A statement ends before the last token if a `;` stands outside brackets.
 use Rattle.py_imports.proofs.ShapeLemmas.{divided}
 use Rattle.py_imports.proofs.shape.is_divided.Goals as goal
 

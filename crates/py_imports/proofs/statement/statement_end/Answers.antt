@@ -1,7 +1,8 @@
+-- The tokens passed have no `;` outside brackets.
 use Rattle.std.proofs.Common.{◌+◌, sym, ◌∙◌, ap, drop, get_or, ◌++◌}
 use Rattle.py_lines.specs.declared.token.TokKind.TheVariants as kind
 use Rattle.py_imports.specs.Statement.{significant}
-use Rattle.py_imports.specs.Reading.Parsing.{up_to_semicolon}
+use Rattle.py_imports.specs.Private.Parsing.{up_to_semicolon}
 use Rattle.py_imports.proofs.TokenLemmas.{window}
 use Rattle.py_imports.proofs.EndLemmas.{passes_one, shallow_after}
 use Rattle.py_imports.proofs.statement.statement_end.Goals as goal

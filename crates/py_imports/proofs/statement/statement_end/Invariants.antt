@@ -1,7 +1,7 @@
 -- No `;` outside brackets was passed.
 use Rattle.std.proofs.Common.{◌≡◌, ◌≤◌, ◌++◌, drop}
 use Rattle.py_imports.specs.Statement.{significant}
-use Rattle.py_imports.specs.Reading.Parsing.{up_to_semicolon}
+use Rattle.py_imports.specs.Private.Parsing.{up_to_semicolon}
 use Rattle.py_imports.proofs.TokenLemmas.{window}
 use Rattle.py_imports.proofs.statement.statement_end.Given as goal
 

@@ -1,4 +1,5 @@
-use Rattle.py_imports.specs.Reading.Lexemes.{rest_of}
+-- After an item in brackets comes a comma, the closing bracket, or both.
+use Rattle.py_imports.specs.Private.Lexemes.{rest_of}
 use Rattle.py_imports.proofs.ReaderLemmas.{closing_by, comma_closing_by, out_of_brackets}
 use Rattle.py_imports.proofs.items.ImportItems.after_bracketed.Goals as goal
 

@@ -1,7 +1,8 @@
+-- A name with its alias is the first item of a list in brackets.
 use Rattle.std.specs.Option.{option_map}
 use Rattle.py_imports.specs.Grammar.{Item, AreBracketed, attribute_of}
-use Rattle.py_imports.specs.Reading.Items.{path_of}
-use Rattle.py_imports.specs.Reading.Lexemes.{rest_of}
+use Rattle.py_imports.specs.Private.Items.{path_of}
+use Rattle.py_imports.specs.Private.Lexemes.{rest_of}
 use Rattle.py_imports.proofs.ListLemmas.{bracketed_none, bracketed_bad}
 use Rattle.py_imports.proofs.ReaderLemmas.{bracketed_first, bracketed_fewer, no_lists}
 use Rattle.py_imports.proofs.items.ImportItems.bracketed_item.Goals as goal

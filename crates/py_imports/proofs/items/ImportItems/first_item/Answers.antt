@@ -1,7 +1,8 @@
+-- What comes after `import` is `*`, an opening bracket, or a name.
 use Rattle.std.proofs.Common.{ap, ◌∙◌}
 use Rattle.py_imports.specs.Grammar.{attribute_of}
-use Rattle.py_imports.specs.Reading.Lexemes.{rest_of}
-use Rattle.py_imports.specs.Reading.Items.{path_of}
+use Rattle.py_imports.specs.Private.Lexemes.{rest_of}
+use Rattle.py_imports.specs.Private.Items.{path_of}
 use Rattle.py_imports.proofs.NamesLemmas.{begins_plain, begins_plain-lexeme}
 use Rattle.py_imports.proofs.ReaderLemmas.{first_of_same, same_in_brackets, same_plain, star_by}
 use Rattle.py_imports.proofs.items.ImportItems.first_item.Goals as goal

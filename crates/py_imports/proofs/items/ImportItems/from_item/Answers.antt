@@ -1,4 +1,5 @@
-use Rattle.py_imports.specs.Reading.Lexemes.{rest_of, lexemes_text}
+-- A relative module is read, and the first item after it.
+use Rattle.py_imports.specs.Private.Lexemes.{rest_of, lexemes_text}
 use Rattle.py_imports.proofs.ReaderLemmas.{first_of_same, same_from, fewer_yet, relative_shorter}
 use Rattle.py_imports.proofs.StatementLemmas.{from_none}
 use Rattle.py_imports.proofs.items.ImportItems.from_item.Goals as goal

@@ -1,3 +1,4 @@
+-- The items passed begin each list of the statement.
 use Rattle.py_imports.proofs.ReaderLemmas.{one_more_read}
 use Rattle.py_imports.proofs.items.ImportItems.is_in_grammar.Goals as goal
 

@@ -1,7 +1,7 @@
 -- These imports were read so far.
 use Rattle.std.proofs.Common.{List}
 use Rattle.py_imports.specs.Grammar.{Imported}
-use Rattle.py_imports.specs.Reading.Items.{AreLeft, most_left}
+use Rattle.py_imports.specs.Private.Items.{AreLeft, most_left}
 use Rattle.py_imports.proofs.ReaderLemmas.{AreRead}
 use Rattle.py_imports.proofs.items.ImportItems.is_in_grammar.Given as goal
 

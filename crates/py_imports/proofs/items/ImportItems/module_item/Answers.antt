@@ -1,8 +1,9 @@
+-- A module with its alias is the first item of a list of modules.
 use Rattle.std.proofs.Common.{◌≡◌, Some, None, refl}
 use Rattle.std.specs.Option.{option_map}
 use Rattle.py_imports.specs.Grammar.{modules, Item, AreItems, whole_module}
-use Rattle.py_imports.specs.Reading.Lexemes.{rest_of, lexemes_text}
-use Rattle.py_imports.specs.Reading.Parsing.{at_item}
+use Rattle.py_imports.specs.Private.Lexemes.{rest_of, lexemes_text}
+use Rattle.py_imports.specs.Private.Parsing.{at_item}
 use Rattle.py_imports.specs.declared.items.Stage.TheVariants as stage
 use Rattle.py_imports.proofs.ListLemmas.{items_none, items_bad}
 use Rattle.py_imports.proofs.ReaderLemmas.{module_none, module_then, item_first, item_fewer, no_lists}

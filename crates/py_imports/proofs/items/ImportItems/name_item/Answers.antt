@@ -1,8 +1,9 @@
+-- A name with its alias is the first item of a list without brackets.
 use Rattle.std.proofs.Common.{refl}
 use Rattle.std.specs.Option.{option_map}
 use Rattle.py_imports.specs.Grammar.{identifiers, Item, AreItems, attribute_of}
-use Rattle.py_imports.specs.Reading.Items.{path_of}
-use Rattle.py_imports.specs.Reading.Lexemes.{rest_of}
+use Rattle.py_imports.specs.Private.Items.{path_of}
+use Rattle.py_imports.specs.Private.Lexemes.{rest_of}
 use Rattle.py_imports.specs.declared.items.Stage.TheVariants as stage
 use Rattle.py_imports.proofs.ListLemmas.{items_none, items_bad}
 use Rattle.py_imports.proofs.ReaderLemmas.{item_first, item_fewer, no_lists}

@@ -1,7 +1,8 @@
+-- Nothing is read, so all lists of the statement are left.
 use Rattle.std.proofs.Common.{◌∷◌, subst}
 use Rattle.py_imports.specs.Grammar.{import_word, modules, AreItems, whole_module, IsImport}
-use Rattle.py_imports.specs.Reading.Lexemes.{rest_of}
-use Rattle.py_imports.specs.Reading.Items.{AreSameLists, ListsOf}
+use Rattle.py_imports.specs.Private.Lexemes.{rest_of}
+use Rattle.py_imports.specs.Private.Items.{AreSameLists, ListsOf}
 use Rattle.py_imports.proofs.ReaderLemmas.{same_import}
 use Rattle.py_imports.proofs.items.ImportItems.new.Goals as goal
 

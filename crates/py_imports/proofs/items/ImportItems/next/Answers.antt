@@ -1,4 +1,5 @@
-use Rattle.py_imports.specs.Reading.Items.{AreLeft, IsFirst}
+-- Each stage reads the first item of the lists that are left at it.
+use Rattle.py_imports.specs.Private.Items.{AreLeft, IsFirst}
 use Rattle.py_imports.specs.declared.items.Stage.TheVariants as stage
 use Rattle.py_imports.proofs.ReaderLemmas.{first_by_stage, next_some, next_none}
 use Rattle.py_imports.proofs.items.ImportItems.next.Goals as goal

@@ -1,6 +1,6 @@
 -- What was written and what is left is the module.
 use Rattle.std.proofs.Common.{◌≡◌, ◌++◌, length, string_bytes}
-use Rattle.py_imports.specs.Reading.Lexemes.{rest_of, lexemes_text}
+use Rattle.py_imports.specs.Private.Lexemes.{rest_of, lexemes_text}
 use Rattle.py_imports.proofs.items.ModulePath.push_onto.Given as goal
 
 abbrev pub invariant-names : goal.invariant-names

@@ -1,5 +1,6 @@
+-- What is read is a module, as long as can be.
 use Rattle.std.proofs.Common.{ap, ◌∙◌}
-use Rattle.py_imports.specs.Reading.Lexemes.{rest_of, begins_dot}
+use Rattle.py_imports.specs.Private.Lexemes.{rest_of, begins_dot}
 use Rattle.py_imports.proofs.ReadingLemmas.{names_none, names_dot, names_last, no_dot-lexeme}
 use Rattle.py_imports.proofs.ReaderLemmas.{follows_on, stays}
 use Rattle.py_imports.proofs.lexemes.Lexemes.module.Goals as goal

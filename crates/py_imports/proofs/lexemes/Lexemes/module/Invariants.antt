@@ -1,13 +1,13 @@
 -- What was read is the beginning of the module.
 use Rattle.std.proofs.Common.{length}
-use Rattle.py_imports.specs.Reading.Lexemes.{rest_of, Follows}
+use Rattle.py_imports.specs.Private.Lexemes.{rest_of, IsFurther}
 use Rattle.py_imports.proofs.ReadingLemmas.{NamesRead}
 use Rattle.py_imports.proofs.lexemes.Lexemes.module.Given as goal
 
 abbrev pub invariant-names : goal.invariant-names
 invariant-names l = record {
   names : NamesRead (rest_of l.start) (rest_of l.self);
-  further : Follows l.start l.self;
+  further : IsFurther l.start l.self;
 }
 
 abbrev pub decreases-names : goal.decreases-names

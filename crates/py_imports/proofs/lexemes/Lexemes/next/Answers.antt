@@ -1,3 +1,4 @@
+-- Comments are passed over, and the next other token is the next lexeme.
 use Rattle.std.proofs.Common.{◌+◌, ◌∷◌, ◌<◌, sym, ◌∙◌, ap, get_or, map, length, arith}
 use Rattle.std.proofs.lemmas.Option.{slice_get-get_or}
 use Rattle.py_lines.specs.declared.token.Token.{Token}

@@ -1,6 +1,6 @@
 -- Only comments were passed.
 use Rattle.std.proofs.Common.{◌≡◌, ◌-◌, ◌≤◌}
-use Rattle.py_imports.specs.Reading.Lexemes.{rest_of}
+use Rattle.py_imports.specs.Private.Lexemes.{rest_of}
 use Rattle.py_imports.proofs.lexemes.Lexemes.next.Given as goal
 
 abbrev pub invariant-loop-self : goal.invariant-loop-self

@@ -1,5 +1,6 @@
+-- Each dot that is passed is one of a relative module.
 use Rattle.std.proofs.Common.{refl, ap, sym, ◌∙◌}
-use Rattle.py_imports.specs.Reading.Lexemes.{rest_of}
+use Rattle.py_imports.specs.Private.Lexemes.{rest_of}
 use Rattle.py_imports.proofs.ReadingLemmas.{dots_dot}
 use Rattle.py_imports.proofs.ReaderLemmas.{follows_on}
 use Rattle.py_imports.proofs.lexemes.Lexemes.pass_dots.Goals as goal

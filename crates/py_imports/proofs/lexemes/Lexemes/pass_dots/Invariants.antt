@@ -1,6 +1,6 @@
 -- What was passed is dots.
 use Rattle.std.proofs.Common.{◌≡◌, length}
-use Rattle.py_imports.specs.Reading.Lexemes.{rest_of, Follows}
+use Rattle.py_imports.specs.Private.Lexemes.{rest_of, IsFurther}
 use Rattle.py_imports.proofs.ReadingLemmas.{DotsRead}
 use Rattle.py_imports.proofs.lexemes.Lexemes.pass_dots.Given as goal
 
@@ -8,7 +8,7 @@ abbrev pub invariant-dots : goal.invariant-dots
 invariant-dots l = record {
   dots : DotsRead l.dotted (rest_of l.fn.self) (rest_of l.self);
   same : l.after ≡ l.self;
-  further : Follows l.fn.self l.self;
+  further : IsFurther l.fn.self l.self;
 }
 
 abbrev pub decreases-dots : goal.decreases-dots

@@ -1,5 +1,6 @@
+-- What is read is a relative module with `import` after it.
 use Rattle.std.proofs.Common.{◌≡◌, ◌&&◌, ◌++◌, Some, sym, ap, ◌∙◌}
-use Rattle.py_imports.specs.Reading.Lexemes.{rest_of, lexemes_text, begins_import_word}
+use Rattle.py_imports.specs.Private.Lexemes.{rest_of, lexemes_text, begins_import_word}
 use Rattle.py_imports.proofs.ReadingLemmas.{relative_dots, relative_named}
 use Rattle.py_imports.proofs.lexemes.Lexemes.relative_module.Goals as goal
 use Rattle.py_imports.proofs.lexemes.Lexemes.relative_module.Goals.{then-dotted, else-dotted, then-not-is_at_import+in_ok-module, else-not-is_at_import}

@@ -1,3 +1,4 @@
+-- The lexemes from one place up to another, and those after it, are those from the one place.
 use Rattle.std.proofs.Common.{sym}
 use Rattle.py_imports.proofs.ReaderLemmas.{terminals-split}
 use Rattle.py_imports.proofs.lexemes.Lexemes.since.Goals as goal

@@ -4,7 +4,7 @@ use Rattle.py_lines.specs.LogicalLine.{LogicalLine}
 use Rattle.py_lines.specs.declared.token.Token.{Token}
 use Rattle.py_lines.specs.declared.unit.UnitKind.TheVariants as unit_kind
 use Rattle.py_imports.specs.Binds.{terminal_in}
-use Rattle.py_imports.specs.Reading.Items.{with_first_word}
+use Rattle.py_imports.specs.Private.Items.{with_first_word}
 use Rattle.py_imports.specs.Shape.{terminals_of, mark_len}
 use Rattle.py_imports.specs.Statement.{significant}
 use Rattle.py_imports.specs.declared.items.Form.{Form}

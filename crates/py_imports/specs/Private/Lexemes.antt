@@ -4,7 +4,7 @@ use Rattle.std.specs.Prelude.{◌≡◌, ℕ, ◌≤◌, ◌-◌, Bool, true, fa
 use Rattle.std.specs.Option.{option_map}
 use Rattle.py_imports.specs.Binds.{terminal_in}
 use Rattle.py_imports.specs.Grammar.{Terminal, import_word, from_word, as_word, name, dot, comma, star, opening, closing, other, spelling, identifiers}
-use Rattle.py_imports.specs.Reading.Parsing.{Read, spelled_before, at_relative, alias_after, at_item}
+use Rattle.py_imports.specs.Private.Parsing.{Read, spelled_before, at_relative, alias_after, at_item}
 use Rattle.py_imports.specs.Statement.{significant}
 use Rattle.py_lines.specs.declared.unit.Unit.{Unit}
 use Rattle.py_imports.specs.declared.lexeme.Lexeme.{Lexeme}
@@ -34,7 +34,7 @@ abbrev pub rest_of : Lexemes → List Terminal
 rest_of s = terminals_between s.unit.now s.place s.end
 
 -- the second reads the same tokens as the first, and stands at the same place or further on
-pub record Follows (before after : Lexemes) : Type 0 where
+pub record IsFurther (before after : Lexemes) : Type 0 where
   pub unit : after.unit ≡ before.unit
   pub end : after.end ≡ before.end
   pub place : before.place ≤ after.place
@@ -48,17 +48,19 @@ abbrev pub ReadsPath : Option Read → Option Lexemes → List Terminal → Type
 ReadsPath here None after = here ≡ None
 ReadsPath here (Some path) after = here ≡ Some (record { spelled = lexemes_text path; rest = after })
 
--- the alias that stands behind a path was read, if there is one; there is no answer where none may be read
+-- the alias that stands after a path was read, if there is one; there is no answer where none may be read
 abbrev pub ReadsAlias : List Terminal → Option (Option (Bor (List ℕ))) → List Terminal → Type 0
 ReadsAlias before None after = (path : List ℕ) → alias_after path before ≡ None
 ReadsAlias before (Some alias) after =
-    (path : List ℕ) → alias_after path before ≡ Some (record { item = record { path = path; alias = option_map (λ a. a.now) alias }; rest = after })
+    (path : List ℕ) → alias_after path before
+    ≡ Some (record { item = record { path = path; alias = option_map (λ a. a.now) alias }; rest = after })
 
 -- an identifier with its alias was read; there is no answer where none stands here
 abbrev pub ReadsName : List Terminal → Option (Bor (List ℕ) × Option (Bor (List ℕ))) → List Terminal → Type 0
 ReadsName before None after = at_item identifiers before ≡ None
 ReadsName before (Some r) after =
-    at_item identifiers before ≡ Some (record { item = record { path = r.0.now; alias = option_map (λ a. a.now) r.1 }; rest = after })
+    at_item identifiers before
+    ≡ Some (record { item = record { path = r.0.now; alias = option_map (λ a. a.now) r.1 }; rest = after })
 
 -- whether a dot is next
 abbrev pub begins_dot : List Terminal → Bool

@@ -2,7 +2,7 @@
 use Rattle.std.specs.Prelude.{◌≡◌, ◌≢◌, ℕ, suc, ◌<◌, Bool, true, false, Option, None, Some, Result, Ok, Err, List, [], ◌∷◌, length, map, codes, ◌⊎◌}
 use Rattle.std.specs.Option.{option_map}
 use Rattle.py_imports.specs.Grammar.{Terminal, import_word, from_word, comma, closing, begins_import, modules, identifiers, Item, AreItems, AreBracketed, whole_module, attribute_of, Imported, IsImport}
-use Rattle.py_imports.specs.Reading.Lexemes.{rest_of, lexemes_text}
+use Rattle.py_imports.specs.Private.Lexemes.{rest_of, lexemes_text}
 use Rattle.py_imports.specs.declared.items.BadStatement.{BadStatement}
 use Rattle.py_imports.specs.declared.items.Form.{Form}
 use Rattle.py_imports.specs.declared.items.Form.TheVariants as form
@@ -28,7 +28,11 @@ path_of m = lexemes_text m.names
 
 -- what an item imports
 abbrev pub item_imported : ImportItem → Imported
-item_imported i = record { module_name = path_of i.module; attribute_name = option_map (λ a. a.now) i.attribute; alias_name = option_map (λ a. a.now) i.alias }
+item_imported i = record {
+  module_name = path_of i.module;
+  attribute_name = option_map (λ a. a.now) i.attribute;
+  alias_name = option_map (λ a. a.now) i.alias;
+}
 
 -- what is imported by the items of some such list
 abbrev pub ListsOf : (Item → Imported) → (List Item → Type 0) → List Imported → Type 0
@@ -76,16 +80,16 @@ abbrev pub IsFirst : (List Imported → Type 0) → Option ImportItem → (List 
 IsFirst Before None After = (is : List Imported) → ¬ (Before is)
 IsFirst Before (Some i) After = StartWith Before (item_imported i) After
 
--- all names of this module are imported by a `*`, behind which nothing is left
-pub record ImportsAll (m : ModulePath) (i : ImportItem) (behind : List Terminal) (next : Stage) : Type 0 where
-  pub nothing : behind ≡ []
+-- all names of this module are imported by a `*`, after which nothing is left
+pub record ImportsAll (m : ModulePath) (i : ImportItem) (rest : List Terminal) (next : Stage) : Type 0 where
+  pub nothing : rest ≡ []
   pub star : item_imported i ≡ attribute_of (path_of m) (record { path = codes "*"; alias = None })
   pub ended : next ≡ stage.End
 
--- a `*` was read with what it imports; there is no answer where something is left behind it
+-- a `*` was read with what it imports; there is no answer where something is left after it
 abbrev pub ReadsStar : ModulePath → List Terminal → Option ImportItem → Stage → Type 0
-ReadsStar m behind None next = behind ≢ []
-ReadsStar m behind (Some i) next = ImportsAll m i behind next
+ReadsStar m rest None next = rest ≢ []
+ReadsStar m rest (Some i) next = ImportsAll m i rest next
 
 -- an item is next, no item is left, or there is no list
 abbrev pub IsNext : (List Imported → Type 0) → Result (Option ImportItem) BadStatement → (List Imported → Type 0) → Type 0
@@ -128,7 +132,9 @@ pub record IsOutOfBrackets (ts : List Terminal) : Type 0 where
 -- what follows an item in brackets: a comma and more, or the closing bracket alone
 abbrev pub FollowsBracketed : ModulePath → List Terminal → Option Stage → List Terminal → Type 0
 FollowsBracketed m before None after = IsOutOfBrackets before
-FollowsBracketed m before (Some next) after = ((next ≡ stage.Bracketed m) × (before ≡ comma ∷ after) × (begins_closing after ≡ false)) ⊎ ((next ≡ stage.End) × IsClosing before)
+FollowsBracketed m before (Some next) after =
+    ((next ≡ stage.Bracketed m) × (before ≡ comma ∷ after) × (begins_closing after ≡ false))
+    ⊎ ((next ≡ stage.End) × IsClosing before)
 
 -- whether some list is such, as a test has told
 abbrev pub TellsWhether : Bool → (List Imported → Type 0) → Type 0

@@ -4,7 +4,7 @@ use Rattle.std.specs.Option.{option_map}
 use Rattle.std.specs.Str.{byte}
 use Rattle.py_lines.specs.declared.token.Token.{Token}
 use Rattle.py_imports.specs.Statement.{is_semicolon, depth_past, significant}
-use Rattle.py_imports.specs.Grammar.{Terminal, import_word, as_word, name, dot, Listed, modules, identifiers, Item}
+use Rattle.py_imports.specs.Grammar.{Terminal, import_word, as_word, name, dot, NameKind, modules, identifiers, Item}
 
 -- what was read, and what follows it
 pub record Read : Type 0 where
@@ -56,12 +56,12 @@ abbrev pub at_identifier : List Terminal → Option Read
 at_identifier (name w ∷ ts) = Some (record { spelled = w; rest = ts })
 at_identifier _ = None
 
-abbrev pub at_path : Listed → List Terminal → Option Read
+abbrev pub at_path : NameKind → List Terminal → Option Read
 at_path modules ts = at_module ts
 at_path identifiers ts = at_identifier ts
 
 -- a path with its alias, if it has one
-abbrev pub at_item : Listed → List Terminal → Option ItemRead
+abbrev pub at_item : NameKind → List Terminal → Option ItemRead
 at_item k ts = option_and_then (λ r. alias_after r.spelled r.rest) (at_path k ts)
 
 -- the tokens up to the next `;` at depth 0, or all; they begin at this depth
@@ -71,4 +71,5 @@ up_to_semicolon depth (t ∷ ts) = if is_semicolon t.kind && (depth == 0) then [
 
 -- the tokens from one place up to another are those up to the next `;` at depth 0, or all
 abbrev pub IsStatementBetween : List Token → ℕ → ℕ → Type 0
-IsStatementBetween tokens start end = significant (take (end - start) (drop start tokens)) ≡ up_to_semicolon 0 (significant (drop start tokens))
+IsStatementBetween tokens start end =
+    significant (take (end - start) (drop start tokens)) ≡ up_to_semicolon 0 (significant (drop start tokens))
