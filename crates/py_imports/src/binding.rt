@@ -1,5 +1,5 @@
 //! One name that an import statement binds.
-ghost use Rattle.std.specs.Prelude.{◌≡◌, ◌++◌, codes, OnOk, IfOk, IfErr, string_bytes};
+ghost use Rattle.std.specs.Prelude.{◌≡◌, IfOk, IfErr, string_bytes};
 ghost use Rattle.std.specs.Option.{option_map};
 
 use crate::error::ImportError;
@@ -20,22 +20,14 @@ pub struct Binding {
     pub alias_name: Option<String>,
 }
 
-/// A copy of the text, if there is one.
-fn copy_of(text: &Option<String>) -> Result<Option<String>, AllocError>
-    ensures { IfOk result (λ copy. option_map string_bytes copy ≡ option_map string_bytes text.now) }
+/// The text in memory of its own, if there is one.
+pub(crate) fn owned(alloc: Global, text: Option<&str>) -> Result<Option<String>, AllocError>
+    ensures { IfOk result (λ copy. option_map string_bytes copy ≡ option_map (λ t. t.now) text.entry) }
 {
     match text {
-        Some(text) => Ok(Some(text.clone()?)),
+        Some(text) => Ok(Some(String::from_str(alloc, text)?)),
         None => Ok(None),
     }
-}
-
-/// Puts ` as ` and an alias after the text.
-fn push_alias(text: &mut String, alias: &str) -> Result<(), AllocError>
-    ensures { OnOk result (string_bytes text.new ≡ string_bytes text.old ++ (codes " as " ++ alias.now)) }
-{
-    text.push_str(" as ")?;
-    text.push_str(alias)
 }
 
 impl Binding {
@@ -49,18 +41,22 @@ impl Binding {
         ensures err { IfErr result (λ e. e ≡ ImportError.Memory) }
     {
         let module = self.module_name.as_str();
-        let mut text = match &self.attribute_name {
-            None => ["import ", module].concat(alloc)?,
-            Some(attribute) => ["from ", module, " import ", attribute.as_str()].concat(alloc)?,
+        let (as_word, alias) = match &self.alias_name {
+            Some(alias) => (" as ", alias.as_str()),
+            None => ("", ""),
         };
-        if let Some(alias) = &self.alias_name {
-            push_alias(&mut text, alias.as_str())?;
-        }
-        Ok(text)
+        let text = match &self.attribute_name {
+            None => ["import ", module, as_word, alias].concat(alloc),
+            Some(attribute) => {
+                let name = attribute.as_str();
+                ["from ", module, " import ", name, as_word, alias].concat(alloc)
+            }
+        };
+        Ok(text?)
     }
 
     /// An equal binding, with texts of its own. It answers `Memory` alone.
-    pub fn copy(&self, _alloc: Global) -> Result<Binding, ImportError>
+    pub fn copy(&self, alloc: Global) -> Result<Binding, ImportError>
         ensures ok { IfOk result (λ b. bound_of b ≡ bound_of self.now) }
         ensures err { IfErr result (λ e. e ≡ ImportError.Memory) }
     {
@@ -68,8 +64,8 @@ impl Binding {
             line: self.line,
             indented: self.indented,
             module_name: self.module_name.clone()?,
-            attribute_name: copy_of(&self.attribute_name)?,
-            alias_name: copy_of(&self.alias_name)?,
+            attribute_name: owned(alloc, self.attribute_name.as_deref())?,
+            alias_name: owned(alloc, self.alias_name.as_deref())?,
         })
     }
 }

@@ -2,7 +2,6 @@
 ghost use Rattle.std.specs.Prelude.{◌≡◌, ◌<◌, ◌+◌, Some, false, [], ◌∷◌, length, map, slice_get, codes, IfOk, OnOk, IfErr, string_bytes};
 ghost use Rattle.std.specs.List.{list_any};
 ghost use Rattle.std.specs.Str.{bytes_eq};
-ghost use Rattle.std.specs.Option.{option_map};
 ghost use Rattle.py_lines.specs.Lines.{line_in};
 ghost use Rattle.py_lines.specs.declared.fault.FaultKind.TheVariants.{BadImport};
 ghost use Rattle.py_lines.specs.declared.token.Token.{Token};
@@ -13,7 +12,7 @@ ghost use Rattle.py_imports.specs.Bound.{bound_of, bound_at};
 ghost use Rattle.py_imports.specs.Private.Items.{item_imported, AreLeft};
 ghost use Rattle.py_imports.specs.Private.Bindings.{is_first_word, fault_of, BindsOne, RefusesItems, BindsMoreAt, RefusesAt, IsPlaceAt};
 
-use crate::binding::Binding;
+use crate::binding::{Binding, owned};
 use crate::error::ImportError;
 use crate::items::{BadStatement, ImportItem, ImportItems, form_of};
 use crate::statement::{depth_past, divides, statement_end};
@@ -23,18 +22,10 @@ use std::alloc::{AllocError, Global};
 /// What the bindings of one statement have in common.
 #[derive(Clone, Copy)]
 struct Head {
+    /// The line of the statement's first token, from 1.
     line: u64,
+    /// Whether its logical line is indented.
     indented: bool,
-}
-
-/// The text in memory of its own, if there is one.
-fn owned(alloc: Global, text: Option<&str>) -> Result<Option<String>, AllocError>
-    ensures { IfOk result (λ copy. option_map string_bytes copy ≡ option_map (λ t. t.now) text.entry) }
-{
-    match text {
-        Some(text) => Ok(Some(String::from_str(alloc, text)?)),
-        None => Ok(None),
-    }
 }
 
 /// The binding of an item.
@@ -109,9 +100,10 @@ fn bind_statement(
     bind_items(alloc, items, head, fault_at(unit, place), bindings)
 }
 
-/// The length and the first byte of `import` and `from`, as one number. One comparison of it rules out most words.
+/// The length and the first byte of `import`, as one number. One comparison of it rules out most words.
 const IMPORT: usize = 6 << 8 | b'i' as usize;
 
+/// The same of `from`.
 const FROM: usize = 4 << 8 | b'f' as usize;
 
 /// Whether the length of a word and its first byte are those of `import` or `from`. Few other words have them.

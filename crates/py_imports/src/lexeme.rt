@@ -5,51 +5,54 @@ ghost use Rattle.py_imports.specs.Grammar.{Terminal, terminal_of, terminal_of_wo
 use py_lines::TokKind;
 
 /// The keywords (Python Language Reference, 2.3.1), by their length in bytes.
-const KEYWORDS_OF_TWO: [&str; 5] = ["as", "if", "in", "is", "or"];
-
-const KEYWORDS_OF_THREE: [&str; 6] = ["and", "def", "del", "for", "not", "try"];
-
-const KEYWORDS_OF_FOUR: [&str; 7] = ["None", "True", "elif", "else", "from", "pass", "with"];
-
-const KEYWORDS_OF_FIVE: [&str; 8] = [
-    "False", "async", "await", "break", "class", "raise", "while", "yield",
+const KEYWORDS: [&[&str]; 9] = [
+    &[],
+    &[],
+    &["as", "if", "in", "is", "or"],
+    &["and", "def", "del", "for", "not", "try"],
+    &["None", "True", "elif", "else", "from", "pass", "with"],
+    &[
+        "False", "async", "await", "break", "class", "raise", "while", "yield",
+    ],
+    &["assert", "except", "global", "import", "lambda", "return"],
+    &["finally"],
+    &["continue", "nonlocal"],
 ];
-
-const KEYWORDS_OF_SIX: [&str; 6] = ["assert", "except", "global", "import", "lambda", "return"];
-
-const KEYWORDS_OF_SEVEN: [&str; 1] = ["finally"];
-
-const KEYWORDS_OF_EIGHT: [&str; 2] = ["continue", "nonlocal"];
 
 /// A word is compared with the keywords of its own length alone, since most words are names.
 fn is_keyword(word: &str) -> bool
     ensures { result ≡ is_keyword word.now }
 {
-    match word.len() {
-        2 => KEYWORDS_OF_TWO.contains(&word),
-        3 => KEYWORDS_OF_THREE.contains(&word),
-        4 => KEYWORDS_OF_FOUR.contains(&word),
-        5 => KEYWORDS_OF_FIVE.contains(&word),
-        6 => KEYWORDS_OF_SIX.contains(&word),
-        7 => KEYWORDS_OF_SEVEN.contains(&word),
-        8 => KEYWORDS_OF_EIGHT.contains(&word),
-        _ => false,
+    match KEYWORDS.get(word.len()) {
+        Some(keywords) => keywords.contains(&word),
+        None => false,
     }
 }
 
 /// A token of an import statement, as the import grammar sees it.
 #[derive(Clone, Copy)]
 pub(crate) enum Lexeme<'s> {
+    /// The word `import`.
     Import,
+    /// The word `from`.
     From,
+    /// The word `as`.
     As,
+    /// A word that is no keyword.
     Name(&'s str),
+    /// `.`
     Dot,
+    /// `,`
     Comma,
+    /// `*`
     Star,
+    /// `(`
     Opening,
+    /// `)`
     Closing,
+    /// Any other token.
     Other,
+    /// No token is left.
     End,
 }
 
@@ -71,16 +74,12 @@ impl<'s> Lexeme<'s> {
     fn of_word(word: &'s str) -> Lexeme<'s>
         ensures { (ts : List Terminal) → followed_by result ts ≡ terminal_of_word word.now ∷ ts }
     {
-        if word == "import" {
-            Lexeme::Import
-        } else if word == "from" {
-            Lexeme::From
-        } else if word == "as" {
-            Lexeme::As
-        } else if is_keyword(word) {
-            Lexeme::Other
-        } else {
-            Lexeme::Name(word)
+        match word {
+            "import" => Lexeme::Import,
+            "from" => Lexeme::From,
+            "as" => Lexeme::As,
+            _ if is_keyword(word) => Lexeme::Other,
+            _ => Lexeme::Name(word),
         }
     }
 
