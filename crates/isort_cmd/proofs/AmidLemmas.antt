@@ -10,8 +10,8 @@ use Rattle.isort_sort.specs.Metered.{IsGivenUp}
 use Rattle.isort_sort.specs.declared.metered.Last.{Last}
 use Rattle.isort_sort.specs.declared.metered.Last.TheVariants as last
 use Rattle.isort_cmd.specs.RunError.{run_error_of}
-use Rattle.isort_cmd.specs.Stages.{Stage, ListsAll, StopsReady, StopsInPiece, TakesAll}
-use Rattle.isort_cmd.specs.Steps.{IsOutputError, HasListed, HasListedTo, HoldsNone, LeavesPiece, LooksAtHeld}
+use Rattle.isort_cmd.specs.Private.Stages.{Stage, ListsAll, StopsReady, StopsInPiece, TakesWholePiece}
+use Rattle.isort_cmd.specs.Private.Steps.{IsOutputError, HasListedSettled, HasListedGiven, HoldsNone, LeavesPiece, LooksAtHeld}
 use Rattle.isort_cmd.specs.declared.error.RunError.{RunError}
 use Rattle.isort_cmd.specs.declared.error.RunError.TheVariants as run
 use Rattle.isort_cmd.proofs.ListingLemmas.{GivenBegin}
@@ -53,7 +53,7 @@ pub record IsAmid (piece rest : List ℕ) (old now : Stage) : Type 0 where
   pub fed : fed_by now.finder ≡ fed_by old.finder + length front
   pub open_yet : now.finder.scanning.ended ≡ false
   pub none_ready : has_ready now.finder ≡ false
-  pub listed : (known : List ℕ) (options : FindOptions) (start : Option (List ℕ)) → HasListed old.path known options old.finder start old.written → HasListedTo old.path (known ++ front) options now.finder start now.written
+  pub listed : (known : List ℕ) (options : FindOptions) (start : Option (List ℕ)) → HasListedSettled old.path known options old.finder start old.written → HasListedGiven old.path (known ++ front) options now.finder start now.written
 
 pub amid_first : (piece : List ℕ) (s : Stage) → s.last ≡ last.Fine → s.finder.scanning.ended ≡ false → has_ready s.finder ≡ false → IsAmid piece piece s s
 amid_first piece s fine open_yet none = record {
@@ -64,7 +64,7 @@ amid_first piece s fine open_yet none = record {
   fed = omega arith;
   open_yet = open_yet;
   none_ready = none;
-  listed = λ known options start listed. subst (λ (k : List ℕ). HasListedTo s.path k options s.finder start s.written) (sym (append-nil known)) (record {
+  listed = λ known options start listed. subst (λ (k : List ℕ). HasListedGiven s.path k options s.finder start s.written) (sym (append-nil known)) (record {
     fed = listed.fed;
     no_fault = listed.no_fault;
     listed = λ text goes. (listed.listed text goes).listed;
@@ -95,7 +95,7 @@ amid_next laws piece rest old now n mid new amid takes all =
       none_ready = all.none_ready;
       listed = λ known options start so_far.
           let to = taken_listed laws old.path (known ++ amid.front) rest options now.finder n mid start now.written amid.open_yet takes (amid.listed known options start so_far) in
-          subst (λ (k : List ℕ). HasListedTo old.path k options new.finder start new.written) (append_assoc known amid.front (take n rest)) (to_next old.path ((known ++ amid.front) ++ take n rest) options mid new.finder start now.written new.written goes.fed goes.no_fault (λ text. goes_at old.path (record now { finder = mid }) new amid.same_path goes text options start) to);
+          subst (λ (k : List ℕ). HasListedGiven old.path k options new.finder start new.written) (append_assoc known amid.front (take n rest)) (to_next old.path ((known ++ amid.front) ++ take n rest) options mid new.finder start now.written new.written goes.fed goes.no_fault (λ text. goes_at old.path (record now { finder = mid }) new amid.same_path goes text options start) to);
     }
 
 -- feeding more of the piece failed
@@ -120,8 +120,8 @@ amid_ready laws piece rest old now n mid e new amid takes stops = record {
 -- ---- where the piece was taken whole
 
 -- what was listed of it
-listed_whole : (piece rest : List ℕ) (old now : Stage) → (amid : IsAmid piece rest old now) → rest ≡ [] → (known : List ℕ) (options : FindOptions) (start : Option (List ℕ)) → HasListed old.path known options old.finder start old.written → HasListedTo old.path (known ++ piece) options now.finder start now.written
-listed_whole piece rest old now amid none known options start so_far = subst (λ (k : List ℕ). HasListedTo old.path (known ++ k) options now.finder start now.written) (front_whole amid none) (amid.listed known options start so_far)
+listed_whole : (piece rest : List ℕ) (old now : Stage) → (amid : IsAmid piece rest old now) → rest ≡ [] → (known : List ℕ) (options : FindOptions) (start : Option (List ℕ)) → HasListedSettled old.path known options old.finder start old.written → HasListedGiven old.path (known ++ piece) options now.finder start now.written
+listed_whole piece rest old now amid none known options start so_far = subst (λ (k : List ℕ). HasListedGiven old.path (known ++ k) options now.finder start now.written) (front_whole amid none) (amid.listed known options start so_far)
   where
     front_whole : (a : IsAmid piece rest old now) → rest ≡ [] → a.front ≡ piece
     front_whole a empty = sym (append-nil a.front) ∙ ap (λ x. a.front ++ x) (sym empty) ∙ a.split
@@ -134,7 +134,7 @@ amid_looked piece rest old now e mid amid none looks = record {
 }
 
 -- all is well
-pub amid_whole : (piece rest : List ℕ) (old now : Stage) (mid : PieceFinderState) → IsAmid piece rest old now → rest ≡ [] → HoldsNone now.finder mid → TakesAll old piece (record now { finder = mid })
+pub amid_whole : (piece rest : List ℕ) (old now : Stage) (mid : PieceFinderState) → IsAmid piece rest old now → rest ≡ [] → HoldsNone now.finder mid → TakesWholePiece old piece (record now { finder = mid })
 amid_whole piece rest old now mid amid none holds =
     let whole : amid.front ≡ piece = sym (append-nil amid.front) ∙ ap (λ x. amid.front ++ x) (sym none) ∙ amid.split in
     record {
@@ -147,7 +147,7 @@ amid_whole piece rest old now mid amid none holds =
     }
 
 -- the writer was flushed
-pub flushed : (piece : List ℕ) (old now : Stage) (written : Option (List ℕ)) (l : Last) → TakesAll old piece now → Keeps now.written written → l ≡ last.Fine → TakesAll old piece (record now { written = written; last = l })
+pub flushed : (piece : List ℕ) (old now : Stage) (written : Option (List ℕ)) (l : Last) → TakesWholePiece old piece now → Keeps now.written written → l ≡ last.Fine → TakesWholePiece old piece (record now { written = written; last = l })
 flushed piece old now written l takes kept fine = record {
   same_path = takes.same_path;
   fine = fine;
@@ -158,7 +158,7 @@ flushed piece old now written l takes kept fine = record {
 }
 
 -- flushing failed
-pub stops_at_flush : GivenBegin → (piece : List ℕ) (old now : Stage) (written : Option (List ℕ)) (l : Last) → TakesAll old piece now → Keeps now.written written → IsGivenUp l → StopsInPiece old piece run.Write (record now { written = written; last = l })
+pub stops_at_flush : GivenBegin → (piece : List ℕ) (old now : Stage) (written : Option (List ℕ)) (l : Last) → TakesWholePiece old piece now → Keeps now.written written → IsGivenUp l → StopsInPiece old piece run.Write (record now { written = written; last = l })
 stops_at_flush begin piece old now written l takes kept given_up = record {
   error = given_up;
   leaves = λ known options start so_far.

@@ -11,18 +11,18 @@ use Rattle.isort_find.specs.Stand.{phase_in}
 use Rattle.isort_find.specs.declared.walker.Phase.TheVariants as phase
 use Rattle.isort_find.specs.declared.error.FindError.TheVariants as find
 use Rattle.isort_cmd.specs.RunError.{run_error_of}
-use Rattle.isort_cmd.specs.Steps.{IsListed, HasListed, LeavesReady}
-use Rattle.isort_cmd.specs.Written.{Lists, LeavesAtError}
+use Rattle.isort_cmd.specs.Private.Steps.{GivenAreListed, HasListedSettled, LeavesReady}
+use Rattle.isort_cmd.specs.Written.{ListsFound, LeavesAtError}
 use Rattle.isort_cmd.specs.declared.error.RunError.{RunError}
 use Rattle.isort_cmd.specs.declared.error.RunError.TheVariants as run
 use Rattle.isort_cmd.proofs.ListingLemmas.{GivenBegin, found_fault, lists_front}
 
 -- what was listed of the very bytes that were fed
-pub listed_of : (path text : List ℕ) (options : FindOptions) (finder : PieceFinderState) (start now : Option (List ℕ)) → HasListed path text options finder start now → IsListed path text options finder start now
+pub listed_of : (path text : List ℕ) (options : FindOptions) (finder : PieceFinderState) (start now : Option (List ℕ)) → HasListedSettled path text options finder start now → GivenAreListed path text options finder start now
 listed_of path text options finder start now h = (h.listed text (take-length text)).listed
 
 -- the text ended, and its last logical line was made
-pub ends_listed : (path text : List ℕ) (options : FindOptions) (finder next : PieceFinderState) (start now : Option (List ℕ)) → HasListed path text options finder start now → EndsText finder next → IsListed path text options next start now
+pub ends_listed : (path text : List ℕ) (options : FindOptions) (finder next : PieceFinderState) (start now : Option (List ℕ)) → HasListedSettled path text options finder start now → EndsText finder next → GivenAreListed path text options next start now
 ends_listed path text options finder next start now h ends =
     let listed = listed_of path text options finder start now h in
     let same : options_for next ≡ options_for finder = ap (λ x. x.options) ends.cursor in
@@ -40,7 +40,7 @@ still_ended next last (inl ended) same stays = inl (same ∙ ended)
 still_ended next last (inr top) same stays = inr (stays top)
 
 -- the text ended in a fault
-ends_in_fault : (path text : List ℕ) (options : FindOptions) (finder next : PieceFinderState) (fault : Fault) (start now : Option (List ℕ)) → HasListed path text options finder start now → EndsInFault finder fault next → Lists path text options (Some fault) start now
+ends_in_fault : (path text : List ℕ) (options : FindOptions) (finder next : PieceFinderState) (fault : Fault) (start now : Option (List ℕ)) → HasListedSettled path text options finder start now → EndsInFault finder fault next → ListsFound path text options (Some fault) start now
 ends_in_fault path text options finder next fault start now h ends =
     let listed = listed_of path text options finder start now h in
     let found = found_fault next text listed.bounds fault (ends.found text listed.bounds listed.found (sym h.fed)) ends.kept in
@@ -51,7 +51,7 @@ ends_in_fault path text options finder next fault start now h ends =
     }
 
 -- what an error of ending the text leaves
-pub leaves_at_end : GivenBegin → (path text : List ℕ) (options : FindOptions) (finder next : PieceFinderState) (e : FindError) (start now : Option (List ℕ)) → EndsFeeding finder (Err e) next → HasListed path text options finder start now → LeavesAtError path text options (run_error_of e) start now
+pub leaves_at_end : GivenBegin → (path text : List ℕ) (options : FindOptions) (finder next : PieceFinderState) (e : FindError) (start now : Option (List ℕ)) → EndsFeeding finder (Err e) next → HasListedSettled path text options finder start now → LeavesAtError path text options (run_error_of e) start now
 leaves_at_end begin path text options finder next (find.Fault f) start now ends h = ends_in_fault path text options finder next f start now h ends
 leaves_at_end begin path text options finder next find.Memory start now ends h = lists_front begin path text options finder start now (listed_of path text options finder start now h)
 

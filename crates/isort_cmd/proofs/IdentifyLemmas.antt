@@ -18,9 +18,9 @@ use Rattle.isort_cmd.specs.Printed.{printed}
 use Rattle.isort_sort.specs.declared.metered.Last.{Last}
 use Rattle.isort_sort.specs.declared.metered.Last.TheVariants as last
 use Rattle.isort_cmd.specs.RunError.{EndsReading, EndsWriting, IsUnread, LeavesReader}
-use Rattle.isort_cmd.specs.Stages.{Stage, StopsInput, TakesInput, ListsEnd}
-use Rattle.isort_cmd.specs.Steps.{IsOutputError, HasListed, LeavesKnown, LeavesRead}
-use Rattle.isort_cmd.specs.Written.{AreFed, Lists, ListsPrefix, ListsSettled, ListsInput, ListsUnread, ListsFaulty, LeavesAtError, LeavesInput}
+use Rattle.isort_cmd.specs.Private.Stages.{Stage, StopsInput, TakesInput, ListsEnd}
+use Rattle.isort_cmd.specs.Private.Steps.{IsOutputError, HasListedSettled, LeavesKnown, LeavesFed}
+use Rattle.isort_cmd.specs.Written.{AreFed, ListsFound, ListsPrefix, ListsSettled, ListsInput, ListsUnread, ListsFaulty, LeavesAtError, LeavesInput}
 use Rattle.isort_cmd.specs.declared.error.RunError.{RunError}
 use Rattle.isort_cmd.specs.declared.error.RunError.TheVariants as run
 use Rattle.isort_cmd.proofs.ListingLemmas.{SomeFound, lists_nothing}
@@ -41,7 +41,7 @@ open_is_no_fault : (s : Stand) (fault : Fault) → phase_in s ≡ phase.Open →
 open_is_no_fault s fault is other = let both : phase_in s ≡ phase.Fault fault = ap phase_in other in cc
 
 -- a finder that was fed nothing
-pub fresh : (path : List ℕ) (finder : PieceFinderState) (start : Option (List ℕ)) → fed_by finder ≡ 0 → has_ready finder ≡ false → finder.scanning.ended ≡ false → phase_in finder.stand ≡ phase.Open → ((text : List ℕ) → HasFoundIn finder text []) → ((text : List ℕ) → AreAllSettled finder text []) → ((text : List ℕ) → IsUndecided finder text) → HasListed path [] (options_for finder) finder start start
+pub fresh : (path : List ℕ) (finder : PieceFinderState) (start : Option (List ℕ)) → fed_by finder ≡ 0 → has_ready finder ≡ false → finder.scanning.ended ≡ false → finder.outcome ≡ outcome.Open → ((text : List ℕ) → HasFoundIn finder text []) → ((text : List ℕ) → AreAllSettled finder text []) → ((text : List ℕ) → IsUndecided finder text) → HasListedSettled path [] (options_for finder) finder start start
 fresh path finder start fed none_ready open_yet is_open found all undecided = record {
   fed = fed;
   none_ready = none_ready;
@@ -74,7 +74,7 @@ no_bad bad_decided known options bounds None undecided found = found
 no_bad bad_decided known options bounds (Some fault) undecided found = absurd (undecided fault (bad_decided known options bounds fault found))
 
 -- what the bytes fed settle was listed
-lists_settled : SomeSettled → BadDecided → (path known : List ℕ) (options : FindOptions) (finder : PieceFinderState) (start now : Option (List ℕ)) → HasListed path known options finder start now → ListsSettled path known options start now
+lists_settled : SomeSettled → BadDecided → (path known : List ℕ) (options : FindOptions) (finder : PieceFinderState) (start now : Option (List ℕ)) → HasListedSettled path known options finder start now → ListsSettled path known options start now
 lists_settled some_settled bad_decided path known options finder start now h =
     let so_far = h.listed known (take-length known) in
     let listed = so_far.listed in
@@ -127,7 +127,7 @@ of_fed P max known (Some text) None fed h = absurd fed.consumed
 of_fed P max known (Some text) (Some rest) fed h = subst P (sym (begins_with_fed max text known fed.read rest fed.consumed fed.first)) (h (drop max fed.read ++ rest))
 
 -- what an error leaves of the reader's text
-leaves_read : SomeSettled → BadDecided → SettledBegin → (path : List ℕ) (options : FindOptions) (max : ℕ) (finder : PieceFinderState) (e : RunError) (old left start now : Option (List ℕ)) → LeavesRead path options max finder e old left start now → IfSome old (λ text. LeavesAtError path text options e start now)
+leaves_read : SomeSettled → BadDecided → SettledBegin → (path : List ℕ) (options : FindOptions) (max : ℕ) (finder : PieceFinderState) (e : RunError) (old left start now : Option (List ℕ)) → LeavesFed path options max finder e old left start now → IfSome old (λ text. LeavesAtError path text options e start now)
 leaves_read some_settled bad_decided settled_begin path options max finder e old left start now h = of_fed (λ text. LeavesAtError path text options e start now) max h.known old left h.fed (λ more. leaves_text some_settled bad_decided settled_begin path h.known more options finder e start now h.leaves)
 
 -- ---- what `identify` promises
@@ -166,7 +166,7 @@ identified_nothing some path options max given start reader writer reader_fine w
 -- ---- reading or listing failed
 
 -- what an error of reading leaves
-leaves_unread : SomeSettled → BadDecided → (path : List ℕ) (options : FindOptions) (max : ℕ) (finder : PieceFinderState) (e : RunError) (given left old new : Option (List ℕ)) → LeavesRead path options max finder e given left old new → IsUnread e → ListsUnread path options max given left old new
+leaves_unread : SomeSettled → BadDecided → (path : List ℕ) (options : FindOptions) (max : ℕ) (finder : PieceFinderState) (e : RunError) (given left old new : Option (List ℕ)) → LeavesFed path options max finder e given left old new → IsUnread e → ListsUnread path options max given left old new
 leaves_unread some_settled bad_decided path options max finder (run.Fault f) given left old new h unread = absurd unread
 leaves_unread some_settled bad_decided path options max finder run.Write given left old new h unread = absurd unread
 leaves_unread some_settled bad_decided path options max finder run.Memory given left old new h unread = absurd unread
@@ -175,7 +175,7 @@ leaves_unread some_settled bad_decided path options max finder run.TooLong given
 leaves_unread some_settled bad_decided path options max finder run.NeverEnds given left old new h unread = record { known = h.known; fed = h.fed; lists = lists_settled some_settled bad_decided path h.known options finder old new h.leaves }
 
 -- what a fault leaves that the bytes fed decide
-fault_decided : (path : List ℕ) (options : FindOptions) (max : ℕ) (finder : PieceFinderState) (fault : Fault) (given left old new : Option (List ℕ)) → LeavesRead path options max finder (run.Fault fault) given left old new → ListsFaulty path options max fault given left old new
+fault_decided : (path : List ℕ) (options : FindOptions) (max : ℕ) (finder : PieceFinderState) (fault : Fault) (given left old new : Option (List ℕ)) → LeavesFed path options max finder (run.Fault fault) given left old new → ListsFaulty path options max fault given left old new
 fault_decided path options max finder fault given left old new h =
     let meets = h.leaves in
     record {
@@ -191,12 +191,12 @@ fault_decided path options max finder fault given left old new h =
 
 pub identified_stopped : SomeSettled → BadDecided → SettledBegin → (old new : Stage) (options : FindOptions) (max : ℕ) (given left : Option (List ℕ)) (e : RunError) (reader : Last) → options_for old.finder ≡ options → StopsInput old max given e left new → LeavesReader e reader → Identified old.path options max (Err e) given left old.written new.written reader new.last
 identified_stopped some_settled bad_decided settled_begin old new options max given left e reader same stops ends =
-    let leaves = subst (λ o. LeavesRead old.path o max new.finder e given left old.written new.written) same stops.leaves in
+    let leaves = subst (λ o. LeavesFed old.path o max new.finder e given left old.written new.written) same stops.leaves in
     record {
       ok = tt;
       err = record { leaves = leaves_read some_settled bad_decided settled_begin old.path options max new.finder e given left old.written new.written leaves; too_long = stops.too_long };
       unread = leaves_unread some_settled bad_decided old.path options max new.finder e given left old.written new.written leaves;
-      fault = λ f is. fault_decided old.path options max new.finder f given left old.written new.written (subst (λ x. LeavesRead old.path options max new.finder x given left old.written new.written) is leaves);
+      fault = λ f is. fault_decided old.path options max new.finder f given left old.written new.written (subst (λ x. LeavesFed old.path options max new.finder x given left old.written new.written) is leaves);
       reader = ends;
       writer = stops.writer;
     }
@@ -204,11 +204,11 @@ identified_stopped some_settled bad_decided settled_begin old new options max gi
 -- ---- the text ended
 
 -- what was listed before it did
-listed_before : (old now : Stage) (options : FindOptions) (max : ℕ) (given left : Option (List ℕ)) → options_for old.finder ≡ options → (takes : TakesInput old max given left now) → HasListed now.path takes.lists.known options now.finder old.written now.written
-listed_before old now options max given left same takes = subst (λ (p : List ℕ). HasListed p takes.lists.known options now.finder old.written now.written) (sym takes.same_path) (subst (λ o. HasListed old.path takes.lists.known o now.finder old.written now.written) same takes.lists.listed)
+listed_before : (old now : Stage) (options : FindOptions) (max : ℕ) (given left : Option (List ℕ)) → options_for old.finder ≡ options → (takes : TakesInput old max given left now) → HasListedSettled now.path takes.lists.known options now.finder old.written now.written
+listed_before old now options max given left same takes = subst (λ (p : List ℕ). HasListedSettled p takes.lists.known options now.finder old.written now.written) (sym takes.same_path) (subst (λ o. HasListedSettled old.path takes.lists.known o now.finder old.written now.written) same takes.lists.listed)
 
 -- a fault that the end decides
-fault_at_end : (old : Stage) (options : FindOptions) (max : ℕ) (given left : Option (List ℕ)) (known : List ℕ) (f : Fault) (new : Option (List ℕ)) → length known ≤ max → Consumes given left known → IsAtEnd left → Lists old.path known options (Some f) old.written new → ListsFaulty old.path options max f given left old.written new
+fault_at_end : (old : Stage) (options : FindOptions) (max : ℕ) (given left : Option (List ℕ)) (known : List ℕ) (f : Fault) (new : Option (List ℕ)) → length known ≤ max → Consumes given left known → IsAtEnd left → ListsFound old.path known options (Some f) old.written new → ListsFaulty old.path options max f given left old.written new
 fault_at_end old options max given left known f new within consumed ended h = record {
   known = known;
   fed = fed_whole max known given left within consumed;
@@ -227,10 +227,10 @@ pub identified_ended : (old now new : Stage) (options : FindOptions) (max : ℕ)
 identified_ended old now new options max given left (Ok done) reader same takes ended fine ends =
     let lists = takes.lists in
     let whole = ends.whole lists.known options old.written (listed_before old now options max given left same takes) in
-    let at_path = subst (λ (p : List ℕ). Lists p lists.known options None old.written new.written) takes.same_path whole in
+    let at_path = subst (λ (p : List ℕ). ListsFound p lists.known options None old.written new.written) takes.same_path whole in
     record {
       ok = record {
-        lists = Consumes-whole given left lists.known (λ text. Lists old.path text options None old.written new.written) lists.consumed ended at_path;
+        lists = Consumes-whole given left lists.known (λ text. ListsFound old.path text options None old.written new.written) lists.consumed ended at_path;
         within = Consumes-whole given left lists.known (λ text. length text ≤ max) lists.consumed ended lists.within;
         end = ended;
       };

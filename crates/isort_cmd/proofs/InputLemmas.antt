@@ -15,7 +15,7 @@ use Rattle.isort_sort.specs.declared.metered.Last.TheVariants as last
 use Rattle.isort_cmd.specs.Reading.{IsReadWhole, TellsLength}
 use Rattle.isort_cmd.specs.RunError.{EndsReading, EndsWriting, IsInputError, LeavesReader, LeavesWriter, run_error_of_sort}
 use Rattle.isort_cmd.specs.Sorting.{ChecksInput, IsUnwritten, LeavesUnsorted, SortsInput, TellsFault}
-use Rattle.isort_cmd.specs.Steps.{IsReadError}
+use Rattle.isort_cmd.specs.Private.Steps.{IsReadError}
 use Rattle.isort_cmd.specs.declared.error.RunError.{RunError}
 use Rattle.isort_cmd.specs.declared.error.RunError.TheVariants as run
 

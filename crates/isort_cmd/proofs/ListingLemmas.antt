@@ -18,7 +18,7 @@ use Rattle.isort_find.specs.declared.walker.Stand.TheVariants as stand
 use Rattle.isort_find.specs.declared.walker.Phase.TheVariants as phase
 use Rattle.isort_cmd.specs.Printed.{printed, line_text}
 use Rattle.isort_cmd.specs.RunError.{run_error_of}
-use Rattle.isort_cmd.specs.Steps.{IsListed, LeavesReady}
+use Rattle.isort_cmd.specs.Private.Steps.{GivenAreListed, LeavesReady}
 use Rattle.isort_sort.specs.Written.{AppendsPrefix}
 use Rattle.isort_cmd.specs.Written.{ListsPrefix}
 use Rattle.isort_cmd.specs.declared.error.RunError.{RunError}
@@ -51,7 +51,7 @@ found_fault finder text bounds fault found is =
     at.0
 
 -- one more binding was given, and its line was written
-pub listed_next : (path text : List ℕ) (options : FindOptions) (finder next : PieceFinderState) (b : Bound) (out : List ℕ) (start mid now : Option (List ℕ)) → GivesBinding finder b next → out ≡ line_text path b → Appends mid now out → IsListed path text options finder start mid → IsListed path text options next start now
+pub listed_next : (path text : List ℕ) (options : FindOptions) (finder next : PieceFinderState) (b : Bound) (out : List ℕ) (start mid now : Option (List ℕ)) → GivesBinding finder b next → out ≡ line_text path b → Appends mid now out → GivenAreListed path text options finder start mid → GivenAreListed path text options next start now
 listed_next path text options finder next b out start mid now gives put wrote listed = record {
   bounds = listed.bounds ++ b ∷ [];
   found = gives.found text listed.bounds listed.found;
@@ -61,7 +61,7 @@ listed_next path text options finder next b out start mid now gives put wrote li
 }
 
 -- nothing was given
-pub listed_none : (path text : List ℕ) (options : FindOptions) (finder next : PieceFinderState) (start now : Option (List ℕ)) → GivesNone finder next → IsListed path text options finder start now → IsListed path text options next start now
+pub listed_none : (path text : List ℕ) (options : FindOptions) (finder next : PieceFinderState) (start now : Option (List ℕ)) → GivesNone finder next → GivenAreListed path text options finder start now → GivenAreListed path text options next start now
 listed_none path text options finder next start now none listed = record {
   bounds = listed.bounds;
   found = none.found text listed.bounds listed.found;
@@ -71,7 +71,7 @@ listed_none path text options finder next start now none listed = record {
 }
 
 -- the run gave up between two bindings
-pub lists_front : GivenBegin → (path text : List ℕ) (options : FindOptions) (finder : PieceFinderState) (start now : Option (List ℕ)) → IsListed path text options finder start now → ListsPrefix path text options start now
+pub lists_front : GivenBegin → (path text : List ℕ) (options : FindOptions) (finder : PieceFinderState) (start now : Option (List ℕ)) → GivenAreListed path text options finder start now → ListsPrefix path text options start now
 lists_front begin path text options finder start now listed =
     let begins = begin text finder.cursor listed.bounds listed.found.stopped in
     record {
@@ -87,7 +87,7 @@ lists_front begin path text options finder start now listed =
     }
 
 -- the run gave up while it wrote the line of one more binding
-pub lists_stopped : GivenBegin → (path text : List ℕ) (options : FindOptions) (finder next : PieceFinderState) (b : Bound) (out : List ℕ) (start mid now : Option (List ℕ)) → GivesBinding finder b next → out ≡ line_text path b → AppendsPrefix mid now out → IsListed path text options finder start mid → ListsPrefix path text options start now
+pub lists_stopped : GivenBegin → (path text : List ℕ) (options : FindOptions) (finder next : PieceFinderState) (b : Bound) (out : List ℕ) (start mid now : Option (List ℕ)) → GivesBinding finder b next → out ≡ line_text path b → AppendsPrefix mid now out → GivenAreListed path text options finder start mid → ListsPrefix path text options start now
 lists_stopped begin path text options finder next b out start mid now gives put wrote listed =
     let before = printed path listed.bounds in
     let bounds = listed.bounds ++ b ∷ [] in
@@ -128,7 +128,7 @@ not_after_top finder ready top = by finder.stand ready top
     not_both b h k = cc
 
 -- what the errors of a call that asks for what is ready leave
-pub leaves_at_find_error : GivenBegin → (path text : List ℕ) (options : FindOptions) (finder next : PieceFinderState) (e : FindError) (start now : Option (List ℕ)) → GivesReady finder (Err e) next → IsListed path text options finder start now → LeavesReady path text options finder (run_error_of e) start now
+pub leaves_at_find_error : GivenBegin → (path text : List ℕ) (options : FindOptions) (finder next : PieceFinderState) (e : FindError) (start now : Option (List ℕ)) → GivesReady finder (Err e) next → GivenAreListed path text options finder start now → LeavesReady path text options finder (run_error_of e) start now
 leaves_at_find_error begin path text options finder next (find.Fault f) start now gives listed =
     let found = found_fault next text listed.bounds f (gives.found text listed.bounds listed.found) gives.kept in (
       record {

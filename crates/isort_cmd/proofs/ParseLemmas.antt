@@ -6,7 +6,7 @@ use Rattle.clap.specs.declared.error.kind.ErrorKind.{ErrorKind}
 use Rattle.clap.specs.declared.error.kind.ErrorKind.TheVariants.{DisplayHelp, OutOfMemory}
 use Rattle.isort_cmd.specs.CommandLine.{IsUsageError}
 use Rattle.isort_cmd.specs.Options.{isort_app}
-use Rattle.isort_cmd.specs.ParserSteps.{IsToldAs}
+use Rattle.isort_cmd.specs.Private.ParserSteps.{IsToldAs}
 use Rattle.isort_cmd.specs.declared.usage.UsageError.{UsageError}
 use Rattle.isort_cmd.specs.declared.usage.UsageError.TheVariants as usage
 

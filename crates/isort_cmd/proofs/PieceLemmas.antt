@@ -20,8 +20,8 @@ use Rattle.isort_find.specs.declared.walker.Stand.TheVariants as stand
 use Rattle.isort_find.specs.declared.walker.Phase.TheVariants as phase
 use Rattle.isort_cmd.specs.Printed.{printed}
 use Rattle.isort_cmd.specs.RunError.{run_error_of}
-use Rattle.isort_cmd.specs.Steps.{IsListed, HasListed, HasListedTo, LeavesReady, LeavesPiece, MeetsFaultAfter}
-use Rattle.isort_cmd.specs.Written.{Lists, ListsPrefix}
+use Rattle.isort_cmd.specs.Private.Steps.{GivenAreListed, HasListedSettled, HasListedGiven, HasNoFault, LeavesReady, LeavesPiece, MeetsFaultAfter}
+use Rattle.isort_cmd.specs.Written.{ListsFound, ListsPrefix}
 use Rattle.isort_cmd.specs.declared.error.RunError.{RunError}
 use Rattle.isort_cmd.specs.declared.error.RunError.TheVariants as run
 use Rattle.isort_cmd.proofs.ListingLemmas.{GivenBegin, found_fault, lists_front}
@@ -64,7 +64,7 @@ settled_more laws old new text bounds n fed cursor settled found bad h =
     (begun.0 ++ grown.0, grown.1 ∙ ap (λ x. x ++ grown.0) begun.1 ∙ append_assoc bounds begun.0 grown.0)
 
 -- some bytes of a piece were taken: what was listed of each text that begins with them stays so
-pub taken_listed : FoundLaws → (path known piece : List ℕ) (options : FindOptions) (old : PieceFinderState) (n : ℕ) (new : PieceFinderState) (start now : Option (List ℕ)) → old.scanning.ended ≡ false → TakesPiece old piece n new → HasListedTo path known options old start now → HasListedTo path (known ++ take n piece) options new start now
+pub taken_listed : FoundLaws → (path known piece : List ℕ) (options : FindOptions) (old : PieceFinderState) (n : ℕ) (new : PieceFinderState) (start now : Option (List ℕ)) → old.scanning.ended ≡ false → TakesPiece old piece n new → HasListedGiven path known options old start now → HasListedGiven path (known ++ take n piece) options new start now
 taken_listed laws path known piece options old n new start now open_yet takes to = record {
   fed = takes.fed ∙ ap (λ (m : ℕ). m + n) to.fed ∙ ap (λ (m : ℕ). length known + m) (sym (length-take-le n piece takes.within)) ∙ sym (length-append known (take n piece));
   no_fault = takes.no_fault;
@@ -84,7 +84,7 @@ taken_listed laws path known piece options old n new start now open_yet takes to
 -- ---- errors
 
 -- a fault that the known bytes decide is that of each text that begins with them
-fault_after : FoundLaws → (path known rest : List ℕ) (options : FindOptions) (fault : Fault) (start now : Option (List ℕ)) → Lists path (known ++ rest) options (Some fault) start now → DecidesFound known options fault → MeetsFaultAfter path (known ++ rest) options fault start now
+fault_after : FoundLaws → (path known rest : List ℕ) (options : FindOptions) (fault : Fault) (start now : Option (List ℕ)) → ListsFound path (known ++ rest) options (Some fault) start now → DecidesFound known options fault → MeetsFaultAfter path (known ++ rest) options fault start now
 fault_after laws path known rest options fault start now lists decides =
     let each : (more : List ℕ) → IsFound (known ++ more) options decides.bounds (Some fault) = λ more. laws.all known more options decides.bounds fault decides decides.found in
     let same : decides.bounds ≡ lists.bounds = laws.one_list (known ++ rest) options decides.bounds lists.bounds (Some fault) (Some fault) (each rest) lists.found in
@@ -112,28 +112,28 @@ is_open (stand.Fault f) top fault = absurd (fault f refl)
 is_open other top fault = refl
 
 -- a prefix of the lines was written, whatever follows the known bytes
-pub front_each : GivenBegin → (path known : List ℕ) (options : FindOptions) (finder : PieceFinderState) (start now : Option (List ℕ)) → ((text : List ℕ) → GoesOnWith text 0 known → IsListed path text options finder start now) → (more : List ℕ) → ListsPrefix path (known ++ more) options start now
+pub front_each : GivenBegin → (path known : List ℕ) (options : FindOptions) (finder : PieceFinderState) (start now : Option (List ℕ)) → ((text : List ℕ) → GoesOnWith text 0 known → GivenAreListed path text options finder start now) → (more : List ℕ) → ListsPrefix path (known ++ more) options start now
 front_each begin path known options finder start now listed more = lists_front begin path (known ++ more) options finder start now (listed (known ++ more) (goes_begin known more))
 
 -- the piece decides a fault
-fed_fault : FoundLaws → (path known piece : List ℕ) (options : FindOptions) (old : PieceFinderState) (fault : Fault) (new : PieceFinderState) (start now : Option (List ℕ)) → MeetsFaultIn old piece fault new → HasListedTo path known options old start now → MeetsFaultAfter path (known ++ piece) options fault start now
+fed_fault : FoundLaws → (path known piece : List ℕ) (options : FindOptions) (old : PieceFinderState) (fault : Fault) (new : PieceFinderState) (start now : Option (List ℕ)) → MeetsFaultIn old piece fault new → HasListedGiven path known options old start now → MeetsFaultAfter path (known ++ piece) options fault start now
 fed_fault laws path known piece options old fault new start now meets to =
     let text = known ++ piece in
     let listed = to.listed text (goes_begin known piece) in
     let at : GoesOnWith text (fed_by old) piece = subst (λ (m : ℕ). GoesOnWith text m piece) (sym to.fed) (ap (take (length piece)) (drop-append_seam known piece) ∙ ap (λ x. take (length piece) x) (sym (append-nil piece)) ∙ take-append_seam piece []) in
     let found = found_fault new text listed.bounds fault (meets.found text listed.bounds listed.found at) meets.kept in
-    let lists : Lists path text options (Some fault) start now = record { bounds = listed.bounds; found = subst (λ (o : FindOptions). IsFound text o listed.bounds (Some fault)) (meets.options ∙ listed.same_options) found; written = listed.written } in
-    let decided = meets.decided text listed.bounds listed.found at (is_open old.stand meets.was_in_top to.no_fault) in
+    let lists : ListsFound path text options (Some fault) start now = record { bounds = listed.bounds; found = subst (λ (o : FindOptions). IsFound text o listed.bounds (Some fault)) (meets.options ∙ listed.same_options) found; written = listed.written } in
+    let decided = meets.decided text listed.bounds listed.found at (is_open old.outcome meets.was_in_top to.no_fault) in
     let n = decided.0 in
     let first = known ++ take n piece in
     let rest = drop n piece in
     let whole : first ++ rest ≡ text = append_assoc known (take n piece) rest ∙ ap (λ x. known ++ x) (take-append-drop n piece) in
     let is : take (fed_by old + n) text ≡ first = ap (λ (m : ℕ). take (m + n) text) to.fed ∙ take-append-add known piece n in
     let decides : DecidesFound first options fault = subst (λ (o : FindOptions). DecidesFound first o fault) listed.same_options (subst (λ (k : List ℕ). DecidesFound k (options_for old) fault) is decided.2) in
-    subst (λ (t : List ℕ). MeetsFaultAfter path t options fault start now) whole (fault_after laws path first rest options fault start now (subst (λ (t : List ℕ). Lists path t options (Some fault) start now) (sym whole) lists) decides)
+    subst (λ (t : List ℕ). MeetsFaultAfter path t options fault start now) whole (fault_after laws path first rest options fault start now (subst (λ (t : List ℕ). ListsFound path t options (Some fault) start now) (sym whole) lists) decides)
 
 -- what the errors of a call that is fed a piece leave
-pub leaves_fed : FoundLaws → (path known piece : List ℕ) (options : FindOptions) (old : PieceFinderState) (e : FindError) (new : PieceFinderState) (start now : Option (List ℕ)) → FeedsPiece old piece (Err e) new → HasListedTo path known options old start now → LeavesPiece path (known ++ piece) options (run_error_of e) start now
+pub leaves_fed : FoundLaws → (path known piece : List ℕ) (options : FindOptions) (old : PieceFinderState) (e : FindError) (new : PieceFinderState) (start now : Option (List ℕ)) → FeedsPiece old piece (Err e) new → HasListedGiven path known options old start now → LeavesPiece path (known ++ piece) options (run_error_of e) start now
 leaves_fed laws path known piece options old (find.Fault f) new start now meets to = fed_fault laws path known piece options old f new start now meets to
 leaves_fed laws path known piece options old find.Memory new start now keeps to = front_each laws.begin path (known ++ piece) options old start now (λ text goes. to.listed text (goes_both text known piece goes).0)
 
@@ -146,11 +146,11 @@ feeds_some old piece r n new h same = subst (λ (x : Result ℕ FindError). Feed
 -- ---- nothing is ready
 
 -- Once no byte was fed and nothing is ready, what was listed is all that the bytes settle.
-pub looked_listed : FoundLaws → (path known : List ℕ) (options : FindOptions) (old : PieceFinderState) (n : ℕ) (new : PieceFinderState) (start now : Option (List ℕ)) → old.scanning.ended ≡ false → TakesPiece old [] n new → has_ready new ≡ false → HasListedTo path known options old start now → HasListed path known options new start now
+pub looked_listed : FoundLaws → (path known : List ℕ) (options : FindOptions) (old : PieceFinderState) (n : ℕ) (new : PieceFinderState) (start now : Option (List ℕ)) → old.scanning.ended ≡ false → TakesPiece old [] n new → has_ready new ≡ false → HasListedGiven path known options old start now → HasListedSettled path known options new start now
 looked_listed laws path known options old n new start now open_yet takes none to =
     let no_byte : take n [] ≡ [] = ap (λ (m : ℕ). take m []) (takes.whole none) in
     let same : known ++ take n [] ≡ known = ap (λ x. known ++ x) no_byte ∙ append-nil known in
-    let done = subst (λ (k : List ℕ). HasListedTo path k options new start now) same (taken_listed laws path known [] options old n new start now open_yet takes to) in
+    let done = subst (λ (k : List ℕ). HasListedGiven path k options new start now) same (taken_listed laws path known [] options old n new start now open_yet takes to) in
     record {
       fed = done.fed;
       none_ready = none;
@@ -173,7 +173,7 @@ looked_listed laws path known options old n new start now open_yet takes none to
     }
 
 -- the writer kept what it has
-pub has_listed_kept : (path known : List ℕ) (options : FindOptions) (finder : PieceFinderState) (start mid now : Option (List ℕ)) → Keeps mid now → HasListed path known options finder start mid → HasListed path known options finder start now
+pub has_listed_kept : (path known : List ℕ) (options : FindOptions) (finder : PieceFinderState) (start mid now : Option (List ℕ)) → Keeps mid now → HasListedSettled path known options finder start mid → HasListedSettled path known options finder start now
 has_listed_kept path known options finder start mid now kept listed = record {
   fed = listed.fed;
   none_ready = listed.none_ready;
@@ -196,7 +196,7 @@ has_listed_kept path known options finder start mid now kept listed = record {
 }
 
 -- what is listed of each text stays so where each text's is, and as much was fed
-pub to_next : (path known : List ℕ) (options : FindOptions) (mid new : PieceFinderState) (first before now : Option (List ℕ)) → fed_by new ≡ fed_by mid → (HasNoFault mid → HasNoFault new) → ((text : List ℕ) → IsListed path text options mid first before → IsListed path text options new first now) → HasListedTo path known options mid first before → HasListedTo path known options new first now
+pub to_next : (path known : List ℕ) (options : FindOptions) (mid new : PieceFinderState) (first before now : Option (List ℕ)) → fed_by new ≡ fed_by mid → (HasNoFault mid → HasNoFault new) → ((text : List ℕ) → GivenAreListed path text options mid first before → GivenAreListed path text options new first now) → HasListedGiven path known options mid first before → HasListedGiven path known options new first now
 to_next path known options mid new first before now fed no_fault listed to = record {
   fed = fed ∙ to.fed;
   no_fault = no_fault to.no_fault;

@@ -9,8 +9,8 @@ use Rattle.isort_find.specs.declared.options.FindOptions.{FindOptions}
 use Rattle.isort_sort.specs.declared.metered.Last.{Last}
 use Rattle.isort_sort.specs.declared.metered.Last.TheVariants as last
 use Rattle.isort_cmd.specs.RunError.{LeavesReader, LeavesWriter}
-use Rattle.isort_cmd.specs.Stages.{Stage, StopsInPiece, StopsInput, TakesAll, TakesInput}
-use Rattle.isort_cmd.specs.Steps.{IsOutputError, IsReadError, HasListed, LeavesPiece, LeavesKnown}
+use Rattle.isort_cmd.specs.Private.Stages.{Stage, StopsInPiece, StopsInput, TakesWholePiece, TakesInput}
+use Rattle.isort_cmd.specs.Private.Steps.{IsOutputError, IsReadError, HasListedSettled, LeavesPiece, LeavesKnown}
 use Rattle.isort_cmd.specs.Written.{AreFed}
 use Rattle.isort_cmd.specs.declared.error.RunError.{RunError}
 use Rattle.isort_cmd.specs.declared.error.RunError.TheVariants as run
@@ -40,7 +40,7 @@ take_fitting max n fitting known buffer within there is = go (nat_lt n (max - le
         let some : fitting ≡ max - length known = omega (arith, over, is) in
         ap (λ m. known ++ take m buffer) some ∙ take_room max n known buffer within (omega (arith, over))
 
-leaves_read_error : (path known : List ℕ) (options : FindOptions) (finder : PieceFinderState) (e : RunError) (l : Last) (start now : Option (List ℕ)) → IsReadError e l → HasListed path known options finder start now → LeavesKnown path known options finder e start now
+leaves_read_error : (path known : List ℕ) (options : FindOptions) (finder : PieceFinderState) (e : RunError) (l : Last) (start now : Option (List ℕ)) → IsReadError e l → HasListedSettled path known options finder start now → LeavesKnown path known options finder e start now
 leaves_read_error path known options finder (run.Fault f) l start now h listed = absurd h
 leaves_read_error path known options finder run.Write l start now h listed = absurd h
 leaves_read_error path known options finder run.Memory l start now h listed = absurd h
@@ -92,7 +92,7 @@ read_stops old now max given mid left e l takes kept h = record {
 -- ---- a piece was read
 
 -- nothing was read yet
-pub takes_nothing : (s : Stage) (max : ℕ) (given : Option (List ℕ)) → s.last ≡ last.Fine → Consumes given given [] → HasListed s.path [] (options_for s.finder) s.finder s.written s.written → TakesInput s max given given s
+pub takes_nothing : (s : Stage) (max : ℕ) (given : Option (List ℕ)) → s.last ≡ last.Fine → Consumes given given [] → HasListedSettled s.path [] (options_for s.finder) s.finder s.written s.written → TakesInput s max given given s
 takes_nothing s max given fine none fresh = record {
   same_path = refl;
   fine = fine;
@@ -151,7 +151,7 @@ piece_stops old now new max n fed fitting buffer given mid left e takes there re
     let lists = takes.lists in
     let known = lists.known ++ take fitting buffer in
     let options = options_for old.finder in
-    let listed = subst (λ (p : List ℕ). HasListed p lists.known options now.finder old.written now.written) (sym takes.same_path) lists.listed in
+    let listed = subst (λ (p : List ℕ). HasListedSettled p lists.known options now.finder old.written now.written) (sym takes.same_path) lists.listed in
     let leaves = subst (λ (p : List ℕ). LeavesPiece p known options e old.written new.written) takes.same_path (stops.leaves lists.known options old.written listed) in
     record {
       writer = stopped_writer e new.last stops.error;
@@ -164,12 +164,12 @@ piece_stops old now new max n fed fitting buffer given mid left e takes there re
     }
 
 -- what fits was listed
-listed_fitting : (old now new : Stage) (max : ℕ) (piece : List ℕ) (given mid : Option (List ℕ)) → (takes : TakesInput old max given mid now) → TakesAll now piece new → HasListed old.path (takes.lists.known ++ piece) (options_for old.finder) new.finder old.written new.written
+listed_fitting : (old now new : Stage) (max : ℕ) (piece : List ℕ) (given mid : Option (List ℕ)) → (takes : TakesInput old max given mid now) → TakesWholePiece now piece new → HasListedSettled old.path (takes.lists.known ++ piece) (options_for old.finder) new.finder old.written new.written
 listed_fitting old now new max piece given mid takes all =
     let lists = takes.lists in
     let options = options_for old.finder in
-    let listed = subst (λ (p : List ℕ). HasListed p lists.known options now.finder old.written now.written) (sym takes.same_path) lists.listed in
-    subst (λ (p : List ℕ). HasListed p (lists.known ++ piece) options new.finder old.written new.written) takes.same_path (all.listed lists.known options old.written listed)
+    let listed = subst (λ (p : List ℕ). HasListedSettled p lists.known options now.finder old.written now.written) (sym takes.same_path) lists.listed in
+    subst (λ (p : List ℕ). HasListedSettled p (lists.known ++ piece) options new.finder old.written new.written) takes.same_path (all.listed lists.known options old.written listed)
 
 consumed_long : (max : ℕ) (given left : Option (List ℕ)) (bytes : List ℕ) → Consumes given left bytes → max < length bytes → IfSome given (λ text. max < length text)
 consumed_long max None left bytes consumed long = tt
@@ -179,7 +179,7 @@ consumed_long max (Some text) (Some rest) bytes consumed long =
     omega (arith, size, long)
 
 -- and more came
-pub more_came : (old now new : Stage) (max n fed fitting : ℕ) (buffer : List ℕ) (given mid left : Option (List ℕ)) → TakesInput old max given mid now → n ≤ length buffer → Consumes mid left (take n buffer) → fed ≡ fed_by now.finder → fitting ≡ min (max - fed) n → fitting < n → TakesAll now (take fitting buffer) new → StopsInput old max given run.TooLong left new
+pub more_came : (old now new : Stage) (max n fed fitting : ℕ) (buffer : List ℕ) (given mid left : Option (List ℕ)) → TakesInput old max given mid now → n ≤ length buffer → Consumes mid left (take n buffer) → fed ≡ fed_by now.finder → fitting ≡ min (max - fed) n → fitting < n → TakesWholePiece now (take fitting buffer) new → StopsInput old max given run.TooLong left new
 more_came old now new max n fed fitting buffer given mid left takes there read same is less all =
     let lists = takes.lists in
     let room = room_of old now max n fed fitting given mid takes same is in
@@ -195,7 +195,7 @@ more_came old now new max n fed fitting buffer given mid left takes there read s
     }
 
 -- all of the piece did fit
-pub takes_more : (old now new : Stage) (max n fed fitting : ℕ) (buffer : List ℕ) (given mid left : Option (List ℕ)) → TakesInput old max given mid now → n ≤ length buffer → Consumes mid left (take n buffer) → fed ≡ fed_by now.finder → fitting ≡ min (max - fed) n → n ≤ fitting → TakesAll now (take fitting buffer) new → TakesInput old max given left new
+pub takes_more : (old now new : Stage) (max n fed fitting : ℕ) (buffer : List ℕ) (given mid left : Option (List ℕ)) → TakesInput old max given mid now → n ≤ length buffer → Consumes mid left (take n buffer) → fed ≡ fed_by now.finder → fitting ≡ min (max - fed) n → n ≤ fitting → TakesWholePiece now (take fitting buffer) new → TakesInput old max given left new
 takes_more old now new max n fed fitting buffer given mid left takes there read same is whole all =
     let lists = takes.lists in
     let room = room_of old now max n fed fitting given mid takes same is in

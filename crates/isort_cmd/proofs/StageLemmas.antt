@@ -18,9 +18,9 @@ use Rattle.isort_sort.specs.declared.metered.Last.{Last}
 use Rattle.isort_sort.specs.declared.metered.Last.TheVariants as last
 use Rattle.isort_cmd.specs.Printed.{line_text}
 use Rattle.isort_cmd.specs.RunError.{run_error_of}
-use Rattle.isort_cmd.specs.Stages.{Stage, GoesOn, ListsOne, ListsAll, ListsNext, StopsReady, EndsListing, StopsAtEnd}
-use Rattle.isort_cmd.specs.Steps.{IsListed, IsOutputError, LeavesReady}
-use Rattle.isort_cmd.specs.Written.{Lists}
+use Rattle.isort_cmd.specs.Private.Stages.{Stage, KeepsListed, ListsOne, ListsAll, ListsNext, StopsReady, EndsListing, StopsAtEnd}
+use Rattle.isort_cmd.specs.Private.Steps.{GivenAreListed, IsOutputError, LeavesReady}
+use Rattle.isort_cmd.specs.Written.{ListsFound}
 use Rattle.isort_cmd.specs.declared.error.RunError.{RunError}
 use Rattle.isort_cmd.specs.declared.error.RunError.TheVariants as run
 use Rattle.isort_cmd.proofs.EndLemmas.{ends_listed, leaves_at_end, leaves_ready, still_ended}
@@ -101,14 +101,14 @@ pub next_is_none : (old new : Stage) (some : Bool) → some ≡ false → ListsN
 next_is_none old new some is h = subst (λ (b : Bool). ListsNext old (Ok b) new) is h
 
 -- at the same path
-pub goes_at : (path : List ℕ) (old new : Stage) → old.path ≡ path → GoesOn old new → (text : List ℕ) (options : FindOptions) (start : Option (List ℕ)) → IsListed path text options old.finder start old.written → IsListed path text options new.finder start new.written
-goes_at path old new same goes text options start h = subst (λ (p : List ℕ). IsListed p text options new.finder start new.written) same (goes.listed text options start (subst (λ (p : List ℕ). IsListed p text options old.finder start old.written) (sym same) h))
+pub goes_at : (path : List ℕ) (old new : Stage) → old.path ≡ path → KeepsListed old new → (text : List ℕ) (options : FindOptions) (start : Option (List ℕ)) → GivenAreListed path text options old.finder start old.written → GivenAreListed path text options new.finder start new.written
+goes_at path old new same goes text options start h = subst (λ (p : List ℕ). GivenAreListed p text options new.finder start new.written) same (goes.listed text options start (subst (λ (p : List ℕ). GivenAreListed p text options old.finder start old.written) (sym same) h))
 
-pub stops_at : (path : List ℕ) (old new : Stage) (e : RunError) → old.path ≡ path → StopsReady old e new → (text : List ℕ) (options : FindOptions) (start : Option (List ℕ)) → IsListed path text options old.finder start old.written → LeavesReady path text options old.finder e start new.written
-stops_at path old new e same stops text options start h = subst (λ (p : List ℕ). LeavesReady p text options old.finder e start new.written) same (stops.leaves text options start (subst (λ (p : List ℕ). IsListed p text options old.finder start old.written) (sym same) h))
+pub stops_at : (path : List ℕ) (old new : Stage) (e : RunError) → old.path ≡ path → StopsReady old e new → (text : List ℕ) (options : FindOptions) (start : Option (List ℕ)) → GivenAreListed path text options old.finder start old.written → LeavesReady path text options old.finder e start new.written
+stops_at path old new e same stops text options start h = subst (λ (p : List ℕ). LeavesReady p text options old.finder e start new.written) same (stops.leaves text options start (subst (λ (p : List ℕ). GivenAreListed p text options old.finder start old.written) (sym same) h))
 
 -- nothing was given yet
-pub goes_nowhere : (s : Stage) → s.last ≡ last.Fine → GoesOn s s
+pub goes_nowhere : (s : Stage) → s.last ≡ last.Fine → KeepsListed s s
 goes_nowhere s fine = record {
   same_path = refl;
   fine = fine;
@@ -120,7 +120,7 @@ goes_nowhere s fine = record {
 }
 
 -- one more was listed
-pub goes_further : (old mid new : Stage) → GoesOn old mid → GoesOn mid new → GoesOn old new
+pub goes_further : (old mid new : Stage) → KeepsListed old mid → KeepsListed mid new → KeepsListed old new
 goes_further old mid new first second = record {
   same_path = second.same_path ∙ first.same_path;
   fine = second.fine;
@@ -132,15 +132,15 @@ goes_further old mid new first second = record {
 }
 
 -- all were listed
-pub lists_all : (old mid new : Stage) → GoesOn old mid → ListsAll mid new → ListsAll old new
+pub lists_all : (old mid new : Stage) → KeepsListed old mid → ListsAll mid new → ListsAll old new
 lists_all old mid new first all = record {
   goes_on = goes_further old mid new first all.goes_on;
   none_ready = all.none_ready;
-  whole = λ text options start h no_fault over. subst (λ (p : List ℕ). Lists p text options None start new.written) first.same_path (all.whole text options start (subst (λ (p : List ℕ). IsListed p text options mid.finder start mid.written) (sym first.same_path) (first.listed text options start h)) (first.no_fault no_fault) over);
+  whole = λ text options start h no_fault over. subst (λ (p : List ℕ). ListsFound p text options None start new.written) first.same_path (all.whole text options start (subst (λ (p : List ℕ). GivenAreListed p text options mid.finder start mid.written) (sym first.same_path) (first.listed text options start h)) (first.no_fault no_fault) over);
 }
 
 -- one could not be
-pub stops_after : (old mid new : Stage) (e : RunError) → GoesOn old mid → StopsReady mid e new → StopsReady old e new
+pub stops_after : (old mid new : Stage) (e : RunError) → KeepsListed old mid → StopsReady mid e new → StopsReady old e new
 stops_after old mid new e first stops = record {
   error = stops.error;
   leaves = λ text options start h. leaves_from old.path text options old.finder mid.finder e start new.written first.fed first.open_yet (stops_at old.path mid new e first.same_path stops text options start (first.listed text options start h));

@@ -27,7 +27,9 @@ key_options = (codes "unique", Alias) ∷ (codes "packages", Package) ∷ (codes
 
 -- the options that go with sorting alone
 abbrev pub sort_options : List Text
-sort_options = codes "check-only" ∷ codes "check" ∷ codes "stdout" ∷ codes "settings-file" ∷ codes "profile" ∷ codes "line-length" ∷ codes "multi-line" ∷ []
+sort_options =
+    codes "check-only" ∷ codes "check" ∷ codes "stdout" ∷ codes "settings-file" ∷ codes "profile" ∷ codes "line-length" ∷
+    codes "multi-line" ∷ []
 
 -- how many options that name a key were given
 abbrev pub key_count : List Row → ℕ

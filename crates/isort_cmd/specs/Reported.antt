@@ -33,7 +33,11 @@ rewritten path = record nothing { out = codes "Fixing " ++ (path ++ 10 ∷ []) }
 
 -- a file that a check found unsorted
 abbrev pub unsorted : List ℕ → Reported
-unsorted path = record { out = []; err = codes "ERROR: " ++ (path ++ (codes " Imports are incorrectly sorted and/or formatted." ++ 10 ∷ [])); status = 1 }
+unsorted path = record {
+  out = [];
+  err = codes "ERROR: " ++ (path ++ (codes " Imports are incorrectly sorted and/or formatted." ++ 10 ∷ []));
+  status = 1;
+}
 
 -- what is told of the file at a path after a task
 abbrev pub told_of : List ℕ → Task → Result Outcome RunError → Reported

@@ -12,7 +12,7 @@ use Rattle.isort_cmd.specs.declared.error.RunError.{RunError}
 use Rattle.isort_cmd.specs.declared.error.RunError.TheVariants as run
 
 -- the lines of all imports that are found in the text with these options, up to this end, were written
-pub record Lists (path text : List ℕ) (options : FindOptions) (end : Option Fault) (old new : Option (List ℕ)) : Type 0 where
+pub record ListsFound (path text : List ℕ) (options : FindOptions) (end : Option Fault) (old new : Option (List ℕ)) : Type 0 where
   pub bounds : List Bound
   pub found : IsFound text options bounds end
   pub written : Appends old new (printed path bounds)
@@ -47,7 +47,7 @@ pub record ListsToFault (path known : List ℕ) (options : FindOptions) (fault :
 
 -- What an error leaves of the listing of a text: all lines before a fault, and else a prefix of the lines.
 abbrev pub LeavesAtError : List ℕ → List ℕ → FindOptions → RunError → Option (List ℕ) → Option (List ℕ) → Type 0
-LeavesAtError path text options (run.Fault f) old new = Lists path text options (Some f) old new
+LeavesAtError path text options (run.Fault f) old new = ListsFound path text options (Some f) old new
 LeavesAtError path text options run.Write old new = ListsPrefix path text options old new
 LeavesAtError path text options run.Memory old new = ListsPrefix path text options old new
 LeavesAtError path text options run.Read old new = ListsPrefix path text options old new
@@ -56,7 +56,7 @@ LeavesAtError path text options run.NeverEnds old new = ListsPrefix path text op
 
 -- What a reader had, at most `max` bytes, was read to its end, and the lines of all imports that are found in it were written.
 pub record ListsInput (path : List ℕ) (options : FindOptions) (max : ℕ) (given left old new : Option (List ℕ)) : Type 0 where
-  pub lists : IfSome given (λ text. Lists path text options None old new)
+  pub lists : IfSome given (λ text. ListsFound path text options None old new)
   pub within : IfSome given (λ text. length text ≤ max)
   pub end : IsAtEnd left
 
@@ -72,7 +72,8 @@ pub record ListsUnread (path : List ℕ) (options : FindOptions) (max : ℕ) (gi
   pub lists : ListsSettled path known options old new
 
 -- of the bytes fed, which have this fault, the lines before it were written
-pub record ListsFaulty (path : List ℕ) (options : FindOptions) (max : ℕ) (fault : Fault) (given left old new : Option (List ℕ)) : Type 0 where
+pub record ListsFaulty (path : List ℕ) (options : FindOptions) (max : ℕ) (fault : Fault)
+    (given left old new : Option (List ℕ)) : Type 0 where
   pub known : List ℕ
   pub fed : AreFed max known given left
   pub lists : ListsToFault path known options fault left old new

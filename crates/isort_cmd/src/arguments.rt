@@ -2,7 +2,7 @@
 ghost use Rattle.std.specs.Prelude.{◌≡◌, IfOk, false};
 ghost use Rattle.clap.specs.Words.{app_of, rule_of};
 ghost use Rattle.isort_cmd.specs.Options.{isort_app};
-ghost use Rattle.isort_cmd.specs.ParserSteps.{rule_of_option, with_rules_of};
+ghost use Rattle.isort_cmd.specs.Private.ParserSteps.{rule_of_option, with_rules_of};
 
 use clap::{Arg, ArgAction, Command, value_parser};
 use std::alloc::{AllocError, Global};

@@ -2,7 +2,7 @@
 ghost use Rattle.std.specs.Prelude.{◌≡◌, IfOk, IfErr, codes, map, unwrap_or, option_map, string_bytes, []};
 ghost use Rattle.clap.specs.Words.{all_of, first_of};
 ghost use Rattle.isort_cmd.specs.Choice.{IsAction, IsJob, is_forbidden, key_count, key_option, number_of, wants_sorting, was_given};
-ghost use Rattle.isort_cmd.specs.ParserSteps.{IsNoJob, rows_in};
+ghost use Rattle.isort_cmd.specs.Private.ParserSteps.{IsNoJob, rows_in};
 
 use crate::job::{Action, Job};
 use crate::usage::UsageError;

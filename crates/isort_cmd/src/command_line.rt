@@ -3,7 +3,7 @@ ghost use Rattle.std.specs.Prelude.{◌≡◌, IfOk, IfErr, map, true, string_by
 ghost use Rattle.clap.specs.Words.{HasKind, fault_of, kind_of, takes};
 ghost use Rattle.isort_cmd.specs.Options.{isort_app};
 ghost use Rattle.isort_cmd.specs.CommandLine.{IsOfParser, IsReadAsJob, IsUsageError};
-ghost use Rattle.isort_cmd.specs.ParserSteps.{IsParse, IsToldAs};
+ghost use Rattle.isort_cmd.specs.Private.ParserSteps.{IsParse, IsToldAs};
 
 use crate::arguments::isort_command;
 use crate::choice::job_of;

@@ -4,8 +4,8 @@ ghost use Rattle.py_lines.specs.declared.fault.Fault.{Fault};
 ghost use Rattle.isort_find.specs.Pieces.{fed_by, has_ready, options_for};
 ghost use Rattle.isort_sort.specs.Metered.{inner_of, last_of};
 ghost use Rattle.isort_cmd.specs.RunError.{IsUnread, EndsReading, EndsWriting};
-ghost use Rattle.isort_cmd.specs.Steps.{HasListed, LooksAtHeld};
-ghost use Rattle.isort_cmd.specs.Stages.{stage_of, ListsNext, ListsReady, ListsPiece, ListsPieces, ListsEnd};
+ghost use Rattle.isort_cmd.specs.Private.Steps.{HasListedSettled, LooksAtHeld};
+ghost use Rattle.isort_cmd.specs.Private.Stages.{stage_of, ListsNext, ListsReady, ListsPiece, ListsPieces, ListsEnd};
 ghost use Rattle.isort_cmd.specs.Written.{ListsInput, LeavesInput, ListsUnread, ListsFaulty};
 
 use crate::error::RunError;
@@ -119,7 +119,7 @@ impl Listing<'_> {
         requires reader_fine { last_of reader.old ≡ Last.Fine }
         requires writer_fine { last_of writer.old ≡ Last.Fine }
         requires small { max ≤ 2 ^ 62 }
-        requires fresh { HasListed self.old.path.now [] (options_for self.old.finder) self.old.finder
+        requires fresh { HasListedSettled self.old.path.now [] (options_for self.old.finder) self.old.finder
             (W.contents (inner_of writer.old)) (W.contents (inner_of writer.old)) }
         ensures lists { ListsPieces (stage_of W.contents self.old writer.old) max (R.remaining (inner_of reader.old)) result
             (R.remaining (inner_of reader.new)) (stage_of W.contents self.new writer.new) }
@@ -154,7 +154,7 @@ impl Listing<'_> {
     }
 }
 
-/// Lists the imports of a Python text: reads `reader` to its end in pieces, and writes to `writer` one line for each
+/// ListsFound the imports of a Python text: reads `reader` to its end in pieces, and writes to `writer` one line for each
 /// import that is found, as soon as its logical line is whole: `path:line `, `indented ` where that line is, the
 /// statement, and a line feed. Lines count from 1. Before it reads on it flushes what it has written. It keeps the text
 /// of one logical line, and of what was read at most 8192 bytes more.

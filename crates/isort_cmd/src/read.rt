@@ -5,7 +5,7 @@ ghost use Rattle.std.specs.Io.KnownBytes.{ReadConsumes};
 ghost use Rattle.isort_sort.specs.Metered.{inner_of, last_of};
 ghost use Rattle.isort_cmd.specs.Reading.{IsReadWhole, TellsLength};
 ghost use Rattle.isort_cmd.specs.RunError.{EndsReading, IsInputError};
-ghost use Rattle.isort_cmd.specs.Steps.{IsReadError};
+ghost use Rattle.isort_cmd.specs.Private.Steps.{IsReadError};
 
 use crate::error::RunError;
 use isort_sort::{Last, MOST_INTERRUPTIONS, Metered};

@@ -1,4 +1,4 @@
--- What the calls of a listing promise one another. Contracts of private functions alone cite these.
+-- What the calls of a listing promise one another, from one stage to the next. Contracts of private functions alone cite these.
 use Rattle.std.specs.Prelude.{◌≡◌, ◌<◌, ◌+◌, ℕ, Bool, true, false, Option, None, IfSome, Result, Ok, Err, List, ◌++◌, length}
 use Rattle.std.specs.Io.KnownBytes.{IsAtEnd}
 use Rattle.isort_find.specs.Pieces.{PieceFinderState, IsOver, HasNoFault, options_for, due_by, fed_by, has_ready}
@@ -10,8 +10,8 @@ use Rattle.isort_sort.specs.declared.metered.Last.{Last}
 use Rattle.isort_sort.specs.declared.metered.Last.TheVariants as last
 use Rattle.isort_sort.specs.declared.metered.Metered.{Metered}
 use Rattle.isort_cmd.specs.RunError.{LeavesWriter}
-use Rattle.isort_cmd.specs.Steps.{IsOutputError, IsListed, HasListed, LeavesReady, LeavesPiece, ListsRead, LeavesRead}
-use Rattle.isort_cmd.specs.Written.{Lists, LeavesAtError}
+use Rattle.isort_cmd.specs.Private.Steps.{IsOutputError, HasNoFault, IsOver, GivenAreListed, HasListedSettled, LeavesReady, LeavesPiece, ListsRead, LeavesFed}
+use Rattle.isort_cmd.specs.Written.{ListsFound, LeavesAtError}
 use Rattle.isort_cmd.specs.declared.error.RunError.{RunError}
 use Rattle.isort_cmd.specs.declared.error.RunError.TheVariants as run
 use Rattle.isort_cmd.specs.declared.listing.Listing.{Listing}
@@ -25,33 +25,44 @@ pub record Stage : Type 0 where
 
 -- where a listing and its writer stand
 abbrev pub stage_of : {W : Type 0} → (W → Option (List ℕ)) → Listing → Metered W → Stage
-stage_of contents listing writer = record { path = listing.path.now; finder = listing.finder; written = contents (inner_of writer); last = last_of writer }
+stage_of contents listing writer = record {
+  path = listing.path.now;
+  finder = listing.finder;
+  written = contents (inner_of writer);
+  last = last_of writer;
+}
 
 -- what was given was listed: nothing was fed, and no fault was met
-pub record GoesOn (old new : Stage) : Type 0 where
+pub record KeepsListed (old new : Stage) : Type 0 where
   pub same_path : new.path ≡ old.path
   pub fine : new.last ≡ last.Fine
   pub fed : fed_by new.finder ≡ fed_by old.finder
   pub open_yet : new.finder.scanning.ended ≡ old.finder.scanning.ended
   pub no_fault : HasNoFault old.finder → HasNoFault new.finder
-  pub stays : phase_in old.finder.stand ≡ phase.End → phase_in new.finder.stand ≡ phase.End
-  pub listed : (text : List ℕ) (options : FindOptions) (start : Option (List ℕ)) → IsListed old.path text options old.finder start old.written → IsListed old.path text options new.finder start new.written
+  pub stays : old.finder.outcome ≡ outcome.End → new.finder.outcome ≡ outcome.End
+  pub listed : (text : List ℕ) (options : FindOptions) (start : Option (List ℕ))
+      → GivenAreListed old.path text options old.finder start old.written
+      → GivenAreListed old.path text options new.finder start new.written
 
 -- one import that was ready was listed
 pub record ListsOne (old new : Stage) : Type 0 where
-  pub goes_on : GoesOn old new
+  pub goes_on : KeepsListed old new
   pub falls : due_by new.finder < due_by old.finder
 
 -- all that was ready was listed, which is all that is found once the text is over
 pub record ListsAll (old new : Stage) : Type 0 where
-  pub goes_on : GoesOn old new
+  pub goes_on : KeepsListed old new
   pub none_ready : has_ready new.finder ≡ false
-  pub whole : (text : List ℕ) (options : FindOptions) (start : Option (List ℕ)) → IsListed old.path text options old.finder start old.written → HasNoFault old.finder → IsOver new.finder → Lists old.path text options None start new.written
+  pub whole : (text : List ℕ) (options : FindOptions) (start : Option (List ℕ))
+      → GivenAreListed old.path text options old.finder start old.written → HasNoFault old.finder → IsOver new.finder
+      → ListsFound old.path text options None start new.written
 
 -- listing what was ready failed
 pub record StopsReady (old : Stage) (e : RunError) (new : Stage) : Type 0 where
   pub error : IsOutputError e new.last
-  pub leaves : (text : List ℕ) (options : FindOptions) (start : Option (List ℕ)) → IsListed old.path text options old.finder start old.written → LeavesReady old.path text options old.finder e start new.written
+  pub leaves : (text : List ℕ) (options : FindOptions) (start : Option (List ℕ))
+      → GivenAreListed old.path text options old.finder start old.written
+      → LeavesReady old.path text options old.finder e start new.written
 
 -- what a call that lists the next import answers
 abbrev pub ListsNext : Stage → Result Bool RunError → Stage → Type 0
@@ -65,22 +76,26 @@ ListsReady old (Ok some) new = ListsAll old new
 ListsReady old (Err e) new = StopsReady old e new
 
 -- a piece was fed whole, and what it settles was listed
-pub record TakesAll (old : Stage) (piece : List ℕ) (new : Stage) : Type 0 where
+pub record TakesWholePiece (old : Stage) (piece : List ℕ) (new : Stage) : Type 0 where
   pub same_path : new.path ≡ old.path
   pub fine : new.last ≡ last.Fine
   pub fed : fed_by new.finder ≡ fed_by old.finder + length piece
   pub open_yet : new.finder.scanning.ended ≡ false
   pub none_ready : has_ready new.finder ≡ false
-  pub listed : (known : List ℕ) (options : FindOptions) (start : Option (List ℕ)) → HasListed old.path known options old.finder start old.written → HasListed old.path (known ++ piece) options new.finder start new.written
+  pub listed : (known : List ℕ) (options : FindOptions) (start : Option (List ℕ))
+      → HasListedSettled old.path known options old.finder start old.written
+      → HasListedSettled old.path (known ++ piece) options new.finder start new.written
 
 -- listing a piece failed
 pub record StopsInPiece (old : Stage) (piece : List ℕ) (e : RunError) (new : Stage) : Type 0 where
   pub error : IsOutputError e new.last
-  pub leaves : (known : List ℕ) (options : FindOptions) (start : Option (List ℕ)) → HasListed old.path known options old.finder start old.written → LeavesPiece old.path (known ++ piece) options e start new.written
+  pub leaves : (known : List ℕ) (options : FindOptions) (start : Option (List ℕ))
+      → HasListedSettled old.path known options old.finder start old.written
+      → LeavesPiece old.path (known ++ piece) options e start new.written
 
 -- what a call that lists a piece answers
 abbrev pub ListsPiece : Stage → List ℕ → Result (Unit {0}) RunError → Stage → Type 0
-ListsPiece old piece (Ok done) new = TakesAll old piece new
+ListsPiece old piece (Ok done) new = TakesWholePiece old piece new
 ListsPiece old piece (Err e) new = StopsInPiece old piece e new
 
 -- all that was read, at most `max` bytes, was fed, and what it settles was listed
@@ -90,9 +105,10 @@ pub record TakesInput (old : Stage) (max : ℕ) (given left : Option (List ℕ))
   pub lists : ListsRead old.path (options_for old.finder) max new.finder given left old.written new.written
 
 -- reading or listing failed
-pub record StopsInput (old : Stage) (max : ℕ) (given : Option (List ℕ)) (e : RunError) (left : Option (List ℕ)) (new : Stage) : Type 0 where
+pub record StopsInput (old : Stage) (max : ℕ) (given : Option (List ℕ)) (e : RunError) (left : Option (List ℕ))
+    (new : Stage) : Type 0 where
   pub writer : LeavesWriter e new.last
-  pub leaves : LeavesRead old.path (options_for old.finder) max new.finder e given left old.written new.written
+  pub leaves : LeavesFed old.path (options_for old.finder) max new.finder e given left old.written new.written
   pub too_long : e ≡ run.TooLong → IfSome given (λ text. max < length text)
 
 -- what a call that reads and lists to the end answers
@@ -103,12 +119,16 @@ ListsPieces old max given (Err e) left new = StopsInput old max given e left new
 -- the text ended, and the lines of all that is found in it were written
 pub record EndsListing (old new : Stage) : Type 0 where
   pub fine : new.last ≡ last.Fine
-  pub whole : (text : List ℕ) (options : FindOptions) (start : Option (List ℕ)) → HasListed old.path text options old.finder start old.written → Lists old.path text options None start new.written
+  pub whole : (text : List ℕ) (options : FindOptions) (start : Option (List ℕ))
+      → HasListedSettled old.path text options old.finder start old.written
+      → ListsFound old.path text options None start new.written
 
 -- listing what the end makes ready failed
 pub record StopsAtEnd (old : Stage) (e : RunError) (new : Stage) : Type 0 where
   pub error : IsOutputError e new.last
-  pub leaves : (text : List ℕ) (options : FindOptions) (start : Option (List ℕ)) → HasListed old.path text options old.finder start old.written → LeavesAtError old.path text options e start new.written
+  pub leaves : (text : List ℕ) (options : FindOptions) (start : Option (List ℕ))
+      → HasListedSettled old.path text options old.finder start old.written
+      → LeavesAtError old.path text options e start new.written
 
 -- what a call that ends the text answers
 abbrev pub ListsEnd : Stage → Result (Unit {0}) RunError → Stage → Type 0

@@ -1,8 +1,9 @@
+-- Each option adds its rule to the parser.
 use Rattle.std.proofs.Common.{◌∙◌, ◌+◌, ap, sym, drop}
 use Rattle.std.proofs.lemmas.List.{at_drop_all, at_drop_more}
 use Rattle.clap.specs.Simple.{app_of_fields}
 use Rattle.clap.specs.Words.{app_of}
-use Rattle.isort_cmd.specs.ParserSteps.{with_rules_of}
+use Rattle.isort_cmd.specs.Private.ParserSteps.{with_rules_of}
 use Rattle.isort_cmd.proofs.OptionLemmas.{added}
 use Rattle.isort_cmd.proofs.arguments.with_options.Goals as goal
 

@@ -1,3 +1,4 @@
+-- The text that was read whole is compared with its sorted text.
 use Rattle.std.proofs.Common.{None}
 use Rattle.std.proofs.lemmas.Result.{err_from_is_err_and}
 use Rattle.isort_settings.specs.Values.{values}

@@ -1,3 +1,4 @@
+-- The texts passed were copied.
 use Rattle.std.proofs.Common.{◌≡◌, map, take, string_bytes}
 use Rattle.isort_cmd.proofs.choice.copies.Given as goal
 

@@ -1,3 +1,4 @@
+-- The number is what the digits of the option write.
 use Rattle.std.specs.Str.Parse.{ExplainsUnsignedError, HasUnsignedDigitsIfOk, ParsesUnsigned}
 use Rattle.clap.specs.Matches.{found_of}
 use Rattle.isort_cmd.proofs.MatchLemmas.{number_found}

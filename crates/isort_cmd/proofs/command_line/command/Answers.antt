@@ -1,3 +1,4 @@
+-- What the parser finds is a job, and its errors are told.
 use Rattle.std.proofs.Common.{List, ap, map, string_bytes, subst}
 use Rattle.clap.specs.Words.{HasKind, Text, fault_of}
 use Rattle.isort_cmd.specs.Options.{isort_app}

@@ -1,3 +1,4 @@
+-- The parser reads the words as `isort_app` does.
 use Rattle.std.proofs.Common.{◌≡◌, ◌∙◌, ap, map, subst, string_bytes}
 use Rattle.std.proofs.lemmas.Result.{IfErr-weaker, IfOk-weaker}
 use Rattle.clap.specs.Words.{App, FailsBy, app_of, fault_of, is_simple, is_simple_and_free, matches_of, takes}

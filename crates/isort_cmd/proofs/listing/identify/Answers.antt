@@ -1,3 +1,4 @@
+-- What the bytes read settle was listed at each exit, and all that is found at the end.
 use Rattle.std.proofs.Common.{ap}
 use Rattle.std.proofs.lemmas.Result.{err_from_is_err_and}
 use Rattle.isort_cmd.proofs.IdentifyLemmas.{fresh, identified_nothing, identified_stopped, identified_ended}

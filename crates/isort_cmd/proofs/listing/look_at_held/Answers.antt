@@ -1,3 +1,4 @@
+-- An empty piece was fed: the byte held decides no fault, or its fault is that of the text.
 use Rattle.std.proofs.Common.{[], sym, ◌∙◌}
 use Rattle.std.proofs.lemmas.Result.{err_from_is_err_and}
 use Rattle.isort_cmd.proofs.AmidLemmas.{looks_at_fault, looks_at_memory, looks_at_none}

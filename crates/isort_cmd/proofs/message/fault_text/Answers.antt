@@ -1,3 +1,4 @@
+-- A fault is told with its line, any other error without.
 use Rattle.std.proofs.Common.{◌≡◌, ◌≢◌, string_bytes, List, ℕ, ◌++◌, ◌∷◌, [], refl, codes, ◌∙◌, sym, ap}
 use Rattle.py_lines.specs.declared.fault.Fault.{Fault}
 use Rattle.isort_cmd.specs.declared.error.RunError.{RunError}

@@ -1,3 +1,4 @@
+-- What was read is a prefix of the text, and all of it at the end.
 use Rattle.std.proofs.Common.{arith}
 use Rattle.std.proofs.lemmas.Result.{err_from_is_err_and}
 use Rattle.isort_cmd.proofs.InputLemmas.{error_of_read, read_whole}

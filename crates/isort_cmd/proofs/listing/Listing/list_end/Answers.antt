@@ -1,3 +1,4 @@
+-- What is ready after the end is the rest of what is found.
 use Rattle.std.proofs.lemmas.Result.{err_from_is_err_and}
 use Rattle.isort_cmd.proofs.StageLemmas.{ends_in_all, stops_at_end, stops_after_end}
 use Rattle.isort_cmd.proofs.listing.Listing.list_end.Goals as goal

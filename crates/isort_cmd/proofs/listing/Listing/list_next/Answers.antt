@@ -1,3 +1,4 @@
+-- The next import was listed, or none is ready.
 use Rattle.std.proofs.Common.{◌∙◌, ap, Ok, string_bytes, refl}
 use Rattle.std.proofs.lemmas.Result.{err_from_is_err_and}
 use Rattle.py_imports.specs.Bound.{bound_of}

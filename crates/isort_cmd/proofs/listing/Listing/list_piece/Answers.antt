@@ -1,3 +1,4 @@
+-- Each line that gets ready with the piece was listed, and nothing is ready at its end.
 use Rattle.std.proofs.Common.{◌≡◌, [], sym, ◌∙◌}
 use Rattle.std.proofs.lemmas.Bool.{eqb-true}
 use Rattle.std.proofs.lemmas.List.{nil_from_length}

@@ -1,6 +1,6 @@
 -- What the bytes taken had ready was listed.
 use Rattle.std.proofs.Common.{length}
-use Rattle.isort_cmd.specs.Stages.{stage_of}
+use Rattle.isort_cmd.specs.Private.Stages.{stage_of}
 use Rattle.isort_cmd.proofs.AmidLemmas.{IsAmid}
 use Rattle.isort_cmd.proofs.listing.Listing.list_piece.Given as goal
 

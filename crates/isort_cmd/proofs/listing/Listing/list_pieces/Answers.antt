@@ -1,3 +1,4 @@
+-- Each piece that was read was listed, up to `max` bytes.
 use Rattle.std.proofs.Common.{refl, arith}
 use Rattle.std.proofs.KnownBytes.{Consumes-nil}
 use Rattle.std.proofs.lemmas.Result.{err_from_is_err_and}

@@ -3,7 +3,7 @@ use Rattle.std.proofs.Common.{◌≡◌, ◌-◌, length}
 use Rattle.isort_find.specs.Pieces.{fed_by}
 use Rattle.isort_sort.specs.Metered.{inner_of, last_of}
 use Rattle.isort_sort.specs.declared.metered.Last.TheVariants.{Fine}
-use Rattle.isort_cmd.specs.Stages.{stage_of, TakesInput}
+use Rattle.isort_cmd.specs.Private.Stages.{stage_of, TakesInput}
 use Rattle.isort_cmd.proofs.listing.Listing.list_pieces.Given as goal
 
 abbrev pub invariant-pieces : goal.invariant-pieces

@@ -1,3 +1,4 @@
+-- Each import that was ready was listed.
 use Rattle.std.proofs.lemmas.Result.{err_from_is_err_and}
 use Rattle.isort_cmd.proofs.StageLemmas.{goes_nowhere, goes_further, lists_all, next_is_one, next_is_none, stops_after}
 use Rattle.isort_cmd.proofs.listing.Listing.list_ready.Goals as goal
