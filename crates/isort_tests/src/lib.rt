@@ -1,44 +1,22 @@
 //! Tests of the libraries, each by its public calls. They stand in a crate of their own, since a crate with tests is proved
-//! twice.
+//! twice. Each library has a folder; `harness` tries them, and `texts` has the texts that several share.
 #![tactic(auto)]
 
 #[cfg(test)]
-mod acts;
-#[cfg(test)]
-mod blocks;
-#[cfg(test)]
-mod cases;
-#[cfg(test)]
-mod command_line;
-#[cfg(test)]
-mod devices;
+mod cmd;
 #[cfg(test)]
 mod errors;
 #[cfg(test)]
 mod find;
 #[cfg(test)]
+mod harness;
+#[cfg(test)]
 mod imports;
 #[cfg(test)]
 mod lines;
-#[cfg(test)]
-mod metered;
-#[cfg(test)]
-mod own_sections;
-#[cfg(test)]
-mod pieces;
-#[cfg(test)]
-mod report;
-#[cfg(test)]
-mod runs;
-#[cfg(test)]
-mod scanner;
 #[cfg(test)]
 mod settings;
 #[cfg(test)]
 mod sort;
 #[cfg(test)]
-mod sorted_again;
-#[cfg(test)]
-mod sorting_runs;
-#[cfg(test)]
-mod writing;
+mod texts;

@@ -1,4 +1,5 @@
-use crate::cases::{Case, all_are_so, each_holds_again};
+//! The words of a command line.
+use crate::harness::cases::{Case, all_are_so, each_holds_again};
 use isort_cmd::{UsageError, command};
 use std::alloc::Global;
 use std::test::Fail;

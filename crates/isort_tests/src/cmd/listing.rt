@@ -1,23 +1,16 @@
+//! Listing the imports of a reader.
 ghost use Rattle.std.specs.Prelude.{◌≡◌};
 ghost use Rattle.isort_sort.specs.Metered.{last_of};
 
-use crate::cases::{Case, each_holds_again};
-use crate::devices::{Device, Trouble};
-use crate::pieces::brackets;
+use crate::find::options::{ALL, ATTRIBUTES, MODULES, PACKAGES, TOP, UNIQUE};
+use crate::harness::cases::{Case, each_holds_again};
+use crate::harness::devices::{Device, Trouble};
+use crate::texts::{FIRST, FIRST_LINES, brackets};
 use isort_cmd::*;
 use py_lines::{Fault, FaultKind};
 use std::alloc::Global;
 use std::io::ErrorKind;
 use std::test::Fail;
-
-pub(crate) const ALL: FindOptions = FindOptions {
-    unique: None,
-    top_only: false,
-};
-
-pub(crate) const FIRST: &str = "import os, sys as s  # import x\n\"import a\"\nimport os.path\n";
-
-pub(crate) const FIRST_LINES: &str = "-:1 import os\n-:1 import sys as s\n-:3 import os.path\n";
 
 const fn fault(kind: FaultKind, offset: u64, line: u64) -> RunError {
     RunError::Fault(Fault { kind, offset, line })
@@ -42,31 +35,6 @@ impl Case for Listed<'_> {
         got == self.4 && writer.into_inner().as_slice() == self.3.as_bytes()
     }
 }
-
-const PACKAGES: FindOptions = FindOptions {
-    unique: Some(ImportKey::Package),
-    top_only: false,
-};
-
-const MODULES: FindOptions = FindOptions {
-    unique: Some(ImportKey::Module),
-    top_only: false,
-};
-
-const ATTRIBUTES: FindOptions = FindOptions {
-    unique: Some(ImportKey::Attribute),
-    top_only: false,
-};
-
-const UNIQUE: FindOptions = FindOptions {
-    unique: Some(ImportKey::Alias),
-    top_only: false,
-};
-
-const TOP: FindOptions = FindOptions {
-    unique: None,
-    top_only: true,
-};
 
 const ALIKE: &[u8] = b"import a.b\nfrom a import c\nfrom .a import d\nfrom a import c as e\n";
 

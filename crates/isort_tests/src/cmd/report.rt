@@ -1,4 +1,5 @@
-use crate::cases::{Case, each_holds_again};
+//! What is told of a file.
+use crate::harness::cases::{Case, each_holds_again};
 use isort_cmd::{Action, RunError, report};
 use isort_find::FindOptions;
 use isort_sort::Outcome;

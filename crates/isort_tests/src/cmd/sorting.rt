@@ -1,21 +1,13 @@
-use crate::cases::{PlainCase, each_holds_plainly};
-use crate::devices::{Device, Trouble};
+//! Sorting and checking what a reader has.
+use crate::harness::cases::{PlainCase, each_holds_plainly};
+use crate::harness::devices::{Device, Trouble};
+use crate::texts::{BROKEN, SKIPPED, SORTED, UNSORTED};
 use isort_cmd::{Metered, RunError, check_run, sort_run};
 use isort_settings::Settings;
 use isort_sort::Outcome;
 use py_lines::{Fault, FaultKind};
 use std::alloc::Global;
 use std::test::Fail;
-
-pub(crate) const UNSORTED: &str =
-    "from . import z\nimport sys\nimport requests\nfrom __future__ import annotations\nimport os\n";
-
-pub(crate) const SORTED: &str =
-    "from __future__ import annotations\n\nimport os\nimport sys\n\nimport requests\n\nfrom . import z\n";
-
-pub(crate) const SKIPPED: &str = "\"\"\"isort: skip_file\"\"\"\nimport b\nimport a\n";
-
-pub(crate) const BROKEN: &str = "import b\nimport a\nx = )";
 
 const WRONG_CLOSE: RunError = RunError::Fault(Fault {
     kind: FaultKind::WrongClose,

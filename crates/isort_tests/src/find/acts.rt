@@ -1,51 +1,16 @@
+//! What is done with a finder of pieces, and what it tells then.
 ghost use Rattle.std.specs.Prelude.{◌≡◌, ◌≤◌, false, true, length, IfOk};
 ghost use Rattle.isort_find.specs.Pieces.{IsOpenYet};
 
-use crate::cases::page;
+use crate::harness::cases::page;
+use crate::harness::told::{tell, tell_binding, tell_error};
 use isort_find::{Cursor, FindError, FindOptions, Finder, PieceFinder};
-use py_imports::{Binding, ImportError};
-use py_lines::Fault;
+use py_imports::Binding;
 use std::alloc::Global;
 use std::marker::Model;
 
 /// More bytes than a text of these tests has.
 const MOST: u64 = 1_000_000;
-
-/// Adds this. Where memory is refused, it is missing from what is told.
-pub(crate) fn tell(what: &str, out: &mut String) {
-    let _ = out.push_str(what);
-}
-
-/// The statement of an import; where memory ran out, it is asked for again.
-fn statement_of(alloc: Global, binding: &Binding) -> Result<String, ImportError> {
-    match binding.statement(alloc) {
-        Err(_) => binding.statement(alloc),
-        statement => statement,
-    }
-}
-
-/// An import: its line, and its statement.
-pub(crate) fn tell_binding(alloc: Global, binding: &Binding, out: &mut String) {
-    if let Ok(statement) = statement_of(alloc, binding) {
-        let line = binding.line;
-        let indented = if binding.indented { "indented " } else { "" };
-        let _ = writeln!(out, "{line} {indented}{statement}");
-    }
-}
-
-/// A fault: what is printed of it, its byte, and its line.
-fn tell_fault(fault: Fault, out: &mut String) {
-    let Fault { kind, offset, line } = fault;
-    let _ = writeln!(out, "{kind}, {offset}, {line}");
-}
-
-/// A fault, or that memory is refused.
-pub(crate) fn tell_error(error: FindError, out: &mut String) {
-    match error {
-        FindError::Fault(fault) => tell_fault(fault, out),
-        FindError::Memory => tell("out of memory\n", out),
-    }
-}
 
 /// A finder that these tests feed, and which of its calls may yet be made. Contracts see nothing of it: the calls below
 /// look for themselves whether the finder allows them, so that no test has to prove it.

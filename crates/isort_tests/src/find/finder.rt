@@ -1,5 +1,6 @@
-use crate::acts::{begun, resumed, tell_import, tell_place};
-use crate::cases::{Case, all_are_so, each_holds, each_holds_again, page};
+//! Finding the imports of a whole text, and going on from a cursor.
+use crate::find::acts::{begun, resumed, tell_import, tell_place};
+use crate::harness::cases::{Case, all_are_so, each_holds, each_holds_again, page};
 use isort_find::laws::equal_keys;
 use isort_find::{Cursor, FindOptions, Finder, ImportKey, KeyText, ResumeError, key_of};
 use py_imports::Binding;

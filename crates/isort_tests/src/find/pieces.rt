@@ -1,40 +1,13 @@
+//! Finding the imports of a text in pieces.
 ghost use Rattle.std.specs.Prelude.{◌≤◌, length};
 
-use crate::acts::{Act, tell_acts, tells};
-use crate::cases::{Case, all_are_so, each_holds, each_holds_again};
+use crate::find::acts::{Act, tell_acts, tells};
+use crate::find::options::{ALL, ATTRIBUTES, MODULES, PACKAGES, TOP, UNIQUE};
+use crate::harness::cases::{Case, all_are_so, each_holds, each_holds_again};
+use crate::texts::brackets;
 use isort_find::{FindOptions, ImportKey};
 use std::alloc::Global;
 use std::test::Fail;
-
-const PLAIN: FindOptions = FindOptions {
-    unique: None,
-    top_only: false,
-};
-
-const TOP: FindOptions = FindOptions {
-    unique: None,
-    top_only: true,
-};
-
-const MODULES: FindOptions = FindOptions {
-    unique: Some(ImportKey::Module),
-    top_only: false,
-};
-
-const PACKAGES: FindOptions = FindOptions {
-    unique: Some(ImportKey::Package),
-    top_only: false,
-};
-
-const ATTRIBUTES: FindOptions = FindOptions {
-    unique: Some(ImportKey::Attribute),
-    top_only: false,
-};
-
-const UNIQUE: FindOptions = FindOptions {
-    unique: Some(ImportKey::Alias),
-    top_only: false,
-};
 
 /// A text, options, and what is told of the text with them.
 #[derive(Drop)]
@@ -78,32 +51,32 @@ impl Case for Row<'_> {
 const ROWS: &[Row<'static>] = &[
     Row(
         b"import a, b, c",
-        PLAIN,
+        ALL,
         "1 import a\n1 import b\n1 import c\nend\nat 14, 3\n",
     ),
     Row(
         b"import os, sys as s",
-        PLAIN,
+        ALL,
         "1 import os\n1 import sys as s\nend\nat 19, 2\n",
     ),
     Row(
         b"x = \"import a\"  # import b\nimport c",
-        PLAIN,
+        ALL,
         "2 import c\nend\nat 35, 1\n",
     ),
     Row(
         b"\"\"\"a \\\" import a\nimport b\n\"\"\"\ny = \"\"\nimport c\n",
-        PLAIN,
+        ALL,
         "5 import c\nend\nat 46, 1\n",
     ),
     Row(
         b"if a: import b; from c import *\nraise X from Y\nz = yield from w\n",
-        PLAIN,
+        ALL,
         "1 import b\n1 from c import *\nend\nat 64, 2\n",
     ),
     Row(
         b"if a:\n    import b\n",
-        PLAIN,
+        ALL,
         "2 indented import b\nend\nat 19, 1\n",
     ),
     Row(
@@ -123,51 +96,47 @@ const ROWS: &[Row<'static>] = &[
     ),
     Row(
         b"import a; import\n",
-        PLAIN,
+        ALL,
         "F9 import statement not understood, 10, 1\nat 0, 0\n",
     ),
-    Row(
-        b"x = 'abc\n",
-        PLAIN,
-        "F3 string not closed, 4, 1\nat 0, 0\n",
-    ),
+    Row(b"x = 'abc\n", ALL, "F3 string not closed, 4, 1\nat 0, 0\n"),
     Row(
         b"\"\"\"a",
-        PLAIN,
+        ALL,
         "F4 triple-quoted string not closed, 0, 1\nat 0, 0\n",
     ),
     Row(
         b"x = )",
-        PLAIN,
+        ALL,
         "F5 closing bracket without its opening, 4, 1\nat 0, 0\n",
     ),
     Row(
         b"x = \\ 1\n",
-        PLAIN,
+        ALL,
         "F7 backslash not before a line end, 4, 1\nat 0, 0\n",
     ),
-    Row(b"$", PLAIN, "F2 unexpected character, 0, 1\nat 0, 0\n"),
-    Row(b"a\xff", PLAIN, "F1 not UTF-8, 1, 1\nat 0, 0\n"),
+    Row(b"$", ALL, "F2 unexpected character, 0, 1\nat 0, 0\n"),
+    Row(b"a\xff", ALL, "F1 not UTF-8, 1, 1\nat 0, 0\n"),
     Row(
         b"import \xc3\xa9\r\nx = \"\"\"\"\"\"\nimport b",
-        PLAIN,
+        ALL,
         "1 import \u{e9}\n3 import b\nend\nat 30, 2\n",
     ),
     Row(
         b"import os, sys as s  # import x\n\"import a\"\nimport os.path\n",
-        PLAIN,
+        ALL,
         "1 import os\n1 import sys as s\n3 import os.path\nend\nat 58, 3\n",
     ),
-    Row(b"", PLAIN, "end\nat 0, 0\n"),
-    Row(b"\xef\xbb\xbf", PLAIN, "end\nat 3, 0\n"),
+    Row(b"", ALL, "end\nat 0, 0\n"),
+    Row(b"\xef\xbb\xbf", ALL, "end\nat 3, 0\n"),
     Row(
         b"from a import (  # k\n    b as x,  # l\n    c,\n)\n",
-        PLAIN,
+        ALL,
         "1 from a import b as x\n1 from a import c\nend\nat 47, 2\n",
     ),
     Row(
         b"x = 1 + \\\r\n  2\r\nfrom . .x import y\r\n",
-        PLAIN,
+        ALL,
         "3 from ..x import y\nend\nat 36, 1\n",
     ),
     Row(
@@ -187,37 +156,37 @@ const ROWS: &[Row<'static>] = &[
     ),
     Row(
         b"import a\nif a:\n    def f(): pass\n    import b\n@d\nx = (\n",
-        PLAIN,
+        ALL,
         "1 import a\n4 indented import b\nF6 bracket not closed, 53, 6\nat 49, 2\n",
     ),
     Row(
         b"import a\nimport b\nx = (1,",
-        PLAIN,
+        ALL,
         "1 import a\n2 import b\nF6 bracket not closed, 22, 3\nat 18, 2\n",
     ),
     Row(
         b"import a\nfrom b import c,\n",
-        PLAIN,
+        ALL,
         "1 import a\nF9 import statement not understood, 9, 2\nat 9, 1\n",
     ),
     Row(
         b"import a\n\xef\xbb\xbf",
-        PLAIN,
+        ALL,
         "1 import a\nF2 unexpected character, 9, 2\nat 9, 1\n",
     ),
     Row(
         b"import a\n)",
-        PLAIN,
+        ALL,
         "1 import a\nF5 closing bracket without its opening, 9, 2\nat 9, 1\n",
     ),
     Row(
         b"import a\nx\r\xff",
-        PLAIN,
+        ALL,
         "1 import a\nF1 not UTF-8, 11, 3\nat 11, 1\n",
     ),
     Row(
         b"import x\r\xff",
-        PLAIN,
+        ALL,
         "1 import x\nF1 not UTF-8, 9, 2\nat 9, 1\n",
     ),
     Row(
@@ -241,22 +210,13 @@ const TOO_DEEP: &str = "F8 more than 200 brackets open, 200, 1\nat 0, 0\n";
 
 const OPEN: &str = "F6 bracket not closed, 199, 1\nat 0, 0\n";
 
-/// 201 brackets that open, and 200 that close.
-pub(crate) fn brackets() -> [u8; 401] {
-    let mut text = [b'('; 401];
-    for byte in text[201..].iter_mut() {
-        *byte = b')';
-    }
-    text
-}
-
 #[test]
 fn counts_brackets_in_every_cut(rt: HostRuntime) -> Result<(), Fail> {
     let text = brackets();
     let rows = [
-        Row(&text[1..401], PLAIN, "end\nat 400, 0\n"),
-        Row(&text[1..201], PLAIN, OPEN),
-        Row(&text[..201], PLAIN, TOO_DEEP),
+        Row(&text[1..401], ALL, "end\nat 400, 0\n"),
+        Row(&text[1..201], ALL, OPEN),
+        Row(&text[..201], ALL, TOO_DEEP),
     ];
     each_holds(rt.alloc(), &rows)
 }
@@ -266,10 +226,10 @@ fn is_too_deep(alloc: Global) -> bool {
     match b"(".as_slice().repeat(alloc, 100_000) {
         Ok(text) => {
             let acts = [Act::Text(text.as_slice(), b""), Act::Stop];
-            tells(alloc, PLAIN, &acts, TOO_DEEP)
+            tells(alloc, ALL, &acts, TOO_DEEP)
                 && tells(
                     alloc,
-                    PLAIN,
+                    ALL,
                     &[Act::Found(text.as_slice()), Act::Stop],
                     TOO_DEEP,
                 )
@@ -294,8 +254,7 @@ struct Prefixes(&'static [u8], &'static [&'static str]);
 
 /// Whether this is told of a text, in one piece and whole.
 fn is_told(alloc: Global, text: &[u8], want: &str) -> bool {
-    tells(alloc, PLAIN, &[Act::Text(text, b"")], want)
-        && tells(alloc, PLAIN, &[Act::Found(text)], want)
+    tells(alloc, ALL, &[Act::Text(text, b"")], want) && tells(alloc, ALL, &[Act::Found(text)], want)
 }
 
 impl Case for Prefixes {
@@ -367,7 +326,7 @@ impl Case for Script {
 const STEPS: &[Script] = &[
     // A line end CR needs one more byte. Where that byte has a fault, it comes as soon as nothing is ready.
     Script(
-        PLAIN,
+        ALL,
         &[
             Act::Step(b"import a\nx\r\xff"),
             Act::Step(b"x\r\xff"),
@@ -377,7 +336,7 @@ const STEPS: &[Script] = &[
         "took 9\nready, 9, 9\n1 import a\nnone, 9, 0\nF1 not UTF-8, 11, 3\nF1 not UTF-8, 11, 3\nat 11, 1\n",
     ),
     Script(
-        PLAIN,
+        ALL,
         &[
             Act::Step(b"x\r"),
             Act::Step(b"\xff"),
@@ -387,7 +346,7 @@ const STEPS: &[Script] = &[
         "took 2\nnone, 2, 2\nnone, 2, 2\nF1 not UTF-8, 2, 2\nF1 not UTF-8, 2, 2\nat 2, 0\n",
     ),
     Script(
-        PLAIN,
+        ALL,
         &[
             Act::Step(b"import x\r\xff"),
             Act::Step(b""),
@@ -397,7 +356,7 @@ const STEPS: &[Script] = &[
         "took 10\nready, 10, 10\n1 import x\nnone, 10, 1\nF1 not UTF-8, 9, 2\nF1 not UTF-8, 9, 2\nat 9, 1\n",
     ),
     Script(
-        PLAIN,
+        ALL,
         &[
             Act::Step(b"import x\r)"),
             Act::Step(b""),
@@ -407,7 +366,7 @@ const STEPS: &[Script] = &[
         "took 10\nready, 10, 10\n1 import x\nnone, 10, 1\nF5 closing bracket without its opening, 9, 2\nF5 closing bracket without its opening, 9, 2\nat 9, 1\n",
     ),
     Script(
-        PLAIN,
+        ALL,
         &[
             Act::Step(b"x\r)"),
             Act::Step(b""),
@@ -417,7 +376,7 @@ const STEPS: &[Script] = &[
         "F5 closing bracket without its opening, 2, 2\nF5 closing bracket without its opening, 2, 2\nF5 closing bracket without its opening, 2, 2\nat 2, 0\n",
     ),
     Script(
-        PLAIN,
+        ALL,
         &[
             Act::Step(b"x\r"),
             Act::Step(b")"),
@@ -427,7 +386,7 @@ const STEPS: &[Script] = &[
         "took 2\nnone, 2, 2\nnone, 2, 2\nF5 closing bracket without its opening, 2, 2\nF5 closing bracket without its opening, 2, 2\nat 2, 0\n",
     ),
     Script(
-        PLAIN,
+        ALL,
         &[
             Act::Step(b"import a\r"),
             Act::Step(b"x"),
@@ -458,7 +417,7 @@ const STEPS: &[Script] = &[
         "took 9\nready, 9, 9\n1 import a\nnone, 9, 0\ntook 15\nnone, 24, 0\nnone, 24, 0\ntook 9\nnone, 33, 0\nnone, 33, 0\nat 9, 1\n",
     ),
     Script(
-        PLAIN,
+        ALL,
         &[
             Act::Step(b"import a\xc3"),
             Act::Step(b"\xa9\n"),
@@ -487,7 +446,7 @@ fn tells_each_step(rt: HostRuntime) -> Result<(), Fail> {
 const SCRIPTS: &[Script] = &[
     // Nothing is taken while an import is ready.
     Script(
-        PLAIN,
+        ALL,
         &[
             Act::Feed(b"import a\rx"),
             Act::Feed(b"y"),
@@ -504,7 +463,7 @@ const SCRIPTS: &[Script] = &[
     ),
     // The last line comes at the end.
     Script(
-        PLAIN,
+        ALL,
         &[
             Act::Piece(b"import a\r"),
             Act::Finish,
@@ -530,7 +489,7 @@ const SCRIPTS: &[Script] = &[
     ),
     // A cursor stays inside a line.
     Script(
-        PLAIN,
+        ALL,
         &[
             Act::Feed(b"import a, b, c\n"),
             Act::Next,
@@ -547,7 +506,7 @@ const SCRIPTS: &[Script] = &[
     ),
     // A cursor is handed to a finder of a whole text.
     Script(
-        PLAIN,
+        ALL,
         &[
             Act::Feed(b"import a, b, c"),
             Act::Ready,
@@ -562,7 +521,7 @@ const SCRIPTS: &[Script] = &[
     ),
     // A cursor of a finder of a whole text is taken.
     Script(
-        PLAIN,
+        ALL,
         &[
             Act::First(b"import a, b, c", 2),
             Act::Ready,
@@ -602,7 +561,7 @@ const SCRIPTS: &[Script] = &[
     ),
     // A text with a fault; and the same once more, fed from the line with the fault on.
     Script(
-        PLAIN,
+        ALL,
         &[
             Act::Piece(b"import a\n\xef\xbb\xbf"),
             Act::Feed(b"x"),
@@ -617,7 +576,7 @@ const SCRIPTS: &[Script] = &[
         "1 import a\nF2 unexpected character, 9, 2\nF2 unexpected character, 9, 2\nno import\nnone\nF2 unexpected character, 9, 2\nnone\nF2 unexpected character, 9, 2\nat 9, 1\nF2 unexpected character, 9, 2\n",
     ),
     Script(
-        PLAIN,
+        ALL,
         &[
             Act::Piece(b"import a; import b\nimport\n"),
             Act::Feed(b"x"),
@@ -633,7 +592,7 @@ const SCRIPTS: &[Script] = &[
     ),
     // The last logical line is bad: a text that is ended again, or fed, has the same fault.
     Script(
-        PLAIN,
+        ALL,
         &[
             Act::Feed(b"x = 1\nimport"),
             Act::Ready,
@@ -645,12 +604,12 @@ const SCRIPTS: &[Script] = &[
     ),
     // A cursor after a last line that CR ends, or nothing, and that the bytes before it don't settle.
     Script(
-        PLAIN,
+        ALL,
         &[Act::First(b"import a\r", 2), Act::Next, Act::Stop],
         "1 import a\nno import\nat 9, 1\nno import\nat 9, 1\n",
     ),
     Script(
-        PLAIN,
+        ALL,
         &[Act::First(b"import a", 2), Act::Next, Act::Stop],
         "1 import a\nno import\nat 8, 1\nno import\nat 8, 1\n",
     ),

@@ -1,5 +1,6 @@
-use crate::acts::tell_binding;
-use crate::cases::{Case, each_holds_again};
+//! What logical lines bind, and what is said of them and of comments.
+use crate::harness::cases::{Case, each_holds_again};
+use crate::harness::told::tell_binding;
 use py_imports::{
     Action, Binding, ImportError, Shape, bindings_of, is_declaration, says, shape_of,
 };

@@ -1,4 +1,5 @@
-use crate::cases::{Case, each_holds, each_holds_again, page};
+//! The logical lines of a whole text.
+use crate::harness::cases::{Case, each_holds, each_holds_again, page};
 use py_lines::*;
 use std::alloc::Global;
 use std::fmt::Write;

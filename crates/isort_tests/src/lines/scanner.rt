@@ -1,7 +1,8 @@
+//! The logical lines of a text in pieces.
 ghost use Rattle.std.specs.Prelude.{◌≡◌, ◌≤◌, true, false, None, IfOk, length};
 
-use crate::cases::{Case, each_holds, each_holds_again, page};
-use crate::lines::{tell, tell_fault, tell_unit};
+use crate::harness::cases::{Case, each_holds, each_holds_again, page};
+use crate::lines::reader::{tell, tell_fault, tell_unit};
 use py_lines::*;
 use std::alloc::Global;
 use std::fmt::Write;

@@ -1,4 +1,5 @@
-use crate::cases::{Case, each_holds_again};
+//! The blocks of a text.
+use crate::harness::cases::{Case, each_holds_again};
 use isort_sort::{Block, blocks};
 use std::alloc::Global;
 use std::test::Fail;

@@ -1,6 +1,6 @@
 //! What a metered reader or writer notes of its calls.
-use crate::cases::{Case, each_holds_again};
-use crate::devices::{Device, Trouble};
+use crate::harness::cases::{Case, each_holds_again};
+use crate::harness::devices::{Device, Trouble};
 use isort_cmd::{Last, Metered};
 use std::alloc::Global;
 use std::io::{ErrorKind, Read, Write};

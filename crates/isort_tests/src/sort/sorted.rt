@@ -1,8 +1,6 @@
-use crate::cases::{
-    Case, LinesCase, PlainCase, all_are_so, each_holds_again, each_holds_plainly, each_holds_with,
-};
-use crate::settings::OWN;
-use crate::writing::is_written;
+//! Sorted texts.
+use crate::harness::cases::{Case, PlainCase, all_are_so, each_holds_again, each_holds_plainly};
+use crate::sort::writing::is_written;
 use isort_settings::Settings;
 use isort_sort::{Outcome, SortError, Sorted, blocks, check_code, sort_code};
 use py_lines::{Fault, FaultKind};

@@ -2,9 +2,9 @@
 ghost use Rattle.std.specs.Prelude.{◌≡◌, ◌≤◌, length};
 ghost use Rattle.isort_sort.specs.Metered.{last_of};
 
-use crate::cases::{PlainCase, each_holds_plainly};
-use crate::devices::{Device, Trouble};
-use crate::sorting_runs::{BROKEN, SKIPPED, SORTED, UNSORTED};
+use crate::harness::cases::{PlainCase, each_holds_plainly};
+use crate::harness::devices::{Device, Trouble};
+use crate::texts::{BROKEN, SKIPPED, SORTED, UNSORTED};
 use isort_settings::Settings;
 use isort_sort::{Last, Metered, Outcome, SortError, sort_to};
 use py_lines::{Fault, FaultKind};

@@ -1,0 +1,5 @@
+//! Tests of isort_find.
+pub(crate) mod acts;
+mod finder;
+pub(crate) mod options;
+mod pieces;

@@ -1,0 +1,2 @@
+//! Tests of py_imports.
+mod bindings;

@@ -1,0 +1,3 @@
+//! Tests of py_lines.
+pub(crate) mod reader;
+mod scanner;

@@ -1,0 +1,2 @@
+//! Tests of isort_settings.
+mod pyproject;

@@ -1,0 +1,30 @@
+//! Texts that several tests share.
+
+/// A text with imports, a string, and a comment.
+pub(crate) const FIRST: &str = "import os, sys as s  # import x\n\"import a\"\nimport os.path\n";
+
+/// Its listing from standard input.
+pub(crate) const FIRST_LINES: &str = "-:1 import os\n-:1 import sys as s\n-:3 import os.path\n";
+
+/// A text that is not sorted.
+pub(crate) const UNSORTED: &str =
+    "from . import z\nimport sys\nimport requests\nfrom __future__ import annotations\nimport os\n";
+
+/// The same text, sorted.
+pub(crate) const SORTED: &str =
+    "from __future__ import annotations\n\nimport os\nimport sys\n\nimport requests\n\nfrom . import z\n";
+
+/// A text that asks to be left as it is.
+pub(crate) const SKIPPED: &str = "\"\"\"isort: skip_file\"\"\"\nimport b\nimport a\n";
+
+/// A text with a fault at byte 22, in line 3.
+pub(crate) const BROKEN: &str = "import b\nimport a\nx = )";
+
+/// 201 brackets that open, and 200 that close.
+pub(crate) fn brackets() -> [u8; 401] {
+    let mut text = [b'('; 401];
+    for byte in text[201..].iter_mut() {
+        *byte = b')';
+    }
+    text
+}
