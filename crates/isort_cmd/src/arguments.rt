@@ -7,8 +7,10 @@ ghost use Rattle.isort_cmd.specs.Private.ParserSteps.{rule_of_option, with_rules
 use clap::{Arg, ArgAction, Command, value_parser};
 use std::alloc::{AllocError, Global};
 
+/// What the help says of the program.
 const ABOUT: &str = "Sort the import statements of Python files, or list them.";
 
+/// What the help says after the options.
 const AFTER_HELP: &str = "\
 A file is sorted in place, and standard input to standard output.
 Options of listing need --identify, and those of sorting and its settings exclude it.
@@ -48,10 +50,15 @@ enum OptionValue {
 
 /// An option of the command line.
 struct CommandOption {
+    /// The heading in the help under which it stands.
     heading: &'static str,
+    /// What follows `--`.
     name: &'static str,
+    /// What follows `-`, if it has a letter too.
     letter: Option<char>,
+    /// What it takes.
     value: OptionValue,
+    /// What the help says of it.
     help: &'static str,
 }
 

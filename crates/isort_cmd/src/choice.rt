@@ -9,7 +9,7 @@ use crate::usage::UsageError;
 use clap::ArgMatches;
 use clap::parser::ValueSource;
 use isort_find::{FindOptions, ImportKey};
-use std::alloc::Global;
+use std::alloc::{AllocError, Global};
 
 /// The job that the matches ask for.
 pub(crate) fn job_of(alloc: Global, matches: &ArgMatches<'_>) -> Result<Job, UsageError>
@@ -60,9 +60,8 @@ fn key_count(matches: &ArgMatches<'_>) -> usize
 }
 
 /// What is done with each file.
-fn action_of(alloc: Global, matches: &ArgMatches<'_>) -> Result<Action, UsageError>
-    ensures ok { IfOk result (IsAction (rows_in matches.now)) }
-    ensures err { IfErr result (λ e. e ≡ UsageError.Memory) }
+fn action_of(alloc: Global, matches: &ArgMatches<'_>) -> Result<Action, AllocError>
+    ensures { IfOk result (IsAction (rows_in matches.now)) }
 {
     if was_given(matches, "identify") {
         return Ok(Action::Identify(FindOptions {
@@ -99,9 +98,8 @@ fn key_option(matches: &ArgMatches<'_>) -> Option<ImportKey>
 
 /// The files, in their order.
 #[tactic(auto, using(crate::proofs::MatchLemmas::all_found))]
-fn files_of(alloc: Global, matches: &ArgMatches<'_>) -> Result<Vec<String>, UsageError>
-    ensures ok { IfOk result (λ files. map string_bytes files.items ≡ unwrap_or (all_of (codes "FILE") (rows_in matches.now)) []) }
-    ensures err { IfErr result (λ e. e ≡ UsageError.Memory) }
+fn files_of(alloc: Global, matches: &ArgMatches<'_>) -> Result<Vec<String>, AllocError>
+    ensures { IfOk result (λ files. map string_bytes files.items ≡ unwrap_or (all_of (codes "FILE") (rows_in matches.now)) []) }
 {
     match matches.get_raw("FILE") {
         Some(paths) => copies(alloc, paths),
@@ -110,9 +108,8 @@ fn files_of(alloc: Global, matches: &ArgMatches<'_>) -> Result<Vec<String>, Usag
 }
 
 /// Copies of the texts, in their order.
-fn copies(alloc: Global, texts: &[&str]) -> Result<Vec<String>, UsageError>
-    ensures ok { IfOk result (λ all. map string_bytes all.items ≡ map (λ text. text.now) texts.now) }
-    ensures err { IfErr result (λ e. e ≡ UsageError.Memory) }
+fn copies(alloc: Global, texts: &[&str]) -> Result<Vec<String>, AllocError>
+    ensures { IfOk result (λ all. map string_bytes all.items ≡ map (λ text. text.now) texts.now) }
 {
     let mut all = Vec::new(alloc);
     for text in texts {
@@ -134,11 +131,17 @@ fn text_of(
     alloc: Global,
     matches: &ArgMatches<'_>,
     name: &str,
-) -> Result<Option<String>, UsageError>
-    ensures ok { IfOk result (λ text. option_map string_bytes text ≡ first_of name.now (rows_in matches.now)) }
-    ensures err { IfErr result (λ e. e ≡ UsageError.Memory) }
+) -> Result<Option<String>, AllocError>
+    ensures { IfOk result (λ text. option_map string_bytes text ≡ first_of name.now (rows_in matches.now)) }
 {
-    match matches.get_str(name) {
+    owned(alloc, matches.get_str(name))
+}
+
+/// The text in memory of its own, if there is one.
+fn owned(alloc: Global, text: Option<&str>) -> Result<Option<String>, AllocError>
+    ensures { IfOk result (λ copy. option_map string_bytes copy ≡ option_map (λ t. t.now) text.entry) }
+{
+    match text {
         Some(text) => Ok(Some(String::from_str(alloc, text)?)),
         None => Ok(None),
     }

@@ -40,6 +40,7 @@ fn look_at_held(finder: &mut PieceFinder) -> Result<(), RunError>
 /// A listing of the imports of one text.
 #[derive(Drop)]
 struct Listing<'a> {
+    /// Where its memory comes from.
     alloc: Global,
     /// What the text is fed to.
     finder: PieceFinder,
