@@ -25,9 +25,9 @@ pub(crate) fn form_of(kind: TokKind, word: &str) -> Option<Form>
     ensures form { BeginsForm (terminal_of kind word.now) result }
     ensures name { IfSome result (λ form. kind ≡ TokKind.Name) }
 {
-    match kind {
-        TokKind::Name if word == "import" => Some(Form::Import),
-        TokKind::Name if word == "from" => Some(Form::From),
+    match (kind, word) {
+        (TokKind::Name, "import") => Some(Form::Import),
+        (TokKind::Name, "from") => Some(Form::From),
         _ => None,
     }
 }
