@@ -10,6 +10,7 @@ const OUTPUT_NAME: &str = "standard output";
 /// Standard output. Where it breaks, this is told once, and nothing more is printed.
 #[derive(Drop)]
 pub(crate) struct Output {
+    /// Whether a write failed.
     is_broken: bool,
 }
 

@@ -29,7 +29,9 @@ pub(crate) fn perform(
 /// Where a text comes from.
 #[derive(Drop)]
 enum Input {
+    /// Standard input.
     Standard(Stdin),
+    /// A file.
     File(File),
 }
 

@@ -17,6 +17,7 @@ fn owned(alloc: Global, words: &[&str]) -> Option<Vec<String>> {
 struct Reads(&'static [&'static str], &'static str);
 
 impl Reads {
+    /// What `command` makes of the words, as it is shown for debugging.
     fn shown(&self, alloc: Global) -> Option<String> {
         let answer = command(alloc, owned(alloc, self.0)?);
         format!(in alloc; "{answer:?}").ok()

@@ -158,6 +158,7 @@ impl Ran {
         false
     }
 
+    /// Whether the run answers each failure as it has to, over devices of so many bytes a call.
     fn meets_failures(&self, alloc: Global, settings: &Settings, most: usize) -> bool {
         for failure in FAILURES {
             if !self.meets_each(alloc, settings, *failure, most) {
@@ -183,6 +184,7 @@ impl Ran {
         got == answer && writer.into_inner().taken.as_slice() == output.as_bytes()
     }
 
+    /// Whether the run waits for interrupted calls as it has to.
     fn waits(&self, alloc: Global, settings: &Settings) -> bool {
         for (reads, writes, answer) in WAITS {
             if !self.waits_so(alloc, settings, (*reads, *writes), *answer) {

@@ -12,6 +12,7 @@ use std::alloc::Global;
 use std::io::ErrorKind;
 use std::test::Fail;
 
+/// The error of a fault.
 const fn fault(kind: FaultKind, offset: u64, line: u64) -> RunError {
     RunError::Fault(Fault { kind, offset, line })
 }

@@ -10,6 +10,7 @@ const UNSORTED: &str = "ERROR: b.py Imports are incorrectly sorted and/or format
 
 const UNREAD: &str = "isort: b.py: R1 cannot be read\n";
 
+/// An action that sorts.
 const fn sort(check: bool, to_stdout: bool) -> Action {
     Action::Sort {
         check,
@@ -21,7 +22,7 @@ const fn sort(check: bool, to_stdout: bool) -> Action {
     }
 }
 
-// An action: none of the two flags of sorting for a listing.
+/// An action: none of the two flags of sorting for a listing.
 const fn action(flags: Option<(bool, bool)>) -> Action {
     match flags {
         Some((check, to_stdout)) => sort(check, to_stdout),

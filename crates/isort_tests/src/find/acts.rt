@@ -32,6 +32,7 @@ impl Model for Fed {
 }
 
 impl Fed {
+    /// One of a text of which nothing was fed.
     fn new(alloc: Global, options: FindOptions) -> Result<Fed, FindError> {
         let finder = PieceFinder::new(alloc, options)?;
         Ok(Fed {
@@ -49,6 +50,7 @@ impl Fed {
         }
     }
 
+    /// One that goes on from a cursor, or the cursor.
     fn try_resume(alloc: Global, cursor: Cursor) -> Result<Fed, Cursor> {
         if cursor.offset() > MOST {
             return Err(cursor);
@@ -73,6 +75,7 @@ impl Fed {
         }
     }
 
+    /// Feeds a short piece once, if the finder allows it.
     fn try_feed(&mut self, piece: &[u8]) -> Result<usize, FindError>
         ensures { IfOk result (λ taken. taken ≤ length piece.now) }
     {
@@ -98,6 +101,7 @@ impl Fed {
         }
     }
 
+    /// The next import that is ready, asked for once.
     fn try_next(&mut self) -> Result<Option<Binding>, FindError> {
         self.faulty = false;
         match self.finder.next_ready() {
@@ -116,6 +120,7 @@ impl Fed {
         }
     }
 
+    /// Ends the text once, if the finder allows it.
     fn try_finish(&mut self) -> Result<(), FindError> {
         if self.ended && !self.faulty || self.finder.has_ready() {
             return Err(FindError::Memory);
@@ -138,10 +143,12 @@ impl Fed {
         }
     }
 
+    /// What the finder is asked for.
     fn options(self) -> FindOptions {
         self.stop().options()
     }
 
+    /// Where the finder stops.
     fn stop(self) -> Cursor {
         let Fed { finder, .. } = self;
         finder.stop()
@@ -312,6 +319,7 @@ pub(crate) enum Act<'t> {
     Found(&'t [u8]),
 }
 
+/// Ends the text, and tells that, or the fault.
 fn tell_finish(finder: &mut Fed, out: &mut String) {
     match finder.finish() {
         Ok(()) => tell("end\n", out),
@@ -319,6 +327,7 @@ fn tell_finish(finder: &mut Fed, out: &mut String) {
     }
 }
 
+/// Up to which byte the text was fed, and what is held.
 fn tell_held(finder: &Fed, out: &mut String) {
     match str::from_utf8(finder.finder.held()) {
         Ok(held) => {
@@ -328,6 +337,7 @@ fn tell_held(finder: &Fed, out: &mut String) {
     }
 }
 
+/// Whether an import is ready.
 fn tell_whether(finder: &Fed, out: &mut String) {
     tell(
         if finder.finder.has_ready() {

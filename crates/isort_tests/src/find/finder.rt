@@ -303,6 +303,7 @@ fn first_key(alloc: Global, text: &str, key: ImportKey) -> Option<KeyText> {
 struct Keys(&'static str, &'static str, ImportKey, bool);
 
 impl Keys {
+    /// Whether the imports of the two statements have one key.
     fn are_equal(&self, alloc: Global) -> Option<bool> {
         let one = first_key(alloc, self.0, self.2)?;
         let other = first_key(alloc, self.1, self.2)?;

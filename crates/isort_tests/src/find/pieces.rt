@@ -31,6 +31,7 @@ impl Row<'_> {
             )
     }
 
+    /// Whether the text is told so in each cut.
     fn is_told_in_cuts(&self, alloc: Global) -> bool {
         for cut in 0..=self.0.len() {
             if !self.is_told_in_cut(alloc, cut) {

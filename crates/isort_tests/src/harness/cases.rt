@@ -36,6 +36,7 @@ pub(crate) trait PlainCase {
     fn holds_under(&self, alloc: Global, settings: &Settings) -> bool;
 }
 
+/// Whether a row holds under the settings without a profile.
 fn holds_plainly<C: PlainCase>(alloc: Global, case: &C) -> bool {
     match Settings::plain(alloc) {
         Ok(settings) => case.holds_under(alloc, &settings),

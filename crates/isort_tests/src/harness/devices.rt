@@ -40,6 +40,7 @@ pub(crate) struct Device<'t> {
 }
 
 impl<'t> Device<'t> {
+    /// A metered device of which nothing was read, and to which nothing was written.
     pub(crate) fn new(
         alloc: Global,
         left: &'t [u8],
@@ -74,6 +75,7 @@ impl<'t> Device<'t> {
         }
     }
 
+    /// Is interrupted so often before a call.
     fn wait(&mut self, times: u16) -> io::Result<()> {
         if self.waited < times {
             self.waited += 1;

@@ -89,6 +89,7 @@ fn is_refused(alloc: Global, unit: &Unit<'_>, offset: u64) -> bool {
 }
 
 impl Said {
+    /// Whether it is so of a logical line.
     fn is_so(self, alloc: Global, unit: &Unit<'_>) -> bool {
         match self {
             Said::Refused(offset) => is_refused(alloc, unit, offset),
@@ -97,6 +98,7 @@ impl Said {
         }
     }
 
+    /// Whether it is so of the next logical line.
     fn is_so_of_next(self, alloc: Global, lines: &mut Lines<'_>) -> bool {
         match lines.next_unit() {
             Ok(Some(unit)) => self.is_so(alloc, &unit),

@@ -49,6 +49,7 @@ fn is_told(told: &mut String, lines: &mut Lines<'_>) -> bool {
     true
 }
 
+/// Adds this. Where memory is refused, it is missing from what is told.
 pub(crate) fn tell(told: &mut String, what: &str) {
     let _ = told.push_str(what);
 }

@@ -111,6 +111,7 @@ fn tell_pieces(told: &mut String, mut scanner: Scanner, text: &[u8], size: usize
 struct Scanned(&'static [u8], &'static str);
 
 impl Scanned {
+    /// Whether the text is told so in two pieces, of which the first ends here.
     fn is_told_in_cut(&self, alloc: Global, cut: usize) -> bool
         requires { cut ≤ length (self.now.0).now }
     {
@@ -121,6 +122,7 @@ impl Scanned {
         told.as_str() == self.1
     }
 
+    /// Whether the text is told so in each cut.
     fn is_told_in_cuts(&self, alloc: Global) -> bool {
         for cut in 0..=self.0.len() {
             if !self.is_told_in_cut(alloc, cut) {
@@ -130,6 +132,7 @@ impl Scanned {
         true
     }
 
+    /// Whether the text is told so in pieces of so many bytes.
     fn is_told_in_pieces(&self, alloc: Global, size: usize) -> bool
         requires { 1 ≤ size }
     {
@@ -282,6 +285,7 @@ fn let_go(scanner: &mut Scanner) -> bool
 }
 
 impl Step {
+    /// Whether the scanner answers so.
     fn is_so(self, scanner: &mut Scanner) -> bool
         requires { scanner.old.ended ≡ false }
         ensures { scanner.new.ended ≡ scanner.old.ended }
@@ -333,6 +337,7 @@ fn finish(scanner: &mut Scanner) -> Result<(), LexError>
 }
 
 impl End {
+    /// Whether the text ends so.
     fn is_so(self, scanner: &mut Scanner) -> bool
         requires { scanner.old.ended ≡ false }
     {
