@@ -41,7 +41,7 @@ open_is_no_fault : (s : Stand) (fault : Fault) → phase_in s ≡ phase.Open →
 open_is_no_fault s fault is other = let both : phase_in s ≡ phase.Fault fault = ap phase_in other in cc
 
 -- a finder that was fed nothing
-pub fresh : (path : List ℕ) (finder : PieceFinderState) (start : Option (List ℕ)) → fed_by finder ≡ 0 → has_ready finder ≡ false → finder.scanning.ended ≡ false → finder.outcome ≡ outcome.Open → ((text : List ℕ) → HasFoundIn finder text []) → ((text : List ℕ) → AreAllSettled finder text []) → ((text : List ℕ) → IsUndecided finder text) → HasListedSettled path [] (options_for finder) finder start start
+pub fresh : (path : List ℕ) (finder : PieceFinderState) (start : Option (List ℕ)) → fed_by finder ≡ 0 → has_ready finder ≡ false → finder.scanning.ended ≡ false → phase_in finder.stand ≡ phase.Open → ((text : List ℕ) → HasFoundIn finder text []) → ((text : List ℕ) → AreAllSettled finder text []) → ((text : List ℕ) → IsUndecided finder text) → HasListedSettled path [] (options_for finder) finder start start
 fresh path finder start fed none_ready open_yet is_open found all undecided = record {
   fed = fed;
   none_ready = none_ready;

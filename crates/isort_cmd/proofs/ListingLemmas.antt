@@ -120,12 +120,12 @@ gives_error old r e new h same = subst (λ x. GivesReady old x new) same h
 pub not_after_top : (finder : PieceFinderState) → has_ready finder ≡ true → phase_in finder.stand ≡ phase.End → ⊥
 not_after_top finder ready top = by finder.stand ready top
   where
+    not_both : (b : Bool) → b ≡ false → b ≡ true → ⊥
+    not_both b h k = cc
+
     by : (s : Stand) → ready_in s ≡ true → phase_in s ≡ phase.End → ⊥
     by (stand.End passed) h k = not_both false refl h
     by other h k = cc
-  where
-    not_both : (b : Bool) → b ≡ false → b ≡ true → ⊥
-    not_both b h k = cc
 
 -- what the errors of a call that asks for what is ready leave
 pub leaves_at_find_error : GivenBegin → (path text : List ℕ) (options : FindOptions) (finder next : PieceFinderState) (e : FindError) (start now : Option (List ℕ)) → GivesReady finder (Err e) next → GivenAreListed path text options finder start now → LeavesReady path text options finder (run_error_of e) start now

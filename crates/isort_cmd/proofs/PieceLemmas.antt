@@ -20,7 +20,7 @@ use Rattle.isort_find.specs.declared.walker.Stand.TheVariants as stand
 use Rattle.isort_find.specs.declared.walker.Phase.TheVariants as phase
 use Rattle.isort_cmd.specs.Printed.{printed}
 use Rattle.isort_cmd.specs.RunError.{run_error_of}
-use Rattle.isort_cmd.specs.Private.Steps.{GivenAreListed, HasListedSettled, HasListedGiven, HasNoFault, LeavesReady, LeavesPiece, MeetsFaultAfter}
+use Rattle.isort_cmd.specs.Private.Steps.{GivenAreListed, HasListedSettled, HasListedGiven, LeavesReady, LeavesPiece, MeetsFaultAfter}
 use Rattle.isort_cmd.specs.Written.{ListsFound, ListsPrefix}
 use Rattle.isort_cmd.specs.declared.error.RunError.{RunError}
 use Rattle.isort_cmd.specs.declared.error.RunError.TheVariants as run
@@ -123,7 +123,7 @@ fed_fault laws path known piece options old fault new start now meets to =
     let at : GoesOnWith text (fed_by old) piece = subst (λ (m : ℕ). GoesOnWith text m piece) (sym to.fed) (ap (take (length piece)) (drop-append_seam known piece) ∙ ap (λ x. take (length piece) x) (sym (append-nil piece)) ∙ take-append_seam piece []) in
     let found = found_fault new text listed.bounds fault (meets.found text listed.bounds listed.found at) meets.kept in
     let lists : ListsFound path text options (Some fault) start now = record { bounds = listed.bounds; found = subst (λ (o : FindOptions). IsFound text o listed.bounds (Some fault)) (meets.options ∙ listed.same_options) found; written = listed.written } in
-    let decided = meets.decided text listed.bounds listed.found at (is_open old.outcome meets.was_in_top to.no_fault) in
+    let decided = meets.decided text listed.bounds listed.found at (is_open old.stand meets.was_in_top to.no_fault) in
     let n = decided.0 in
     let first = known ++ take n piece in
     let rest = drop n piece in

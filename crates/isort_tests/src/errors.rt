@@ -1,5 +1,5 @@
 //! The text of each error.
-use crate::harness::cases::{Case, each_holds_again};
+use crate::harness::cases::{Case, all_are_so, each_holds_again};
 use isort_cmd::{RunError, fault_text, settings_text};
 use isort_find::{FindError, ResumeError};
 use isort_settings::{Settings, SettingsError};

@@ -15,6 +15,8 @@ mod imports;
 #[cfg(test)]
 mod lines;
 #[cfg(test)]
+mod own_sections;
+#[cfg(test)]
 mod settings;
 #[cfg(test)]
 mod sort;

@@ -1,6 +1,9 @@
-use crate::cases::{Case, LinesCase, all_are_so, are_texts, each_holds_again, each_holds_with};
-use crate::settings::{Refused, Sectioned, Why};
-use crate::sort::Under;
+//! Own sections: settings, sections, sorted texts and runs.
+use crate::harness::cases::{
+    Case, LinesCase, all_are_so, are_texts, each_holds_again, each_holds_with,
+};
+use crate::settings::pyproject::{Refused, Sectioned, Why};
+use crate::sort::sorted::Under;
 use isort_cmd::{Metered, sort_run};
 use isort_settings::{Section, Settings};
 use isort_sort::Outcome;

@@ -54,6 +54,8 @@ pub mod Pieces
 pub mod Neighbours
 pub mod Letters
 pub mod WordBreaks
+pub mod Fields
+pub mod OpenFields
 pub mod Machine
 pub mod Faults
 pub mod LogicalLines

@@ -6,7 +6,7 @@ use Rattle.py_lines.specs.Piece.{string, Piece, begins_marked, spelled}
 use Rattle.py_lines.specs.PieceGrammar.{joined, has_triple, Grammar, AreReadIn, ReadsIn}
 use Rattle.py_lines.specs.Balance.{is_operator_that, is_opener, IsBalanced, depth_after}
 use Rattle.py_lines.specs.LogicalLine.{LogicalLine, lines_of}
-use Rattle.py_lines.specs.Lexed.{Decodes}
+use Rattle.py_lines.specs.Reading.{Decodes}
 use Rattle.py_lines.specs.FieldStrings.{Host, specification, AreParts, named_through, with_fields}
 
 -- whether the piece is `:`

@@ -7,7 +7,7 @@ use Rattle.py_lines.specs.Character.{is_quote, is_r}
 use Rattle.py_lines.specs.Piece.{Piece, begins_marked, spelled}
 use Rattle.py_lines.specs.PieceGrammar.{joined, has_triple, AreReadIn}
 use Rattle.py_lines.specs.Balance.{IsBalanced, depth_through}
-use Rattle.py_lines.specs.Lexed.{IsUnescaped, IsShortPrefix, IsLongPrefix, IsSlash}
+use Rattle.py_lines.specs.Faults.{IsUnescaped, IsShortPrefix, IsLongPrefix, IsSlash}
 use Rattle.py_lines.specs.FieldStrings.{is_field_prefix, Host, Place, literal, specification, quotes_of, begins_open, named_through, AreParts}
 use Rattle.py_lines.specs.Fields.{HasNoColon, AreInside, Fields, fielded}
 

@@ -137,7 +137,9 @@ abbrev pub MayPrecedeIn : Grammar → Class → List ℕ → List ℕ → Type 0
 MayPrecedeIn grammar mark text rest = Unit {0}
 MayPrecedeIn grammar space text rest = begins is_space rest ≡ false
 MayPrecedeIn grammar word text rest = (begins is_word_character rest ≡ false) × (grammar.is_prefix text && begins is_quote rest ≡ false)
-MayPrecedeIn grammar string text rest = (prefix : List ℕ) (quote : ℕ) → text ≡ prefix ++ quote ∷ quote ∷ [] → IsNoneOr grammar.is_prefix prefix → is_quote quote ≡ true → begins (λ c. c == quote) rest ≡ false
+MayPrecedeIn grammar string text rest =
+    (prefix : List ℕ) (quote : ℕ) → text ≡ prefix ++ quote ∷ quote ∷ [] → IsNoneOr grammar.is_prefix prefix → is_quote quote ≡ true
+    → begins (λ c. c == quote) rest ≡ false
 MayPrecedeIn grammar operator text rest = Unit {0}
 MayPrecedeIn grammar comment text rest = (rest ≡ []) ⊎ (begins is_break rest ≡ true)
 MayPrecedeIn grammar join text rest = ends is_return text && begins is_line_feed rest ≡ false
@@ -149,7 +151,9 @@ MayPrecede class text rest = MayPrecedeIn without_fields class text rest
 -- each piece is of its class and may precede what follows it, with `rest` at the end; no mark stands after a piece
 abbrev pub AreReadIn : Grammar → List Piece → List ℕ → Type 0
 AreReadIn grammar [] rest = Unit {0}
-AreReadIn grammar (p ∷ ps) rest = InClassIn grammar p.class p.text × MayPrecedeIn grammar p.class p.text (spelled ps ++ rest) × (begins_marked ps ≡ false) × AreReadIn grammar ps rest
+AreReadIn grammar (p ∷ ps) rest =
+    InClassIn grammar p.class p.text × MayPrecedeIn grammar p.class p.text (spelled ps ++ rest) × (begins_marked ps ≡ false)
+    × AreReadIn grammar ps rest
 
 abbrev pub AreReadBefore : List Piece → List ℕ → Type 0
 AreReadBefore pieces rest = AreReadIn without_fields pieces rest

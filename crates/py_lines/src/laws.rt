@@ -1,13 +1,17 @@
 //! Laws of the definitions, which the checker proves as contracts of functions that do nothing.
 
-ghost use Rattle.std.specs.Prelude.{◌≡◌, ℕ, true, false, Option, Some, List, [], ◌∷◌, ◌++◌, map, take};
+ghost use Rattle.std.specs.Prelude.{◌≡◌, ℕ, ◌+◌, ◌<◌, false, true, Option, None, Some, List, [], ◌∷◌, ◌++◌, map, take};
 ghost use Rattle.std.specs.Char.{is_ascii_alphabetic};
 ghost use Rattle.std.specs.List.{list_all, list_any};
 ghost use Rattle.py_lines.specs.Character.{is_break};
 ghost use Rattle.py_lines.specs.Piece.{Piece, spelled};
-ghost use Rattle.py_lines.specs.PieceGrammar.{AreReadBefore, IsWord, Reads, ReadsText};
+ghost use Rattle.py_lines.specs.PieceGrammar.{AreReadBefore, IsWord, Reads, ReadsIn, ReadsText};
+ghost use Rattle.py_lines.specs.FieldStrings.{Host, may_have_fields};
+ghost use Rattle.py_lines.specs.Fields.{IsField, AnyPieces, Fields, fielded, IsShallowFielded, ShallowFields, IsFieldReading, IsFieldLexed};
 ghost use Rattle.py_lines.specs.LogicalLine.{LogicalLine, cut, line_of};
-ghost use Rattle.py_lines.specs.Lexed.{Decodes, IsBalancedReading, EndsLine, IsFaultAt, IsReadOrFaulty, IsLexed, BeginsLexing};
+ghost use Rattle.py_lines.specs.Reading.{Decodes, IsBalancedReading, EndsLine};
+ghost use Rattle.py_lines.specs.Faults.{IsFaultAt, IsReadOrFaulty};
+ghost use Rattle.py_lines.specs.Lexed.{IsLexed, BeginsLexing};
 ghost use Rattle.py_lines.specs.Neighbours.{AreSimple, MayTouch, MayFollowLines};
 ghost use Rattle.py_lines.specs.Words.{word_in, words_of, extent_of};
 ghost use Rattle.py_lines.specs.Reader.{Reader, HasGiven};
@@ -75,6 +79,17 @@ pub fn settled_is_final()
     ensures within { (text : List ℕ) (place line : ℕ) (lines others : List LogicalLine) → AreFirstLines text place line lines → IsSettled (take place text) others → (more : List LogicalLine) × (lines ≡ others ++ more) }
     ensures fault { (text more : List ℕ) (fault : Fault) (lines : List LogicalLine) (end : Option Fault) → Decides text fault → IsLexed (text ++ more) lines end → end ≡ Some fault }
     ensures all { (text more : List ℕ) (fault : Fault) (lines : List LogicalLine) → Decides text fault → IsLexed text lines (Some fault) → IsLexed (text ++ more) lines (Some fault) }
+{}
+
+/// A text in which neither `f` nor `t`, alone or followed by `r`, stands directly before a quote is read by the same pieces
+/// whether strings hold fields or not, and these are as deep. So it has the same logical lines.
+pub fn fields_change_nothing_elsewhere()
+    ensures read_with { (pieces : List Piece) (characters : List ℕ) → may_have_fields characters ≡ false → Reads pieces characters → ReadsIn fielded pieces characters }
+    ensures read_without { (pieces : List Piece) (characters : List ℕ) → may_have_fields characters ≡ false → ReadsIn fielded pieces characters → Reads pieces characters }
+    ensures balanced_with { (pieces : List Piece) (characters : List ℕ) → may_have_fields characters ≡ false → IsBalancedReading pieces characters → IsFieldReading pieces characters }
+    ensures balanced_without { (pieces : List Piece) (characters : List ℕ) → may_have_fields characters ≡ false → IsFieldReading pieces characters → IsBalancedReading pieces characters }
+    ensures lines_with { (text characters : List ℕ) (lines : List LogicalLine) → Decodes text characters [] → may_have_fields characters ≡ false → IsLexed text lines None → IsFieldLexed text lines }
+    ensures lines_without { (text characters : List ℕ) (lines : List LogicalLine) → Decodes text characters [] → may_have_fields characters ≡ false → IsFieldLexed text lines → IsLexed text lines None }
 {}
 
 /// A word holds no line end.

@@ -10,7 +10,7 @@ use Rattle.isort_sort.specs.declared.metered.Last.{Last}
 use Rattle.isort_sort.specs.declared.metered.Last.TheVariants as last
 use Rattle.isort_sort.specs.declared.metered.Metered.{Metered}
 use Rattle.isort_cmd.specs.RunError.{LeavesWriter}
-use Rattle.isort_cmd.specs.Private.Steps.{IsOutputError, HasNoFault, IsOver, GivenAreListed, HasListedSettled, LeavesReady, LeavesPiece, ListsRead, LeavesFed}
+use Rattle.isort_cmd.specs.Private.Steps.{IsOutputError, GivenAreListed, HasListedSettled, LeavesReady, LeavesPiece, ListsRead, LeavesFed}
 use Rattle.isort_cmd.specs.Written.{ListsFound, LeavesAtError}
 use Rattle.isort_cmd.specs.declared.error.RunError.{RunError}
 use Rattle.isort_cmd.specs.declared.error.RunError.TheVariants as run
@@ -39,7 +39,7 @@ pub record KeepsListed (old new : Stage) : Type 0 where
   pub fed : fed_by new.finder ≡ fed_by old.finder
   pub open_yet : new.finder.scanning.ended ≡ old.finder.scanning.ended
   pub no_fault : HasNoFault old.finder → HasNoFault new.finder
-  pub stays : old.finder.outcome ≡ outcome.End → new.finder.outcome ≡ outcome.End
+  pub stays : phase_in old.finder.stand ≡ phase.End → phase_in new.finder.stand ≡ phase.End
   pub listed : (text : List ℕ) (options : FindOptions) (start : Option (List ℕ))
       → GivenAreListed old.path text options old.finder start old.written
       → GivenAreListed old.path text options new.finder start new.written

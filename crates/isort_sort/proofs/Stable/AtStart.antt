@@ -11,7 +11,7 @@ use Rattle.std.proofs.lemmas.Slice.Eq.{starts_is}
 use Rattle.std.proofs.lemmas.Str.{encodes-append}
 use Rattle.py_lines.specs.Balance.{IsBalanced as balance}
 use Rattle.py_lines.specs.Character.{is_mark, is_line_feed, is_return}
-use Rattle.py_lines.specs.Lexed.{EndsLine}
+use Rattle.py_lines.specs.Reading.{EndsLine}
 use Rattle.py_lines.specs.LogicalLine.{LogicalLine, put_first, lines_from}
 use Rattle.py_lines.specs.Piece.{mark, Piece, begins, ends, begins_marked, spelled}
 use Rattle.py_lines.specs.PieceGrammar.{IsLineEnd}

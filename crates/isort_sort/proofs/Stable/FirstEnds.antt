@@ -6,7 +6,7 @@ use Rattle.std.specs.List.{list_any}
 use Rattle.std.proofs.lemmas.Bool.{both_ways, eqb-true, or_parts}
 use Rattle.std.proofs.lemmas.Str.{encodes-append, char_from_byte}
 use Rattle.py_lines.specs.Character.{is_one_of, is_line_feed, is_return}
-use Rattle.py_lines.specs.Lexed.{EndsLine}
+use Rattle.py_lines.specs.Reading.{EndsLine}
 use Rattle.py_lines.specs.Piece.{Class, Piece, begins, ends, spelled}
 use Rattle.py_lines.specs.PieceGrammar.{InClass, AreReadBefore, IsLineEnd, feed, return_feed, return}
 use Rattle.isort_sort.specs.Layout.{text_of_lines}

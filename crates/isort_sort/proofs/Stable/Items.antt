@@ -5,7 +5,7 @@ use Rattle.std.specs.Str.{chars}
 use Rattle.py_lines.specs.Character.{is_space, is_digit}
 use Rattle.py_lines.specs.Neighbours.{MayTouch}
 use Rattle.py_lines.specs.Piece.{space, word, Piece}
-use Rattle.py_imports.specs.Grammar.{Terminal, as_word, name, comma, Item, IsItem, plain, renamed, AreItems, last, then, Listed, identifiers}
+use Rattle.py_imports.specs.Grammar.{Terminal, as_word, name, comma, Item, IsItem, plain, renamed, AreItems, last, then, NameKind, identifiers}
 use Rattle.py_imports.specs.Names.{IsName, IsAlias}
 use Rattle.py_imports.specs.Spelled.{alias_text}
 use Rattle.isort_sort.specs.Wrapping.{item_text}
@@ -107,7 +107,7 @@ pub items-are : (i : Item) (is : List Item) → AreItems identifiers (join_by it
 items-are i [] = subst (λ (ts : List Terminal). AreItems identifiers ts (i ∷ [])) (sym (join-one item_terminals (comma ∷ []) i)) (last identifiers _ _ (item-is i))
 items-are i (j ∷ js) = then identifiers _ (item_terminals i) (join_by item_terminals (comma ∷ []) (j ∷ js)) i (j ∷ js) (join-more item_terminals (comma ∷ []) i j js) (item-is i) (items-are j js)
 
-items-append : (k : Listed) (ts us : List Terminal) (is js : List Item) → AreItems k ts is → AreItems k us js → AreItems k (ts ++ comma ∷ us) (is ++ js)
+items-append : (k : NameKind) (ts us : List Terminal) (is js : List Item) → AreItems k ts is → AreItems k us js → AreItems k (ts ++ comma ∷ us) (is ++ js)
 items-append k ts us is js (last _ _ i item) b = then k _ ts us i js refl item b
 items-append k ts us is js (then _ _ first rest i more cut item items) b = then k _ first (rest ++ comma ∷ us) i (more ++ js) (ap (λ t. t ++ comma ∷ us) cut ∙ append_assoc first (comma ∷ rest) (comma ∷ us)) item (items-append k rest us more js items b)
 

@@ -9,7 +9,7 @@ use Rattle.std.proofs.Math.Utf8.{encode}
 use Rattle.std.proofs.lemmas.Str.{encodes-append, encode_ascii}
 use Rattle.py_lines.specs.Balance.{IsBalanced, depth_through, IsBalanced as balance}
 use Rattle.py_lines.specs.Character.{is_space, is_line_feed, is_return, is_hash}
-use Rattle.py_lines.specs.Lexed.{IsBalancedReading, EndsLine}
+use Rattle.py_lines.specs.Reading.{IsBalancedReading, EndsLine}
 use Rattle.py_lines.specs.LogicalLine.{LogicalLine, cut, line_of, end_len_of}
 use Rattle.py_lines.specs.Neighbours.{AreSimple, MayTouch}
 use Rattle.py_lines.specs.Piece.{space, comment, line_end, Piece, begins, ends, begins_marked, spelled}

@@ -15,7 +15,7 @@ use Rattle.py_lines.specs.PieceGrammar.{InClass, AreReadBefore}
 use Rattle.py_lines.specs.declared.token.Token.{Token}
 use Rattle.py_imports.specs.Binds.{BindEach, BindsAt, nothing, imports, terminals_at, terminal_in}
 use Rattle.py_imports.specs.Bound.{Bound}
-use Rattle.py_imports.specs.Grammar.{Terminal, begins_import, Imported, Item, IsImport, import_statement, from_statement, Listed, AreItems, last, then, AreBracketed, closed, closed_after_comma, AreNames, plain_names, bracketed, all_names}
+use Rattle.py_imports.specs.Grammar.{Terminal, begins_import, Imported, Item, IsImport, import_statement, from_statement, NameKind, AreItems, last, then, AreBracketed, closed, closed_after_comma, AreNames, plain_names, bracketed, all_names}
 use Rattle.py_imports.specs.Names.{AreNamed, HaveNames}
 use Rattle.py_imports.specs.Shape.{terminals_of, mark_len}
 use Rattle.py_imports.specs.Statement.{significant, Place, places_from, may_start_after, starts, is_end, statement_at}
@@ -94,7 +94,7 @@ imports_named laws u is unit h =
 some_map : {X Y : Type 0} (f : X → Y) (xs : List X) → AreSome xs → AreSome (map f xs)
 some_map f xs h = (f h.0, map f h.1, ap (map f) h.2)
 
-some_items : (k : Listed) (ts : List Terminal) (is : List Item) → AreItems k ts is → AreSome is
+some_items : (k : NameKind) (ts : List Terminal) (is : List Item) → AreItems k ts is → AreSome is
 some_items k ts _ (last _ _ i one) = (i, [], refl)
 some_items k ts _ ((then) _ _ first rest i is e one more) = (i, is, refl)
 

@@ -5,7 +5,7 @@ use Rattle.std.specs.List.{list_any}
 use Rattle.std.specs.Str.{all_scalars, StartsWithNoChar}
 use Rattle.std.proofs.lemmas.Bool.{or_parts}
 use Rattle.std.proofs.lemmas.List.{take-append-drop}
-use Rattle.py_lines.specs.Lexed.{IsBalancedReading}
+use Rattle.py_lines.specs.Reading.{IsBalancedReading}
 use Rattle.py_lines.specs.LogicalLine.{LogicalLine, cut, byte_len, line_ends, lines_from}
 use Rattle.py_lines.specs.Piece.{Piece, spelled}
 use Rattle.py_imports.specs.Action.{says}

@@ -1,6 +1,7 @@
 -- Which pieces may stand before others.
 use Rattle.std.proofs.Common.{◌≡◌, ℕ, Bool, true, false, not, List, [], ◌∷◌, refl}
-use Rattle.py_lines.specs.Neighbours.{is_space_class, is_word_class, is_end_class, MayTouch}
+use Rattle.py_lines.specs.LogicalLine.{is_line_end_class}
+use Rattle.py_lines.specs.Neighbours.{is_space_class, is_word_class, MayTouch}
 use Rattle.py_lines.specs.Piece.{Class, mark, space, word, string, operator, comment, join, line_end, Piece}
 use Rattle.isort_sort.proofs.Stable.Parts.{piece}
 
@@ -15,7 +16,7 @@ after_space (p ∷ ps) = not (is_space_class p.class)
 
 abbrev pub after_comment : List Piece → Bool
 after_comment [] = true
-after_comment (p ∷ ps) = is_end_class p.class
+after_comment (p ∷ ps) = is_line_end_class p.class
 
 -- whether pieces begin with a word
 abbrev pub begins_word : List Piece → Bool

@@ -1,2 +1,2 @@
 //! Tests of isort_settings.
-mod pyproject;
+pub(crate) mod pyproject;

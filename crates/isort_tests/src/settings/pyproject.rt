@@ -1,6 +1,7 @@
 //! Settings files, settings, sections and orders.
 use crate::harness::cases::{
-    Case, PlainCase, all_are_so, are_texts, each_holds_again, each_holds_plainly,
+    Case, LinesCase, PlainCase, all_are_so, are_texts, each_holds_again, each_holds_plainly,
+    each_holds_with,
 };
 use isort_settings::{Modules, Profile, Section, SettingKey, Settings, SettingsError, laws};
 use std::alloc::{AllocError, Global};

@@ -1,5 +1,6 @@
 //! Tests of isort_sort.
 mod blocks;
 mod metered;
-mod sorted;
+pub(crate) mod sorted;
+mod sorted_again;
 pub(crate) mod writing;

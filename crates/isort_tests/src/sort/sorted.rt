@@ -1,5 +1,8 @@
 //! Sorted texts.
-use crate::harness::cases::{Case, PlainCase, all_are_so, each_holds_again, each_holds_plainly};
+use crate::harness::cases::{
+    Case, LinesCase, PlainCase, all_are_so, each_holds_again, each_holds_plainly, each_holds_with,
+};
+use crate::settings::pyproject::OWN;
 use crate::sort::writing::is_written;
 use isort_settings::Settings;
 use isort_sort::{Outcome, SortError, Sorted, blocks, check_code, sort_code};
@@ -70,7 +73,7 @@ impl Case for Under {
     }
 }
 
-const STATEMENTS: &[Under] = &[
+pub(crate) const STATEMENTS: &[Under] = &[
     Under(
         "",
         "from . import z\nimport sys\nimport requests\nfrom __future__ import annotations\nimport os\n",
@@ -128,7 +131,7 @@ fn orders_statements_beside_own_sections(rt: HostRuntime) -> Result<(), Fail> {
     each_holds_with(rt.alloc(), OWN, STATEMENTS)
 }
 
-const MERGED: &[Under] = &[
+pub(crate) const MERGED: &[Under] = &[
     Under(
         "",
         "from a import c as d, b\n",

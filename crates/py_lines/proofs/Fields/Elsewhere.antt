@@ -6,7 +6,7 @@ use Rattle.py_lines.specs.Character.{is_quote, is_r, is_f, is_t}
 use Rattle.py_lines.specs.Piece.{Class, mark, space, word, string, operator, comment, join, line_end, Piece, begins, spelled}
 use Rattle.py_lines.specs.PieceGrammar.{is_prefix, IsNoneOr, InClass, InClassIn, MayPrecede, MayPrecedeIn, AreReadBefore, AreReadIn, Reads, ReadsIn, joined}
 use Rattle.py_lines.specs.Balance.{IsShallow, depth_after}
-use Rattle.py_lines.specs.Lexed.{IsBalancedReading}
+use Rattle.py_lines.specs.Reading.{IsBalancedReading}
 use Rattle.py_lines.specs.FieldStrings.{is_field_prefix, Host, quotes_of, IsFieldString, with_fields, begins_raw, may_have_fields}
 use Rattle.py_lines.specs.Fields.{Fields, fielded, IsShallowWith, ShallowFields, IsFieldReading}
 

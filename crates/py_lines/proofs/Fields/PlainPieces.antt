@@ -4,10 +4,10 @@ use Rattle.py_lines.specs.Piece.{Class, Piece}
 use Rattle.py_lines.specs.PieceGrammar.{InClass, MayPrecede}
 use Rattle.py_lines.specs.declared.mode.Move.{Move}
 use Rattle.py_lines.specs.declared.mode.Move.TheVariants as moves
-use Rattle.py_lines.specs.Private.Machine.{Scanned, text_start, started, moved, run_from, move_of, start_of}
+use Rattle.py_lines.specs.Private.Machine.{Scanned, text_start, started, moved, steps_from, move_of, start_of}
 use Rattle.py_lines.proofs.Pieces.PieceLists.{piece}
-use Rattle.py_lines.proofs.Machine.PieceRuns.{pieces_at, StopsBefore, run_from-append}
-use Rattle.py_lines.proofs.Machine.ReadingRuns.{reach}
+use Rattle.py_lines.proofs.Machine.PieceSteps.{pieces_at, StopsBefore, steps_from-append}
+use Rattle.py_lines.proofs.Machine.ReadingSteps.{reach}
 use Rattle.py_lines.proofs.Machine.Advance.{GrowsIf, closed_grows, started_grows, run_grows}
 
 -- two texts that begin alike: one begins with the other
@@ -32,12 +32,12 @@ cut_at (a ∷ s) (b ∷ t) r u at =
 
 -- the machine goes over a piece, and may stop there
 abbrev Over : Piece → List ℕ → List ℕ → Type 0
-Over p text rest = (to : Scanned) × (run_from (Some text_start) text ≡ Some to) × (pieces_at to ≡ p ∷ []) × ((c : ℕ) (x : List ℕ) → rest ≡ c ∷ x → move_of to.mode c ≡ moves.Breaks)
+Over p text rest = (to : Scanned) × (steps_from (Some text_start) text ≡ Some to) × (pieces_at to ≡ p ∷ []) × ((c : ℕ) (x : List ℕ) → rest ≡ c ∷ x → move_of to.mode c ≡ moves.Breaks)
 
 over : (c : Class) (text rest : List ℕ) → InClass c text → MayPrecede c text rest → Over (piece c text) text rest
 over c text rest is before =
     let reached = reach (piece c text ∷ []) rest (is, before, refl, tt) in
-    (reached.to, ap (run_from (Some text_start)) (sym (append-nil text)) ∙ reached.runs, reached.pieces_are, λ d x shape. subst (StopsBefore reached.to.mode) shape (reached.stops tt))
+    (reached.to, ap (steps_from (Some text_start)) (sym (append-nil text)) ∙ reached.steps, reached.pieces_are, λ d x shape. subst (StopsBefore reached.to.mode) shape (reached.stops tt))
 
 heads : (p q : Piece) (ps : List Piece) → p ∷ ps ≡ q ∷ [] → p ≡ q
 heads p q ps h = cc
@@ -52,10 +52,10 @@ longer p q s t r u c x one two is rest =
     let state = one.0 in
     let end = two.0 in
     let done = pieces_at state in
-    let runs : run_from (started done c (start_of c)) x ≡ Some end =
-    sym (ap (λ (v : Move). run_from (moved state c v) x) (one.3 c (x ++ u) rest))
-    ∙ sym (ap (λ o. run_from o (c ∷ x)) one.1) ∙ sym (run_from-append (Some text_start) s (c ∷ x))
-    ∙ ap (run_from (Some text_start)) (sym is) ∙ two.1 in
+    let runs : steps_from (started done c (start_of c)) x ≡ Some end =
+    sym (ap (λ (v : Move). steps_from (moved state c v) x) (one.3 c (x ++ u) rest))
+    ∙ sym (ap (λ o. steps_from o (c ∷ x)) one.1) ∙ sym (steps_from-append (Some text_start) s (c ∷ x))
+    ∙ ap (steps_from (Some text_start)) (sym is) ∙ two.1 in
     let grown : GrowsIf done (Some end) = subst (GrowsIf done) runs (run_grows x (started done c (start_of c)) done (started_grows done done [] c (start_of c) (sym (append-nil done)))) in
     let whole = closed_grows end.mode end.done end.held in
     heads p q (grown.0 ++ whole.0)
@@ -73,7 +73,7 @@ same_plain c d s t r u is before also after at = go (cut_at s t r u at)
 
     go : Cut s t r u → piece c s ≡ piece d t
     go (alike same) =
-        let states : Some one.0 ≡ Some two.0 = sym one.1 ∙ ap (run_from (Some text_start)) same ∙ two.1 in
+        let states : Some one.0 ≡ Some two.0 = sym one.1 ∙ ap (steps_from (Some text_start)) same ∙ two.1 in
         heads (piece c s) (piece d t) [] (sym one.2 ∙ ap pieces_or states ∙ two.2)
     go (first e x shape rest) = longer (piece c s) (piece d t) s t r u e x one two shape rest
     go (second e x shape rest) = sym (longer (piece d t) (piece c s) t s u r e x two one shape rest)

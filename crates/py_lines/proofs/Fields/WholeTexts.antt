@@ -1,7 +1,8 @@
 -- The logical lines of texts that are read whole with fields.
 use Rattle.std.proofs.Common.{◌≡◌, ℕ, false, None, List, [], sym, ap, ◌∙◌, subst}
 use Rattle.py_lines.specs.LogicalLine.{LogicalLine, lines_of}
-use Rattle.py_lines.specs.Lexed.{Decodes, IsBalancedReading, IsLexed}
+use Rattle.py_lines.specs.Reading.{Decodes, IsBalancedReading}
+use Rattle.py_lines.specs.Lexed.{IsLexed}
 use Rattle.py_lines.specs.FieldStrings.{may_have_fields}
 use Rattle.py_lines.specs.Fields.{IsFieldReading, IsFieldLexed}
 use Rattle.py_lines.proofs.Lexings.Uniqueness.{decoded}

@@ -1,10 +1,8 @@
 -- No token passed is spelled `import` or `from`.
-use Rattle.std.proofs.Common.{◌||◌, ◌+◌, drop, get_or, sym, ap, ◌∙◌}
+use Rattle.std.proofs.Common.{true, false, sym, ap, ◌∙◌}
 use Rattle.std.proofs.lemmas.List.{drop_all}
 use Rattle.std.specs.List.{list_any}
 use Rattle.py_lines.specs.Lines.{line_in}
-use Rattle.py_lines.specs.declared.token.Token.{Token}
-use Rattle.py_lines.specs.declared.token.TokKind.TheVariants as kind
 use Rattle.py_imports.specs.Private.Bindings.{is_first_word}
 use Rattle.py_imports.proofs.FirstWordLemmas.{binds_no_word}
 use Rattle.py_imports.proofs.ShapeLemmas.{any_here}

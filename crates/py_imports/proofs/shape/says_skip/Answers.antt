@@ -1,9 +1,5 @@
 -- No token passed is a comment that says `skip`.
-use Rattle.std.proofs.Common.{◌||◌, ◌+◌, drop, get_or, sym, ap, ◌∙◌}
-use Rattle.std.proofs.lemmas.Option.{slice_get-get_or}
-use Rattle.std.specs.List.{list_any}
-use Rattle.py_lines.specs.declared.token.Token.{Token}
-use Rattle.py_lines.specs.declared.token.TokKind.TheVariants as kind
+use Rattle.std.proofs.Common.{true, false, sym}
 use Rattle.py_imports.specs.Shape.{says_skip}
 use Rattle.py_imports.proofs.ShapeLemmas.{any_here}
 use Rattle.py_imports.proofs.shape.says_skip.Goals as goal

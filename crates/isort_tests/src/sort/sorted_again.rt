@@ -1,5 +1,5 @@
 //! Sorted texts, sorted again under the same settings: they stay as they are.
-use crate::sort::{
+use crate::sort::sorted::{
     ACTIONS, AFTER, BETWEEN, BLOCKS, COMMENTS, MERGED, OF_BLACK, PACKED, STATEMENTS, Under, WRAPPED,
 };
 use isort_settings::Settings;
