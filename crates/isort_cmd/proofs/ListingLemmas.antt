@@ -124,7 +124,7 @@ not_after_top finder ready top = by finder.stand ready top
     not_both b h k = cc
 
     by : (s : Stand) → ready_in s ≡ true → phase_in s ≡ phase.End → ⊥
-    by (stand.End passed) h k = not_both false refl h
+    by (stand.End passed) h k = cc
     by other h k = cc
 
 -- what the errors of a call that asks for what is ready leave
