@@ -7,6 +7,7 @@ pub mod TextSteps
 pub mod LineCount
 pub mod Increments
 pub mod Runs
+pub mod Spans
 pub mod ShortPieces
 pub mod EarlyEnds
 pub mod ByteTable

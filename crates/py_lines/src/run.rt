@@ -3,7 +3,7 @@
 ghost use Rattle.std.specs.Prelude.{◌≡◌, ◌<◌, ◌==◌, ℕ, Bool, true, List, length};
 ghost use Rattle.py_lines.specs.Character.{is_space};
 ghost use Rattle.py_lines.specs.Piece.{begins};
-ghost use Rattle.py_lines.specs.Private.Run.{BeginsSo, CountsSet, HasAsciiQuote, IsRunOf, Marks, is_between, is_in_run, is_ascii_word, is_comment_byte, is_body_byte, is_text_byte, stays};
+ghost use Rattle.py_lines.specs.Private.Run.{BeginsSo, CountsSet, HasAsciiQuote, HasRun, IsRunOf, Marks, Spans, is_between, is_in_run, is_ascii_word, is_comment_byte, is_body_byte, is_text_byte, stays};
 
 use crate::character::is_break;
 use crate::mode::{Mode, Spelling};
@@ -11,6 +11,7 @@ use crate::run::FirstByte::{
     Backslash as K, Bracket as B, Hash as H, LineFeed as L, Operator as O, Other as X, Quote as Q,
     Return as R, Space as S, Word as W,
 };
+use crate::utf8::utf8_prefix;
 use std::simd::prelude::*;
 
 /// Whether the byte is an ASCII letter, a digit or the underscore.
@@ -258,16 +259,44 @@ pub fn comment_run(bytes: &[u8]) -> usize
     }
 }
 
-/// How many bytes a text begins with that leave the open piece as it is, and end no line.
-pub fn run_in(mode: Mode, bytes: &[u8]) -> usize
-    requires quote { HasAsciiQuote mode }
-    ensures { IsRunOf (stays mode) bytes.now result }
+/// How many bytes a text begins with that leave the open piece as it is, and end no line, unless it is a string.
+fn run_in(mode: Mode, bytes: &[u8]) -> usize
+    ensures { HasRun (stays mode) bytes.now result }
 {
     match mode {
         Mode::Space => Run::Space.len_in(bytes),
         Mode::Word(Spelling::Number | Spelling::Name) => later_word_run(bytes),
         Mode::Comment => comment_run(bytes),
-        Mode::Inside(quote) | Mode::Long(quote) => Run::Body(quote as u8).len_in(bytes),
         _ => 0,
+    }
+}
+
+/// How many bytes the body of a string goes on, up to what escapes or ends a line, or to bytes that begin no character.
+#[inline(always)]
+fn body_characters(quote: u8, bytes: &[u8]) -> usize
+    requires quote { quote < 128 }
+    ensures { Spans (is_body_byte quote) bytes.now result }
+{
+    let ascii = Run::Text(quote).len_in(bytes);
+    if ascii == bytes.len() || bytes[ascii].is_ascii() {
+        return ascii;
+    }
+    let rest = &bytes[ascii..];
+    let run = Run::Body(quote).len_in(rest);
+    ascii + utf8_prefix(&rest[..run]).len()
+}
+
+/// How many bytes of whole characters a text begins with that leave the open piece as it is, and end no line.
+#[inline(always)]
+pub fn characters_in(mode: Mode, bytes: &[u8]) -> usize
+    requires quote { HasAsciiQuote mode }
+    ensures { Spans (stays mode) bytes.now result }
+{
+    match mode {
+        Mode::Inside(quote) | Mode::Long(quote) => body_characters(quote as u8, bytes),
+        _ => {
+            let run = run_in(mode, bytes);
+            utf8_prefix(&bytes[..run]).len()
+        }
     }
 }

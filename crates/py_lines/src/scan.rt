@@ -15,10 +15,10 @@ use crate::character::{is_closing, is_line_feed, is_opening};
 use crate::count::Count;
 use crate::fault::FaultKind;
 use crate::mode::{Mode, Move, Start};
-use crate::run::run_in;
+use crate::run::characters_in;
 use crate::token::{TokKind, Token};
 use crate::unit::UnitKind;
-use crate::utf8::{first_character, utf8_prefix};
+use crate::utf8::first_character;
 use crate::whole_pieces::Left;
 use std::alloc::{AllocError, Global};
 
@@ -378,8 +378,7 @@ impl Scan {
         requires quote { HasAsciiQuote self.old.piece.mode }
         ensures { Holds self.old bytes.now result.now self.new }
     {
-        let run = run_in(self.piece.mode, bytes);
-        let len = utf8_prefix(&bytes[..run]).len();
+        let len = characters_in(self.piece.mode, bytes);
         if len > 0 {
             self.stop += len;
             self.count.after_return = false;

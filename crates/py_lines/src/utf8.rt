@@ -1,12 +1,37 @@
 //! The text that bytes begin with.
 
-ghost use Rattle.std.specs.Prelude.{◌≡◌, ◌<◌, ℕ, length, take, drop, slice_index, encode_utf8, IsTrue, IsUtf8, MatchOption};
+ghost use Rattle.std.specs.Prelude.{◌≡◌, ◌<◌, ◌≤◌, ℕ, length, take, drop, slice_index, encode_utf8, IsTrue, IsUtf8, MatchOption};
 ghost use Rattle.std.specs.Char.{IsScalar, len_utf8};
 ghost use Rattle.std.specs.Str.{StartsWithNoChar};
 ghost use Rattle.py_lines.specs.Private.Run.{BeginsWith};
 
+use std::simd::prelude::*;
+
 /// Up to so many bytes are tested for ASCII at once.
 const SHORT: usize = 64;
+
+/// Whether all lanes are ASCII.
+#[inline(always)]
+fn are_ascii(lanes: u8x64) -> bool
+    ensures { IsTrue result → IsUtf8 lanes }
+{
+    lanes.simd_ge(u8x64::splat(128)).to_bitmask() == 0
+}
+
+/// How many bytes of ASCII a text begins with, up to the last whole block of 64.
+fn ascii_blocks(bytes: &[u8]) -> usize
+    ensures within { result ≤ length bytes.now }
+    ensures utf8 { IsUtf8 (take result bytes.now) }
+{
+    let mut len = 0;
+    while bytes.len() - len >= 64 {
+        if !are_ascii(u8x64::from_slice(&bytes[len..])) {
+            return len;
+        }
+        len += 64;
+    }
+    len
+}
 
 /// Whether the bytes are few, and ASCII.
 #[inline(always)]
@@ -33,10 +58,14 @@ pub fn utf8_prefix(bytes: &[u8]) -> &str
         // ASCII is UTF-8.
         return unsafe { std::str::from_utf8_unchecked(bytes) };
     }
-    match std::str::from_utf8(bytes) {
-        Ok(text) => text,
+    let ascii = ascii_blocks(bytes);
+    match std::str::from_utf8(&bytes[ascii..]) {
+        // ASCII and UTF-8 after it are UTF-8.
+        Ok(_) => unsafe { std::str::from_utf8_unchecked(bytes) },
         // Before that byte all is UTF-8.
-        Err(error) => unsafe { std::str::from_utf8_unchecked(&bytes[..error.valid_up_to()]) },
+        Err(error) => unsafe {
+            std::str::from_utf8_unchecked(&bytes[..ascii + error.valid_up_to()])
+        },
     }
 }
 

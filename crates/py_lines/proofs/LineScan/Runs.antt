@@ -1,11 +1,11 @@
 -- Characters that leave the open piece as it is are held in one step.
-use Rattle.std.proofs.Common.{◌≡◌, ℕ, ◌+◌, ◌<◌, ◌≤◌, ◌⊎◌, inl, inr, Bool, true, false, leb, not, ◌||◌, ◌&&◌, ◌==◌, Some, List, [], ◌∷◌, ◌++◌, length, take, drop, slice_index, refl, sym, ap, ◌∙◌, subst, append_assoc, append-nil, arith, ⊎_elim, take-append-drop, length-append, length-take, lit<}
+use Rattle.std.proofs.Common.{◌≡◌, ℕ, ◌+◌, ◌<◌, ◌≤◌, ◌⊎◌, inl, inr, Bool, true, false, leb, not, ◌||◌, ◌&&◌, ◌==◌, Some, List, [], ◌∷◌, ◌++◌, length, take, drop, slice_index, refl, sym, ap, ◌∙◌, subst, append_assoc, append-nil, arith, ⊎_elim, take-append-drop, length-append, lit<}
 use Rattle.std.specs.Prelude.{encode_utf8_all, encode_utf8}
 use Rattle.std.specs.Str.{all_scalars, IsUtf8}
 use Rattle.std.specs.Char.{IsScalar}
 use Rattle.std.specs.List.{list_all}
 use Rattle.std.proofs.lemmas.Bool.{and_parts, and_from, cases_lt, both_ways, eqb-true, false_from_ne_true, or_parts, leb-false}
-use Rattle.std.proofs.lemmas.List.{get_or-append-add, length-take-le, get_or-take, take-take}
+use Rattle.std.proofs.lemmas.List.{get_or-append-add, length-take-le, get_or-take}
 use Rattle.std.proofs.lemmas.Bool.Decides.{nat_tests}
 use Rattle.std.proofs.lemmas.Str.{encodes-append, length-encode, len_utf8_bounds, char_from_byte, byte_from_char}
 use Rattle.py_lines.specs.Character.{is_space, is_word_character, is_break, is_backslash, is_return, is_line_feed}
@@ -19,7 +19,7 @@ use Rattle.py_lines.specs.declared.scan.Scan.{Scan}
 use Rattle.py_lines.specs.Piece.{Piece}
 use Rattle.py_lines.specs.Private.Machine.{Scanned, steps_from, move_of, short_move, long_move, spelling_with, IsFull, Holds as HoldsOpen}
 use Rattle.py_lines.specs.Private.Scan.{Tallies, IsStacked, IsUnderWay, line_start, stack_of, counts_after}
-use Rattle.py_lines.specs.Private.Run.{IsRunOf, is_ascii_word, is_body_byte, stays, Holds, with_bytes, HasAsciiQuote, Reached}
+use Rattle.py_lines.specs.Private.Run.{is_ascii_word, is_body_byte, stays, Holds, with_bytes, HasAsciiQuote, Reached}
 use Rattle.unicode_ident.proofs.IdentLemmas.{is_xid_continue-ascii, is_xid_start-ascii}
 use Rattle.py_lines.specs.Character.{is_one_of}
 use Rattle.std.specs.Prelude.{codes, nat_le}
@@ -187,12 +187,6 @@ held_in m text n prefix quote within each =
           let short : i < n = omega (arith, less, ap length prefix.1.1, size) in
           subst (λ (t : List ℕ). stays m (slice_index t i) ≡ true) (sym prefix.1.1) (subst (λ (b : ℕ). stays m b ≡ true) (sym (get_or-take n text i 0 short)) (each i short)));
     }
-
--- the text that a run begins with
-pub held_prefix : (m : Mode) (bytes text : List ℕ) (n : ℕ) → IsUtf8 text → HasAsciiQuote m → text ≡ take (length text) (take n bytes) → IsRunOf (stays m) bytes n → HeldIn m bytes (length text)
-held_prefix m bytes text n utf8 quote prefix run =
-    let size : length text ≤ n = omega (arith, ap length prefix, length-take (length text) (take n bytes), length-take n bytes) in
-    held_in m bytes (length text) (subst IsUtf8 (prefix ∙ take-take (length text) n bytes size) utf8) quote (omega (arith, size, run.within)) (λ i less. run.each i (omega (arith, less, size)))
 
 full_from : (run : List ℕ) → 0 < byte_len run → IsFull run
 full_from [] some = absurd (omega (arith, some))

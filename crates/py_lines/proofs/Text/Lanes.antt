@@ -1,9 +1,12 @@
 -- Lanes that pass a test, marked by vectors of 16 bytes.
-use Rattle.std.proofs.Common.{◌≡◌, ℕ, ◌%◌, ◌^◌, ◌≤◌, ◌<◌, ◌&&◌, ◌||◌, not, List, [], ◌∷◌, Bool, true, false, cond, ◌+◌, ◌-◌, take, drop, slice_index, ltb, eqb, length, map, replicate, refl, sym, ap, inl, inr, ◌∙◌, subst, arith, w8, bit_and, bit_or}
+use Rattle.std.proofs.Common.{◌≡◌, ℕ, ◌%◌, ◌^◌, ◌≤◌, ◌<◌, ◌&&◌, ◌||◌, not, List, [], ◌∷◌, Bool, true, false, cond, ◌+◌, ◌-◌, take, drop, slice_index, leb, ltb, eqb, length, map, replicate, refl, sym, ap, inl, inr, ◌∙◌, subst, arith, w8, bit_and, bit_or}
 use Rattle.std.specs.List.{prefix_len}
 use Rattle.std.specs.Simd.Lanes.{chunk, zip2, sel_l, mask_l, top}
 use Rattle.std.specs.Int.Count.{count_trailing_zeros}
-use Rattle.std.proofs.lemmas.Simd.{length-chunk, get_or-chunk, map-map, tops_compared, zip2_splat, zip2_splat_left, zip2_of_maps, first_set_mask_l, bitmask_splat}
+use Rattle.std.proofs.lemmas.Simd.{length-chunk, get_or-chunk, map-map, tops_compared, zip2_splat, zip2_splat_left, zip2_of_maps, first_set_mask_l, bitmask_splat, mask_l-mod}
+use Rattle.std.proofs.lemmas.Str.Ascii.{IsAscii-from_all}
+use Rattle.std.proofs.lemmas.List.Elements.{All-from_get_or}
+use Rattle.std.specs.Str.{IsAscii}
 use Rattle.std.proofs.lemmas.List.{take_all, length-map, length-drop, get_or-drop}
 use Rattle.std.proofs.lemmas.List.Sums.{prefix_len-le-length, prefix_len_passes, prefix_len_stops}
 use Rattle.std.proofs.lemmas.Bool.{ne_eqb, cases_lt}
@@ -149,3 +152,21 @@ run_goes_on p xs i n le before taken =
           ];
       ends = λ lt. subst (λ x. p x ≡ false) (get_or-drop i xs n 0) (run.ends (omega (arith, length-drop i xs)));
     }
+
+-- sixty-four lanes none of which is 128 or above
+abbrev pub high_bits : List ℕ → ℕ
+high_bits vs = mask_l (map (top 7) (zip2 (λ a b. cond (leb a b) 255 0) (replicate 64 128) vs)) % 2 ^ 64
+
+high_bits_are : (vs : List ℕ) → length vs ≡ 64 → high_bits vs ≡ mask_l (map (λ x. leb 128 x) vs)
+high_bits_are vs long =
+    ap (λ ms. mask_l ms % 2 ^ 64) (tops_compared w8 leb (replicate 64 128) vs ∙ zip2_splat_left leb 128 64 vs long)
+    ∙ mask_l-mod (map (λ x. leb 128 x) vs) 64 (omega (arith, length-map vs (λ x. leb 128 x), long))
+
+pub low_lanes : (vs : List ℕ) → length vs ≡ 64 → high_bits vs ≡ 0 → IsAscii vs
+low_lanes vs long none =
+    let all : 64 ≡ prefix_len (λ x. not (leb 128 x)) vs =
+    sym (ap (λ (m : ℕ). cond (eqb m 0) 64 (count_trailing_zeros 64 m)) (sym (high_bits_are vs long) ∙ none)) ∙ first_set_mask_l (λ x. leb 128 x) vs 64 long (omega arith) in
+    IsAscii-from_all vs (All-from_get_or (λ b. b < 128) vs 0 (λ i less. low (slice_index vs i) (prefix_len_passes (λ x. not (leb 128 x)) vs i 0 (omega (arith, less, long, all)))))
+  where
+    low : (b : ℕ) → not (leb 128 b) ≡ true → b < 128
+    low b h = grind (arith, h)

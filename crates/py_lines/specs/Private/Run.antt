@@ -40,6 +40,16 @@ pub record IsRunOf (passes : ℕ → Bool) (bytes : List ℕ) (len : ℕ) : Type
   pub each : (i : ℕ) → i < len → passes (slice_index bytes i) ≡ true
   pub ends : len < length bytes → passes (slice_index bytes len) ≡ false
 
+-- the first bytes pass, so many of them
+pub record HasRun (passes : ℕ → Bool) (bytes : List ℕ) (len : ℕ) : Type 0 where
+  pub within : len ≤ length bytes
+  pub each : (i : ℕ) → i < len → passes (slice_index bytes i) ≡ true
+
+-- and they are whole characters
+pub record Spans (passes : ℕ → Bool) (bytes : List ℕ) (len : ℕ) : Type 0 where
+  pub run : HasRun passes bytes len
+  pub utf8 : IsUtf8 (take len bytes)
+
 -- the bytes from one to another
 abbrev pub is_between : ℕ → ℕ → ℕ → Bool
 is_between low high c = nat_le low c && nat_le c high

@@ -1,16 +1,27 @@
-use Rattle.std.proofs.Common.{length, sym, ap, ◌∙◌, subst, arith, length-take-le}
-use Rattle.std.specs.Str.{IsValidUpTo}
-use Rattle.py_lines.proofs.Text.Utf8Prefixes.{whole_text, opening_text}
+use Rattle.std.proofs.Common.{length, ◌+◌, ◌-◌, take, drop, sym, ap, ◌∙◌, subst, length-take-le}
+use Rattle.std.specs.Str.{StartsWithNoChar, IsValidUpTo}
+use Rattle.py_lines.proofs.Text.Utf8Prefixes.{whole_text, joined_text, joined_prefix}
 use Rattle.py_lines.proofs.utf8.utf8_prefix.Goals as goal
 
 pub returns-then-is_short_ascii-clause-bad : goal.returns-then-is_short_ascii-clause-bad
 returns-then-is_short_ascii-clause-bad c = whole_text c.from_utf8_unchecked.result.now c.args.bytes.now c.from_utf8_unchecked.ensures
 
+pub from_utf8_unchecked-requires-in-Ok : goal.from_utf8_unchecked-requires-in-Ok
+from_utf8_unchecked-requires-in-Ok c = joined_text c.args.bytes.now c.ascii_blocks-ascii.result c.ascii_blocks-ascii.ensures.utf8 c.in-Ok.ensures.cases.1
+
 pub returns-in-Ok-clause-bad : goal.returns-in-Ok-clause-bad
-returns-in-Ok-clause-bad c = whole_text c.in-Ok.text.now c.args.bytes.now c.in-Ok.ensures.cases.0
+returns-in-Ok-clause-bad c = whole_text c.from_utf8_unchecked-in-Ok.result.now c.args.bytes.now c.from_utf8_unchecked-in-Ok.ensures
+
+pub from_utf8_unchecked-requires-in-Err : goal.from_utf8_unchecked-requires-in-Err
+from_utf8_unchecked-requires-in-Err c =
+    let n = c.ascii_blocks-ascii.result in
+    let bytes = c.args.bytes.now in
+    (joined_prefix bytes n c.valid_up_to.result c.ascii_blocks-ascii.ensures.utf8 (subst (IsValidUpTo (take (length bytes - n) (drop n bytes))) (sym c.valid_up_to.ensures) c.in-Err.ensures.cases.1)).utf8
 
 pub returns-in-Err-clause-bad : goal.returns-in-Err-clause-bad
 returns-in-Err-clause-bad c =
-    let longest = subst (IsValidUpTo c.args.bytes.now) (sym c.valid_up_to.ensures) c.in-Err.ensures.cases.1 in
-    let text = c.from_utf8_unchecked-in-Err.result.now in
-    opening_text text c.args.bytes.now c.valid_up_to.result longest (ap length c.from_utf8_unchecked-in-Err.ensures ∙ length-take-le c.valid_up_to.result c.args.bytes.now (omega (arith, longest.short)))
+    let n = c.ascii_blocks-ascii.result in
+    let bytes = c.args.bytes.now in
+    let v = c.valid_up_to.result in
+    let joined = joined_prefix bytes n v c.ascii_blocks-ascii.ensures.utf8 (subst (IsValidUpTo (take (length bytes - n) (drop n bytes))) (sym c.valid_up_to.ensures) c.in-Err.ensures.cases.1) in
+    subst (λ k. StartsWithNoChar (drop k bytes)) (sym (ap length c.from_utf8_unchecked-in-Err.ensures ∙ length-take-le (n + v) bytes joined.short)) joined.bad

@@ -1,0 +1,58 @@
+-- Whole characters that leave the open piece as it is.
+use Rattle.std.proofs.Common.{◌≡◌, ℕ, ◌+◌, ◌-◌, ◌<◌, ◌≤◌, Bool, true, List, length, take, drop, slice_index, inl, inr, sym, ap, ◌∙◌, subst, arith, length-drop, length-take, take_all}
+use Rattle.std.specs.Prelude.{IsUtf8, nat_lt}
+use Rattle.std.proofs.lemmas.Bool.{and_parts, cases_lt}
+use Rattle.std.proofs.lemmas.Bool.Decides.{nat_tests}
+use Rattle.std.proofs.lemmas.List.{length-take-le, get_or-take, get_or-drop, take-take}
+use Rattle.std.proofs.lemmas.List.Elements.{All-from_get_or}
+use Rattle.std.proofs.lemmas.Str.{IsUtf8-from_ascii, IsUtf8-append}
+use Rattle.std.proofs.lemmas.Str.Ascii.{IsAscii-from_all}
+use Rattle.std.proofs.Math.Seq.{take-add}
+use Rattle.py_lines.specs.Private.Run.{HasRun, IsRunOf, Spans, is_body_byte, is_text_byte}
+
+-- bytes below 128 are characters
+ascii_utf8 : (bytes : List ℕ) (n : ℕ) → n ≤ length bytes → ((i : ℕ) → i < n → slice_index bytes i < 128) → IsUtf8 (take n bytes)
+ascii_utf8 bytes n within low =
+    let size : length (take n bytes) ≡ n = length-take-le n bytes within in
+    IsUtf8-from_ascii (take n bytes) (IsAscii-from_all (take n bytes) (All-from_get_or (λ b. b < 128) (take n bytes) 0 (λ i less.
+    let short : i < n = omega (arith, less, size) in
+    subst (λ (b : ℕ). b < 128) (sym (get_or-take n bytes i 0 short)) (low i short))))
+
+-- a run of ASCII in the body of a string
+pub text_spans : (q : ℕ) (bytes : List ℕ) (n : ℕ) → IsRunOf (is_text_byte q) bytes n → Spans (is_body_byte q) bytes n
+text_spans q bytes n is = record {
+  run = record { within = is.within; each = λ i less. (and_parts (is_body_byte q (slice_index bytes i)) (nat_lt (slice_index bytes i) 128) (is.each i less)).0 };
+  utf8 = ascii_utf8 bytes n is.within (λ i less. low (slice_index bytes i) (and_parts (is_body_byte q (slice_index bytes i)) (nat_lt (slice_index bytes i) 128) (is.each i less)).1);
+}
+  where
+    low : (b : ℕ) → nat_lt b 128 ≡ true → b < 128
+    low b h = grind (arith, nat_tests)
+
+-- the text that a run begins with
+pub run_spans : (passes : ℕ → Bool) (bytes text : List ℕ) (r : ℕ) → HasRun passes bytes r → IsUtf8 text → text ≡ take (length text) (take r bytes) → Spans passes bytes (length text)
+run_spans passes bytes text r run utf8 prefix =
+    let size : length text ≤ r = omega (arith, ap length prefix, length-take (length text) (take r bytes), length-take r bytes) in
+    record {
+      run = record { within = omega (arith, size, run.within); each = λ i less. run.each i (omega (arith, less, size)) };
+      utf8 = subst IsUtf8 (prefix ∙ take-take (length text) r bytes size) utf8;
+    }
+
+-- characters after characters
+pub spans_on : (passes : ℕ → Bool) (bytes : List ℕ) (n m : ℕ) → Spans passes bytes n → Spans passes (take (length bytes - n) (drop n bytes)) m → Spans passes bytes (n + m)
+spans_on passes bytes n m first taken =
+    let more : Spans passes (drop n bytes) m = subst (λ (t : List ℕ). Spans passes t m) (take_all (length bytes - n) (drop n bytes) (omega (arith, length-drop n bytes))) taken in
+    record {
+      run = record {
+        within = omega (arith, first.run.within, more.run.within, length-drop n bytes);
+        each = λ i less.
+            elim (cases_lt i n) [
+              | inl low ↦ first.run.each i low
+              | inr high ↦ subst (λ (b : ℕ). passes b ≡ true) (get_or-drop n bytes (i - n) 0 ∙ ap (λ j. slice_index bytes j) (omega arith)) (more.run.each (i - n) (omega arith))
+            ];
+      };
+      utf8 = subst IsUtf8 (sym (take-add n m bytes)) (IsUtf8-append (take n bytes) (take m (drop n bytes)) first.utf8 more.utf8);
+    }
+
+-- a run, with nothing said of what follows
+pub has_run : (passes : ℕ → Bool) (bytes : List ℕ) (n : ℕ) → IsRunOf passes bytes n → HasRun passes bytes n
+has_run passes bytes n is = record { within = is.within; each = is.each }
