@@ -14,5 +14,6 @@ pub mod ByteTable
 pub mod FirstBytes
 pub mod Comments
 pub mod CarriageReturns
+pub mod TokenRuns
 pub mod NextPieces
 pub mod LineStops

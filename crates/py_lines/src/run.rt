@@ -1,6 +1,6 @@
 //! Runs of bytes that leave the open piece as it is.
 
-ghost use Rattle.std.specs.Prelude.{◌≡◌, ◌<◌, ◌==◌, ℕ, Bool, true, List, length};
+ghost use Rattle.std.specs.Prelude.{◌≡◌, ◌<◌, ◌≤◌, ◌==◌, ℕ, Bool, true, List, length};
 ghost use Rattle.py_lines.specs.Character.{is_space};
 ghost use Rattle.py_lines.specs.Piece.{begins};
 ghost use Rattle.py_lines.specs.Private.Run.{BeginsSo, CountsSet, HasAsciiQuote, HasRun, IsRunOf, Marks, Spans, is_between, is_in_run, is_ascii_word, is_comment_byte, is_body_byte, is_text_byte, stays};
@@ -193,6 +193,16 @@ impl Run {
             Run::Body(quote) => body(quote, lanes),
             Run::Text(quote) => text(quote, lanes),
         }
+    }
+
+    /// How many of the first sixteen bytes are such, up to the first that isn't.
+    #[inline(always)]
+    pub fn len_in_sixteen(self, bytes: &[u8]) -> usize
+        requires { 16 ≤ length bytes.now }
+        ensures most { result ≤ 16 }
+        ensures run { result < 16 → IsRunOf (is_in_run self) bytes.now result }
+    {
+        set_first(self.mark(u8x16::from_slice(bytes)))
     }
 
     /// How many such bytes a text begins with. They are taken sixteen at a time.

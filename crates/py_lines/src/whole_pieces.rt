@@ -1,10 +1,10 @@
 //! Pieces that bytes hold whole. Each is taken at once, after closed ones.
 
-ghost use Rattle.std.specs.Prelude.{◌≡◌, ◌+◌, ◌<◌, ◌^◌, true, false, length, OnOk, IfOk};
+ghost use Rattle.std.specs.Prelude.{◌≡◌, ◌+◌, ◌<◌, ◌^◌, true, false, length, slice_index, OnOk, IfOk};
 ghost use Rattle.py_lines.specs.Character.{is_hash, is_operator, is_quote, is_return, is_space};
 ghost use Rattle.py_lines.specs.Piece.{begins};
 ghost use Rattle.py_lines.specs.Private.Scan.{stack_of};
-ghost use Rattle.py_lines.specs.Private.Run.{WhereverReached, is_free, opened, AddsToken, TakesRun, TakesText, TakesBracket, TakesLineFeed, TakesReturn, TakesPiece, TakesRemark, line_ended, word_mode, space_mode, IsNoLonger, LeavesOff, is_ascii_word, follows, may_begin};
+ghost use Rattle.py_lines.specs.Private.Run.{WhereverReached, is_free, opened, AddsTokens, IsOneSpace, IsShortWord, MeetsToken, TakesTokens, follows_space, AddsToken, TakesRun, TakesText, TakesBracket, TakesLineFeed, TakesReturn, TakesPiece, TakesRemark, line_ended, word_mode, space_mode, IsNoLonger, LeavesOff, is_ascii_word, follows, may_begin};
 ghost use Rattle.py_lines.specs.Token.{is_comment};
 
 use crate::character::is_line_feed;
@@ -12,8 +12,12 @@ use crate::mode::{Mode, Spelling};
 use crate::run::{FirstByte, Run, comment_run, space_run};
 use crate::scan::{OpenPiece, Scan};
 use crate::token::{TokKind, Token};
+use crate::unit::UnitKind;
 use crate::utf8::is_utf8;
 use std::alloc::AllocError;
+
+/// So many bytes have to stand after a token that `add_tokens` looks for, so that it needn't ask for each whether there are more.
+const WINDOW: usize = 17;
 
 /// What was taken after closed pieces.
 #[derive(Clone, Copy)]
@@ -269,6 +273,123 @@ impl Scan {
         Taken::LineEnd(1)
     }
 
+    /// Whether a piece that may follow space begins so.
+    #[inline(always)]
+    fn follows_space(&self, byte: u8) -> bool
+        ensures { result ≡ true → follows_space (stack_of self.now.brackets) byte }
+    {
+        match FirstByte::of(byte) {
+            FirstByte::Word | FirstByte::Operator | FirstByte::Quote => true,
+            FirstByte::LineFeed | FirstByte::Return => true,
+            FirstByte::Hash | FirstByte::Backslash => true,
+            FirstByte::Bracket => self.brackets.allows(byte as char),
+            FirstByte::Space | FirstByte::Other => false,
+        }
+    }
+
+    /// The length of the space that the bytes begin with, if it is one byte before a piece that may follow; else 0.
+    #[inline(always)]
+    fn one_space(&self, bytes: &[u8]) -> usize
+        requires { 1 < length bytes.now }
+        ensures { IsOneSpace (stack_of self.now.brackets) bytes.now result }
+    {
+        if bytes[0] == b' ' && self.follows_space(bytes[1]) {
+            1
+        } else {
+            0
+        }
+    }
+
+    /// The word that the bytes begin with, by their first, and its length, if it is short and its end shows.
+    #[inline(always)]
+    fn short_word(&self, first: u8, bytes: &[u8]) -> Option<(TokKind, usize)>
+        requires bytes { 17 < length bytes.now }
+        requires first { first ≡ slice_index bytes.now 0 }
+        requires begins { begins is_ascii_word bytes.now ≡ true }
+        ensures { IsShortWord (stack_of self.now.brackets) bytes.now result }
+    {
+        let len = Run::Word.len_in_sixteen(bytes);
+        if len == 16 || !self.follows(bytes[len]) {
+            return None;
+        }
+        if first.is_ascii_digit() {
+            Some((TokKind::Number, len))
+        } else {
+            Some((TokKind::Name, len))
+        }
+    }
+
+    /// The token that the bytes begin with at this byte of the line, after closed pieces, and its length: a short word, or
+    /// an operator that may stand there. Its brackets have met then.
+    #[inline(always)]
+    fn meet_token(
+        &mut self,
+        bytes: &[u8],
+        place: usize,
+    ) -> Result<Option<(TokKind, usize)>, AllocError>
+        requires { 17 < length bytes.now }
+        ensures { MeetsToken self.old place bytes.now result self.new }
+    {
+        let first = bytes[0];
+        match FirstByte::of(first) {
+            FirstByte::Word => Ok(self.short_word(first, bytes)),
+            FirstByte::Operator => Ok(Some((TokKind::Op(first), 1))),
+            FirstByte::Bracket => {
+                if !self.brackets.meet(first as char, place)? {
+                    return Ok(None);
+                }
+                Ok(Some((TokKind::Op(first), 1)))
+            }
+            _ => Ok(None),
+        }
+    }
+
+    /// Adds the tokens that follow one another from here on, after closed pieces, and answers how many bytes they have with
+    /// the space between them. Nothing else of the scan is changed.
+    #[inline(always)]
+    fn add_tokens(&mut self, bytes: &[u8]) -> Result<usize, AllocError>
+        requires free { is_free self.old.piece.mode ≡ true }
+        requires bytes { self.old.stop + length bytes.now < 2 ^ 64 }
+        ensures { AddsTokens self.old bytes.now result self.new }
+    {
+        let mut rest = bytes;
+        let mut place = self.stop;
+        while rest.len() > WINDOW {
+            let Some((kind, len)) = self.meet_token(rest, place)? else {
+                return Ok(bytes.len() - rest.len());
+            };
+            self.tokens.push(Token {
+                kind,
+                start: place,
+                stop: place + len,
+                line: self.count.line,
+            })?;
+            let next = len + self.one_space(&rest[len..]);
+            rest = &rest[next..];
+            place += next;
+        }
+        Ok(bytes.len() - rest.len())
+    }
+
+    /// Takes the tokens that follow one another from here on, after closed pieces, with the space between them, and answers
+    /// how many bytes they have.
+    #[inline(always)]
+    fn take_tokens(&mut self, bytes: &[u8]) -> Result<usize, AllocError>
+        requires free { is_free self.old.piece.mode ≡ true }
+        requires bytes { self.old.stop + length bytes.now < 2 ^ 64 }
+        ensures { TakesTokens self.old bytes.now result self.new }
+    {
+        let len = self.add_tokens(bytes)?;
+        if len > 0 {
+            self.stop += len;
+            self.count.after_return = false;
+            self.margin = false;
+            self.kind = UnitKind::Code;
+            self.free();
+        }
+        Ok(len)
+    }
+
     /// Takes the piece that the bytes begin with, after closed pieces: a word, space, an operator, a string, a comment or
     /// a line end.
     #[inline(always)]
@@ -307,6 +428,8 @@ impl Scan {
     {
         let mut rest = bytes;
         'pieces: while self.piece.mode.is_free() {
+            let tokens = self.take_tokens(rest)?;
+            rest = &rest[tokens..];
             match self.piece(rest)? {
                 Taken::Bytes(len) => rest = &rest[len..],
                 Taken::LineEnd(len) => return Ok(Left::LineEnd(len)),

@@ -1,7 +1,7 @@
 -- Runs of bytes that a text begins with, which leave the open piece as it is.
-use Rattle.std.specs.Prelude.{◌&&◌, is_some, Some, Result, Ok, Err, ◌≡◌, ℕ, ◌+◌, ◌<◌, ◌≤◌, ◌⊎◌, Bool, true, false, ◌==◌, ◌||◌, not, nat_lt, nat_le, if◌then◌else◌, map, List, [], ◌∷◌, ◌++◌, length, take, drop, slice_index, codes, encode_utf8, encode_utf8_all}
+use Rattle.std.specs.Prelude.{◌&&◌, is_some, Option, None, Some, Result, Ok, Err, ◌≡◌, ℕ, ◌+◌, ◌<◌, ◌≤◌, ◌⊎◌, Bool, true, false, ◌==◌, ◌||◌, not, nat_lt, nat_le, if◌then◌else◌, map, List, [], ◌∷◌, ◌++◌, length, take, drop, slice_index, codes, encode_utf8, encode_utf8_all}
 use Rattle.std.specs.Str.{all_scalars, byte, IsUtf8}
-use Rattle.std.specs.Char.{is_ascii_alphanumeric, len_utf8, IsScalar}
+use Rattle.std.specs.Char.{is_ascii_alphanumeric, is_ascii_digit, len_utf8, IsScalar}
 use Rattle.std.specs.List.{list_all, prefix_len}
 use Rattle.py_lines.specs.Character.{is_one_of}
 use Rattle.py_lines.specs.Balance.{is_opening, is_closing}
@@ -312,19 +312,6 @@ TakesWord = TakesRun is_ascii_word follows word_mode
 abbrev pub TakesSpace : Scan → List ℕ → ℕ → Scan → Type 0
 TakesSpace = TakesRun is_space may_begin space_mode
 
--- such a piece came, or another that ends no line
-abbrev pub TakesBytes : Scan → List ℕ → ℕ → Scan → Type 0
-TakesBytes old bytes len new =
-    TakesWord old bytes len new ⊎ (TakesSpace old bytes len new ⊎ (TakesOperator old bytes len new ⊎ (TakesString old bytes len new
-    ⊎ (TakesComment old bytes len new ⊎ TakesLineEnd old bytes (taken.Bytes len) new))))
-
--- a piece came after closed ones, or nothing was taken
-abbrev pub TakesPiece : Scan → List ℕ → Result Taken AllocError → Scan → Type 0
-TakesPiece old bytes (Ok taken.Nothing) new = new ≡ old
-TakesPiece old bytes (Ok (taken.Bytes len)) new = TakesBytes old bytes len new
-TakesPiece old bytes (Ok (taken.LineEnd len)) new = TakesLineEnd old bytes (taken.LineEnd len) new
-TakesPiece old bytes (Err e) new = Unit {0}
-
 -- the scan has closed the open piece, since the next byte shows its end
 pub record IsShut (before scan : Scan) (rest : List ℕ) : Type 0 where
   pub closes : Closes before scan
@@ -337,6 +324,85 @@ pub record ReachedShut (m : Mode) (at : ℕ) (text : List ℕ) (scan : Scan) (re
   pub unshut : Scan
   pub reached : Reached m at text unshut rest
   pub how : (scan ≡ unshut) ⊎ IsShut unshut scan rest
+
+-- such a piece came, or another that ends no line
+abbrev pub TakesBytes : Scan → List ℕ → ℕ → Scan → Type 0
+TakesBytes old bytes len new =
+    TakesWord old bytes len new ⊎ (TakesSpace old bytes len new ⊎ (TakesOperator old bytes len new ⊎ (TakesString old bytes len new
+    ⊎ (TakesComment old bytes len new ⊎ TakesLineEnd old bytes (taken.Bytes len) new))))
+
+-- so does what may stand after a space: no space, and what may begin a piece
+abbrev pub follows_space : List Bracket → ℕ → Type 0
+follows_space st c = (is_space c ≡ false) × (may_begin st c ≡ true)
+
+-- one byte of space before a piece that may follow, or nothing
+abbrev pub IsOneSpace : List Bracket → List ℕ → ℕ → Type 0
+IsOneSpace st bytes len = (len ≡ 0) ⊎ ((len ≡ 1) × IsRunOf is_space bytes 1 × (begins (may_begin st) (drop 1 bytes) ≡ true))
+
+-- the token of a word of so many bytes
+abbrev pub word_token : List ℕ → TokKind
+word_token bytes = if begins is_ascii_digit bytes then kind.Number else kind.Name
+
+-- a word of at most sixteen bytes whose end shows
+abbrev pub IsShortWord : List Bracket → List ℕ → Option (TokKind × ℕ) → Type 0
+IsShortWord st bytes None = Unit {0}
+IsShortWord st bytes (Some (k, len)) =
+    (len < 16) × IsRunOf is_ascii_word bytes len × (begins (follows st) (drop len bytes) ≡ true) × (k ≡ word_token bytes)
+
+-- the token that these bytes begin with at this byte, where these brackets are open, and others after it
+abbrev pub IsNextToken : Brackets → Brackets → ℕ → List ℕ → TokKind → ℕ → Type 0
+IsNextToken before after place bytes k len =
+    (old new : Scan) → old.brackets ≡ before → old.stop ≡ place → AddsToken (with_brackets old after) k len new
+    → TakesWord old bytes len new ⊎ TakesOperator old bytes len new
+
+-- such a token was met, or the scan is as it was
+abbrev pub MeetsToken : Scan → ℕ → List ℕ → Result (Option (TokKind × ℕ)) AllocError → Scan → Type 0
+MeetsToken old place bytes (Ok None) new = new ≡ old
+MeetsToken old place bytes (Ok (Some (k, len))) new =
+    (new ≡ with_brackets old new.brackets) × (0 < len) × (len < 16) × IsNextToken old.brackets new.brackets place bytes k len
+MeetsToken old place bytes (Err e) new = Unit {0}
+
+-- the scan after so many bytes of tokens and of space between them, where it has these tokens and brackets already
+abbrev pub coded : Scan → ℕ → Scan
+coded scan len = record (freed (with_bytes scan len)) { margin = false; kind = unit_kind.Code }
+
+abbrev pub coded_if : Bool → Scan → ℕ → Scan
+coded_if true scan len = coded scan len
+coded_if false scan len = scan
+
+-- the scan goes on from these bytes to those, in each line and each text
+abbrev pub LeadsTo : Scan → List ℕ → Scan → List ℕ → Type 0
+LeadsTo old bytes new rest =
+    (m : Mode) (line : ℕ) (whole : List ℕ) → IsSound (line_start m) [] → ReachedShut m line whole old bytes → ReachedShut m line whole new rest
+
+-- tokens were added, and the scan has still to pass so many bytes
+pub record HasAdded (old : Scan) (bytes : List ℕ) (len : ℕ) (new : Scan) : Type 0 where
+  pub within : len ≤ length bytes
+  pub same : new ≡ record old { tokens = new.tokens; brackets = new.brackets }
+  pub leads : LeadsTo old bytes (coded_if (nat_lt 0 len) new len) (drop len bytes)
+
+abbrev pub AddsTokens : Scan → List ℕ → Result ℕ AllocError → Scan → Type 0
+AddsTokens old bytes (Ok len) new = HasAdded old bytes len new
+AddsTokens old bytes (Err e) new = Unit {0}
+
+-- tokens came after closed pieces, of so many bytes with the space between them
+pub record HasTaken (old : Scan) (bytes : List ℕ) (len : ℕ) (new : Scan) : Type 0 where
+  pub within : len ≤ length bytes
+  pub free : is_free new.piece.mode ≡ true
+  pub stop : new.stop ≡ old.stop + len
+  pub line : new.count.line ≡ old.count.line
+  pub leads : LeadsTo old bytes new (drop len bytes)
+
+abbrev pub TakesTokens : Scan → List ℕ → Result ℕ AllocError → Scan → Type 0
+TakesTokens old bytes (Ok len) new = HasTaken old bytes len new
+TakesTokens old bytes (Err e) new = Unit {0}
+
+-- a piece came after closed ones, or nothing was taken
+abbrev pub TakesPiece : Scan → List ℕ → Result Taken AllocError → Scan → Type 0
+TakesPiece old bytes (Ok taken.Nothing) new = new ≡ old
+TakesPiece old bytes (Ok (taken.Bytes len)) new = TakesBytes old bytes len new
+TakesPiece old bytes (Ok (taken.LineEnd len)) new = TakesLineEnd old bytes (taken.LineEnd len) new
+TakesPiece old bytes (Err e) new = Unit {0}
 
 -- what pieces leave of these bytes is no longer than they are
 abbrev pub IsNoLonger : List ℕ → Left → Type 0
