@@ -3,7 +3,8 @@
 ghost use Rattle.std.specs.Prelude.{◌≡◌, ◌<◌, ◌≤◌, ◌==◌, ℕ, Bool, true, List, length};
 ghost use Rattle.py_lines.specs.Character.{is_space};
 ghost use Rattle.py_lines.specs.Piece.{begins};
-ghost use Rattle.py_lines.specs.Private.Run.{BeginsSo, CountsSet, HasAsciiQuote, HasRun, IsRunOf, Marks, Spans, is_between, is_in_run, is_ascii_word, is_comment_byte, is_body_byte, is_text_byte, stays};
+ghost use Rattle.py_lines.specs.declared.mode.Mode.TheVariants.{Word};
+ghost use Rattle.py_lines.specs.Private.Run.{BeginsSo, CountsSet, HasAsciiQuote, HasRun, IsRunOf, IsWordBeforeMore, Marks, Spans, is_between, is_in_run, is_ascii_word, is_comment_byte, is_body_byte, is_text_byte, stays};
 
 use crate::character::is_break;
 use crate::mode::{Mode, Spelling};
@@ -11,7 +12,7 @@ use crate::run::FirstByte::{
     Backslash as K, Bracket as B, Hash as H, LineFeed as L, Operator as O, Other as X, Quote as Q,
     Return as R, Space as S, Word as W,
 };
-use crate::utf8::utf8_prefix;
+use crate::utf8::utf8_len;
 use std::simd::prelude::*;
 
 /// Whether the byte is an ASCII letter, a digit or the underscore.
@@ -246,6 +247,31 @@ pub fn space_run(bytes: &[u8]) -> usize
     }
 }
 
+/// How many bytes the word has that a text begins with, if more than one byte follows. Most have fewer than sixteen.
+#[inline(always)]
+pub fn word_before_more(bytes: &[u8]) -> Option<usize>
+    requires { 17 < length bytes.now }
+    ensures { IsWordBeforeMore bytes.now result }
+{
+    let len = Run::Word.len_in_sixteen(bytes);
+    if len < 16 {
+        return Some(len);
+    }
+    let long = long_word_run(bytes);
+    if long < bytes.len() - 1 {
+        Some(long)
+    } else {
+        None
+    }
+}
+
+/// How many bytes of words a text begins with. It is seldom called.
+fn long_word_run(bytes: &[u8]) -> usize
+    ensures { IsRunOf is_ascii_word bytes.now result }
+{
+    Run::Word.len_in(bytes)
+}
+
 /// How many bytes of words a text begins with, where it mostly begins with none: after a character of another script.
 fn later_word_run(bytes: &[u8]) -> usize
     ensures { IsRunOf is_ascii_word bytes.now result }
@@ -254,6 +280,16 @@ fn later_word_run(bytes: &[u8]) -> usize
         return 0;
     }
     Run::Word.len_in(bytes)
+}
+
+/// How many bytes of an open word that is spelled so a text begins with: none where it may be the prefix of a string.
+fn later_characters(spelling: Spelling, bytes: &[u8]) -> usize
+    ensures { Spans (stays (Word spelling)) bytes.now result }
+{
+    match spelling {
+        Spelling::Number | Spelling::Name => later_word_run(bytes),
+        _ => 0,
+    }
 }
 
 /// How many bytes a text begins with that end no line.
@@ -269,18 +305,6 @@ pub fn comment_run(bytes: &[u8]) -> usize
     }
 }
 
-/// How many bytes a text begins with that leave the open piece as it is, and end no line, unless it is a string.
-fn run_in(mode: Mode, bytes: &[u8]) -> usize
-    ensures { HasRun (stays mode) bytes.now result }
-{
-    match mode {
-        Mode::Space => Run::Space.len_in(bytes),
-        Mode::Word(Spelling::Number | Spelling::Name) => later_word_run(bytes),
-        Mode::Comment => comment_run(bytes),
-        _ => 0,
-    }
-}
-
 /// How many bytes the body of a string goes on, up to what escapes or ends a line, or to bytes that begin no character.
 #[inline(always)]
 fn body_characters(quote: u8, bytes: &[u8]) -> usize
@@ -293,7 +317,7 @@ fn body_characters(quote: u8, bytes: &[u8]) -> usize
     }
     let rest = &bytes[ascii..];
     let run = Run::Body(quote).len_in(rest);
-    ascii + utf8_prefix(&rest[..run]).len()
+    ascii + utf8_len(&rest[..run])
 }
 
 /// How many bytes of whole characters a text begins with that leave the open piece as it is, and end no line.
@@ -304,9 +328,9 @@ pub fn characters_in(mode: Mode, bytes: &[u8]) -> usize
 {
     match mode {
         Mode::Inside(quote) | Mode::Long(quote) => body_characters(quote as u8, bytes),
-        _ => {
-            let run = run_in(mode, bytes);
-            utf8_prefix(&bytes[..run]).len()
-        }
+        Mode::Comment => utf8_len(&bytes[..comment_run(bytes)]),
+        Mode::Space => Run::Space.len_in(bytes),
+        Mode::Word(spelling) => later_characters(spelling, bytes),
+        _ => 0,
     }
 }

@@ -69,6 +69,17 @@ pub fn utf8_prefix(bytes: &[u8]) -> &str
     }
 }
 
+/// How many bytes of UTF-8 the bytes begin with.
+pub fn utf8_len(bytes: &[u8]) -> usize
+    ensures within { result ≤ length bytes.now }
+    ensures utf8 { IsUtf8 (take result bytes.now) }
+{
+    match std::str::from_utf8(bytes) {
+        Ok(text) => text.len(),
+        Err(error) => error.valid_up_to(),
+    }
+}
+
 /// Whether the bytes are UTF-8.
 #[inline(always)]
 pub fn is_utf8(bytes: &[u8]) -> bool

@@ -4,19 +4,19 @@ ghost use Rattle.std.specs.Prelude.{◌≡◌, ◌+◌, ◌<◌, ◌^◌, true, 
 ghost use Rattle.py_lines.specs.Character.{is_hash, is_operator, is_quote, is_return, is_space};
 ghost use Rattle.py_lines.specs.Piece.{begins};
 ghost use Rattle.py_lines.specs.Private.Scan.{stack_of};
-ghost use Rattle.py_lines.specs.Private.Run.{WhereverReached, is_free, opened, AddsTokens, IsOneSpace, IsShortWord, MeetsToken, TakesTokens, follows_space, AddsToken, TakesRun, TakesText, TakesBracket, TakesLineFeed, TakesReturn, TakesPiece, TakesRemark, line_ended, word_mode, space_mode, IsNoLonger, LeavesOff, is_ascii_word, follows, may_begin};
+ghost use Rattle.py_lines.specs.Private.Run.{WhereverReached, is_free, opened, AddsTokens, IsSpaceAfter, IsWholeWord, MeetsToken, TakesTokens, follows_space, AddsToken, TakesRun, TakesText, TakesBracket, TakesLineFeed, TakesReturn, TakesPiece, TakesRemark, line_ended, word_mode, space_mode, IsNoLonger, LeavesOff, is_ascii_word, follows, may_begin};
 ghost use Rattle.py_lines.specs.Token.{is_comment};
 
 use crate::character::is_line_feed;
 use crate::mode::{Mode, Spelling};
-use crate::run::{FirstByte, Run, comment_run, space_run};
+use crate::run::{FirstByte, Run, comment_run, space_run, word_before_more};
 use crate::scan::{OpenPiece, Scan};
 use crate::token::{TokKind, Token};
 use crate::unit::UnitKind;
 use crate::utf8::is_utf8;
 use std::alloc::AllocError;
 
-/// So many bytes have to stand after a token that `add_tokens` looks for, so that it needn't ask for each whether there are more.
+/// `add_tokens` looks for a token where more bytes than these stand, so that it needn't ask for each byte whether there is one.
 const WINDOW: usize = 17;
 
 /// What was taken after closed pieces.
@@ -287,29 +287,42 @@ impl Scan {
         }
     }
 
-    /// The length of the space that the bytes begin with, if it is one byte before a piece that may follow; else 0.
+    /// The same, where it isn't one byte alone.
     #[inline(always)]
-    fn one_space(&self, bytes: &[u8]) -> usize
-        requires { 1 < length bytes.now }
-        ensures { IsOneSpace (stack_of self.now.brackets) bytes.now result }
+    fn more_space(&self, bytes: &[u8]) -> usize
+        requires { begins is_space bytes.now ≡ true }
+        ensures { IsSpaceAfter (stack_of self.now.brackets) bytes.now result }
     {
-        if bytes[0] == b' ' && self.follows_space(bytes[1]) {
-            1
-        } else {
-            0
-        }
+        let len = Run::Space.len_in(bytes);
+        if self.is_begun(&bytes[len..]) { len } else { 0 }
     }
 
-    /// The word that the bytes begin with, by their first, and its length, if it is short and its end shows.
+    /// The length of the space that the bytes begin with, if a piece that may follow begins after it; else 0. A tab or a form
+    /// feed is left.
     #[inline(always)]
-    fn short_word(&self, first: u8, bytes: &[u8]) -> Option<(TokKind, usize)>
+    fn space_after(&self, bytes: &[u8]) -> usize
+        requires { 1 < length bytes.now }
+        ensures { IsSpaceAfter (stack_of self.now.brackets) bytes.now result }
+    {
+        if bytes[0] != b' ' {
+            return 0;
+        }
+        if self.follows_space(bytes[1]) {
+            return 1;
+        }
+        self.more_space(bytes)
+    }
+
+    /// The word that the bytes begin with, by their first, and its length, if its end shows.
+    #[inline(always)]
+    fn whole_word(&self, first: u8, bytes: &[u8]) -> Option<(TokKind, usize)>
         requires bytes { 17 < length bytes.now }
         requires first { first ≡ slice_index bytes.now 0 }
         requires begins { begins is_ascii_word bytes.now ≡ true }
-        ensures { IsShortWord (stack_of self.now.brackets) bytes.now result }
+        ensures { IsWholeWord (stack_of self.now.brackets) bytes.now result }
     {
-        let len = Run::Word.len_in_sixteen(bytes);
-        if len == 16 || !self.follows(bytes[len]) {
+        let len = word_before_more(bytes)?;
+        if !self.follows(bytes[len]) {
             return None;
         }
         if first.is_ascii_digit() {
@@ -319,7 +332,7 @@ impl Scan {
         }
     }
 
-    /// The token that the bytes begin with at this byte of the line, after closed pieces, and its length: a short word, or
+    /// The token that the bytes begin with at this byte of the line, after closed pieces, and its length: a word, or
     /// an operator that may stand there. Its brackets have met then.
     #[inline(always)]
     fn meet_token(
@@ -332,7 +345,7 @@ impl Scan {
     {
         let first = bytes[0];
         match FirstByte::of(first) {
-            FirstByte::Word => Ok(self.short_word(first, bytes)),
+            FirstByte::Word => Ok(self.whole_word(first, bytes)),
             FirstByte::Operator => Ok(Some((TokKind::Op(first), 1))),
             FirstByte::Bracket => {
                 if !self.brackets.meet(first as char, place)? {
@@ -364,7 +377,7 @@ impl Scan {
                 stop: place + len,
                 line: self.count.line,
             })?;
-            let next = len + self.one_space(&rest[len..]);
+            let next = len + self.space_after(&rest[len..]);
             rest = &rest[next..];
             place += next;
         }
@@ -390,7 +403,40 @@ impl Scan {
         Ok(len)
     }
 
-    /// Takes the piece that the bytes begin with, after closed pieces: a word, space, an operator, a string, a comment or
+    /// Takes the word or operator that the bytes begin with, after closed pieces.
+    fn token(&mut self, bytes: &[u8]) -> Result<Taken, AllocError>
+        requires bytes { self.old.stop + length bytes.now < 2 ^ 64 }
+        requires some { 0 < length bytes.now }
+        ensures { TakesPiece self.old bytes.now result self.new }
+    {
+        let first = bytes[0];
+        match FirstByte::of(first) {
+            FirstByte::Word => Ok(Taken::Bytes(self.word(bytes)?)),
+            FirstByte::Operator => {
+                self.add(TokKind::Op(first), 1)?;
+                Ok(Taken::Bytes(1))
+            }
+            FirstByte::Bracket => self.bracket(bytes),
+            _ => Ok(Taken::Nothing),
+        }
+    }
+
+    /// Takes the words and operators that the bytes begin with, after closed pieces: all that follow one another, or one.
+    #[inline(always)]
+    fn tokens(&mut self, bytes: &[u8]) -> Result<Taken, AllocError>
+        requires free { is_free self.old.piece.mode ≡ true }
+        requires bytes { self.old.stop + length bytes.now < 2 ^ 64 }
+        requires some { 0 < length bytes.now }
+        ensures { TakesPiece self.old bytes.now result self.new }
+    {
+        let len = self.take_tokens(bytes)?;
+        if len > 0 {
+            return Ok(Taken::Bytes(len));
+        }
+        self.token(bytes)
+    }
+
+    /// Takes the piece that the bytes begin with, after closed pieces, or several words and operators: a word, space, an operator, a string, a comment or
     /// a line end.
     #[inline(always)]
     fn piece(&mut self, bytes: &[u8]) -> Result<Taken, AllocError>
@@ -403,13 +449,8 @@ impl Scan {
             return Ok(Taken::Nothing);
         };
         match FirstByte::of(first) {
-            FirstByte::Word => Ok(Taken::Bytes(self.word(bytes)?)),
+            FirstByte::Word | FirstByte::Operator | FirstByte::Bracket => self.tokens(bytes),
             FirstByte::Space => Ok(Taken::Bytes(self.space(bytes))),
-            FirstByte::Operator => {
-                self.add(TokKind::Op(first), 1)?;
-                Ok(Taken::Bytes(1))
-            }
-            FirstByte::Bracket => self.bracket(bytes),
             FirstByte::Quote => self.string(bytes),
             FirstByte::LineFeed => Ok(self.line_feed()),
             FirstByte::Return => Ok(self.carriage_return(bytes)),
@@ -428,8 +469,6 @@ impl Scan {
     {
         let mut rest = bytes;
         'pieces: while self.piece.mode.is_free() {
-            let tokens = self.take_tokens(rest)?;
-            rest = &rest[tokens..];
             match self.piece(rest)? {
                 Taken::Bytes(len) => rest = &rest[len..],
                 Taken::LineEnd(len) => return Ok(Left::LineEnd(len)),

@@ -61,8 +61,10 @@ module _ (first : Scan) (text : List ℕ) (old new : Scan) (bytes : List ℕ) (f
       (λ fifth. ⊎_elim
       (λ remark. comment_reached m at whole old new bytes len is before start remark)
       (λ sixth. ⊎_elim
+      (λ line_end. ⊎_elim
       (λ (feeds, feed). feed_goes len feeds feed m at whole start r)
-      (λ returns. return_goes first text old bytes free shuts new len returns m at whole start r) sixth) fifth) fourth) third) second) takes
+      (λ returns. return_goes first text old bytes free shuts new len returns m at whole start r) line_end)
+      (λ (some, tokens). tokens.leads m at whole start before) sixth) fifth) fourth) third) second) takes
 
   -- where nothing was taken
   pub none_goes : TakesPiece old bytes (Ok taken.Nothing) new → ShutsTo first text new bytes
@@ -104,4 +106,6 @@ piece_far old new bytes len takes =
     (λ string. string_goes old new bytes len string)
     (λ fifth. ⊎_elim
     (λ remark. comment_goes old new bytes len remark)
-    (λ sixth. ⊎_elim (λ (feeds, feed). feed_far old new bytes len feeds feed) (λ returns. return_far old new bytes len returns) sixth) fifth) fourth) third) second) takes
+    (λ sixth. ⊎_elim
+    (λ line_end. ⊎_elim (λ (feeds, feed). feed_far old new bytes len feeds feed) (λ returns. return_far old new bytes len returns) line_end)
+    (λ (some, tokens). record { stop = tokens.stop; some = some; within = tokens.within; lines = omega (arith, tokens.line) }) sixth) fifth) fourth) third) second) takes

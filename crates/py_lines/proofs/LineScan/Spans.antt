@@ -1,5 +1,5 @@
 -- Whole characters that leave the open piece as it is.
-use Rattle.std.proofs.Common.{◌≡◌, ℕ, ◌+◌, ◌-◌, ◌<◌, ◌≤◌, Bool, true, List, length, take, drop, slice_index, inl, inr, sym, ap, ◌∙◌, subst, arith, length-drop, length-take, take_all}
+use Rattle.std.proofs.Common.{◌≡◌, ℕ, ◌+◌, ◌-◌, ◌<◌, ◌≤◌, Bool, true, List, [], refl, length, take, drop, slice_index, inl, inr, sym, ap, ◌∙◌, subst, arith, length-drop, length-take, take_all}
 use Rattle.std.specs.Prelude.{IsUtf8, nat_lt}
 use Rattle.std.proofs.lemmas.Bool.{and_parts, cases_lt}
 use Rattle.std.proofs.lemmas.Bool.Decides.{nat_tests}
@@ -8,7 +8,9 @@ use Rattle.std.proofs.lemmas.List.Elements.{All-from_get_or}
 use Rattle.std.proofs.lemmas.Str.{IsUtf8-from_ascii, IsUtf8-append}
 use Rattle.std.proofs.lemmas.Str.Ascii.{IsAscii-from_all}
 use Rattle.std.proofs.Math.Seq.{take-add}
-use Rattle.py_lines.specs.Private.Run.{HasRun, IsRunOf, Spans, is_body_byte, is_text_byte}
+use Rattle.py_lines.specs.Character.{is_space}
+use Rattle.py_lines.proofs.LineScan.Runs.{space_low, word_byte_low}
+use Rattle.py_lines.specs.Private.Run.{IsRunOf, Spans, is_ascii_word, is_body_byte, is_text_byte}
 
 -- bytes below 128 are characters
 ascii_utf8 : (bytes : List ℕ) (n : ℕ) → n ≤ length bytes → ((i : ℕ) → i < n → slice_index bytes i < 128) → IsUtf8 (take n bytes)
@@ -28,14 +30,34 @@ text_spans q bytes n is = record {
     low : (b : ℕ) → nat_lt b 128 ≡ true → b < 128
     low b h = grind (arith, nat_tests)
 
+-- a run of ASCII
+low_spans : (passes : ℕ → Bool) → ((c : ℕ) → passes c ≡ true → c < 128) → (bytes : List ℕ) (n : ℕ) → IsRunOf passes bytes n → Spans passes bytes n
+low_spans passes low bytes n is = record {
+  run = record { within = is.within; each = is.each };
+  utf8 = ascii_utf8 bytes n is.within (λ i less. low (slice_index bytes i) (is.each i less));
+}
+
+pub word_spans : (bytes : List ℕ) (n : ℕ) → IsRunOf is_ascii_word bytes n → Spans is_ascii_word bytes n
+word_spans = low_spans is_ascii_word word_byte_low
+
+pub space_spans : (bytes : List ℕ) (n : ℕ) → IsRunOf is_space bytes n → Spans is_space bytes n
+space_spans = low_spans is_space space_low
+
 -- the text that a run begins with
-pub run_spans : (passes : ℕ → Bool) (bytes text : List ℕ) (r : ℕ) → HasRun passes bytes r → IsUtf8 text → text ≡ take (length text) (take r bytes) → Spans passes bytes (length text)
-run_spans passes bytes text r run utf8 prefix =
-    let size : length text ≤ r = omega (arith, ap length prefix, length-take (length text) (take r bytes), length-take r bytes) in
+pub run_spans : (passes : ℕ → Bool) (bytes : List ℕ) (r n : ℕ) → IsRunOf passes bytes r → n ≤ length (take r bytes) → IsUtf8 (take n (take r bytes)) → Spans passes bytes n
+run_spans passes bytes r n run within utf8 =
+    let size : n ≤ r = omega (arith, within, length-take r bytes) in
     record {
       run = record { within = omega (arith, size, run.within); each = λ i less. run.each i (omega (arith, less, size)) };
-      utf8 = subst IsUtf8 (prefix ∙ take-take (length text) r bytes size) utf8;
+      utf8 = subst IsUtf8 (take-take n r bytes size) utf8;
     }
+
+-- nothing
+pub no_spans : (passes : ℕ → Bool) (bytes : List ℕ) → Spans passes bytes 0
+no_spans passes bytes = record {
+  run = record { within = omega arith; each = λ i less. absurd (omega (arith, less)) };
+  utf8 = ([], (refl, refl));
+}
 
 -- characters after characters
 pub spans_on : (passes : ℕ → Bool) (bytes : List ℕ) (n m : ℕ) → Spans passes bytes n → Spans passes (take (length bytes - n) (drop n bytes)) m → Spans passes bytes (n + m)
@@ -52,7 +74,3 @@ spans_on passes bytes n m first taken =
       };
       utf8 = subst IsUtf8 (sym (take-add n m bytes)) (IsUtf8-append (take n bytes) (take m (drop n bytes)) first.utf8 more.utf8);
     }
-
--- a run, with nothing said of what follows
-pub has_run : (passes : ℕ → Bool) (bytes : List ℕ) (n : ℕ) → IsRunOf passes bytes n → HasRun passes bytes n
-has_run passes bytes n is = record { within = is.within; each = is.each }

@@ -19,70 +19,74 @@ use Rattle.py_lines.specs.Private.Scan.{Closes, Meets, stack_of, with_brackets}
 use Rattle.py_lines.specs.declared.run.FirstByte.TheVariants as first
 use Rattle.std.proofs.lemmas.Bool.{both_ways}
 use Rattle.py_lines.proofs.LineScan.FirstBytes.{alone_taken}
-use Rattle.py_lines.proofs.LineScan.LineStops.{ShutsTo}
-use Rattle.py_lines.proofs.LineScan.ShortPieces.{free_is, operator_reached, operator_taken, space_closes, space_reached, takes_run, takes_word, word_reached}
-use Rattle.py_lines.specs.Private.Run.{BeginsSo, HasAdded, HasTaken, IsRunOf, LeadsTo, ReachedShut, IsOneSpace, IsShortWord, IsNextToken, MeetsToken, TakesSpace, AddsToken, coded, coded_if, follows, follows_space, is_ascii_word, is_free, may_begin, opened, space_mode}
+use Rattle.py_lines.proofs.LineScan.ShortPieces.{followed_by, free_is, operator_reached, operator_taken, space_closes, space_reached, takes_run, takes_word, word_reached}
+use Rattle.py_lines.specs.Private.Run.{BeginsSo, HasAdded, HasTaken, IsRunOf, LeadsTo, IsSpaceAfter, IsWholeWord, IsNextToken, MeetsToken, TakesSpace, AddsToken, coded, coded_if, follows, follows_space, is_ascii_word, is_free, may_begin, opened, space_mode}
+
+-- a run of at least one byte
+run_some : (passes : ℕ → Bool) (bytes : List ℕ) (len : ℕ) → IsRunOf passes bytes len → begins passes bytes ≡ true → 0 < len
+run_some passes [] len run first = absurd (both_ways _ refl first)
+run_some passes (b ∷ bs) zero run first = absurd (both_ways _ (run.ends (omega arith)) first)
+run_some passes (b ∷ bs) (suc n) run first = omega arith
 
 -- a space before what may follow it
-space_from : (c : ℕ) → c ≡ 32 → is_space c ≡ true
+pub space_is : (bytes : List ℕ) → 0 < length bytes → slice_index bytes 0 ≡ 32 → begins is_space bytes ≡ true
 unfolding is_space
-space_from c h = rw h refl
+space_is [] some is = absurd (omega (arith, some))
+space_is (b ∷ bs) some is = rw is refl
 
-pub space_alone : (st : List Bracket) (bytes : List ℕ) → 1 < length bytes → slice_index bytes 0 ≡ 32 → follows_space st (slice_index bytes 1) → IsOneSpace st bytes 1
+pub space_alone : (st : List Bracket) (bytes : List ℕ) → 1 < length bytes → slice_index bytes 0 ≡ 32 → follows_space st (slice_index bytes 1) → IsSpaceAfter st bytes 1
 space_alone st [] more is next = absurd (omega (arith, more))
 space_alone st (b ∷ []) more is next = absurd (omega (arith, more))
 space_alone st (b ∷ d ∷ bs) more is next = inr (
-  refl,
+  omega arith,
   record {
     within = omega (arith, more);
-    each = λ i less. let zero_is : 0 ≡ i = omega (arith, less) in subst (λ (k : ℕ). is_space (slice_index (b ∷ d ∷ bs) k) ≡ true) zero_is (space_from b is);
+    each = λ i less. let zero_is : 0 ≡ i = omega (arith, less) in subst (λ (k : ℕ). is_space (slice_index (b ∷ d ∷ bs) k) ≡ true) zero_is (space_is (b ∷ d ∷ bs) (omega (arith, more)) is);
     ends = λ rest. next.0;
   },
   next.1,
 )
+
+-- a run of space before what may follow it
+pub space_run_is : (st : List Bracket) (bytes : List ℕ) (len : ℕ) → begins is_space bytes ≡ true → IsRunOf is_space bytes len → begins (may_begin st) (take (length bytes - len) (drop len bytes)) ≡ true → IsSpaceAfter st bytes len
+space_run_is st bytes len some run next = inr (run_some is_space bytes len run some, run, followed_by may_begin st bytes len true (sym next))
 
 -- what the first byte passes
 pub begins_from : (passes : ℕ → Bool) (bytes : List ℕ) → 0 < length bytes → passes (slice_index bytes 0) ≡ true → begins passes bytes ≡ true
 begins_from passes [] some is = absurd (omega (arith, some))
 begins_from passes (b ∷ bs) some is = is
 
--- a word of at least one byte
-some_word : (bytes : List ℕ) (len : ℕ) → IsRunOf is_ascii_word bytes len → begins is_ascii_word bytes ≡ true → 0 < len
-some_word [] len run first = absurd (both_ways _ refl first)
-some_word (b ∷ bs) zero run first = absurd (both_ways _ (run.ends (omega arith)) first)
-some_word (b ∷ bs) (suc n) run first = omega arith
-
--- the token of a short word
-pub word_met : (scan : Scan) (place : ℕ) (bytes : List ℕ) (found : Option (TokKind × ℕ)) → begins is_ascii_word bytes ≡ true → IsShortWord (stack_of scan.brackets) bytes found → MeetsToken scan place bytes (Ok found) scan
+-- the token of a word
+pub word_met : (scan : Scan) (place : ℕ) (bytes : List ℕ) (found : Option (TokKind × ℕ)) → begins is_ascii_word bytes ≡ true → IsWholeWord (stack_of scan.brackets) bytes found → MeetsToken scan place bytes (Ok found) scan
 word_met scan place bytes None first is = refl
 word_met scan place [] (Some (k, len)) first is = absurd (both_ways _ refl first)
-word_met scan place (b ∷ bs) (Some (k, len)) first (short, run, next, token) = (
+word_met scan place (b ∷ bs) (Some (k, len)) first (short, run, next, is) = (
   refl,
-  some_word (b ∷ bs) len run first,
+  run_some is_ascii_word (b ∷ bs) len run first,
   short,
   λ old new brackets stop adds.
       let adds_to : AddsToken old k len new = subst (λ (x : Brackets). AddsToken (with_brackets old x) k len new) (sym brackets) adds in
       inl (takes_word old new (b ∷ bs) len (is_ascii_digit b) run first (subst (λ (x : Brackets). begins (follows (stack_of x)) (drop len (b ∷ bs)) ≡ true) (sym brackets) next) refl
-      (subst (λ (x : TokKind). AddsToken old x len new) token adds_to)),
+      (subst (λ (x : TokKind). AddsToken old x len new) is adds_to)),
 )
 
 -- an operator that is no bracket
-pub operator_met : (scan : Scan) (place : ℕ) (bytes : List ℕ) → 0 < length bytes → BeginsSo first.Operator (slice_index bytes 0) → MeetsToken scan place bytes (Ok (Some (kind.Op (slice_index bytes 0), 1))) scan
+pub operator_met : (scan : Scan) (place : ℕ) (bytes : List ℕ) → 2 < length bytes → BeginsSo first.Operator (slice_index bytes 0) → MeetsToken scan place bytes (Ok (Some (kind.Op (slice_index bytes 0), 1))) scan
 operator_met scan place [] some so = absurd (omega (arith, some))
 operator_met scan place (b ∷ bs) some so = (
   refl,
   omega arith,
-  omega arith,
+  some,
   λ old new brackets stop adds.
       inr (alone_taken old new (b ∷ bs) b refl so (subst (λ (x : Brackets). AddsToken (with_brackets old x) (kind.Op b) 1 new) (sym brackets) adds)),
 )
 
 -- a bracket that its brackets have met
-pub bracket_met : (scan new : Scan) (place : ℕ) (bytes : List ℕ) (met : Brackets) (may : Bool) → new ≡ with_brackets scan met → begins is_operator bytes ≡ true → Meets scan.brackets (slice_index bytes 0) place (Ok may) met → may ≡ true → MeetsToken scan place bytes (Ok (Some (kind.Op (slice_index bytes 0), 1))) new
-bracket_met scan new place bytes met may is begun meets so = (
+pub bracket_met : (scan new : Scan) (place : ℕ) (bytes : List ℕ) (met : Brackets) (may : Bool) → 2 < length bytes → new ≡ with_brackets scan met → begins is_operator bytes ≡ true → Meets scan.brackets (slice_index bytes 0) place (Ok may) met → may ≡ true → MeetsToken scan place bytes (Ok (Some (kind.Op (slice_index bytes 0), 1))) new
+bracket_met scan new place bytes met may room is begun meets so = (
   is ∙ ap (λ (s : Scan). with_brackets scan s.brackets) (sym is),
   omega arith,
-  omega arith,
+  room,
   λ old later brackets stop adds.
       let at_stop : Meets old.brackets (slice_index bytes 0) old.stop (Ok may) met = subst (λ (x : Brackets). Meets x (slice_index bytes 0) old.stop (Ok may) met) (sym brackets) (subst (λ (n : ℕ). Meets scan.brackets (slice_index bytes 0) n (Ok may) met) (sym stop) meets) in
       let met_is : new.brackets ≡ met = ap (λ (s : Scan). s.brackets) is in
@@ -142,26 +146,26 @@ token_leads first scan met bytes rest n len place tokens k free is same next pus
     (next old new (brackets_coded b scan n) (stop_coded b scan n (not_some n) ∙ sym is) adds)
 
 -- after the space that may follow it
-space_takes : (scan : Scan) (n : ℕ) (rest : List ℕ) → IsRunOf is_space rest 1 → begins (may_begin (stack_of scan.brackets)) (drop 1 rest) ≡ true → TakesSpace (coded scan n) rest 1 (coded scan (n + 1))
-space_takes scan n rest run next =
-    let closes : Closes (opened (coded scan n) modes.Space 1) (coded scan (n + 1)) =
-    subst (Closes (opened (coded scan n) modes.Space 1)) (sym (some_coded scan n 1 scan.brackets scan.tokens)) (space_closes (coded scan n) 1 scan.indent refl) in
-    takes_run is_space may_begin space_mode (coded scan n) rest 1 (coded scan (n + 1)) run (begins_from is_space rest (omega (arith, run.within)) (run.each 0 (omega arith))) (inr (closes, next))
+space_takes : (scan : Scan) (n : ℕ) (rest : List ℕ) (len : ℕ) → 0 < len → IsRunOf is_space rest len → begins (may_begin (stack_of scan.brackets)) (drop len rest) ≡ true → TakesSpace (coded scan n) rest len (coded scan (n + len))
+space_takes scan n rest len some run next =
+    let closes : Closes (opened (coded scan n) modes.Space len) (coded scan (n + len)) =
+    subst (Closes (opened (coded scan n) modes.Space len)) (sym (some_coded scan n len scan.brackets scan.tokens)) (space_closes (coded scan n) len scan.indent refl) in
+    takes_run is_space may_begin space_mode (coded scan n) rest len (coded scan (n + len)) run (begins_from is_space rest (omega (arith, some, run.within)) (run.each 0 some)) (inr (closes, next))
 
-pub space_leads : (first scan : Scan) (bytes rest : List ℕ) (n len : ℕ) → IsOneSpace (stack_of scan.brackets) rest len → LeadsTo first bytes (coded scan n) rest → LeadsTo first bytes (coded scan (n + len)) (drop len rest)
+pub space_leads : (first scan : Scan) (bytes rest : List ℕ) (n len : ℕ) → IsSpaceAfter (stack_of scan.brackets) rest len → LeadsTo first bytes (coded scan n) rest → LeadsTo first bytes (coded scan (n + len)) (drop len rest)
 space_leads first scan bytes rest n len how leads =
     ⊎_elim
     (λ none.
     let same : n ≡ n + len = omega (arith, none) in
     subst (λ k. LeadsTo first bytes (coded scan (n + len)) (drop k rest)) (sym none) (subst (λ k. LeadsTo first bytes (coded scan k) rest) same leads))
-    (λ (one, run, next).
-    subst (λ k. LeadsTo first bytes (coded scan (n + k)) (drop k rest)) (sym one)
-    (λ m at whole start r. space_reached m at whole (coded scan n) (coded scan (n + 1)) rest 1 refl (leads m at whole start r) start (space_takes scan n rest run next))) how
+    (λ (some, run, next). λ m at whole start r.
+    space_reached m at whole (coded scan n) (coded scan (n + len)) rest len refl (leads m at whole start r) start (space_takes scan n rest len some run next)) how
 
 -- the scan has these tokens, and stands so far before them as the bytes went on
 pub record StandsAhead (first : Scan) (bytes : List ℕ) (scan : Scan) (place : ℕ) (rest : List ℕ) : Type 0 where
   pub shorter : length rest ≤ length bytes
   pub is : rest ≡ drop (length bytes - length rest) bytes
+  pub none : length bytes - length rest ≡ 0 → scan ≡ first
   pub place_is : place ≡ first.stop + (length bytes - length rest)
   pub same : scan ≡ record first { tokens = scan.tokens; brackets = scan.brackets }
   pub leads : LeadsTo first bytes (coded_if (nat_lt 0 (length bytes - length rest)) scan (length bytes - length rest)) rest
@@ -172,6 +176,7 @@ ahead_first first bytes =
     record {
       shorter = omega arith;
       is = ap (λ n. drop n bytes) none;
+      none = λ nothing. refl;
       place_is = omega arith;
       same = refl;
       leads = subst (λ n. LeadsTo first bytes (coded_if (nat_lt 0 n) first n) bytes) none (λ m at whole start r. r);
@@ -180,31 +185,33 @@ ahead_first first bytes =
 pub ahead_added : (first scan : Scan) (bytes rest : List ℕ) (place : ℕ) → StandsAhead first bytes scan place rest → HasAdded first bytes (length bytes - length rest) scan
 ahead_added first scan bytes rest place ahead = record {
   within = omega arith;
+  none = ahead.none;
   same = ahead.same;
   leads = subst (LeadsTo first bytes (coded_if (nat_lt 0 (length bytes - length rest)) scan (length bytes - length rest))) ahead.is ahead.leads;
 }
 
-pub one_at_most : (st : List Bracket) (rest : List ℕ) (len : ℕ) → IsOneSpace st rest len → len ≤ 1
-one_at_most st rest len how = ⊎_elim (λ none. omega (arith, none)) (λ (one, run, next). omega (arith, one)) how
+pub space_within : (st : List Bracket) (rest : List ℕ) (len : ℕ) → IsSpaceAfter st rest len → len ≤ length rest
+space_within st rest len how = ⊎_elim (λ none. omega (arith, none)) (λ (some, run, next). run.within) how
 
 -- one more token, and the space after it
-pub ahead_more : (first scan met : Scan) (bytes rest : List ℕ) (place len space : ℕ) (tokens : Vec Token) (k : TokKind) → is_free first.piece.mode ≡ true → 17 < length rest → StandsAhead first bytes scan place rest → MeetsToken scan place rest (Ok (Some (k, len))) met → tokens.items ≡ met.tokens.items ++ token k place (place + len) met.count.line ∷ [] → IsOneSpace (stack_of met.brackets) (take (length rest - len) (drop len rest)) space → StandsAhead first bytes (record met { tokens = tokens }) (place + (len + space)) (take (length rest - (len + space)) (drop (len + space) rest))
-ahead_more first scan met bytes rest place len space tokens k free room ahead (same, some, short, next) pushed spaces =
+pub ahead_more : (first scan met : Scan) (bytes rest : List ℕ) (place len space : ℕ) (tokens : Vec Token) (k : TokKind) → is_free first.piece.mode ≡ true → StandsAhead first bytes scan place rest → MeetsToken scan place rest (Ok (Some (k, len))) met → tokens.items ≡ met.tokens.items ++ token k place (place + len) met.count.line ∷ [] → IsSpaceAfter (stack_of met.brackets) (take (length rest - len) (drop len rest)) space → StandsAhead first bytes (record met { tokens = tokens }) (place + (len + space)) (take (length rest - (len + space)) (drop (len + space) rest))
+ahead_more first scan met bytes rest place len space tokens k free ahead (same, some, short, next) pushed spaces =
     let n = length bytes - length rest in
     let new = record met { tokens = tokens } in
     let after = drop len rest in
     let after_is : take (length rest - len) (drop len rest) ≡ drop len rest = take_all (length rest - len) (drop len rest) (omega (arith, length-drop len rest)) in
-    let one : IsOneSpace (stack_of met.brackets) (drop len rest) space = subst (λ (t : List ℕ). IsOneSpace (stack_of met.brackets) t space) after_is spaces in
-    let least = one_at_most (stack_of met.brackets) (drop len rest) space one in
+    let one : IsSpaceAfter (stack_of met.brackets) (drop len rest) space = subst (λ (t : List ℕ). IsSpaceAfter (stack_of met.brackets) t space) after_is spaces in
+    let least : len + space ≤ length rest = omega (arith, space_within (stack_of met.brackets) (drop len rest) space one, length-drop len rest, short) in
     let rest_is : take (length rest - (len + space)) (drop (len + space) rest) ≡ drop (len + space) rest = take_all (length rest - (len + space)) (drop (len + space) rest) (omega (arith, length-drop (len + space) rest)) in
     let size : length (drop (len + space) rest) ≡ length rest - (len + space) = length-drop (len + space) rest in
-    let far : length bytes - length (drop (len + space) rest) ≡ (n + len) + space = omega (arith, size, ahead.shorter, room, short, least) in
+    let far : length bytes - length (drop (len + space) rest) ≡ (n + len) + space = omega (arith, size, ahead.shorter, least) in
     let scan_free : is_free scan.piece.mode ≡ true = ap (λ (s : Scan). is_free s.piece.mode) ahead.same ∙ free in
     let place_is : place ≡ scan.stop + n = ahead.place_is ∙ ap (λ (s : Scan). s.stop + n) (sym ahead.same) in
     let token_there = token_leads first scan met bytes rest n len place tokens k scan_free place_is same next pushed ahead.leads in
     let space_there = space_leads first new bytes (drop len rest) (n + len) space one token_there in
     subst (StandsAhead first bytes new (place + (len + space))) (sym rest_is) (record {
       shorter = omega (arith, size, ahead.shorter);
+      none = λ nothing. absurd (omega (arith, nothing, far, some));
       is = ap (drop (len + space)) ahead.is ∙ drop-drop (len + space) n bytes ∙ ap (λ j. drop j bytes) (omega (arith, far));
       place_is = omega (arith, ahead.place_is, far);
       same = ap (λ (s : Scan). record s { tokens = tokens; brackets = met.brackets }) (same ∙ ap (λ (s : Scan). with_brackets s met.brackets) ahead.same);
@@ -218,6 +225,7 @@ ahead_more first scan met bytes rest place len space tokens k free room ahead (s
 pub some_taken : (old added new : Scan) (bytes : List ℕ) (len : ℕ) → 0 < len → HasAdded old bytes len added → new ≡ coded added len → HasTaken old bytes len new
 some_taken old added new bytes len some has is = record {
   within = has.within;
+  none = λ nothing. absurd (omega (arith, nothing, some));
   free = ap (λ (s : Scan). is_free s.piece.mode) is;
   stop = ap (λ (s : Scan). s.stop) is ∙ ap (λ (s : Scan). s.stop + len) has.same;
   line = ap (λ (s : Scan). s.count.line) is ∙ ap (λ (s : Scan). s.count.line) has.same;
@@ -229,13 +237,9 @@ none_taken old added bytes len free none has =
     let is : len ≡ 0 = omega (arith, none) in
     record {
       within = has.within;
+      none = has.none;
       free = ap (λ (s : Scan). is_free s.piece.mode) has.same ∙ free;
       stop = ap (λ (s : Scan). s.stop) has.same ∙ omega (arith, none);
       line = ap (λ (s : Scan). s.count.line) has.same;
       leads = subst (λ b. LeadsTo old bytes (coded_if b added len) (drop len bytes)) (ap (nat_lt 0) is) has.leads;
     }
-
--- and stands before what follows them
-pub taken_shuts : (first : Scan) (text : List ℕ) (old new : Scan) (bytes : List ℕ) (len : ℕ) → HasTaken old bytes len new → ShutsTo first text old bytes → ShutsTo first text new (take (length bytes - len) (drop len bytes))
-taken_shuts first text old new bytes len taken shuts m at whole start r =
-    subst (ReachedShut m at whole new) (sym (take_all (length bytes - len) (drop len bytes) (omega (arith, length-drop len bytes)))) (taken.leads m at whole start (shuts m at whole start r))

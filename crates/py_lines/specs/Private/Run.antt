@@ -325,43 +325,6 @@ pub record ReachedShut (m : Mode) (at : ℕ) (text : List ℕ) (scan : Scan) (re
   pub reached : Reached m at text unshut rest
   pub how : (scan ≡ unshut) ⊎ IsShut unshut scan rest
 
--- such a piece came, or another that ends no line
-abbrev pub TakesBytes : Scan → List ℕ → ℕ → Scan → Type 0
-TakesBytes old bytes len new =
-    TakesWord old bytes len new ⊎ (TakesSpace old bytes len new ⊎ (TakesOperator old bytes len new ⊎ (TakesString old bytes len new
-    ⊎ (TakesComment old bytes len new ⊎ TakesLineEnd old bytes (taken.Bytes len) new))))
-
--- so does what may stand after a space: no space, and what may begin a piece
-abbrev pub follows_space : List Bracket → ℕ → Type 0
-follows_space st c = (is_space c ≡ false) × (may_begin st c ≡ true)
-
--- one byte of space before a piece that may follow, or nothing
-abbrev pub IsOneSpace : List Bracket → List ℕ → ℕ → Type 0
-IsOneSpace st bytes len = (len ≡ 0) ⊎ ((len ≡ 1) × IsRunOf is_space bytes 1 × (begins (may_begin st) (drop 1 bytes) ≡ true))
-
--- the token of a word of so many bytes
-abbrev pub word_token : List ℕ → TokKind
-word_token bytes = if begins is_ascii_digit bytes then kind.Number else kind.Name
-
--- a word of at most sixteen bytes whose end shows
-abbrev pub IsShortWord : List Bracket → List ℕ → Option (TokKind × ℕ) → Type 0
-IsShortWord st bytes None = Unit {0}
-IsShortWord st bytes (Some (k, len)) =
-    (len < 16) × IsRunOf is_ascii_word bytes len × (begins (follows st) (drop len bytes) ≡ true) × (k ≡ word_token bytes)
-
--- the token that these bytes begin with at this byte, where these brackets are open, and others after it
-abbrev pub IsNextToken : Brackets → Brackets → ℕ → List ℕ → TokKind → ℕ → Type 0
-IsNextToken before after place bytes k len =
-    (old new : Scan) → old.brackets ≡ before → old.stop ≡ place → AddsToken (with_brackets old after) k len new
-    → TakesWord old bytes len new ⊎ TakesOperator old bytes len new
-
--- such a token was met, or the scan is as it was
-abbrev pub MeetsToken : Scan → ℕ → List ℕ → Result (Option (TokKind × ℕ)) AllocError → Scan → Type 0
-MeetsToken old place bytes (Ok None) new = new ≡ old
-MeetsToken old place bytes (Ok (Some (k, len))) new =
-    (new ≡ with_brackets old new.brackets) × (0 < len) × (len < 16) × IsNextToken old.brackets new.brackets place bytes k len
-MeetsToken old place bytes (Err e) new = Unit {0}
-
 -- the scan after so many bytes of tokens and of space between them, where it has these tokens and brackets already
 abbrev pub coded : Scan → ℕ → Scan
 coded scan len = record (freed (with_bytes scan len)) { margin = false; kind = unit_kind.Code }
@@ -378,6 +341,7 @@ LeadsTo old bytes new rest =
 -- tokens were added, and the scan has still to pass so many bytes
 pub record HasAdded (old : Scan) (bytes : List ℕ) (len : ℕ) (new : Scan) : Type 0 where
   pub within : len ≤ length bytes
+  pub none : len ≡ 0 → new ≡ old
   pub same : new ≡ record old { tokens = new.tokens; brackets = new.brackets }
   pub leads : LeadsTo old bytes (coded_if (nat_lt 0 len) new len) (drop len bytes)
 
@@ -388,6 +352,7 @@ AddsTokens old bytes (Err e) new = Unit {0}
 -- tokens came after closed pieces, of so many bytes with the space between them
 pub record HasTaken (old : Scan) (bytes : List ℕ) (len : ℕ) (new : Scan) : Type 0 where
   pub within : len ≤ length bytes
+  pub none : len ≡ 0 → new ≡ old
   pub free : is_free new.piece.mode ≡ true
   pub stop : new.stop ≡ old.stop + len
   pub line : new.count.line ≡ old.count.line
@@ -396,6 +361,50 @@ pub record HasTaken (old : Scan) (bytes : List ℕ) (len : ℕ) (new : Scan) : T
 abbrev pub TakesTokens : Scan → List ℕ → Result ℕ AllocError → Scan → Type 0
 TakesTokens old bytes (Ok len) new = HasTaken old bytes len new
 TakesTokens old bytes (Err e) new = Unit {0}
+
+-- such a piece came, or another that ends no line
+abbrev pub TakesBytes : Scan → List ℕ → ℕ → Scan → Type 0
+TakesBytes old bytes len new =
+    TakesWord old bytes len new ⊎ (TakesSpace old bytes len new ⊎ (TakesOperator old bytes len new ⊎ (TakesString old bytes len new
+    ⊎ (TakesComment old bytes len new ⊎ (TakesLineEnd old bytes (taken.Bytes len) new
+    ⊎ ((0 < len) × HasTaken old bytes len new))))))
+
+-- so does what may stand after a space: no space, and what may begin a piece
+abbrev pub follows_space : List Bracket → ℕ → Type 0
+follows_space st c = (is_space c ≡ false) × (may_begin st c ≡ true)
+
+-- so many bytes of space before a piece that may follow, or nothing
+abbrev pub IsSpaceAfter : List Bracket → List ℕ → ℕ → Type 0
+IsSpaceAfter st bytes len =
+    (len ≡ 0) ⊎ ((0 < len) × IsRunOf is_space bytes len × (begins (may_begin st) (drop len bytes) ≡ true))
+
+-- the word that the bytes begin with has so many of them, and more than one byte follows
+abbrev pub IsWordBeforeMore : List ℕ → Option ℕ → Type 0
+IsWordBeforeMore bytes None = Unit {0}
+IsWordBeforeMore bytes (Some len) = IsRunOf is_ascii_word bytes len × (len + 1 < length bytes)
+
+-- the token of a word of so many bytes
+abbrev pub word_token : List ℕ → TokKind
+word_token bytes = if begins is_ascii_digit bytes then kind.Number else kind.Name
+
+-- a word whose end shows, with more than one byte after it
+abbrev pub IsWholeWord : List Bracket → List ℕ → Option (TokKind × ℕ) → Type 0
+IsWholeWord st bytes None = Unit {0}
+IsWholeWord st bytes (Some (k, len)) =
+    (len + 1 < length bytes) × IsRunOf is_ascii_word bytes len × (begins (follows st) (drop len bytes) ≡ true) × (k ≡ word_token bytes)
+
+-- the token that these bytes begin with at this byte, where these brackets are open, and others after it
+abbrev pub IsNextToken : Brackets → Brackets → ℕ → List ℕ → TokKind → ℕ → Type 0
+IsNextToken before after place bytes k len =
+    (old new : Scan) → old.brackets ≡ before → old.stop ≡ place → AddsToken (with_brackets old after) k len new
+    → TakesWord old bytes len new ⊎ TakesOperator old bytes len new
+
+-- such a token was met, or the scan is as it was
+abbrev pub MeetsToken : Scan → ℕ → List ℕ → Result (Option (TokKind × ℕ)) AllocError → Scan → Type 0
+MeetsToken old place bytes (Ok None) new = new ≡ old
+MeetsToken old place bytes (Ok (Some (k, len))) new =
+    (new ≡ with_brackets old new.brackets) × (0 < len) × (len + 1 < length bytes) × IsNextToken old.brackets new.brackets place bytes k len
+MeetsToken old place bytes (Err e) new = Unit {0}
 
 -- a piece came after closed ones, or nothing was taken
 abbrev pub TakesPiece : Scan → List ℕ → Result Taken AllocError → Scan → Type 0

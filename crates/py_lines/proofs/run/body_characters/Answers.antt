@@ -1,5 +1,5 @@
 use Rattle.py_lines.specs.Private.Run.{is_body_byte}
-use Rattle.py_lines.proofs.LineScan.Spans.{text_spans, run_spans, spans_on, has_run}
+use Rattle.py_lines.proofs.LineScan.Spans.{text_spans, run_spans, spans_on}
 use Rattle.py_lines.proofs.run.body_characters.Goals as goal
 
 pub returns-then-ascii-bytes : goal.returns-then-ascii-bytes
@@ -8,5 +8,5 @@ returns-then-ascii-bytes c = text_spans c.args.quote c.args.bytes.now c.len_in-a
 pub returns : goal.returns
 returns c =
     let p = is_body_byte c.args.quote in
-    let after = run_spans p _ c.utf8_prefix.result.now c.len_in-run.result (has_run p _ c.len_in-run.result c.len_in-run.ensures) c.utf8_prefix.utf8 c.utf8_prefix.ensures.prefix in
-    spans_on p c.args.bytes.now c.len_in-ascii.result _ (text_spans c.args.quote c.args.bytes.now c.len_in-ascii.result c.len_in-ascii.ensures) after
+    let after = run_spans p _ c.len_in-run.result c.utf8_len.result c.len_in-run.ensures c.utf8_len.ensures.within c.utf8_len.ensures.utf8 in
+    spans_on p c.args.bytes.now c.len_in-ascii.result c.utf8_len.result (text_spans c.args.quote c.args.bytes.now c.len_in-ascii.result c.len_in-ascii.ensures) after

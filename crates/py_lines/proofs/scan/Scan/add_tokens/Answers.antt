@@ -1,7 +1,7 @@
 use Rattle.std.proofs.Common.{◌≡◌, ℕ, ◌+◌, ◌-◌, take, Option, Some, Ok, length, drop, sym, ap, subst, arith, length-drop, take_all}
 use Rattle.py_lines.specs.declared.token.TokKind.{TokKind}
 use Rattle.py_lines.specs.Private.Run.{HasAdded, MeetsToken}
-use Rattle.py_lines.proofs.LineScan.TokenRuns.{ahead_first, ahead_added, ahead_more, one_at_most}
+use Rattle.py_lines.proofs.LineScan.TokenRuns.{ahead_first, ahead_added, ahead_more, space_within}
 use Rattle.py_lines.proofs.scan.Scan.add_tokens.Goals as goal
 use Rattle.py_lines.proofs.scan.Scan.add_tokens.Goals.{In-Some}
 
@@ -30,12 +30,14 @@ pub overflow_add-place-in-loop-rest : goal.overflow_add-place-in-loop-rest
 overflow_add-place-in-loop-rest c =
     let ahead = c.loop-rest.invariant.ahead in
     let (same, some, short, next) = met (goal.at.overflow_add-place-in-loop-rest c).In-Some in
-    let least = one_at_most _ _ c.one_space.result c.one_space.ensures in
-    record { fits = omega (arith, c.requires.bytes, ahead.place_is, ahead.shorter, short, least, c.loop-rest-test.true) }
+    let least = space_within _ _ c.space_after.result c.space_after.ensures in
+    let rest = c.loop-rest.rest.now in
+    let after_is : take (length rest - c.in-Some.len) (drop c.in-Some.len rest) ≡ drop c.in-Some.len rest = take_all _ (drop c.in-Some.len rest) (omega (arith, length-drop c.in-Some.len rest)) in
+    record { fits = omega (arith, c.requires.bytes, ahead.place_is, ahead.shorter, short, least, ap length after_is, length-drop c.in-Some.len rest) }
 
 pub loop-rest-smaller : goal.loop-rest-smaller
 loop-rest-smaller c =
-    let far = c.in-Some.len + c.one_space.result in
+    let far = c.in-Some.len + c.space_after.result in
     let rest = c.loop-rest.rest.now in
     let (same, some, short, next) = met (goal.at.loop-rest-smaller c).In-Some in
     let after_is : take (length rest - far) (drop far rest) ≡ drop far rest = take_all (length rest - far) (drop far rest) (omega (arith, length-drop far rest)) in
@@ -43,7 +45,7 @@ loop-rest-smaller c =
 
 pub loop-rest-preserved : goal.loop-rest-preserved
 loop-rest-preserved c = record {
-  ahead = ahead_more c.args.self.now c.loop-rest.self c.meet_token.new.self c.args.bytes.now c.loop-rest.rest.now c.loop-rest.place c.in-Some.len c.one_space.result c.push.new.self c.in-Some.kind c.requires.free c.loop-rest-test.true c.loop-rest.invariant.ahead (met (goal.at.loop-rest-preserved c).In-Some) c.in_ok-push.ensures.items c.one_space.ensures;
+  ahead = ahead_more c.args.self.now c.loop-rest.self c.meet_token.new.self c.args.bytes.now c.loop-rest.rest.now c.loop-rest.place c.in-Some.len c.space_after.result c.push.new.self c.in-Some.kind c.requires.free c.loop-rest.invariant.ahead (met (goal.at.loop-rest-preserved c).In-Some) c.in_ok-push.ensures.items c.space_after.ensures;
 }
 
 pub overflow_sub-result-2 : goal.overflow_sub-result-2

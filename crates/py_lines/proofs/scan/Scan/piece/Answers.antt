@@ -1,6 +1,0 @@
-use Rattle.std.proofs.Common.{inl, inr, ◌∙◌}
-use Rattle.py_lines.proofs.LineScan.FirstBytes.{alone_taken}
-use Rattle.py_lines.proofs.scan.Scan.piece.Goals as goal
-
-pub returns-in_ok-add-in-Operator : goal.returns-in_ok-add-in-Operator
-returns-in_ok-add-in-Operator c = inr (inr (inl (alone_taken c.args.self.now c.add.new.self c.args.bytes.now c.in-Some.first (c.in-Some.ensures ∙ c.first.ensures.value) c.in-Operator.ensures c.in_ok-add-in-Operator.ensures)))
