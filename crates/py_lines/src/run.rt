@@ -2,9 +2,8 @@
 
 ghost use Rattle.std.specs.Prelude.{◌≡◌, ◌<◌, ◌≤◌, ◌==◌, ℕ, Bool, true, List, length};
 ghost use Rattle.py_lines.specs.Character.{is_space};
-ghost use Rattle.py_lines.specs.Piece.{begins};
 ghost use Rattle.py_lines.specs.declared.mode.Mode.TheVariants.{Word};
-ghost use Rattle.py_lines.specs.Private.Run.{BeginsSo, CountsSet, HasAsciiQuote, HasRun, IsRunOf, IsWordBeforeMore, Marks, Spans, is_between, is_in_run, is_ascii_word, is_comment_byte, is_body_byte, is_text_byte, stays};
+ghost use Rattle.py_lines.specs.Private.Run.{BeginsSo, CountsSet, HasAsciiQuote, HasRun, IsRunOf, IsWholeComment, IsWordBeforeMore, Marks, Spans, is_between, is_in_run, is_ascii_word, is_comment_byte, is_body_byte, is_text_byte, is_remark_byte, stays};
 
 use crate::character::is_break;
 use crate::mode::{Mode, Spelling};
@@ -12,7 +11,7 @@ use crate::run::FirstByte::{
     Backslash as K, Bracket as B, Hash as H, LineFeed as L, Operator as O, Other as X, Quote as Q,
     Return as R, Space as S, Word as W,
 };
-use crate::utf8::utf8_len;
+use crate::utf8::{is_utf8, utf8_len};
 use std::simd::prelude::*;
 
 /// Whether the byte is an ASCII letter, a digit or the underscore.
@@ -85,6 +84,13 @@ fn is_text_byte(quote: u8, b: u8) -> bool
     is_body_byte(quote, b) && b < 128
 }
 
+/// Whether the byte is ASCII, and ends no line.
+fn is_remark_byte(b: u8) -> bool
+    ensures { result ≡ is_remark_byte b }
+{
+    !is_break(b as char) && b < 128
+}
+
 /// The lanes whose bytes are from `low` to `high`.
 #[inline(always)]
 fn between(lanes: u8x16, low: u8, high: u8) -> u8x16
@@ -144,6 +150,17 @@ fn text(quote: u8, lanes: u8x16) -> u8x16
     body(quote, lanes) & ascii
 }
 
+/// The lanes of a comment, where it is ASCII.
+#[inline(always)]
+fn remark(lanes: u8x16) -> u8x16
+    ensures { Marks is_remark_byte lanes result }
+{
+    let ascii = lanes
+        .simd_lt(u8x16::splat(128))
+        .select(u8x16::splat(255), u8x16::splat(0));
+    equal(equal(lanes, b'\n') | equal(lanes, b'\r'), 0) & ascii
+}
+
 /// How many lanes are set before the first that isn't.
 #[inline(always)]
 fn set_first(mask: u8x16) -> usize
@@ -168,6 +185,8 @@ pub enum Run {
     Body(u8),
     /// The same, as far as it is ASCII.
     Text(u8),
+    /// A comment, as far as it is ASCII.
+    Remark,
 }
 
 impl Run {
@@ -180,6 +199,7 @@ impl Run {
             Run::Space => is_space_byte(b),
             Run::Body(quote) => is_body_byte(quote, b),
             Run::Text(quote) => is_text_byte(quote, b),
+            Run::Remark => is_remark_byte(b),
         }
     }
 
@@ -193,6 +213,7 @@ impl Run {
             Run::Space => spaces(lanes),
             Run::Body(quote) => body(quote, lanes),
             Run::Text(quote) => text(quote, lanes),
+            Run::Remark => remark(lanes),
         }
     }
 
@@ -231,19 +252,6 @@ impl Run {
             len += 1;
         }
         len
-    }
-}
-
-/// How many bytes of space a text begins with that begins with one. Mostly it stands alone.
-#[inline(always)]
-pub fn space_run(bytes: &[u8]) -> usize
-    requires { begins is_space bytes.now ≡ true }
-    ensures { IsRunOf is_space bytes.now result }
-{
-    if bytes.len() > 1 && !is_space_byte(bytes[1]) {
-        1
-    } else {
-        Run::Space.len_in(bytes)
     }
 }
 
@@ -303,6 +311,26 @@ pub fn comment_run(bytes: &[u8]) -> usize
         Some(len) => len,
         None => bytes.len(),
     }
+}
+
+/// How many bytes the comment has that a text begins with, if it is whole characters and a line end follows it.
+#[inline(always)]
+pub fn whole_comment(bytes: &[u8]) -> Option<usize>
+    ensures { IsWholeComment bytes.now result }
+{
+    let ascii = Run::Remark.len_in(bytes);
+    if ascii == bytes.len() {
+        return None;
+    }
+    if bytes[ascii].is_ascii() {
+        return Some(ascii);
+    }
+    let rest = &bytes[ascii..];
+    let run = comment_run(rest);
+    if run == rest.len() || !is_utf8(&rest[..run]) {
+        return None;
+    }
+    Some(ascii + run)
 }
 
 /// How many bytes the body of a string goes on, up to what escapes or ends a line, or to bytes that begin no character.

@@ -9,11 +9,10 @@ ghost use Rattle.py_lines.specs.Token.{is_comment};
 
 use crate::character::is_line_feed;
 use crate::mode::{Mode, Spelling};
-use crate::run::{FirstByte, Run, comment_run, space_run, word_before_more};
+use crate::run::{FirstByte, Run, whole_comment, word_before_more};
 use crate::scan::{OpenPiece, Scan};
 use crate::token::{TokKind, Token};
 use crate::unit::UnitKind;
-use crate::utf8::is_utf8;
 use std::alloc::AllocError;
 
 /// `add_tokens` looks for a token where more bytes than these stand, so that it needn't ask for each byte whether there is one.
@@ -152,7 +151,7 @@ impl Scan {
         requires begins { begins is_space bytes.now ≡ true }
         ensures { TakesRun is_space may_begin space_mode self.old bytes.now result self.new }
     {
-        let len = space_run(bytes);
+        let len = Run::Space.len_in(bytes);
         if !self.is_begun(&bytes[len..]) {
             self.open(Mode::Space, len);
             return len;
@@ -203,10 +202,9 @@ impl Scan {
         requires begins { begins is_hash bytes.now ≡ true }
         ensures { TakesRemark self.old bytes.now result self.new }
     {
-        let len = comment_run(bytes);
-        if len == bytes.len() || !is_utf8(&bytes[..len]) {
+        let Some(len) = whole_comment(bytes) else {
             return Ok(Taken::Nothing);
-        }
+        };
         self.open(Mode::Comment, len);
         self.close()?;
         Ok(Taken::Bytes(len))
@@ -220,11 +218,10 @@ impl Scan {
         requires lines { self.old.count.line + 1 < 2 ^ 64 }
         ensures { TakesLineFeed self.old result self.new }
     {
-        let ends = self.ends_line();
         self.read('\n');
         self.margin = false;
         self.free();
-        if ends {
+        if self.ends_line() {
             Taken::LineEnd(1)
         } else {
             Taken::Bytes(1)

@@ -1,7 +1,8 @@
 -- Whole characters that leave the open piece as it is.
-use Rattle.std.proofs.Common.{◌≡◌, ℕ, ◌+◌, ◌-◌, ◌<◌, ◌≤◌, Bool, true, List, [], refl, length, take, drop, slice_index, inl, inr, sym, ap, ◌∙◌, subst, arith, length-drop, length-take, take_all}
+use Rattle.std.proofs.Common.{◌≡◌, ℕ, ◌+◌, ◌-◌, ◌<◌, ◌≤◌, Bool, true, false, ◌&&◌, Some, List, [], refl, length, take, drop, slice_index, inl, inr, sym, ap, ◌∙◌, subst, arith, length-drop, length-take, take_all}
 use Rattle.std.specs.Prelude.{IsUtf8, nat_lt}
-use Rattle.std.proofs.lemmas.Bool.{and_parts, cases_lt}
+use Rattle.std.specs.Char.{is_ascii}
+use Rattle.std.proofs.lemmas.Bool.{and_parts, both_ways, cases_lt}
 use Rattle.std.proofs.lemmas.Bool.Decides.{nat_tests}
 use Rattle.std.proofs.lemmas.List.{length-take-le, get_or-take, get_or-drop, take-take}
 use Rattle.std.proofs.lemmas.List.Elements.{All-from_get_or}
@@ -9,8 +10,9 @@ use Rattle.std.proofs.lemmas.Str.{IsUtf8-from_ascii, IsUtf8-append}
 use Rattle.std.proofs.lemmas.Str.Ascii.{IsAscii-from_all}
 use Rattle.std.proofs.Math.Seq.{take-add}
 use Rattle.py_lines.specs.Character.{is_space}
+use Rattle.py_lines.proofs.Text.Lanes.{run_goes_on}
 use Rattle.py_lines.proofs.LineScan.Runs.{space_low, word_byte_low}
-use Rattle.py_lines.specs.Private.Run.{IsRunOf, Spans, is_ascii_word, is_body_byte, is_text_byte}
+use Rattle.py_lines.specs.Private.Run.{IsRunOf, IsWholeComment, Spans, is_comment_byte, is_remark_byte, is_ascii_word, is_body_byte, is_text_byte}
 
 -- bytes below 128 are characters
 ascii_utf8 : (bytes : List ℕ) (n : ℕ) → n ≤ length bytes → ((i : ℕ) → i < n → slice_index bytes i < 128) → IsUtf8 (take n bytes)
@@ -74,3 +76,39 @@ spans_on passes bytes n m first taken =
       };
       utf8 = subst IsUtf8 (sym (take-add n m bytes)) (IsUtf8-append (take n bytes) (take m (drop n bytes)) first.utf8 more.utf8);
     }
+
+-- a comment that a line end follows, where it is ASCII
+remark_parts : (c : ℕ) → is_remark_byte c ≡ true → (is_comment_byte c ≡ true) × (c < 128)
+remark_parts c h = let parts = and_parts (is_comment_byte c) (nat_lt c 128) h in (parts.0, low parts.1)
+  where
+    low : nat_lt c 128 ≡ true → c < 128
+    low is = grind (arith, nat_tests)
+
+comment_ends : (c : ℕ) → c < 128 → is_remark_byte c ≡ false → is_comment_byte c ≡ false
+comment_ends c less none = go (is_comment_byte c) (nat_lt c 128) (grind (arith, nat_tests)) none
+  where
+    go : (a b : Bool) → b ≡ true → a && b ≡ false → a ≡ false
+    go true true is h = h
+    go true false is h = absurd (both_ways _ refl is)
+    go false b is h = refl
+
+pub ascii_comment : (bytes : List ℕ) (n : ℕ) → IsRunOf is_remark_byte bytes n → n < length bytes → slice_index bytes n < 128 → IsWholeComment bytes (Some n)
+ascii_comment bytes n is more low = (
+  record { within = is.within; each = λ i less. (remark_parts (slice_index bytes i) (is.each i less)).0; ends = λ less. comment_ends (slice_index bytes n) low (is.ends less) },
+  ascii_utf8 bytes n is.within (λ i less. (remark_parts (slice_index bytes i) (is.each i less)).1),
+  more,
+)
+
+pub ascii_low : (c : ℕ) → is_ascii c ≡ true → c < 128
+ascii_low c h = grind (arith, nat_tests)
+
+-- and where ASCII begins it
+pub wide_comment : (bytes : List ℕ) (n m : ℕ) → IsRunOf is_remark_byte bytes n → IsRunOf is_comment_byte (take (length bytes - n) (drop n bytes)) m → IsUtf8 (take m (take (length bytes - n) (drop n bytes))) → n + m < length bytes → IsWholeComment bytes (Some (n + m))
+wide_comment bytes n m is run utf8 more =
+    let rest_is : take (length bytes - n) (drop n bytes) ≡ drop n bytes = take_all (length bytes - n) (drop n bytes) (omega (arith, length-drop n bytes)) in
+    let first = ascii_utf8 bytes n is.within (λ i less. (remark_parts (slice_index bytes i) (is.each i less)).1) in
+    let later : IsUtf8 (take m (drop n bytes)) = subst (λ (t : List ℕ). IsUtf8 (take m t)) rest_is utf8 in (
+      run_goes_on is_comment_byte bytes n m is.within (λ i less. (remark_parts (slice_index bytes i) (is.each i less)).0) run,
+      subst IsUtf8 (sym (take-add n m bytes)) (IsUtf8-append (take n bytes) (take m (drop n bytes)) first later),
+      more,
+    )

@@ -57,14 +57,13 @@ pub or_none : (b : Bool) → b ≡ b || false
 or_none true = refl
 or_none false = refl
 
--- the lanes of no mark, where the marks are those of bytes that end the body of a string
-pub none_marked : (q : ℕ) (vs ms xs : List ℕ) → Marks (λ x. eqb x q || (eqb x 92 || (eqb x 10 || eqb x 13))) vs ms → Marks (λ x. eqb x 0) ms xs
-    → Marks (λ x. not (eqb x q || (eqb x 92 || (eqb x 10 || (eqb x 13 || false))))) vs xs
-none_marked q vs ms xs e f =
+-- the lanes of no mark
+pub none_marked : (p : ℕ → Bool) (vs ms xs : List ℕ) → Marks p vs ms → Marks (λ x. eqb x 0) ms xs → Marks (λ x. not (p x)) vs xs
+none_marked p vs ms xs e f =
     f
     ∙ ap (λ l. map (λ x. cond (eqb x 0) 255 0) l) e
-    ∙ map-map (λ x. cond (eqb x 0) 255 0) (λ x. cond (eqb x q || (eqb x 92 || (eqb x 10 || eqb x 13))) 255 0) vs
-    ∙ (λ i. map (λ x. cond (unmarked (eqb x q || (eqb x 92 || (eqb x 10 || or_none (eqb x 13) i))) i) 255 0) vs)
+    ∙ map-map (λ x. cond (eqb x 0) 255 0) (λ x. cond (p x) 255 0) vs
+    ∙ (λ i. map (λ x. cond (unmarked (p x) i) 255 0) vs)
 
 unset : (b : Bool) → ltb (cond b 255 0) 128 ≡ not b
 unset true = refl

@@ -74,16 +74,26 @@ is_body_byte quote c = not ((c == quote) || is_one_of (codes "\\\n\r") c)
 abbrev pub is_text_byte : ℕ → ℕ → Bool
 is_text_byte quote c = is_body_byte quote c && nat_lt c 128
 
+-- what stands in a comment
+abbrev pub is_comment_byte : ℕ → Bool
+is_comment_byte c = not (is_break c)
+
+-- the same, of ASCII
+abbrev pub is_remark_byte : ℕ → Bool
+is_remark_byte c = is_comment_byte c && nat_lt c 128
+
+-- the comment that the bytes begin with has so many of them, is whole characters, and a line end follows it
+abbrev pub IsWholeComment : List ℕ → Option ℕ → Type 0
+IsWholeComment bytes None = Unit {0}
+IsWholeComment bytes (Some len) = IsRunOf is_comment_byte bytes len × IsUtf8 (take len bytes) × (len < length bytes)
+
 -- whether a byte is one of a run's
 abbrev pub is_in_run : Run → ℕ → Bool
 is_in_run runs.Word = is_ascii_word
 is_in_run runs.Space = is_space
 is_in_run (runs.Body q) = is_body_byte q
 is_in_run (runs.Text q) = is_text_byte q
-
--- what stands in a comment
-abbrev pub is_comment_byte : ℕ → Bool
-is_comment_byte c = not (is_break c)
+is_in_run runs.Remark = is_remark_byte
 
 -- whether a byte, or a character, leaves the open piece as it is, and ends no line
 abbrev pub stays : Mode → ℕ → Bool

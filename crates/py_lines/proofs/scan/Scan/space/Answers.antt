@@ -11,11 +11,11 @@ use Rattle.py_lines.proofs.scan.Scan.space.Goals.{then-self, else-self}
 pub returns : goal.returns
 returns c =
     let old = c.args.self.now in
-    let len = c.space_run-len.result in
+    let len = c.len_in-len.result in
     let P : Scan → Type 0 = λ s. Closes (opened old modes.Space len) (freed (record s { margin = false; stop = s.stop + len; count = record { line = s.count.line; after_return = false } })) in
     let by : (b : Bool) → old.margin ≡ b → indent_closed old.indent modes.Space b len ≡ indent_closed old.indent modes.Space old.margin len = λ b is. ap (λ (m : Bool). indent_closed old.indent modes.Space m len) (sym is) in
     let next = followed_by may_begin (stack_of old.brackets) c.args.bytes.now len true (sym (c.is_begun.ensures c.if-not-is_begun.false)) in
-    takes_run is_space may_begin space_mode old c.args.bytes.now len _ c.space_run-len.ensures c.requires.begins
+    takes_run is_space may_begin space_mode old c.args.bytes.now len _ c.len_in-len.ensures c.requires.begins
     (inr (
       subst (Closes (opened old modes.Space len)) (sym c.free.ensures) (elim c.if-self.branch [
         | then-self w ↦ subst P (sym w.self-is) (space_closes old len len (by true w.if-self.true))
@@ -25,4 +25,4 @@ returns c =
     ))
 
 pub returns-then-not-is_begun : goal.returns-then-not-is_begun
-returns-then-not-is_begun c = takes_run is_space may_begin space_mode c.args.self.now c.args.bytes.now c.space_run-len.result c.open.new.self c.space_run-len.ensures c.requires.begins (inl c.open.ensures)
+returns-then-not-is_begun c = takes_run is_space may_begin space_mode c.args.self.now c.args.bytes.now c.len_in-len.result c.open.new.self c.len_in-len.ensures c.requires.begins (inl c.open.ensures)

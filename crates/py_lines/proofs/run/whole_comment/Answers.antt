@@ -1,0 +1,13 @@
+use Rattle.std.proofs.Common.{◌≡◌, ◌-◌, length, drop, take, sym, ap, ◌∙◌, arith, length-drop, take_all}
+use Rattle.py_lines.proofs.LineScan.Spans.{ascii_comment, ascii_low, wide_comment}
+use Rattle.py_lines.proofs.run.whole_comment.Goals as goal
+
+pub returns-then-is_ascii : goal.returns-then-is_ascii
+returns-then-is_ascii c = ascii_comment c.args.bytes.now c.len_in-ascii.result c.len_in-ascii.ensures (omega (arith, c.len_in-ascii.ensures.within, c.if-ascii-bytes.false)) (ascii_low _ (sym c.is_ascii.ensures ∙ c.if-is_ascii.true))
+
+pub returns : goal.returns
+returns c =
+    let bytes = c.args.bytes.now in
+    let n = c.len_in-ascii.result in
+    let rest_is : take (length bytes - n) (drop n bytes) ≡ drop n bytes = take_all (length bytes - n) (drop n bytes) (omega (arith, length-drop n bytes)) in
+    wide_comment bytes n c.comment_run-run.result c.len_in-ascii.ensures c.comment_run-run.ensures (c.is_utf8.ensures c.if-not-is_utf8.false) (omega (arith, c.comment_run-run.ensures.within, c.if-run-rest.false, ap length rest_is, length-drop n bytes))
