@@ -396,7 +396,7 @@ impl Scan {
     {
         let mut rest = bytes;
         'characters: loop {
-            let left = match self.pieces(rest)? {
+            let left = match self.take_pieces(rest)? {
                 Left::Bytes(left) => left,
                 Left::LineEnd(len) => return Ok(Stop::LineEnd(len)),
             };

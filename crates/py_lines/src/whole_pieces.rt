@@ -126,7 +126,7 @@ impl Scan {
     }
 
     /// Takes the word that the bytes begin with, after closed pieces, and answers its length.
-    fn word(&mut self, bytes: &[u8]) -> Result<usize, AllocError>
+    fn take_word(&mut self, bytes: &[u8]) -> Result<usize, AllocError>
         requires bytes { self.old.stop + length bytes.now < 2 ^ 64 }
         requires begins { begins is_ascii_word bytes.now ≡ true }
         ensures { IfOk result (λ len. TakesRun is_ascii_word follows word_mode self.old bytes.now len self.new) }
@@ -146,7 +146,7 @@ impl Scan {
     }
 
     /// Takes the space that the bytes begin with, after closed pieces, and answers its length.
-    fn space(&mut self, bytes: &[u8]) -> usize
+    fn take_space(&mut self, bytes: &[u8]) -> usize
         requires bytes { self.old.stop + length bytes.now < 2 ^ 64 }
         requires begins { begins is_space bytes.now ≡ true }
         ensures { TakesRun is_space may_begin space_mode self.old bytes.now result self.new }
@@ -167,7 +167,7 @@ impl Scan {
     }
 
     /// Takes the string that the bytes begin with, after closed pieces: where it is short, ASCII and has no escape.
-    fn string(&mut self, bytes: &[u8]) -> Result<Taken, AllocError>
+    fn take_string(&mut self, bytes: &[u8]) -> Result<Taken, AllocError>
         requires bytes { self.old.stop + length bytes.now < 2 ^ 64 }
         requires begins { begins is_quote bytes.now ≡ true }
         ensures { TakesText self.old bytes.now result self.new }
@@ -183,7 +183,7 @@ impl Scan {
     }
 
     /// Takes the bracket that the bytes begin with, after closed pieces, if it may stand there.
-    fn bracket(&mut self, bytes: &[u8]) -> Result<Taken, AllocError>
+    fn take_bracket(&mut self, bytes: &[u8]) -> Result<Taken, AllocError>
         requires bytes { self.old.stop + length bytes.now < 2 ^ 64 }
         requires begins { begins is_operator bytes.now ≡ true }
         ensures { TakesBracket self.old bytes.now result self.new }
@@ -197,7 +197,7 @@ impl Scan {
     }
 
     /// Takes the comment that the bytes begin with, after closed pieces, if it is whole characters and a line end follows it.
-    fn comment(&mut self, bytes: &[u8]) -> Result<Taken, AllocError>
+    fn take_comment(&mut self, bytes: &[u8]) -> Result<Taken, AllocError>
         requires bytes { self.old.stop + length bytes.now < 2 ^ 64 }
         requires begins { begins is_hash bytes.now ≡ true }
         ensures { TakesRemark self.old bytes.now result self.new }
@@ -212,7 +212,7 @@ impl Scan {
 
     /// Takes the LF that the bytes begin with, after closed pieces.
     #[inline(always)]
-    fn line_feed(&mut self) -> Taken
+    fn take_feed(&mut self) -> Taken
         requires free { is_free self.old.piece.mode ≡ true }
         requires bytes { self.old.stop + 1 < 2 ^ 64 }
         requires lines { self.old.count.line + 1 < 2 ^ 64 }
@@ -245,7 +245,7 @@ impl Scan {
     /// Takes the line end that the bytes begin with, after closed pieces: CR LF, or CR alone where it ends the line before
     /// another byte.
     #[inline(always)]
-    fn carriage_return(&mut self, bytes: &[u8]) -> Taken
+    fn take_return(&mut self, bytes: &[u8]) -> Taken
         requires bytes { self.old.stop + length bytes.now < 2 ^ 64 }
         requires lines { self.old.count.line + length bytes.now < 2 ^ 64 }
         requires begins { begins is_return bytes.now ≡ true }
@@ -401,26 +401,26 @@ impl Scan {
     }
 
     /// Takes the word or operator that the bytes begin with, after closed pieces.
-    fn token(&mut self, bytes: &[u8]) -> Result<Taken, AllocError>
+    fn take_token(&mut self, bytes: &[u8]) -> Result<Taken, AllocError>
         requires bytes { self.old.stop + length bytes.now < 2 ^ 64 }
         requires some { 0 < length bytes.now }
         ensures { TakesPiece self.old bytes.now result self.new }
     {
         let first = bytes[0];
         match FirstByte::of(first) {
-            FirstByte::Word => Ok(Taken::Bytes(self.word(bytes)?)),
+            FirstByte::Word => Ok(Taken::Bytes(self.take_word(bytes)?)),
             FirstByte::Operator => {
                 self.add(TokKind::Op(first), 1)?;
                 Ok(Taken::Bytes(1))
             }
-            FirstByte::Bracket => self.bracket(bytes),
+            FirstByte::Bracket => self.take_bracket(bytes),
             _ => Ok(Taken::Nothing),
         }
     }
 
     /// Takes the words and operators that the bytes begin with, after closed pieces: all that follow one another, or one.
     #[inline(always)]
-    fn tokens(&mut self, bytes: &[u8]) -> Result<Taken, AllocError>
+    fn take_tokens_or_one(&mut self, bytes: &[u8]) -> Result<Taken, AllocError>
         requires free { is_free self.old.piece.mode ≡ true }
         requires bytes { self.old.stop + length bytes.now < 2 ^ 64 }
         requires some { 0 < length bytes.now }
@@ -430,13 +430,13 @@ impl Scan {
         if len > 0 {
             return Ok(Taken::Bytes(len));
         }
-        self.token(bytes)
+        self.take_token(bytes)
     }
 
     /// Takes the piece that the bytes begin with, after closed pieces, or several words and operators: a word, space, an operator, a string, a comment or
     /// a line end.
     #[inline(always)]
-    fn piece(&mut self, bytes: &[u8]) -> Result<Taken, AllocError>
+    fn take_piece(&mut self, bytes: &[u8]) -> Result<Taken, AllocError>
         requires free { is_free self.old.piece.mode ≡ true }
         requires bytes { self.old.stop + length bytes.now < 2 ^ 64 }
         requires lines { self.old.count.line + length bytes.now < 2 ^ 64 }
@@ -446,19 +446,21 @@ impl Scan {
             return Ok(Taken::Nothing);
         };
         match FirstByte::of(first) {
-            FirstByte::Word | FirstByte::Operator | FirstByte::Bracket => self.tokens(bytes),
-            FirstByte::Space => Ok(Taken::Bytes(self.space(bytes))),
-            FirstByte::Quote => self.string(bytes),
-            FirstByte::LineFeed => Ok(self.line_feed()),
-            FirstByte::Return => Ok(self.carriage_return(bytes)),
-            FirstByte::Hash => self.comment(bytes),
+            FirstByte::Word | FirstByte::Operator | FirstByte::Bracket => self.take_tokens_or_one(
+                bytes,
+            ),
+            FirstByte::Space => Ok(Taken::Bytes(self.take_space(bytes))),
+            FirstByte::Quote => self.take_string(bytes),
+            FirstByte::LineFeed => Ok(self.take_feed()),
+            FirstByte::Return => Ok(self.take_return(bytes)),
+            FirstByte::Hash => self.take_comment(bytes),
             FirstByte::Backslash | FirstByte::Other => Ok(Taken::Nothing),
         }
     }
 
     /// Takes pieces, as long as they follow one another, up to the line's end.
     #[inline(always)]
-    pub fn pieces<'s>(&mut self, bytes: &'s [u8]) -> Result<Left<'s>, AllocError>
+    pub fn take_pieces<'s>(&mut self, bytes: &'s [u8]) -> Result<Left<'s>, AllocError>
         requires bytes { self.old.stop + length bytes.now < 2 ^ 64 }
         requires lines { self.old.count.line + length bytes.now < 2 ^ 64 }
         ensures shorter { IfOk result (IsNoLonger bytes.now) }
@@ -466,7 +468,7 @@ impl Scan {
     {
         let mut rest = bytes;
         'pieces: while self.piece.mode.is_free() {
-            match self.piece(rest)? {
+            match self.take_piece(rest)? {
                 Taken::Bytes(len) => rest = &rest[len..],
                 Taken::LineEnd(len) => return Ok(Left::LineEnd(len)),
                 Taken::Nothing => return Ok(Left::Bytes(rest)),

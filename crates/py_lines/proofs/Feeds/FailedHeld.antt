@@ -23,7 +23,7 @@ use Rattle.py_lines.specs.Private.Machine.{in_short, is_after_backslash, charact
 use Rattle.py_lines.specs.Private.Scan.{IsUnderWay, is_returned, is_return_mode, none_open, stack_of, refused_place}
 use Rattle.py_lines.specs.Private.LineState.{first_mode}
 use Rattle.py_lines.specs.declared.fault.FaultKind.{FaultKind}
-use Rattle.py_lines.specs.Private.Feed.{KeepsText, IsOpen, Refuses, FailsAt, FailsNext, FailsHeld}
+use Rattle.py_lines.specs.Private.Feed.{KeepsText, IsOpen, RefusesNext, FailsAt, FailsNext, FailsHeld}
 use Rattle.py_lines.proofs.Text.Incomplete.{part_none}
 use Rattle.py_lines.proofs.Lexings.DecidedFaults.{decided_lexing}
 use Rattle.py_lines.proofs.Readers.LineAnswers.{Within}
@@ -64,7 +64,7 @@ place_of_refused f read rest o way =
     ∙ ap (λ (n : ℕ). if in_short way.state.mode || is_after_backslash way.state.mode then byte_len (spelled way.state.done) else n) (open_stop f read rest o)
 
 -- a refused character
-by_character : (f new : Feed) (read rest : List ℕ) (o : IsOpen f read rest) (fault : Fault) (c : ℕ) (after : List ℕ) → IsScalar c → rest ≡ encode_utf8 c ++ after → Refuses f read c (lex.Fault fault) new → (text : List ℕ) (lines : List LogicalLine) → AreFirstLines text f.state.place f.state.line lines → GoesOnWith text f.state.place f.held.items → IsDecidedAt text f.state.place lines (length f.held.items) fault
+by_character : (f new : Feed) (read rest : List ℕ) (o : IsOpen f read rest) (fault : Fault) (c : ℕ) (after : List ℕ) → IsScalar c → rest ≡ encode_utf8 c ++ after → RefusesNext f read c (lex.Fault fault) new → (text : List ℕ) (lines : List LogicalLine) → AreFirstLines text f.state.place f.state.line lines → GoesOnWith text f.state.place f.held.items → IsDecidedAt text f.state.place lines (length f.held.items) fault
 by_character f new read rest o fault c after scalar is r text lines first goes =
     let way = r.way in
     let more = read ++ c ∷ [] in

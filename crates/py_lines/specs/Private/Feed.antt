@@ -73,7 +73,7 @@ ClosesLine old end_len (Err (lex.Fault f)) new = ⊥
 ClosesLine old end_len (Err lex.Memory) new = Restarts old new
 
 -- the line that is open in what is held may not go on with this character
-pub record Refuses (old : Feed) (read : List ℕ) (c : ℕ) (error : LexError) (new : Feed) : Type 0 where
+pub record RefusesNext (old : Feed) (read : List ℕ) (c : ℕ) (error : LexError) (new : Feed) : Type 0 where
   pub way : IsUnderWay (first_mode old.state.place) old.state.scan read
   pub refuses : stack_if (step way.state c) ≡ None
   pub not_yet : IsNotEnded old.state.scan c
@@ -94,7 +94,7 @@ pub record IsPart (f : Feed) (rest : List ℕ) : Type 0 where
 
 -- the fault of what is held next: a character that is refused, or bytes that begin none
 pub data FailsNext (old : Feed) (read rest : List ℕ) (error : LexError) (new : Feed) : Type 0 where
-  at_character : (c : ℕ) (after : List ℕ) → IsScalar c → rest ≡ encode_utf8 c ++ after → Refuses old read c error new
+  at_character : (c : ℕ) (after : List ℕ) → IsScalar c → rest ≡ encode_utf8 c ++ after → RefusesNext old read c error new
       → FailsNext old read rest error new
   at_bytes : IsUnderWay (first_mode old.state.place) old.state.scan read → IsHopeless rest → is_returned old.state.scan ≡ false
       → FailsAt old BadUtf8 old.state.scan.stop error new → FailsNext old read rest error new

@@ -9,7 +9,7 @@ use Rattle.py_lines.proofs.scan.Scan.extend.Goals as goal
 use Rattle.py_lines.proofs.scan.Scan.extend.Goals.{In-Bytes, In_ok-take, In-Going}
 
 -- where the pieces have left the scan
-shuts : (c : In-Bytes) → ShutsTo c.args.self.now c.args.bytes.now c.pieces.new.self c.in-Bytes.left.now
+shuts : (c : In-Bytes) → ShutsTo c.args.self.now c.args.bytes.now c.take_pieces.new.self c.in-Bytes.left.now
 shuts c = left_shuts c.in-Bytes.is c.characters.invariant.goes c.in_ok-left.ensures.reached
 
 -- the bytes after the character
@@ -17,53 +17,53 @@ after_is : (before : List ℕ) (c len : ℕ) → len ≡ len_utf8 c → take (le
 after_is before c len is = take_all (length before - len) (drop len before) (omega (arith, length-drop len before)) ∙ ap (λ (n : ℕ). drop n before) is
 
 -- what the character came to
-came : (c : In_ok-take) (p : Progress) → c.in_ok-take.field-0 ≡ p → TakesTo c.pieces.new.self c.in-Some.c p c.take.new.self
-came c p is = subst (λ (q : Progress). TakesTo c.pieces.new.self c.in-Some.c q c.take.new.self) is (record { begun = c.in_ok-take.ensures.begins; taken = c.in_ok-take.ensures.takes })
+came : (c : In_ok-take) (p : Progress) → c.in_ok-take.field-0 ≡ p → TakesTo c.take_pieces.new.self c.in-Some.c p c.take.new.self
+came c p is = subst (λ (q : Progress). TakesTo c.take_pieces.new.self c.in-Some.c q c.take.new.self) is (record { begun = c.in_ok-take.ensures.begins; taken = c.in_ok-take.ensures.takes })
 
 -- where the character has brought the scan, if the line goes on
 goes : (c : In-Going) → GoesTo c.args.self.now c.args.bytes.now c.take.new.self (drop (len_utf8 c.in-Some.c) c.in-Bytes.left.now)
 goes c =
     let shut = left_shuts c.in-Bytes.is c.characters.invariant.goes c.in_ok-left.ensures.reached in
-    let to = subst (λ (p : Progress). TakesTo c.pieces.new.self c.in-Some.c p c.take.new.self) c.in-Going.is (record { begun = c.in_ok-take.ensures.begins; taken = c.in_ok-take.ensures.takes }) in
-    goes_character c.args.self.now c.args.bytes.now c.pieces.new.self c.in-Bytes.left.now shut c.in-Some.c c.in-Some.ensures.scalar (drop (len_utf8 c.in-Some.c) c.in-Bytes.left.now) (sym c.in-Some.ensures.spell) c.take.new.self (sym c.ends_before.ensures ∙ c.if-ends_before.false) to
+    let to = subst (λ (p : Progress). TakesTo c.take_pieces.new.self c.in-Some.c p c.take.new.self) c.in-Going.is (record { begun = c.in_ok-take.ensures.begins; taken = c.in_ok-take.ensures.takes }) in
+    goes_character c.args.self.now c.args.bytes.now c.take_pieces.new.self c.in-Bytes.left.now shut c.in-Some.c c.in-Some.ensures.scalar (drop (len_utf8 c.in-Some.c) c.in-Bytes.left.now) (sym c.in-Some.ensures.spell) c.take.new.self (sym c.ends_before.ensures ∙ c.if-ends_before.false) to
 
 pub characters-init : goal.characters-init
 characters-init c = record { goes = λ m line whole start r. r }
 
-pub pieces-requires-clause-bytes : goal.pieces-requires-clause-bytes
-pieces-requires-clause-bytes c = omega (arith, c.requires.bytes, goes_room c.args.self.now c.args.bytes.now c.characters.self c.characters.rest.now c.requires.way c.characters.invariant.goes)
+pub take_pieces-requires-clause-bytes : goal.take_pieces-requires-clause-bytes
+take_pieces-requires-clause-bytes c = omega (arith, c.requires.bytes, goes_room c.args.self.now c.args.bytes.now c.characters.self c.characters.rest.now c.requires.way c.characters.invariant.goes)
 
-pub pieces-requires-clause-lines : goal.pieces-requires-clause-lines
-pieces-requires-clause-lines c = omega (arith, goes_room c.args.self.now c.args.bytes.now c.characters.self c.characters.rest.now c.requires.way c.characters.invariant.goes, c.requires.lines, goes_lines c.args.self.now c.args.bytes.now c.characters.self c.characters.rest.now c.requires.way c.characters.invariant.goes)
+pub take_pieces-requires-clause-lines : goal.take_pieces-requires-clause-lines
+take_pieces-requires-clause-lines c = omega (arith, goes_room c.args.self.now c.args.bytes.now c.characters.self c.characters.rest.now c.requires.way c.characters.invariant.goes, c.requires.lines, goes_lines c.args.self.now c.args.bytes.now c.characters.self c.characters.rest.now c.requires.way c.characters.invariant.goes)
 
 pub returns-in-LineEnd : goal.returns-in-LineEnd
-returns-in-LineEnd c = record { stops = left_ends c.args.self.now c.args.bytes.now c.characters.self c.characters.rest.now c.pieces.new.self c.in_ok-left.field-0 c.in-LineEnd.len c.in-LineEnd.is c.characters.invariant.goes c.in_ok-left.ensures.reached }
+returns-in-LineEnd c = record { stops = left_ends c.args.self.now c.args.bytes.now c.characters.self c.characters.rest.now c.take_pieces.new.self c.in_ok-left.field-0 c.in-LineEnd.len c.in-LineEnd.is c.characters.invariant.goes c.in_ok-left.ensures.reached }
 
 pub returns-in_default : goal.returns-in_default
-returns-in_default c = record { stops = stops_text c.args.self.now c.args.bytes.now c.pieces.new.self c.in-Bytes.left.now (shuts (goal.at.returns-in_default c).In-Bytes) c.in_default.ensures }
+returns-in_default c = record { stops = stops_text c.args.self.now c.args.bytes.now c.take_pieces.new.self c.in-Bytes.left.now (shuts (goal.at.returns-in_default c).In-Bytes) c.in_default.ensures }
 
 pub close-requires : goal.close-requires
-close-requires c = shuts_order c.args.self.now c.args.bytes.now c.pieces.new.self c.in-Bytes.left.now c.requires.way (shuts (goal.at.close-requires c).In-Bytes)
+close-requires c = shuts_order c.args.self.now c.args.bytes.now c.take_pieces.new.self c.in-Bytes.left.now c.requires.way (shuts (goal.at.close-requires c).In-Bytes)
 
 pub returns-then-ends_before : goal.returns-then-ends_before
 returns-then-ends_before c = record {
-  stops = stops_returned c.args.self.now c.args.bytes.now c.pieces.new.self c.in-Bytes.left.now (shuts (goal.at.returns-then-ends_before c).In-Bytes) c.in-Some.c c.in-Some.ensures.scalar _ (sym c.in-Some.ensures.spell) c.close.new.self (sym c.ends_before.ensures ∙ c.if-ends_before.true) c.in_ok-close.ensures;
+  stops = stops_returned c.args.self.now c.args.bytes.now c.take_pieces.new.self c.in-Bytes.left.now (shuts (goal.at.returns-then-ends_before c).In-Bytes) c.in-Some.c c.in-Some.ensures.scalar _ (sym c.in-Some.ensures.spell) c.close.new.self (sym c.ends_before.ensures ∙ c.if-ends_before.true) c.in_ok-close.ensures;
 }
 
 pub take-requires-clause-order : goal.take-requires-clause-order
-take-requires-clause-order c = shuts_order c.args.self.now c.args.bytes.now c.pieces.new.self c.in-Bytes.left.now c.requires.way (shuts (goal.at.take-requires-clause-order c).In-Bytes)
+take-requires-clause-order c = shuts_order c.args.self.now c.args.bytes.now c.take_pieces.new.self c.in-Bytes.left.now c.requires.way (shuts (goal.at.take-requires-clause-order c).In-Bytes)
 
 pub take-requires-clause-bytes : goal.take-requires-clause-bytes
 take-requires-clause-bytes c =
     let before = c.in-Bytes.left.now in
-    let room = shuts_room c.args.self.now c.args.bytes.now c.pieces.new.self before c.requires.way (shuts (goal.at.take-requires-clause-bytes c).In-Bytes) in
+    let room = shuts_room c.args.self.now c.args.bytes.now c.take_pieces.new.self before c.requires.way (shuts (goal.at.take-requires-clause-bytes c).In-Bytes) in
     omega (arith, c.requires.bytes, room, ap length c.in-Some.ensures.spell, length-append (encode_utf8 c.in-Some.c) (drop (len_utf8 c.in-Some.c) before), length-encode c.in-Some.c)
 
 pub take-requires-clause-lines : goal.take-requires-clause-lines
 take-requires-clause-lines c =
     let before = c.in-Bytes.left.now in
     let shut = shuts (goal.at.take-requires-clause-lines c).In-Bytes in
-    omega (arith, c.requires.lines, shuts_room c.args.self.now c.args.bytes.now c.pieces.new.self before c.requires.way shut, shuts_lines c.args.self.now c.args.bytes.now c.pieces.new.self before c.requires.way shut)
+    omega (arith, c.requires.lines, shuts_room c.args.self.now c.args.bytes.now c.take_pieces.new.self before c.requires.way shut, shuts_lines c.args.self.now c.args.bytes.now c.take_pieces.new.self before c.requires.way shut)
 
 pub hold-rest-requires-clause-bytes : goal.hold-rest-requires-clause-bytes
 hold-rest-requires-clause-bytes c =
@@ -82,9 +82,9 @@ characters-preserved c =
 pub returns-in-LineEnded : goal.returns-in-LineEnded
 returns-in-LineEnded c =
     let at = goal.at.returns-in-LineEnded c in
-    record { stops = stops_line c.args.self.now c.args.bytes.now c.pieces.new.self c.in-Bytes.left.now (shuts at.In-Bytes) c.in-Some.c c.in-Some.ensures.scalar _ (sym c.in-Some.ensures.spell) c.take.new.self c.in-LineEnded.len (sym c.ends_before.ensures ∙ c.if-ends_before.false) (came at.In_ok-take _ c.in-LineEnded.is) }
+    record { stops = stops_line c.args.self.now c.args.bytes.now c.take_pieces.new.self c.in-Bytes.left.now (shuts at.In-Bytes) c.in-Some.c c.in-Some.ensures.scalar _ (sym c.in-Some.ensures.spell) c.take.new.self c.in-LineEnded.len (sym c.ends_before.ensures ∙ c.if-ends_before.false) (came at.In_ok-take _ c.in-LineEnded.is) }
 
 pub returns-in-Refused : goal.returns-in-Refused
 returns-in-Refused c =
     let at = goal.at.returns-in-Refused c in
-    record { stops = stops_refused c.args.self.now c.args.bytes.now c.pieces.new.self c.in-Bytes.left.now (shuts at.In-Bytes) c.in-Some.c c.in-Some.ensures.scalar _ (sym c.in-Some.ensures.spell) c.take.new.self (sym c.ends_before.ensures ∙ c.if-ends_before.false) (came at.In_ok-take _ c.in-Refused.is) }
+    record { stops = stops_refused c.args.self.now c.args.bytes.now c.take_pieces.new.self c.in-Bytes.left.now (shuts at.In-Bytes) c.in-Some.c c.in-Some.ensures.scalar _ (sym c.in-Some.ensures.spell) c.take.new.self (sym c.ends_before.ensures ∙ c.if-ends_before.false) (came at.In_ok-take _ c.in-Refused.is) }

@@ -5,8 +5,8 @@ use Rattle.py_lines.specs.declared.token.TokKind.{TokKind}
 use Rattle.py_lines.specs.Private.Scan.{stack_of}
 use Rattle.py_lines.specs.Private.Run.{opened, is_ascii_word, word_mode, follows, AddsToken}
 use Rattle.py_lines.proofs.LineScan.ShortPieces.{takes_run, takes_word, followed_by}
-use Rattle.py_lines.proofs.scan.Scan.word.Goals as goal
-use Rattle.py_lines.proofs.scan.Scan.word.Goals.{then-is_ascii_digit, else-is_ascii_digit}
+use Rattle.py_lines.proofs.scan.Scan.take_word.Goals as goal
+use Rattle.py_lines.proofs.scan.Scan.take_word.Goals.{then-is_ascii_digit, else-is_ascii_digit}
 
 pub returns-then-not-is_followed : goal.returns-then-not-is_followed
 returns-then-not-is_followed c = takes_run is_ascii_word follows word_mode c.args.self.now c.args.bytes.now c.len_in-len.result c.open.new.self c.len_in-len.ensures c.requires.begins (inl (c.open.ensures ∙ ap (λ (s : Spelling). opened c.args.self.now (modes.Word s) c.len_in-len.result) c.of_word.ensures))

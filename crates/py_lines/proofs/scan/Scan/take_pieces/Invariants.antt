@@ -3,7 +3,7 @@ use Rattle.py_lines.specs.declared.mode.Mode.{Mode}
 use Rattle.py_lines.specs.Private.Machine.{IsSound}
 use Rattle.py_lines.specs.Private.Scan.{line_start}
 use Rattle.py_lines.specs.Private.Run.{Reached, ReachedShut}
-use Rattle.py_lines.proofs.scan.Scan.pieces.Given as goal
+use Rattle.py_lines.proofs.scan.Scan.take_pieces.Given as goal
 
 abbrev pub invariant-pieces : goal.invariant-pieces
 invariant-pieces l = record {

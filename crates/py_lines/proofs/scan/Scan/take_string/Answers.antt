@@ -1,7 +1,7 @@
 use Rattle.std.proofs.Common.{◌≡◌, ℕ, ◌-◌, ◌<◌, List, length, take, drop, slice_index, refl, sym, ap, ◌∙◌, subst, arith, length-drop, take_all}
 use Rattle.py_lines.specs.Private.Run.{IsRunOf, is_text_byte}
 use Rattle.py_lines.proofs.LineScan.ShortPieces.{string_taken}
-use Rattle.py_lines.proofs.scan.Scan.string.Goals as goal
+use Rattle.py_lines.proofs.scan.Scan.take_string.Goals as goal
 
 pub returns : goal.returns
 returns c =

@@ -4,7 +4,7 @@ use Rattle.py_lines.specs.Private.Run.{is_free}
 use Rattle.py_lines.specs.Private.Scan.{ClosesAndAdds, freed, line_end_progress, none_open, stack_of, with_character}
 use Rattle.py_lines.proofs.LineScan.PieceEnd.{feed_adds}
 use Rattle.py_lines.proofs.LineScan.ShortPieces.{settled, settles, free_is}
-use Rattle.py_lines.proofs.scan.Scan.line_feed.Goals as goal
+use Rattle.py_lines.proofs.scan.Scan.take_feed.Goals as goal
 
 adds : (old read new : Scan) → is_free old.piece.mode ≡ true → read ≡ with_character old 10 → new ≡ freed (record read { margin = false }) → ClosesAndAdds old 10 None new
 adds old read new free reads is = feed_adds old (settled old) new 10 (settles old (free_is old.piece.mode free)) (is ∙ ap (λ (s : Scan). freed (record s { margin = false })) reads)

@@ -1,7 +1,7 @@
 use Rattle.std.proofs.Common.{◌≡◌, ℕ, get_or, inl, inr, refl, sym, ap, ◌∙◌, arith}
 use Rattle.std.specs.Prelude.{unwrap_or}
 use Rattle.py_lines.proofs.LineScan.CarriageReturns.{alone_taken, feed_taken}
-use Rattle.py_lines.proofs.scan.Scan.carriage_return.Goals as goal
+use Rattle.py_lines.proofs.scan.Scan.take_return.Goals as goal
 
 pub returns-then-ends : goal.returns-then-ends
 returns-then-ends c =

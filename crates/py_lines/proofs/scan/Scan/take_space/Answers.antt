@@ -5,8 +5,8 @@ use Rattle.py_lines.specs.declared.scan.Scan.{Scan}
 use Rattle.py_lines.specs.Private.Scan.{Closes, freed, indent_closed, stack_of}
 use Rattle.py_lines.specs.Private.Run.{may_begin, opened, space_mode}
 use Rattle.py_lines.proofs.LineScan.ShortPieces.{takes_run, space_closes, followed_by}
-use Rattle.py_lines.proofs.scan.Scan.space.Goals as goal
-use Rattle.py_lines.proofs.scan.Scan.space.Goals.{then-self, else-self}
+use Rattle.py_lines.proofs.scan.Scan.take_space.Goals as goal
+use Rattle.py_lines.proofs.scan.Scan.take_space.Goals.{then-self, else-self}
 
 pub returns : goal.returns
 returns c =

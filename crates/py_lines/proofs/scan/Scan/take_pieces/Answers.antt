@@ -6,7 +6,7 @@ use Rattle.py_lines.specs.Private.Run.{TakesPiece}
 use Rattle.py_lines.proofs.LineScan.LineStops.{ShutsTo}
 use Rattle.py_lines.proofs.LineScan.NextPieces.{ends_line, none_goes, piece_far, piece_goes}
 use Rattle.py_lines.proofs.LineScan.ShortPieces.{shut_from}
-use Rattle.py_lines.proofs.scan.Scan.pieces.Goals as goal
+use Rattle.py_lines.proofs.scan.Scan.take_pieces.Goals as goal
 
 pub pieces-init : goal.pieces-init
 pieces-init c = record {
@@ -27,20 +27,20 @@ pub pieces-preserved : goal.pieces-preserved
 pieces-preserved c =
     let bytes = c.pieces.rest.now in
     let len = c.in-Bytes.len in
-    let takes = takes_bytes c.pieces.self c.piece.new.self bytes _ len c.in-Bytes.is c.in_ok-len.ensures in
-    let far = piece_far c.pieces.self c.piece.new.self bytes len takes in
+    let takes = takes_bytes c.pieces.self c.take_piece.new.self bytes _ len c.in-Bytes.is c.in_ok-len.ensures in
+    let far = piece_far c.pieces.self c.take_piece.new.self bytes len takes in
     let rest = after_is bytes len in
     record {
       room = omega (arith, c.pieces.invariant.room, far.stop, far.within, ap length rest, length-drop len bytes);
       lines = omega (arith, c.pieces.invariant.lines, far.lines, far.within, ap length rest, length-drop len bytes);
       shorter = omega (arith, c.pieces.invariant.shorter, ap length rest, length-drop len bytes);
-      reached = subst (ShutsTo c.args.self.now c.args.bytes.now c.piece.new.self) (sym rest) (piece_goes c.args.self.now c.args.bytes.now c.pieces.self c.piece.new.self bytes (sym c.is_free.ensures ∙ c.pieces-test.true) c.pieces.invariant.reached len takes);
+      reached = subst (ShutsTo c.args.self.now c.args.bytes.now c.take_piece.new.self) (sym rest) (piece_goes c.args.self.now c.args.bytes.now c.pieces.self c.take_piece.new.self bytes (sym c.is_free.ensures ∙ c.pieces-test.true) c.pieces.invariant.reached len takes);
     }
 
 pub returns-in-Nothing-clause-reached : goal.returns-in-Nothing-clause-reached
 returns-in-Nothing-clause-reached c =
     let old = c.pieces.self in
-    let new = c.piece.new.self in
+    let new = c.take_piece.new.self in
     let bytes = c.pieces.rest.now in
     let takes : TakesPiece old bytes (Ok taken.Nothing) new = subst (λ (r : Taken). TakesPiece old bytes (Ok r) new) c.in-Nothing.is c.in_ok-len.ensures in
     none_goes c.args.self.now c.args.bytes.now old new bytes (sym c.is_free.ensures ∙ c.pieces-test.true) c.pieces.invariant.reached takes
@@ -48,7 +48,7 @@ returns-in-Nothing-clause-reached c =
 pub returns-in-LineEnd-clause-reached : goal.returns-in-LineEnd-clause-reached
 returns-in-LineEnd-clause-reached c =
     let old = c.pieces.self in
-    let new = c.piece.new.self in
+    let new = c.take_piece.new.self in
     let bytes = c.pieces.rest.now in
     let len = c.in-LineEnd.len in
     let takes : TakesPiece old bytes (Ok (taken.LineEnd len)) new = subst (λ (r : Taken). TakesPiece old bytes (Ok r) new) c.in-LineEnd.is c.in_ok-len.ensures in
@@ -57,5 +57,5 @@ returns-in-LineEnd-clause-reached c =
 pub pieces-smaller : goal.pieces-smaller
 pieces-smaller c =
     let len = c.in-Bytes.len in
-    let far = piece_far c.pieces.self c.piece.new.self c.pieces.rest.now len (takes_bytes c.pieces.self c.piece.new.self c.pieces.rest.now _ len c.in-Bytes.is c.in_ok-len.ensures) in
+    let far = piece_far c.pieces.self c.take_piece.new.self c.pieces.rest.now len (takes_bytes c.pieces.self c.take_piece.new.self c.pieces.rest.now _ len c.in-Bytes.is c.in_ok-len.ensures) in
     omega (arith, far.some, far.within, ap length (after_is c.pieces.rest.now len), length-drop len c.pieces.rest.now)
