@@ -15,6 +15,8 @@ use std::alloc::Global;
 pub enum Step {
     /// The line counts, and binds this.
     Bindings(Vec<Binding>),
+    /// The line counts, and binds nothing, as most lines.
+    Plain,
     /// Nothing more counts: the line ends the top, or the text ends.
     End,
     /// The line counts and has this fault, or the rest of the text has it.
@@ -26,6 +28,7 @@ pub enum Step {
 }
 
 /// Whether the logical line ends the top.
+#[inline(always)]
 fn ends_top(unit: &Unit<'_>, options: FindOptions) -> bool
     ensures { result ≡ ends_top options (line_in unit.now) }
 {
@@ -40,7 +43,7 @@ pub fn is_plain(unit: &Unit<'_>, options: FindOptions) -> bool
     !has_first_word(unit) && !ends_top(unit, options)
 }
 
-/// What the logical line is to a finder.
+/// What the logical line is to a finder. It is never called plain.
 pub fn judge(alloc: Global, unit: &Unit<'_>, options: FindOptions) -> Step
     ensures { Judges options (line_in unit.now) result }
 {
@@ -61,7 +64,12 @@ pub fn next_step(alloc: Global, lines: &mut Lines<'_>, options: FindOptions) -> 
 {
     match lines.next_unit() {
         Ok(None) => Step::End,
-        Ok(Some(unit)) => judge(alloc, &unit, options),
+        Ok(Some(unit)) => {
+            if is_plain(&unit, options) {
+                return Step::Plain;
+            }
+            judge(alloc, &unit, options)
+        }
         Err(LexError::Fault(fault)) => Step::Fault(fault),
         Err(LexError::Memory) => Step::NoMemory,
     }

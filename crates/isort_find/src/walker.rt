@@ -164,19 +164,17 @@ impl Walker {
             Step::Bindings(bindings) => {
                 let skip = self.skip();
                 self.stand = Stand::Within(Pending::new(bindings, start, skip));
-                Ok(())
             }
-            Step::End => {
-                self.stand = Stand::End { passed: 0 };
-                Ok(())
-            }
-            Step::Fault(fault) => Err(self.fail(start, fault)),
+            Step::Plain => self.stand = Stand::Between { skip: 0 },
+            Step::End => self.stand = Stand::End { passed: 0 },
+            Step::Fault(fault) => return Err(self.fail(start, fault)),
             Step::LineLost => {
                 self.lose(start);
-                Err(FindError::Memory)
+                return Err(FindError::Memory);
             }
-            Step::NoMemory => Err(FindError::Memory),
+            Step::NoMemory => return Err(FindError::Memory),
         }
+        Ok(())
     }
 
     /// Reads a logical line, which begins at `start`. Without memory for its bindings it is left unread.

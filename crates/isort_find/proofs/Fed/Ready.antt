@@ -66,6 +66,7 @@ ready_read s (stand.Unread start skip) cursor new unread (inr held) = ap (λ (f 
   where
     by_step : (x : Step) → FollowsStep (walker_state (stand.Unread start skip) cursor) held.start x (Ok tt) held.walker → is_unread held.walker.stand ≡ false
     by_step (step.Bindings bindings) follows = ap (λ (w : WalkerState). is_unread w.stand) follows.1
+    by_step step.Plain follows = ap (λ (w : WalkerState). is_unread w.stand) follows.1
     by_step step.End follows = ap (λ (w : WalkerState). is_unread w.stand) follows.1
     by_step (step.Fault fault) follows = absurd (not_ok _ _ follows.0 refl)
     by_step step.LineLost follows = absurd (not_ok _ _ follows.0 refl)
@@ -86,6 +87,7 @@ ready_due s (stand.Unread start skip) cursor new unread (inr held) = let same = 
         let bs = map bound_of bindings.items in
         let now : due_in held.walker.stand ≡ length (drop skip bs) = ap (λ (w : WalkerState). due_in w.stand) follows.1 in
         omega (arith, now, length-drop skip bs, length-map bindings.items bound_of, bindings.ok, bindings.small)
+    by_step step.Plain follows = let now : due_in held.walker.stand ≡ 0 = ap (λ (w : WalkerState). due_in w.stand) follows.1 in omega (arith, now)
     by_step step.End follows = let now : due_in held.walker.stand ≡ 0 = ap (λ (w : WalkerState). due_in w.stand) follows.1 in omega (arith, now)
     by_step (step.Fault fault) follows = absurd (not_ok _ _ follows.0 refl)
     by_step step.LineLost follows = absurd (not_ok _ _ follows.0 refl)
@@ -225,6 +227,7 @@ error_of e other a h k = cc
 -- an error of reading the line
 step_error : SettledLaws → (s : ScannerState) (start here : LineStart) (skip : ℕ) (cursor : CursorState) (new : PieceFinderState) (line : LogicalLine) (x : Step) (w : WalkerState) (e : FindError) → HasReady s line here → Judges cursor.options line x → FollowsStep (walker_state (stand.Unread start skip) cursor) here x (Err e) w → new ≡ piece_finder_state s w.stand w.cursor → ((text : List ℕ) (bounds : List Bound) → HasFoundIn (piece_finder_state s (stand.Unread start skip) cursor) text bounds → HasFoundIn new text bounds) → GivesReady (piece_finder_state s (stand.Unread start skip) cursor) (Err e) new
 step_error laws s start here skip cursor new line (step.Bindings bindings) w e at judged follows same found = absurd (not_ok e (Err e) refl follows.0)
+step_error laws s start here skip cursor new line step.Plain w e at judged follows same found = absurd judged
 step_error laws s start here skip cursor new line step.End w e at judged follows same found = absurd (not_ok e (Err e) refl follows.0)
 step_error laws s start here skip cursor new line (step.Fault fault) w e at judged follows same found =
     let f = piece_finder_state s (stand.Unread start skip) cursor in

@@ -160,6 +160,7 @@ step_tries old w line start (step.Bindings bindings) result judged follows = rec
   turns = judged;
   follows = (ap tried_result follows.0, record { rest = pending_after start (skip_in old.stand) (map bound_of bindings.items); passes = record { dropped = []; split = refl; known = refl; start = refl; taken = omega arith }; same = follows.1 });
 }
+step_tries old w line start step.Plain result judged follows = absurd judged
 step_tries old w line start step.End result judged follows = record { trial = ending; turns = judged; follows = (ap tried_result follows.0, follows.1) }
 step_tries old w line start (step.Fault fault) result judged follows = record { trial = failing fault; turns = judged; follows = (ap tried_result follows.0, follows.1) }
 step_tries old w line start step.LineLost result judged follows = record { trial = lost; turns = tt; follows = (ap tried_result follows.0, follows.1) }

@@ -22,6 +22,7 @@ same_fault fault other r h k = let e : error.Fault other ≡ error.Fault fault =
 
 step_bad : (old mid : WalkerState) (line : LogicalLine) (start : LineStart) (s : Step) (read : Result (Unit {0}) FindError) (fault : Fault) → Judges old.cursor.options line s → FollowsStep old start s read mid → read ≡ Err (error.Fault fault) → TriesLine old line start (Err (error.Fault fault)) mid
 step_bad old mid line start (step.Bindings bindings) read fault judged follows is = absurd (not_fault fault read follows.0 is)
+step_bad old mid line start step.Plain read fault judged follows is = absurd judged
 step_bad old mid line start step.End read fault judged follows is = absurd (not_fault fault read follows.0 is)
 step_bad old mid line start (step.Fault other) read fault judged follows is = record { trial = failing other; turns = judged; follows = (sym is ∙ follows.0, follows.1) }
 step_bad old mid line start step.LineLost read fault judged follows is = absurd (memory_or_fault fault read follows.0 is)
@@ -33,6 +34,7 @@ tries_bad old mid line start read fault r is = step_bad old mid line start r.ste
 
 step_fine : (old mid new : WalkerState) (line : LogicalLine) (start : LineStart) (s : Step) (read : Result (Unit {0}) FindError) → Judges old.cursor.options line s → FollowsStep old start s read mid → ((fault : Fault) → read ≡ Err (error.Fault fault) → ⊥) → LooksAhead mid new → TriesLine old line start (Ok tt) new
 step_fine old mid new line start (step.Bindings bindings) read judged follows fine looks = record { trial = binding (map bound_of bindings.items); turns = judged; follows = (refl, subst (λ (w : WalkerState). LooksAhead w new) follows.1 looks) }
+step_fine old mid new line start step.Plain read judged follows fine looks = absurd judged
 step_fine old mid new line start step.End read judged follows fine looks = record { trial = ending; turns = judged; follows = (refl, subst (λ (w : WalkerState). LooksAhead w new) follows.1 looks) }
 step_fine old mid new line start (step.Fault fault) read judged follows fine looks = absurd (fine fault follows.0)
 step_fine old mid new line start step.LineLost read judged follows fine looks = record { trial = lost; turns = tt; follows = (refl, subst (λ (w : WalkerState). LooksAhead w new) follows.1 looks) }

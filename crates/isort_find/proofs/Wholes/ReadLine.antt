@@ -1,6 +1,7 @@
 -- What a finder is once it has gone back to a line that was left unread, and once it has read the next line.
 use Rattle.std.proofs.Common.{◌≡◌, ℕ, ◌-◌, ◌^◌, ◌<◌, ◌≤◌, true, false, None, Some, Result, Ok, Err, List, [], ◌∷◌, ◌++◌, length, map, inl, inr, refl, sym, ap, ◌∙◌, subst, length-drop, arith}
 use Rattle.std.proofs.lemmas.List.{length-map}
+use Rattle.std.proofs.Math.Seq.{drop-nil}
 use Rattle.py_lines.specs.LogicalLine.{LogicalLine}
 use Rattle.py_lines.specs.Lexed.{BeginsLexing}
 use Rattle.py_lines.specs.Reader as reader
@@ -14,7 +15,7 @@ use Rattle.isort_find.specs.Pending.{pending_after}
 use Rattle.isort_find.specs.Stand.{phase_in, skip_in, left_in, is_unread, IsInside, MeetsEndAt, EndsInFaultAt}
 use Rattle.isort_find.specs.Finder.{FinderState, HasFound, IsBeforeLine, FinderRunsOut, finder_state, finder_text, options_of, bytes_left, left_of}
 use Rattle.isort_find.specs.Private.CursorMoves.{cursor_before}
-use Rattle.isort_find.specs.Private.FinderSteps.{GoesBack, FollowsRead, ReadsOn, ReadsNextLine, closed_at, with_line, with_line_again}
+use Rattle.isort_find.specs.Private.FinderSteps.{KeepsGiven, GoesBack, FollowsRead, ReadsOn, ReadsNextLine, closed_at, with_line, with_line_again}
 use Rattle.isort_find.specs.Private.LineSteps.{GivesLine, StepsTo}
 use Rattle.isort_find.specs.Private.Walks.{WalkerState, read_again, unread_in, walker_state, with_stand}
 use Rattle.isort_find.specs.declared.error.FindError.{FindError}
@@ -116,30 +117,53 @@ bytes_read (stand.Within pending) size place read = refl
 bytes_read (stand.End passed) size place read = refl
 bytes_read (stand.Fault fault) size place read = refl
 
--- the line's bindings are to be looked at
-reads_on : Laws → (old f : FinderState) (options : FindOptions) (r : Reader) (bs : List Bound) → phase_in old.stand ≡ phase.Open → IsBack old f → options ≡ options_of f → GivesLine f.reader (λ line. Binds line bs × (ends_top options line ≡ false)) r → length bs < 2 ^ 64 → ReadsOn old (with_line (finder_state r f.stand f.cursor) (start_of f.reader) bs)
-reads_on one old f options r bs opened back options_are gives few =
+-- what was given stays where one more line is read: its bindings are to be looked at
+line_kept : Laws → (old f : FinderState) (options : FindOptions) (r : Reader) (bs : List Bound) → IsBack old f → options ≡ options_of f → GivesLine f.reader (λ line. Binds line bs × (ends_top options line ≡ false)) r → (bounds : List Bound) → HasFound old bounds → HasFound (with_line (finder_state r f.stand f.cursor) (start_of f.reader) bs) bounds
+line_kept one old f options r bs back options_are gives bounds h =
     let line = gives.0 in
     let continues = gives.1 in
     let counts : ends_top (options_of f) line ≡ false = subst (λ (o : FindOptions). ends_top o line ≡ false) options_are gives.2.1 in
+    let t = there old f bounds back h in
+    let inside = reads_bindings one (finder_text f) (options_of f) (start_of f.reader) (skip_in f.stand) line bounds bs (at_line f bounds r line t continues) gives.2.0 counts in
+    let pending = pending_after (start_of f.reader) (skip_in f.stand) bs in
+    record {
+      stopped = subst (λ (x : List ℕ). HasStopped x f.cursor bounds) (sym continues.text) t.stopped;
+      reached = record { lines = t.after.lines; line = line; given = continues.given t.after.lines t.given; inside = subst (λ (x : List ℕ). IsInside x (options_of f) t.after.lines line pending bounds) (sym continues.text) inside };
+    }
+
+-- the text, the options and the count stay where the finder reads on
+back_keeps : (old f : FinderState) (r : Reader) (s : Stand) → IsBack old f → r.text ≡ finder_text f → ((bounds : List Bound) → HasFound old bounds → HasFound (finder_state r s f.cursor) bounds) → KeepsGiven old (finder_state r s f.cursor)
+back_keeps old f r s back same kept = record { kept = kept; task = record { text = same ∙ back.text; options = ap (λ (c : CursorState). c.options) back.cursor }; given = ap (λ (c : CursorState). c.given) back.cursor }
+
+-- the line's bindings are to be looked at
+reads_on : Laws → (old f : FinderState) (options : FindOptions) (r : Reader) (bs : List Bound) → IsBack old f → options ≡ options_of f → GivesLine f.reader (λ line. Binds line bs × (ends_top options line ≡ false)) r → length bs < 2 ^ 64 → ReadsOn old (with_line (finder_state r f.stand f.cursor) (start_of f.reader) bs)
+reads_on one old f options r bs back options_are gives few =
+    let continues = gives.1 in
     let len = ap length continues.text in
     let size = bytes_read f.stand (length (finder_text f)) f.reader.place back.read in
     let none = ap length back.none in
     let falls = back.falls in
     record {
-      keeps = record {
-        kept = λ bounds h.
-            let t = there old f bounds back h in
-            let inside = reads_bindings one (finder_text f) (options_of f) (start_of f.reader) (skip_in f.stand) line bounds bs (at_line f bounds r line t continues) gives.2.0 counts in
-            let pending = pending_after (start_of f.reader) (skip_in f.stand) bs in
-            record {
-              stopped = subst (λ (x : List ℕ). HasStopped x f.cursor bounds) (sym continues.text) t.stopped;
-              reached = record { lines = t.after.lines; line = line; given = continues.given t.after.lines t.given; inside = subst (λ (x : List ℕ). IsInside x (options_of f) t.after.lines line pending bounds) (sym continues.text) inside };
-            };
-        task = record { text = continues.text ∙ back.text; options = ap (λ (c : CursorState). c.options) back.cursor };
-        given = ap (λ (c : CursorState). c.given) back.cursor;
-      };
+      keeps = back_keeps old f r (stand.Within (pending_after (start_of f.reader) (skip_in f.stand) bs)) back continues.text (line_kept one old f options r bs back options_are gives);
       falls = λ _. omega (arith, size, none, falls, len, continues.place, continues.some_text, continues.within, length-drop (skip_in f.stand) bs, few);
+      cursor = λ _. back.cursor;
+    }
+
+-- nothing of a plain line is to be looked at: the finder is before the next one
+passes_plain : Laws → (old f : FinderState) (options : FindOptions) (r : Reader) → IsBack old f → options ≡ options_of f → GivesLine f.reader (λ line. Binds line [] × (ends_top options line ≡ false)) r → ReadsOn old (finder_state r (stand.Between 0) f.cursor)
+passes_plain one old f options r back options_are gives =
+    let continues = gives.1 in
+    let len = ap length continues.text in
+    let size = bytes_read f.stand (length (finder_text f)) f.reader.place back.read in
+    let none = ap length back.none in
+    let falls = back.falls in
+    let line_is = stand.Within (pending_after (start_of f.reader) (skip_in f.stand) []) in
+    record {
+      keeps = back_keeps old f r (stand.Between 0) back continues.text (λ bounds h.
+          let q = line_kept one old f options r [] back options_are gives bounds h in
+          let b = before_line r line_is f.cursor bounds refl (drop-nil (skip_in f.stand)) refl q in
+          record { stopped = q.stopped; reached = record { no_fault = b.no_fault; after = b.after } });
+      falls = λ _. omega (arith, size, none, falls, len, continues.place, continues.some_text, continues.within);
       cursor = λ _. back.cursor;
     }
 
@@ -242,7 +266,8 @@ follows : Laws → (old f : FinderState) (options : FindOptions) (r : Reader) (r
 follows one old f options r (step.Bindings bindings) result new opened back is g h =
     let bs = map bound_of bindings.items in
     let few : length bs < 2 ^ 64 = omega (arith, length-map bindings.items bound_of, bindings.ok, bindings.small) in
-    answered old new result h.0 (subst (ReadsOn old) (sym h.1) (reads_on one old f options r bs opened back is g few))
+    answered old new result h.0 (subst (ReadsOn old) (sym h.1) (reads_on one old f options r bs back is g few))
+follows one old f options r step.Plain result new opened back is g h = answered old new result h.0 (subst (ReadsOn old) (sym h.1) (passes_plain one old f options r back is g))
 follows one old f options r step.End result new opened back is (inl g) h = answered old new result h.0 (subst (ReadsOn old) (sym h.1) (reads_at_top one old f options r back is g))
 follows one old f options r step.End result new opened back is (inr e) h = answered old new result h.0 (subst (ReadsOn old) (sym h.1) (reads_end one old f r back e))
 follows one old f options r (step.Fault fault) result new opened back is (inl g) h = answered old new result h.0 (subst (ReadsOn old) (sym h.1) (reads_bad_line one old f options r fault back is g))

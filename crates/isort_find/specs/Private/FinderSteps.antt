@@ -72,6 +72,7 @@ with_line_again f start = record f { stand = stand.Unread start (skip_in f.stand
 abbrev pub FollowsRead : FinderState → LineStart → Step → Result (Unit {0}) FindError → FinderState → Type 0
 FollowsRead old start (step.Bindings bindings) result new =
     (result ≡ Ok tt) × (new ≡ with_line old start (map bound_of bindings.items))
+FollowsRead old start step.Plain result new = (result ≡ Ok tt) × (new ≡ record old { stand = stand.Between 0 })
 FollowsRead old start step.End result new = (result ≡ Ok tt) × (new ≡ closed_at old start (stand.End 0))
 FollowsRead old start (step.Fault fault) result new = (result ≡ Ok tt) × (new ≡ closed_at old start (stand.Fault fault))
 FollowsRead old start step.LineLost result new = (result ≡ Err error.Memory) × (new ≡ with_line_again old start)

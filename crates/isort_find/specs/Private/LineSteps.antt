@@ -1,5 +1,5 @@
 -- What is learned from the next logical line.
-use Rattle.std.specs.Prelude.{◌≡◌, ◌⊎◌, true, false, List, map}
+use Rattle.std.specs.Prelude.{◌≡◌, ◌⊎◌, true, false, List, [], map}
 use Rattle.py_lines.specs.LogicalLine.{LogicalLine}
 use Rattle.py_lines.specs.Reader.{Reader, Continues, Ends, Fails, ReaderRunsOut}
 use Rattle.py_lines.specs.declared.fault.Fault.{Fault}
@@ -14,9 +14,10 @@ use Rattle.isort_find.specs.declared.step.Step.TheVariants as step
 abbrev pub GivesLine : Reader → (LogicalLine → Type 0) → Reader → Type 0
 GivesLine old P new = (line : LogicalLine) × Continues old line new × P line
 
--- what a step says of a logical line that was read
+-- what a step says of a logical line that was judged, which is never called plain
 abbrev pub Judges : FindOptions → LogicalLine → Step → Type 0
 Judges options line (step.Bindings bindings) = Binds line (map bound_of bindings.items) × (ends_top options line ≡ false)
+Judges options line step.Plain = ⊥
 Judges options line step.End = ends_top options line ≡ true
 Judges options line (step.Fault fault) = IsBadAt line fault × (ends_top options line ≡ false)
 Judges options line step.LineLost = Unit {0}
@@ -26,6 +27,7 @@ Judges options line step.NoMemory = ⊥
 abbrev pub StepsTo : FindOptions → Reader → Step → Reader → Type 0
 StepsTo options old (step.Bindings bindings) new =
     GivesLine old (λ line. Binds line (map bound_of bindings.items) × (ends_top options line ≡ false)) new
+StepsTo options old step.Plain new = GivesLine old (λ line. Binds line [] × (ends_top options line ≡ false)) new
 StepsTo options old step.End new = GivesLine old (λ line. ends_top options line ≡ true) new ⊎ Ends old new
 StepsTo options old (step.Fault fault) new =
     GivesLine old (λ line. IsBadAt line fault × (ends_top options line ≡ false)) new ⊎ Fails old fault new

@@ -63,6 +63,7 @@ passed_to other place = other
 abbrev pub FollowsStep : WalkerState → LineStart → Step → Result (Unit {0}) FindError → WalkerState → Type 0
 FollowsStep old start (step.Bindings bindings) result new =
     (result ≡ Ok tt) × (new ≡ with_bindings old start (map bound_of bindings.items))
+FollowsStep old start step.Plain result new = (result ≡ Ok tt) × (new ≡ with_stand old (stand.Between 0))
 FollowsStep old start step.End result new = (result ≡ Ok tt) × (new ≡ with_stand old (stand.End 0))
 FollowsStep old start (step.Fault fault) result new = (result ≡ Err (error.Fault fault)) × (new ≡ with_fault old start fault)
 FollowsStep old start step.LineLost result new =
