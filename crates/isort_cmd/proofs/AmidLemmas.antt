@@ -3,7 +3,7 @@ use Rattle.std.proofs.Common.{◌≡◌, ℕ, ◌+◌, ◌-◌, ◌≤◌, false
 use Rattle.std.proofs.lemmas.Grind.{common_steps}
 use Rattle.std.proofs.lemmas.List.{append-nil, length-take-le, take-append-drop}
 use Rattle.std.specs.Io.KnownBytes.{Keeps}
-use Rattle.isort_find.specs.Pieces.{PieceFinderState, TakesPiece, FeedsPiece, fed_by, has_ready}
+use Rattle.isort_find.specs.Pieces.{PieceFinderState, TakesFromPiece, FeedsPiece, fed_by, has_ready}
 use Rattle.isort_find.specs.declared.options.FindOptions.{FindOptions}
 use Rattle.isort_find.specs.declared.error.FindError.{FindError}
 use Rattle.isort_sort.specs.Metered.{IsGivenUp}
@@ -32,7 +32,7 @@ pub looks_at_memory : GivenBegin → (old new : PieceFinderState) → LooksAtHel
 looks_at_memory begin old new = (refl, λ path known options start now to. front_each begin path known options old start now to.listed)
 
 -- all is well
-pub looks_at_none : FoundLaws → (old : PieceFinderState) (n : ℕ) (new : PieceFinderState) → old.scanning.ended ≡ false → TakesPiece old [] n new → has_ready new ≡ false → HoldsNone old new
+pub looks_at_none : FoundLaws → (old : PieceFinderState) (n : ℕ) (new : PieceFinderState) → old.scanning.ended ≡ false → TakesFromPiece old [] n new → has_ready new ≡ false → HoldsNone old new
 looks_at_none laws old n new open_yet takes none =
     let no_byte : n ≡ 0 = takes.whole none in
     record {
@@ -76,7 +76,7 @@ parts_of : (n : ℕ) (bytes : List ℕ) → n ≤ length bytes → take n bytes 
 parts_of n bytes within = grind (arith, common_steps)
 
 -- more bytes of the piece were taken, and what got ready was listed
-pub amid_next : FoundLaws → (piece rest : List ℕ) (old now : Stage) (n : ℕ) (mid : PieceFinderState) (new : Stage) → IsAmid piece rest old now → TakesPiece now.finder rest n mid → ListsAll (record now { finder = mid }) new → IsAmid piece (take (length rest - n) (drop n rest)) old new
+pub amid_next : FoundLaws → (piece rest : List ℕ) (old now : Stage) (n : ℕ) (mid : PieceFinderState) (new : Stage) → IsAmid piece rest old now → TakesFromPiece now.finder rest n mid → ListsAll (record now { finder = mid }) new → IsAmid piece (take (length rest - n) (drop n rest)) old new
 amid_next laws piece rest old now n mid new amid takes all =
     let goes = all.goes_on in
     let size = length-take-le n rest takes.within in
@@ -108,7 +108,7 @@ amid_fed laws piece rest old now e mid amid feeds = record {
 }
 
 -- more of the piece was taken, and listing what got ready failed
-pub amid_ready : FoundLaws → (piece rest : List ℕ) (old now : Stage) (n : ℕ) (mid : PieceFinderState) (e : RunError) (new : Stage) → IsAmid piece rest old now → TakesPiece now.finder rest n mid → StopsReady (record now { finder = mid }) e new → StopsInPiece old piece e new
+pub amid_ready : FoundLaws → (piece rest : List ℕ) (old now : Stage) (n : ℕ) (mid : PieceFinderState) (e : RunError) (new : Stage) → IsAmid piece rest old now → TakesFromPiece now.finder rest n mid → StopsReady (record now { finder = mid }) e new → StopsInPiece old piece e new
 amid_ready laws piece rest old now n mid e new amid takes stops = record {
   error = stops.error;
   leaves = λ known options start so_far.

@@ -4,7 +4,7 @@ use Rattle.std.proofs.Math.Seq.{take-length}
 use Rattle.py_lines.specs.declared.fault.Fault.{Fault}
 use Rattle.isort_find.specs.Found.{IsFound}
 use Rattle.isort_find.specs.Settled.{IsFoundSettled}
-use Rattle.isort_find.specs.Pieces.{PieceFinderState, EndsText, EndsInFault, EndsFeeding, fed_by, options_for}
+use Rattle.isort_find.specs.Pieces.{PieceFinderState, FinishesText, EndsInFault, EndsFeeding, fed_by, options_for}
 use Rattle.isort_find.specs.declared.options.FindOptions.{FindOptions}
 use Rattle.isort_find.specs.declared.error.FindError.{FindError}
 use Rattle.isort_find.specs.Stand.{phase_in}
@@ -22,7 +22,7 @@ pub listed_of : (path text : List ℕ) (options : FindOptions) (finder : PieceFi
 listed_of path text options finder start now h = (h.listed text (take-length text)).listed
 
 -- the text ended, and its last logical line was made
-pub ends_listed : (path text : List ℕ) (options : FindOptions) (finder next : PieceFinderState) (start now : Option (List ℕ)) → HasListedSettled path text options finder start now → EndsText finder next → GivenAreListed path text options next start now
+pub ends_listed : (path text : List ℕ) (options : FindOptions) (finder next : PieceFinderState) (start now : Option (List ℕ)) → HasListedSettled path text options finder start now → FinishesText finder next → GivenAreListed path text options next start now
 ends_listed path text options finder next start now h ends =
     let listed = listed_of path text options finder start now h in
     let same : options_for next ≡ options_for finder = ap (λ x. x.options) ends.cursor in

@@ -10,7 +10,7 @@ use Rattle.py_imports.specs.Bound.{Bound}
 use Rattle.isort_find.specs.Cursor.{CursorState}
 use Rattle.isort_find.specs.Found.{IsFound}
 use Rattle.isort_find.specs.Settled.{IsFoundSettled, DecidesFound}
-use Rattle.isort_find.specs.Pieces.{PieceFinderState, HasNoFault, AreSettled, TakesPiece, MeetsFaultIn, FeedsPiece, options_for, fed_by, has_ready}
+use Rattle.isort_find.specs.Pieces.{PieceFinderState, HasNoFault, AreSettled, TakesFromPiece, MeetsFaultIn, FeedsPiece, options_for, fed_by, has_ready}
 use Rattle.isort_find.specs.declared.options.FindOptions.{FindOptions}
 use Rattle.isort_find.specs.declared.error.FindError.{FindError}
 use Rattle.isort_find.specs.declared.error.FindError.TheVariants as find
@@ -64,7 +64,7 @@ settled_more laws old new text bounds n fed cursor settled found bad h =
     (begun.0 ++ grown.0, grown.1 ∙ ap (λ x. x ++ grown.0) begun.1 ∙ append_assoc bounds begun.0 grown.0)
 
 -- some bytes of a piece were taken: what was listed of each text that begins with them stays so
-pub taken_listed : FoundLaws → (path known piece : List ℕ) (options : FindOptions) (old : PieceFinderState) (n : ℕ) (new : PieceFinderState) (start now : Option (List ℕ)) → old.scanning.ended ≡ false → TakesPiece old piece n new → HasListedGiven path known options old start now → HasListedGiven path (known ++ take n piece) options new start now
+pub taken_listed : FoundLaws → (path known piece : List ℕ) (options : FindOptions) (old : PieceFinderState) (n : ℕ) (new : PieceFinderState) (start now : Option (List ℕ)) → old.scanning.ended ≡ false → TakesFromPiece old piece n new → HasListedGiven path known options old start now → HasListedGiven path (known ++ take n piece) options new start now
 taken_listed laws path known piece options old n new start now open_yet takes to = record {
   fed = takes.fed ∙ ap (λ (m : ℕ). m + n) to.fed ∙ ap (λ (m : ℕ). length known + m) (sym (length-take-le n piece takes.within)) ∙ sym (length-append known (take n piece));
   no_fault = takes.no_fault;
@@ -140,13 +140,13 @@ leaves_fed laws path known piece options old find.Memory new start now keeps to 
 pub feeds_error : (old : PieceFinderState) (piece : List ℕ) (r : Result ℕ FindError) (e : FindError) (new : PieceFinderState) → FeedsPiece old piece r new → r ≡ Err e → FeedsPiece old piece (Err e) new
 feeds_error old piece r e new h same = subst (λ (x : Result ℕ FindError). FeedsPiece old piece x new) same h
 
-pub feeds_some : (old : PieceFinderState) (piece : List ℕ) (r : Result ℕ FindError) (n : ℕ) (new : PieceFinderState) → FeedsPiece old piece r new → r ≡ Ok n → TakesPiece old piece n new
+pub feeds_some : (old : PieceFinderState) (piece : List ℕ) (r : Result ℕ FindError) (n : ℕ) (new : PieceFinderState) → FeedsPiece old piece r new → r ≡ Ok n → TakesFromPiece old piece n new
 feeds_some old piece r n new h same = subst (λ (x : Result ℕ FindError). FeedsPiece old piece x new) same h
 
 -- ---- nothing is ready
 
 -- Once no byte was fed and nothing is ready, what was listed is all that the bytes settle.
-pub looked_listed : FoundLaws → (path known : List ℕ) (options : FindOptions) (old : PieceFinderState) (n : ℕ) (new : PieceFinderState) (start now : Option (List ℕ)) → old.scanning.ended ≡ false → TakesPiece old [] n new → has_ready new ≡ false → HasListedGiven path known options old start now → HasListedSettled path known options new start now
+pub looked_listed : FoundLaws → (path known : List ℕ) (options : FindOptions) (old : PieceFinderState) (n : ℕ) (new : PieceFinderState) (start now : Option (List ℕ)) → old.scanning.ended ≡ false → TakesFromPiece old [] n new → has_ready new ≡ false → HasListedGiven path known options old start now → HasListedSettled path known options new start now
 looked_listed laws path known options old n new start now open_yet takes none to =
     let no_byte : take n [] ≡ [] = ap (λ (m : ℕ). take m []) (takes.whole none) in
     let same : known ++ take n [] ≡ known = ap (λ x. known ++ x) no_byte ∙ append-nil known in

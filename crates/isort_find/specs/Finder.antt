@@ -35,13 +35,13 @@ abbrev pub options_of : FinderState → FindOptions
 options_of f = f.cursor.options
 
 -- how far a reader has to go at most in a text of so many bytes: from its place, or back from a line left unread
-abbrev pub bytes_left : Stand → ℕ → ℕ → ℕ
-bytes_left (stand.Unread start skip) size place = size + 1
-bytes_left other size place = size - place
+abbrev pub bytes_to_read : Stand → ℕ → ℕ → ℕ
+bytes_to_read (stand.Unread start skip) size place = size + 1
+bytes_to_read other size place = size - place
 
 -- how far the reader has to go at most, and then the bindings that are left: it falls with each import that is given
 abbrev pub left_of : FinderState → ℕ
-left_of f = bytes_left f.stand (length (finder_text f)) f.reader.place * 2 ^ 64 + length (left_in f.stand)
+left_of f = bytes_to_read f.stand (length (finder_text f)) f.reader.place * 2 ^ 64 + length (left_in f.stand)
 
 -- between two logical lines, the next of which the reader reads next; so many of its bindings were looked at
 pub record IsBeforeLine (f : FinderState) (skip : ℕ) (bounds : List Bound) : Type 0 where

@@ -50,13 +50,13 @@ abbrev pub fed_by : PieceFinderState → ℕ
 fed_by f = fed_in f.stand f.scanning
 
 -- what is held of the text: nothing after the top
-abbrev pub held_in : Stand → ScannerState → List ℕ
-held_in (stand.End passed) s = []
-held_in other s = s.held
+abbrev pub held_at_stand : Stand → ScannerState → List ℕ
+held_at_stand (stand.End passed) s = []
+held_at_stand other s = s.held
 
 -- the text that the finder holds
 abbrev pub held_by : PieceFinderState → List ℕ
-held_by f = held_in f.stand f.scanning
+held_by f = held_at_stand f.stand f.scanning
 
 -- whether an import is ready, or a refused growth left that open
 abbrev pub has_ready : PieceFinderState → Bool
@@ -197,7 +197,7 @@ pub record HoldsLine (f : PieceFinderState) (text : List ℕ) : Type 0 where
 -- The finder took so many bytes of a piece: none of some only where something was ready, and after the top all. Where
 -- nothing is ready in the end, it took all, all that is settled was given, no fault is decided, and before the top's end
 -- it holds what is not settled. Else it holds the line that is ready, or a refused growth left open whether one is.
-pub record TakesPiece (old : PieceFinderState) (piece : List ℕ) (n : ℕ) (new : PieceFinderState) : Type 0 where
+pub record TakesFromPiece (old : PieceFinderState) (piece : List ℕ) (n : ℕ) (new : PieceFinderState) : Type 0 where
   pub within : n ≤ length piece
   pub found : InEachText old (take n piece) (HasFoundIn new)
   pub all : InEachText old (take n piece) (λ text bounds. has_ready new ≡ false → AreAllSettled new text bounds)
@@ -250,7 +250,7 @@ pub record PieceFinderRunsOut (old new : PieceFinderState) : Type 0 where
 
 -- what a call that is fed a piece answers
 abbrev pub FeedsPiece : PieceFinderState → List ℕ → Result ℕ FindError → PieceFinderState → Type 0
-FeedsPiece old piece (Ok n) new = TakesPiece old piece n new
+FeedsPiece old piece (Ok n) new = TakesFromPiece old piece n new
 FeedsPiece old piece (Err (error.Fault fault)) new = MeetsFaultIn old piece fault new
 FeedsPiece old piece (Err error.Memory) new = PieceFinderRunsOut old new × (has_ready old ≡ false)
 
@@ -312,7 +312,7 @@ GivesReady old (Err (error.Fault fault)) new = GivesFault old fault new
 GivesReady old (Err error.Memory) new = PieceFinderRunsOut old new × (has_ready old ≡ true)
 
 -- the text ends here: its last logical line was made, if one is left, and is held where it is ready
-pub record EndsText (old new : PieceFinderState) : Type 0 where
+pub record FinishesText (old new : PieceFinderState) : Type 0 where
   pub found : InEachWhole old (HasFoundIn new)
   pub line : InEachWhole old (λ text bounds. has_ready new ≡ true → HoldsLine new text)
   pub cursor : new.cursor ≡ old.cursor
@@ -332,6 +332,6 @@ pub record EndsInFault (old : PieceFinderState) (fault : Fault) (new : PieceFind
 
 -- what a call that ends the text answers
 abbrev pub EndsFeeding : PieceFinderState → Result (Unit {0}) FindError → PieceFinderState → Type 0
-EndsFeeding old (Ok done) new = EndsText old new
+EndsFeeding old (Ok done) new = FinishesText old new
 EndsFeeding old (Err (error.Fault fault)) new = EndsInFault old fault new
 EndsFeeding old (Err error.Memory) new = PieceFinderRunsOut old new

@@ -8,7 +8,7 @@ use Rattle.py_lines.specs.declared.fault.Fault.{Fault}
 use Rattle.py_imports.specs.Bound.{Bound}
 use Rattle.py_imports.specs.Binds.{Binds, BindAll, IsBadAt}
 use Rattle.isort_find.specs.Found.{firsts, ends_top, IsFound}
-use Rattle.isort_find.specs.Lexing.{bytes_of, LineAt}
+use Rattle.isort_find.specs.Lexing.{byte_count, LineAt}
 use Rattle.isort_find.specs.Pending.{PendingState}
 use Rattle.isort_find.specs.declared.options.FindOptions.{FindOptions}
 use Rattle.isort_find.specs.declared.walker.Stand.{Stand}
@@ -82,7 +82,7 @@ MeetsEndAt text options offset = (offset ≡ length text) ⊎ LineAt text offset
 abbrev pub MeetsFaultAt : List ℕ → ℕ → Fault → Type 0
 MeetsFaultAt text offset fault =
     LineAt text offset (λ line. IsBadAt line fault)
-    ⊎ ((lines : List LogicalLine) × IsLexed text lines (Some fault) × (bytes_of lines ≡ offset))
+    ⊎ ((lines : List LogicalLine) × IsLexed text lines (Some fault) × (byte_count lines ≡ offset))
 
 -- what is found ends in this fault, which is met at this byte
 abbrev pub EndsInFaultAt : List ℕ → FindOptions → List Bound → ℕ → Fault → Type 0

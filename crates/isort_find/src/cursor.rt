@@ -3,7 +3,7 @@ ghost use Rattle.std.specs.Prelude.{◌≡◌, ◌+◌, ◌-◌, ◌^◌, IfOk, 
 ghost use Rattle.py_imports.specs.Bound.{bound_of};
 
 use crate::error::FindError;
-use crate::key::{KeyText, key_of};
+use crate::key::{KeyText, binding_key};
 use crate::options::FindOptions;
 use crate::pending::LineStart;
 use indexmap::IndexSet;
@@ -37,7 +37,7 @@ impl Model for Cursor {
 }
 
 impl Cursor {
-    ghost use Rattle.isort_find.specs.Cursor.{first_cursor, has_key};
+    ghost use Rattle.isort_find.specs.Cursor.{first_cursor, knows_key};
     ghost use Rattle.isort_find.specs.Private.CursorMoves.{Admits, cursor_after, cursor_before};
 
     /// At the start of a text, before its first import.
@@ -62,7 +62,7 @@ impl Cursor {
         match self.options.unique {
             None => Ok(true),
             Some(key) => {
-                let key = key_of(alloc, binding, key)?;
+                let key = binding_key(alloc, binding, key)?;
                 let (_, is_new) = self.keys.insert_full(key)?;
                 Ok(is_new)
             }
@@ -71,13 +71,13 @@ impl Cursor {
 
     /// Whether a binding with the key of this one was given.
     pub(crate) fn knows(&self, alloc: Global, binding: &Binding) -> Result<bool, FindError>
-        ensures ok { IfOk result (λ known. known ≡ has_key self.now.options.unique self.now.keys (bound_of binding.now)) }
+        ensures ok { IfOk result (λ known. known ≡ knows_key self.now.options.unique self.now.keys (bound_of binding.now)) }
         ensures err { IfErr result (λ e. e ≡ FindError.Memory) }
     {
         match self.options.unique {
             None => Ok(false),
             Some(key) => {
-                let key = key_of(alloc, binding, key)?;
+                let key = binding_key(alloc, binding, key)?;
                 Ok(self.keys.contains(&key))
             }
         }

@@ -64,8 +64,8 @@ impl Walker {
     ghost use Rattle.isort_find.specs.Pending.{pending_state};
     ghost use Rattle.isort_find.specs.Stand.{passed_in, phase_in, ready_in, skip_in};
     ghost use Rattle.isort_find.specs.Private.CursorMoves.{cursor_before};
-    ghost use Rattle.isort_find.specs.Private.Walks.{FollowsStep, LooksAhead, Reads, TakesOne, TriesLine, walker_state, with_fault};
-    ghost use Rattle.isort_find.specs.Private.Walks.{with_stand, after_line, passed_to, read_again, unread_in};
+    ghost use Rattle.isort_find.specs.Private.Walks.{FollowsStep, LooksAhead, ReadsOrLosesLine, TakesOne, TriesLine, walker_state};
+    ghost use Rattle.isort_find.specs.Private.Walks.{with_fault, with_stand, after_line, passed_up_to, read_again, unread_in};
 
     /// Where the cursor stands.
     pub fn at(alloc: Global, cursor: Cursor) -> Walker
@@ -179,7 +179,7 @@ impl Walker {
 
     /// Reads a logical line, which begins at `start`. Without memory for its bindings it is left unread.
     pub fn read(&mut self, unit: &Unit<'_>, start: LineStart) -> Result<(), FindError>
-        ensures { Reads self.old (line_in unit.now) start result self.new }
+        ensures { ReadsOrLosesLine self.old (line_in unit.now) start result self.new }
     {
         let step = judge(self.alloc, unit, self.cursor.options());
         self.follow(start, step)
@@ -282,7 +282,7 @@ impl Walker {
 
     /// After the end text is passed over up to this byte.
     pub fn pass_to(&mut self, place: u64)
-        ensures { self.new ≡ with_stand self.old (passed_to self.old.stand place) }
+        ensures { self.new ≡ with_stand self.old (passed_up_to self.old.stand place) }
     {
         if let Stand::End { passed } = &mut self.stand {
             *passed = place;

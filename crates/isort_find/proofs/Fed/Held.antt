@@ -1,13 +1,14 @@
 -- What a finder over pieces holds of the text.
-use Rattle.std.proofs.Common.{◌≡◌, ℕ, ◌<◌, true, false, Option, None, Some, List, ◌++◌, length, take, inl, inr, ◌⊎◌, refl, ◌∙◌, subst}
+use Rattle.std.proofs.Common.{◌≡◌, ℕ, ◌<◌, true, false, Option, None, Some, List, [], ◌∷◌, ◌++◌, length, take, inl, inr, ◌⊎◌, refl, ◌∙◌, subst}
 use Rattle.py_lines.specs.LogicalLine.{LogicalLine}
+use Rattle.py_lines.specs.Given.{AreFirstLines}
 use Rattle.py_lines.specs.Lexed.{IsLexed}
 use Rattle.py_lines.specs.Settled.{IsSettled}
 use Rattle.py_lines.specs.ScannerState.{ScannerState, fed_of, ready_lines, HoldsReady, IsScanning}
 use Rattle.py_imports.specs.Bound.{Bound}
 use Rattle.isort_find.specs.Cursor.{CursorState}
 use Rattle.isort_find.specs.Stand.{phase_in, is_unread, ready_in}
-use Rattle.isort_find.specs.Pieces.{piece_finder_state, held_in, HasReleased, IsBetweenLines, HasFoundIn, HoldsRest, HoldsLine}
+use Rattle.isort_find.specs.Pieces.{piece_finder_state, held_at_stand, HasReleased, AreKnown, IsBetweenLines, HasFoundIn, HoldsRest, HoldsLine}
 use Rattle.isort_find.specs.declared.walker.Stand.{Stand}
 use Rattle.isort_find.specs.declared.walker.Stand.TheVariants as stand
 use Rattle.isort_find.specs.declared.walker.Phase.TheVariants as phase
@@ -38,40 +39,24 @@ rest_any s (stand.Within p) cursor text bounds opened yet none h = absurd (none_
 rest_any s (stand.End passed) cursor text bounds opened yet none h = absurd cc
 rest_any s (stand.Fault fault) cursor text bounds opened yet none h = absurd cc
 
-held_open : (s : ScannerState) (at : Stand) → phase_in at ≡ phase.Open → held_in at s ≡ s.held
+held_open : (s : ScannerState) (at : Stand) → phase_in at ≡ phase.Open → held_at_stand at s ≡ s.held
 held_open s (stand.Between skip) opened = refl
 held_open s (stand.Unread start skip) opened = refl
 held_open s (stand.Within p) opened = refl
 held_open s (stand.End passed) opened = absurd cc
 held_open s (stand.Fault fault) opened = refl
 
+-- what is held is the line that is ready, with at most one byte more
+holds_line : (s : ScannerState) (at : Stand) (cursor : CursorState) (text : List ℕ) (lines : List LogicalLine) (line : LogicalLine) → phase_in at ≡ phase.Open → s.ready ≡ Some line → AreFirstLines text s.place s.line lines → HoldsReady s.held s.ready → (0 < length s.held → AreKnown s text (lines ++ line ∷ [])) → HoldsLine (piece_finder_state s at cursor) text
+holds_line s at cursor text lines line opened ready first whole known =
+    let held = held_open s at opened in
+    let more = subst (HoldsReady s.held) ready whole in
+    record { lines = lines; line = line; more = more.0; first = first; ready = ready; held = held ∙ more.1; few = more.2; known = λ some. known (subst (λ (bytes : List ℕ). 0 < length bytes) held some) }
+
 -- after these lines one is ready
 line_of : (s : ScannerState) (at : Stand) (cursor : CursorState) (text : List ℕ) (lines : List LogicalLine) (line : LogicalLine) → phase_in at ≡ phase.Open → s.ready ≡ Some line → HasReleased s text lines → HoldsLine (piece_finder_state s at cursor) text
-line_of s at cursor text lines line opened ready (inl h) =
-    let held = held_open s at opened in
-    let whole = subst (HoldsReady s.held) ready h.whole in
-    record {
-      lines = lines;
-      line = line;
-      more = whole.0;
-      first = h.first;
-      ready = ready;
-      held = held ∙ whole.1;
-      few = whole.2;
-      known = λ some. inl (subst (λ (r : Option LogicalLine). IsSettled (take (fed_of s) text) (lines ++ ready_lines r)) ready (h.settled (subst (λ (bytes : List ℕ). 0 < length bytes) held some)));
-    }
-line_of s at cursor text lines line opened ready (inr h) =
-    let whole = subst (HoldsReady s.held) ready h.whole in
-    record {
-      lines = lines;
-      line = line;
-      more = whole.0;
-      first = h.first;
-      ready = ready;
-      held = held_open s at opened ∙ whole.1;
-      few = whole.2;
-      known = λ some. inr (h.ended, subst (λ (r : Option LogicalLine). IsLexed text (lines ++ ready_lines r) None) ready h.lexed);
-    }
+line_of s at cursor text lines line opened ready (inl h) = holds_line s at cursor text lines line opened ready h.first h.whole (λ some. inl (subst (λ (r : Option LogicalLine). IsSettled (take (fed_of s) text) (lines ++ ready_lines r)) ready (h.settled some)))
+line_of s at cursor text lines line opened ready (inr h) = holds_line s at cursor text lines line opened ready h.first h.whole (λ some. inr (h.ended, subst (λ (r : Option LogicalLine). IsLexed text (lines ++ ready_lines r) None) ready h.lexed))
 
 -- where a line is ready
 pub line_any : (s : ScannerState) (at : Stand) (cursor : CursorState) (text : List ℕ) (bounds : List Bound) (line : LogicalLine) → phase_in at ≡ phase.Open → s.ready ≡ Some line → HasFoundIn (piece_finder_state s at cursor) text bounds → HoldsLine (piece_finder_state s at cursor) text

@@ -19,8 +19,8 @@ pub none_or_some : (r : Option LogicalLine) (line : LogicalLine) → r ≡ None 
 none_or_some r line h k = cc
 
 -- where the lines end that a scanner has released
-abbrev pub start_of : ScannerState → LineStart
-start_of s = record { offset = s.place; line = s.line }
+abbrev pub next_start : ScannerState → LineStart
+next_start s = record { offset = s.place; line = s.line }
 
 -- the first lines of a text, said of a scanner and of a reader
 pub given_first : (text : List ℕ) (place line : ℕ) (lines : List LogicalLine) → AreFirstLines text place line lines → HasGiven (standing_at text place line) lines

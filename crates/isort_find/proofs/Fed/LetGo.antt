@@ -16,11 +16,11 @@ use Rattle.isort_find.proofs.Walks.Inside.{line_over}
 use Rattle.isort_find.proofs.Fed.Known.{given_of, none_or_some, still_scanning}
 
 -- a finder that goes on and has nothing ready, once its line was let go
-abbrev pub begun : PieceFinderState → ScannerState → PieceFinderState
-begun f s = piece_finder_state s (stand.Between (skip_in f.stand)) f.cursor
+abbrev pub line_begun : PieceFinderState → ScannerState → PieceFinderState
+line_begun f s = piece_finder_state s (stand.Between (skip_in f.stand)) f.cursor
 
 -- a finder of which nothing is ready lets its line go
-pub record Begins (old : PieceFinderState) (t : ScannerState) : Type 0 where
+pub record BeginsLine (old : PieceFinderState) (t : ScannerState) : Type 0 where
   pub opened : phase_in old.stand ≡ phase.Open
   pub none : has_ready old ≡ false
   pub yet : old.scanning.ended ≡ false
@@ -28,9 +28,9 @@ pub record Begins (old : PieceFinderState) (t : ScannerState) : Type 0 where
   pub none_ready : t.ready ≡ None
   pub some_text : (line : LogicalLine) → old.scanning.ready ≡ Some line → 0 < length line.text
 
-pub none_left : (left : List Bound) → are_left left ≡ false → left ≡ []
-none_left [] h = refl
-none_left (b ∷ bs) h = absurd cc
+pub none_are_left : (left : List Bound) → are_left left ≡ false → left ≡ []
+none_are_left [] h = refl
+none_are_left (b ∷ bs) h = absurd cc
 
 after_idle : (s : Stand) → phase_in s ≡ phase.Open → ready_in s ≡ false → after_line s ≡ stand.Between (skip_in s)
 after_idle (stand.Between skip) opened none = refl
@@ -43,7 +43,7 @@ after_idle (stand.Fault fault) opened none = absurd cc
 pub idle_left : (s : Stand) → phase_in s ≡ phase.Open → ready_in s ≡ false → left_in s ≡ []
 idle_left (stand.Between skip) opened none = refl
 idle_left (stand.Unread start skip) opened none = refl
-idle_left (stand.Within pending) opened none = none_left pending.left none
+idle_left (stand.Within pending) opened none = none_are_left pending.left none
 idle_left (stand.End passed) opened none = refl
 idle_left (stand.Fault fault) opened none = refl
 
@@ -58,11 +58,19 @@ fed_open f opened = by f.stand opened
     by (stand.Fault fault) here = refl
 
 -- the finder then
-pub begun_is : (old a : PieceFinderState) → phase_in old.stand ≡ phase.Open → has_ready old ≡ false → LetsLineGo old a → a ≡ begun old a.scanning
+pub begun_is : (old a : PieceFinderState) → phase_in old.stand ≡ phase.Open → has_ready old ≡ false → LetsLineGo old a → a ≡ line_begun old a.scanning
 begun_is old a opened none l = l.same ∙ ap (λ (s : Stand). piece_finder_state a.scanning s old.cursor) (after_idle old.stand opened none)
 
-pub begins : (old a : PieceFinderState) → phase_in old.stand ≡ phase.Open → has_ready old ≡ false → old.scanning.ended ≡ false → LetsLineGo old a → Begins old a.scanning
-begins old a opened none yet l = record { opened = opened; none = none; yet = yet; scanner = l.scanner; none_ready = l.none_ready; some_text = l.some_text }
+-- a finder of which nothing is ready has let its line go
+pub record HasLetGo (old a : PieceFinderState) : Type 0 where
+  pub begins : BeginsLine old a.scanning
+  pub is : a ≡ line_begun old a.scanning
+
+pub has_let_go : (old a : PieceFinderState) → phase_in old.stand ≡ phase.Open → has_ready old ≡ false → old.scanning.ended ≡ false → LetsLineGo old a → HasLetGo old a
+has_let_go old a opened none yet l = record {
+  begins = record { opened = opened; none = none; yet = yet; scanner = l.scanner; none_ready = l.none_ready; some_text = l.some_text };
+  is = begun_is old a opened none l;
+}
 
 -- a line that was read is let go
 within_gone : (s t : ScannerState) (cursor : CursorState) (text : List ℕ) (p : PendingState) (bounds : List Bound) → p.left ≡ [] → Releases s t → IsWithinLine s cursor.options text p bounds → IsBetweenLines t cursor text 0 bounds
@@ -84,12 +92,12 @@ pub gone_between : (s t : ScannerState) (at : Stand) (cursor : CursorState) (tex
 gone_between s t (stand.Between skip) cursor text bounds opened none (inl same) h = subst (λ (x : ScannerState). IsBetweenLines x cursor text skip bounds) (sym same.1) h.reached.0
 gone_between s t (stand.Between skip) cursor text bounds opened none (inr r) h = absurd (none_or_some _ r.unit h.reached.1 r.was)
 gone_between s t (stand.Within p) cursor text bounds opened none (inl same) h = absurd (none_or_some _ h.reached.line same.0 h.reached.ready)
-gone_between s t (stand.Within p) cursor text bounds opened none (inr r) h = within_gone s t cursor text p bounds (none_left p.left none) r h.reached
+gone_between s t (stand.Within p) cursor text bounds opened none (inr r) h = within_gone s t cursor text p bounds (none_are_left p.left none) r h.reached
 gone_between s t (stand.Unread start skip) cursor text bounds opened none goes h = absurd cc
 gone_between s t (stand.End passed) cursor text bounds opened none goes h = absurd cc
 gone_between s t (stand.Fault fault) cursor text bounds opened none goes h = absurd cc
 
-pub begun_between : (old : PieceFinderState) (t : ScannerState) → Begins old t → (text : List ℕ) (bounds : List Bound) → HasFoundIn old text bounds → IsBetweenLines t old.cursor text (skip_in old.stand) bounds
+pub begun_between : (old : PieceFinderState) (t : ScannerState) → BeginsLine old t → (text : List ℕ) (bounds : List Bound) → HasFoundIn old text bounds → IsBetweenLines t old.cursor text (skip_in old.stand) bounds
 begun_between old t b text bounds h = gone_between old.scanning t old.stand old.cursor text bounds b.opened b.none b.scanner h
 
 pub fed_gone : (s t : ScannerState) → ReleasesAny s t → fed_of t ≡ fed_of s
@@ -100,17 +108,17 @@ pub ended_gone : (s t : ScannerState) → ReleasesAny s t → t.ended ≡ s.ende
 ended_gone s t (inl same) = ap (λ (x : ScannerState). x.ended) same.1
 ended_gone s t (inr r) = r.ended
 
-pub begun_fed : (old : PieceFinderState) (t : ScannerState) → Begins old t → fed_by old ≡ fed_of t
+pub begun_fed : (old : PieceFinderState) (t : ScannerState) → BeginsLine old t → fed_by old ≡ fed_of t
 begun_fed old t b = fed_open old b.opened ∙ sym (fed_gone old.scanning t b.scanner)
 
 held_gone : (s t : ScannerState) → ReleasesAny s t → length t.held ≤ length s.held
 held_gone s t (inl same) = let len = ap (λ (x : ScannerState). length x.held) same.1 in omega (arith, len)
 held_gone s t (inr r) = let len = ap length r.held in omega (arith, len, length-append r.unit.text t.held)
 
-pub begun_held : (old : PieceFinderState) (t : ScannerState) → Begins old t → length t.held ≤ length old.scanning.held
+pub begun_held : (old : PieceFinderState) (t : ScannerState) → BeginsLine old t → length t.held ≤ length old.scanning.held
 begun_held old t b = held_gone old.scanning t b.scanner
 
-pub begun_gone : (old : PieceFinderState) (t : ScannerState) → Begins old t → (line : LogicalLine) → old.scanning.ready ≡ Some line → length t.held < length old.scanning.held
+pub begun_gone : (old : PieceFinderState) (t : ScannerState) → BeginsLine old t → (line : LogicalLine) → old.scanning.ready ≡ Some line → length t.held < length old.scanning.held
 begun_gone old t b line ready = by b.scanner
   where
     by : ReleasesAny old.scanning t → length t.held < length old.scanning.held
@@ -118,5 +126,5 @@ begun_gone old t b line ready = by b.scanner
     by (inr r) = let len = ap length r.held in let some = b.some_text r.unit r.was in omega (arith, len, some, length-append r.unit.text t.held)
 
 -- the scanner stands in the text
-pub begun_scanning : (old : PieceFinderState) (t : ScannerState) → Begins old t → (text : List ℕ) (lines : List LogicalLine) → HasReleased t text lines → IsScanning t text lines
+pub begun_scanning : (old : PieceFinderState) (t : ScannerState) → BeginsLine old t → (text : List ℕ) (lines : List LogicalLine) → HasReleased t text lines → IsScanning t text lines
 begun_scanning old t b text lines h = still_scanning t text lines (ended_gone old.scanning t b.scanner ∙ b.yet) h

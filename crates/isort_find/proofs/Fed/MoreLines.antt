@@ -17,7 +17,7 @@ use Rattle.isort_find.specs.declared.walker.Stand.TheVariants as stand
 use Rattle.isort_find.specs.declared.walker.Phase.TheVariants as phase
 use Rattle.isort_find.proofs.Fed.Known.{true_or_false, none_or_some}
 use Rattle.isort_find.proofs.Fed.LetGo.{fed_open}
-use Rattle.isort_find.proofs.Fed.OneLine.{goes_both, open_or_fault, open_or_end}
+use Rattle.isort_find.proofs.Fed.OneLine.{goes_on_with_both, open_or_fault, open_or_end}
 
 -- the text goes on with the bytes taken first, and then with those taken next
 pub goes_then : (text : List ℕ) (place : ℕ) (piece : List ℕ) (t n : ℕ) → t ≤ length piece → n ≤ length (drop t piece) → GoesOnWith text place (take (t + n) piece) → GoesOnWith text place (take t piece) × GoesOnWith text (place + t) (take n (drop t piece))
@@ -26,7 +26,7 @@ goes_then text place piece t n first second goes =
     let size = length-take-le t piece first in
     let len = ap length split in
     let within : t ≤ length (take (t + n) piece) = omega (arith, len, size, length-append (take t piece) (take n (drop t piece))) in
-    let both = goes_both text place (take (t + n) piece) t within goes in (
+    let both = goes_on_with_both text place (take (t + n) piece) t within goes in (
       subst (λ (bytes : List ℕ). GoesOnWith text place bytes) (ap (take t) split ∙ ap (λ k. take k (take t piece ++ take n (drop t piece))) (sym size) ∙ take-append_seam (take t piece) (take n (drop t piece))) both.0,
       subst (λ (bytes : List ℕ). GoesOnWith text (place + t) bytes) (drop-take t n piece) both.1,
     )
@@ -53,7 +53,7 @@ takes_more old mid new piece t n first next =
 -- bytes were taken, and then a fault was met
 fault_after : (old mid new : PieceFinderState) (piece : List ℕ) (t : ℕ) (fault : Fault) → phase_in old.stand ≡ phase.Open → has_ready old ≡ false → phase_in mid.stand ≡ phase.Open → TakesLines old piece t mid → MeetsFaultIn mid (drop t piece) fault new → MeetsFaultIn old piece fault new
 fault_after old mid new piece t fault opened none going first next =
-    let goes : (text : List ℕ) → GoesOnWith text (fed_by old) piece → GoesOnWith text (fed_by old) (take t piece) × GoesOnWith text (fed_by mid) (drop t piece) = λ text whole. let both = goes_both text (fed_by old) piece t first.within whole in (both.0, subst (λ (p : ℕ). GoesOnWith text p (drop t piece)) (sym first.fed) both.1) in
+    let goes : (text : List ℕ) → GoesOnWith text (fed_by old) piece → GoesOnWith text (fed_by old) (take t piece) × GoesOnWith text (fed_by mid) (drop t piece) = λ text whole. let both = goes_on_with_both text (fed_by old) piece t first.within whole in (both.0, subst (λ (p : ℕ). GoesOnWith text p (drop t piece)) (sym first.fed) both.1) in
     let options : options_for mid ≡ options_for old = ap (λ (c : CursorState). c.options) first.cursor in
     record {
       found = λ text bounds h whole. let g = goes text whole in next.found text bounds (first.found text bounds h g.0) g.1;
@@ -109,20 +109,20 @@ HasTaken old piece t mid = ((t ≡ 0) × (mid ≡ old)) ⊎ TakesLines old piece
 
 -- more bytes were taken
 pub takes_next : (old mid new : PieceFinderState) (piece : List ℕ) (t n : ℕ) → HasTaken old piece t mid → TakesLines mid (drop t piece) n new → TakesLines old piece (t + n) new
-takes_next old mid new piece t n (inl begun) next =
-    let none = begun.0 in
+takes_next old mid new piece t n (inl line_begun) next =
+    let none = line_begun.0 in
     let all : n ≡ t + n = omega (arith, none) in
-    subst (λ (k : ℕ). TakesLines old piece k new) all (subst (λ (f : PieceFinderState). TakesLines f piece n new) begun.1 (subst (λ (k : ℕ). TakesLines mid (drop k piece) n new) none next))
+    subst (λ (k : ℕ). TakesLines old piece k new) all (subst (λ (f : PieceFinderState). TakesLines f piece n new) line_begun.1 (subst (λ (k : ℕ). TakesLines mid (drop k piece) n new) none next))
 takes_next old mid new piece t n (inr first) next = takes_more old mid new piece t n first next
 
 -- a fault was met
 pub fault_next : (old mid new : PieceFinderState) (piece : List ℕ) (t : ℕ) (fault : Fault) → phase_in old.stand ≡ phase.Open → has_ready old ≡ false → phase_in mid.stand ≡ phase.Open → HasTaken old piece t mid → MeetsFaultIn mid (drop t piece) fault new → MeetsFaultIn old piece fault new
-fault_next old mid new piece t fault opened none going (inl begun) next = subst (λ (f : PieceFinderState). MeetsFaultIn f piece fault new) begun.1 (subst (λ (k : ℕ). MeetsFaultIn mid (drop k piece) fault new) begun.0 next)
+fault_next old mid new piece t fault opened none going (inl line_begun) next = subst (λ (f : PieceFinderState). MeetsFaultIn f piece fault new) line_begun.1 (subst (λ (k : ℕ). MeetsFaultIn mid (drop k piece) fault new) line_begun.0 next)
 fault_next old mid new piece t fault opened none going (inr first) next = fault_after old mid new piece t fault opened none going first next
 
 -- memory ran out after the first byte
 pub lost_next : (old mid last : PieceFinderState) (piece : List ℕ) (t : ℕ) (start : LineStart) → (t ≡ 0 → ⊥) → HasTaken old piece t mid → TakesNothing mid last → TakesLines old piece t (lost last start)
-lost_next old mid last piece t start some (inl begun) nothing = absurd (some begun.0)
+lost_next old mid last piece t start some (inl line_begun) nothing = absurd (some line_begun.0)
 lost_next old mid last piece t start some (inr first) nothing = lost_after old mid last piece t start first nothing
 
 -- memory ran out after lines of no byte of the piece
@@ -143,7 +143,7 @@ keeps_after old mid last piece opened none none_mid first keeps =
 
 -- memory ran out before the first byte
 pub keeps_next : (old mid last : PieceFinderState) (piece : List ℕ) (t : ℕ) → t ≡ 0 → phase_in old.stand ≡ phase.Open → has_ready old ≡ false → has_ready mid ≡ false → HasTaken old piece t mid → TakesNothing mid last → TakesNothing old last
-keeps_next old mid last piece t is opened none none_mid (inl begun) nothing = subst (λ (f : PieceFinderState). TakesNothing f last) begun.1 nothing
+keeps_next old mid last piece t is opened none none_mid (inl line_begun) nothing = subst (λ (f : PieceFinderState). TakesNothing f last) line_begun.1 nothing
 keeps_next old mid last piece t is opened none none_mid (inr first) nothing =
     let taken = subst (λ (k : ℕ). TakesLines old piece k mid) is first in
     record { keeps = keeps_after old mid last piece opened none none_mid taken nothing.keeps; none_ready = nothing.none_ready; held = let k = nothing.held in let m = taken.held in omega (arith, k, m) }

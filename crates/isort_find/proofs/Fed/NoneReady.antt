@@ -9,13 +9,13 @@ use Rattle.py_lines.specs.declared.fault.Fault.{Fault}
 use Rattle.py_imports.specs.Bound.{Bound}
 use Rattle.py_imports.specs.declared.binding.Binding.{Binding}
 use Rattle.isort_find.specs.Found.{firsts, IsFound}
-use Rattle.isort_find.specs.Cursor.{CursorState, IsAfter, HasStopped, BeginsNew, has_key}
+use Rattle.isort_find.specs.Cursor.{CursorState, IsAfter, HasStopped, BeginsNew, knows_key}
 use Rattle.isort_find.specs.Pending.{PendingState}
 use Rattle.isort_find.specs.Stand.{phase_in, skip_in, left_in, is_unread, are_left, ready_in, MeetsEndAt}
 use Rattle.isort_find.specs.Pieces.{PieceFinderState, piece_finder_state, options_for, fed_in, fed_by, has_ready, IsOver, IsUnsure, HasReleased, IsBetweenLines, IsAtTopEnd, HasFoundIn, FindsAll, GivesNone}
 use Rattle.isort_find.specs.Private.CursorMoves.{cursor_before}
 use Rattle.isort_find.specs.Private.KnownLaws.{SettledLaws, OneSettled, AscentLaws}
-use Rattle.isort_find.specs.Private.LooksAtBindings.{Passes}
+use Rattle.isort_find.specs.Private.LooksAtBindings.{PassesBindings}
 use Rattle.isort_find.specs.Private.PieceSteps.{IsNextStart, ReleasesAny, MayStandNext, MayLetLineGo, Rests, ReadsUnread, TakesRead, TakesAfter, TakesReady}
 use Rattle.isort_find.specs.Private.Walks.{WalkerState, LooksAhead, walker_state}
 use Rattle.isort_find.specs.declared.error.FindError.{FindError}
@@ -28,7 +28,7 @@ use Rattle.isort_find.proofs.Finds.LinePlaces.{bytes_given, bytes_lexed}
 use Rattle.isort_find.proofs.Finds.SettledFound.{append-nil-lines}
 use Rattle.isort_find.proofs.Walks.Inside.{nothing_dropped, inside_passed}
 use Rattle.isort_find.proofs.Walks.NextLine.{IsAtNothing, nothing_at_end, found_whole, found_lexed, found_at_top, stops_before}
-use Rattle.isort_find.proofs.Fed.Known.{start_of, known_begins, true_or_false}
+use Rattle.isort_find.proofs.Fed.Known.{next_start, known_begins, true_or_false}
 use Rattle.isort_find.proofs.Fed.LetGo.{begun_is, gone_between, fed_gone, ended_gone, fed_open}
 use Rattle.isort_find.proofs.Fed.Settled.{gap_settled, top_settled}
 use Rattle.isort_find.proofs.Fed.Held.{between_rest}
@@ -52,12 +52,12 @@ record IsResting (s : ScannerState) (cursor : CursorState) (text : List ℕ) (sk
 -- the cursor goes there
 goes_next : (s : ScannerState) (cursor : CursorState) (start : LineStart) (text : List ℕ) (skip : ℕ) (bounds : List Bound) → IsNextStart s start → skip ≡ 0 → IsBetweenLines s cursor text skip bounds → HasStopped text cursor bounds → IsResting s (cursor_before cursor start) text skip bounds
 goes_next s cursor start text skip bounds here fresh b stopped =
-    let is : start ≡ start_of s = (λ i. record { offset = here.offset i; line = here.line i }) in
+    let is : start ≡ next_start s = (λ i. record { offset = here.offset i; line = here.line i }) in
     let none = nil_from_length b.after.part (sym b.after.is_part.0 ∙ fresh) in
     let n : IsAtNothing b.after = record { none = none; found = found_whole b.after none } in
     record {
       between = record { after = b.after; released = b.released; stands = inl fresh };
-      stopped = subst (λ (x : LineStart). HasStopped text (cursor_before cursor x) bounds) (sym is) (stops_before cursor (start_of s) b.after n stopped);
+      stopped = subst (λ (x : LineStart). HasStopped text (cursor_before cursor x) bounds) (sym is) (stops_before cursor (next_start s) b.after n stopped);
       stands = here.offset;
     }
 
@@ -135,7 +135,7 @@ AllOf text bounds options offset = IsFound text options bounds None × MeetsEndA
 none_top : SettledLaws → AscentLaws → (old : PieceFinderState) (s : ScannerState) (passed : ℕ) (cursor : CursorState) (start : LineStart) → IsNextStart s start → IsLeft old (piece_finder_state s (stand.End passed) cursor) → GivesNone old (piece_finder_state s (stand.End passed) (cursor_before cursor start))
 none_top laws ascent old s passed cursor start here left =
     let top : (text : List ℕ) (bounds : List Bound) → HasFoundIn old text bounds → IsAtTopEnd s cursor.options text bounds = λ text bounds h. (left.found text bounds h).reached in
-    let is : start ≡ start_of s = (λ i. record { offset = here.offset i; line = here.line i }) in
+    let is : start ≡ next_start s = (λ i. record { offset = here.offset i; line = here.line i }) in
     record {
       found = λ text bounds h. record { stopped = subst (λ (x : LineStart). HasStopped text (cursor_before cursor x) bounds) (sym is) (stops text bounds (top text bounds h) (left.found text bounds h).stopped); reached = top text bounds h };
       all = λ text bounds h yet fine. top_settled laws ascent s cursor.options text (fed_in (stand.End passed) s) bounds (left.ended ∙ yet) (omega arith) (top text bounds h);
@@ -155,10 +155,10 @@ none_top laws ascent old s passed cursor start here left =
     end_is_no_fault : (x : Stand) (fault : Fault) → phase_in x ≡ phase.End → x ≡ stand.Fault fault → ⊥
     end_is_no_fault x fault h k = let both : phase_in x ≡ phase.Fault fault = ap phase_in k in cc
 
-    stops : (text : List ℕ) (bounds : List Bound) → IsAtTopEnd s cursor.options text bounds → HasStopped text cursor bounds → HasStopped text (cursor_before cursor (start_of s)) bounds
+    stops : (text : List ℕ) (bounds : List Bound) → IsAtTopEnd s cursor.options text bounds → HasStopped text cursor bounds → HasStopped text (cursor_before cursor (next_start s)) bounds
     stops text bounds t stopped =
         let after : IsAfter text cursor.options s.place s.line 0 bounds = record { lines = t.lines; before = t.before; part = []; given = t.given; binds = t.binds; in_top = t.in_top; is_part = (refl, inl refl); found = t.found ∙ ap (firsts cursor.options.unique []) (sym (append-nil t.before)) } in
-        stops_before cursor (start_of s) after (record { none = refl; found = t.found }) stopped
+        stops_before cursor (next_start s) after (record { none = refl; found = t.found }) stopped
 
     top_found : (text : List ℕ) (bounds : List Bound) → IsAtTopEnd s cursor.options text bounds → FindsAll (piece_finder_state s (stand.End passed) cursor) text bounds s.place
     top_found text bounds t =
@@ -200,7 +200,7 @@ end_none other at = absurd cc
 pub gives_none_at_top : SettledLaws → OneSettled → AscentLaws → (old new : PieceFinderState) → phase_in old.stand ≡ phase.End → Rests old new → GivesNone old new
 gives_none_at_top laws one ascent old new at rests = none_at laws one ascent old old.scanning old.stand old.cursor new (end_none old.stand at) (λ fault is. let both : phase_in old.stand ≡ phase.Fault fault = ap phase_in is in cc) (left_same old at (end_none old.stand at)) rests
 
-first_known : (s : CursorState) (b : Bound) (bs : List Bound) → list_all (has_key s.options.unique s.keys) (b ∷ bs) ≡ true → has_key s.options.unique s.keys b ≡ true
+first_known : (s : CursorState) (b : Bound) (bs : List Bound) → list_all (knows_key s.options.unique s.keys) (b ∷ bs) ≡ true → knows_key s.options.unique s.keys b ≡ true
 first_known s b bs h = both _ _ h
   where
     both : (x y : Bool) → x && y ≡ true → x ≡ true
@@ -208,7 +208,7 @@ first_known s b bs h = both _ _ h
     both false y k = absurd cc
 
 -- bindings whose keys are all known are none, or don't begin with a new one
-not_new : (s : CursorState) (left : List Bound) → list_all (has_key s.options.unique s.keys) left ≡ true → are_left left ≡ true → ¬ (BeginsNew s left)
+not_new : (s : CursorState) (left : List Bound) → list_all (knows_key s.options.unique s.keys) left ≡ true → are_left left ≡ true → ¬ (BeginsNew s left)
 not_new s [] known some = absurd (true_or_false false refl some)
 not_new s (b ∷ bs) known some = λ new. true_or_false _ new (first_known s b bs known)
 
@@ -225,7 +225,7 @@ record IsThrough (mid f : PieceFinderState) : Type 0 where
 same_through : (s : ScannerState) (at : Stand) (cursor : CursorState) (f : PieceFinderState) → ready_in at ≡ false → f ≡ piece_finder_state s at cursor → IsThrough (piece_finder_state s at cursor) f
 same_through s at cursor f none is = subst (IsThrough (piece_finder_state s at cursor)) (sym is) (record { found = λ text bounds h. h; scanning = refl; cursor = refl; none = none; fine = λ fine. fine; fed = refl; unsure = λ ready. absurd (true_or_false _ none ready) })
 
-line_through : (s : ScannerState) (p q r : PendingState) (cursor : CursorState) (f : PieceFinderState) → Passes cursor p q → q.left ≡ [] → Passes cursor q r → f ≡ piece_finder_state s (stand.Within r) cursor → IsThrough (piece_finder_state s (stand.Within p) cursor) f
+line_through : (s : ScannerState) (p q r : PendingState) (cursor : CursorState) (f : PieceFinderState) → PassesBindings cursor p q → q.left ≡ [] → PassesBindings cursor q r → f ≡ piece_finder_state s (stand.Within r) cursor → IsThrough (piece_finder_state s (stand.Within p) cursor) f
 line_through s p q r cursor f first none next is =
     let nothing : r.left ≡ [] = nothing_dropped next.dropped r.left (sym none ∙ next.split) in
     let all : p.left ≡ first.dropped = first.split ∙ ap (λ l. first.dropped ++ l) none ∙ append-nil first.dropped in
@@ -239,7 +239,7 @@ line_through s p q r cursor f first none next is =
       none = ap are_left nothing;
       fine = λ fine fault e. open_or_fault (stand.Within r) fault refl e;
       fed = refl;
-      unsure = λ some. not_new cursor p.left (subst (λ (l : List Bound). list_all (has_key cursor.options.unique cursor.keys) l ≡ true) (sym all) first.known) some;
+      unsure = λ some. not_new cursor p.left (subst (λ (l : List Bound). list_all (knows_key cursor.options.unique cursor.keys) l ≡ true) (sym all) first.known) some;
     })
 
 through : (s : ScannerState) (at : Stand) (cursor : CursorState) (f : PieceFinderState) → is_unread at ≡ false → TakesRead (piece_finder_state s at cursor) (Ok None) f → IsThrough (piece_finder_state s at cursor) f
@@ -275,5 +275,5 @@ none_by laws one ascent old mid f new (Err e) opened reads after rests = absurd 
     differ a x h k = cc
 
 -- nothing was ready
-pub gives_none : SettledLaws → OneSettled → AscentLaws → (old f new : PieceFinderState) → phase_in old.stand ≡ phase.Open → TakesReady old (Ok None) f → Rests f new → GivesNone old new
-gives_none laws one ascent old f new opened t rests = none_by laws one ascent old t.mid f new t.read opened t.reads t.takes rests
+pub answers_none : SettledLaws → OneSettled → AscentLaws → (old f new : PieceFinderState) → phase_in old.stand ≡ phase.Open → TakesReady old (Ok None) f → Rests f new → GivesNone old new
+answers_none laws one ascent old f new opened t rests = none_by laws one ascent old t.mid f new t.read opened t.reads t.takes rests

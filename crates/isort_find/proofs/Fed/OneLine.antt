@@ -11,7 +11,7 @@ use Rattle.py_imports.specs.Bound.{Bound}
 use Rattle.isort_find.specs.Settled.{DecidesFound}
 use Rattle.isort_find.specs.Cursor.{CursorState, HasStopped}
 use Rattle.isort_find.specs.Stand.{phase_in, skip_in}
-use Rattle.isort_find.specs.Pieces.{PieceFinderState, piece_finder_state, options_for, fed_by, HasReleased, IsBetweenLines, HasFoundIn, DecidesWithin, MeetsFaultIn, EndsText, EndsInFault, EndsFeeding}
+use Rattle.isort_find.specs.Pieces.{PieceFinderState, piece_finder_state, options_for, fed_by, HasReleased, IsBetweenLines, HasFoundIn, DecidesWithin, MeetsFaultIn, FinishesText, EndsInFault, EndsFeeding}
 use Rattle.isort_find.specs.Private.CursorMoves.{cursor_before}
 use Rattle.isort_find.specs.Private.PieceSteps.{IsNextStart, TriesReady, TakesLines, TakesNothing, TakesBytesOf, walker_of, with_walker}
 use Rattle.isort_find.specs.Private.Walks.{WalkerState, with_fault}
@@ -23,8 +23,8 @@ use Rattle.isort_find.specs.declared.walker.Phase.{Phase}
 use Rattle.isort_find.specs.declared.walker.Phase.TheVariants as phase
 use Rattle.isort_find.specs.Private.KnownLaws.{AscentLaws, EachIsLexed, OneSettled, SettledLaws}
 use Rattle.isort_find.proofs.Walks.NextLine.{nothing_at_end, stops_before, found_lexed, meets_lexical}
-use Rattle.isort_find.proofs.Fed.Known.{start_of, given_of, true_or_false, none_or_some}
-use Rattle.isort_find.proofs.Fed.LetGo.{Begins, begun, begun_between, begun_fed, begun_held, begun_gone, begun_scanning, ended_gone}
+use Rattle.isort_find.proofs.Fed.Known.{next_start, given_of, true_or_false, none_or_some}
+use Rattle.isort_find.proofs.Fed.LetGo.{BeginsLine, line_begun, begun_between, begun_fed, begun_held, begun_gone, begun_scanning, ended_gone}
 use Rattle.isort_find.proofs.Fed.Settled.{all_settled, all_undecided}
 use Rattle.isort_find.proofs.Fed.Held.{between_rest, line_any, open_ready}
 use Rattle.isort_find.proofs.Fed.TriedLines.{IsBadReady, tried_found, tried_so, tried_ready, tried_bad, bad_decided}
@@ -42,18 +42,18 @@ moved_on s t cursor text skip bounds b released place = record {
     moved (inr e) = inr (e ∙ sym place)
 
 -- bytes were taken, and the finder is between the same lines
-taken_between : (old : PieceFinderState) (t : ScannerState) → Begins old t → (s : ScannerState) (piece : List ℕ) (n : ℕ) → TakesBytes t piece n s → (text : List ℕ) (bounds : List Bound) → HasFoundIn old text bounds → GoesOnWith text (fed_by old) (take n piece) → IsBetweenLines s old.cursor text (skip_in old.stand) bounds
+taken_between : (old : PieceFinderState) (t : ScannerState) → BeginsLine old t → (s : ScannerState) (piece : List ℕ) (n : ℕ) → TakesBytes t piece n s → (text : List ℕ) (bounds : List Bound) → HasFoundIn old text bounds → GoesOnWith text (fed_by old) (take n piece) → IsBetweenLines s old.cursor text (skip_in old.stand) bounds
 taken_between old t b s piece n takes text bounds h goes =
     let between = begun_between old t b text bounds h in
     let lines = between.after.lines in
     let scanning = begun_scanning old t b text lines between.released in
     moved_on t s old.cursor text (skip_in old.stand) bounds between (inl (takes.scans text lines scanning (subst (λ (p : ℕ). GoesOnWith text p (take n piece)) (begun_fed old t b) goes))) takes.place
 
-taken_fed : (old : PieceFinderState) (t : ScannerState) → Begins old t → (s : ScannerState) (piece : List ℕ) (n : ℕ) → TakesBytes t piece n s → fed_of s ≡ fed_by old + n
+taken_fed : (old : PieceFinderState) (t : ScannerState) → BeginsLine old t → (s : ScannerState) (piece : List ℕ) (n : ℕ) → TakesBytes t piece n s → fed_of s ≡ fed_by old + n
 taken_fed old t b s piece n takes = let len = ap length takes.held in let fed = begun_fed old t b in omega (arith, fed, takes.place, len, length-append t.held (take n piece), length-take-le n piece takes.within)
 
 -- bytes were taken up to a line's end or the piece's, and the line was tried
-pub takes_line : SettledLaws → OneSettled → AscentLaws → (old : PieceFinderState) (t : ScannerState) → Begins old t → (s : ScannerState) (piece : List ℕ) (n : ℕ) → TakesBytes t piece n s → (new : PieceFinderState) (result : Result (Unit {0}) FindError) → result ≡ Ok tt → TriesReady (begun old s) result new → TakesLines old piece n new
+pub takes_line : SettledLaws → OneSettled → AscentLaws → (old : PieceFinderState) (t : ScannerState) → BeginsLine old t → (s : ScannerState) (piece : List ℕ) (n : ℕ) → TakesBytes t piece n s → (new : PieceFinderState) (result : Result (Unit {0}) FindError) → result ≡ Ok tt → TriesReady (line_begun old s) result new → TakesLines old piece n new
 takes_line laws one ascent old t b s piece n takes new result ok tries =
     let skip = skip_in old.stand in
     let so = tried_so s skip old.cursor new result ok tries in
@@ -103,8 +103,8 @@ cut_goes xs ys zs h =
     )
 
 -- a text that goes on with a piece goes on with its first bytes, and then with the others
-pub goes_both : (text : List ℕ) (place : ℕ) (piece : List ℕ) (n : ℕ) → n ≤ length piece → GoesOnWith text place piece → GoesOnWith text place (take n piece) × GoesOnWith text (place + n) (drop n piece)
-goes_both text place piece n within goes =
+pub goes_on_with_both : (text : List ℕ) (place : ℕ) (piece : List ℕ) (n : ℕ) → n ≤ length piece → GoesOnWith text place piece → GoesOnWith text place (take n piece) × GoesOnWith text (place + n) (drop n piece)
+goes_on_with_both text place piece n within goes =
     let whole = take-append-drop n piece in
     let size : length piece ≡ length (take n piece) + length (drop n piece) = ap length (sym whole) ∙ length-append (take n piece) (drop n piece) in
     let first : length (take n piece) ≡ n = length-take-le n piece within in
@@ -125,23 +125,23 @@ known_lexed laws each text n lines fault decides lexed =
 
 -- the finder has met this fault where its scanner stands
 abbrev pub failed : PieceFinderState → ScannerState → LineStart → Fault → PieceFinderState
-failed f s start fault = with_walker (begun f s) (with_fault (walker_of (begun f s)) start fault)
+failed f s start fault = with_walker (line_begun f s) (with_fault (walker_of (line_begun f s)) start fault)
 
 -- so it is once its walker has met the fault
-pub failed_is : (old : PieceFinderState) (w new : WalkerState) (t s : ScannerState) (start : LineStart) (fault : Fault) → piece_finder_state t w.stand w.cursor ≡ begun old t → new ≡ with_fault w start fault → piece_finder_state s new.stand new.cursor ≡ failed old s start fault
+pub failed_is : (old : PieceFinderState) (w new : WalkerState) (t s : ScannerState) (start : LineStart) (fault : Fault) → piece_finder_state t w.stand w.cursor ≡ line_begun old t → new ≡ with_fault w start fault → piece_finder_state s new.stand new.cursor ≡ failed old s start fault
 failed_is old w new t s start fault is kept = ap (λ (x : WalkerState). piece_finder_state s x.stand x.cursor) kept ∙ ap (λ (f : PieceFinderState). piece_finder_state s (stand.Fault fault) (cursor_before f.cursor start)) is
 
 -- what is found up to a lexical fault, which the finder then has
 lexical_found : SettledLaws → (t s : ScannerState) (cursor : CursorState) (text : List ℕ) (skip : ℕ) (bounds : List Bound) (start : LineStart) (fault : Fault) (b : IsBetweenLines t cursor text skip bounds) → IsNextStart t start → IsLexed text b.after.lines (Some fault) → HasStopped text cursor bounds → HasFoundIn (piece_finder_state s (stand.Fault fault) (cursor_before cursor start)) text bounds
 lexical_found laws t s cursor text skip bounds start fault b here lexed stopped =
-    let is : start ≡ start_of t = (λ i. record { offset = here.offset i; line = here.line i }) in
+    let is : start ≡ next_start t = (λ i. record { offset = here.offset i; line = here.line i }) in
     subst (λ (x : LineStart). HasFoundIn (piece_finder_state s (stand.Fault fault) (cursor_before cursor x)) text bounds) (sym is) (record {
-      stopped = stops_before cursor (start_of t) b.after (nothing_at_end laws.ends.laws b.after (Some fault) lexed) stopped;
+      stopped = stops_before cursor (next_start t) b.after (nothing_at_end laws.ends.laws b.after (Some fault) lexed) stopped;
       reached = meets_lexical laws.ends.laws b.after fault lexed;
     })
 
 -- the scanner meets a fault
-pub meets_fault : SettledLaws → EachIsLexed → (old : PieceFinderState) (t : ScannerState) → Begins old t → (s : ScannerState) (piece : List ℕ) (fault : Fault) (start : LineStart) → IsNextStart t start → MeetsFault t piece fault s → MeetsFaultIn old piece fault (failed old s start fault)
+pub meets_fault : SettledLaws → EachIsLexed → (old : PieceFinderState) (t : ScannerState) → BeginsLine old t → (s : ScannerState) (piece : List ℕ) (fault : Fault) (start : LineStart) → IsNextStart t start → MeetsFault t piece fault s → MeetsFaultIn old piece fault (failed old s start fault)
 meets_fault laws each old t b s piece fault start here meets = record {
   found = λ text bounds h goes. lexical_found laws t s old.cursor text (skip_in old.stand) bounds start fault (begun_between old t b text bounds h) here (met text bounds h goes).3 h.stopped;
   decided = λ text bounds h goes opened. decided text bounds h goes;
@@ -170,12 +170,12 @@ meets_fault laws each old t b s piece fault start here meets = record {
         (q.0, q.1, subst (λ (p : ℕ). DecidesFound (take (p + q.0) text) (options_for old) fault) (sym (begun_fed old t b)) now)
 
 -- the line that got ready is bad
-meets_bad_line : SettledLaws → (old : PieceFinderState) (t : ScannerState) → Begins old t → (s : ScannerState) (piece : List ℕ) (n : ℕ) → TakesBytes t piece n s → (new : PieceFinderState) (result : Result (Unit {0}) FindError) (fault : Fault) → TriesReady (begun old s) result new → IsBadReady (begun old s) fault new → MeetsFaultIn old piece fault new
+meets_bad_line : SettledLaws → (old : PieceFinderState) (t : ScannerState) → BeginsLine old t → (s : ScannerState) (piece : List ℕ) (n : ℕ) → TakesBytes t piece n s → (new : PieceFinderState) (result : Result (Unit {0}) FindError) (fault : Fault) → TriesReady (line_begun old s) result new → IsBadReady (line_begun old s) fault new → MeetsFaultIn old piece fault new
 meets_bad_line laws old t b s piece n takes new result fault tries bad = record {
-  found = λ text bounds h goes. tried_found laws s (skip_in old.stand) old.cursor new text bounds result (taken_between old t b s piece n takes text bounds h (goes_both text (fed_by old) piece n takes.within goes).0) h.stopped tries;
+  found = λ text bounds h goes. tried_found laws s (skip_in old.stand) old.cursor new text bounds result (taken_between old t b s piece n takes text bounds h (goes_on_with_both text (fed_by old) piece n takes.within goes).0) h.stopped tries;
   decided = λ text bounds h goes was.
-      let between = taken_between old t b s piece n takes text bounds h (goes_both text (fed_by old) piece n takes.within goes).0 in
-      let now = bad_decided laws (begun old s) new text (skip_in old.stand) bounds fault (takes.open_yet ∙ ended_gone old.scanning t b.scanner ∙ b.yet) bad between in
+      let between = taken_between old t b s piece n takes text bounds h (goes_on_with_both text (fed_by old) piece n takes.within goes).0 in
+      let now = bad_decided laws (line_begun old s) new text (skip_in old.stand) bounds fault (takes.open_yet ∙ ended_gone old.scanning t b.scanner ∙ b.yet) bad between in
       (n, takes.within, subst (λ (p : ℕ). DecidesFound (take p text) (options_for old) fault) (taken_fed old t b s piece n takes) now);
   none_ready = b.none;
   again = λ first was. absurd (open_or_fault old.stand first b.opened was);
@@ -186,14 +186,14 @@ meets_bad_line laws old t b s piece n takes new result fault tries bad = record 
   kept = ap (λ (f : PieceFinderState). f.stand) bad.kept;
 }
 
-pub tries_bad : SettledLaws → (old : PieceFinderState) (t : ScannerState) → Begins old t → (s : ScannerState) (piece : List ℕ) (n : ℕ) → TakesBytes t piece n s → (new : PieceFinderState) (result : Result (Unit {0}) FindError) (e : FindError) (answer : Result ℕ FindError) → result ≡ Err e → answer ≡ Err e → TriesReady (begun old s) result new → TakesBytesOf old piece answer new
+pub tries_bad : SettledLaws → (old : PieceFinderState) (t : ScannerState) → BeginsLine old t → (s : ScannerState) (piece : List ℕ) (n : ℕ) → TakesBytes t piece n s → (new : PieceFinderState) (result : Result (Unit {0}) FindError) (e : FindError) (answer : Result ℕ FindError) → result ≡ Err e → answer ≡ Err e → TriesReady (line_begun old s) result new → TakesBytesOf old piece answer new
 tries_bad laws old t b s piece n takes new result e answer err is tries =
-    let bad = tried_bad (begun old s) new result e err tries in
+    let bad = tried_bad (line_begun old s) new result e err tries in
     subst (λ (r : Result ℕ FindError). TakesBytesOf old piece r new) (sym (is ∙ ap Err bad.is)) (meets_bad_line laws old t b s piece n takes new result bad.fault tries bad.bad)
 
 -- the line was let go, and nothing else changed
-pub takes_nothing : (old : PieceFinderState) (t : ScannerState) → Begins old t → TakesNothing old (begun old t)
-takes_nothing old t b = record {
+pub takes_no_byte : (old : PieceFinderState) (t : ScannerState) → BeginsLine old t → TakesNothing old (line_begun old t)
+takes_no_byte old t b = record {
   keeps = record {
     found = λ text bounds h. record { stopped = h.stopped; reached = (begun_between old t b text bounds h, b.none_ready) };
     rest = λ text bounds h yet none. between_rest t (skip_in old.stand) old.cursor text bounds (ended_gone old.scanning t b.scanner ∙ yet) b.none_ready (begun_between old t b text bounds h);
@@ -210,14 +210,14 @@ takes_nothing old t b = record {
 }
 
 -- the scanner's text has ended
-ended_between : (old : PieceFinderState) (t : ScannerState) → Begins old t → (s : ScannerState) → EndsScan t s → (text : List ℕ) (bounds : List Bound) → HasFoundIn old text bounds → length text ≡ fed_by old → IsBetweenLines s old.cursor text (skip_in old.stand) bounds
+ended_between : (old : PieceFinderState) (t : ScannerState) → BeginsLine old t → (s : ScannerState) → EndsScan t s → (text : List ℕ) (bounds : List Bound) → HasFoundIn old text bounds → length text ≡ fed_by old → IsBetweenLines s old.cursor text (skip_in old.stand) bounds
 ended_between old t b s ends text bounds h all =
     let between = begun_between old t b text bounds h in
     let lines = between.after.lines in
     moved_on t s old.cursor text (skip_in old.stand) bounds between (inr (ends.scans text lines (begun_scanning old t b text lines between.released) (all ∙ begun_fed old t b))) ends.place
 
 -- the text has ended, and its last line was tried
-ends_line : SettledLaws → (old : PieceFinderState) (t : ScannerState) → Begins old t → (s : ScannerState) → EndsScan t s → (new : PieceFinderState) (result : Result (Unit {0}) FindError) → result ≡ Ok tt → TriesReady (begun old s) result new → EndsText old new
+ends_line : SettledLaws → (old : PieceFinderState) (t : ScannerState) → BeginsLine old t → (s : ScannerState) → EndsScan t s → (new : PieceFinderState) (result : Result (Unit {0}) FindError) → result ≡ Ok tt → TriesReady (line_begun old s) result new → FinishesText old new
 ends_line laws old t b s ends new result ok tries =
     let so = tried_so s (skip_in old.stand) old.cursor new result ok tries in
     let held = ap length ends.held in
@@ -226,7 +226,7 @@ ends_line laws old t b s ends new result ok tries =
     record {
       found = found;
       line = λ text bounds h all ready.
-          let line = tried_ready (begun old s) new result refl tries ready in
+          let line = tried_ready (line_begun old s) new result refl tries ready in
           line_any new.scanning new.stand new.cursor text bounds line.0 (open_ready new.stand ready) (ap (λ (x : ScannerState). x.ready) so.scanning ∙ line.1) (found text bounds h all);
       cursor = so.cursor;
       fed = so.fed ∙ same ∙ sym (begun_fed old t b);
@@ -235,9 +235,9 @@ ends_line laws old t b s ends new result ok tries =
       no_fault = so.fine;
     }
 
-ends_bad : SettledLaws → (old : PieceFinderState) (t : ScannerState) → Begins old t → (s : ScannerState) → EndsScan t s → (new : PieceFinderState) (result : Result (Unit {0}) FindError) (e : FindError) → result ≡ Err e → TriesReady (begun old s) result new → EndsFeeding old (Err e) new
+ends_bad : SettledLaws → (old : PieceFinderState) (t : ScannerState) → BeginsLine old t → (s : ScannerState) → EndsScan t s → (new : PieceFinderState) (result : Result (Unit {0}) FindError) (e : FindError) → result ≡ Err e → TriesReady (line_begun old s) result new → EndsFeeding old (Err e) new
 ends_bad laws old t b s ends new result e err tries =
-    let bad = tried_bad (begun old s) new result e err tries in
+    let bad = tried_bad (line_begun old s) new result e err tries in
     subst (λ (x : FindError). EndsFeeding old (Err x) new) (sym bad.is) (record {
       found = λ text bounds h all. tried_found laws s (skip_in old.stand) old.cursor new text bounds result (ended_between old t b s ends text bounds h all) h.stopped tries;
       again = λ first was. absurd (open_or_fault old.stand first b.opened was);
@@ -247,12 +247,12 @@ ends_bad laws old t b s ends new result e err tries =
       kept = ap (λ (f : PieceFinderState). f.stand) bad.bad.kept;
     })
 
-pub ends_tried : SettledLaws → (old : PieceFinderState) (t : ScannerState) → Begins old t → (s : ScannerState) → EndsScan t s → (new : PieceFinderState) (result : Result (Unit {0}) FindError) → TriesReady (begun old s) result new → EndsFeeding old result new
+pub ends_tried : SettledLaws → (old : PieceFinderState) (t : ScannerState) → BeginsLine old t → (s : ScannerState) → EndsScan t s → (new : PieceFinderState) (result : Result (Unit {0}) FindError) → TriesReady (line_begun old s) result new → EndsFeeding old result new
 ends_tried laws old t b s ends new (Ok done) tries = ends_line laws old t b s ends new (Ok done) refl tries
 ends_tried laws old t b s ends new (Err e) tries = ends_bad laws old t b s ends new (Err e) e refl tries
 
 -- the text may not end so
-pub ends_lexical : SettledLaws → (old : PieceFinderState) (t : ScannerState) → Begins old t → (s : ScannerState) (fault : Fault) (start : LineStart) → IsNextStart t start → EndsFaulty t fault s → EndsInFault old fault (failed old s start fault)
+pub ends_lexical : SettledLaws → (old : PieceFinderState) (t : ScannerState) → BeginsLine old t → (s : ScannerState) (fault : Fault) (start : LineStart) → IsNextStart t start → EndsFaulty t fault s → EndsInFault old fault (failed old s start fault)
 ends_lexical laws old t b s fault start here ends = record {
   found = λ text bounds h all.
       let r = begun_between old t b text bounds h in

@@ -12,9 +12,9 @@ use Rattle.isort_find.specs.Stand.{phase_in, is_unread, are_left, ready_in, Bind
 use Rattle.isort_find.specs.Pieces.{PieceFinderState, piece_finder_state, options_for, fed_by, has_ready, due_in, due_by, IsWithinLine, HasFoundIn, AreSettled, HoldsLine, PieceFinderRunsOut, GivesBinding, GivesFault, GivesReady}
 use Rattle.isort_find.specs.Private.KnownLaws.{SettledLaws, OneSettled}
 use Rattle.isort_find.specs.Private.LineSteps.{Judges}
-use Rattle.isort_find.specs.Private.LooksAtBindings.{Passes, TakesNew}
-use Rattle.isort_find.specs.Private.PieceSteps.{HasReady, TriesHeld, ReadsHeld, ReadsReady, ReadsUnread, TakesRead, TakesAfter, TakesReady, walker_of, with_walker}
-use Rattle.isort_find.specs.Private.Walks.{WalkerState, FollowsStep, LooksAhead, walker_state}
+use Rattle.isort_find.specs.Private.LooksAtBindings.{PassesBindings, TakesNew}
+use Rattle.isort_find.specs.Private.PieceSteps.{HasReady, HandsLine, ReadsReady, ReadsUnread, TakesRead, TakesAfter, TakesReady, walker_of, with_walker}
+use Rattle.isort_find.specs.Private.Walks.{WalkerState, FollowsStep, LooksAhead, walker_state, ReadsOrLosesLine, TriesLine}
 use Rattle.isort_find.specs.declared.error.FindError.{FindError}
 use Rattle.isort_find.specs.declared.error.FindError.TheVariants as error
 use Rattle.isort_find.specs.declared.pending.LineStart.{LineStart}
@@ -34,8 +34,8 @@ use Rattle.isort_find.proofs.Fed.TriedLines.{TriedSo, IsBadReady, held_found, tr
 not_ok : (e : FindError) (r : Result (Unit {0}) FindError) → r ≡ Err e → r ≡ Ok tt → ⊥
 not_ok e r h k = cc
 
-tries_held : (f new : PieceFinderState) (result : Result (Unit {0}) FindError) → ReadsHeld f result new → TriesHeld f (tried_result result) new
-tries_held f new result h = record { line = h.line; start = h.start; walker = h.walker; at = h.at; tries = reads_tries (walker_of f) h.walker h.line h.start result h.reads; same = h.same }
+tries_held : (f new : PieceFinderState) (result : Result (Unit {0}) FindError) → HandsLine ReadsOrLosesLine f result new → HandsLine TriesLine f (tried_result result) new
+tries_held f new result h = record { line = h.line; start = h.start; walker = h.walker; at = h.at; does = reads_tries (walker_of f) h.walker h.line h.start result h.does; same = h.same }
 
 -- the line that was left unread was read
 pub ready_found : SettledLaws → (s : ScannerState) (at : Stand) (cursor : CursorState) (new : PieceFinderState) (text : List ℕ) (bounds : List Bound) (result : Result (Unit {0}) FindError) → is_unread at ≡ true → ReadsReady (piece_finder_state s at cursor) result new → HasFoundIn (piece_finder_state s at cursor) text bounds → HasFoundIn new text bounds
@@ -51,7 +51,7 @@ ready_so : (s : ScannerState) (at : Stand) (cursor : CursorState) (new : PieceFi
 ready_so s (stand.Unread start skip) cursor new unread (inl none) = subst (TriedSo (piece_finder_state s (stand.Unread start skip) cursor)) (sym none.2) (record { scanning = refl; cursor = refl; fine = λ fault e. cc; fed = refl })
 ready_so s (stand.Unread start skip) cursor new unread (inr held) =
     let h = tries_held (piece_finder_state s (stand.Unread start skip) cursor) new (Ok tt) held in
-    subst (TriedSo (piece_finder_state s (stand.Unread start skip) cursor)) (sym h.same) (trial_so s (stand.Unread start skip) cursor h.start h.tries.trial (Ok tt) h.walker refl h.tries.follows)
+    subst (TriedSo (piece_finder_state s (stand.Unread start skip) cursor)) (sym h.same) (trial_so s (stand.Unread start skip) cursor h.start h.does.trial (Ok tt) h.walker refl h.does.follows)
 ready_so s other cursor new unread reads = absurd cc
 
 -- what stays where a line is read without an error
@@ -62,7 +62,7 @@ unread_so old mid opened (inr here) = subst (TriedSo old) (sym here.2) (record {
 -- no line is left unread then
 ready_read : (s : ScannerState) (at : Stand) (cursor : CursorState) (new : PieceFinderState) → is_unread at ≡ true → ReadsReady (piece_finder_state s at cursor) (Ok tt) new → is_unread new.stand ≡ false
 ready_read s (stand.Unread start skip) cursor new unread (inl none) = ap (λ (f : PieceFinderState). is_unread f.stand) none.2
-ready_read s (stand.Unread start skip) cursor new unread (inr held) = ap (λ (f : PieceFinderState). is_unread f.stand) held.same ∙ by_step held.reads.step held.reads.follows
+ready_read s (stand.Unread start skip) cursor new unread (inr held) = ap (λ (f : PieceFinderState). is_unread f.stand) held.same ∙ by_step held.does.step held.does.follows
   where
     by_step : (x : Step) → FollowsStep (walker_state (stand.Unread start skip) cursor) held.start x (Ok tt) held.walker → is_unread held.walker.stand ≡ false
     by_step (step.Bindings bindings) follows = ap (λ (w : WalkerState). is_unread w.stand) follows.1
@@ -80,7 +80,7 @@ unread_read old mid (inr here) = ap (λ (f : PieceFinderState). is_unread f.stan
 -- what is due once the line was read that was left unread
 ready_due : (s : ScannerState) (at : Stand) (cursor : CursorState) (new : PieceFinderState) → is_unread at ≡ true → ReadsReady (piece_finder_state s at cursor) (Ok tt) new → due_by new ≤ due_in at
 ready_due s (stand.Unread start skip) cursor new unread (inl none) = let now : due_by new ≡ 0 = ap due_by none.2 in omega (arith, now)
-ready_due s (stand.Unread start skip) cursor new unread (inr held) = let same = ap due_by held.same in let few = by_step held.reads.step held.reads.follows in omega (arith, same, few)
+ready_due s (stand.Unread start skip) cursor new unread (inr held) = let same = ap due_by held.same in let few = by_step held.does.step held.does.follows in omega (arith, same, few)
   where
     by_step : (x : Step) → FollowsStep (walker_state (stand.Unread start skip) cursor) held.start x (Ok tt) held.walker → due_in held.walker.stand ≤ 2 ^ 64
     by_step (step.Bindings bindings) follows =
@@ -110,7 +110,7 @@ record Took (mid : PieceFinderState) (b : Bound) (new : PieceFinderState) : Type
   pub rest : PendingState
   pub last : PendingState
   pub takes : TakesNew mid.cursor pending b cursor rest
-  pub passes : Passes cursor rest last
+  pub passes : PassesBindings cursor rest last
   pub same : new ≡ piece_finder_state mid.scanning (stand.Within last) cursor
 
 some_is_none : (x : Binding) → ◌≡◌ {A = Result (Option Binding) FindError} (Ok (Some x)) (Ok None) → ⊥
@@ -131,7 +131,7 @@ record HasTookOne (s : ScannerState) (cursor : CursorState) (last : PendingState
   pub within : IsWithinLine s cursor.options text last (bounds ++ b ∷ [])
   pub from : BindsFrom text cursor.offset b
 
-took_one : (s : ScannerState) (cursor t : CursorState) (p rest last : PendingState) (b : Bound) (text : List ℕ) (bounds : List Bound) → TakesNew cursor p b t rest → Passes t rest last → HasFoundIn (piece_finder_state s (stand.Within p) cursor) text bounds → HasTookOne s t last text bounds b
+took_one : (s : ScannerState) (cursor t : CursorState) (p rest last : PendingState) (b : Bound) (text : List ℕ) (bounds : List Bound) → TakesNew cursor p b t rest → PassesBindings t rest last → HasFoundIn (piece_finder_state s (stand.Within p) cursor) text bounds → HasTookOne s t last text bounds b
 took_one s cursor t p rest last b text bounds takes passes h =
     let w = h.reached in
     let g = one_given text cursor t w.lines w.line p rest bounds b h.stopped takes w.inside in
@@ -238,7 +238,7 @@ step_error laws s start here skip cursor new line step.NoMemory w e at judged fo
 
 read_error : SettledLaws → (s : ScannerState) (at : Stand) (cursor : CursorState) (new : PieceFinderState) (e : FindError) → is_unread at ≡ true → ReadsReady (piece_finder_state s at cursor) (Err e) new → GivesReady (piece_finder_state s at cursor) (Err e) new
 read_error laws s (stand.Unread start skip) cursor new e unread (inl none) = absurd (not_ok e (Err e) refl none.1)
-read_error laws s (stand.Unread start skip) cursor new e unread (inr h) = step_error laws s start h.start skip cursor new h.line h.reads.step h.walker e h.at h.reads.judges h.reads.follows h.same (λ text bounds found. ready_found laws s (stand.Unread start skip) cursor new text bounds (Err e) refl (inr h) found)
+read_error laws s (stand.Unread start skip) cursor new e unread (inr h) = step_error laws s start h.start skip cursor new h.line h.does.step h.walker e h.at h.does.judges h.does.follows h.same (λ text bounds found. ready_found laws s (stand.Unread start skip) cursor new text bounds (Err e) refl (inr h) found)
 read_error laws s other cursor new e unread reads = absurd cc
 
 nonempty : (left : List Bound) → (left ≡ [] → ⊥) → are_left left ≡ true
@@ -250,7 +250,7 @@ split_nonempty [] left h = nonempty left h
 split_nonempty (d ∷ ds) left h = refl
 
 -- bindings were passed over, and memory ran out for the next
-passed_over : SettledLaws → (old : PieceFinderState) (s : ScannerState) (p q : PendingState) (cursor : CursorState) (new : PieceFinderState) → phase_in old.stand ≡ phase.Open → ReadsUnread old (Ok tt) (piece_finder_state s (stand.Within p) cursor) → Passes cursor p q → (q.left ≡ [] → ⊥) → new ≡ piece_finder_state s (stand.Within q) cursor → PieceFinderRunsOut old new × (has_ready old ≡ true)
+passed_over : SettledLaws → (old : PieceFinderState) (s : ScannerState) (p q : PendingState) (cursor : CursorState) (new : PieceFinderState) → phase_in old.stand ≡ phase.Open → ReadsUnread old (Ok tt) (piece_finder_state s (stand.Within p) cursor) → PassesBindings cursor p q → (q.left ≡ [] → ⊥) → new ≡ piece_finder_state s (stand.Within q) cursor → PieceFinderRunsOut old new × (has_ready old ≡ true)
 passed_over laws old s p q cursor new opened reads passes some is =
     let mid = piece_finder_state s (stand.Within p) cursor in
     let so = unread_so old mid opened reads in
@@ -291,5 +291,5 @@ error_by laws old mid new e (Ok done) opened reads after = take_error laws old m
 error_by laws old mid new e (Err other) opened reads after = subst (λ (f : PieceFinderState). GivesReady old (Err e) f) (sym after.1) (subst (λ (x : FindError). GivesReady old (Err x) mid) (sym (error_of e other (Err e) refl after.0)) (unread_error laws old mid other reads))
 
 -- an error of a call that asks for what is ready
-pub gives_error : SettledLaws → (old new : PieceFinderState) (e : FindError) → phase_in old.stand ≡ phase.Open → TakesReady old (Err e) new → GivesReady old (Err e) new
-gives_error laws old new e opened t = error_by laws old t.mid new e t.read opened t.reads t.takes
+pub answers_error : SettledLaws → (old new : PieceFinderState) (e : FindError) → phase_in old.stand ≡ phase.Open → TakesReady old (Err e) new → GivesReady old (Err e) new
+answers_error laws old new e opened t = error_by laws old t.mid new e t.read opened t.reads t.takes

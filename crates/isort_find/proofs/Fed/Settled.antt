@@ -21,12 +21,12 @@ use Rattle.isort_find.specs.Private.KnownLaws.{AscentLaws, OneSettled, SettledLa
 use Rattle.isort_find.proofs.Keys.TakenBindings.{list_all-snoc}
 use Rattle.isort_find.proofs.Finds.Beginnings.{firsts-append}
 use Rattle.isort_find.proofs.Finds.CountedLines.{AllCount, counted-all, counted-cut}
-use Rattle.isort_find.proofs.Finds.NextLines.{BindAll-snoc}
+use Rattle.isort_find.proofs.Finds.NextLines.{BindAll-one_more}
 use Rattle.isort_find.proofs.Finds.OneFound.{one_of, none_bad, one_end_found}
 use Rattle.isort_find.proofs.Finds.SettledFound.{append-nil-lines}
 use Rattle.isort_find.proofs.Walks.NextLine.{found_at_top}
 use Rattle.isort_find.proofs.Fed.Known.{known_settled, true_or_false, none_or_some}
-use Rattle.isort_find.proofs.Fed.LetGo.{none_left}
+use Rattle.isort_find.proofs.Fed.LetGo.{none_are_left}
 
 -- all that is found in the lines that the first bytes settle, so many, begins these bindings
 abbrev pub AllIn : List ℕ → ℕ → FindOptions → List Bound → Type 0
@@ -90,7 +90,7 @@ line_settled : SettledLaws → OneSettled → (s : ScannerState) (options : Find
 line_settled laws one s options text p bounds yet w found bad h =
     let i = w.inside in
     let lines = w.lines ++ w.line ∷ [] in
-    let binds = BindAll-snoc w.lines w.line i.before (i.part ++ p.left) i.binds i.binds_line in
+    let binds = BindAll-one_more w.lines w.line i.before (i.part ++ p.left) i.binds i.binds_line in
     let in_top = list_all-snoc (λ l. not (ends_top options l)) w.lines w.line i.in_top (ap not i.line_in_top) in
     found_in_settled laws one (take (fed_of s) text) options lines (i.before ++ (i.part ++ p.left)) found bad (known_settled s text lines yet w.known) binds in_top h
 
@@ -128,7 +128,7 @@ top_settled laws ascent s options text n bounds yet within t = λ found bad h.
 pub all_settled : SettledLaws → OneSettled → AscentLaws → (s : ScannerState) (at : Stand) (cursor : CursorState) (text : List ℕ) (bounds : List Bound) → s.ended ≡ false → HasNoFault (piece_finder_state s at cursor) → ready_in at ≡ false → HasFoundIn (piece_finder_state s at cursor) text bounds → AreAllSettled (piece_finder_state s at cursor) text bounds
 all_settled laws one ascent s (stand.Between skip) cursor text bounds yet fine none h = gap_settled laws one ascent s cursor text skip bounds yet h.reached.1 h.reached.0
 all_settled laws one ascent s (stand.Unread start skip) cursor text bounds yet fine none h = absurd cc
-all_settled laws one ascent s (stand.Within p) cursor text bounds yet fine none h = within_settled laws one s cursor.options text p bounds yet (none_left p.left none) h.reached
+all_settled laws one ascent s (stand.Within p) cursor text bounds yet fine none h = within_settled laws one s cursor.options text p bounds yet (none_are_left p.left none) h.reached
 all_settled laws one ascent s (stand.End passed) cursor text bounds yet fine none h = top_settled laws ascent s cursor.options text (fed_in (stand.End passed) s) bounds yet (omega arith) h.reached
 all_settled laws one ascent s (stand.Fault fault) cursor text bounds yet fine none h = absurd (fine fault refl)
 

@@ -13,8 +13,8 @@ use Rattle.isort_find.specs.Pending.{pending_after}
 use Rattle.isort_find.specs.Stand.{skip_in}
 use Rattle.isort_find.specs.Pieces.{PieceFinderState, piece_finder_state, options_for, fed_by, has_ready, HasNoFault, AreKnown, IsBetweenLines, HasFoundIn}
 use Rattle.isort_find.specs.Private.LineSteps.{Judges, Trial, TurnsOut, binding, ending, failing, lost}
-use Rattle.isort_find.specs.Private.PieceSteps.{HasReady, TriesHeld, TriesReady, walker_of, with_walker}
-use Rattle.isort_find.specs.Private.Walks.{WalkerState, FollowsStep, FollowsTrial, Reads, TriesLine, walker_state, with_fault}
+use Rattle.isort_find.specs.Private.PieceSteps.{HasReady, HandsLine, TriesReady, walker_of, with_walker}
+use Rattle.isort_find.specs.Private.Walks.{WalkerState, FollowsStep, FollowsTrial, ReadsOrLosesLine, TriesLine, walker_state, with_fault}
 use Rattle.isort_find.specs.declared.error.FindError.{FindError}
 use Rattle.isort_find.specs.declared.error.FindError.TheVariants as error
 use Rattle.isort_find.specs.declared.pending.LineStart.{LineStart}
@@ -25,9 +25,9 @@ use Rattle.isort_find.specs.declared.walker.Stand.TheVariants as stand
 use Rattle.isort_find.specs.Private.KnownLaws.{SettledLaws}
 use Rattle.isort_find.proofs.Walks.Inside.{inside_passed}
 use Rattle.isort_find.proofs.Walks.NextLine.{IsAtLine, nothing_at_top, nothing_at_bad, stops_before, reads_bindings, reads_bad, found_at_bad}
-use Rattle.isort_find.proofs.Fed.Known.{start_of, known_begins, ready_known, known_settled}
+use Rattle.isort_find.proofs.Fed.Known.{next_start, known_begins, ready_known, known_settled}
 
-start_is : (s : ScannerState) (line : LogicalLine) (start : LineStart) → HasReady s line start → start ≡ start_of s
+start_is : (s : ScannerState) (line : LogicalLine) (start : LineStart) → HasReady s line start → start ≡ next_start s
 start_is s line start at = (λ i. record { offset = at.here.offset i; line = at.here.line i })
 
 -- a line is ready where a finder is between lines
@@ -37,16 +37,16 @@ record IsAtHeld (s : ScannerState) (cursor : CursorState) (text : List ℕ) (ski
   pub ready : s.ready ≡ Some line
   pub known : AreKnown s text (between.after.lines ++ line ∷ [])
 
-abbrev at_line : (laws : SettledLaws) (s : ScannerState) (cursor : CursorState) (text : List ℕ) (skip : ℕ) (line : LogicalLine) (bounds : List Bound) → IsAtHeld s cursor text skip line bounds → IsAtLine text cursor.options (start_of s) skip line bounds
+abbrev at_line : (laws : SettledLaws) (s : ScannerState) (cursor : CursorState) (text : List ℕ) (skip : ℕ) (line : LogicalLine) (bounds : List Bound) → IsAtHeld s cursor text skip line bounds → IsAtLine text cursor.options (next_start s) skip line bounds
 at_line laws s cursor text skip line bounds a = record { after = a.between.after; begins = known_begins laws s text (a.between.after.lines ++ line ∷ []) a.known }
 
 -- what becomes of the finder, by what the line turns out to be
-by_trial : SettledLaws → (s : ScannerState) (at : Stand) (cursor : CursorState) (text : List ℕ) (line : LogicalLine) (bounds : List Bound) (t : Trial) (result : Result (Unit {0}) FindError) (w : WalkerState) → IsAtHeld s cursor text (skip_in at) line bounds → TurnsOut cursor.options line t → FollowsTrial (walker_state at cursor) (start_of s) t result w → HasFoundIn (piece_finder_state s w.stand w.cursor) text bounds
+by_trial : SettledLaws → (s : ScannerState) (at : Stand) (cursor : CursorState) (text : List ℕ) (line : LogicalLine) (bounds : List Bound) (t : Trial) (result : Result (Unit {0}) FindError) (w : WalkerState) → IsAtHeld s cursor text (skip_in at) line bounds → TurnsOut cursor.options line t → FollowsTrial (walker_state at cursor) (next_start s) t result w → HasFoundIn (piece_finder_state s w.stand w.cursor) text bounds
 by_trial laws s at cursor text line bounds (binding bs) result w a turns follows =
     let b = a.between.after in
     let looks = follows.1 in
-    let first = pending_after (start_of s) (skip_in at) bs in
-    let inside = reads_bindings laws.ends.laws text cursor.options (start_of s) (skip_in at) line bounds bs (at_line laws s cursor text (skip_in at) line bounds a) turns.0 turns.1 in
+    let first = pending_after (next_start s) (skip_in at) bs in
+    let inside = reads_bindings laws.ends.laws text cursor.options (next_start s) (skip_in at) line bounds bs (at_line laws s cursor text (skip_in at) line bounds a) turns.0 turns.1 in
     subst (λ (x : WalkerState). HasFoundIn (piece_finder_state s x.stand x.cursor) text bounds) (sym looks.same) (record {
       stopped = a.stopped;
       reached = record { lines = b.lines; line = line; released = a.between.released; ready = a.ready; known = a.known; inside = inside_passed text cursor b.lines line first looks.rest bounds a.stopped looks.passes inside };
@@ -60,16 +60,16 @@ by_trial laws s at cursor text line bounds ending result w a turns follows =
 by_trial laws s at cursor text line bounds (failing fault) result w a turns follows =
     let here = at_line laws s cursor text (skip_in at) line bounds a in
     subst (λ (x : WalkerState). HasFoundIn (piece_finder_state s x.stand x.cursor) text bounds) (sym follows.1) (record {
-      stopped = stops_before cursor (start_of s) a.between.after (nothing_at_bad laws.ends.laws a.between.after line fault here.begins turns.0) a.stopped;
-      reached = reads_bad laws.ends.laws text cursor.options (start_of s) (skip_in at) line bounds fault here turns.0 turns.1;
+      stopped = stops_before cursor (next_start s) a.between.after (nothing_at_bad laws.ends.laws a.between.after line fault here.begins turns.0) a.stopped;
+      reached = reads_bad laws.ends.laws text cursor.options (next_start s) (skip_in at) line bounds fault here turns.0 turns.1;
     })
 by_trial laws s at cursor text line bounds lost result w a turns follows = subst (λ (x : WalkerState). HasFoundIn (piece_finder_state s x.stand x.cursor) text bounds) (sym follows.1) (record { stopped = a.stopped; reached = a.between })
 
 -- the line that is ready was tried
-pub held_found : SettledLaws → (s : ScannerState) (at : Stand) (cursor : CursorState) (new : PieceFinderState) (text : List ℕ) (bounds : List Bound) (result : Result (Unit {0}) FindError) → IsBetweenLines s cursor text (skip_in at) bounds → HasStopped text cursor bounds → TriesHeld (piece_finder_state s at cursor) result new → HasFoundIn new text bounds
+pub held_found : SettledLaws → (s : ScannerState) (at : Stand) (cursor : CursorState) (new : PieceFinderState) (text : List ℕ) (bounds : List Bound) (result : Result (Unit {0}) FindError) → IsBetweenLines s cursor text (skip_in at) bounds → HasStopped text cursor bounds → HandsLine TriesLine (piece_finder_state s at cursor) result new → HasFoundIn new text bounds
 held_found laws s at cursor new text bounds result b stopped h =
     let a : IsAtHeld s cursor text (skip_in at) h.line bounds = record { between = b; stopped = stopped; ready = h.at.ready; known = ready_known s text b.after.lines h.line b.released h.at.ready h.at.some_text } in
-    subst (λ (f : PieceFinderState). HasFoundIn f text bounds) (sym h.same) (by_trial laws s at cursor text h.line bounds h.tries.trial result h.walker a h.tries.turns (subst (λ (x : LineStart). FollowsTrial (walker_state at cursor) x h.tries.trial result h.walker) (start_is s h.line h.start h.at) h.tries.follows))
+    subst (λ (f : PieceFinderState). HasFoundIn f text bounds) (sym h.same) (by_trial laws s at cursor text h.line bounds h.does.trial result h.walker a h.does.turns (subst (λ (x : LineStart). FollowsTrial (walker_state at cursor) x h.does.trial result h.walker) (start_is s h.line h.start h.at) h.does.follows))
 
 -- the same, if one is
 pub tried_found : SettledLaws → (s : ScannerState) (skip : ℕ) (cursor : CursorState) (new : PieceFinderState) (text : List ℕ) (bounds : List Bound) (result : Result (Unit {0}) FindError) → IsBetweenLines s cursor text skip bounds → HasStopped text cursor bounds → TriesReady (piece_finder_state s (stand.Between skip) cursor) result new → HasFoundIn new text bounds
@@ -94,7 +94,7 @@ trial_so s at cursor start lost result w ok follows = subst (λ (x : WalkerState
 
 pub tried_so : (s : ScannerState) (skip : ℕ) (cursor : CursorState) (new : PieceFinderState) (result : Result (Unit {0}) FindError) → result ≡ Ok tt → TriesReady (piece_finder_state s (stand.Between skip) cursor) result new → TriedSo (piece_finder_state s (stand.Between skip) cursor) new
 tried_so s skip cursor new result ok (inl none) = subst (TriedSo (piece_finder_state s (stand.Between skip) cursor)) (sym none.2) (record { scanning = refl; cursor = refl; fine = λ fault e. cc; fed = refl })
-tried_so s skip cursor new result ok (inr h) = subst (TriedSo (piece_finder_state s (stand.Between skip) cursor)) (sym h.same) (trial_so s (stand.Between skip) cursor h.start h.tries.trial result h.walker ok h.tries.follows)
+tried_so s skip cursor new result ok (inr h) = subst (TriedSo (piece_finder_state s (stand.Between skip) cursor)) (sym h.same) (trial_so s (stand.Between skip) cursor h.start h.does.trial result h.walker ok h.does.follows)
 
 ready_or_not : (b : Bool) → b ≡ true → b ≡ false → ⊥
 ready_or_not b h k = cc
@@ -130,7 +130,7 @@ trial_bad f new line start w lost result e err at turns follows same = absurd (n
 
 pub tried_bad : (f new : PieceFinderState) (result : Result (Unit {0}) FindError) (e : FindError) → result ≡ Err e → TriesReady f result new → IsTriedBad f e new
 tried_bad f new result e err (inl none) = absurd (not_err e result none.1 err)
-tried_bad f new result e err (inr h) = trial_bad f new h.line h.start h.walker h.tries.trial result e err h.at h.tries.turns h.tries.follows h.same
+tried_bad f new result e err (inr h) = trial_bad f new h.line h.start h.walker h.does.trial result e err h.at h.does.turns h.does.follows h.same
 
 -- a bad line that is settled decides its fault
 pub bad_decided : SettledLaws → (f new : PieceFinderState) (text : List ℕ) (skip : ℕ) (bounds : List Bound) (fault : Fault) → f.scanning.ended ≡ false → IsBadReady f fault new → IsBetweenLines f.scanning f.cursor text skip bounds → DecidesFound (take (fed_of f.scanning) text) (options_for f) fault
@@ -166,5 +166,5 @@ step_tries old w line start (step.Fault fault) result judged follows = record { 
 step_tries old w line start step.LineLost result judged follows = record { trial = lost; turns = tt; follows = (ap tried_result follows.0, follows.1) }
 step_tries old w line start step.NoMemory result judged follows = absurd judged
 
-pub reads_tries : (old w : WalkerState) (line : LogicalLine) (start : LineStart) (result : Result (Unit {0}) FindError) → Reads old line start result w → TriesLine old line start (tried_result result) w
+pub reads_tries : (old w : WalkerState) (line : LogicalLine) (start : LineStart) (result : Result (Unit {0}) FindError) → ReadsOrLosesLine old line start result w → TriesLine old line start (tried_result result) w
 reads_tries old w line start result r = step_tries old w line start r.step result r.judges r.follows

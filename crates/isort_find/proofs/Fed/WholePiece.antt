@@ -5,7 +5,7 @@ use Rattle.py_lines.specs.ScannerState.{ScannerState, GoesOnWith}
 use Rattle.py_lines.specs.declared.fault.Fault.{Fault}
 use Rattle.isort_find.specs.Cursor.{CursorState}
 use Rattle.isort_find.specs.Stand.{phase_in}
-use Rattle.isort_find.specs.Pieces.{PieceFinderState, piece_finder_state, fed_by, has_ready, IsOpenYet, TakesPiece}
+use Rattle.isort_find.specs.Pieces.{PieceFinderState, piece_finder_state, fed_by, has_ready, IsOpenYet, TakesFromPiece}
 use Rattle.isort_find.specs.Private.PieceSteps.{TakesLines, HasTakenAll, IsDrained, with_passed}
 use Rattle.isort_find.specs.declared.walker.Stand.{Stand}
 use Rattle.isort_find.specs.declared.walker.Stand.TheVariants as stand
@@ -28,7 +28,7 @@ pub yet_end : (f : PieceFinderState) → phase_in f.stand ≡ phase.End → IsOp
 yet_end f here yet = yet (λ fault is. end_or_fault f.stand fault here is)
 
 -- after the top a piece is taken whole
-passes_at : SettledLaws → OneSettled → AscentLaws → (s : ScannerState) (at : Stand) (cursor : CursorState) (piece : List ℕ) → phase_in at ≡ phase.End → s.ended ≡ false → TakesPiece (piece_finder_state s at cursor) piece (length piece) (with_passed (piece_finder_state s at cursor) (length piece))
+passes_at : SettledLaws → OneSettled → AscentLaws → (s : ScannerState) (at : Stand) (cursor : CursorState) (piece : List ℕ) → phase_in at ≡ phase.End → s.ended ≡ false → TakesFromPiece (piece_finder_state s at cursor) piece (length piece) (with_passed (piece_finder_state s at cursor) (length piece))
 passes_at laws one ascent s (stand.End passed) cursor piece top yet =
     let g : PieceFinderState = with_passed (piece_finder_state s (stand.End passed) cursor) (length piece) in
     let fine : (fault : Fault) → g.stand ≡ stand.Fault fault → ⊥ = λ fault is. end_or_fault g.stand fault refl is in
@@ -55,8 +55,8 @@ passes_at laws one ascent s (stand.Unread start skip) cursor piece top yet = abs
 passes_at laws one ascent s (stand.Within p) cursor piece top yet = absurd cc
 passes_at laws one ascent s (stand.Fault fault) cursor piece top yet = absurd cc
 
-pub passes_piece : SettledLaws → OneSettled → AscentLaws → (f new : PieceFinderState) (piece : List ℕ) → phase_in f.stand ≡ phase.End → f.scanning.ended ≡ false → new ≡ with_passed f (length piece) → TakesPiece f piece (length piece) new
-passes_piece laws one ascent f new piece top yet is = subst (TakesPiece f piece (length piece)) (sym is) (passes_at laws one ascent f.scanning f.stand f.cursor piece top yet)
+pub passes_piece : SettledLaws → OneSettled → AscentLaws → (f new : PieceFinderState) (piece : List ℕ) → phase_in f.stand ≡ phase.End → f.scanning.ended ≡ false → new ≡ with_passed f (length piece) → TakesFromPiece f piece (length piece) new
+passes_piece laws one ascent f new piece top yet is = subst (TakesFromPiece f piece (length piece)) (sym is) (passes_at laws one ascent f.scanning f.stand f.cursor piece top yet)
 
 whole_piece : (piece : List ℕ) (n : ℕ) (f : PieceFinderState) → (phase_in f.stand ≡ phase.End → ⊥) → HasTakenAll piece n f → (n ≡ length piece) × (f.scanning.ready ≡ None)
 whole_piece piece n f no_end (inl top) = absurd (no_end top)
@@ -67,7 +67,7 @@ drained piece n f (inl top) = inr top
 drained piece n f (inr all) = inl all.1
 
 -- bytes were taken line by line, and the top has no end yet
-pub feeds_lines : (old new : PieceFinderState) (piece : List ℕ) (n : ℕ) → phase_in old.stand ≡ phase.Open → old.scanning.ended ≡ false → has_ready old ≡ false → (phase_in new.stand ≡ phase.End → ⊥) → TakesLines old piece n new → (has_ready new ≡ false → HasTakenAll piece n new) → TakesPiece old piece n new
+pub feeds_lines : (old new : PieceFinderState) (piece : List ℕ) (n : ℕ) → phase_in old.stand ≡ phase.Open → old.scanning.ended ≡ false → has_ready old ≡ false → (phase_in new.stand ≡ phase.End → ⊥) → TakesLines old piece n new → (has_ready new ≡ false → HasTakenAll piece n new) → TakesFromPiece old piece n new
 feeds_lines old new piece n opened yet none no_end t done = record {
   within = t.within;
   found = t.found;
@@ -88,7 +88,7 @@ feeds_lines old new piece n opened yet none no_end t done = record {
 }
 
 -- bytes were taken up to the end of the top, and then the rest
-pub feeds_top : SettledLaws → OneSettled → AscentLaws → (old mid new : PieceFinderState) (piece : List ℕ) (t : ℕ) → phase_in old.stand ≡ phase.Open → old.scanning.ended ≡ false → has_ready old ≡ false → phase_in mid.stand ≡ phase.End → TakesLines old piece t mid → new ≡ with_passed mid (length (drop t piece)) → TakesPiece old piece (t + length (drop t piece)) new
+pub feeds_top : SettledLaws → OneSettled → AscentLaws → (old mid new : PieceFinderState) (piece : List ℕ) (t : ℕ) → phase_in old.stand ≡ phase.Open → old.scanning.ended ≡ false → has_ready old ≡ false → phase_in mid.stand ≡ phase.End → TakesLines old piece t mid → new ≡ with_passed mid (length (drop t piece)) → TakesFromPiece old piece (t + length (drop t piece)) new
 feeds_top laws one ascent old mid new piece t opened yet none at first is =
     let rest = drop t piece in
     let next = passes_piece laws one ascent mid new rest at (first.open_yet ∙ yet) is in
@@ -115,7 +115,7 @@ feeds_top laws one ascent old mid new piece t opened yet none at first is =
     }
 
 -- nothing is taken where something is ready
-pub feeds_none : (f : PieceFinderState) (piece : List ℕ) → phase_in f.stand ≡ phase.Open → f.scanning.ended ≡ false → has_ready f ≡ true → TakesPiece f piece 0 f
+pub feeds_none : (f : PieceFinderState) (piece : List ℕ) → phase_in f.stand ≡ phase.Open → f.scanning.ended ≡ false → has_ready f ≡ true → TakesFromPiece f piece 0 f
 feeds_none f piece opened yet ready = record {
   within = omega arith;
   found = λ text bounds h goes. h;

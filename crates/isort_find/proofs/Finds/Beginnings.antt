@@ -10,10 +10,10 @@ use Rattle.isort_find.specs.Cursor.{CursorState, HasStopped, BeginsNext, IsAfter
 use Rattle.isort_find.specs.Finder.{FinderState, HasFound, finder_text, options_of}
 use Rattle.isort_find.specs.declared.options.FindOptions.{FindOptions}
 use Rattle.isort_find.specs.declared.options.ImportKey.{ImportKey}
-use Rattle.isort_find.specs.Private.KnownLaws.{EachBindsOrIsBad, EachIsLexed, GivenBegin}
+use Rattle.isort_find.specs.Private.KnownLaws.{EachBindsOrIsBad, EachIsLexed, GivenLinesBegin}
 use Rattle.isort_find.proofs.Keys.TakenBindings.{list_all-snoc}
 use Rattle.isort_find.proofs.Finds.CountedLines.{AllCount, counted-append}
-use Rattle.isort_find.proofs.Finds.NextLines.{BindAll-snoc}
+use Rattle.isort_find.proofs.Finds.NextLines.{BindAll-one_more}
 
 append_step : (unique : Option ImportKey) (earlier xs ys : List Bound) (x : Bound) (known : Bool) → firsts unique (earlier ++ x ∷ []) (xs ++ ys) ≡ firsts unique (earlier ++ x ∷ []) xs ++ firsts unique ((earlier ++ x ∷ []) ++ xs) ys → (if known then firsts unique (earlier ++ x ∷ []) (xs ++ ys) else x ∷ firsts unique (earlier ++ x ∷ []) (xs ++ ys)) ≡ (if known then firsts unique (earlier ++ x ∷ []) xs else x ∷ firsts unique (earlier ++ x ∷ []) xs) ++ firsts unique (earlier ++ x ∷ xs) ys
 append_step unique earlier xs ys x true more = more ∙ (λ i. firsts unique (earlier ++ x ∷ []) xs ++ firsts unique (append_assoc earlier (x ∷ []) xs i) ys)
@@ -92,24 +92,24 @@ begins_decided text options lines bounds looked rest binds all found begins (inr
 pub begins_behind : EachBindsOrIsBad → (text : List ℕ) (options : FindOptions) (lines : List LogicalLine) (bounds looked rest : List Bound) → BeginsLexing text lines → BindAll lines (looked ++ rest) → AllCount options lines → bounds ≡ firsts options.unique [] looked → BeginsFound text options bounds
 begins_behind each text options lines bounds looked rest begins binds all found = begins_decided text options lines bounds looked rest binds all found begins (decide each (counted_lines options begins.more))
 
-begins_part : GivenBegin → EachBindsOrIsBad → (text : List ℕ) (options : FindOptions) (offset line taken : ℕ) (bounds : List Bound) (after : IsAfter text options offset line taken bounds) → (after.part ≡ []) ⊎ BeginsNext text options after.lines after.part → BeginsFound text options bounds
+begins_part : GivenLinesBegin → EachBindsOrIsBad → (text : List ℕ) (options : FindOptions) (offset line taken : ℕ) (bounds : List Bound) (after : IsAfter text options offset line taken bounds) → (after.part ≡ []) ⊎ BeginsNext text options after.lines after.part → BeginsFound text options bounds
 begins_part given each text options offset line taken bounds after (inl none) =
     let looked : after.before ++ after.part ≡ after.before = ap (λ t. after.before ++ t) none ∙ append-nil after.before in
     begins_behind each text options after.lines bounds after.before [] (given _ after.lines after.given) (subst (BindAll after.lines) (sym (append-nil after.before)) after.binds) after.in_top (after.found ∙ ap (firsts options.unique []) looked)
 begins_part given each text options offset line taken bounds after (inr next) =
     let lines = after.lines ++ next.line ∷ [] in
-    let binds : BindAll lines ((after.before ++ after.part) ++ next.rest) = subst (BindAll lines) (sym (append_assoc after.before after.part next.rest)) (BindAll-snoc after.lines next.line after.before (after.part ++ next.rest) after.binds next.binds) in
+    let binds : BindAll lines ((after.before ++ after.part) ++ next.rest) = subst (BindAll lines) (sym (append_assoc after.before after.part next.rest)) (BindAll-one_more after.lines next.line after.before (after.part ++ next.rest) after.binds next.binds) in
     let all = list_all-snoc (λ l. not (ends_top options l)) after.lines next.line after.in_top (ap not next.in_top) in
     begins_behind each text options lines bounds (after.before ++ after.part) next.rest next.begins binds all after.found
 
 -- What was given where a finder stops begins what is found in its text.
-pub stopped_begins : GivenBegin → EachBindsOrIsBad → (text : List ℕ) (cursor : CursorState) (bounds : List Bound) → HasStopped text cursor bounds → BeginsFound text cursor.options bounds
+pub stopped_begins : GivenLinesBegin → EachBindsOrIsBad → (text : List ℕ) (cursor : CursorState) (bounds : List Bound) → HasStopped text cursor bounds → BeginsFound text cursor.options bounds
 stopped_begins given each text cursor bounds stopped =
     let after = stopped.after in
     begins_part given each text cursor.options cursor.offset cursor.line cursor.taken bounds after after.is_part.1
 
 -- What a finder has given, with those that it goes on from, begins what is found in its text.
-pub begins_found : GivenBegin → EachBindsOrIsBad → (f : FinderState) (bounds : List Bound) → HasFound f bounds → BeginsFound (finder_text f) (options_of f) bounds
+pub begins_found : GivenLinesBegin → EachBindsOrIsBad → (f : FinderState) (bounds : List Bound) → HasFound f bounds → BeginsFound (finder_text f) (options_of f) bounds
 begins_found given each f bounds has = stopped_begins given each (finder_text f) f.cursor bounds has.stopped
 
 -- Something is found in every text.

@@ -22,11 +22,11 @@ counted-append options (l ∷ ls) rest all =
     let parts = first_counts (ends_top options l) _ all in
     take_while-cons (λ x. not (ends_top options x)) l (ls ++ rest) ∙ ap (λ (h : Bool). cond (not h) (l ∷ counted_lines options (ls ++ rest)) []) parts.0 ∙ ap (λ t. l ∷ t) (counted-append options ls rest parts.1)
 
-pub any-append : (options : FindOptions) (lines rest : List LogicalLine) → AllCount options lines → list_any (ends_top options) (lines ++ rest) ≡ list_any (ends_top options) rest
-any-append options [] rest all = refl
-any-append options (l ∷ ls) rest all =
+pub any_ends-append : (options : FindOptions) (lines rest : List LogicalLine) → AllCount options lines → list_any (ends_top options) (lines ++ rest) ≡ list_any (ends_top options) rest
+any_ends-append options [] rest all = refl
+any_ends-append options (l ∷ ls) rest all =
     let parts = first_counts (ends_top options l) _ all in
-    ap (λ (h : Bool). h || list_any (ends_top options) (ls ++ rest)) parts.0 ∙ any-append options ls rest parts.1
+    ap (λ (h : Bool). h || list_any (ends_top options) (ls ++ rest)) parts.0 ∙ any_ends-append options ls rest parts.1
 
 append-nil-lines : (lines : List LogicalLine) → lines ++ [] ≡ lines
 append-nil-lines [] = refl
@@ -37,7 +37,7 @@ counted-all options lines all = ap (counted_lines options) (sym (append-nil-line
 
 pub end-all : (options : FindOptions) (lines : List LogicalLine) (end : Option Fault) → AllCount options lines → counted_end options lines end ≡ end
 end-all options lines end all =
-    let none : list_any (ends_top options) lines ≡ false = ap (list_any (ends_top options)) (sym (append-nil-lines lines)) ∙ any-append options lines [] all in
+    let none : list_any (ends_top options) lines ≡ false = ap (list_any (ends_top options)) (sym (append-nil-lines lines)) ∙ any_ends-append options lines [] all in
     ap (λ (h : Bool). if h then None else end) none
 
 -- a line that ends the top is the first that doesn't count
@@ -45,7 +45,7 @@ pub counted-cut : (options : FindOptions) (lines : List LogicalLine) (line : Log
 counted-cut options lines line more all ends = counted-append options lines (line ∷ more) all ∙ ap (λ t. lines ++ t) (take_while-cons (λ x. not (ends_top options x)) line more ∙ ap (λ (h : Bool). cond (not h) (line ∷ counted_lines options more) []) ends) ∙ append-nil-lines lines
 
 pub end-cut : (options : FindOptions) (lines : List LogicalLine) (line : LogicalLine) (more : List LogicalLine) (end : Option Fault) → AllCount options lines → ends_top options line ≡ true → counted_end options (lines ++ line ∷ more) end ≡ None
-end-cut options lines line more end all ends = ap (λ (h : Bool). if h then None else end) (any-append options lines (line ∷ more) all ∙ ap (λ (h : Bool). h || list_any (ends_top options) more) ends)
+end-cut options lines line more end all ends = ap (λ (h : Bool). if h then None else end) (any_ends-append options lines (line ∷ more) all ∙ ap (λ (h : Bool). h || list_any (ends_top options) more) ends)
 
 -- a line that counts after lines that count
 pub counted-more : (options : FindOptions) (lines : List LogicalLine) (line : LogicalLine) (more : List LogicalLine) → AllCount options lines → ends_top options line ≡ false → counted_lines options (lines ++ line ∷ more) ≡ lines ++ line ∷ counted_lines options more

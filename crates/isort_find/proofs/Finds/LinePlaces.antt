@@ -5,7 +5,7 @@ use Rattle.py_lines.specs.Balance.{depth_after}
 use Rattle.py_lines.specs.LogicalLine.{LogicalLine, lines_from, cut, put_first, byte_len, line_ends, is_line_end_class}
 use Rattle.py_lines.specs.Lexed.{IsLexed}
 use Rattle.py_lines.specs.Reader.{Reader, HasGiven}
-use Rattle.isort_find.specs.Lexing.{bytes_of}
+use Rattle.isort_find.specs.Lexing.{byte_count}
 
 encode_utf8_all-append : (xs ys : List ℕ) → encode_utf8_all (xs ++ ys) ≡ encode_utf8_all xs ++ encode_utf8_all ys
 encode_utf8_all-append [] ys = refl
@@ -32,14 +32,14 @@ spelled_parts-cut [] depth = refl
 spelled_parts-cut (p ∷ ps) depth = either_part (is_line_end_class p.class && (depth == 0)) p (cut depth ps) (cut (depth_after depth p) ps) (spelled ps) (spelled_parts-cut ps depth) (spelled_parts-cut ps (depth_after depth p))
 
 -- the bytes of lines are those of all their characters
-bytes_of-lines_from : (us : List (List Piece)) (offset line : ℕ) → bytes_of (lines_from offset line us) ≡ byte_len (spelled_parts us)
+bytes_of-lines_from : (us : List (List Piece)) (offset line : ℕ) → byte_count (lines_from offset line us) ≡ byte_len (spelled_parts us)
 bytes_of-lines_from [] offset line = refl
 bytes_of-lines_from (u ∷ us) offset line = ap (λ n. byte_len (spelled u) + n) (bytes_of-lines_from us (offset + byte_len (spelled u)) (line + line_ends (spelled u))) ∙ sym (byte_len-append (spelled u) (spelled_parts us))
 
 -- the lines that a reader has given are the text's bytes up to its place
-pub bytes_given : (reader : Reader) (lines : List LogicalLine) → HasGiven reader lines → bytes_of lines ≡ reader.place
-bytes_given reader lines h = ap bytes_of h.first.cut ∙ bytes_of-lines_from (cut 0 h.first.pieces) 0 1 ∙ ap byte_len (spelled_parts-cut h.first.pieces 0) ∙ sym h.first.here
+pub bytes_given : (reader : Reader) (lines : List LogicalLine) → HasGiven reader lines → byte_count lines ≡ reader.place
+bytes_given reader lines h = ap byte_count h.first.cut ∙ bytes_of-lines_from (cut 0 h.first.pieces) 0 1 ∙ ap byte_len (spelled_parts-cut h.first.pieces 0) ∙ sym h.first.here
 
 -- all logical lines of a text are its bytes
-pub bytes_lexed : (text : List ℕ) (lines : List LogicalLine) → IsLexed text lines None → bytes_of lines ≡ length text
-bytes_lexed text lines h = ap bytes_of h.cut ∙ bytes_of-lines_from (cut 0 h.pieces) 0 1 ∙ ap byte_len (spelled_parts-cut h.pieces 0) ∙ ap byte_len h.reading.spell ∙ ap length (sym (append-nil (encode_utf8_all h.characters)) ∙ h.decodes.spell)
+pub bytes_lexed : (text : List ℕ) (lines : List LogicalLine) → IsLexed text lines None → byte_count lines ≡ length text
+bytes_lexed text lines h = ap byte_count h.cut ∙ bytes_of-lines_from (cut 0 h.pieces) 0 1 ∙ ap byte_len (spelled_parts-cut h.pieces 0) ∙ ap byte_len h.reading.spell ∙ ap length (sym (append-nil (encode_utf8_all h.characters)) ∙ h.decodes.spell)

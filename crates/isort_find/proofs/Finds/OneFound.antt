@@ -7,10 +7,10 @@ use Rattle.py_imports.specs.Binds.{Binds, BindAll, IsBadAt}
 use Rattle.isort_find.specs.Found.{firsts, counted_lines, counted_end, AreFound, of_all, before_bad, IsFound}
 use Rattle.isort_find.specs.declared.options.ImportKey.{ImportKey}
 use Rattle.isort_find.specs.declared.options.FindOptions.{FindOptions}
-use Rattle.isort_find.specs.Private.KnownLaws.{EndLaws, Laws}
+use Rattle.isort_find.specs.Private.KnownLaws.{EndLaws, BasicLaws}
 
 -- logical lines bind one list
-bind_all_one : Laws → (lines : List LogicalLine) (bs others : List Bound) → BindAll lines bs → BindAll lines others → bs ≡ others
+bind_all_one : BasicLaws → (lines : List LogicalLine) (bs others : List Bound) → BindAll lines bs → BindAll lines others → bs ≡ others
 bind_all_one laws [] bs others h k = h ∙ sym k
 bind_all_one laws (line ∷ lines) bs others h k =
     let first = laws.one_list line h.0 k.0 h.3 k.3 in
@@ -18,7 +18,7 @@ bind_all_one laws (line ∷ lines) bs others h k =
     h.2 ∙ (λ i. first i ++ rest i) ∙ sym k.2
 
 -- lines that all bind have no bad one among them
-pub none_bad : Laws → (before : List LogicalLine) (line : LogicalLine) (after : List LogicalLine) (bs : List Bound) (fault : Fault) → BindAll (before ++ line ∷ after) bs → IsBadAt line fault → ⊥
+pub none_bad : BasicLaws → (before : List LogicalLine) (line : LogicalLine) (after : List LogicalLine) (bs : List Bound) (fault : Fault) → BindAll (before ++ line ∷ after) bs → IsBadAt line fault → ⊥
 none_bad laws [] line after bs fault h bad = laws.not_both line h.0 fault h.3 bad
 none_bad laws (l ∷ before) line after bs fault h bad = none_bad laws before line after h.1 fault h.4 bad
 

@@ -11,7 +11,7 @@ use Rattle.isort_find.specs.Found.{firsts, ends_top, counted_lines, counted_end,
 use Rattle.isort_find.specs.Settled.{IsFoundSettled, SettlesBadLine, DecidesFound}
 use Rattle.isort_find.specs.declared.options.ImportKey.{ImportKey}
 use Rattle.isort_find.specs.declared.options.FindOptions.{FindOptions}
-use Rattle.isort_find.specs.Private.KnownLaws.{EachBindsOrIsBad, Laws, SettledLaws}
+use Rattle.isort_find.specs.Private.KnownLaws.{EachBindsOrIsBad, BasicLaws, SettledLaws}
 use Rattle.isort_find.proofs.Finds.OneFound.{none_bad, one_end_found}
 use Rattle.isort_find.proofs.Finds.CountedLines.{AllCount, counted-append, counted-all, counted-cut, end-cut}
 use Rattle.isort_find.proofs.Finds.Beginnings.{begins_behind}
@@ -75,11 +75,11 @@ begin_either each text options lines bounds bad begins (inl all) found = begin_a
 begin_either each text options lines bounds bad begins (inr t) found = begin_top text options lines bounds bad begins t found
 
 -- what is found in the settled lines of known bytes begins what is found in each text that begins with them
-pub settled_begin : SettledLaws → (text more : List ℕ) (options : FindOptions) (bounds : List Bound) (bad : Option Fault) → IsFoundSettled text options bounds bad → BeginsFound (text ++ more) options bounds
-settled_begin laws text more options bounds bad s = begin_either laws.each (text ++ more) options s.lines bounds bad (laws.lines text more s.lines s.settled) (top_of options s.lines) s.found
+pub settled_begin_found : SettledLaws → (text more : List ℕ) (options : FindOptions) (bounds : List Bound) (bad : Option Fault) → IsFoundSettled text options bounds bad → BeginsFound (text ++ more) options bounds
+settled_begin_found laws text more options bounds bad s = begin_either laws.each (text ++ more) options s.lines bounds bad (laws.lines text more s.lines s.settled) (top_of options s.lines) s.found
 
 -- the first bad line stands before or at each other bad one
-first_bad : Laws → (before other : List LogicalLine) (line second : LogicalLine) (rest after : List LogicalLine) (bs : List Bound) (fault : Fault) → before ++ line ∷ rest ≡ other ++ second ∷ after → IsBadAt line fault → BindAll other bs → (mid : List LogicalLine) × (before ++ line ∷ [] ≡ other ++ second ∷ mid)
+first_bad : BasicLaws → (before other : List LogicalLine) (line second : LogicalLine) (rest after : List LogicalLine) (bs : List Bound) (fault : Fault) → before ++ line ∷ rest ≡ other ++ second ∷ after → IsBadAt line fault → BindAll other bs → (mid : List LogicalLine) × (before ++ line ∷ [] ≡ other ++ second ∷ mid)
 first_bad laws [] [] line second rest after bs fault e bad binds = let f : line ∷ rest ≡ second ∷ after = e in let same : line ≡ second = cc in ([], ap (λ l. l ∷ []) same)
 first_bad laws [] (o ∷ other) line second rest after bs fault e bad binds =
     let f : line ∷ rest ≡ o ∷ other ++ second ∷ after = e in
@@ -94,14 +94,14 @@ first_bad laws (b ∷ before) (o ∷ other) line second rest after bs fault e ba
     (more.0, λ i. same i ∷ more.1 i)
 
 -- Lines up to a bad one, and then others: what is found is the same.
-bad_all : Laws → (options : FindOptions) (unique : Option ImportKey) (before : List LogicalLine) (line : LogicalLine) (counted others : List LogicalLine) (last end : Option Fault) (bounds : List Bound) (found : Option Fault) (fault : Fault) → IsBadAt line fault → (rest : List LogicalLine) → counted ≡ before ++ line ∷ rest → AreFound unique counted last bounds found → AreFound unique (before ++ line ∷ others) end bounds found
+bad_all : BasicLaws → (options : FindOptions) (unique : Option ImportKey) (before : List LogicalLine) (line : LogicalLine) (counted others : List LogicalLine) (last end : Option Fault) (bounds : List Bound) (found : Option Fault) (fault : Fault) → IsBadAt line fault → (rest : List LogicalLine) → counted ≡ before ++ line ∷ rest → AreFound unique counted last bounds found → AreFound unique (before ++ line ∷ others) end bounds found
 bad_all laws options unique before line counted others last end bounds found fault bad rest are (of_all _ _ _ _ _ bs binds f is) = absurd (none_bad laws before line rest bs fault (subst (λ (ls : List LogicalLine). BindAll ls bs) are binds) bad)
 bad_all laws options unique before line counted others last end bounds found fault bad rest are (before_bad _ _ _ _ _ other second after bs worst split binds worse f is) =
     let first = first_bad laws before other line second rest after bs fault (sym are ∙ split) bad binds in
     let there : before ++ line ∷ others ≡ other ++ second ∷ (first.0 ++ others) = sym (append_assoc before (line ∷ []) others) ∙ ap (λ ls. ls ++ others) first.1 ∙ append_assoc other (second ∷ first.0) others in
     before_bad unique _ end _ _ other second (first.0 ++ others) bs worst there binds worse f is
 
-bad_either : Laws → (options : FindOptions) (before : List LogicalLine) (line : LogicalLine) (rest others : List LogicalLine) (last end : Option Fault) (bounds : List Bound) (found : Option Fault) (fault : Fault) → IsBadAt line fault → AllCount options (before ++ line ∷ []) ⊎ HasTopEnd options (before ++ line ∷ []) → AreFound options.unique (counted_lines options ((before ++ line ∷ []) ++ rest)) (counted_end options ((before ++ line ∷ []) ++ rest) last) bounds found → AreFound options.unique (counted_lines options ((before ++ line ∷ []) ++ others)) (counted_end options ((before ++ line ∷ []) ++ others) end) bounds found
+bad_either : BasicLaws → (options : FindOptions) (before : List LogicalLine) (line : LogicalLine) (rest others : List LogicalLine) (last end : Option Fault) (bounds : List Bound) (found : Option Fault) (fault : Fault) → IsBadAt line fault → AllCount options (before ++ line ∷ []) ⊎ HasTopEnd options (before ++ line ∷ []) → AreFound options.unique (counted_lines options ((before ++ line ∷ []) ++ rest)) (counted_end options ((before ++ line ∷ []) ++ rest) last) bounds found → AreFound options.unique (counted_lines options ((before ++ line ∷ []) ++ others)) (counted_end options ((before ++ line ∷ []) ++ others) end) bounds found
 bad_either laws options before line rest others last end bounds found fault bad (inl all) f =
     let here = counted-append options (before ++ line ∷ []) rest all ∙ append_assoc before (line ∷ []) (counted_lines options rest) in
     let there = counted-append options (before ++ line ∷ []) others all ∙ append_assoc before (line ∷ []) (counted_lines options others) in

@@ -7,24 +7,24 @@ use Rattle.py_imports.specs.Bound.{Bound}
 use Rattle.py_imports.specs.Binds.{Binds}
 use Rattle.isort_find.specs.Key.{Key}
 use Rattle.isort_find.specs.Found.{firsts, has_one_like, ends_top}
-use Rattle.isort_find.specs.Cursor.{CursorState, next_count, keys_of, IsAfter, HasStopped, has_key}
+use Rattle.isort_find.specs.Cursor.{CursorState, next_count, keys_of, IsAfter, HasStopped, knows_key}
 use Rattle.isort_find.specs.Pending.{PendingState}
 use Rattle.isort_find.specs.Stand.{IsInside, BindsFrom}
 use Rattle.isort_find.specs.Private.CursorMoves.{cursor_after}
-use Rattle.isort_find.specs.Private.LooksAtBindings.{Looks, Passes, TakesNew}
+use Rattle.isort_find.specs.Private.LooksAtBindings.{Looks, PassesBindings, TakesNew}
 use Rattle.isort_find.specs.declared.options.FindOptions.{FindOptions}
 use Rattle.isort_find.specs.declared.pending.LineStart.{LineStart}
 use Rattle.isort_find.proofs.Keys.Firsts.{known_is, firsts-all_known, firsts-new, keys_of-snoc, given-snoc}
 use Rattle.isort_find.proofs.Keys.TakenBindings.{list_all-snoc}
 use Rattle.isort_find.proofs.Finds.LinePlaces.{bytes_given}
-use Rattle.isort_find.proofs.Finds.NextLines.{BindAll-snoc}
+use Rattle.isort_find.proofs.Finds.NextLines.{BindAll-one_more}
 
 pub nothing_dropped : (dropped rest : List Bound) → [] ≡ dropped ++ rest → rest ≡ []
 nothing_dropped [] rest h = sym h
 nothing_dropped (d ∷ ds) rest h = absurd cc
 
 -- bindings with known keys were looked at
-pub inside_passed : (text : List ℕ) (cursor : CursorState) (lines : List LogicalLine) (line : LogicalLine) (p q : PendingState) (bounds : List Bound) → HasStopped text cursor bounds → Passes cursor p q → IsInside text cursor.options lines line p bounds → IsInside text cursor.options lines line q bounds
+pub inside_passed : (text : List ℕ) (cursor : CursorState) (lines : List LogicalLine) (line : LogicalLine) (p q : PendingState) (bounds : List Bound) → HasStopped text cursor bounds → PassesBindings cursor p q → IsInside text cursor.options lines line p bounds → IsInside text cursor.options lines line q bounds
 inside_passed text cursor lines line p q bounds stopped passes w =
     let unique = cursor.options.unique in
     record {
@@ -37,7 +37,7 @@ inside_passed text cursor lines line p q bounds stopped passes w =
       taken = omega (arith, passes.taken, w.taken, length-append w.part passes.dropped);
       in_top = w.in_top;
       line_in_top = w.line_in_top;
-      found = w.found ∙ sym (firsts-all_known unique (w.before ++ w.part) passes.dropped (subst (λ (ks : List Key). list_all (has_key unique ks) passes.dropped ≡ true) (stopped.keys ∙ ap (keys_of unique) w.found) passes.known)) ∙ ap (firsts unique []) (append_assoc w.before w.part passes.dropped);
+      found = w.found ∙ sym (firsts-all_known unique (w.before ++ w.part) passes.dropped (subst (λ (ks : List Key). list_all (knows_key unique ks) passes.dropped ≡ true) (stopped.keys ∙ ap (keys_of unique) w.found) passes.known)) ∙ ap (firsts unique []) (append_assoc w.before w.part passes.dropped);
     }
 
 -- the cursor after a binding that was given
@@ -52,11 +52,11 @@ not_not true h = h
 not_not false h = refl
 
 -- a binding with a new key was looked at
-inside_given : (text : List ℕ) (cursor : CursorState) (lines : List LogicalLine) (line : LogicalLine) (p q : PendingState) (bounds : List Bound) (b : Bound) → HasStopped text cursor bounds → has_key cursor.options.unique cursor.keys b ≡ false → Looks p b q → IsInside text cursor.options lines line p bounds → IsInside text cursor.options lines line q (bounds ++ b ∷ [])
+inside_given : (text : List ℕ) (cursor : CursorState) (lines : List LogicalLine) (line : LogicalLine) (p q : PendingState) (bounds : List Bound) (b : Bound) → HasStopped text cursor bounds → knows_key cursor.options.unique cursor.keys b ≡ false → Looks p b q → IsInside text cursor.options lines line p bounds → IsInside text cursor.options lines line q (bounds ++ b ∷ [])
 inside_given text cursor lines line p q bounds b stopped new looks w =
     let looked = w.before ++ w.part in
     let unique = cursor.options.unique in
-    let unseen : has_one_like unique looked b ≡ false = sym (known_is unique looked b) ∙ ap (λ ks. has_key unique ks b) (sym (stopped.keys ∙ ap (keys_of unique) w.found)) ∙ new in
+    let unseen : has_one_like unique looked b ≡ false = sym (known_is unique looked b) ∙ ap (λ ks. knows_key unique ks b) (sym (stopped.keys ∙ ap (keys_of unique) w.found)) ∙ new in
     record {
       before = w.before;
       part = w.part ++ b ∷ [];
@@ -118,7 +118,7 @@ line_over text options place number lines line p bounds none given w = record {
   before = w.before ++ w.part;
   part = [];
   given = given;
-  binds = BindAll-snoc lines line w.before w.part w.binds (subst (Binds line) (ap (λ t. w.part ++ t) none ∙ append-nil w.part) w.binds_line);
+  binds = BindAll-one_more lines line w.before w.part w.binds (subst (Binds line) (ap (λ t. w.part ++ t) none ∙ append-nil w.part) w.binds_line);
   in_top = list_all-snoc (λ l. not (ends_top options l)) lines line w.in_top (ap not w.line_in_top);
   is_part = (refl, inl refl);
   found = w.found ∙ ap (firsts options.unique []) (sym (append-nil (w.before ++ w.part)));

@@ -13,7 +13,7 @@ use Rattle.isort_find.specs.Stand.{IsInside, EndsInFaultAt}
 use Rattle.isort_find.specs.Private.CursorMoves.{cursor_before}
 use Rattle.isort_find.specs.declared.options.FindOptions.{FindOptions}
 use Rattle.isort_find.specs.declared.pending.LineStart.{LineStart}
-use Rattle.isort_find.specs.Private.KnownLaws.{Laws}
+use Rattle.isort_find.specs.Private.KnownLaws.{BasicLaws}
 use Rattle.isort_find.proofs.Finds.CountedLines.{AllCount, counted-all, end-all, counted-cut, end-cut, counted-more}
 use Rattle.isort_find.proofs.Finds.LinePlaces.{bytes_given}
 use Rattle.isort_find.proofs.Finds.NextLines.{same_begun, none_begun}
@@ -23,23 +23,23 @@ abbrev pub IsPartOf : List ℕ → FindOptions → List LogicalLine → List Bou
 IsPartOf text options lines part = (part ≡ []) ⊎ BeginsNext text options lines part
 
 -- nothing was looked at of a line that isn't there, is bad or ends the top
-pub none_of_end : Laws → (text : List ℕ) (options : FindOptions) (lines : List LogicalLine) (part : List Bound) (end : Option Fault) → IsLexed text lines end → IsPartOf text options lines part → part ≡ []
+pub none_of_end : BasicLaws → (text : List ℕ) (options : FindOptions) (lines : List LogicalLine) (part : List Bound) (end : Option Fault) → IsLexed text lines end → IsPartOf text options lines part → part ≡ []
 none_of_end one text options lines part end lexed (inl none) = none
 none_of_end one text options lines part end lexed (inr n) = absurd (none_begun one text lines end n.line lexed n.begins)
 
-pub none_of_bad : Laws → (text : List ℕ) (options : FindOptions) (lines : List LogicalLine) (part : List Bound) (line : LogicalLine) (fault : Fault) → BeginsLexing text (lines ++ line ∷ []) → IsBadAt line fault → IsPartOf text options lines part → part ≡ []
+pub none_of_bad : BasicLaws → (text : List ℕ) (options : FindOptions) (lines : List LogicalLine) (part : List Bound) (line : LogicalLine) (fault : Fault) → BeginsLexing text (lines ++ line ∷ []) → IsBadAt line fault → IsPartOf text options lines part → part ≡ []
 none_of_bad one text options lines part line fault begins bad (inl none) = none
 none_of_bad one text options lines part line fault begins bad (inr n) = absurd (one.not_both line (part ++ n.rest) fault (subst (λ (l : LogicalLine). Binds l (part ++ n.rest)) (sym (same_begun one text lines line n.line begins n.begins)) n.binds) bad)
 
 counts_or_ends : (b : Bool) → b ≡ true → b ≡ false → ⊥
 counts_or_ends b h k = cc
 
-none_of_top : Laws → (text : List ℕ) (options : FindOptions) (lines : List LogicalLine) (part : List Bound) (line : LogicalLine) → BeginsLexing text (lines ++ line ∷ []) → ends_top options line ≡ true → IsPartOf text options lines part → part ≡ []
+none_of_top : BasicLaws → (text : List ℕ) (options : FindOptions) (lines : List LogicalLine) (part : List Bound) (line : LogicalLine) → BeginsLexing text (lines ++ line ∷ []) → ends_top options line ≡ true → IsPartOf text options lines part → part ≡ []
 none_of_top one text options lines part line begins ends (inl none) = none
 none_of_top one text options lines part line begins ends (inr n) = absurd (counts_or_ends _ ends (subst (λ (l : LogicalLine). ends_top options l ≡ false) (sym (same_begun one text lines line n.line begins n.begins)) n.in_top))
 
 -- what was looked at of a line begins what it binds
-splits_of : Laws → (text : List ℕ) (options : FindOptions) (lines : List LogicalLine) (part bs : List Bound) (line : LogicalLine) → BeginsLexing text (lines ++ line ∷ []) → Binds line bs → IsPartOf text options lines part → (rest : List Bound) × (bs ≡ part ++ rest)
+splits_of : BasicLaws → (text : List ℕ) (options : FindOptions) (lines : List LogicalLine) (part bs : List Bound) (line : LogicalLine) → BeginsLexing text (lines ++ line ∷ []) → Binds line bs → IsPartOf text options lines part → (rest : List Bound) × (bs ≡ part ++ rest)
 splits_of one text options lines part bs line begins binds (inl none) = (bs, ap (λ t. t ++ bs) (sym none))
 splits_of one text options lines part bs line begins binds (inr n) = (n.rest, one.one_list line bs (part ++ n.rest) binds (subst (λ (l : LogicalLine). Binds l (part ++ n.rest)) (sym (same_begun one text lines line n.line begins n.begins)) n.binds))
 
@@ -87,7 +87,7 @@ pub record IsAtLine (text : List ℕ) (options : FindOptions) (start : LineStart
   pub begins : BeginsLexing text (after.lines ++ line ∷ [])
 
 -- the line binds these: they are to be looked at, except those that were
-pub reads_bindings : Laws → (text : List ℕ) (options : FindOptions) (start : LineStart) (skip : ℕ) (line : LogicalLine) (bounds bs : List Bound) (a : IsAtLine text options start skip line bounds) → Binds line bs → ends_top options line ≡ false → IsInside text options a.after.lines line (pending_after start skip bs) bounds
+pub reads_bindings : BasicLaws → (text : List ℕ) (options : FindOptions) (start : LineStart) (skip : ℕ) (line : LogicalLine) (bounds bs : List Bound) (a : IsAtLine text options start skip line bounds) → Binds line bs → ends_top options line ≡ false → IsInside text options a.after.lines line (pending_after start skip bs) bounds
 reads_bindings one text options start skip line bounds bs a binds counts =
     let b = a.after in
     let cut = splits_of one text options b.lines b.part bs line a.begins binds b.is_part.1 in
@@ -110,13 +110,13 @@ pub record IsAtNothing {text : List ℕ} {options : FindOptions} {offset number 
   pub none : b.part ≡ []
   pub found : bounds ≡ firsts options.unique [] b.before
 
-pub nothing_at_end : Laws → {text : List ℕ} {options : FindOptions} {offset number taken : ℕ} {bounds : List Bound} (b : IsAfter text options offset number taken bounds) (end : Option Fault) → IsLexed text b.lines end → IsAtNothing b
+pub nothing_at_end : BasicLaws → {text : List ℕ} {options : FindOptions} {offset number taken : ℕ} {bounds : List Bound} (b : IsAfter text options offset number taken bounds) (end : Option Fault) → IsLexed text b.lines end → IsAtNothing b
 nothing_at_end one {text} {options} b end lexed = let none = none_of_end one text options b.lines b.part end lexed b.is_part.1 in record { none = none; found = found_whole b none }
 
-pub nothing_at_top : Laws → {text : List ℕ} {options : FindOptions} {offset number taken : ℕ} {bounds : List Bound} (b : IsAfter text options offset number taken bounds) (line : LogicalLine) → BeginsLexing text (b.lines ++ line ∷ []) → ends_top options line ≡ true → IsAtNothing b
+pub nothing_at_top : BasicLaws → {text : List ℕ} {options : FindOptions} {offset number taken : ℕ} {bounds : List Bound} (b : IsAfter text options offset number taken bounds) (line : LogicalLine) → BeginsLexing text (b.lines ++ line ∷ []) → ends_top options line ≡ true → IsAtNothing b
 nothing_at_top one {text} {options} b line begins ends = let none = none_of_top one text options b.lines b.part line begins ends b.is_part.1 in record { none = none; found = found_whole b none }
 
-pub nothing_at_bad : Laws → {text : List ℕ} {options : FindOptions} {offset number taken : ℕ} {bounds : List Bound} (b : IsAfter text options offset number taken bounds) (line : LogicalLine) (fault : Fault) → BeginsLexing text (b.lines ++ line ∷ []) → IsBadAt line fault → IsAtNothing b
+pub nothing_at_bad : BasicLaws → {text : List ℕ} {options : FindOptions} {offset number taken : ℕ} {bounds : List Bound} (b : IsAfter text options offset number taken bounds) (line : LogicalLine) (fault : Fault) → BeginsLexing text (b.lines ++ line ∷ []) → IsBadAt line fault → IsAtNothing b
 nothing_at_bad one {text} {options} b line fault begins bad = let none = none_of_bad one text options b.lines b.part line fault begins bad b.is_part.1 in record { none = none; found = found_whole b none }
 
 -- a finder may stop before what comes next
@@ -137,7 +137,7 @@ stops_before cursor start b n stopped = record {
 }
 
 -- the line is bad
-pub reads_bad : Laws → (text : List ℕ) (options : FindOptions) (start : LineStart) (skip : ℕ) (line : LogicalLine) (bounds : List Bound) (fault : Fault) (a : IsAtLine text options start skip line bounds) → IsBadAt line fault → ends_top options line ≡ false → EndsInFaultAt text options bounds start.offset fault
+pub reads_bad : BasicLaws → (text : List ℕ) (options : FindOptions) (start : LineStart) (skip : ℕ) (line : LogicalLine) (bounds : List Bound) (fault : Fault) (a : IsAtLine text options start skip line bounds) → IsBadAt line fault → ends_top options line ≡ false → EndsInFaultAt text options bounds start.offset fault
 reads_bad one text options start skip line bounds fault a bad counts =
     let b = a.after in (
       found_at_bad text options b.lines line b.before bounds fault a.begins b.in_top counts bad b.binds (nothing_at_bad one b line fault a.begins bad).found,
@@ -145,7 +145,7 @@ reads_bad one text options start skip line bounds fault a bad counts =
     )
 
 -- the line ends the top
-pub reads_top : Laws → (text : List ℕ) (options : FindOptions) (start : LineStart) (skip : ℕ) (line : LogicalLine) (bounds : List Bound) (a : IsAtLine text options start skip line bounds) → ends_top options line ≡ true → IsFound text options bounds None × LineAt text start.offset (λ l. ends_top options l ≡ true)
+pub reads_top : BasicLaws → (text : List ℕ) (options : FindOptions) (start : LineStart) (skip : ℕ) (line : LogicalLine) (bounds : List Bound) (a : IsAtLine text options start skip line bounds) → ends_top options line ≡ true → IsFound text options bounds None × LineAt text start.offset (λ l. ends_top options l ≡ true)
 reads_top one text options start skip line bounds a ends =
     let b = a.after in (
       found_at_top text options b.lines line b.before bounds a.begins b.in_top ends b.binds (nothing_at_top one b line a.begins ends).found,
@@ -153,7 +153,7 @@ reads_top one text options start skip line bounds a ends =
     )
 
 -- the text has a lexical fault after the lines
-pub meets_lexical : Laws → {text : List ℕ} {options : FindOptions} {offset number taken : ℕ} {bounds : List Bound} (b : IsAfter text options offset number taken bounds) (fault : Fault) → IsLexed text b.lines (Some fault) → EndsInFaultAt text options bounds offset fault
+pub meets_lexical : BasicLaws → {text : List ℕ} {options : FindOptions} {offset number taken : ℕ} {bounds : List Bound} (b : IsAfter text options offset number taken bounds) (fault : Fault) → IsLexed text b.lines (Some fault) → EndsInFaultAt text options bounds offset fault
 meets_lexical one {text} {options} {bounds = bounds} b fault lexed = (
   found_lexed text options b.lines b.before bounds (Some fault) lexed b.in_top b.binds (nothing_at_end one b (Some fault) lexed).found,
   inr (b.lines, lexed, bytes_given _ b.lines b.given),

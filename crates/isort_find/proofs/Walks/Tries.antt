@@ -3,7 +3,7 @@ use Rattle.std.proofs.Common.{◌≡◌, Result, Ok, Err, map, refl, sym, subst,
 use Rattle.py_lines.specs.LogicalLine.{LogicalLine}
 use Rattle.py_lines.specs.declared.fault.Fault.{Fault}
 use Rattle.py_imports.specs.Bound.{bound_of}
-use Rattle.isort_find.specs.Private.Walks.{WalkerState, FollowsStep, LooksAhead, Reads, TriesLine}
+use Rattle.isort_find.specs.Private.Walks.{WalkerState, FollowsStep, LooksAhead, ReadsOrLosesLine, TriesLine}
 use Rattle.isort_find.specs.Private.LineSteps.{Judges, binding, ending, failing, lost}
 use Rattle.isort_find.specs.declared.error.FindError.{FindError}
 use Rattle.isort_find.specs.declared.error.FindError.TheVariants as error
@@ -29,7 +29,7 @@ step_bad old mid line start step.LineLost read fault judged follows is = absurd 
 step_bad old mid line start step.NoMemory read fault judged follows is = absurd judged
 
 -- reading met a fault
-pub tries_bad : (old mid : WalkerState) (line : LogicalLine) (start : LineStart) (read : Result (Unit {0}) FindError) (fault : Fault) → Reads old line start read mid → read ≡ Err (error.Fault fault) → TriesLine old line start (Err (error.Fault fault)) mid
+pub tries_bad : (old mid : WalkerState) (line : LogicalLine) (start : LineStart) (read : Result (Unit {0}) FindError) (fault : Fault) → ReadsOrLosesLine old line start read mid → read ≡ Err (error.Fault fault) → TriesLine old line start (Err (error.Fault fault)) mid
 tries_bad old mid line start read fault r is = step_bad old mid line start r.step read fault r.judges r.follows is
 
 step_fine : (old mid new : WalkerState) (line : LogicalLine) (start : LineStart) (s : Step) (read : Result (Unit {0}) FindError) → Judges old.cursor.options line s → FollowsStep old start s read mid → ((fault : Fault) → read ≡ Err (error.Fault fault) → ⊥) → LooksAhead mid new → TriesLine old line start (Ok tt) new
@@ -41,5 +41,5 @@ step_fine old mid new line start step.LineLost read judged follows fine looks = 
 step_fine old mid new line start step.NoMemory read judged follows fine looks = absurd judged
 
 -- the line was read, or memory ran out
-pub tries_fine : (old mid new : WalkerState) (line : LogicalLine) (start : LineStart) (read : Result (Unit {0}) FindError) → Reads old line start read mid → ((fault : Fault) → read ≡ Err (error.Fault fault) → ⊥) → LooksAhead mid new → TriesLine old line start (Ok tt) new
+pub tries_fine : (old mid new : WalkerState) (line : LogicalLine) (start : LineStart) (read : Result (Unit {0}) FindError) → ReadsOrLosesLine old line start read mid → ((fault : Fault) → read ≡ Err (error.Fault fault) → ⊥) → LooksAhead mid new → TriesLine old line start (Ok tt) new
 tries_fine old mid new line start read r fine looks = step_fine old mid new line start r.step read r.judges r.follows fine looks

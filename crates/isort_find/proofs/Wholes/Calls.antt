@@ -5,7 +5,7 @@ use Rattle.py_imports.specs.Bound.{Bound}
 use Rattle.isort_find.specs.Found.{IsFound}
 use Rattle.isort_find.specs.Stand.{phase_in, MeetsEndAt, EndsInFaultAt}
 use Rattle.isort_find.specs.Finder.{FinderState, HasFound, HasReached, FindsEnd, FindsFault, finder_text, options_of}
-use Rattle.isort_find.specs.Private.FinderSteps.{Goes}
+use Rattle.isort_find.specs.Private.FinderSteps.{GoesThroughCall}
 use Rattle.isort_find.specs.declared.options.FindOptions.{FindOptions}
 use Rattle.isort_find.specs.declared.walker.Stand.{Stand}
 use Rattle.isort_find.specs.declared.walker.Stand.TheVariants as stand
@@ -19,7 +19,7 @@ work phase.End n = 0
 work (phase.Fault fault) n = 0
 
 -- the call has just begun
-pub goes_start : (i : FinderState) → Goes i i
+pub goes_start : (i : FinderState) → GoesThroughCall i i
 goes_start i = record {
   keeps = record { kept = λ bounds h. h; task = record { text = refl; options = refl }; given = refl };
   falls = λ e. omega arith;
@@ -49,7 +49,7 @@ not_met i f met other (inl opened) at is differs = absurd (differs (sym opened �
 not_met i f met other (inr same) at is differs = sym at ∙ ap (λ (x : FinderState). phase_in x.stand) same ∙ is
 
 -- the end was met
-pub goes_to_end : (i f : FinderState) → Goes i f → phase_in f.stand ≡ phase.End → FindsEnd i f
+pub goes_to_end : (i f : FinderState) → GoesThroughCall i f → phase_in f.stand ≡ phase.End → FindsEnd i f
 goes_to_end i f goes at =
     let task = goes.keeps.task in
     let met : (bounds : List Bound) → HasFound i bounds → IsFound (finder_text i) (options_of i) bounds None × MeetsEndAt (finder_text i) (options_of i) f.cursor.offset = λ bounds h. subst (λ (t : List ℕ). IsFound t (options_of i) bounds None × MeetsEndAt t (options_of i) f.cursor.offset) task.text (subst (λ (o : FindOptions). IsFound (finder_text f) o bounds None × MeetsEndAt (finder_text f) o f.cursor.offset) task.options (at_end f bounds f.stand at (goes.keeps.kept bounds h).reached)) in
@@ -64,7 +64,7 @@ goes_to_end i f goes at =
     }
 
 -- the fault was met
-pub goes_to_fault : (i f : FinderState) (fault : Fault) → Goes i f → phase_in f.stand ≡ phase.Fault fault → FindsFault i fault f
+pub goes_to_fault : (i f : FinderState) (fault : Fault) → GoesThroughCall i f → phase_in f.stand ≡ phase.Fault fault → FindsFault i fault f
 goes_to_fault i f fault goes at =
     let task = goes.keeps.task in
     let stands = at_fault f.stand fault at in
@@ -81,6 +81,6 @@ goes_to_fault i f fault goes at =
     }
 
 -- a phase that isn't open, and is open or the end, is the end
-pub is_end : (p here there : Phase) → p ≡ here → p ≡ there → (here ≡ phase.Open) ⊎ (here ≡ phase.End) → (there ≡ phase.Open → ⊥) → p ≡ phase.End
-is_end p here there e d (inl opened) closed = absurd (closed (sym d ∙ e ∙ opened))
-is_end p here there e d (inr ended) closed = e ∙ ended
+pub is_end_phase : (p here there : Phase) → p ≡ here → p ≡ there → (here ≡ phase.Open) ⊎ (here ≡ phase.End) → (there ≡ phase.Open → ⊥) → p ≡ phase.End
+is_end_phase p here there e d (inl opened) closed = absurd (closed (sym d ∙ e ∙ opened))
+is_end_phase p here there e d (inr ended) closed = e ∙ ended

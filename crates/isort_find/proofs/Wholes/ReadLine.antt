@@ -13,9 +13,9 @@ use Rattle.isort_find.specs.Found.{ends_top, IsFound}
 use Rattle.isort_find.specs.Cursor.{CursorState, first_cursor, IsAfter, HasStopped}
 use Rattle.isort_find.specs.Pending.{pending_after}
 use Rattle.isort_find.specs.Stand.{phase_in, skip_in, left_in, is_unread, IsInside, MeetsEndAt, EndsInFaultAt}
-use Rattle.isort_find.specs.Finder.{FinderState, HasFound, IsBeforeLine, FinderRunsOut, finder_state, finder_text, options_of, bytes_left, left_of}
+use Rattle.isort_find.specs.Finder.{FinderState, HasFound, IsBeforeLine, FinderRunsOut, finder_state, finder_text, options_of, bytes_to_read, left_of}
 use Rattle.isort_find.specs.Private.CursorMoves.{cursor_before}
-use Rattle.isort_find.specs.Private.FinderSteps.{KeepsGiven, GoesBack, FollowsRead, ReadsOn, ReadsNextLine, closed_at, with_line, with_line_again}
+use Rattle.isort_find.specs.Private.FinderSteps.{KeepsGiven, GoesBack, FollowsRead, ReadsOn, ReadsNextLine, ended_at_line, with_line, with_line_again}
 use Rattle.isort_find.specs.Private.LineSteps.{GivesLine, StepsTo}
 use Rattle.isort_find.specs.Private.Walks.{WalkerState, read_again, unread_in, walker_state, with_stand}
 use Rattle.isort_find.specs.declared.error.FindError.{FindError}
@@ -27,15 +27,15 @@ use Rattle.isort_find.specs.declared.step.Step.TheVariants as step
 use Rattle.isort_find.specs.declared.walker.Stand.{Stand}
 use Rattle.isort_find.specs.declared.walker.Stand.TheVariants as stand
 use Rattle.isort_find.specs.declared.walker.Phase.TheVariants as phase
-use Rattle.isort_find.specs.Private.KnownLaws.{Laws}
+use Rattle.isort_find.specs.Private.KnownLaws.{BasicLaws}
 use Rattle.isort_find.proofs.Finds.NextLines.{reader_is}
 use Rattle.isort_find.proofs.Walks.Starts.{stopped_first}
 use Rattle.isort_find.proofs.Walks.Inside.{line_over}
 use Rattle.isort_find.proofs.Walks.NextLine.{IsAtLine, IsAtNothing, nothing_at_end, nothing_at_top, nothing_at_bad, stops_before, reads_bindings, reads_bad, reads_top, meets_lexical, found_lexed}
 
 -- where a reader stands
-abbrev start_of : Reader → LineStart
-start_of r = record { offset = r.place; line = r.line }
+abbrev next_start : Reader → LineStart
+next_start r = record { offset = r.place; line = r.line }
 
 -- a finder that has gone back, if a line was left unread: it has given the same, and the reader reads the next line
 pub record IsBack (old f : FinderState) : Type 0 where
@@ -91,7 +91,7 @@ pub record IsAbout (old f : FinderState) (start : LineStart) (options : FindOpti
   pub number : start.line ≡ f.reader.line
   pub options_are : options ≡ options_of f
 
-here : (old f : FinderState) (start : LineStart) (options : FindOptions) → IsAbout old f start options → start ≡ start_of f.reader
+here : (old f : FinderState) (start : LineStart) (options : FindOptions) → IsAbout old f start options → start ≡ next_start f.reader
 here old f start options a = (λ i. record { offset = a.offset i; line = a.number i })
 
 -- what is known there: the lines that the reader has given, and where the finder may stop
@@ -107,10 +107,10 @@ there old f bounds back h =
     record { stopped = q.stopped; after = b.after; given = subst (λ (r : Reader). HasGiven r b.after.lines) (sym (reader_is f.reader b.no_fault)) b.after.given }
 
 -- one more line was given
-abbrev at_line : (f : FinderState) (bounds : List Bound) (r : Reader) (line : LogicalLine) (t : IsThere f bounds) → Continues f.reader line r → IsAtLine (finder_text f) (options_of f) (start_of f.reader) (skip_in f.stand) line bounds
+abbrev at_line : (f : FinderState) (bounds : List Bound) (r : Reader) (line : LogicalLine) (t : IsThere f bounds) → Continues f.reader line r → IsAtLine (finder_text f) (options_of f) (next_start f.reader) (skip_in f.stand) line bounds
 at_line f bounds r line t continues = record { after = t.after; begins = subst (λ (x : List ℕ). BeginsLexing x (t.after.lines ++ line ∷ [])) continues.text (continues.begins t.after.lines t.given) }
 
-bytes_read : (s : Stand) (size place : ℕ) → is_unread s ≡ false → bytes_left s size place ≡ size - place
+bytes_read : (s : Stand) (size place : ℕ) → is_unread s ≡ false → bytes_to_read s size place ≡ size - place
 bytes_read (stand.Between skip) size place read = refl
 bytes_read (stand.Unread start skip) size place read = absurd cc
 bytes_read (stand.Within pending) size place read = refl
@@ -118,14 +118,14 @@ bytes_read (stand.End passed) size place read = refl
 bytes_read (stand.Fault fault) size place read = refl
 
 -- what was given stays where one more line is read: its bindings are to be looked at
-line_kept : Laws → (old f : FinderState) (options : FindOptions) (r : Reader) (bs : List Bound) → IsBack old f → options ≡ options_of f → GivesLine f.reader (λ line. Binds line bs × (ends_top options line ≡ false)) r → (bounds : List Bound) → HasFound old bounds → HasFound (with_line (finder_state r f.stand f.cursor) (start_of f.reader) bs) bounds
+line_kept : BasicLaws → (old f : FinderState) (options : FindOptions) (r : Reader) (bs : List Bound) → IsBack old f → options ≡ options_of f → GivesLine f.reader (λ line. Binds line bs × (ends_top options line ≡ false)) r → (bounds : List Bound) → HasFound old bounds → HasFound (with_line (finder_state r f.stand f.cursor) (next_start f.reader) bs) bounds
 line_kept one old f options r bs back options_are gives bounds h =
     let line = gives.0 in
     let continues = gives.1 in
     let counts : ends_top (options_of f) line ≡ false = subst (λ (o : FindOptions). ends_top o line ≡ false) options_are gives.2.1 in
     let t = there old f bounds back h in
-    let inside = reads_bindings one (finder_text f) (options_of f) (start_of f.reader) (skip_in f.stand) line bounds bs (at_line f bounds r line t continues) gives.2.0 counts in
-    let pending = pending_after (start_of f.reader) (skip_in f.stand) bs in
+    let inside = reads_bindings one (finder_text f) (options_of f) (next_start f.reader) (skip_in f.stand) line bounds bs (at_line f bounds r line t continues) gives.2.0 counts in
+    let pending = pending_after (next_start f.reader) (skip_in f.stand) bs in
     record {
       stopped = subst (λ (x : List ℕ). HasStopped x f.cursor bounds) (sym continues.text) t.stopped;
       reached = record { lines = t.after.lines; line = line; given = continues.given t.after.lines t.given; inside = subst (λ (x : List ℕ). IsInside x (options_of f) t.after.lines line pending bounds) (sym continues.text) inside };
@@ -136,7 +136,7 @@ back_keeps : (old f : FinderState) (r : Reader) (s : Stand) → IsBack old f →
 back_keeps old f r s back same kept = record { kept = kept; task = record { text = same ∙ back.text; options = ap (λ (c : CursorState). c.options) back.cursor }; given = ap (λ (c : CursorState). c.given) back.cursor }
 
 -- the line's bindings are to be looked at
-reads_on : Laws → (old f : FinderState) (options : FindOptions) (r : Reader) (bs : List Bound) → IsBack old f → options ≡ options_of f → GivesLine f.reader (λ line. Binds line bs × (ends_top options line ≡ false)) r → length bs < 2 ^ 64 → ReadsOn old (with_line (finder_state r f.stand f.cursor) (start_of f.reader) bs)
+reads_on : BasicLaws → (old f : FinderState) (options : FindOptions) (r : Reader) (bs : List Bound) → IsBack old f → options ≡ options_of f → GivesLine f.reader (λ line. Binds line bs × (ends_top options line ≡ false)) r → length bs < 2 ^ 64 → ReadsOn old (with_line (finder_state r f.stand f.cursor) (next_start f.reader) bs)
 reads_on one old f options r bs back options_are gives few =
     let continues = gives.1 in
     let len = ap length continues.text in
@@ -144,20 +144,20 @@ reads_on one old f options r bs back options_are gives few =
     let none = ap length back.none in
     let falls = back.falls in
     record {
-      keeps = back_keeps old f r (stand.Within (pending_after (start_of f.reader) (skip_in f.stand) bs)) back continues.text (line_kept one old f options r bs back options_are gives);
+      keeps = back_keeps old f r (stand.Within (pending_after (next_start f.reader) (skip_in f.stand) bs)) back continues.text (line_kept one old f options r bs back options_are gives);
       falls = λ _. omega (arith, size, none, falls, len, continues.place, continues.some_text, continues.within, length-drop (skip_in f.stand) bs, few);
       cursor = λ _. back.cursor;
     }
 
 -- nothing of a plain line is to be looked at: the finder is before the next one
-passes_plain : Laws → (old f : FinderState) (options : FindOptions) (r : Reader) → IsBack old f → options ≡ options_of f → GivesLine f.reader (λ line. Binds line [] × (ends_top options line ≡ false)) r → ReadsOn old (finder_state r (stand.Between 0) f.cursor)
+passes_plain : BasicLaws → (old f : FinderState) (options : FindOptions) (r : Reader) → IsBack old f → options ≡ options_of f → GivesLine f.reader (λ line. Binds line [] × (ends_top options line ≡ false)) r → ReadsOn old (finder_state r (stand.Between 0) f.cursor)
 passes_plain one old f options r back options_are gives =
     let continues = gives.1 in
     let len = ap length continues.text in
     let size = bytes_read f.stand (length (finder_text f)) f.reader.place back.read in
     let none = ap length back.none in
     let falls = back.falls in
-    let line_is = stand.Within (pending_after (start_of f.reader) (skip_in f.stand) []) in
+    let line_is = stand.Within (pending_after (next_start f.reader) (skip_in f.stand) []) in
     record {
       keeps = back_keeps old f r (stand.Between 0) back continues.text (λ bounds h.
           let q = line_kept one old f options r [] back options_are gives bounds h in
@@ -168,7 +168,7 @@ passes_plain one old f options r back options_are gives =
     }
 
 -- the end or a fault was met: the finder stands there, and so does its cursor
-closes : (old f : FinderState) (r : Reader) (s : Stand) → IsBack old f → r.text ≡ finder_text f → ((bounds : List Bound) → HasFound old bounds → HasFound (finder_state r s (cursor_before f.cursor (start_of f.reader))) bounds) → (phase_in s ≡ phase.Open → ⊥) → ReadsOn old (closed_at (finder_state r f.stand f.cursor) (start_of f.reader) s)
+closes : (old f : FinderState) (r : Reader) (s : Stand) → IsBack old f → r.text ≡ finder_text f → ((bounds : List Bound) → HasFound old bounds → HasFound (finder_state r s (cursor_before f.cursor (next_start f.reader))) bounds) → (phase_in s ≡ phase.Open → ⊥) → ReadsOn old (ended_at_line (finder_state r f.stand f.cursor) (next_start f.reader) s)
 closes old f r s back same kept closed = record {
   keeps = record { kept = kept; task = record { text = same ∙ back.text; options = ap (λ (c : CursorState). c.options) back.cursor }; given = ap (λ (c : CursorState). c.given) back.cursor };
   falls = λ e. absurd (closed e);
@@ -182,23 +182,23 @@ fault_is_closed : (fault : Fault) → phase.Fault fault ≡ phase.Open → ⊥
 fault_is_closed fault h = cc
 
 -- what a finder is that has met the end or a fault, of its text by itself
-ended_with : (f : FinderState) (r : Reader) (bounds : List Bound) → r.text ≡ finder_text f → HasStopped (finder_text f) (cursor_before f.cursor (start_of f.reader)) bounds → IsFound (finder_text f) (options_of f) bounds None × MeetsEndAt (finder_text f) (options_of f) f.reader.place → HasFound (finder_state r (stand.End 0) (cursor_before f.cursor (start_of f.reader))) bounds
+ended_with : (f : FinderState) (r : Reader) (bounds : List Bound) → r.text ≡ finder_text f → HasStopped (finder_text f) (cursor_before f.cursor (next_start f.reader)) bounds → IsFound (finder_text f) (options_of f) bounds None × MeetsEndAt (finder_text f) (options_of f) f.reader.place → HasFound (finder_state r (stand.End 0) (cursor_before f.cursor (next_start f.reader))) bounds
 ended_with f r bounds same stopped met = record {
-  stopped = subst (λ (x : List ℕ). HasStopped x (cursor_before f.cursor (start_of f.reader)) bounds) (sym same) stopped;
+  stopped = subst (λ (x : List ℕ). HasStopped x (cursor_before f.cursor (next_start f.reader)) bounds) (sym same) stopped;
   reached = subst (λ (x : List ℕ). IsFound x (options_of f) bounds None × MeetsEndAt x (options_of f) f.reader.place) (sym same) met;
 }
 
-failed_with : (f : FinderState) (r : Reader) (bounds : List Bound) (fault : Fault) → r.text ≡ finder_text f → HasStopped (finder_text f) (cursor_before f.cursor (start_of f.reader)) bounds → EndsInFaultAt (finder_text f) (options_of f) bounds f.reader.place fault → HasFound (finder_state r (stand.Fault fault) (cursor_before f.cursor (start_of f.reader))) bounds
+failed_with : (f : FinderState) (r : Reader) (bounds : List Bound) (fault : Fault) → r.text ≡ finder_text f → HasStopped (finder_text f) (cursor_before f.cursor (next_start f.reader)) bounds → EndsInFaultAt (finder_text f) (options_of f) bounds f.reader.place fault → HasFound (finder_state r (stand.Fault fault) (cursor_before f.cursor (next_start f.reader))) bounds
 failed_with f r bounds fault same stopped met = record {
-  stopped = subst (λ (x : List ℕ). HasStopped x (cursor_before f.cursor (start_of f.reader)) bounds) (sym same) stopped;
+  stopped = subst (λ (x : List ℕ). HasStopped x (cursor_before f.cursor (next_start f.reader)) bounds) (sym same) stopped;
   reached = subst (λ (x : List ℕ). EndsInFaultAt x (options_of f) bounds f.reader.place fault) (sym same) met;
 }
 
-stops_there : (f : FinderState) (bounds : List Bound) (t : IsThere f bounds) → IsAtNothing t.after → HasStopped (finder_text f) (cursor_before f.cursor (start_of f.reader)) bounds
-stops_there f bounds t n = stops_before f.cursor (start_of f.reader) t.after n t.stopped
+stops_there : (f : FinderState) (bounds : List Bound) (t : IsThere f bounds) → IsAtNothing t.after → HasStopped (finder_text f) (cursor_before f.cursor (next_start f.reader)) bounds
+stops_there f bounds t n = stops_before f.cursor (next_start f.reader) t.after n t.stopped
 
 -- the text ends
-reads_end : Laws → (old f : FinderState) (r : Reader) → IsBack old f → reader.Ends f.reader r → ReadsOn old (closed_at (finder_state r f.stand f.cursor) (start_of f.reader) (stand.End 0))
+reads_end : BasicLaws → (old f : FinderState) (r : Reader) → IsBack old f → reader.Ends f.reader r → ReadsOn old (ended_at_line (finder_state r f.stand f.cursor) (next_start f.reader) (stand.End 0))
 reads_end one old f r back e =
     let same = ap (λ (q : Reader). q.text) e.same in
     closes old f r (stand.End 0) back same (λ bounds h.
@@ -209,7 +209,7 @@ reads_end one old f r back e =
     ended_with f r bounds same (stops_there f bounds t n) (found_lexed (finder_text f) (options_of f) b.lines b.before bounds None lexed b.in_top b.binds n.found, inl e.place)) end_is_closed
 
 -- a line ends the top
-reads_at_top : Laws → (old f : FinderState) (options : FindOptions) (r : Reader) → IsBack old f → options ≡ options_of f → GivesLine f.reader (λ line. ends_top options line ≡ true) r → ReadsOn old (closed_at (finder_state r f.stand f.cursor) (start_of f.reader) (stand.End 0))
+reads_at_top : BasicLaws → (old f : FinderState) (options : FindOptions) (r : Reader) → IsBack old f → options ≡ options_of f → GivesLine f.reader (λ line. ends_top options line ≡ true) r → ReadsOn old (ended_at_line (finder_state r f.stand f.cursor) (next_start f.reader) (stand.End 0))
 reads_at_top one old f options r back options_are g =
     let line = g.0 in
     let continues = g.1 in
@@ -217,11 +217,11 @@ reads_at_top one old f options r back options_are g =
     closes old f r (stand.End 0) back continues.text (λ bounds h.
     let t = there old f bounds back h in
     let at = at_line f bounds r line t continues in
-    let found = reads_top one (finder_text f) (options_of f) (start_of f.reader) (skip_in f.stand) line bounds at ends in
+    let found = reads_top one (finder_text f) (options_of f) (next_start f.reader) (skip_in f.stand) line bounds at ends in
     ended_with f r bounds continues.text (stops_there f bounds t (nothing_at_top one t.after line at.begins ends)) (found.0, inr found.1)) end_is_closed
 
 -- the text has a lexical fault
-reads_bad_text : Laws → (old f : FinderState) (r : Reader) (fault : Fault) → IsBack old f → reader.Fails f.reader fault r → ReadsOn old (closed_at (finder_state r f.stand f.cursor) (start_of f.reader) (stand.Fault fault))
+reads_bad_text : BasicLaws → (old f : FinderState) (r : Reader) (fault : Fault) → IsBack old f → reader.Fails f.reader fault r → ReadsOn old (ended_at_line (finder_state r f.stand f.cursor) (next_start f.reader) (stand.Fault fault))
 reads_bad_text one old f r fault back e =
     closes old f r (stand.Fault fault) back e.text (λ bounds h.
     let t = there old f bounds back h in
@@ -229,7 +229,7 @@ reads_bad_text one old f r fault back e =
     failed_with f r bounds fault e.text (stops_there f bounds t (nothing_at_end one t.after (Some fault) lexed)) (meets_lexical one t.after fault lexed)) (fault_is_closed fault)
 
 -- a line has a bad import statement
-reads_bad_line : Laws → (old f : FinderState) (options : FindOptions) (r : Reader) (fault : Fault) → IsBack old f → options ≡ options_of f → GivesLine f.reader (λ line. IsBadAt line fault × (ends_top options line ≡ false)) r → ReadsOn old (closed_at (finder_state r f.stand f.cursor) (start_of f.reader) (stand.Fault fault))
+reads_bad_line : BasicLaws → (old f : FinderState) (options : FindOptions) (r : Reader) (fault : Fault) → IsBack old f → options ≡ options_of f → GivesLine f.reader (λ line. IsBadAt line fault × (ends_top options line ≡ false)) r → ReadsOn old (ended_at_line (finder_state r f.stand f.cursor) (next_start f.reader) (stand.Fault fault))
 reads_bad_line one old f options r fault back options_are g =
     let line = g.0 in
     let continues = g.1 in
@@ -237,10 +237,10 @@ reads_bad_line one old f options r fault back options_are g =
     closes old f r (stand.Fault fault) back continues.text (λ bounds h.
     let t = there old f bounds back h in
     let at = at_line f bounds r line t continues in
-    failed_with f r bounds fault continues.text (stops_there f bounds t (nothing_at_bad one t.after line fault at.begins g.2.0)) (reads_bad one (finder_text f) (options_of f) (start_of f.reader) (skip_in f.stand) line bounds fault at g.2.0 counts)) (fault_is_closed fault)
+    failed_with f r bounds fault continues.text (stops_there f bounds t (nothing_at_bad one t.after line fault at.begins g.2.0)) (reads_bad one (finder_text f) (options_of f) (next_start f.reader) (skip_in f.stand) line bounds fault at g.2.0 counts)) (fault_is_closed fault)
 
 -- there was no memory for the line's bindings
-loses_line : (old f : FinderState) (r : Reader) → phase_in old.stand ≡ phase.Open → IsBack old f → r.text ≡ finder_text f → FinderRunsOut old (with_line_again (finder_state r f.stand f.cursor) (start_of f.reader))
+loses_line : (old f : FinderState) (r : Reader) → phase_in old.stand ≡ phase.Open → IsBack old f → r.text ≡ finder_text f → FinderRunsOut old (with_line_again (finder_state r f.stand f.cursor) (next_start f.reader))
 loses_line old f r opened back same = record {
   kept = λ bounds h.
       let t = there old f bounds back h in
@@ -262,7 +262,7 @@ refused : (old new : FinderState) (result : Result (Unit {0}) FindError) → res
 refused old new result is none = subst (λ (x : Result (Unit {0}) FindError). ReadsNextLine old x new) (sym is) (none, refl)
 
 -- the finder reads the line that begins where its reader stands, and does what follows
-follows : Laws → (old f : FinderState) (options : FindOptions) (r : Reader) (read : Step) (result : Result (Unit {0}) FindError) (new : FinderState) → phase_in old.stand ≡ phase.Open → IsBack old f → options ≡ options_of f → StepsTo options f.reader read r → FollowsRead (finder_state r f.stand f.cursor) (start_of f.reader) read result new → ReadsNextLine old result new
+follows : BasicLaws → (old f : FinderState) (options : FindOptions) (r : Reader) (read : Step) (result : Result (Unit {0}) FindError) (new : FinderState) → phase_in old.stand ≡ phase.Open → IsBack old f → options ≡ options_of f → StepsTo options f.reader read r → FollowsRead (finder_state r f.stand f.cursor) (next_start f.reader) read result new → ReadsNextLine old result new
 follows one old f options r (step.Bindings bindings) result new opened back is g h =
     let bs = map bound_of bindings.items in
     let few : length bs < 2 ^ 64 = omega (arith, length-map bindings.items bound_of, bindings.ok, bindings.small) in
@@ -276,7 +276,7 @@ follows one old f options r step.LineLost result new opened back is g h = refuse
 follows one old f options r step.NoMemory result new opened back is e h = refused old new result h.0 (subst (FinderRunsOut old) (sym (h.1 ∙ ap (λ (q : Reader). finder_state q f.stand f.cursor) e.same)) (runs_out old f opened back))
 
 -- the finder reads its next line
-pub reads_line : Laws → (old f : FinderState) (start : LineStart) (options : FindOptions) (r : Reader) (read : Step) (result : Result (Unit {0}) FindError) (new : FinderState) → IsAbout old f start options → StepsTo options f.reader read r → FollowsRead (finder_state r f.stand f.cursor) start read result new → ReadsNextLine old result new
+pub reads_line : BasicLaws → (old f : FinderState) (start : LineStart) (options : FindOptions) (r : Reader) (read : Step) (result : Result (Unit {0}) FindError) (new : FinderState) → IsAbout old f start options → StepsTo options f.reader read r → FollowsRead (finder_state r f.stand f.cursor) start read result new → ReadsNextLine old result new
 reads_line one old f start options r read result new a g h = follows one old f options r read result new a.was_open a.back a.options_are g (subst (λ (x : LineStart). FollowsRead (finder_state r f.stand f.cursor) x read result new) (here old f start options a) h)
 
 -- the reader went back to the line that was left unread
@@ -294,11 +294,11 @@ went_back l r text (stand.End passed) cursor start w same is goes_on text_is wal
 went_back l r text (stand.Fault fault) cursor start w same is goes_on text_is walker_is = absurd cc
 
 -- a finder that goes on from a cursor
-pub goes_on_at : (text : List ℕ) (cursor : CursorState) (r : Reader) (bounds : List Bound) → ((lines : List LogicalLine) → HasGiven (standing_at text cursor.offset cursor.line) lines → r ≡ standing_at text cursor.offset cursor.line) → HasStopped text cursor bounds → HasFound (finder_state r (stand.Between cursor.taken) cursor) bounds
-goes_on_at text cursor r bounds goes_on h = subst (λ (q : Reader). HasFound (finder_state q (stand.Between cursor.taken) cursor) bounds) (sym (goes_on h.after.lines h.after.given)) (record { stopped = h; reached = record { no_fault = refl; after = h.after } })
+pub resumes_at : (text : List ℕ) (cursor : CursorState) (r : Reader) (bounds : List Bound) → ((lines : List LogicalLine) → HasGiven (standing_at text cursor.offset cursor.line) lines → r ≡ standing_at text cursor.offset cursor.line) → HasStopped text cursor bounds → HasFound (finder_state r (stand.Between cursor.taken) cursor) bounds
+resumes_at text cursor r bounds goes_on h = subst (λ (q : Reader). HasFound (finder_state q (stand.Between cursor.taken) cursor) bounds) (sym (goes_on h.after.lines h.after.given)) (record { stopped = h; reached = record { no_fault = refl; after = h.after } })
 
 -- a finder at the start of its text
 pub goes_from_start : (text : List ℕ) (options : FindOptions) (cursor : CursorState) (r : Reader) → cursor ≡ first_cursor options → r ≡ standing_at text 0 1 → HasGiven r [] → HasFound (finder_state r (stand.Between cursor.taken) cursor) []
 goes_from_start text options cursor r is start given =
     let stopped = stopped_first text options cursor is (subst (λ (q : Reader). HasGiven q []) start given) in
-    goes_on_at text cursor r [] (λ lines has. start ∙ ap (λ (c : CursorState). standing_at text c.offset c.line) (sym is)) stopped
+    resumes_at text cursor r [] (λ lines has. start ∙ ap (λ (c : CursorState). standing_at text c.offset c.line) (sym is)) stopped

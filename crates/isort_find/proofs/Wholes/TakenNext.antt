@@ -8,7 +8,7 @@ use Rattle.isort_find.specs.Pending.{PendingState}
 use Rattle.isort_find.specs.Stand.{phase_in}
 use Rattle.isort_find.specs.Finder.{HasFound, FindsNext, FinderRunsOut, finder_state}
 use Rattle.isort_find.specs.Private.FinderSteps.{LooksThrough, GivesNew}
-use Rattle.isort_find.specs.Private.LooksAtBindings.{Passes, TakesNew, TakesNextBinding}
+use Rattle.isort_find.specs.Private.LooksAtBindings.{PassesBindings, TakesNew, TakesNextBinding}
 use Rattle.isort_find.specs.Private.Walks.{WalkerState, TakesAt, walker_state}
 use Rattle.isort_find.specs.declared.error.FindError.{FindError}
 use Rattle.isort_find.specs.declared.walker.Stand.{Stand}
@@ -17,7 +17,7 @@ use Rattle.isort_find.specs.declared.walker.Phase.TheVariants as phase
 use Rattle.isort_find.proofs.Walks.Inside.{inside_passed, gives_at, one_given}
 
 -- bindings with known keys were looked at
-found_passed : (reader : Reader) (cursor : CursorState) (p q : PendingState) (bounds : List Bound) → Passes cursor p q → HasFound (finder_state reader (stand.Within p) cursor) bounds → HasFound (finder_state reader (stand.Within q) cursor) bounds
+found_passed : (reader : Reader) (cursor : CursorState) (p q : PendingState) (bounds : List Bound) → PassesBindings cursor p q → HasFound (finder_state reader (stand.Within p) cursor) bounds → HasFound (finder_state reader (stand.Within q) cursor) bounds
 found_passed reader cursor p q bounds passes h =
     let w = h.reached in
     record { stopped = h.stopped; reached = record { lines = w.lines; line = w.line; given = w.given; inside = inside_passed reader.text cursor w.lines w.line p q bounds h.stopped passes w.inside } }

@@ -61,8 +61,8 @@ abbrev pub with_line : FinderState → LineStart → List Bound → FinderState
 with_line f start bounds = record f { stand = stand.Within (pending_after start (skip_in f.stand) bounds) }
 
 -- the end or a fault was met in the line that begins here
-abbrev pub closed_at : FinderState → LineStart → Stand → FinderState
-closed_at f start at = finder_state f.reader at (cursor_before f.cursor start)
+abbrev pub ended_at_line : FinderState → LineStart → Stand → FinderState
+ended_at_line f start at = finder_state f.reader at (cursor_before f.cursor start)
 
 -- the line that begins here has to be read again
 abbrev pub with_line_again : FinderState → LineStart → FinderState
@@ -73,8 +73,8 @@ abbrev pub FollowsRead : FinderState → LineStart → Step → Result (Unit {0}
 FollowsRead old start (step.Bindings bindings) result new =
     (result ≡ Ok tt) × (new ≡ with_line old start (map bound_of bindings.items))
 FollowsRead old start step.Plain result new = (result ≡ Ok tt) × (new ≡ record old { stand = stand.Between 0 })
-FollowsRead old start step.End result new = (result ≡ Ok tt) × (new ≡ closed_at old start (stand.End 0))
-FollowsRead old start (step.Fault fault) result new = (result ≡ Ok tt) × (new ≡ closed_at old start (stand.Fault fault))
+FollowsRead old start step.End result new = (result ≡ Ok tt) × (new ≡ ended_at_line old start (stand.End 0))
+FollowsRead old start (step.Fault fault) result new = (result ≡ Ok tt) × (new ≡ ended_at_line old start (stand.Fault fault))
 FollowsRead old start step.LineLost result new = (result ≡ Err error.Memory) × (new ≡ with_line_again old start)
 FollowsRead old start step.NoMemory result new = (result ≡ Err error.Memory) × (new ≡ old)
 
@@ -90,7 +90,7 @@ ReadsNextLine old (Ok _) new = ReadsOn old new
 ReadsNextLine old (Err e) new = FinderRunsOut old new × (e ≡ error.Memory)
 
 -- from one state of a call of `next_import` to another
-pub record Goes (old new : FinderState) : Type 0 where
+pub record GoesThroughCall (old new : FinderState) : Type 0 where
   pub keeps : KeepsGiven old new
   pub falls : phase_in new.stand ≡ phase.Open → left_of new ≤ left_of old
   pub cursor : phase_in new.stand ≡ phase.Open → new.cursor ≡ old.cursor

@@ -10,19 +10,19 @@ use Rattle.py_imports.specs.Bound.{Bound}
 use Rattle.py_imports.specs.Binds.{Binds, BindsOrIsBad, IsBadAt}
 
 -- the law of `py_lines::laws::given_lines_begin_the_text`
-abbrev pub GivenBegin : Type 0
-GivenBegin = (reader : Reader) (lines : List LogicalLine) → HasGiven reader lines → BeginsLexing reader.text lines
+abbrev pub GivenLinesBegin : Type 0
+GivenLinesBegin = (reader : Reader) (lines : List LogicalLine) → HasGiven reader lines → BeginsLexing reader.text lines
 
 -- the laws of `py_lines` and of `py_imports::binds_or_is_bad` that these lemmas stand on
-pub record Laws : Type 0 where
+pub record BasicLaws : Type 0 where
   pub one_lexing : (text : List ℕ) (lines others : List LogicalLine) (end other : Option Fault) → IsLexed text lines end → IsLexed text others other → lines ≡ others
-  pub begins : GivenBegin
+  pub begins : GivenLinesBegin
   pub one_list : (line : LogicalLine) (bounds others : List Bound) → Binds line bounds → Binds line others → bounds ≡ others
   pub not_both : (line : LogicalLine) (bounds : List Bound) (fault : Fault) → Binds line bounds → ¬ (IsBadAt line fault)
 
 -- the laws that a text has one end and a logical line one fault, beside those of its lines
 pub record EndLaws : Type 0 where
-  pub laws : Laws
+  pub laws : BasicLaws
   pub one_end : (text : List ℕ) (lines others : List LogicalLine) (end other : Option Fault) → IsLexed text lines end → IsLexed text others other → end ≡ other
   pub one_fault : (line : LogicalLine) (fault other : Fault) → IsBadAt line fault → IsBadAt line other → fault ≡ other
 

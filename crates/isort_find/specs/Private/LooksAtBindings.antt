@@ -3,7 +3,7 @@ use Rattle.std.specs.Prelude.{◌≡◌, ◌+◌, true, Option, None, Some, Resu
 use Rattle.std.specs.List.{list_all}
 use Rattle.py_imports.specs.Bound.{Bound, bound_of}
 use Rattle.py_imports.specs.declared.binding.Binding.{Binding}
-use Rattle.isort_find.specs.Cursor.{CursorState, has_key, BeginsNew}
+use Rattle.isort_find.specs.Cursor.{CursorState, knows_key, BeginsNew}
 use Rattle.isort_find.specs.Pending.{PendingState}
 use Rattle.isort_find.specs.Private.CursorMoves.{Admits, cursor_after}
 use Rattle.isort_find.specs.declared.error.FindError.{FindError}
@@ -16,10 +16,10 @@ pub record Looks (old : PendingState) (b : Bound) (new : PendingState) : Type 0 
   pub taken : new.taken ≡ old.taken + 1
 
 -- bindings were looked at whose keys were given before
-pub record Passes (s : CursorState) (old new : PendingState) : Type 0 where
+pub record PassesBindings (s : CursorState) (old new : PendingState) : Type 0 where
   pub dropped : List Bound
   pub split : old.left ≡ dropped ++ new.left
-  pub known : list_all (has_key s.options.unique s.keys) dropped ≡ true
+  pub known : list_all (knows_key s.options.unique s.keys) dropped ≡ true
   pub start : new.start ≡ old.start
   pub taken : new.taken ≡ old.taken + length dropped
 
@@ -27,7 +27,7 @@ pub record Passes (s : CursorState) (old new : PendingState) : Type 0 where
 pub record TakesNew (s : CursorState) (old : PendingState) (b : Bound) (t : CursorState) (new : PendingState) : Type 0 where
   pub between : PendingState
   pub admitted : CursorState
-  pub passes : Passes s old between
+  pub passes : PassesBindings s old between
   pub looks : Looks between b new
   pub admits : Admits s b true admitted
   pub gives : t ≡ cursor_after admitted new.start new.taken
@@ -35,10 +35,10 @@ pub record TakesNew (s : CursorState) (old : PendingState) (b : Bound) (t : Curs
 -- what is taken of the bindings that are left
 abbrev pub TakesNextBinding : CursorState → PendingState → Result (Option Binding) FindError → CursorState → PendingState → Type 0
 TakesNextBinding s old (Ok (Some b)) t new = TakesNew s old (bound_of b) t new
-TakesNextBinding s old (Ok None) t new = Passes s old new × (new.left ≡ []) × (t ≡ s)
-TakesNextBinding s old (Err e) t new = Passes s old new × (t ≡ s) × (e ≡ error.Memory) × (new.left ≡ [] → ⊥)
+TakesNextBinding s old (Ok None) t new = PassesBindings s old new × (new.left ≡ []) × (t ≡ s)
+TakesNextBinding s old (Err e) t new = PassesBindings s old new × (t ≡ s) × (e ≡ error.Memory) × (new.left ≡ [] → ⊥)
 
 -- what is passed over of the bindings that are left; without memory not all that are known
 abbrev pub PassesKnown : CursorState → PendingState → Result (Unit {0}) FindError → PendingState → Type 0
-PassesKnown s old (Ok done) new = Passes s old new × BeginsNew s new.left
-PassesKnown s old (Err e) new = Passes s old new × (e ≡ error.Memory)
+PassesKnown s old (Ok done) new = PassesBindings s old new × BeginsNew s new.left
+PassesKnown s old (Err e) new = PassesBindings s old new × (e ≡ error.Memory)

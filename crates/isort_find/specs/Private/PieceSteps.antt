@@ -6,7 +6,7 @@ use Rattle.py_imports.specs.declared.binding.Binding.{Binding}
 use Rattle.isort_find.specs.Pieces.{PieceFinderState, HasFoundIn, InEachText, HasNoFault, AreAllSettled, IsUndecided, PieceFinderRunsOut, MeetsFaultIn, piece_finder_state, fed_by, has_ready}
 use Rattle.isort_find.specs.Stand.{phase_in, is_unread, skip_in}
 use Rattle.isort_find.specs.Private.CursorMoves.{cursor_before}
-use Rattle.isort_find.specs.Private.Walks.{WalkerState, LooksAhead, Reads, TakesOne, TriesLine, after_line, passed_to, read_again, walker_state}
+use Rattle.isort_find.specs.Private.Walks.{WalkerState, LooksAhead, ReadsOrLosesLine, TakesOne, TriesLine, after_line, passed_up_to, read_again, walker_state}
 use Rattle.isort_find.specs.declared.error.FindError.{FindError}
 use Rattle.isort_find.specs.declared.error.FindError.TheVariants as error
 use Rattle.isort_find.specs.declared.pending.LineStart.{LineStart}
@@ -42,19 +42,20 @@ pub record HasReady (s : ScannerState) (line : LogicalLine) (start : LineStart) 
   pub some_text : 0 < length line.text
   pub here : IsNextStart s start
 
--- the line that is ready was tried
-pub record TriesHeld (old : PieceFinderState) (result : Result (Unit {0}) FindError) (new : PieceFinderState) : Type 0 where
+-- the line that is ready was handed to the walker, which did this
+pub record HandsLine (Does : WalkerState → LogicalLine → LineStart → Result (Unit {0}) FindError → WalkerState → Type 0)
+    (old : PieceFinderState) (result : Result (Unit {0}) FindError) (new : PieceFinderState) : Type 0 where
   pub line : LogicalLine
   pub start : LineStart
   pub walker : WalkerState
   pub at : HasReady old.scanning line start
-  pub tries : TriesLine (walker_of old) line start result walker
+  pub does : Does (walker_of old) line start result walker
   pub same : new ≡ with_walker old walker
 
--- the same, if a line is ready
+-- the line that is ready was tried, if one is
 abbrev pub TriesReady : PieceFinderState → Result (Unit {0}) FindError → PieceFinderState → Type 0
 TriesReady old result new =
-    ((old.scanning.ready ≡ None) × (result ≡ Ok tt) × (new ≡ old)) ⊎ TriesHeld old result new
+    ((old.scanning.ready ≡ None) × (result ≡ Ok tt) × (new ≡ old)) ⊎ HandsLine TriesLine old result new
 
 -- no line is held that was read, or it ends the top
 abbrev pub IsDrained : PieceFinderState → Type 0
@@ -103,7 +104,7 @@ IsToStop f more = ¬ (phase_in f.stand ≡ phase.Open) ⊎ ((more ≡ false) × 
 
 -- more was passed over after the top
 abbrev pub with_passed : PieceFinderState → ℕ → PieceFinderState
-with_passed f n = record f { stand = passed_to f.stand (fed_by f + n) }
+with_passed f n = record f { stand = passed_up_to f.stand (fed_by f + n) }
 
 -- the cursor goes to where the next line begins, of which nothing was looked at
 pub record StandsNext (old new : PieceFinderState) : Type 0 where
@@ -127,20 +128,11 @@ pub record Rests (old new : PieceFinderState) : Type 0 where
   pub goes : MayLetLineGo old mid
   pub stands : MayStandNext mid new
 
--- the line that is ready was read, or memory ran out for it
-pub record ReadsHeld (old : PieceFinderState) (result : Result (Unit {0}) FindError) (new : PieceFinderState) : Type 0 where
-  pub line : LogicalLine
-  pub start : LineStart
-  pub walker : WalkerState
-  pub at : HasReady old.scanning line start
-  pub reads : Reads (walker_of old) line start result walker
-  pub same : new ≡ with_walker old walker
-
--- the same, if a line is ready: else it comes next
+-- the line that is ready was read, or memory ran out for it; if none is, it comes next
 abbrev pub ReadsReady : PieceFinderState → Result (Unit {0}) FindError → PieceFinderState → Type 0
 ReadsReady old result new =
     ((old.scanning.ready ≡ None) × (result ≡ Ok tt) × (new ≡ record old { stand = read_again old.stand }))
-    ⊎ ReadsHeld old result new
+    ⊎ HandsLine ReadsOrLosesLine old result new
 
 -- the line that was left unread was read, if one was
 abbrev pub ReadsUnread : PieceFinderState → Result (Unit {0}) FindError → PieceFinderState → Type 0

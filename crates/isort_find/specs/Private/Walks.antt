@@ -8,7 +8,7 @@ use Rattle.isort_find.specs.Cursor.{CursorState}
 use Rattle.isort_find.specs.Pending.{PendingState, pending_after}
 use Rattle.isort_find.specs.Stand.{skip_in}
 use Rattle.isort_find.specs.Private.CursorMoves.{cursor_before}
-use Rattle.isort_find.specs.Private.LooksAtBindings.{Passes, TakesNextBinding}
+use Rattle.isort_find.specs.Private.LooksAtBindings.{PassesBindings, TakesNextBinding}
 use Rattle.isort_find.specs.Private.LineSteps.{Judges, Trial, TurnsOut, binding, ending, failing, lost}
 use Rattle.isort_find.specs.declared.error.FindError.{FindError}
 use Rattle.isort_find.specs.declared.error.FindError.TheVariants as error
@@ -55,9 +55,9 @@ read_again (stand.Unread start skip) = stand.Between skip
 read_again other = other
 
 -- once text after the end was passed over up to this byte
-abbrev pub passed_to : Stand → ℕ → Stand
-passed_to (stand.End passed) place = stand.End place
-passed_to other place = other
+abbrev pub passed_up_to : Stand → ℕ → Stand
+passed_up_to (stand.End passed) place = stand.End place
+passed_up_to other place = other
 
 -- what becomes of a walker by what the logical line is that begins here
 abbrev pub FollowsStep : WalkerState → LineStart → Step → Result (Unit {0}) FindError → WalkerState → Type 0
@@ -71,7 +71,7 @@ FollowsStep old start step.LineLost result new =
 FollowsStep old start step.NoMemory result new = (result ≡ Err error.Memory) × (new ≡ old)
 
 -- the logical line that begins here was read, or memory ran out for it
-pub record Reads (old : WalkerState) (line : LogicalLine) (start : LineStart) (result : Result (Unit {0}) FindError)
+pub record ReadsOrLosesLine (old : WalkerState) (line : LogicalLine) (start : LineStart) (result : Result (Unit {0}) FindError)
     (new : WalkerState) : Type 0 where
   pub step : Step
   pub judges : Judges old.cursor.options line step
@@ -80,7 +80,7 @@ pub record Reads (old : WalkerState) (line : LogicalLine) (start : LineStart) (r
 -- inside a logical line bindings were looked at whose keys were given
 pub record LooksAheadFrom (pending : PendingState) (cursor : CursorState) (new : WalkerState) : Type 0 where
   pub rest : PendingState
-  pub passes : Passes cursor pending rest
+  pub passes : PassesBindings cursor pending rest
   pub same : new ≡ walker_state (stand.Within rest) cursor
 
 -- the same, wherever the walker stands
@@ -109,7 +109,7 @@ pub record TriesLine (old : WalkerState) (line : LogicalLine) (start : LineStart
   pub follows : FollowsTrial old start trial result new
 
 -- the next binding with a new key was taken of those that are left of a logical line
-pub record TakesFrom (pending : PendingState) (cursor : CursorState) (result : Result (Option Binding) FindError)
+pub record TakesFromLine (pending : PendingState) (cursor : CursorState) (result : Result (Option Binding) FindError)
     (new : WalkerState) : Type 0 where
   pub rest : PendingState
   pub takes : TakesNextBinding cursor pending result new.cursor rest
@@ -117,7 +117,7 @@ pub record TakesFrom (pending : PendingState) (cursor : CursorState) (result : R
 
 -- the same, wherever the walker stands
 abbrev pub TakesAt : Stand → CursorState → Result (Option Binding) FindError → WalkerState → Type 0
-TakesAt (stand.Within pending) cursor result new = TakesFrom pending cursor result new
+TakesAt (stand.Within pending) cursor result new = TakesFromLine pending cursor result new
 TakesAt other cursor result new = (result ≡ Ok None) × (new ≡ walker_state other cursor)
 
 -- the next binding of the logical line read last whose key wasn't given, or that there is none

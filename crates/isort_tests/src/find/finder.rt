@@ -2,7 +2,7 @@
 use crate::find::acts::{begun, resumed, tell_import, tell_place};
 use crate::harness::cases::{Case, all_are_so, each_holds, each_holds_again, page};
 use isort_find::laws::equal_keys;
-use isort_find::{Cursor, FindOptions, Finder, ImportKey, KeyText, ResumeError, key_of};
+use isort_find::{Cursor, FindOptions, Finder, ImportKey, KeyText, ResumeError, binding_key};
 use py_imports::Binding;
 use std::alloc::Global;
 use std::test::Fail;
@@ -296,7 +296,7 @@ fn first_of(alloc: Global, text: &str) -> Option<Binding> {
 /// The key of the first import of a text.
 fn first_key(alloc: Global, text: &str, key: ImportKey) -> Option<KeyText> {
     let binding = first_of(alloc, text)?;
-    key_of(alloc, &binding, key).ok()
+    binding_key(alloc, &binding, key).ok()
 }
 
 /// Two statements, a key, and whether their imports have one such key.

@@ -1,11 +1,11 @@
 -- The bindings looked at so far have keys that were given before.
 use Rattle.std.proofs.Common.{◌≡◌, length}
-use Rattle.isort_find.specs.Private.LooksAtBindings.{Passes}
+use Rattle.isort_find.specs.Private.LooksAtBindings.{PassesBindings}
 use Rattle.isort_find.proofs.take.take_new.Given as goal
 
 abbrev pub invariant-bindings : goal.invariant-bindings
 invariant-bindings l = record {
-  passes : Passes l.initial.cursor l.initial.pending l.pending;
+  passes : PassesBindings l.initial.cursor l.initial.pending l.pending;
   cursor : l.cursor ≡ l.initial.cursor;
 }
 

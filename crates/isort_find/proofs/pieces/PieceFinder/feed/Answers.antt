@@ -2,7 +2,7 @@
 use Rattle.std.proofs.Common.{ℕ, ◌+◌, length, refl, sym, ap, ◌∙◌, subst}
 use Rattle.std.proofs.lemmas.List.{take_rest}
 use Rattle.isort_find.specs.Stand.{phase_in}
-use Rattle.isort_find.specs.Pieces.{PieceFinderState, TakesPiece}
+use Rattle.isort_find.specs.Pieces.{PieceFinderState, TakesFromPiece}
 use Rattle.isort_find.specs.Private.PieceSteps.{with_passed}
 use Rattle.isort_find.proofs.Fed.WholePiece.{feeds_none, feeds_top, feeds_lines, passes_piece, yet_open, yet_end}
 use Rattle.isort_find.proofs.pieces.PieceFinder.feed.Goals as goal
@@ -17,13 +17,13 @@ returns-in-End-phase c =
     let rest = ap length (take_rest c.args.piece.now taken) in
     let passed = c.pass-in-End-phase.ensures.passed ∙ ap (with_passed mid) rest in
     let whole = feeds_top known.settled known.one_settled known.ascent c.args.self.now mid c.pass-in-End-phase.new.self c.args.piece.now taken opened (yet_open c.args.self.now opened c.requires.open_yet) (sym c.if-has_ready.ensures) at c.in_ok-taken-in-Open-2.ensures.takes passed in
-    record { feeds = subst (λ (n : ℕ). TakesPiece c.args.self.now c.args.piece.now (taken + n) c.pass-in-End-phase.new.self) (sym (c.pass-in-End-phase.ensures.all ∙ rest)) whole }
+    record { feeds = subst (λ (n : ℕ). TakesFromPiece c.args.self.now c.args.piece.now (taken + n) c.pass-in-End-phase.new.self) (sym (c.pass-in-End-phase.ensures.all ∙ rest)) whole }
 
 pub returns-in-End : goal.returns-in-End
 returns-in-End c =
     let known = c.known_laws.ensures in
     let at = ap (λ (f : PieceFinderState). phase_in f.stand) (sym c.self.view_is) ∙ sym c.phase.ensures ∙ c.in-End.is in
-    record { feeds = subst (λ (n : ℕ). TakesPiece c.args.self.now c.args.piece.now n c.pass.new.self) (sym c.pass.ensures.all) (passes_piece known.settled known.one_settled known.ascent c.args.self.now c.pass.new.self c.args.piece.now at (yet_end c.args.self.now at c.requires.open_yet) c.pass.ensures.passed) }
+    record { feeds = subst (λ (n : ℕ). TakesFromPiece c.args.self.now c.args.piece.now n c.pass.new.self) (sym c.pass.ensures.all) (passes_piece known.settled known.one_settled known.ascent c.args.self.now c.pass.new.self c.args.piece.now at (yet_end c.args.self.now at c.requires.open_yet) c.pass.ensures.passed) }
 
 pub returns-in_default : goal.returns-in_default
 returns-in_default c =

@@ -4,8 +4,8 @@ use Rattle.py_imports.specs.declared.binding.Binding.{Binding}
 use Rattle.isort_find.specs.Stand.{phase_in}
 use Rattle.isort_find.specs.Pieces.{PieceFinderState}
 use Rattle.isort_find.specs.Private.PieceSteps.{TakesReady}
-use Rattle.isort_find.proofs.Fed.NoneReady.{gives_none_at_top, gives_none}
-use Rattle.isort_find.proofs.Fed.Ready.{gives_binding, gives_error}
+use Rattle.isort_find.proofs.Fed.NoneReady.{gives_none_at_top, answers_none}
+use Rattle.isort_find.proofs.Fed.Ready.{gives_binding, answers_error}
 use Rattle.isort_find.proofs.pieces.PieceFinder.next_ready.Goals as goal
 
 pub returns-in-Ok-Some : goal.returns-in-Ok-Some
@@ -18,7 +18,7 @@ returns-in-Ok-Some c =
 pub returns-in-Err : goal.returns-in-Err
 returns-in-Err c =
     let opened = ap (λ (f : PieceFinderState). phase_in f.stand) (sym c.self.view_is) ∙ sym c.phase.ensures ∙ c.in-Open.is in
-    record { next = gives_error c.known_laws.ensures.settled c.args.self.now c.take_ready.new.self c.in-Err.error opened c.in-Err.ensures }
+    record { next = answers_error c.known_laws.ensures.settled c.args.self.now c.take_ready.new.self c.in-Err.error opened c.in-Err.ensures }
 
 pub returns-in-End : goal.returns-in-End
 returns-in-End c =
@@ -31,4 +31,4 @@ returns-in-Ok-None c =
     let known = c.known_laws.ensures in
     let opened = ap (λ (f : PieceFinderState). phase_in f.stand) (sym c.self.view_is) ∙ sym c.phase.ensures ∙ c.in-Open.is in
     let takes = subst (λ (x : Option Binding). TakesReady c.args.self.now (Ok x) c.take_ready.new.self) c.in-Ok-None.field-0-is c.in-Ok-None.ensures in
-    record { next = gives_none known.settled known.one_settled known.ascent c.args.self.now c.take_ready.new.self c.rest-in-Ok-None.new.self opened takes c.rest-in-Ok-None.ensures }
+    record { next = answers_none known.settled known.one_settled known.ascent c.args.self.now c.take_ready.new.self c.rest-in-Ok-None.new.self opened takes c.rest-in-Ok-None.ensures }

@@ -6,46 +6,40 @@ use Rattle.py_lines.specs.declared.fault.LexError.{LexError}
 use Rattle.isort_find.specs.Pieces.{PieceFinderState, piece_finder_state, MeetsFaultIn}
 use Rattle.isort_find.specs.Private.PieceSteps.{LetsLineGo, IsNextStart, TakesNothing, TakesBytesOf, TriesReady}
 use Rattle.isort_find.specs.declared.error.FindError.{FindError}
-use Rattle.isort_find.proofs.Fed.LetGo.{begun_is, begins}
-use Rattle.isort_find.proofs.Fed.OneLine.{takes_line, tries_bad, meets_fault, failed_is, takes_nothing}
+use Rattle.isort_find.proofs.Fed.LetGo.{has_let_go}
+use Rattle.isort_find.proofs.Fed.OneLine.{takes_line, tries_bad, meets_fault, failed_is, takes_no_byte}
 use Rattle.isort_find.proofs.pieces.PieceFinder.take_line.Goals as goal
 
 pub returns-in_ok-try_line-in-Ok : goal.returns-in_ok-try_line-in-Ok
 returns-in_ok-try_line-in-Ok c =
     let old = c.args.self.now in
-    let go = subst (LetsLineGo old) (sym c.self.view_is) c.let_go.ensures in
-    let is = begun_is old _ c.requires.is_open c.requires.none_ready go in
+    let gone = has_let_go old _ c.requires.is_open c.requires.none_ready c.requires.open_yet (subst (LetsLineGo old) (sym c.self.view_is) c.let_go.ensures) in
     let known = c.known_laws.ensures in
-    let tries = subst (λ (g : PieceFinderState). TriesReady (record g { scanning = c.feed.new.self }) c.try_line.result c.try_line.new.self) is c.try_line.ensures in
-    takes_line known.settled known.one_settled known.ascent old c.self.inside.scanner (begins old _ c.requires.is_open c.requires.none_ready c.requires.open_yet go) c.feed.new.self c.args.piece.now c.in-Ok.taken c.in-Ok.ensures.feeds c.try_line.new.self c.try_line.result c.in_ok-try_line-in-Ok.was tries
+    let tries = subst (λ (g : PieceFinderState). TriesReady (record g { scanning = c.feed.new.self }) c.try_line.result c.try_line.new.self) gone.is c.try_line.ensures in
+    takes_line known.settled known.one_settled known.ascent old c.self.inside.scanner gone.begins c.feed.new.self c.args.piece.now c.in-Ok.taken c.in-Ok.ensures.feeds c.try_line.new.self c.try_line.result c.in_ok-try_line-in-Ok.was tries
 
 pub returns-in_err-try_line-in-Ok : goal.returns-in_err-try_line-in-Ok
 returns-in_err-try_line-in-Ok c =
     let old = c.args.self.now in
-    let go = subst (LetsLineGo old) (sym c.self.view_is) c.let_go.ensures in
-    let is = begun_is old _ c.requires.is_open c.requires.none_ready go in
-    let tries = subst (λ (g : PieceFinderState). TriesReady (record g { scanning = c.feed.new.self }) c.try_line.result c.try_line.new.self) is c.try_line.ensures in
+    let gone = has_let_go old _ c.requires.is_open c.requires.none_ready c.requires.open_yet (subst (LetsLineGo old) (sym c.self.view_is) c.let_go.ensures) in
+    let tries = subst (λ (g : PieceFinderState). TriesReady (record g { scanning = c.feed.new.self }) c.try_line.result c.try_line.new.self) gone.is c.try_line.ensures in
     let p = err_from_is_err_and c.from_residual.result c.from_residual.ensures.1 in
-    tries_bad c.known_laws.ensures.settled old c.self.inside.scanner (begins old _ c.requires.is_open c.requires.none_ready c.requires.open_yet go) c.feed.new.self c.args.piece.now c.in-Ok.taken c.in-Ok.ensures.feeds c.try_line.new.self c.try_line.result c.in_err-try_line-in-Ok.field-0.0 c.from_residual.result c.in_err-try_line-in-Ok.was (p.1 ∙ ap Err p.2) tries
+    tries_bad c.known_laws.ensures.settled old c.self.inside.scanner gone.begins c.feed.new.self c.args.piece.now c.in-Ok.taken c.in-Ok.ensures.feeds c.try_line.new.self c.try_line.result c.in_err-try_line-in-Ok.field-0.0 c.from_residual.result c.in_err-try_line-in-Ok.was (p.1 ∙ ap Err p.2) tries
 
 pub returns-in-Err-Fault : goal.returns-in-Err-Fault
 returns-in-Err-Fault c =
     let old = c.args.self.now in
-    let go = subst (LetsLineGo old) (sym c.self.view_is) c.let_go.ensures in
-    let is = begun_is old _ c.requires.is_open c.requires.none_ready go in
-    let b = begins old _ c.requires.is_open c.requires.none_ready c.requires.open_yet go in
+    let gone = has_let_go old _ c.requires.is_open c.requires.none_ready c.requires.open_yet (subst (LetsLineGo old) (sym c.self.view_is) c.let_go.ensures) in
     let here = subst (λ (g : PieceFinderState). IsNextStart g.scanning c.start-start.result) (sym c.self.view_is) c.start-start.ensures in
     let meets = subst (λ (e : LexError). Feeds c.self.inside.scanner c.args.piece.now (Err e) c.feed.new.self) c.in-Err-Fault.field-0-is c.in-Err-Fault.ensures.feeds in
-    let met = meets_fault c.known_laws.ensures.settled c.known_laws.ensures.each_lexed old c.self.inside.scanner b c.feed.new.self c.args.piece.now c.in-Err-Fault.fault c.start-start.result here meets in
-    let same = failed_is old c.self.inside.walker c.fail.new.self c.self.inside.scanner c.feed.new.self c.start-start.result c.in-Err-Fault.fault is c.fail.ensures.kept in
+    let met = meets_fault c.known_laws.ensures.settled c.known_laws.ensures.each_lexed old c.self.inside.scanner gone.begins c.feed.new.self c.args.piece.now c.in-Err-Fault.fault c.start-start.result here meets in
+    let same = failed_is old c.self.inside.walker c.fail.new.self c.self.inside.scanner c.feed.new.self c.start-start.result c.in-Err-Fault.fault gone.is c.fail.ensures.kept in
     subst (λ (e : FindError). TakesBytesOf old c.args.piece.now (Err e) (piece_finder_state c.feed.new.self c.fail.new.self.stand c.fail.new.self.cursor)) (sym c.fail.ensures.answer) (subst (MeetsFaultIn old c.args.piece.now c.in-Err-Fault.fault) (sym same) met)
 
 pub returns-in-Err-Memory : goal.returns-in-Err-Memory
 returns-in-Err-Memory c =
     let old = c.args.self.now in
-    let go = subst (LetsLineGo old) (sym c.self.view_is) c.let_go.ensures in
-    let is = begun_is old _ c.requires.is_open c.requires.none_ready go in
-    let b = begins old _ c.requires.is_open c.requires.none_ready c.requires.open_yet go in
+    let gone = has_let_go old _ c.requires.is_open c.requires.none_ready c.requires.open_yet (subst (LetsLineGo old) (sym c.self.view_is) c.let_go.ensures) in
     let short = subst (λ (e : LexError). Feeds c.self.inside.scanner c.args.piece.now (Err e) c.feed.new.self) c.in-Err-Memory.field-0-is c.in-Err-Memory.ensures.feeds in
     let w = c.self.inside.walker in
-    subst (TakesNothing old) (sym (ap (λ (s : ScannerState). piece_finder_state s w.stand w.cursor) short.same ∙ is)) (takes_nothing old c.self.inside.scanner b)
+    subst (TakesNothing old) (sym (ap (λ (s : ScannerState). piece_finder_state s w.stand w.cursor) short.same ∙ gone.is)) (takes_no_byte old c.self.inside.scanner gone.begins)
