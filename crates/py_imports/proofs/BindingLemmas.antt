@@ -55,7 +55,7 @@ from_significant tokens i t within code = ap significant (from_token tokens i t 
 
 -- the place of a token that is no comment
 abbrev place_at : LogicalLine → List Token → ℕ → Token → Place
-place_at line before i t = record { before = before; token = get_or line.tokens i t; behind = significant (drop (i + 1) line.tokens) }
+place_at line before i t = record { before = before; token = get_or line.tokens i t; after = significant (drop (i + 1) line.tokens) }
 
 is_place_at : (line : LogicalLine) (before : List Token) (i : ℕ) (t : Token) → i < length line.tokens → IsPlaceAt line.tokens i (place_at line before i t)
 is_place_at line before i t within = (slice_get-get_or line.tokens i t within, refl)
@@ -127,9 +127,9 @@ passes_start line i depth old new t s within code bound =
       binds = subst (BindEach line (s.done ++ p ∷ [])) (sym more.adds) (BindEach-snoc line s.done p (map bound_of old) more.bounds s.binds more.binds);
     }
 
-refused_by : (line : LogicalLine) (p : Place) (done behind : List Place) (bounds : List Bound) (e : ImportError) → starts (significant line.tokens) ≡ done ++ p ∷ behind → BindEach line done bounds → RefusesAt line p e → Refuses line e
-refused_by line p done behind bounds error.Memory split good r = tt
-refused_by line p done behind bounds (error.Fault f) split good r = record { before = done; start = p; behind = behind; bounds = bounds; split = split; good = good; bad = r.0; place = r.1 }
+refused_by : (line : LogicalLine) (p : Place) (done later : List Place) (bounds : List Bound) (e : ImportError) → starts (significant line.tokens) ≡ done ++ p ∷ later → BindEach line done bounds → RefusesAt line p e → Refuses line e
+refused_by line p done later bounds error.Memory split good r = tt
+refused_by line p done later bounds (error.Fault f) split good r = record { before = done; start = p; after = later; bounds = bounds; split = split; good = good; bad = r.0; place = r.1 }
 
 -- a statement starts at a token, and was refused
 pub refuses_start : (line : LogicalLine) (i depth : ℕ) (old : List Binding) (t : Token) (e : ImportError) → BindsSoFar line i depth true old → i < length line.tokens → is_comment (get_or line.tokens i t).kind ≡ false → ((p : Place) → IsPlaceAt line.tokens i p → RefusesAt line p e) → Refuses line e

@@ -167,16 +167,16 @@ start_binds_or_bad line p = start_by line p (begins_import (terminals_at line p)
 record FirstBad (line : LogicalLine) (ps : List Place) : Type 0 where
   pub before : List Place
   pub start : Place
-  pub behind : List Place
+  pub after : List Place
   pub bounds : List Bound
-  pub split : ps ≡ before ++ start ∷ behind
+  pub split : ps ≡ before ++ start ∷ after
   pub good : BindEach line before bounds
   pub bad : IsBadStart line start
 
 each_by : (line : LogicalLine) (p : Place) (ps : List Place) → ((bounds : List Bound) × BindsAt line p bounds) ⊎ IsBadStart line p → ((bounds : List Bound) × BindEach line ps bounds) ⊎ FirstBad line ps → ((bounds : List Bound) × BindEach line (p ∷ ps) bounds) ⊎ FirstBad line (p ∷ ps)
-each_by line p ps (inr bad) known = inr (record { before = []; start = p; behind = ps; bounds = []; split = refl; good = refl; bad = bad })
+each_by line p ps (inr bad) known = inr (record { before = []; start = p; after = ps; bounds = []; split = refl; good = refl; bad = bad })
 each_by line p ps (inl (first, b)) (inl (others, each)) = inl (first ++ others, (first, others, refl, b, each))
-each_by line p ps (inl (first, b)) (inr f) = inr (record { before = p ∷ f.before; start = f.start; behind = f.behind; bounds = first ++ f.bounds; split = ap (λ x. p ∷ x) f.split; good = (first, f.bounds, refl, b, f.good); bad = f.bad })
+each_by line p ps (inl (first, b)) (inr f) = inr (record { before = p ∷ f.before; start = f.start; after = f.after; bounds = first ++ f.bounds; split = ap (λ x. p ∷ x) f.split; good = (first, f.bounds, refl, b, f.good); bad = f.bad })
 
 -- the statements that start at these places all bind a list, or there is a first one that is bad
 each_or_first_bad : (line : LogicalLine) (ps : List Place) → ((bounds : List Bound) × BindEach line ps bounds) ⊎ FirstBad line ps
@@ -185,7 +185,7 @@ each_or_first_bad line (p ∷ ps) = each_by line p ps (start_binds_or_bad line p
 
 line_by : (line : LogicalLine) → ((bounds : List Bound) × BindEach line (starts (significant line.tokens)) bounds) ⊎ FirstBad line (starts (significant line.tokens)) → BindsOrIsBad line
 line_by line (inl b) = inl b
-line_by line (inr f) = inr (record { kind = BadImport; offset = line.offset + f.start.token.start; line = f.start.token.line }, record { before = f.before; start = f.start; behind = f.behind; bounds = f.bounds; split = f.split; good = f.good; bad = f.bad; place = refl })
+line_by line (inr f) = inr (record { kind = BadImport; offset = line.offset + f.start.token.start; line = f.start.token.line }, record { before = f.before; start = f.start; after = f.after; bounds = f.bounds; split = f.split; good = f.good; bad = f.bad; place = refl })
 
 -- a logical line binds a list, or has a fault: its first bad statement
 pub some_list_or_fault : (line : LogicalLine) → BindsOrIsBad line

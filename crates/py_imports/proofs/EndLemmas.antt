@@ -18,7 +18,7 @@ before_end before (t ∷ ts) =
     ap (map (λ q. q.token)) (take_while-cons (λ q. not (is_end q)) here others) ∙ by_end (before_end (before ++ t ∷ []) ts ∙ ap (λ d. up_to_semicolon d ts) (depth_behind-snoc 0 before t)) (is_end here) refl
   where
     here : Place
-    here = record { before = before; token = t; behind = ts }
+    here = record { before = before; token = t; after = ts }
 
     others : List Place
     others = places_from (before ++ t ∷ []) ts
@@ -27,8 +27,8 @@ before_end before (t ∷ ts) =
     by_end rest true e = rw e refl
     by_end rest false e = rw e (ap (λ l. t ∷ l) rest)
 
-pub statement_is : (p : Place) → statement_at p ≡ up_to_semicolon 0 (p.token ∷ p.behind)
-statement_is p = before_end [] (p.token ∷ p.behind)
+pub statement_is : (p : Place) → statement_at p ≡ up_to_semicolon 0 (p.token ∷ p.after)
+statement_is p = before_end [] (p.token ∷ p.after)
 
 comment_depth : (depth : ℕ) (k : TokKind) → is_comment k ≡ true → depth_past depth k ≡ depth
 comment_depth depth kind.Remark e = refl

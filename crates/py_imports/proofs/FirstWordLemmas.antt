@@ -71,7 +71,7 @@ none_from line before [] e = refl
 none_from line before (t ∷ ts) e = by_start (none_from line (before ++ t ∷ []) ts (second_fails (is_first_word line.text t) (list_any (is_first_word line.text) ts) e)) (may_start_after before) refl
   where
     here : Place
-    here = record { before = before; token = t; behind = ts }
+    here = record { before = before; token = t; after = ts }
 
     begins_none : (us : List Terminal) → begins_import (terminal_in line.text t ∷ us) ≡ false
     begins_none us = begins_by_first (terminal_in line.text t) us [] ∙ first_fails (is_first_word line.text t) (list_any (is_first_word line.text) ts) e

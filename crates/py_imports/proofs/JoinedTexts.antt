@@ -3,7 +3,7 @@ use Rattle.std.proofs.Common.{◌≡◌, ℕ, Bool, true, false, not, ◌||◌, 
 use Rattle.std.specs.Prelude.{nat_eq}
 use Rattle.std.specs.List.{list_any, starts_with}
 use Rattle.std.proofs.lemmas.Bool.{and_parts, or_parts, or_cases, both_ways}
-use Rattle.py_imports.specs.Action.{action_word, begins_with_word_byte, begins_with_phrase, begins_with_action, tails, says}
+use Rattle.py_imports.specs.Action.{action_word, begins_with_word_byte, begins_with_phrase, begins_with_action, says}
 use Rattle.py_imports.specs.declared.action.Action.{Action}
 use Rattle.py_imports.specs.declared.action.Action.TheVariants as action
 

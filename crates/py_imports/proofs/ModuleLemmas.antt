@@ -123,8 +123,8 @@ module_first : (ts : List Terminal) (r : Read) → option_and_then (λ x. import
 module_first ts r e =
     let inner = option_and_then-some (λ x. import_after x.spelled x.rest) (at_module ts) r e in
     let off = at_module-sound ts inner.0 inner.1 in
-    let behind = import_after-some inner.0.spelled inner.0.rest r inner.2 in
-    (off.path, off.split ∙ ap (λ x. off.path ++ x) behind.0, off.is, sym behind.1 ∙ off.spelled)
+    let later = import_after-some inner.0.spelled inner.0.rest r inner.2 in
+    (off.path, off.split ∙ ap (λ x. off.path ++ x) later.0, off.is, sym later.1 ∙ off.spelled)
 
 module_behind : (ts : List Terminal) (r : Read) → option_and_then (λ x. import_after x.spelled x.rest) (at_module ts) ≡ Some r → ReadsFrom ts r
 module_behind ts r e = let m = module_first ts r e in with_module ts [] m.0 r m.1 no_dot m.2 m.3

@@ -41,32 +41,32 @@ good_or_bad line p bounds (nothing l q bs e f) b = begins_or_not line p b.begins
 good_or_bad line p bounds (imports l q bs is e i f) b = b.bad is i
 
 -- so none of the statements is bad where each binds a list
-all_good : (line : LogicalLine) (before : List Place) (start : Place) (behind : List Place) (bounds : List Bound) → BindEach line (before ++ start ∷ behind) bounds → IsBadStart line start → ⊥
-all_good line [] start behind bounds (first, rest, e, b, each) bad = good_or_bad line start first b bad
-all_good line (p ∷ before) start behind bounds (first, rest, e, b, each) bad = all_good line before start behind rest each bad
+all_good : (line : LogicalLine) (before : List Place) (start : Place) (later : List Place) (bounds : List Bound) → BindEach line (before ++ start ∷ later) bounds → IsBadStart line start → ⊥
+all_good line [] start later bounds (first, rest, e, b, each) bad = good_or_bad line start first b bad
+all_good line (p ∷ before) start later bounds (first, rest, e, b, each) bad = all_good line before start later rest each bad
 
 -- a logical line that binds a list has no fault: the statement at the fault would bind a list and be bad
 pub not_both : (line : LogicalLine) (bounds : List Bound) (fault : Fault) → Binds line bounds → ¬ (IsBadAt line fault)
-not_both line bounds fault b f = all_good line f.before f.start f.behind bounds (subst (λ ps. BindEach line ps bounds) f.split b) f.bad
+not_both line bounds fault b f = all_good line f.before f.start f.after bounds (subst (λ ps. BindEach line ps bounds) f.split b) f.bad
 
 -- two places, each the first bad one of the same list, are the same: the other one would stand among those that bind
-one_first : (line : LogicalLine) (before others : List Place) (start other : Place) (behind after : List Place) (bounds more : List Bound) → before ++ start ∷ behind ≡ others ++ other ∷ after → BindEach line before bounds → IsBadStart line start → BindEach line others more → IsBadStart line other → start ≡ other
-one_first line [] [] start other behind after bounds more e good bad fine worse = let f : start ∷ behind ≡ other ∷ after = e in cc
-one_first line [] (q ∷ others) start other behind after bounds more e good bad (first, rest, g, b, each) worse =
-    let f : start ∷ behind ≡ q ∷ others ++ other ∷ after = e in
+one_first : (line : LogicalLine) (before others : List Place) (start other : Place) (later after : List Place) (bounds more : List Bound) → before ++ start ∷ later ≡ others ++ other ∷ after → BindEach line before bounds → IsBadStart line start → BindEach line others more → IsBadStart line other → start ≡ other
+one_first line [] [] start other later after bounds more e good bad fine worse = let f : start ∷ later ≡ other ∷ after = e in cc
+one_first line [] (q ∷ others) start other later after bounds more e good bad (first, rest, g, b, each) worse =
+    let f : start ∷ later ≡ q ∷ others ++ other ∷ after = e in
     let h : start ≡ q = cc in
     absurd (good_or_bad line q first b (subst (IsBadStart line) h bad))
-one_first line (p ∷ before) [] start other behind after bounds more e (first, rest, g, b, each) bad fine worse =
-    let f : p ∷ before ++ start ∷ behind ≡ other ∷ after = e in
+one_first line (p ∷ before) [] start other later after bounds more e (first, rest, g, b, each) bad fine worse =
+    let f : p ∷ before ++ start ∷ later ≡ other ∷ after = e in
     let h : other ≡ p = cc in
     absurd (good_or_bad line p first b (subst (IsBadStart line) h worse))
-one_first line (p ∷ before) (q ∷ others) start other behind after bounds more e (first, rest, g, b, each) bad (head, tail, k, c, fine) worse =
-    let f : p ∷ before ++ start ∷ behind ≡ q ∷ others ++ other ∷ after = e in
-    let h : before ++ start ∷ behind ≡ others ++ other ∷ after = cc in
-    one_first line before others start other behind after rest tail h each bad fine worse
+one_first line (p ∷ before) (q ∷ others) start other later after bounds more e (first, rest, g, b, each) bad (head, tail, k, c, fine) worse =
+    let f : p ∷ before ++ start ∷ later ≡ q ∷ others ++ other ∷ after = e in
+    let h : before ++ start ∷ later ≡ others ++ other ∷ after = cc in
+    one_first line before others start other later after rest tail h each bad fine worse
 
 -- a logical line has one fault: its first bad statement is one
 pub one_fault : (line : LogicalLine) (fault other : Fault) → IsBadAt line fault → IsBadAt line other → fault ≡ other
 one_fault line fault other f g =
-    let same = one_first line f.before g.before f.start g.start f.behind g.behind f.bounds g.bounds (sym f.split ∙ g.split) f.good f.bad g.good g.bad in
+    let same = one_first line f.before g.before f.start g.start f.after g.after f.bounds g.bounds (sym f.split ∙ g.split) f.good f.bad g.good g.bad in
     f.place ∙ ap (λ p. record { kind = BadImport; offset = line.offset + p.token.start; line = p.token.line }) same ∙ sym g.place

@@ -1,5 +1,5 @@
 -- A logical line without `;` and `:` is one statement.
-use Rattle.std.proofs.Common.{◌≡◌, ℕ, ◌==◌, Bool, true, false, cond, not, ◌||◌, ◌&&◌, List, [], ◌∷◌, ◌++◌, ◌+◌, suc, take, arith, map, refl, sym, ap, ◌∙◌, subst, append-nil}
+use Rattle.std.proofs.Common.{◌≡◌, ℕ, ◌==◌, Bool, true, false, cond, not, ◌&&◌, List, [], ◌∷◌, ◌++◌, ◌+◌, suc, take, arith, map, refl, sym, ap, ◌∙◌, subst, append-nil}
 use Rattle.std.specs.Prelude.{filter, nat_lt, take_while}
 use Rattle.std.specs.List.{list_any, prefix_len}
 use Rattle.std.proofs.lemmas.Bool.{or_parts}
@@ -23,13 +23,13 @@ no_more : (b : Token) (bs ts : List Token) → list_any (λ u. is_divider u.kind
 no_more b bs [] h k = refl
 no_more b bs (t ∷ ts) h k =
     let parts = or_parts (is_divider t.kind) (list_any (λ u. is_divider u.kind) ts) k in
-    ap (λ (x : Bool). cond x (record { before = b ∷ bs; token = t; behind = ts } ∷ filter (λ p. may_start_after p.before) (places_from (b ∷ bs ++ t ∷ []) ts)) (filter (λ p. may_start_after p.before) (places_from (b ∷ bs ++ t ∷ []) ts))) (no_divider_last 0 b bs h)
+    ap (λ (x : Bool). cond x (record { before = b ∷ bs; token = t; after = ts } ∷ filter (λ p. may_start_after p.before) (places_from (b ∷ bs ++ t ∷ []) ts)) (filter (λ p. may_start_after p.before) (places_from (b ∷ bs ++ t ∷ []) ts))) (no_divider_last 0 b bs h)
     ∙ no_more b (bs ++ t ∷ []) ts (any_push t (b ∷ bs) h parts.0) parts.1
 
-one_start : (t : Token) (ts : List Token) → list_any (λ u. is_divider u.kind) (t ∷ ts) ≡ false → starts (t ∷ ts) ≡ record { before = []; token = t; behind = ts } ∷ []
+one_start : (t : Token) (ts : List Token) → list_any (λ u. is_divider u.kind) (t ∷ ts) ≡ false → starts (t ∷ ts) ≡ record { before = []; token = t; after = ts } ∷ []
 one_start t ts h =
     let parts = or_parts (is_divider t.kind) (list_any (λ u. is_divider u.kind) ts) h in
-    ap (λ ps. record { before = []; token = t; behind = ts } ∷ ps) (no_more t [] ts (rw parts.0) parts.1)
+    ap (λ ps. record { before = []; token = t; after = ts } ∷ ps) (no_more t [] ts (rw parts.0) parts.1)
 
 tokens_again : (b ts : List Token) → map (λ p. p.token) (places_from b ts) ≡ ts
 tokens_again b [] = refl
@@ -48,13 +48,13 @@ all_taken (p ∷ ps) h =
     let e : 1 + prefix_len (λ q. not (is_end q)) ps ≡ suc (prefix_len (λ q. not (is_end q)) ps) = omega arith in
     ap (λ (b : Bool). take (cond (not b) (1 + prefix_len (λ q. not (is_end q)) ps) 0) (p ∷ ps)) parts.0 ∙ ap (λ (n : ℕ). take n (p ∷ ps)) e ∙ ap (λ l. p ∷ l) (all_taken ps parts.1)
 
-whole_statement : (t : Token) (ts : List Token) → list_any (λ u. is_divider u.kind) (t ∷ ts) ≡ false → statement_at (record { before = []; token = t; behind = ts }) ≡ t ∷ ts
+whole_statement : (t : Token) (ts : List Token) → list_any (λ u. is_divider u.kind) (t ∷ ts) ≡ false → statement_at (record { before = []; token = t; after = ts }) ≡ t ∷ ts
 whole_statement t ts h = ap (map (λ p. p.token)) (all_taken (places_from [] (t ∷ ts)) (no_end_in [] (t ∷ ts) h)) ∙ tokens_again [] (t ∷ ts)
 
 -- what the one statement of a line imports, the line binds
 pub binds_its_imports : (line : LogicalLine) (t : Token) (ts : List Token) (is : List Imported) → significant line.tokens ≡ t ∷ ts → list_any (λ u. is_divider u.kind) (t ∷ ts) ≡ false → begins_import (terminals_of line) ≡ true → IsImport (terminals_of line) is → Binds line (map (bound_at t.line (nat_lt 0 line.indent)) is)
 binds_its_imports line t ts is tokens dividers begins imported =
-    let p : Place = record { before = []; token = t; behind = ts } in
+    let p : Place = record { before = []; token = t; after = ts } in
     let same : terminals_of line ≡ terminals_at line p = ap (map (terminal_in line.text)) (tokens ∙ sym (whole_statement t ts dividers)) in
     let at : BindsAt line p (bounds_at line p is) = imports line p (bounds_at line p is) is (sym (ap begins_import same) ∙ begins) (subst (λ (x : List Terminal). IsImport x is) same imported) refl in
     subst (λ (ps : List Place). BindEach line ps (bounds_at line p is)) (sym (ap starts tokens ∙ one_start t ts dividers))

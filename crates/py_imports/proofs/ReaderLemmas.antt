@@ -177,24 +177,24 @@ star_by m ts rest (Some i) after e all =
     subst (λ j. StartWith (ListsFrom m (AreNames ts)) j (AreLeft after)) (sym all.star) (record { puts = λ is a. first.puts is (subst (λ s. AreLeftAt s (rest_of after.tokens) is) all.ended a); takes = λ is a. let t = first.takes is a in (t.0, t.1, subst (λ s. AreLeftAt s (rest_of after.tokens) t.0) (sym all.ended) t.2) })
 
 -- what the names after `from .. import` import, the statement does
-pub same_from : (before behind : List Terminal) (w : List ℕ) → at_relative false before ≡ Some (record { spelled = w; rest = behind }) → AreSameLists (IsImport (from_word ∷ before)) (ListsOf (attribute_of w) (AreNames behind))
-same_from before behind w e = record { to = goes; from = comes }
+pub same_from : (before later : List Terminal) (w : List ℕ) → at_relative false before ≡ Some (record { spelled = w; rest = later }) → AreSameLists (IsImport (from_word ∷ before)) (ListsOf (attribute_of w) (AreNames later))
+same_from before later w e = record { to = goes; from = comes }
   where
-    goes : (is : List Imported) → IsImport (from_word ∷ before) is → ListsOf (attribute_of w) (AreNames behind) is
+    goes : (is : List Imported) → IsImport (from_word ∷ before) is → ListsOf (attribute_of w) (AreNames later) is
     goes is i =
         let r = import_reads (from_word ∷ before) is i in
-        let off = at_relative-sound before (record { spelled = w; rest = behind }) e in
-        let one = one_from r.0 off.from r.1 behind r.4 off.is (sym r.3 ∙ off.split) in
+        let off = at_relative-sound before (record { spelled = w; rest = later }) e in
+        let one = one_from r.0 off.from r.1 later r.4 off.is (sym r.3 ∙ off.split) in
         (r.2, subst (λ x. AreNames x r.2) one.1 r.5, r.6 ∙ ap (λ x. map (attribute_of x) r.2) (one.0 ∙ sym off.spelled))
 
-    comes : (is : List Imported) → ListsOf (attribute_of w) (AreNames behind) is → IsImport (from_word ∷ before) is
+    comes : (is : List Imported) → ListsOf (attribute_of w) (AreNames later) is → IsImport (from_word ∷ before) is
     comes is (items, a, s) =
-        let off = at_relative-sound before (record { spelled = w; rest = behind }) e in
-        subst (IsImport (from_word ∷ before)) (sym (s ∙ ap (λ x. map (attribute_of x) items) off.spelled)) (from_statement (from_word ∷ before) off.from behind items (ap (λ x. from_word ∷ x) off.split) off.is a)
+        let off = at_relative-sound before (record { spelled = w; rest = later }) e in
+        subst (IsImport (from_word ∷ before)) (sym (s ∙ ap (λ x. map (attribute_of x) items) off.spelled)) (from_statement (from_word ∷ before) off.from later items (ap (λ x. from_word ∷ x) off.split) off.is a)
 
 -- less is left after a relative module
-pub relative_shorter : (before behind : List Terminal) (w : List ℕ) → at_relative false before ≡ Some (record { spelled = w; rest = behind }) → length behind ≤ length before
-relative_shorter before behind w e = let off = at_relative-sound before _ e in rw off.split (omega (arith, length-append off.from (import_word ∷ behind)))
+pub relative_shorter : (before later : List Terminal) (w : List ℕ) → at_relative false before ≡ Some (record { spelled = w; rest = later }) → length later ≤ length before
+relative_shorter before later w e = let off = at_relative-sound before _ e in rw off.split (omega (arith, length-append off.from (import_word ∷ later)))
 
 pub fewer_yet : (o : Option ImportItem) (n a b : ℕ) → IfSome o (λ _. n ≤ a) → a ≤ b → IfSome o (λ _. n ≤ b)
 fewer_yet None n a b h k = tt

@@ -85,8 +85,8 @@ named_next dotted (closing ∷ ts) d h = refl
 named_next dotted (other ∷ ts) d h = refl
 
 -- a module, and the word `import` after it
-pub relative_named : (dotted : Bool) (start now behind rest read : List Terminal) (w : List ℕ) → PassesDots start dotted now → dotted && begins_import_word now ≡ false → at_module now ≡ Some (record { spelled = w; rest = behind }) → behind ≡ import_word ∷ rest → start ≡ read ++ behind → at_relative false start ≡ Some (record { spelled = spelling read; rest = rest })
-relative_named dotted start now behind rest read w d h e f split =
+pub relative_named : (dotted : Bool) (start now later rest read : List Terminal) (w : List ℕ) → PassesDots start dotted now → dotted && begins_import_word now ≡ false → at_module now ≡ Some (record { spelled = w; rest = later }) → later ≡ import_word ∷ rest → start ≡ read ++ later → at_relative false start ≡ Some (record { spelled = spelling read; rest = rest })
+relative_named dotted start now later rest read w d h e f split =
     relative_is start read (spelled_before d.written (record { spelled = w; rest = rest })) (d.same ∙ ap (option_map (spelled_before d.written)) (named_next dotted now d.ended h ∙ ap (option_and_then (λ r. import_after r.spelled r.rest)) e ∙ ap (import_after w) f)) (split ∙ ap (λ x. read ++ x) f)
 
 -- no dot is next, where another lexeme is

@@ -98,7 +98,7 @@ ends_among before [] = refl
 ends_among before (t ∷ ts) = by_end (ends_among (before ++ t ∷ []) ts ∙ ap (λ d. nat_lt (length (up_to_semicolon d ts)) (length ts)) (depth_behind-snoc 0 before t)) (is_end here) refl
   where
     here : Place
-    here = record { before = before; token = t; behind = ts }
+    here = record { before = before; token = t; after = ts }
 
     by_end : list_any is_end (places_from (before ++ t ∷ []) ts) ≡ nat_lt (length (up_to_semicolon (depth_past (depth_after_tokens 0 before) t.kind) ts)) (length ts) → (b : Bool) → is_end here ≡ b → is_end here || list_any is_end (places_from (before ++ t ∷ []) ts) ≡ nat_lt (length (up_to_semicolon (depth_after_tokens 0 before) (t ∷ ts))) (length (t ∷ ts))
     by_end others true e = rw e (sym (lt-ltb 0 (length (t ∷ ts)) (omega arith)))

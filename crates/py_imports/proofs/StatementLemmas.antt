@@ -27,7 +27,7 @@ use Rattle.py_imports.proofs.ModuleLemmas.{at_relative-sound, at_relative-whole}
 -- what an import statement is, by its first word
 abbrev pub ImportsBy : List Terminal → List Imported → Type 0
 ImportsBy (import_word ∷ rest) is = (items : List Item) × AreItems modules rest items × (is ≡ map whole_module items)
-ImportsBy (from_word ∷ rest) is = (from : List Terminal) × (behind : List Terminal) × (items : List Item) × (rest ≡ from ++ import_word ∷ behind) × IsRelativeModule from × AreNames behind items × (is ≡ map (attribute_of (spelling from)) items)
+ImportsBy (from_word ∷ rest) is = (from : List Terminal) × (later : List Terminal) × (items : List Item) × (rest ≡ from ++ import_word ∷ later) × IsRelativeModule from × AreNames later items × (is ≡ map (attribute_of (spelling from)) items)
 ImportsBy _ is = ⊥
 
 pub import_reads : (ts : List Terminal) (is : List Imported) → IsImport ts is → ImportsBy ts is
@@ -35,12 +35,12 @@ import_reads ts is (import_statement rest items a) = (items, a, refl)
 import_reads ts is (from_statement t from rest items e m a) = subst (λ x. ImportsBy x (map (attribute_of (spelling from)) items)) (sym e) (from, rest, items, refl, m, a, refl)
 
 -- a relative module and the word `import` are read in one way
-pub one_from : (from other rest behind : List Terminal) → IsRelativeModule from → IsRelativeModule other → from ++ import_word ∷ rest ≡ other ++ import_word ∷ behind → (spelling from ≡ spelling other) × (rest ≡ behind)
-one_from from other rest behind m n e =
+pub one_from : (from other rest later : List Terminal) → IsRelativeModule from → IsRelativeModule other → from ++ import_word ∷ rest ≡ other ++ import_word ∷ later → (spelling from ≡ spelling other) × (rest ≡ later)
+one_from from other rest later m n e =
     let a = at_relative-whole from m rest in
-    let b = at_relative-whole other n behind in
+    let b = at_relative-whole other n later in
     let c = sym a ∙ ap (at_relative false) e ∙ b in
-    same (record { spelled = spelling from; rest = rest }) (record { spelled = spelling other; rest = behind }) c
+    same (record { spelled = spelling from; rest = rest }) (record { spelled = spelling other; rest = later }) c
   where
     same : (x y : Read) → Some x ≡ Some y → (x.spelled ≡ y.spelled) × (x.rest ≡ y.rest)
     same x y f = let g : x ≡ y = cc in (ap (λ r. r.spelled) g, ap (λ r. r.rest) g)
@@ -48,11 +48,11 @@ one_from from other rest behind m n e =
 pub import_bad : (rest : List Terminal) → ((items : List Item) → ¬ (AreItems modules rest items)) → (is : List Imported) → ¬ (IsImport (import_word ∷ rest) is)
 import_bad rest bad is i = let r = import_reads (import_word ∷ rest) is i in bad r.0 r.1
 
-pub from_bad : (before behind : List Terminal) (written : List ℕ) → at_relative false before ≡ Some (record { spelled = written; rest = behind }) → ((items : List Item) → ¬ (AreNames behind items)) → (is : List Imported) → ¬ (IsImport (from_word ∷ before) is)
-from_bad before behind written e bad is i =
+pub from_bad : (before later : List Terminal) (written : List ℕ) → at_relative false before ≡ Some (record { spelled = written; rest = later }) → ((items : List Item) → ¬ (AreNames later items)) → (is : List Imported) → ¬ (IsImport (from_word ∷ before) is)
+from_bad before later written e bad is i =
     let r = import_reads (from_word ∷ before) is i in
-    let off = at_relative-sound before (record { spelled = written; rest = behind }) e in
-    let one = one_from r.0 off.from r.1 behind r.4 off.is (sym r.3 ∙ off.split) in
+    let off = at_relative-sound before (record { spelled = written; rest = later }) e in
+    let one = one_from r.0 off.from r.1 later r.4 off.is (sym r.3 ∙ off.split) in
     bad r.2 (subst (λ x. AreNames x r.2) one.1 r.5)
 
 -- no relative module with the word `import` after it
@@ -73,18 +73,18 @@ up_to_semicolon-name t ts e d = rw (e, d) refl
 pub no_import : (line : LogicalLine) (p : Place) → ((ts : List Terminal) → begins_import (terminal_in line.text p.token ∷ ts) ≡ false) → begins_import (terminals_at line p) ≡ false
 no_import line p h = ap (λ ts. begins_import (map (terminal_in line.text) ts)) (statement_is p) ∙ by_end (is_semicolon p.token.kind && (0 == 0)) refl
   where
-    by_end : (b : Bool) → (is_semicolon p.token.kind && (0 == 0)) ≡ b → begins_import (map (terminal_in line.text) (up_to_semicolon 0 (p.token ∷ p.behind))) ≡ false
+    by_end : (b : Bool) → (is_semicolon p.token.kind && (0 == 0)) ≡ b → begins_import (map (terminal_in line.text) (up_to_semicolon 0 (p.token ∷ p.after))) ≡ false
     by_end true e = rw e refl
-    by_end false e = rw e (h (map (terminal_in line.text) (up_to_semicolon (depth_past 0 p.token.kind) p.behind)))
+    by_end false e = rw e (h (map (terminal_in line.text) (up_to_semicolon (depth_past 0 p.token.kind) p.after)))
 
 -- a token that begins no import statement binds nothing
 pub binds_none : (line : LogicalLine) (p : Place) (old : List Binding) → ((ts : List Terminal) → begins_import (terminal_in line.text p.token ∷ ts) ≡ false) → BindsMore line p old old
 binds_none line p old h = record { bounds = []; binds = nothing line p [] (no_import line p h) refl; adds = sym (append-nil (map bound_of old)) }
 
 -- the statement that starts with a word
-pub begun_at : (line : LogicalLine) (p : Place) (f : Form) (rest : List Terminal) → p.token.kind ≡ kind.Name → ((ts : List Terminal) → terminal_in line.text p.token ∷ ts ≡ with_first_word f ts) → rest ≡ map (terminal_in line.text) (up_to_semicolon 0 p.behind) → terminals_at line p ≡ with_first_word f rest
+pub begun_at : (line : LogicalLine) (p : Place) (f : Form) (rest : List Terminal) → p.token.kind ≡ kind.Name → ((ts : List Terminal) → terminal_in line.text p.token ∷ ts ≡ with_first_word f ts) → rest ≡ map (terminal_in line.text) (up_to_semicolon 0 p.after) → terminals_at line p ≡ with_first_word f rest
 begun_at line p f rest k h e =
-    ap (map (terminal_in line.text)) (statement_is p ∙ up_to_semicolon-name p.token p.behind (ap is_semicolon k) (ap (depth_past 0) k)) ∙ ap (λ x. terminal_in line.text p.token ∷ x) (sym e) ∙ h rest
+    ap (map (terminal_in line.text)) (statement_is p ∙ up_to_semicolon-name p.token p.after (ap is_semicolon k) (ap (depth_past 0) k)) ∙ ap (λ x. terminal_in line.text p.token ∷ x) (sym e) ∙ h rest
 
 begins_begun : (f : Form) (ts : List Terminal) → begins_import (with_first_word f ts) ≡ true
 begins_begun form.Import ts = refl

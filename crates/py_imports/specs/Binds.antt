@@ -49,9 +49,9 @@ Binds line bounds = BindEach line (starts (significant line.tokens)) bounds
 pub record IsBadAt (line : LogicalLine) (fault : Fault) : Type 0 where
   pub before : List Place
   pub start : Place
-  pub behind : List Place
+  pub after : List Place
   pub bounds : List Bound
-  pub split : starts (significant line.tokens) ≡ before ++ start ∷ behind
+  pub split : starts (significant line.tokens) ≡ before ++ start ∷ after
   pub good : BindEach line before bounds
   pub bad : IsBadStart line start
   pub place : fault ≡ record { kind = BadImport; offset = line.offset + start.token.start; line = start.token.line }

@@ -55,7 +55,7 @@ is_nothing (t ∷ ts) = false
 
 -- a comment is the last token, or stands directly after `(`
 abbrev pub stands_well : Place → Bool
-stands_well p = not (is_comment p.token.kind) || is_nothing p.behind || ends_with_opening p.before
+stands_well p = not (is_comment p.token.kind) || is_nothing p.after || ends_with_opening p.before
 
 -- the token is a comment of this text that says `skip`
 abbrev pub says_skip : List ℕ → Token → Bool

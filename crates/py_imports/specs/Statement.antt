@@ -44,12 +44,12 @@ may_start_after (t ∷ ts) = ends_in_divider 0 (t ∷ ts)
 pub record Place : Type 0 where
   pub before : List Token
   pub token : Token
-  pub behind : List Token
+  pub after : List Token
 
 -- the places of tokens that stand after these
 abbrev pub places_from : List Token → List Token → List Place
 places_from before [] = []
-places_from before (t ∷ ts) = record { before = before; token = t; behind = ts } ∷ places_from (before ++ t ∷ []) ts
+places_from before (t ∷ ts) = record { before = before; token = t; after = ts } ∷ places_from (before ++ t ∷ []) ts
 
 -- the places at which statements start, in order
 abbrev pub starts : List Token → List Place
@@ -61,4 +61,4 @@ is_end p = is_semicolon p.token.kind && (depth_after_tokens 0 p.before == 0)
 
 -- the tokens of the statement that starts here: those before the first `;` at depth 0, or all
 abbrev pub statement_at : Place → List Token
-statement_at p = map (λ q. q.token) (take_while (λ q. not (is_end q)) (places_from [] (p.token ∷ p.behind)))
+statement_at p = map (λ q. q.token) (take_while (λ q. not (is_end q)) (places_from [] (p.token ∷ p.after)))

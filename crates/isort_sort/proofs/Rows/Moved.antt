@@ -72,7 +72,7 @@ depth_alike d (t ∷ ts) (u ∷ us) h = depth_alike (depth_past d t.kind) ts us 
 pub record PlaceAlike (p q : Place) : Type 0 where
   pub before : AreAlike p.before q.before
   pub token : extent_of p.token ≡ extent_of q.token
-  pub behind : AreAlike p.behind q.behind
+  pub after : AreAlike p.after q.after
 
 abbrev pub PlacesAlike : List Place → List Place → Type 0
 PlacesAlike [] [] = Unit {0}
@@ -83,7 +83,7 @@ pub places_alike : (b c ts us : List Token) → AreAlike b c → AreAlike ts us 
 places_alike b c [] [] h k = tt
 places_alike b c [] (u ∷ us) h k = absurd k
 places_alike b c (t ∷ ts) [] h k = absurd k
-places_alike b c (t ∷ ts) (u ∷ us) h k = (record { before = h; token = k.0; behind = k.1 }, places_alike (b ++ t ∷ []) (c ++ u ∷ []) ts us (alike-append b c (t ∷ []) (u ∷ []) h (k.0, tt)) k.1)
+places_alike b c (t ∷ ts) (u ∷ us) h k = (record { before = h; token = k.0; after = k.1 }, places_alike (b ++ t ∷ []) (c ++ u ∷ []) ts us (alike-append b c (t ∷ []) (u ∷ []) h (k.0, tt)) k.1)
 
 starts_alike : (ps qs : List Place) → PlacesAlike ps qs → PlacesAlike (filter (λ p. may_start_after p.before) ps) (filter (λ p. may_start_after p.before) qs)
 starts_alike [] [] h = tt
@@ -138,9 +138,9 @@ till_alike (p ∷ ps) (q ∷ qs) h = by (is_end p) (is_end q) (end_alike p q h.0
 
 statement_alike : (p q : Place) → PlaceAlike p q → AreAlike (statement_at p) (statement_at q)
 statement_alike p q h =
-    let ps = places_from [] (p.token ∷ p.behind) in
-    let qs = places_from [] (q.token ∷ q.behind) in
-    subst (λ (l : List Token). AreAlike l (statement_at q)) (sym (till ps)) (subst (AreAlike (till_end ps)) (sym (till qs)) (till_alike ps qs (places_alike [] [] (p.token ∷ p.behind) (q.token ∷ q.behind) tt (h.token, h.behind))))
+    let ps = places_from [] (p.token ∷ p.after) in
+    let qs = places_from [] (q.token ∷ q.after) in
+    subst (λ (l : List Token). AreAlike l (statement_at q)) (sym (till ps)) (subst (AreAlike (till_end ps)) (sym (till qs)) (till_alike ps qs (places_alike [] [] (p.token ∷ p.after) (q.token ∷ q.after) tt (h.token, h.after))))
 
 pub terminal_alike : (text : List ℕ) (ts us : List Token) → AreAlike ts us → map (terminal_in text) ts ≡ map (terminal_in text) us
 terminal_alike text [] [] h = refl

@@ -50,7 +50,7 @@ opening_alike (t ∷ s ∷ ts) (u ∷ []) h = absurd h.1
 opening_alike (t ∷ s ∷ ts) (u ∷ v ∷ us) h = opening_alike (s ∷ ts) (v ∷ us) h.1
 
 well_alike : (p q : Place) → PlaceAlike p q → stands_well p ≡ stands_well q
-well_alike p q h = λ i. not (is_comment (kind_alike p.token q.token h.token i)) || nothing_alike p.behind q.behind h.behind i || opening_alike p.before q.before h.before i
+well_alike p q h = λ i. not (is_comment (kind_alike p.token q.token h.token i)) || nothing_alike p.after q.after h.after i || opening_alike p.before q.before h.before i
 
 first_alike : (n : ℕ) (ts us : List Token) → AreAlike ts us → begins_at n (slice_get ts 0) ≡ begins_at n (slice_get us 0)
 first_alike n [] [] h = refl

@@ -57,7 +57,7 @@ first_statement line p bounds same (imports l q bs is begins import e) = inl (is
 imported : (line : LogicalLine) (tokens : List Token) (bounds : List Bound) → significant line.tokens ≡ tokens → list_any is_end (places_from [] tokens) ≡ false → Binds line bounds → Decided ((is : List Imported) × IsImport (terminals_of line) is)
 imported line [] bounds e alone binds = inr (λ (h : (is : List Imported) × IsImport (terminals_of line) is). both_ways _ (ap (λ ts. begins_import (map (terminal_in line.text) ts)) e) (begins_import_so (terminals_of line) h.0 h.1))
 imported line (t ∷ ts) bounds e alone binds =
-    let p : Place = record { before = []; token = t; behind = ts } in
+    let p : Place = record { before = []; token = t; after = ts } in
     let b : BindEach line (starts (t ∷ ts)) bounds = subst (λ (tokens : List Token). BindEach line (starts tokens) bounds) e binds in
     let whole : statement_at p ≡ t ∷ ts = ap (map (λ q. q.token)) (all_taken (places_from [] (t ∷ ts)) alone) ∙ tokens_again [] (t ∷ ts) in
     first_statement line p b.0 (ap (map (terminal_in line.text)) (e ∙ sym whole)) b.3

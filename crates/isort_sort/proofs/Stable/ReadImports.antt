@@ -40,7 +40,7 @@ TokensNamed text ts = HaveNames (map (terminal_in text) ts)
 
 abbrev PlacesNamed : List ℕ → List Place → Type 0
 PlacesNamed text [] = Unit {0}
-PlacesNamed text (p ∷ ps) = TokensNamed text (p.token ∷ p.behind) × PlacesNamed text ps
+PlacesNamed text (p ∷ ps) = TokensNamed text (p.token ∷ p.after) × PlacesNamed text ps
 
 places_named : (text : List ℕ) (b ts : List Token) → TokensNamed text ts → PlacesNamed text (places_from b ts)
 places_named text b [] h = tt
@@ -59,10 +59,10 @@ take_named text zero ps h = tt
 take_named text (suc n) [] h = tt
 take_named text (suc n) (p ∷ ps) h = (h.0, take_named text n ps h.1)
 
-statement_named : (line : LogicalLine) (p : Place) → TokensNamed line.text (p.token ∷ p.behind) → HaveNames (terminals_at line p)
+statement_named : (line : LogicalLine) (p : Place) → TokensNamed line.text (p.token ∷ p.after) → HaveNames (terminals_at line p)
 statement_named line p h =
-    take_named line.text (prefix_len (λ q. not (is_end q)) (places_from [] (p.token ∷ p.behind))) (places_from [] (p.token ∷ p.behind))
-    (subst (TokensNamed line.text) (sym (tokens_again [] (p.token ∷ p.behind))) h)
+    take_named line.text (prefix_len (λ q. not (is_end q)) (places_from [] (p.token ∷ p.after))) (places_from [] (p.token ∷ p.after))
+    (subst (TokensNamed line.text) (sym (tokens_again [] (p.token ∷ p.after))) h)
 
 named_append : (a b : List Imported) → AreNamed a → AreNamed b → AreNamed (a ++ b)
 named_append [] b h k = k
@@ -72,7 +72,7 @@ map_append : {X Y : Type 0} (f : X → Y) (a b : List X) → map f a ++ map f b 
 map_append f [] b = refl
 map_append f (x ∷ xs) b = ap (λ l. f x ∷ l) (map_append f xs b)
 
-bound_named : ImportLaws → (line : LogicalLine) (p : Place) (bounds : List Bound) → TokensNamed line.text (p.token ∷ p.behind) → BindsAt line p bounds → AreNamed (map imported_of bounds)
+bound_named : ImportLaws → (line : LogicalLine) (p : Place) (bounds : List Bound) → TokensNamed line.text (p.token ∷ p.after) → BindsAt line p bounds → AreNamed (map imported_of bounds)
 bound_named laws line p bounds h (nothing l q bs none e) = subst (λ (b : List Bound). AreNamed (map imported_of b)) (sym e) tt
 bound_named laws line p bounds h (imports l q bs is begins import e) =
     subst AreNamed (sym (ap (map imported_of) e ∙ imported_again p.token.line (nat_lt 0 line.indent) is)) (laws.named (terminals_at line p) is import (statement_named line p h))
@@ -118,7 +118,7 @@ first_bound line p bounds begins (imports l q bs is more import e) = subst AreSo
 some_bounds : (line : LogicalLine) (tokens : List Token) (bounds : List Bound) (is : List Imported) → list_any is_end (places_from [] tokens) ≡ false → IsImport (map (terminal_in line.text) tokens) is → BindEach line (starts tokens) bounds → AreSome bounds
 some_bounds line [] bounds is alone import binds = absurd (both_ways _ refl (begins_import_so [] is import))
 some_bounds line (t ∷ ts) bounds is alone import binds =
-    let p : Place = record { before = []; token = t; behind = ts } in
+    let p : Place = record { before = []; token = t; after = ts } in
     let whole : statement_at p ≡ t ∷ ts = ap (map (λ (q : Place). q.token)) (all_taken (places_from [] (t ∷ ts)) alone) ∙ tokens_again [] (t ∷ ts) in
     let begins = ap (λ (l : List Token). begins_import (map (terminal_in line.text) l)) whole ∙ begins_import_so (map (terminal_in line.text) (t ∷ ts)) is import in
     subst AreSome (sym binds.2) (some_first binds.0 binds.1 (first_bound line p binds.0 begins binds.3))

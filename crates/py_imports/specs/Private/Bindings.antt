@@ -30,7 +30,7 @@ RefusesItems Are fault (error.Fault other) = (other ≡ fault) × ((is : List Im
 
 -- the place of a token in a list, up to what stands before it
 abbrev pub IsPlaceAt : List Token → ℕ → Place → Type 0
-IsPlaceAt tokens i p = (slice_get tokens i ≡ Some p.token) × (p.behind ≡ significant (drop (i + 1) tokens))
+IsPlaceAt tokens i p = (slice_get tokens i ≡ Some p.token) × (p.after ≡ significant (drop (i + 1) tokens))
 
 -- the fault of a bad statement that starts with this token, in a line that begins at this byte of the text
 abbrev pub fault_of : ℕ → Token → Fault

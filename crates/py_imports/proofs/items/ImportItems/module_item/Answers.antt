@@ -1,9 +1,7 @@
 -- A module with its alias is the first item of a list of modules.
-use Rattle.std.proofs.Common.{◌≡◌, Some, None, refl}
-use Rattle.std.specs.Option.{option_map}
-use Rattle.py_imports.specs.Grammar.{modules, Item, AreItems, whole_module}
+use Rattle.std.proofs.Common.{None, refl}
+use Rattle.py_imports.specs.Grammar.{modules, AreItems, whole_module}
 use Rattle.py_imports.specs.Private.Lexemes.{rest_of, lexemes_text}
-use Rattle.py_imports.specs.Private.Parsing.{at_item}
 use Rattle.py_imports.specs.declared.items.Stage.TheVariants as stage
 use Rattle.py_imports.proofs.ListLemmas.{items_none, items_bad}
 use Rattle.py_imports.proofs.ReaderLemmas.{module_none, module_then, item_first, item_fewer, no_lists}
@@ -29,15 +27,9 @@ returns-in_err-self-clause-item c =
 pub returns-clause-item : goal.returns-clause-item
 returns-clause-item c =
     let ts = rest_of c.args.self.now.tokens in
-    let rest = rest_of c.alias.new.self in
-    let item : Item = record { path = lexemes_text c.in_ok-names.names; alias = option_map (λ a. a.now) c.in_ok-alias.alias } in
-    let read : at_item modules ts ≡ Some (record { item = item; rest = rest }) = module_then ts (rest_of c.module.new.self) (lexemes_text c.in_ok-names.names) _ c.in_ok-names.ensures.path (c.in_ok-alias.ensures (lexemes_text c.in_ok-names.names)) in
-    item_first modules whole_module stage.Modules c.in_ok-self.field-0 ts rest (rest_of c.after_item.new.self.tokens) item read c.in_ok-self.ensures (λ is a. a) (λ is a. a)
+    item_first modules whole_module stage.Modules c.in_ok-self.field-0 ts (rest_of c.alias.new.self) (rest_of c.after_item.new.self.tokens) _ (module_then ts (rest_of c.module.new.self) (lexemes_text c.in_ok-names.names) _ c.in_ok-names.ensures.path (c.in_ok-alias.ensures (lexemes_text c.in_ok-names.names))) c.in_ok-self.ensures (λ is a. a) (λ is a. a)
 
 pub returns-clause-fewer : goal.returns-clause-fewer
 returns-clause-fewer c =
     let ts = rest_of c.args.self.now.tokens in
-    let rest = rest_of c.alias.new.self in
-    let item : Item = record { path = lexemes_text c.in_ok-names.names; alias = option_map (λ a. a.now) c.in_ok-alias.alias } in
-    let read : at_item modules ts ≡ Some (record { item = item; rest = rest }) = module_then ts (rest_of c.module.new.self) (lexemes_text c.in_ok-names.names) _ c.in_ok-names.ensures.path (c.in_ok-alias.ensures (lexemes_text c.in_ok-names.names)) in
-    item_fewer modules stage.Modules c.in_ok-self.field-0 ts rest (rest_of c.after_item.new.self.tokens) item read c.in_ok-self.ensures refl
+    item_fewer modules stage.Modules c.in_ok-self.field-0 ts (rest_of c.alias.new.self) (rest_of c.after_item.new.self.tokens) _ (module_then ts (rest_of c.module.new.self) (lexemes_text c.in_ok-names.names) _ c.in_ok-names.ensures.path (c.in_ok-alias.ensures (lexemes_text c.in_ok-names.names))) c.in_ok-self.ensures refl
