@@ -10,13 +10,13 @@ use Rattle.isort_sort.specs.Metered.{IsGivenUp}
 use Rattle.isort_sort.specs.declared.metered.Last.{Last}
 use Rattle.isort_sort.specs.declared.metered.Last.TheVariants as last
 use Rattle.isort_cmd.specs.RunError.{run_error_of}
-use Rattle.isort_cmd.specs.Private.Stages.{Stage, ListsAll, StopsReady, StopsInPiece, TakesWholePiece}
+use Rattle.isort_cmd.specs.Private.Stages.{ListingState, ListsAll, StopsReady, StopsInPiece, TakesWholePiece}
 use Rattle.isort_cmd.specs.Private.Steps.{IsOutputError, HasListedSettled, HasListedGiven, HoldsNone, LeavesPiece, LooksAtHeld}
 use Rattle.isort_cmd.specs.declared.error.RunError.{RunError}
 use Rattle.isort_cmd.specs.declared.error.RunError.TheVariants as run
 use Rattle.isort_cmd.proofs.ListingLemmas.{GivenBegin}
 use Rattle.isort_cmd.proofs.PieceLemmas.{FoundLaws, front_each, has_listed_kept, leaves_each, leaves_fed, looked_listed, taken_listed, to_next}
-use Rattle.isort_cmd.proofs.StageLemmas.{error_of_find, goes_at, stops_at}
+use Rattle.isort_cmd.proofs.StageLemmas.{error_of_find, goes_at, stops_ready}
 
 -- ---- the byte that is held
 
@@ -45,7 +45,7 @@ looks_at_none laws old n new open_yet takes none =
 -- ---- inside a piece
 
 -- These bytes of a piece are left. Of the others all that is ready was listed.
-pub record IsAmid (piece rest : List ℕ) (old now : Stage) : Type 0 where
+pub record IsAmid (piece rest : List ℕ) (old now : ListingState) : Type 0 where
   pub same_path : now.path ≡ old.path
   pub fine : now.last ≡ last.Fine
   pub front : List ℕ
@@ -55,7 +55,7 @@ pub record IsAmid (piece rest : List ℕ) (old now : Stage) : Type 0 where
   pub none_ready : has_ready now.finder ≡ false
   pub listed : (known : List ℕ) (options : FindOptions) (start : Option (List ℕ)) → HasListedSettled old.path known options old.finder start old.written → HasListedGiven old.path (known ++ front) options now.finder start now.written
 
-pub amid_first : (piece : List ℕ) (s : Stage) → s.last ≡ last.Fine → s.finder.scanning.ended ≡ false → has_ready s.finder ≡ false → IsAmid piece piece s s
+pub amid_first : (piece : List ℕ) (s : ListingState) → s.last ≡ last.Fine → s.finder.scanning.ended ≡ false → has_ready s.finder ≡ false → IsAmid piece piece s s
 amid_first piece s fine open_yet none = record {
   same_path = refl;
   fine = fine;
@@ -76,7 +76,7 @@ parts_of : (n : ℕ) (bytes : List ℕ) → n ≤ length bytes → take n bytes 
 parts_of n bytes within = grind (arith, common_steps)
 
 -- more bytes of the piece were taken, and what got ready was listed
-pub amid_next : FoundLaws → (piece rest : List ℕ) (old now : Stage) (n : ℕ) (mid : PieceFinderState) (new : Stage) → IsAmid piece rest old now → TakesFromPiece now.finder rest n mid → ListsAll (record now { finder = mid }) new → IsAmid piece (take (length rest - n) (drop n rest)) old new
+pub amid_next : FoundLaws → (piece rest : List ℕ) (old now : ListingState) (n : ℕ) (mid : PieceFinderState) (new : ListingState) → IsAmid piece rest old now → TakesFromPiece now.finder rest n mid → ListsAll (record now { finder = mid }) new → IsAmid piece (take (length rest - n) (drop n rest)) old new
 amid_next laws piece rest old now n mid new amid takes all =
     let goes = all.goes_on in
     let size = length-take-le n rest takes.within in
@@ -99,7 +99,7 @@ amid_next laws piece rest old now n mid new amid takes all =
     }
 
 -- feeding more of the piece failed
-pub amid_fed : FoundLaws → (piece rest : List ℕ) (old now : Stage) (e : FindError) (mid : PieceFinderState) → IsAmid piece rest old now → FeedsPiece now.finder rest (Err e) mid → StopsInPiece old piece (run_error_of e) (record now { finder = mid })
+pub amid_fed : FoundLaws → (piece rest : List ℕ) (old now : ListingState) (e : FindError) (mid : PieceFinderState) → IsAmid piece rest old now → FeedsPiece now.finder rest (Err e) mid → StopsInPiece old piece (run_error_of e) (record now { finder = mid })
 amid_fed laws piece rest old now e mid amid feeds = record {
   error = error_of_find e now.last amid.fine;
   leaves = λ known options start so_far.
@@ -108,33 +108,33 @@ amid_fed laws piece rest old now e mid amid feeds = record {
 }
 
 -- more of the piece was taken, and listing what got ready failed
-pub amid_ready : FoundLaws → (piece rest : List ℕ) (old now : Stage) (n : ℕ) (mid : PieceFinderState) (e : RunError) (new : Stage) → IsAmid piece rest old now → TakesFromPiece now.finder rest n mid → StopsReady (record now { finder = mid }) e new → StopsInPiece old piece e new
+pub amid_ready : FoundLaws → (piece rest : List ℕ) (old now : ListingState) (n : ℕ) (mid : PieceFinderState) (e : RunError) (new : ListingState) → IsAmid piece rest old now → TakesFromPiece now.finder rest n mid → StopsReady (record now { finder = mid }) e new → StopsInPiece old piece e new
 amid_ready laws piece rest old now n mid e new amid takes stops = record {
   error = stops.error;
   leaves = λ known options start so_far.
       let to = taken_listed laws old.path (known ++ amid.front) rest options now.finder n mid start now.written amid.open_yet takes (amid.listed known options start so_far) in
       let whole : ((known ++ amid.front) ++ take n rest) ++ drop n rest ≡ known ++ piece = append_assoc (known ++ amid.front) (take n rest) (drop n rest) ∙ ap (λ x. (known ++ amid.front) ++ x) (take-append-drop n rest) ∙ append_assoc known amid.front rest ∙ ap (λ x. known ++ x) amid.split in
-      subst (λ (k : List ℕ). LeavesPiece old.path k options e start new.written) whole (leaves_each laws old.path ((known ++ amid.front) ++ take n rest) (drop n rest) options mid e start new.written to.fed (takes.open_yet ∙ amid.open_yet) (λ text goes. stops_at old.path (record now { finder = mid }) new e amid.same_path stops text options start (to.listed text goes)));
+      subst (λ (k : List ℕ). LeavesPiece old.path k options e start new.written) whole (leaves_each laws old.path ((known ++ amid.front) ++ take n rest) (drop n rest) options mid e start new.written to.fed (takes.open_yet ∙ amid.open_yet) (λ text goes. stops_ready old.path (record now { finder = mid }) new e amid.same_path stops text options start (to.listed text goes)));
 }
 
 -- ---- where the piece was taken whole
 
 -- what was listed of it
-listed_whole : (piece rest : List ℕ) (old now : Stage) → (amid : IsAmid piece rest old now) → rest ≡ [] → (known : List ℕ) (options : FindOptions) (start : Option (List ℕ)) → HasListedSettled old.path known options old.finder start old.written → HasListedGiven old.path (known ++ piece) options now.finder start now.written
+listed_whole : (piece rest : List ℕ) (old now : ListingState) → (amid : IsAmid piece rest old now) → rest ≡ [] → (known : List ℕ) (options : FindOptions) (start : Option (List ℕ)) → HasListedSettled old.path known options old.finder start old.written → HasListedGiven old.path (known ++ piece) options now.finder start now.written
 listed_whole piece rest old now amid none known options start so_far = subst (λ (k : List ℕ). HasListedGiven old.path (known ++ k) options now.finder start now.written) (front_whole amid none) (amid.listed known options start so_far)
   where
     front_whole : (a : IsAmid piece rest old now) → rest ≡ [] → a.front ≡ piece
     front_whole a empty = sym (append-nil a.front) ∙ ap (λ x. a.front ++ x) (sym empty) ∙ a.split
 
 -- the byte that is held decides a fault
-pub amid_looked : (piece rest : List ℕ) (old now : Stage) (e : RunError) (mid : PieceFinderState) → IsAmid piece rest old now → rest ≡ [] → LooksAtHeld now.finder (Err e) mid → StopsInPiece old piece e (record now { finder = mid })
+pub amid_looked : (piece rest : List ℕ) (old now : ListingState) (e : RunError) (mid : PieceFinderState) → IsAmid piece rest old now → rest ≡ [] → LooksAtHeld now.finder (Err e) mid → StopsInPiece old piece e (record now { finder = mid })
 amid_looked piece rest old now e mid amid none looks = record {
   error = subst (λ (l : Last). IsOutputError e l) (sym amid.fine) looks.0;
   leaves = λ known options start so_far. looks.1 old.path (known ++ piece) options start now.written (listed_whole piece rest old now amid none known options start so_far);
 }
 
 -- all is well
-pub amid_whole : (piece rest : List ℕ) (old now : Stage) (mid : PieceFinderState) → IsAmid piece rest old now → rest ≡ [] → HoldsNone now.finder mid → TakesWholePiece old piece (record now { finder = mid })
+pub amid_whole : (piece rest : List ℕ) (old now : ListingState) (mid : PieceFinderState) → IsAmid piece rest old now → rest ≡ [] → HoldsNone now.finder mid → TakesWholePiece old piece (record now { finder = mid })
 amid_whole piece rest old now mid amid none holds =
     let whole : amid.front ≡ piece = sym (append-nil amid.front) ∙ ap (λ x. amid.front ++ x) (sym none) ∙ amid.split in
     record {
@@ -147,7 +147,7 @@ amid_whole piece rest old now mid amid none holds =
     }
 
 -- the writer was flushed
-pub flushed : (piece : List ℕ) (old now : Stage) (written : Option (List ℕ)) (l : Last) → TakesWholePiece old piece now → Keeps now.written written → l ≡ last.Fine → TakesWholePiece old piece (record now { written = written; last = l })
+pub flushed : (piece : List ℕ) (old now : ListingState) (written : Option (List ℕ)) (l : Last) → TakesWholePiece old piece now → Keeps now.written written → l ≡ last.Fine → TakesWholePiece old piece (record now { written = written; last = l })
 flushed piece old now written l takes kept fine = record {
   same_path = takes.same_path;
   fine = fine;
@@ -158,7 +158,7 @@ flushed piece old now written l takes kept fine = record {
 }
 
 -- flushing failed
-pub stops_at_flush : GivenBegin → (piece : List ℕ) (old now : Stage) (written : Option (List ℕ)) (l : Last) → TakesWholePiece old piece now → Keeps now.written written → IsGivenUp l → StopsInPiece old piece run.Write (record now { written = written; last = l })
+pub stops_at_flush : GivenBegin → (piece : List ℕ) (old now : ListingState) (written : Option (List ℕ)) (l : Last) → TakesWholePiece old piece now → Keeps now.written written → IsGivenUp l → StopsInPiece old piece run.Write (record now { written = written; last = l })
 stops_at_flush begin piece old now written l takes kept given_up = record {
   error = given_up;
   leaves = λ known options start so_far.

@@ -3,7 +3,7 @@ use Rattle.std.specs.Prelude.{◌≡◌, refl, codes, true, List, [], ◌∷◌,
 use Rattle.clap.specs.Words.{Text, all_of, fault_of, matches_of, takes}
 use Rattle.clap.specs.declared.error.kind.ErrorKind.TheVariants as kind
 use Rattle.clap.proofs.OnLiterals.{clap_on_literals}
-use Rattle.isort_cmd.specs.Choice.{is_forbidden, number_of}
+use Rattle.isort_cmd.specs.Choice.{is_forbidden, option_number}
 use Rattle.isort_cmd.specs.Options.{isort_app}
 
 abbrev identify : List Text
@@ -32,7 +32,7 @@ two_keys_are_forbidden : is_forbidden (matches_of isort_app two_keys) ≡ true
 unfolding clap_on_literals isort_app
 two_keys_are_forbidden = refl
 
-length_is_read : number_of (codes "line-length") (matches_of isort_app (codes "isort" ∷ codes "-l" ∷ codes "0" ∷ codes "a.py" ∷ [])) ≡ Some 0
+length_is_read : option_number (codes "line-length") (matches_of isort_app (codes "isort" ∷ codes "-l" ∷ codes "0" ∷ codes "a.py" ∷ [])) ≡ Some 0
 unfolding clap_on_literals isort_app
 length_is_read = refl
 

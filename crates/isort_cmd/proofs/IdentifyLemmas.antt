@@ -14,22 +14,20 @@ use Rattle.isort_find.specs.Stand.{phase_in}
 use Rattle.isort_find.specs.declared.walker.Stand.{Stand}
 use Rattle.isort_find.specs.declared.walker.Stand.TheVariants as stand
 use Rattle.isort_find.specs.declared.walker.Phase.TheVariants as phase
-use Rattle.isort_cmd.specs.Printed.{printed}
 use Rattle.isort_sort.specs.declared.metered.Last.{Last}
 use Rattle.isort_sort.specs.declared.metered.Last.TheVariants as last
 use Rattle.isort_cmd.specs.RunError.{EndsReading, EndsWriting, IsUnread, LeavesReader}
-use Rattle.isort_cmd.specs.Private.Stages.{Stage, StopsInput, TakesInput, ListsEnd}
+use Rattle.isort_cmd.specs.Private.Stages.{ListingState, StopsInput, TakesInput, ListsEnd}
 use Rattle.isort_cmd.specs.Private.Steps.{IsOutputError, HasListedSettled, LeavesKnown, LeavesFed}
 use Rattle.isort_cmd.specs.Written.{AreFed, ListsFound, ListsPrefix, ListsSettled, ListsInput, ListsUnread, ListsFaulty, LeavesAtError, LeavesInput}
 use Rattle.isort_cmd.specs.declared.error.RunError.{RunError}
 use Rattle.isort_cmd.specs.declared.error.RunError.TheVariants as run
-use Rattle.isort_cmd.proofs.ListingLemmas.{SomeFound, lists_nothing}
-use Rattle.isort_cmd.proofs.PrintedLemmas.{printed-append}
+use Rattle.isort_cmd.proofs.ListingLemmas.{SomeFound, lists_nothing, prefix_of_found}
 use Rattle.isort_cmd.proofs.ReadLemmas.{fed_whole, no_output_is_too_long, read_well, stopped_writer}
 
 -- the laws `some`, `bad` and `bindings` of `isort_find::laws::settled_found_is_final`
-abbrev pub SomeSettled : Type 0
-SomeSettled = (text : List ℕ) (options : FindOptions) → (bounds : List Bound) × (bad : Option Fault) × IsFoundSettled text options bounds bad
+abbrev pub SomeFoundSettled : Type 0
+SomeFoundSettled = (text : List ℕ) (options : FindOptions) → (bounds : List Bound) × (bad : Option Fault) × IsFoundSettled text options bounds bad
 
 abbrev pub BadDecided : Type 0
 BadDecided = (text : List ℕ) (options : FindOptions) (bounds : List Bound) (fault : Fault) → IsFoundSettled text options bounds (Some fault) → DecidesFound text options fault
@@ -41,8 +39,8 @@ open_is_no_fault : (s : Stand) (fault : Fault) → phase_in s ≡ phase.Open →
 open_is_no_fault s fault is other = let both : phase_in s ≡ phase.Fault fault = ap phase_in other in cc
 
 -- a finder that was fed nothing
-pub fresh : (path : List ℕ) (finder : PieceFinderState) (start : Option (List ℕ)) → fed_by finder ≡ 0 → has_ready finder ≡ false → finder.scanning.ended ≡ false → phase_in finder.stand ≡ phase.Open → ((text : List ℕ) → HasFoundIn finder text []) → ((text : List ℕ) → AreAllSettled finder text []) → ((text : List ℕ) → IsUndecided finder text) → HasListedSettled path [] (options_for finder) finder start start
-fresh path finder start fed none_ready open_yet is_open found all undecided = record {
+pub nothing_fed : (path : List ℕ) (finder : PieceFinderState) (start : Option (List ℕ)) → fed_by finder ≡ 0 → has_ready finder ≡ false → finder.scanning.ended ≡ false → phase_in finder.stand ≡ phase.Open → ((text : List ℕ) → HasFoundIn finder text []) → ((text : List ℕ) → AreAllSettled finder text []) → ((text : List ℕ) → IsUndecided finder text) → HasListedSettled path [] (options_for finder) finder start start
+nothing_fed path finder start fed none_ready open_yet is_open found all undecided = record {
   fed = fed;
   none_ready = none_ready;
   open_yet = open_yet;
@@ -74,7 +72,7 @@ no_bad bad_decided known options bounds None undecided found = found
 no_bad bad_decided known options bounds (Some fault) undecided found = absurd (undecided fault (bad_decided known options bounds fault found))
 
 -- what the bytes fed settle was listed
-lists_settled : SomeSettled → BadDecided → (path known : List ℕ) (options : FindOptions) (finder : PieceFinderState) (start now : Option (List ℕ)) → HasListedSettled path known options finder start now → ListsSettled path known options start now
+lists_settled : SomeFoundSettled → BadDecided → (path known : List ℕ) (options : FindOptions) (finder : PieceFinderState) (start now : Option (List ℕ)) → HasListedSettled path known options finder start now → ListsSettled path known options start now
 lists_settled some_settled bad_decided path known options finder start now h =
     let so_far = h.listed known (take-length known) in
     let listed = so_far.listed in
@@ -94,22 +92,10 @@ lists_settled some_settled bad_decided path known options finder start now h =
 
 -- and it is a prefix of the lines of each text that begins with these bytes
 settled_front : SettledBegin → (path known more : List ℕ) (options : FindOptions) (start now : Option (List ℕ)) → ListsSettled path known options start now → ListsPrefix path (known ++ more) options start now
-settled_front settled_begin path known more options start now lists =
-    let begins = settled_begin known more options lists.bounds None lists.found in
-    record {
-      bounds = lists.bounds ++ begins.more;
-      end = begins.end;
-      found = begins.found;
-      written = record {
-        front = printed path lists.bounds;
-        rest = printed path begins.more;
-        split = sym (printed-append path lists.bounds begins.more);
-        appended = lists.written;
-      };
-    }
+settled_front settled_begin path known more options start now lists = prefix_of_found path (known ++ more) options lists.bounds start now (settled_begin known more options lists.bounds None lists.found) lists.written
 
 -- what an error leaves of each text that begins with the bytes fed
-leaves_text : SomeSettled → BadDecided → SettledBegin → (path known more : List ℕ) (options : FindOptions) (finder : PieceFinderState) (e : RunError) (start now : Option (List ℕ)) → LeavesKnown path known options finder e start now → LeavesAtError path (known ++ more) options e start now
+leaves_text : SomeFoundSettled → BadDecided → SettledBegin → (path known more : List ℕ) (options : FindOptions) (finder : PieceFinderState) (e : RunError) (start now : Option (List ℕ)) → LeavesKnown path known options finder e start now → LeavesAtError path (known ++ more) options e start now
 leaves_text some_settled bad_decided settled_begin path known more options finder (run.Fault f) start now h = record { bounds = h.bounds; found = h.found more; written = h.written }
 leaves_text some_settled bad_decided settled_begin path known more options finder run.Write start now h = h more
 leaves_text some_settled bad_decided settled_begin path known more options finder run.Memory start now h = h more
@@ -127,7 +113,7 @@ of_fed P max known (Some text) None fed h = absurd fed.consumed
 of_fed P max known (Some text) (Some rest) fed h = subst P (sym (begins_with_fed max text known fed.read rest fed.consumed fed.first)) (h (drop max fed.read ++ rest))
 
 -- what an error leaves of the reader's text
-leaves_read : SomeSettled → BadDecided → SettledBegin → (path : List ℕ) (options : FindOptions) (max : ℕ) (finder : PieceFinderState) (e : RunError) (old left start now : Option (List ℕ)) → LeavesFed path options max finder e old left start now → IfSome old (λ text. LeavesAtError path text options e start now)
+leaves_read : SomeFoundSettled → BadDecided → SettledBegin → (path : List ℕ) (options : FindOptions) (max : ℕ) (finder : PieceFinderState) (e : RunError) (old left start now : Option (List ℕ)) → LeavesFed path options max finder e old left start now → IfSome old (λ text. LeavesAtError path text options e start now)
 leaves_read some_settled bad_decided settled_begin path options max finder e old left start now h = of_fed (λ text. LeavesAtError path text options e start now) max h.known old left h.fed (λ more. leaves_text some_settled bad_decided settled_begin path h.known more options finder e start now h.leaves)
 
 -- ---- what `identify` promises
@@ -166,7 +152,7 @@ identified_nothing some path options max given start reader writer reader_fine w
 -- ---- reading or listing failed
 
 -- what an error of reading leaves
-leaves_unread : SomeSettled → BadDecided → (path : List ℕ) (options : FindOptions) (max : ℕ) (finder : PieceFinderState) (e : RunError) (given left old new : Option (List ℕ)) → LeavesFed path options max finder e given left old new → IsUnread e → ListsUnread path options max given left old new
+leaves_unread : SomeFoundSettled → BadDecided → (path : List ℕ) (options : FindOptions) (max : ℕ) (finder : PieceFinderState) (e : RunError) (given left old new : Option (List ℕ)) → LeavesFed path options max finder e given left old new → IsUnread e → ListsUnread path options max given left old new
 leaves_unread some_settled bad_decided path options max finder (run.Fault f) given left old new h unread = absurd unread
 leaves_unread some_settled bad_decided path options max finder run.Write given left old new h unread = absurd unread
 leaves_unread some_settled bad_decided path options max finder run.Memory given left old new h unread = absurd unread
@@ -189,7 +175,7 @@ fault_decided path options max finder fault given left old new h =
       };
     }
 
-pub identified_stopped : SomeSettled → BadDecided → SettledBegin → (old new : Stage) (options : FindOptions) (max : ℕ) (given left : Option (List ℕ)) (e : RunError) (reader : Last) → options_for old.finder ≡ options → StopsInput old max given e left new → LeavesReader e reader → Identified old.path options max (Err e) given left old.written new.written reader new.last
+pub identified_stopped : SomeFoundSettled → BadDecided → SettledBegin → (old new : ListingState) (options : FindOptions) (max : ℕ) (given left : Option (List ℕ)) (e : RunError) (reader : Last) → options_for old.finder ≡ options → StopsInput old max given e left new → LeavesReader e reader → Identified old.path options max (Err e) given left old.written new.written reader new.last
 identified_stopped some_settled bad_decided settled_begin old new options max given left e reader same stops ends =
     let leaves = subst (λ o. LeavesFed old.path o max new.finder e given left old.written new.written) same stops.leaves in
     record {
@@ -204,11 +190,11 @@ identified_stopped some_settled bad_decided settled_begin old new options max gi
 -- ---- the text ended
 
 -- what was listed before it did
-listed_before : (old now : Stage) (options : FindOptions) (max : ℕ) (given left : Option (List ℕ)) → options_for old.finder ≡ options → (takes : TakesInput old max given left now) → HasListedSettled now.path takes.lists.known options now.finder old.written now.written
+listed_before : (old now : ListingState) (options : FindOptions) (max : ℕ) (given left : Option (List ℕ)) → options_for old.finder ≡ options → (takes : TakesInput old max given left now) → HasListedSettled now.path takes.lists.known options now.finder old.written now.written
 listed_before old now options max given left same takes = subst (λ (p : List ℕ). HasListedSettled p takes.lists.known options now.finder old.written now.written) (sym takes.same_path) (subst (λ o. HasListedSettled old.path takes.lists.known o now.finder old.written now.written) same takes.lists.listed)
 
 -- a fault that the end decides
-fault_at_end : (old : Stage) (options : FindOptions) (max : ℕ) (given left : Option (List ℕ)) (known : List ℕ) (f : Fault) (new : Option (List ℕ)) → length known ≤ max → Consumes given left known → IsAtEnd left → ListsFound old.path known options (Some f) old.written new → ListsFaulty old.path options max f given left old.written new
+fault_at_end : (old : ListingState) (options : FindOptions) (max : ℕ) (given left : Option (List ℕ)) (known : List ℕ) (f : Fault) (new : Option (List ℕ)) → length known ≤ max → Consumes given left known → IsAtEnd left → ListsFound old.path known options (Some f) old.written new → ListsFaulty old.path options max f given left old.written new
 fault_at_end old options max given left known f new within consumed ended h = record {
   known = known;
   fed = fed_whole max known given left within consumed;
@@ -223,7 +209,7 @@ no_output_is_unread run.Read l h unread = h
 no_output_is_unread run.TooLong l h unread = h
 no_output_is_unread run.NeverEnds l h unread = h
 
-pub identified_ended : (old now new : Stage) (options : FindOptions) (max : ℕ) (given left : Option (List ℕ)) (r : Result (Unit {0}) RunError) (reader : Last) → options_for old.finder ≡ options → TakesInput old max given left now → IsAtEnd left → reader ≡ last.Fine → ListsEnd now r new → Identified old.path options max r given left old.written new.written reader new.last
+pub identified_ended : (old now new : ListingState) (options : FindOptions) (max : ℕ) (given left : Option (List ℕ)) (r : Result (Unit {0}) RunError) (reader : Last) → options_for old.finder ≡ options → TakesInput old max given left now → IsAtEnd left → reader ≡ last.Fine → ListsEnd now r new → Identified old.path options max r given left old.written new.written reader new.last
 identified_ended old now new options max given left (Ok done) reader same takes ended fine ends =
     let lists = takes.lists in
     let whole = ends.whole lists.known options old.written (listed_before old now options max given left same takes) in

@@ -2,7 +2,6 @@
 use Rattle.std.proofs.Common.{◌≡◌, ◌≢◌, ℕ, ◌≤◌, ◌∙◌, refl, sym, ap, subst, Bool, Option, None, Some, IfSome, Result, Ok, Err, IfOk, IfErr, List, ◌++◌, length, take, append-nil}
 use Rattle.std.proofs.KnownBytes.{Consumes-trans, Keeps-refl}
 use Rattle.std.specs.Io.KnownBytes.{Consumes, IsAtEnd, Keeps}
-use Rattle.py_lines.specs.declared.fault.Fault.{Fault}
 use Rattle.isort_settings.specs.Values.{Values}
 use Rattle.isort_sort.specs.Answers.{Checks}
 use Rattle.isort_sort.specs.Metered.{IsGivenUp}

@@ -51,8 +51,8 @@ found_fault finder text bounds fault found is =
     at.0
 
 -- one more binding was given, and its line was written
-pub listed_next : (path text : List ℕ) (options : FindOptions) (finder next : PieceFinderState) (b : Bound) (out : List ℕ) (start mid now : Option (List ℕ)) → GivesBinding finder b next → out ≡ line_text path b → Appends mid now out → GivenAreListed path text options finder start mid → GivenAreListed path text options next start now
-listed_next path text options finder next b out start mid now gives put wrote listed = record {
+pub listed_one_more : (path text : List ℕ) (options : FindOptions) (finder next : PieceFinderState) (b : Bound) (out : List ℕ) (start mid now : Option (List ℕ)) → GivesBinding finder b next → out ≡ line_text path b → Appends mid now out → GivenAreListed path text options finder start mid → GivenAreListed path text options next start now
+listed_one_more path text options finder next b out start mid now gives put wrote listed = record {
   bounds = listed.bounds ++ b ∷ [];
   found = gives.found text listed.bounds listed.found;
   settled = λ open_yet. gives.settled text listed.bounds listed.found (sym gives.open_yet ∙ open_yet);
@@ -70,21 +70,18 @@ listed_none path text options finder next start now none listed = record {
   written = listed.written;
 }
 
+-- the lines of bindings that begin what is found in a text are a prefix of its lines
+pub prefix_of_found : (path text : List ℕ) (options : FindOptions) (bounds : List Bound) (start now : Option (List ℕ)) → BeginsFound text options bounds → Appends start now (printed path bounds) → ListsPrefix path text options start now
+prefix_of_found path text options bounds start now begins written = record {
+  bounds = bounds ++ begins.more;
+  end = begins.end;
+  found = begins.found;
+  written = record { front = printed path bounds; rest = printed path begins.more; split = sym (printed-append path bounds begins.more); appended = written };
+}
+
 -- the run gave up between two bindings
 pub lists_front : GivenBegin → (path text : List ℕ) (options : FindOptions) (finder : PieceFinderState) (start now : Option (List ℕ)) → GivenAreListed path text options finder start now → ListsPrefix path text options start now
-lists_front begin path text options finder start now listed =
-    let begins = begin text finder.cursor listed.bounds listed.found.stopped in
-    record {
-      bounds = listed.bounds ++ begins.more;
-      end = begins.end;
-      found = subst (λ (o : FindOptions). IsFound text o (listed.bounds ++ begins.more) begins.end) listed.same_options begins.found;
-      written = record {
-        front = printed path listed.bounds;
-        rest = printed path begins.more;
-        split = sym (printed-append path listed.bounds begins.more);
-        appended = listed.written;
-      };
-    }
+lists_front begin path text options finder start now listed = prefix_of_found path text options listed.bounds start now (subst (λ (o : FindOptions). BeginsFound text o listed.bounds) listed.same_options (begin text finder.cursor listed.bounds listed.found.stopped)) listed.written
 
 -- the run gave up while it wrote the line of one more binding
 pub lists_stopped : GivenBegin → (path text : List ℕ) (options : FindOptions) (finder next : PieceFinderState) (b : Bound) (out : List ℕ) (start mid now : Option (List ℕ)) → GivesBinding finder b next → out ≡ line_text path b → AppendsPrefix mid now out → GivenAreListed path text options finder start mid → ListsPrefix path text options start now
@@ -107,14 +104,14 @@ lists_stopped begin path text options finder next b out start mid now gives put 
     }
 
 -- what a call that asks for what is ready says, at each of its answers
-pub gives_one : (old : PieceFinderState) (r : Result (Option Binding) FindError) (b : Binding) (new : PieceFinderState) → GivesReady old r new → r ≡ Ok (Some b) → GivesBinding old (bound_of b) new
-gives_one old r b new h e = subst (λ x. GivesReady old x new) e h
+pub gave_one : (old : PieceFinderState) (r : Result (Option Binding) FindError) (b : Binding) (new : PieceFinderState) → GivesReady old r new → r ≡ Ok (Some b) → GivesBinding old (bound_of b) new
+gave_one old r b new h e = subst (λ x. GivesReady old x new) e h
 
-pub gives_none : (old : PieceFinderState) (r : Result (Option Binding) FindError) (new : PieceFinderState) → GivesReady old r new → r ≡ Ok None → GivesNone old new
-gives_none old r new h e = subst (λ x. GivesReady old x new) e h
+pub gave_none : (old : PieceFinderState) (r : Result (Option Binding) FindError) (new : PieceFinderState) → GivesReady old r new → r ≡ Ok None → GivesNone old new
+gave_none old r new h e = subst (λ x. GivesReady old x new) e h
 
-pub gives_error : (old : PieceFinderState) (r : Result (Option Binding) FindError) (e : FindError) (new : PieceFinderState) → GivesReady old r new → r ≡ Err e → GivesReady old (Err e) new
-gives_error old r e new h same = subst (λ x. GivesReady old x new) same h
+pub gave_error : (old : PieceFinderState) (r : Result (Option Binding) FindError) (e : FindError) (new : PieceFinderState) → GivesReady old r new → r ≡ Err e → GivesReady old (Err e) new
+gave_error old r e new h same = subst (λ x. GivesReady old x new) same h
 
 -- nothing is ready after the top
 pub not_after_top : (finder : PieceFinderState) → has_ready finder ≡ true → phase_in finder.stand ≡ phase.End → ⊥

@@ -11,11 +11,11 @@ use Rattle.clap.specs.Matches.{ReadsOne, first_value, matched_of, one_text, raw_
 use Rattle.clap.specs.Walk.{Text, all_of, first_of, row_of, rows_of}
 use Rattle.clap.specs.declared.parser.matches.Found.{Found}
 use Rattle.clap.proofs.WalkLemmas.{both, find_row, first_value-rows, one_text-rows, raw_values-rows}
-use Rattle.isort_cmd.specs.Choice.{number_in, number_of}
+use Rattle.isort_cmd.specs.Choice.{number_in, option_number}
 
-pub some_is : {X : Type 0} (o : Option X) (v : X) → IsSomeAnd o (λ r. r ≡ v) → o ≡ Some v
-some_is None v h = absurd h
-some_is (Some r) v h = ap Some h
+pub is_that_value : {X : Type 0} (o : Option X) (v : X) → IsSomeAnd o (λ r. r ≡ v) → o ≡ Some v
+is_that_value None v h = absurd h
+is_that_value (Some r) v h = ap Some h
 
 source_at : (o : Option Entry) → option_and_then (λ a. a.source) (option_map (λ e. e.1) o) ≡ option_and_then (λ r. r.source) (option_map row_of o)
 source_at None = refl
@@ -30,8 +30,8 @@ pub first_found : (f : Found) (id : Text) → first_value f id ≡ first_of id (
 first_found f id = first_value-rows f id
 
 -- the texts that `get_raw` reads
-pub all_found : (f : Found) (id : Text) → option_map raw_values (matched_of f id) ≡ all_of id (rows_of f)
-all_found f id = raw_values-rows f id
+pub all_values_found : (f : Found) (id : Text) → option_map raw_values (matched_of f id) ≡ all_of id (rows_of f)
+all_values_found f id = raw_values-rows f id
 
 digits_pass : (ds : List ℕ) → AllDigits 10 ds → list_all (λ d. nat_lt (digit_value d) 10) ds ≡ true
 digits_pass [] h = refl
@@ -70,7 +70,7 @@ number_read E text gives says None h = number_err E text h.0 (says (Err h.0) h.1
 -- the number that `get_one` reads
 pub number_found : (E : Type 0) (f : Found) (id : Text) (gives : Text → Result ℕ E → Type 0) → ((text : Text) (r : Result ℕ E) → gives text r → ParsesUnsigned 32 10 text r)
     → (o : Option ℕ) → (one_text f id ≡ None → o ≡ None) → ((text : Text) → one_text f id ≡ Some text → ReadsOne gives text o)
-    → o ≡ number_of id (rows_of f)
+    → o ≡ option_number id (rows_of f)
 number_found E f id gives says o none some = go (one_text f id) refl ∙ ap (option_and_then number_in) (one_text-rows f id)
   where
     go : (t : Option Text) → one_text f id ≡ t → o ≡ option_and_then number_in (one_text f id)

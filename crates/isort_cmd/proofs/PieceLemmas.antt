@@ -1,5 +1,5 @@
 -- What was listed of each text that begins with the bytes of some pieces.
-use Rattle.std.proofs.Common.{◌≡◌, ℕ, ◌+◌, ◌-◌, false, Option, Some, Result, Ok, Err, List, [], ◌++◌, length, take, drop, refl, sym, ap, ◌∙◌, subst, append_assoc, length-append}
+use Rattle.std.proofs.Common.{◌≡◌, ℕ, ◌+◌, false, Option, Some, Result, Ok, Err, List, [], ◌++◌, length, take, drop, refl, sym, ap, ◌∙◌, subst, append_assoc, length-append}
 use Rattle.std.proofs.Math.Seq.{take-add, take-append-add, take-append_seam, drop-append_seam}
 use Rattle.std.proofs.lemmas.List.{append-nil, length-take-le, take-append-drop}
 use Rattle.std.specs.Io.KnownBytes.{Keeps}
@@ -41,8 +41,8 @@ pub goes_begin : (known more : List ℕ) → GoesOnWith (known ++ more) 0 known
 goes_begin known more = take-append_seam known more
 
 -- a text that begins with two parts begins with the first, and goes on with the second
-pub goes_both : (text a b : List ℕ) → GoesOnWith text 0 (a ++ b) → GoesOnWith text 0 a × GoesOnWith text (length a) b
-goes_both text a b goes =
+pub begins_with_both : (text a b : List ℕ) → GoesOnWith text 0 (a ++ b) → GoesOnWith text 0 a × GoesOnWith text (length a) b
+begins_with_both text a b goes =
     let left = drop (length (a ++ b)) text in
     let whole : a ++ (b ++ left) ≡ text = sym (append_assoc a b left) ∙ ap (λ x. x ++ left) (sym goes) ∙ take-append-drop (length (a ++ b)) text in (
       ap (take (length a)) (sym whole) ∙ take-append_seam a (b ++ left),
@@ -69,7 +69,7 @@ taken_listed laws path known piece options old n new start now open_yet takes to
   fed = takes.fed ∙ ap (λ (m : ℕ). m + n) to.fed ∙ ap (λ (m : ℕ). length known + m) (sym (length-take-le n piece takes.within)) ∙ sym (length-append known (take n piece));
   no_fault = takes.no_fault;
   listed = λ text goes.
-      let both = goes_both text known (take n piece) goes in
+      let both = begins_with_both text known (take n piece) goes in
       let listed = to.listed text both.0 in
       let after = subst (λ (m : ℕ). GoesOnWith text m (take n piece)) (sym to.fed) both.1 in
       record {
@@ -135,7 +135,7 @@ fed_fault laws path known piece options old fault new start now meets to =
 -- what the errors of a call that is fed a piece leave
 pub leaves_fed : FoundLaws → (path known piece : List ℕ) (options : FindOptions) (old : PieceFinderState) (e : FindError) (new : PieceFinderState) (start now : Option (List ℕ)) → FeedsPiece old piece (Err e) new → HasListedGiven path known options old start now → LeavesPiece path (known ++ piece) options (run_error_of e) start now
 leaves_fed laws path known piece options old (find.Fault f) new start now meets to = fed_fault laws path known piece options old f new start now meets to
-leaves_fed laws path known piece options old find.Memory new start now keeps to = front_each laws.begin path (known ++ piece) options old start now (λ text goes. to.listed text (goes_both text known piece goes).0)
+leaves_fed laws path known piece options old find.Memory new start now keeps to = front_each laws.begin path (known ++ piece) options old start now (λ text goes. to.listed text (begins_with_both text known piece goes).0)
 
 pub feeds_error : (old : PieceFinderState) (piece : List ℕ) (r : Result ℕ FindError) (e : FindError) (new : PieceFinderState) → FeedsPiece old piece r new → r ≡ Err e → FeedsPiece old piece (Err e) new
 feeds_error old piece r e new h same = subst (λ (x : Result ℕ FindError). FeedsPiece old piece x new) same h

@@ -1,5 +1,5 @@
 -- What is listed of pieces that are read and fed, one after the other.
-use Rattle.std.proofs.Common.{◌≡◌, ℕ, ◌+◌, ◌-◌, ◌<◌, ◌≤◌, ◌∙◌, refl, sym, ap, subst, Bool, true, false, Option, None, Some, IfSome, Err, List, [], ◌++◌, length, min, take, length-append, arith, nat_lt, ltb-true, ltb-false}
+use Rattle.std.proofs.Common.{◌≡◌, ℕ, ◌+◌, ◌-◌, ◌<◌, ◌≤◌, ◌∙◌, refl, sym, ap, subst, Bool, true, false, Option, None, Some, IfSome, List, [], ◌++◌, length, min, take, length-append, arith, nat_lt, ltb-true, ltb-false}
 use Rattle.std.proofs.Math.Seq.{take-append-add}
 use Rattle.std.proofs.lemmas.List.{append-nil, length-take-le, take-take, take_all}
 use Rattle.std.proofs.KnownBytes.{Consumes-trans, Consumes-kept}
@@ -9,7 +9,7 @@ use Rattle.isort_find.specs.declared.options.FindOptions.{FindOptions}
 use Rattle.isort_sort.specs.declared.metered.Last.{Last}
 use Rattle.isort_sort.specs.declared.metered.Last.TheVariants as last
 use Rattle.isort_cmd.specs.RunError.{LeavesReader, LeavesWriter}
-use Rattle.isort_cmd.specs.Private.Stages.{Stage, StopsInPiece, StopsInput, TakesWholePiece, TakesInput}
+use Rattle.isort_cmd.specs.Private.Stages.{ListingState, StopsInPiece, StopsInput, TakesWholePiece, TakesInput}
 use Rattle.isort_cmd.specs.Private.Steps.{IsOutputError, IsReadError, HasListedSettled, LeavesPiece, LeavesKnown}
 use Rattle.isort_cmd.specs.Written.{AreFed}
 use Rattle.isort_cmd.specs.declared.error.RunError.{RunError}
@@ -78,7 +78,7 @@ unread_writer run.NeverEnds l writer h fine = fine
 no_read_is_too_long : (e : RunError) (l : Last) → IsReadError e l → e ≡ run.TooLong → ⊥
 no_read_is_too_long e l h is = subst (λ x. IsReadError x l) is h
 
-pub read_stops : (old now : Stage) (max : ℕ) (given mid left : Option (List ℕ)) (e : RunError) (l : Last) → TakesInput old max given mid now → Keeps mid left → IsReadError e l → StopsInput old max given e left now
+pub read_stops : (old now : ListingState) (max : ℕ) (given mid left : Option (List ℕ)) (e : RunError) (l : Last) → TakesInput old max given mid now → Keeps mid left → IsReadError e l → StopsInput old max given e left now
 read_stops old now max given mid left e l takes kept h = record {
   writer = unread_writer e l now.last h takes.fine;
   leaves = record {
@@ -92,15 +92,15 @@ read_stops old now max given mid left e l takes kept h = record {
 -- ---- a piece was read
 
 -- nothing was read yet
-pub takes_nothing : (s : Stage) (max : ℕ) (given : Option (List ℕ)) → s.last ≡ last.Fine → Consumes given given [] → HasListedSettled s.path [] (options_for s.finder) s.finder s.written s.written → TakesInput s max given given s
-takes_nothing s max given fine none fresh = record {
+pub takes_nothing : (s : ListingState) (max : ℕ) (given : Option (List ℕ)) → s.last ≡ last.Fine → Consumes given given [] → HasListedSettled s.path [] (options_for s.finder) s.finder s.written s.written → TakesInput s max given given s
+takes_nothing s max given fine none nothing_fed = record {
   same_path = refl;
   fine = fine;
-  lists = record { known = []; within = omega arith; consumed = none; listed = fresh };
+  lists = record { known = []; within = omega arith; consumed = none; listed = nothing_fed };
 }
 
 -- no byte came
-pub takes_no_more : (old now : Stage) (max n : ℕ) (buffer : List ℕ) (given mid left : Option (List ℕ)) → TakesInput old max given mid now → n ≡ 0 → Consumes mid left (take n buffer) → TakesInput old max given left now
+pub takes_no_more : (old now : ListingState) (max n : ℕ) (buffer : List ℕ) (given mid left : Option (List ℕ)) → TakesInput old max given mid now → n ≡ 0 → Consumes mid left (take n buffer) → TakesInput old max given left now
 takes_no_more old now max n buffer given mid left takes none read = record {
   same_path = takes.same_path;
   fine = takes.fine;
@@ -113,11 +113,11 @@ takes_no_more old now max n buffer given mid left takes none read = record {
 }
 
 -- how many of them fit
-room_of : (old now : Stage) (max n fed fitting : ℕ) (given mid : Option (List ℕ)) → (takes : TakesInput old max given mid now) → fed ≡ fed_by now.finder → fitting ≡ min (max - fed) n → fitting ≡ min (max - length takes.lists.known) n
+room_of : (old now : ListingState) (max n fed fitting : ℕ) (given mid : Option (List ℕ)) → (takes : TakesInput old max given mid now) → fed ≡ fed_by now.finder → fitting ≡ min (max - fed) n → fitting ≡ min (max - length takes.lists.known) n
 room_of old now max n fed fitting given mid takes same is = is ∙ ap (λ m. min (max - m) n) (same ∙ takes.lists.listed.fed)
 
 -- the bytes that are fed of what was read
-fed_fitting : (old now : Stage) (max n fed fitting : ℕ) (buffer : List ℕ) (given mid left : Option (List ℕ)) → (takes : TakesInput old max given mid now) → n ≤ length buffer → Consumes mid left (take n buffer) → fed ≡ fed_by now.finder → fitting ≡ min (max - fed) n → AreFed max (takes.lists.known ++ take fitting buffer) given left
+fed_fitting : (old now : ListingState) (max n fed fitting : ℕ) (buffer : List ℕ) (given mid left : Option (List ℕ)) → (takes : TakesInput old max given mid now) → n ≤ length buffer → Consumes mid left (take n buffer) → fed ≡ fed_by now.finder → fitting ≡ min (max - fed) n → AreFed max (takes.lists.known ++ take fitting buffer) given left
 fed_fitting old now max n fed fitting buffer given mid left takes there read same is = record {
   read = takes.lists.known ++ take n buffer;
   consumed = Consumes-trans given mid left takes.lists.known (take n buffer) takes.lists.consumed read;
@@ -146,7 +146,7 @@ pub no_output_is_too_long : (e : RunError) (l : Last) → IsOutputError e l → 
 no_output_is_too_long e l h is = subst (λ x. IsOutputError x l) is h
 
 -- listing what fits failed
-pub piece_stops : (old now new : Stage) (max n fed fitting : ℕ) (buffer : List ℕ) (given mid left : Option (List ℕ)) (e : RunError) → TakesInput old max given mid now → n ≤ length buffer → Consumes mid left (take n buffer) → fed ≡ fed_by now.finder → fitting ≡ min (max - fed) n → StopsInPiece now (take fitting buffer) e new → StopsInput old max given e left new
+pub piece_stops : (old now new : ListingState) (max n fed fitting : ℕ) (buffer : List ℕ) (given mid left : Option (List ℕ)) (e : RunError) → TakesInput old max given mid now → n ≤ length buffer → Consumes mid left (take n buffer) → fed ≡ fed_by now.finder → fitting ≡ min (max - fed) n → StopsInPiece now (take fitting buffer) e new → StopsInput old max given e left new
 piece_stops old now new max n fed fitting buffer given mid left e takes there read same is stops =
     let lists = takes.lists in
     let known = lists.known ++ take fitting buffer in
@@ -164,7 +164,7 @@ piece_stops old now new max n fed fitting buffer given mid left e takes there re
     }
 
 -- what fits was listed
-listed_fitting : (old now new : Stage) (max : ℕ) (piece : List ℕ) (given mid : Option (List ℕ)) → (takes : TakesInput old max given mid now) → TakesWholePiece now piece new → HasListedSettled old.path (takes.lists.known ++ piece) (options_for old.finder) new.finder old.written new.written
+listed_fitting : (old now new : ListingState) (max : ℕ) (piece : List ℕ) (given mid : Option (List ℕ)) → (takes : TakesInput old max given mid now) → TakesWholePiece now piece new → HasListedSettled old.path (takes.lists.known ++ piece) (options_for old.finder) new.finder old.written new.written
 listed_fitting old now new max piece given mid takes all =
     let lists = takes.lists in
     let options = options_for old.finder in
@@ -179,7 +179,7 @@ consumed_long max (Some text) (Some rest) bytes consumed long =
     omega (arith, size, long)
 
 -- and more came
-pub more_came : (old now new : Stage) (max n fed fitting : ℕ) (buffer : List ℕ) (given mid left : Option (List ℕ)) → TakesInput old max given mid now → n ≤ length buffer → Consumes mid left (take n buffer) → fed ≡ fed_by now.finder → fitting ≡ min (max - fed) n → fitting < n → TakesWholePiece now (take fitting buffer) new → StopsInput old max given run.TooLong left new
+pub more_came : (old now new : ListingState) (max n fed fitting : ℕ) (buffer : List ℕ) (given mid left : Option (List ℕ)) → TakesInput old max given mid now → n ≤ length buffer → Consumes mid left (take n buffer) → fed ≡ fed_by now.finder → fitting ≡ min (max - fed) n → fitting < n → TakesWholePiece now (take fitting buffer) new → StopsInput old max given run.TooLong left new
 more_came old now new max n fed fitting buffer given mid left takes there read same is less all =
     let lists = takes.lists in
     let room = room_of old now max n fed fitting given mid takes same is in
@@ -195,7 +195,7 @@ more_came old now new max n fed fitting buffer given mid left takes there read s
     }
 
 -- all of the piece did fit
-pub takes_more : (old now new : Stage) (max n fed fitting : ℕ) (buffer : List ℕ) (given mid left : Option (List ℕ)) → TakesInput old max given mid now → n ≤ length buffer → Consumes mid left (take n buffer) → fed ≡ fed_by now.finder → fitting ≡ min (max - fed) n → n ≤ fitting → TakesWholePiece now (take fitting buffer) new → TakesInput old max given left new
+pub takes_more : (old now new : ListingState) (max n fed fitting : ℕ) (buffer : List ℕ) (given mid left : Option (List ℕ)) → TakesInput old max given mid now → n ≤ length buffer → Consumes mid left (take n buffer) → fed ≡ fed_by now.finder → fitting ≡ min (max - fed) n → n ≤ fitting → TakesWholePiece now (take fitting buffer) new → TakesInput old max given left new
 takes_more old now new max n fed fitting buffer given mid left takes there read same is whole all =
     let lists = takes.lists in
     let room = room_of old now max n fed fitting given mid takes same is in

@@ -18,13 +18,13 @@ use Rattle.isort_sort.specs.declared.metered.Last.{Last}
 use Rattle.isort_sort.specs.declared.metered.Last.TheVariants as last
 use Rattle.isort_cmd.specs.Printed.{line_text}
 use Rattle.isort_cmd.specs.RunError.{run_error_of}
-use Rattle.isort_cmd.specs.Private.Stages.{Stage, KeepsListed, ListsOne, ListsAll, ListsNext, StopsReady, EndsListing, StopsAtEnd}
+use Rattle.isort_cmd.specs.Private.Stages.{ListingState, KeepsListed, ListsOne, ListsAll, ListsNext, StopsReady, EndsListing, StopsAtEnd}
 use Rattle.isort_cmd.specs.Private.Steps.{GivenAreListed, IsOutputError, LeavesReady}
 use Rattle.isort_cmd.specs.Written.{ListsFound}
 use Rattle.isort_cmd.specs.declared.error.RunError.{RunError}
 use Rattle.isort_cmd.specs.declared.error.RunError.TheVariants as run
 use Rattle.isort_cmd.proofs.EndLemmas.{ends_listed, leaves_at_end, leaves_ready, still_ended}
-use Rattle.isort_cmd.proofs.ListingLemmas.{GivenBegin, leaves_at_find_error, leaves_from, listed_next, listed_none, lists_front, lists_stopped, not_after_top}
+use Rattle.isort_cmd.proofs.ListingLemmas.{GivenBegin, leaves_at_find_error, leaves_from, listed_one_more, listed_none, lists_front, lists_stopped, not_after_top}
 
 -- the errors of a finder are those of listing
 pub error_of_find : (e : FindError) (l : Last) → l ≡ last.Fine → IsOutputError (run_error_of e) l
@@ -37,7 +37,7 @@ open_has_no_fault s fault is other = let both : phase_in s ≡ phase.Fault fault
 -- ---- one import
 
 -- an import was given, and its line written
-pub lists_one : (old new : Stage) (b : Bound) (out : List ℕ) → new.path ≡ old.path → new.last ≡ last.Fine → GivesBinding old.finder b new.finder → out ≡ line_text old.path b → Appends old.written new.written out → ListsOne old new
+pub lists_one : (old new : ListingState) (b : Bound) (out : List ℕ) → new.path ≡ old.path → new.last ≡ last.Fine → GivesBinding old.finder b new.finder → out ≡ line_text old.path b → Appends old.written new.written out → ListsOne old new
 lists_one old new b out same fine gives put wrote = record {
   goes_on = record {
     same_path = same;
@@ -46,13 +46,13 @@ lists_one old new b out same fine gives put wrote = record {
     open_yet = gives.open_yet;
     no_fault = λ h fault is. open_has_no_fault new.finder.stand fault gives.is_open is;
     stays = λ top. absurd (not_after_top old.finder gives.was_ready top);
-    listed = λ text options start h. listed_next old.path text options old.finder new.finder b out start old.written new.written gives put wrote h;
+    listed = λ text options start h. listed_one_more old.path text options old.finder new.finder b out start old.written new.written gives put wrote h;
   };
   falls = gives.falls;
 }
 
 -- nothing was ready
-pub lists_none : (old : Stage) (next : PieceFinderState) → old.last ≡ last.Fine → GivesNone old.finder next → ListsAll old (record old { finder = next })
+pub lists_none : (old : ListingState) (next : PieceFinderState) → old.last ≡ last.Fine → GivesNone old.finder next → ListsAll old (record old { finder = next })
 lists_none old next fine none = record {
   goes_on = record {
     same_path = refl;
@@ -72,21 +72,21 @@ lists_none old next fine none = record {
 }
 
 -- the finder failed
-pub stops_at_find : GivenBegin → (old : Stage) (e : FindError) (next : PieceFinderState) → old.last ≡ last.Fine → GivesReady old.finder (Err e) next → StopsReady old (run_error_of e) (record old { finder = next })
+pub stops_at_find : GivenBegin → (old : ListingState) (e : FindError) (next : PieceFinderState) → old.last ≡ last.Fine → GivesReady old.finder (Err e) next → StopsReady old (run_error_of e) (record old { finder = next })
 stops_at_find begin old e next fine gives = record {
   error = error_of_find e old.last fine;
   leaves = λ text options start h. leaves_at_find_error begin old.path text options old.finder next e start old.written gives h;
 }
 
 -- memory ran out before the line was written
-pub stops_at_memory : GivenBegin → (old : Stage) (next : PieceFinderState) → old.last ≡ last.Fine → StopsReady old run.Memory (record old { finder = next })
+pub stops_at_memory : GivenBegin → (old : ListingState) (next : PieceFinderState) → old.last ≡ last.Fine → StopsReady old run.Memory (record old { finder = next })
 stops_at_memory begin old next fine = record {
   error = fine;
   leaves = λ text options start h. lists_front begin old.path text options old.finder start old.written h;
 }
 
 -- a write failed
-pub stops_at_write : GivenBegin → (old new : Stage) (b : Bound) (out : List ℕ) → IsGivenUp new.last → GivesBinding old.finder b new.finder → out ≡ line_text old.path b → AppendsPrefix old.written new.written out → StopsReady old run.Write new
+pub stops_at_write : GivenBegin → (old new : ListingState) (b : Bound) (out : List ℕ) → IsGivenUp new.last → GivesBinding old.finder b new.finder → out ≡ line_text old.path b → AppendsPrefix old.written new.written out → StopsReady old run.Write new
 stops_at_write begin old new b out given_up gives put wrote = record {
   error = given_up;
   leaves = λ text options start h. lists_stopped begin old.path text options old.finder new.finder b out start old.written new.written gives put wrote h;
@@ -94,21 +94,21 @@ stops_at_write begin old new b out given_up gives put wrote = record {
 
 -- ---- all that are ready
 
-pub next_is_one : (old new : Stage) (some : Bool) → some ≡ true → ListsNext old (Ok some) new → ListsOne old new
+pub next_is_one : (old new : ListingState) (some : Bool) → some ≡ true → ListsNext old (Ok some) new → ListsOne old new
 next_is_one old new some is h = subst (λ (b : Bool). ListsNext old (Ok b) new) is h
 
-pub next_is_none : (old new : Stage) (some : Bool) → some ≡ false → ListsNext old (Ok some) new → ListsAll old new
+pub next_is_none : (old new : ListingState) (some : Bool) → some ≡ false → ListsNext old (Ok some) new → ListsAll old new
 next_is_none old new some is h = subst (λ (b : Bool). ListsNext old (Ok b) new) is h
 
 -- at the same path
-pub goes_at : (path : List ℕ) (old new : Stage) → old.path ≡ path → KeepsListed old new → (text : List ℕ) (options : FindOptions) (start : Option (List ℕ)) → GivenAreListed path text options old.finder start old.written → GivenAreListed path text options new.finder start new.written
+pub goes_at : (path : List ℕ) (old new : ListingState) → old.path ≡ path → KeepsListed old new → (text : List ℕ) (options : FindOptions) (start : Option (List ℕ)) → GivenAreListed path text options old.finder start old.written → GivenAreListed path text options new.finder start new.written
 goes_at path old new same goes text options start h = subst (λ (p : List ℕ). GivenAreListed p text options new.finder start new.written) same (goes.listed text options start (subst (λ (p : List ℕ). GivenAreListed p text options old.finder start old.written) (sym same) h))
 
-pub stops_at : (path : List ℕ) (old new : Stage) (e : RunError) → old.path ≡ path → StopsReady old e new → (text : List ℕ) (options : FindOptions) (start : Option (List ℕ)) → GivenAreListed path text options old.finder start old.written → LeavesReady path text options old.finder e start new.written
-stops_at path old new e same stops text options start h = subst (λ (p : List ℕ). LeavesReady p text options old.finder e start new.written) same (stops.leaves text options start (subst (λ (p : List ℕ). GivenAreListed p text options old.finder start old.written) (sym same) h))
+pub stops_ready : (path : List ℕ) (old new : ListingState) (e : RunError) → old.path ≡ path → StopsReady old e new → (text : List ℕ) (options : FindOptions) (start : Option (List ℕ)) → GivenAreListed path text options old.finder start old.written → LeavesReady path text options old.finder e start new.written
+stops_ready path old new e same stops text options start h = subst (λ (p : List ℕ). LeavesReady p text options old.finder e start new.written) same (stops.leaves text options start (subst (λ (p : List ℕ). GivenAreListed p text options old.finder start old.written) (sym same) h))
 
 -- nothing was given yet
-pub goes_nowhere : (s : Stage) → s.last ≡ last.Fine → KeepsListed s s
+pub goes_nowhere : (s : ListingState) → s.last ≡ last.Fine → KeepsListed s s
 goes_nowhere s fine = record {
   same_path = refl;
   fine = fine;
@@ -120,7 +120,7 @@ goes_nowhere s fine = record {
 }
 
 -- one more was listed
-pub goes_further : (old mid new : Stage) → KeepsListed old mid → KeepsListed mid new → KeepsListed old new
+pub goes_further : (old mid new : ListingState) → KeepsListed old mid → KeepsListed mid new → KeepsListed old new
 goes_further old mid new first second = record {
   same_path = second.same_path ∙ first.same_path;
   fine = second.fine;
@@ -132,7 +132,7 @@ goes_further old mid new first second = record {
 }
 
 -- all were listed
-pub lists_all : (old mid new : Stage) → KeepsListed old mid → ListsAll mid new → ListsAll old new
+pub lists_all : (old mid new : ListingState) → KeepsListed old mid → ListsAll mid new → ListsAll old new
 lists_all old mid new first all = record {
   goes_on = goes_further old mid new first all.goes_on;
   none_ready = all.none_ready;
@@ -140,30 +140,30 @@ lists_all old mid new first all = record {
 }
 
 -- one could not be
-pub stops_after : (old mid new : Stage) (e : RunError) → KeepsListed old mid → StopsReady mid e new → StopsReady old e new
+pub stops_after : (old mid new : ListingState) (e : RunError) → KeepsListed old mid → StopsReady mid e new → StopsReady old e new
 stops_after old mid new e first stops = record {
   error = stops.error;
-  leaves = λ text options start h. leaves_from old.path text options old.finder mid.finder e start new.written first.fed first.open_yet (stops_at old.path mid new e first.same_path stops text options start (first.listed text options start h));
+  leaves = λ text options start h. leaves_from old.path text options old.finder mid.finder e start new.written first.fed first.open_yet (stops_ready old.path mid new e first.same_path stops text options start (first.listed text options start h));
 }
 
 -- ---- the end
 
 -- the text ended, and all that was ready then was listed
-pub ends_in_all : (old new : Stage) (next : PieceFinderState) → EndsFeeding old.finder (Ok tt) next → ListsAll (record old { finder = next }) new → EndsListing old new
+pub ends_in_all : (old new : ListingState) (next : PieceFinderState) → EndsFeeding old.finder (Ok tt) next → ListsAll (record old { finder = next }) new → EndsListing old new
 ends_in_all old new next ends all = record {
   fine = all.goes_on.fine;
   whole = λ text options start h. all.whole text options start (ends_listed old.path text options old.finder next start old.written h ends) ends.no_fault (still_ended next new.finder ends.ended all.goes_on.open_yet all.goes_on.stays);
 }
 
 -- the text ended in an error
-pub stops_at_end : GivenBegin → (old : Stage) (e : FindError) (next : PieceFinderState) → old.last ≡ last.Fine → EndsFeeding old.finder (Err e) next → StopsAtEnd old (run_error_of e) (record old { finder = next })
+pub stops_at_end : GivenBegin → (old : ListingState) (e : FindError) (next : PieceFinderState) → old.last ≡ last.Fine → EndsFeeding old.finder (Err e) next → StopsAtEnd old (run_error_of e) (record old { finder = next })
 stops_at_end begin old e next fine ends = record {
   error = error_of_find e old.last fine;
   leaves = λ text options start h. leaves_at_end begin old.path text options old.finder next e start old.written ends h;
 }
 
 -- the text ended, and what was ready then could not be listed
-pub stops_after_end : (old new : Stage) (next : PieceFinderState) (e : RunError) → EndsFeeding old.finder (Ok tt) next → StopsReady (record old { finder = next }) e new → StopsAtEnd old e new
+pub stops_after_end : (old new : ListingState) (next : PieceFinderState) (e : RunError) → EndsFeeding old.finder (Ok tt) next → StopsReady (record old { finder = next }) e new → StopsAtEnd old e new
 stops_after_end old new next e ends stops = record {
   error = stops.error;
   leaves = λ text options start h. leaves_ready old.path text options next e start new.written (stops.leaves text options start (ends_listed old.path text options old.finder next start old.written h ends));

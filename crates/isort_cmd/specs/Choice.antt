@@ -57,8 +57,8 @@ number_in text =
     then Some (digits_value 10 digits) else None
 
 -- the number that an option was given
-abbrev pub number_of : Text → List Row → Option ℕ
-number_of name rows = option_and_then number_in (one_of name rows)
+abbrev pub option_number : Text → List Row → Option ℕ
+option_number name rows = option_and_then number_in (one_of name rows)
 
 -- the action that the options ask for
 abbrev pub IsAction : List Row → Action → Type 0
@@ -70,8 +70,8 @@ IsAction rows (Sort check to_stdout settings_file profile line_length multi_line
     × (to_stdout ≡ was_given (codes "stdout") rows)
     × (option_map string_bytes settings_file ≡ first_of (codes "settings-file") rows)
     × (option_map string_bytes profile ≡ first_of (codes "profile") rows)
-    × (line_length ≡ number_of (codes "line-length") rows)
-    × (multi_line ≡ number_of (codes "multi-line") rows)
+    × (line_length ≡ option_number (codes "line-length") rows)
+    × (multi_line ≡ option_number (codes "multi-line") rows)
 
 -- the job that the options and files ask for
 pub record IsJob (rows : List Row) (job : Job) : Type 0 where

@@ -30,13 +30,13 @@ Examples:
 const FILES: &str = "Python files; - is standard input";
 
 /// The help's heading of the options of a listing.
-const LISTING: &str = "Listing";
+const LISTING_HEADING: &str = "Listing";
 
 /// The help's heading of the options of sorting.
-const SORTING: &str = "Sorting";
+const SORTING_HEADING: &str = "Sorting";
 
 /// The help's heading of the options of sorting's settings.
-const SETTINGS: &str = "Settings of sorting";
+const SETTINGS_HEADING: &str = "Settings of sorting";
 
 /// What an option takes.
 enum OptionValue {
@@ -65,91 +65,91 @@ struct CommandOption {
 /// The options, in the order of the help.
 static OPTIONS: [CommandOption; 13] = [
     CommandOption {
-        heading: LISTING,
+        heading: LISTING_HEADING,
         name: "identify",
         letter: None,
         value: OptionValue::Flag,
         help: "List the imports, and sort nothing",
     },
     CommandOption {
-        heading: LISTING,
+        heading: LISTING_HEADING,
         name: "unique",
         letter: None,
         value: OptionValue::Flag,
         help: "List only the first of equal imports",
     },
     CommandOption {
-        heading: LISTING,
+        heading: LISTING_HEADING,
         name: "packages",
         letter: None,
         value: OptionValue::Flag,
         help: "List only the first import of each package",
     },
     CommandOption {
-        heading: LISTING,
+        heading: LISTING_HEADING,
         name: "modules",
         letter: None,
         value: OptionValue::Flag,
         help: "List only the first import of each module",
     },
     CommandOption {
-        heading: LISTING,
+        heading: LISTING_HEADING,
         name: "attributes",
         letter: None,
         value: OptionValue::Flag,
         help: "List only the first import of each attribute of a module",
     },
     CommandOption {
-        heading: LISTING,
+        heading: LISTING_HEADING,
         name: "top-only",
         letter: None,
         value: OptionValue::Flag,
         help: "List only the imports before the first function or class",
     },
     CommandOption {
-        heading: SORTING,
+        heading: SORTING_HEADING,
         name: "check-only",
         letter: Some('c'),
         value: OptionValue::Flag,
         help: "Change nothing, and say which files are not sorted",
     },
     CommandOption {
-        heading: SORTING,
+        heading: SORTING_HEADING,
         name: "check",
         letter: None,
         value: OptionValue::Flag,
         help: "The same as --check-only",
     },
     CommandOption {
-        heading: SORTING,
+        heading: SORTING_HEADING,
         name: "stdout",
         letter: Some('d'),
         value: OptionValue::Flag,
         help: "Write the sorted text to standard output, not to the file",
     },
     CommandOption {
-        heading: SETTINGS,
+        heading: SETTINGS_HEADING,
         name: "settings-file",
         letter: None,
         value: OptionValue::Text("F"),
         help: "Read the settings from F, not from ./pyproject.toml",
     },
     CommandOption {
-        heading: SETTINGS,
+        heading: SETTINGS_HEADING,
         name: "profile",
         letter: None,
         value: OptionValue::Text("P"),
         help: "Start from the settings of profile P; the only one is black",
     },
     CommandOption {
-        heading: SETTINGS,
+        heading: SETTINGS_HEADING,
         name: "line-length",
         letter: Some('l'),
         value: OptionValue::Number,
         help: "Wrap imports longer than N characters, 1 to 10000",
     },
     CommandOption {
-        heading: SETTINGS,
+        heading: SETTINGS_HEADING,
         name: "multi-line",
         letter: Some('m'),
         value: OptionValue::Number,

@@ -1,7 +1,7 @@
 //! What the options of a command line ask for.
 ghost use Rattle.std.specs.Prelude.{◌≡◌, IfOk, IfErr, codes, map, unwrap_or, option_map, string_bytes, []};
 ghost use Rattle.clap.specs.Words.{all_of, first_of};
-ghost use Rattle.isort_cmd.specs.Choice.{IsAction, IsJob, is_forbidden, key_count, key_option, number_of, wants_sorting, was_given};
+ghost use Rattle.isort_cmd.specs.Choice.{IsAction, IsJob, is_forbidden, key_count, key_option, option_number, wants_sorting, was_given};
 ghost use Rattle.isort_cmd.specs.Private.ParserSteps.{IsNoJob, rows_in};
 
 use crate::job::{Action, Job};
@@ -72,10 +72,10 @@ fn action_of(alloc: Global, matches: &ArgMatches<'_>) -> Result<Action, AllocErr
     Ok(Action::Sort {
         check: was_given(matches, "check-only") || was_given(matches, "check"),
         to_stdout: was_given(matches, "stdout"),
-        settings_file: text_of(alloc, matches, "settings-file")?,
-        profile: text_of(alloc, matches, "profile")?,
-        line_length: number_of(matches, "line-length"),
-        multi_line: number_of(matches, "multi-line"),
+        settings_file: option_text(alloc, matches, "settings-file")?,
+        profile: option_text(alloc, matches, "profile")?,
+        line_length: option_number(matches, "line-length"),
+        multi_line: option_number(matches, "multi-line"),
     })
 }
 
@@ -97,7 +97,7 @@ fn key_option(matches: &ArgMatches<'_>) -> Option<ImportKey>
 }
 
 /// The files, in their order.
-#[tactic(auto, using(crate::proofs::MatchLemmas::all_found))]
+#[tactic(auto, using(crate::proofs::MatchLemmas::all_values_found))]
 fn files_of(alloc: Global, matches: &ArgMatches<'_>) -> Result<Vec<String>, AllocError>
     ensures { IfOk result (λ files. map string_bytes files.items ≡ unwrap_or (all_of (codes "FILE") (rows_in matches.now)) []) }
 {
@@ -119,26 +119,26 @@ fn copies(alloc: Global, texts: &[&str]) -> Result<Vec<String>, AllocError>
 }
 
 /// The number that the option was given.
-fn number_of(matches: &ArgMatches<'_>, name: &str) -> Option<u32>
-    ensures { result ≡ number_of name.now (rows_in matches.now) }
+fn option_number(matches: &ArgMatches<'_>, name: &str) -> Option<u32>
+    ensures { result ≡ option_number name.now (rows_in matches.now) }
 {
     matches.get_one::<u32>(name)
 }
 
 /// The text that the option was given.
 #[tactic(auto, using(crate::proofs::MatchLemmas::first_found))]
-fn text_of(
+fn option_text(
     alloc: Global,
     matches: &ArgMatches<'_>,
     name: &str,
 ) -> Result<Option<String>, AllocError>
     ensures { IfOk result (λ text. option_map string_bytes text ≡ first_of name.now (rows_in matches.now)) }
 {
-    owned(alloc, matches.get_str(name))
+    copy_of_text(alloc, matches.get_str(name))
 }
 
 /// The text in memory of its own, if there is one.
-fn owned(alloc: Global, text: Option<&str>) -> Result<Option<String>, AllocError>
+fn copy_of_text(alloc: Global, text: Option<&str>) -> Result<Option<String>, AllocError>
     ensures { IfOk result (λ copy. option_map string_bytes copy ≡ option_map (λ t. t.now) text.entry) }
 {
     match text {

@@ -5,7 +5,7 @@ use isort_find::FindError;
 use isort_sort::SortError;
 use py_imports::ImportError;
 use py_lines::Fault;
-use std::alloc::{AllocError, AllocFailed};
+use std::alloc::AllocError;
 use std::error::Error;
 use std::fmt;
 
@@ -64,17 +64,6 @@ impl From<AllocError> for RunError {
     ghost from_gives = { λ _ e. e ≡ Memory };
 
     fn from(_e: AllocError) -> RunError {
-        RunError::Memory
-    }
-}
-
-impl<T: Drop> From<AllocFailed<T>> for RunError {
-    ghost use Rattle.std.specs.Prelude.{◌≡◌};
-    ghost use Rattle.isort_cmd.specs.declared.error.RunError.TheVariants.{Memory};
-
-    ghost from_gives = { λ _ e. e ≡ Memory };
-
-    fn from(_e: AllocFailed<T>) -> RunError {
         RunError::Memory
     }
 }

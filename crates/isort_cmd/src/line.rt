@@ -8,7 +8,7 @@ use py_imports::Binding;
 use std::alloc::Global;
 
 /// Puts `path:line ` after `out`, and `indented ` where the line is.
-fn push_place(path: &str, line: u64, indented: bool, out: &mut String) -> Result<(), RunError>
+fn push_position(path: &str, line: u64, indented: bool, out: &mut String) -> Result<(), RunError>
     ensures ok { OnOk result (string_bytes out.new ≡ string_bytes out.old ++ place_text path.now line indented) }
     ensures err { IfErr result (λ e. e ≡ RunError.Memory) }
 {
@@ -29,7 +29,7 @@ pub(crate) fn push_line(
     ensures ok { OnOk result (string_bytes out.new ≡ string_bytes out.old ++ line_text path.now (bound_of binding.now)) }
     ensures err { IfErr result (λ e. e ≡ RunError.Memory) }
 {
-    push_place(path, binding.line, binding.indented, out)?;
+    push_position(path, binding.line, binding.indented, out)?;
     out.push_str(binding.statement(alloc)?.as_str())?;
     out.push_str("\n")?;
     Ok(())

@@ -5,7 +5,7 @@ ghost use Rattle.isort_find.specs.Pieces.{fed_by, has_ready, options_for};
 ghost use Rattle.isort_sort.specs.Metered.{inner_of, last_of};
 ghost use Rattle.isort_cmd.specs.RunError.{IsUnread, EndsReading, EndsWriting};
 ghost use Rattle.isort_cmd.specs.Private.Steps.{HasListedSettled, LooksAtHeld};
-ghost use Rattle.isort_cmd.specs.Private.Stages.{stage_of, ListsNext, ListsReady, ListsPiece, ListsPieces, ListsEnd};
+ghost use Rattle.isort_cmd.specs.Private.Stages.{listing_state, ListsNext, ListsReady, ListsPiece, ListsPieces, ListsEnd};
 ghost use Rattle.isort_cmd.specs.Written.{ListsInput, LeavesInput, ListsUnread, ListsFaulty};
 
 use crate::error::RunError;
@@ -54,7 +54,7 @@ impl Listing<'_> {
     /// Writes the line of the next import that is ready: whether there is one.
     fn list_next<W: Write>(&mut self, writer: &mut Metered<W>) -> Result<bool, RunError>
         requires { last_of writer.old ≡ Last.Fine }
-        ensures { ListsNext (stage_of W.contents self.old writer.old) result (stage_of W.contents self.new writer.new) }
+        ensures { ListsNext (listing_state W.contents self.old writer.old) result (listing_state W.contents self.new writer.new) }
     {
         given_begin_the_found();
         let Some(binding) = self.finder.next_ready()? else {
@@ -69,7 +69,7 @@ impl Listing<'_> {
     /// Writes the lines of all imports that are ready: whether there are any.
     fn list_ready<W: Write>(&mut self, writer: &mut Metered<W>) -> Result<bool, RunError>
         requires { last_of writer.old ≡ Last.Fine }
-        ensures { ListsReady (stage_of W.contents self.old writer.old) result (stage_of W.contents self.new writer.new) }
+        ensures { ListsReady (listing_state W.contents self.old writer.old) result (listing_state W.contents self.new writer.new) }
     {
         let mut some = false;
         'imports: while self.list_next(writer)? {
@@ -88,8 +88,8 @@ impl Listing<'_> {
         requires fits { fed_by self.old.finder + length piece.now ≤ 2 ^ 62 }
         requires open_yet { self.old.finder.scanning.ended ≡ false }
         requires none_ready { has_ready self.old.finder ≡ false }
-        ensures { ListsPiece (stage_of W.contents self.old writer.old) piece.now result
-            (stage_of W.contents self.new writer.new) }
+        ensures { ListsPiece (listing_state W.contents self.old writer.old) piece.now result
+            (listing_state W.contents self.new writer.new) }
     {
         one_found();
         given_begin_the_found();
@@ -122,8 +122,8 @@ impl Listing<'_> {
         requires small { max ≤ 2 ^ 62 }
         requires fresh { HasListedSettled self.old.path.now [] (options_for self.old.finder) self.old.finder
             (W.contents (inner_of writer.old)) (W.contents (inner_of writer.old)) }
-        ensures lists { ListsPieces (stage_of W.contents self.old writer.old) max (R.remaining (inner_of reader.old)) result
-            (R.remaining (inner_of reader.new)) (stage_of W.contents self.new writer.new) }
+        ensures lists { ListsPieces (listing_state W.contents self.old writer.old) max (R.remaining (inner_of reader.old)) result
+            (R.remaining (inner_of reader.new)) (listing_state W.contents self.new writer.new) }
         ensures reader { EndsReading result (last_of reader.new) }
     {
         let mut buffer = [0u8; LIST_PIECE];
@@ -146,7 +146,7 @@ impl Listing<'_> {
         requires fine { last_of writer.old ≡ Last.Fine }
         requires open_yet { self.old.finder.scanning.ended ≡ false }
         requires none_ready { has_ready self.old.finder ≡ false }
-        ensures { ListsEnd (stage_of W.contents self.old writer.old) result (stage_of W.contents self.new writer.new) }
+        ensures { ListsEnd (listing_state W.contents self.old writer.old) result (listing_state W.contents self.new writer.new) }
     {
         given_begin_the_found();
         self.finder.finish()?;
@@ -155,7 +155,7 @@ impl Listing<'_> {
     }
 }
 
-/// ListsFound the imports of a Python text: reads `reader` to its end in pieces, and writes to `writer` one line for each
+/// Lists the imports of a Python text: reads `reader` to its end in pieces, and writes to `writer` one line for each
 /// import that is found, as soon as its logical line is whole: `path:line `, `indented ` where that line is, the
 /// statement, and a line feed. Lines count from 1. Before it reads on it flushes what it has written. It keeps the text
 /// of one logical line, and of what was read at most 8192 bytes more.

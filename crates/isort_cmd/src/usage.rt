@@ -1,5 +1,5 @@
 //! Why a command line gives no job.
-use std::alloc::{AllocError, AllocFailed};
+use std::alloc::AllocError;
 use std::error::Error;
 use std::fmt;
 
@@ -54,17 +54,6 @@ impl From<AllocError> for UsageError {
     ghost from_gives = { λ _ e. e ≡ Memory };
 
     fn from(_e: AllocError) -> UsageError {
-        UsageError::Memory
-    }
-}
-
-impl<T: Drop> From<AllocFailed<T>> for UsageError {
-    ghost use Rattle.std.specs.Prelude.{◌≡◌};
-    ghost use Rattle.isort_cmd.specs.declared.usage.UsageError.TheVariants.{Memory};
-
-    ghost from_gives = { λ _ e. e ≡ Memory };
-
-    fn from(_e: AllocFailed<T>) -> UsageError {
         UsageError::Memory
     }
 }

@@ -17,15 +17,15 @@ use Rattle.isort_cmd.specs.declared.error.RunError.TheVariants as run
 use Rattle.isort_cmd.specs.declared.listing.Listing.{Listing}
 
 -- Where a listing stands: the path of its lines, its finder, what its writer has taken, and how the writer's last call ended.
-pub record Stage : Type 0 where
+pub record ListingState : Type 0 where
   pub path : List ℕ
   pub finder : PieceFinderState
   pub written : Option (List ℕ)
   pub last : Last
 
 -- where a listing and its writer stand
-abbrev pub stage_of : {W : Type 0} → (W → Option (List ℕ)) → Listing → Metered W → Stage
-stage_of contents listing writer = record {
+abbrev pub listing_state : {W : Type 0} → (W → Option (List ℕ)) → Listing → Metered W → ListingState
+listing_state contents listing writer = record {
   path = listing.path.now;
   finder = listing.finder;
   written = contents (inner_of writer);
@@ -33,7 +33,7 @@ stage_of contents listing writer = record {
 }
 
 -- what was given was listed: nothing was fed, and no fault was met
-pub record KeepsListed (old new : Stage) : Type 0 where
+pub record KeepsListed (old new : ListingState) : Type 0 where
   pub same_path : new.path ≡ old.path
   pub fine : new.last ≡ last.Fine
   pub fed : fed_by new.finder ≡ fed_by old.finder
@@ -45,12 +45,12 @@ pub record KeepsListed (old new : Stage) : Type 0 where
       → GivenAreListed old.path text options new.finder start new.written
 
 -- one import that was ready was listed
-pub record ListsOne (old new : Stage) : Type 0 where
+pub record ListsOne (old new : ListingState) : Type 0 where
   pub goes_on : KeepsListed old new
   pub falls : due_by new.finder < due_by old.finder
 
 -- all that was ready was listed, which is all that is found once the text is over
-pub record ListsAll (old new : Stage) : Type 0 where
+pub record ListsAll (old new : ListingState) : Type 0 where
   pub goes_on : KeepsListed old new
   pub none_ready : has_ready new.finder ≡ false
   pub whole : (text : List ℕ) (options : FindOptions) (start : Option (List ℕ))
@@ -58,25 +58,25 @@ pub record ListsAll (old new : Stage) : Type 0 where
       → ListsFound old.path text options None start new.written
 
 -- listing what was ready failed
-pub record StopsReady (old : Stage) (e : RunError) (new : Stage) : Type 0 where
+pub record StopsReady (old : ListingState) (e : RunError) (new : ListingState) : Type 0 where
   pub error : IsOutputError e new.last
   pub leaves : (text : List ℕ) (options : FindOptions) (start : Option (List ℕ))
       → GivenAreListed old.path text options old.finder start old.written
       → LeavesReady old.path text options old.finder e start new.written
 
 -- what a call that lists the next import answers
-abbrev pub ListsNext : Stage → Result Bool RunError → Stage → Type 0
+abbrev pub ListsNext : ListingState → Result Bool RunError → ListingState → Type 0
 ListsNext old (Ok true) new = ListsOne old new
 ListsNext old (Ok false) new = ListsAll old new
 ListsNext old (Err e) new = StopsReady old e new
 
 -- what one that lists all that are ready answers
-abbrev pub ListsReady : Stage → Result Bool RunError → Stage → Type 0
+abbrev pub ListsReady : ListingState → Result Bool RunError → ListingState → Type 0
 ListsReady old (Ok some) new = ListsAll old new
 ListsReady old (Err e) new = StopsReady old e new
 
 -- a piece was fed whole, and what it settles was listed
-pub record TakesWholePiece (old : Stage) (piece : List ℕ) (new : Stage) : Type 0 where
+pub record TakesWholePiece (old : ListingState) (piece : List ℕ) (new : ListingState) : Type 0 where
   pub same_path : new.path ≡ old.path
   pub fine : new.last ≡ last.Fine
   pub fed : fed_by new.finder ≡ fed_by old.finder + length piece
@@ -87,50 +87,50 @@ pub record TakesWholePiece (old : Stage) (piece : List ℕ) (new : Stage) : Type
       → HasListedSettled old.path (known ++ piece) options new.finder start new.written
 
 -- listing a piece failed
-pub record StopsInPiece (old : Stage) (piece : List ℕ) (e : RunError) (new : Stage) : Type 0 where
+pub record StopsInPiece (old : ListingState) (piece : List ℕ) (e : RunError) (new : ListingState) : Type 0 where
   pub error : IsOutputError e new.last
   pub leaves : (known : List ℕ) (options : FindOptions) (start : Option (List ℕ))
       → HasListedSettled old.path known options old.finder start old.written
       → LeavesPiece old.path (known ++ piece) options e start new.written
 
 -- what a call that lists a piece answers
-abbrev pub ListsPiece : Stage → List ℕ → Result (Unit {0}) RunError → Stage → Type 0
+abbrev pub ListsPiece : ListingState → List ℕ → Result (Unit {0}) RunError → ListingState → Type 0
 ListsPiece old piece (Ok done) new = TakesWholePiece old piece new
 ListsPiece old piece (Err e) new = StopsInPiece old piece e new
 
 -- all that was read, at most `max` bytes, was fed, and what it settles was listed
-pub record TakesInput (old : Stage) (max : ℕ) (given left : Option (List ℕ)) (new : Stage) : Type 0 where
+pub record TakesInput (old : ListingState) (max : ℕ) (given left : Option (List ℕ)) (new : ListingState) : Type 0 where
   pub same_path : new.path ≡ old.path
   pub fine : new.last ≡ last.Fine
   pub lists : ListsRead old.path (options_for old.finder) max new.finder given left old.written new.written
 
 -- reading or listing failed
-pub record StopsInput (old : Stage) (max : ℕ) (given : Option (List ℕ)) (e : RunError) (left : Option (List ℕ))
-    (new : Stage) : Type 0 where
+pub record StopsInput (old : ListingState) (max : ℕ) (given : Option (List ℕ)) (e : RunError) (left : Option (List ℕ))
+    (new : ListingState) : Type 0 where
   pub writer : LeavesWriter e new.last
   pub leaves : LeavesFed old.path (options_for old.finder) max new.finder e given left old.written new.written
   pub too_long : e ≡ run.TooLong → IfSome given (λ text. max < length text)
 
 -- what a call that reads and lists to the end answers
-abbrev pub ListsPieces : Stage → ℕ → Option (List ℕ) → Result (Unit {0}) RunError → Option (List ℕ) → Stage → Type 0
+abbrev pub ListsPieces : ListingState → ℕ → Option (List ℕ) → Result (Unit {0}) RunError → Option (List ℕ) → ListingState → Type 0
 ListsPieces old max given (Ok done) left new = TakesInput old max given left new × IsAtEnd left
 ListsPieces old max given (Err e) left new = StopsInput old max given e left new
 
 -- the text ended, and the lines of all that is found in it were written
-pub record EndsListing (old new : Stage) : Type 0 where
+pub record EndsListing (old new : ListingState) : Type 0 where
   pub fine : new.last ≡ last.Fine
   pub whole : (text : List ℕ) (options : FindOptions) (start : Option (List ℕ))
       → HasListedSettled old.path text options old.finder start old.written
       → ListsFound old.path text options None start new.written
 
 -- listing what the end makes ready failed
-pub record StopsAtEnd (old : Stage) (e : RunError) (new : Stage) : Type 0 where
+pub record StopsAtEnd (old : ListingState) (e : RunError) (new : ListingState) : Type 0 where
   pub error : IsOutputError e new.last
   pub leaves : (text : List ℕ) (options : FindOptions) (start : Option (List ℕ))
       → HasListedSettled old.path text options old.finder start old.written
       → LeavesAtError old.path text options e start new.written
 
 -- what a call that ends the text answers
-abbrev pub ListsEnd : Stage → Result (Unit {0}) RunError → Stage → Type 0
+abbrev pub ListsEnd : ListingState → Result (Unit {0}) RunError → ListingState → Type 0
 ListsEnd old (Ok done) new = EndsListing old new
 ListsEnd old (Err e) new = StopsAtEnd old e new

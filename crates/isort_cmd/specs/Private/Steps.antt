@@ -3,14 +3,14 @@
 -- Four definitions say what was listed. Two look at one text, `GivenAreListed` and `SettledAreListed`, and two at each text
 -- that begins with the bytes fed, `HasListedGiven` and `HasListedSettled`. Given is what the finder has given so far. Settled
 -- is all that the bytes fed settle, while these decide no fault.
-use Rattle.std.specs.Prelude.{◌≡◌, ◌≤◌, ◌⊎◌, ℕ, true, false, Option, Some, Result, Ok, Err, List, ◌++◌, length, take}
+use Rattle.std.specs.Prelude.{◌≡◌, ◌≤◌, ℕ, false, Option, Some, Result, Ok, Err, List, ◌++◌, length, take}
 use Rattle.std.specs.Io.KnownBytes.{Appends, Consumes}
 use Rattle.py_lines.specs.ScannerState.{GoesOnWith}
 use Rattle.py_lines.specs.declared.fault.Fault.{Fault}
 use Rattle.py_imports.specs.Bound.{Bound}
 use Rattle.isort_find.specs.Found.{IsFound}
 use Rattle.isort_find.specs.Settled.{DecidesFound}
-use Rattle.isort_find.specs.Pieces.{PieceFinderState, HasNoFault, IsOver, HasFoundIn, AreSettled, AreAllSettled, IsUndecided, options_for, fed_by, has_ready}
+use Rattle.isort_find.specs.Pieces.{PieceFinderState, HasNoFault, HasFoundIn, AreSettled, AreAllSettled, IsUndecided, options_for, fed_by, has_ready}
 use Rattle.isort_find.specs.declared.options.FindOptions.{FindOptions}
 use Rattle.isort_cmd.specs.Printed.{printed}
 use Rattle.isort_cmd.specs.Written.{AreFed, ListsFound, ListsPrefix}

@@ -1,7 +1,7 @@
 -- What the bytes read settle was listed at each exit, and all that is found at the end.
 use Rattle.std.proofs.Common.{ap}
 use Rattle.std.proofs.lemmas.Result.{err_from_is_err_and}
-use Rattle.isort_cmd.proofs.IdentifyLemmas.{fresh, identified_nothing, identified_stopped, identified_ended}
+use Rattle.isort_cmd.proofs.IdentifyLemmas.{nothing_fed, identified_nothing, identified_stopped, identified_ended}
 use Rattle.isort_cmd.proofs.listing.identify.Goals as goal
 
 pub returns-in_err-new : goal.returns-in_err-new
@@ -16,7 +16,7 @@ list_pieces-requires g c =
       reader_fine = c.requires.reader_fine;
       writer_fine = c.requires.writer_fine;
       small = c.requires.small;
-      fresh = fresh c.args.path.now c.in_ok-new.field-0 _ new.fed new.none_ready new.open_yet new.is_open new.found new.settled new.undecided;
+      fresh = nothing_fed c.args.path.now c.in_ok-new.field-0 _ new.fed new.none_ready new.open_yet new.is_open new.found new.settled new.undecided;
     }
 
 pub returns-in_err-list_pieces : goal.returns-in_err-list_pieces

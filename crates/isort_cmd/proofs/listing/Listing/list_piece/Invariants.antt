@@ -1,11 +1,11 @@
 -- What the bytes taken had ready was listed.
 use Rattle.std.proofs.Common.{length}
-use Rattle.isort_cmd.specs.Private.Stages.{stage_of}
+use Rattle.isort_cmd.specs.Private.Stages.{listing_state}
 use Rattle.isort_cmd.proofs.AmidLemmas.{IsAmid}
 use Rattle.isort_cmd.proofs.listing.Listing.list_piece.Given as goal
 
 abbrev pub invariant-lines : goal.invariant-lines
-invariant-lines g l = IsAmid l.piece l.rest (stage_of g.W.Write.contents l.initial.self l.initial.writer) (stage_of g.W.Write.contents l.self l.writer)
+invariant-lines g l = IsAmid l.piece l.rest (listing_state g.W.Write.contents l.initial.self l.initial.writer) (listing_state g.W.Write.contents l.self l.writer)
 
 abbrev pub decreases-lines : goal.decreases-lines
 decreases-lines g l = length l.rest

@@ -3,14 +3,14 @@ use Rattle.std.proofs.Common.{◌≡◌, ◌-◌, length}
 use Rattle.isort_find.specs.Pieces.{fed_by}
 use Rattle.isort_sort.specs.Metered.{inner_of, last_of}
 use Rattle.isort_sort.specs.declared.metered.Last.TheVariants.{Fine}
-use Rattle.isort_cmd.specs.Private.Stages.{stage_of, TakesInput}
+use Rattle.isort_cmd.specs.Private.Stages.{listing_state, TakesInput}
 use Rattle.isort_cmd.proofs.listing.Listing.list_pieces.Given as goal
 
 abbrev pub invariant-pieces : goal.invariant-pieces
 invariant-pieces g l = record {
   reader_fine : last_of l.reader ≡ Fine;
   room : length l.buffer ≡ 8192;
-  takes : TakesInput (stage_of g.W.Write.contents l.initial.self l.initial.writer) l.max (g.R.Read.remaining (inner_of l.initial.reader)) (g.R.Read.remaining (inner_of l.reader)) (stage_of g.W.Write.contents l.self l.writer);
+  takes : TakesInput (listing_state g.W.Write.contents l.initial.self l.initial.writer) l.max (g.R.Read.remaining (inner_of l.initial.reader)) (g.R.Read.remaining (inner_of l.reader)) (listing_state g.W.Write.contents l.self l.writer);
 }
 
 abbrev pub decreases-pieces : goal.decreases-pieces
