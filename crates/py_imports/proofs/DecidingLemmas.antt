@@ -4,7 +4,7 @@ use Rattle.py_lines.specs.LogicalLine.{LogicalLine}
 use Rattle.py_lines.specs.declared.fault.FaultKind.TheVariants.{BadImport}
 use Rattle.py_imports.specs.Grammar.{Terminal, import_word, from_word, as_word, name, dot, comma, star, opening, closing, other, begins_import, spelling, NameKind, modules, identifiers, Item, AreItems, AreBracketed, AreNames, plain_names, bracketed, all_names, whole_module, attribute_of, IsImport, import_statement, from_statement}
 use Rattle.py_imports.specs.Private.Items.{begins_closing}
-use Rattle.py_imports.specs.Private.Parsing.{Read, at_relative, ItemRead, at_item}
+use Rattle.py_imports.specs.Private.Parsing.{ReadText, at_relative, ItemRead, at_item}
 use Rattle.py_imports.specs.Statement.{significant, Place, starts}
 use Rattle.py_imports.specs.Bound.{Bound}
 use Rattle.py_imports.specs.Binds.{terminals_at, bounds_at, BindsAt, nothing, imports, IsBadStart, BindEach, BindsOrIsBad}
@@ -130,13 +130,13 @@ import_or_none : (rest : List Terminal) → SomeOrNone (AreItems modules rest) �
 import_or_none rest (some is a) = some (map whole_module is) (import_statement rest is a)
 import_or_none rest (none bad) = none (import_bad rest bad)
 
-from_or_none : (before : List Terminal) (r : Read) → at_relative false before ≡ Some r → SomeOrNone (AreNames r.rest) → SomeOrNone (IsImport (from_word ∷ before))
+from_or_none : (before : List Terminal) (r : ReadText) → at_relative false before ≡ Some r → SomeOrNone (AreNames r.rest) → SomeOrNone (IsImport (from_word ∷ before))
 from_or_none before r e (some is a) =
     let off = at_relative-sound before r e in
     some (map (attribute_of (spelling off.from)) is) (from_statement (from_word ∷ before) off.from r.rest is (ap (λ x. from_word ∷ x) off.split) off.is a)
 from_or_none before r e (none bad) = none (from_bad before r.rest r.spelled e bad)
 
-from_by : (before : List Terminal) (o : Option Read) → at_relative false before ≡ o → SomeOrNone (IsImport (from_word ∷ before))
+from_by : (before : List Terminal) (o : Option ReadText) → at_relative false before ≡ o → SomeOrNone (IsImport (from_word ∷ before))
 from_by before None e = none (from_none before e)
 from_by before (Some r) e = from_or_none before r e (names_or_none r.rest)
 

@@ -73,11 +73,11 @@ none_from line before (t ∷ ts) e = by_start (none_from line (before ++ t ∷ [
     here : Place
     here = record { before = before; token = t; after = ts }
 
-    begins_none : (us : List Terminal) → begins_import (terminal_in line.text t ∷ us) ≡ false
-    begins_none us = begins_by_first (terminal_in line.text t) us [] ∙ first_fails (is_first_word line.text t) (list_any (is_first_word line.text) ts) e
+    begins_no_import : (us : List Terminal) → begins_import (terminal_in line.text t ∷ us) ≡ false
+    begins_no_import us = begins_by_first (terminal_in line.text t) us [] ∙ first_fails (is_first_word line.text t) (list_any (is_first_word line.text) ts) e
 
     by_start : BindEach line (filter (λ p. may_start_after p.before) (places_from (before ++ t ∷ []) ts)) [] → (b : Bool) → may_start_after before ≡ b → BindEach line (filter (λ p. may_start_after p.before) (places_from before (t ∷ ts))) []
-    by_start later true s = rw s ([], [], refl, nothing line here [] (no_import line here begins_none) refl, later)
+    by_start later true s = rw s ([], [], refl, nothing line here [] (no_import line here begins_no_import) refl, later)
     by_start later false s = rw s later
 
 pub binds_no_word : (line : LogicalLine) → list_any (is_first_word line.text) line.tokens ≡ false → Binds line []

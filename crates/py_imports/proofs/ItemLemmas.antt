@@ -3,16 +3,16 @@ use Rattle.std.proofs.Common.{◌≡◌, ℕ, Bool, true, false, None, Some, opt
 use Rattle.std.proofs.lemmas.List.{append-nil}
 use Rattle.py_imports.specs.Grammar.{Terminal, import_word, from_word, as_word, name, dot, comma, star, opening, closing, other, spelling, NameKind, modules, identifiers, IsPath, Item, IsItem, plain, renamed, AreItems, last, then, AreBracketed, closed, closed_after_comma}
 use Rattle.py_imports.specs.Private.Lexemes.{begins_dot}
-use Rattle.py_imports.specs.Private.Parsing.{Read, ItemRead, named_alias, alias_after, at_identifier, at_path, at_item}
+use Rattle.py_imports.specs.Private.Parsing.{ReadText, ItemRead, named_alias, alias_after, at_identifier, at_path, at_item}
 use Rattle.py_imports.proofs.ModuleLemmas.{at_module-whole, at_module-sound, option_and_then-some}
 
 -- whether an item goes on here: by a dot or its alias
-abbrev pub goes_on : List Terminal → Bool
-goes_on (dot ∷ ts) = true
-goes_on (as_word ∷ ts) = true
-goes_on _ = false
+abbrev pub item_goes_on : List Terminal → Bool
+item_goes_on (dot ∷ ts) = true
+item_goes_on (as_word ∷ ts) = true
+item_goes_on _ = false
 
-no_dot_where_ended : (ts : List Terminal) → goes_on ts ≡ false → begins_dot ts ≡ false
+no_dot_where_ended : (ts : List Terminal) → item_goes_on ts ≡ false → begins_dot ts ≡ false
 no_dot_where_ended [] e = refl
 no_dot_where_ended (dot ∷ ts) e = absurd cc
 no_dot_where_ended (import_word ∷ ts) e = refl
@@ -29,7 +29,7 @@ at_path-whole : (k : NameKind) (path : List Terminal) → IsPath k path → (res
 at_path-whole modules path m rest e = at_module-whole path m rest e
 at_path-whole identifiers path (w, p) rest e = ap (λ x. at_identifier (x ++ rest)) p ∙ ap (λ s. Some (record { spelled = s; rest = rest })) (sym (append-nil w) ∙ ap spelling (sym p))
 
-alias_behind-none : (path : List ℕ) (ts : List Terminal) → goes_on ts ≡ false → alias_after path ts ≡ Some (record { item = record { path = path; alias = None }; rest = ts })
+alias_behind-none : (path : List ℕ) (ts : List Terminal) → item_goes_on ts ≡ false → alias_after path ts ≡ Some (record { item = record { path = path; alias = None }; rest = ts })
 alias_behind-none path [] e = refl
 alias_behind-none path (dot ∷ ts) e = refl
 alias_behind-none path (import_word ∷ ts) e = refl
@@ -43,20 +43,20 @@ alias_behind-none path (closing ∷ ts) e = refl
 alias_behind-none path (other ∷ ts) e = refl
 
 -- an item is read whole, where nothing after it belongs to it
-pub at_item-whole : (k : NameKind) (ts : List Terminal) (i : Item) → IsItem k ts i → (rest : List Terminal) → goes_on rest ≡ false → at_item k (ts ++ rest) ≡ Some (record { item = i; rest = rest })
+pub at_item-whole : (k : NameKind) (ts : List Terminal) (i : Item) → IsItem k ts i → (rest : List Terminal) → item_goes_on rest ≡ false → at_item k (ts ++ rest) ≡ Some (record { item = i; rest = rest })
 at_item-whole k ts i (plain l t j p e) rest h =
     ap (option_and_then (λ r. alias_after r.spelled r.rest)) (at_path-whole k ts p rest (no_dot_where_ended rest h)) ∙ alias_behind-none (spelling ts) rest h ∙ ap (λ x. Some (record { item = x; rest = rest })) (sym e)
 at_item-whole k ts i (renamed l t path w j s p e) rest h =
     ap (at_item k) (ap (λ x. x ++ rest) s ∙ append_assoc path (as_word ∷ name w ∷ []) rest) ∙ ap (option_and_then (λ r. alias_after r.spelled r.rest)) (at_path-whole k path p (as_word ∷ name w ∷ rest) refl) ∙ ap (λ x. Some (record { item = x; rest = rest })) (sym e)
 
 -- these terminals begin with such a path
-record ReadsOffPath (k : NameKind) (ts : List Terminal) (r : Read) : Type 0 where
+record ReadsOffPath (k : NameKind) (ts : List Terminal) (r : ReadText) : Type 0 where
   pub path : List Terminal
   pub split : ts ≡ path ++ r.rest
   pub is : IsPath k path
   pub spelled : r.spelled ≡ spelling path
 
-at_path-sound : (k : NameKind) (ts : List Terminal) (r : Read) → at_path k ts ≡ Some r → ReadsOffPath k ts r
+at_path-sound : (k : NameKind) (ts : List Terminal) (r : ReadText) → at_path k ts ≡ Some r → ReadsOffPath k ts r
 at_path-sound modules ts r e = let off = at_module-sound ts r e in record { path = off.path; split = off.split; is = off.is; spelled = off.spelled }
 at_path-sound identifiers (name w ∷ ts) r e =
     let f : record { spelled = w; rest = ts } ≡ r = cc in

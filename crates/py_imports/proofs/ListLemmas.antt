@@ -2,7 +2,7 @@
 use Rattle.std.proofs.Common.{◌≡◌, ◌≢◌, ◌<◌, Bool, true, false, None, Some, List, [], ◌∷◌, length, refl, sym, ap, ◌∙◌, subst, arith, length-append}
 use Rattle.py_imports.specs.Grammar.{Terminal, import_word, from_word, as_word, name, dot, comma, star, opening, closing, other, NameKind, identifiers, Item, AreItems, AreBracketed}
 use Rattle.py_imports.specs.Private.Parsing.{ItemRead, at_item}
-use Rattle.py_imports.specs.Private.Lexemes.{followed_by}
+use Rattle.py_imports.specs.Private.Lexemes.{lexeme_then}
 use Rattle.py_imports.specs.Private.Items.{may_follow, begins_closing, IsClosing, by_bracket, by_comma}
 use Rattle.py_imports.specs.declared.lexeme.Lexeme.{Lexeme}
 use Rattle.py_imports.specs.declared.lexeme.Lexeme.TheVariants as lexeme
@@ -35,9 +35,9 @@ takes_items k now rest i e is (many ks js j after f a s) =
 pub items_go_on : (k : NameKind) (now rest : List Terminal) (i : Item) → at_item k now ≡ Some (record { item = i; rest = comma ∷ rest }) → ListGoesOn (AreItems k) now rest i
 items_go_on k now rest i e = record { puts = λ js a. items_then k now rest i js e a; takes = λ is a. takes_items k now rest i e is (items_begin k now is a) }
 
-begins_none : (k : NameKind) (now : List Terminal) (is : List Item) → ListStarts k now is → at_item k now ≡ None → ⊥
-begins_none k now is (one_item js j f s) e = no_way k now (record { item = j; rest = [] }) e f
-begins_none k now is (many ks js j after f b s) e = no_way k now (record { item = j; rest = comma ∷ after }) e f
+begins_no_import : (k : NameKind) (now : List Terminal) (is : List Item) → ListStarts k now is → at_item k now ≡ None → ⊥
+begins_no_import k now is (one_item js j f s) e = no_way k now (record { item = j; rest = [] }) e f
+begins_no_import k now is (many ks js j after f b s) e = no_way k now (record { item = j; rest = comma ∷ after }) e f
 
 begins_bad : (k : NameKind) (now rest : List Terminal) (i : Item) (is : List Item) → ListStarts k now is → at_item k now ≡ Some (record { item = i; rest = rest }) → may_follow rest ≡ false → ⊥
 begins_bad k now rest i is (one_item js j f s) e h =
@@ -49,7 +49,7 @@ begins_bad k now rest i is (many ks js j after f b s) e h =
 
 -- there is no list where no item is read
 pub items_none : (k : NameKind) (now : List Terminal) → at_item k now ≡ None → (is : List Item) → ¬ (AreItems k now is)
-items_none k now e is a = begins_none k now is (items_begin k now is a) e
+items_none k now e is a = begins_no_import k now is (items_begin k now is a) e
 
 -- nor where something else follows the item
 pub items_bad : (k : NameKind) (now rest : List Terminal) (i : Item) → at_item k now ≡ Some (record { item = i; rest = rest }) → may_follow rest ≡ false → (is : List Item) → ¬ (AreItems k now is)
@@ -122,11 +122,11 @@ abbrev pub begins_comma : List Terminal → Bool
 begins_comma (comma ∷ ts) = true
 begins_comma _ = false
 
-pub no_comma : (after : Lexeme) (ts : List Terminal) → after ≢ lexeme.Comma → begins_comma (followed_by after ts) ≡ false
+pub no_comma : (after : Lexeme) (ts : List Terminal) → after ≢ lexeme.Comma → begins_comma (lexeme_then after ts) ≡ false
 no_comma lexeme.Comma ts h = absurd (h refl)
 no_comma after ts h = refl
 
-pub no_closing : (after : Lexeme) (ts : List Terminal) → after ≢ lexeme.Closing → begins_closing (followed_by after ts) ≡ false
+pub no_closing : (after : Lexeme) (ts : List Terminal) → after ≢ lexeme.Closing → begins_closing (lexeme_then after ts) ≡ false
 no_closing lexeme.Closing ts h = absurd (h refl)
 no_closing after ts h = refl
 

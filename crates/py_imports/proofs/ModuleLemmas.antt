@@ -3,7 +3,7 @@ use Rattle.std.proofs.Common.{◌≡◌, ℕ, Bool, true, false, Option, None, S
 use Rattle.std.specs.Option.{option_map}
 use Rattle.py_imports.specs.Grammar.{Terminal, import_word, from_word, as_word, name, dot, comma, star, opening, closing, other, IsModule, one, more, AreDots, no_dot, one_more, IsRelativeModule, dots, named, spelling}
 use Rattle.py_imports.specs.Private.Lexemes.{begins_dot}
-use Rattle.py_imports.specs.Private.Parsing.{Read, spelled_before, at_module, after_name, import_after, at_relative}
+use Rattle.py_imports.specs.Private.Parsing.{ReadText, spelled_before, at_module, after_name, import_after, at_relative}
 
 -- from an equation of what was mapped to its parts
 pub option_map-some : {A B : Type 0} (f : A → B) (o : Option A) (y : B) → option_map f o ≡ Some y → (x : A) × (o ≡ Some x) × (f x ≡ y)
@@ -11,7 +11,7 @@ option_map-some f None y e = absurd cc
 option_map-some f (Some x) y e = (x, refl, cc)
 
 -- these terminals begin with a module that is spelled so
-pub record ReadsOff (ts : List Terminal) (r : Read) : Type 0 where
+pub record ReadsOff (ts : List Terminal) (r : ReadText) : Type 0 where
   pub path : List Terminal
   pub split : ts ≡ path ++ r.rest
   pub is : IsModule path
@@ -35,13 +35,13 @@ pub at_module-whole : (path : List Terminal) → IsModule path → (rest : List 
 at_module-whole path (one w) rest e = ap (option_map (spelled_before w)) (after_name-other rest e)
 at_module-whole path (more w inner m) rest e = ap (λ o. option_map (spelled_before w) (option_map (spelled_before (46 ∷ [])) o)) (at_module-whole inner m rest e)
 
-ends_here : (w : List ℕ) (ts : List Terminal) (r : Read) → Some (record { spelled = []; rest = ts }) ≡ Some r → ReadsOff (name w ∷ ts) (spelled_before w r)
+ends_here : (w : List ℕ) (ts : List Terminal) (r : ReadText) → Some (record { spelled = []; rest = ts }) ≡ Some r → ReadsOff (name w ∷ ts) (spelled_before w r)
 ends_here w ts r e =
     let f : record { spelled = []; rest = ts } ≡ r = cc in
     subst (λ x. ReadsOff (name w ∷ ts) (spelled_before w x)) f (record { path = name w ∷ []; split = refl; is = one w; spelled = refl })
 
-goes_on : (w : List ℕ) (ts : List Terminal) (r : Read) → ReadsOff ts r → ReadsOff (name w ∷ dot ∷ ts) (spelled_before w (spelled_before (46 ∷ []) r))
-goes_on w ts r off = record {
+item_goes_on : (w : List ℕ) (ts : List Terminal) (r : ReadText) → ReadsOff ts r → ReadsOff (name w ∷ dot ∷ ts) (spelled_before w (spelled_before (46 ∷ []) r))
+item_goes_on w ts r off = record {
   path = name w ∷ dot ∷ off.path;
   split = ap (λ x. name w ∷ dot ∷ x) off.split;
   is = more w off.path off.is;
@@ -49,7 +49,7 @@ goes_on w ts r off = record {
 }
 
 mutual
-  pub at_module-sound : (ts : List Terminal) (r : Read) → at_module ts ≡ Some r → ReadsOff ts r
+  pub at_module-sound : (ts : List Terminal) (r : ReadText) → at_module ts ≡ Some r → ReadsOff ts r
   at_module-sound (name w ∷ ts) r e =
       let inner = option_map-some (spelled_before w) (after_name ts) r e in
       subst (ReadsOff (name w ∷ ts)) inner.2 (after_name-sound w ts inner.0 inner.1)
@@ -64,10 +64,10 @@ mutual
   at_module-sound (closing ∷ ts) r e = absurd cc
   at_module-sound (other ∷ ts) r e = absurd cc
 
-  after_name-sound : (w : List ℕ) (ts : List Terminal) (r : Read) → after_name ts ≡ Some r → ReadsOff (name w ∷ ts) (spelled_before w r)
+  after_name-sound : (w : List ℕ) (ts : List Terminal) (r : ReadText) → after_name ts ≡ Some r → ReadsOff (name w ∷ ts) (spelled_before w r)
   after_name-sound w (dot ∷ ts) r e =
       let inner = option_map-some (spelled_before (46 ∷ [])) (at_module ts) r e in
-      subst (λ x. ReadsOff (name w ∷ dot ∷ ts) (spelled_before w x)) inner.2 (goes_on w ts inner.0 (at_module-sound ts inner.0 inner.1))
+      subst (λ x. ReadsOff (name w ∷ dot ∷ ts) (spelled_before w x)) inner.2 (item_goes_on w ts inner.0 (at_module-sound ts inner.0 inner.1))
   after_name-sound w [] r e = ends_here w [] r e
   after_name-sound w (import_word ∷ ts) r e = ends_here w (import_word ∷ ts) r e
   after_name-sound w (from_word ∷ ts) r e = ends_here w (from_word ∷ ts) r e
@@ -98,18 +98,18 @@ at_relative-whole from (dots others d) rest = ap (option_map (spelled_before (46
 at_relative-whole from (named ts before path e d m) rest = subst (λ x. at_relative false (x ++ import_word ∷ rest) ≡ Some (record { spelled = spelling x; rest = rest })) (sym e) (at_relative-named false before d path m rest)
 
 -- after a dot: more dots or a module after dots, the word `import`, and what is left
-data ReadsFrom : List Terminal → Read → Type 0 where
-  only_dots : (ts before : List Terminal) (r : Read) → ts ≡ before ++ import_word ∷ r.rest → AreDots before → r.spelled ≡ spelling before → ReadsFrom ts r
-  with_module : (ts before path : List Terminal) (r : Read) → ts ≡ (before ++ path) ++ import_word ∷ r.rest → AreDots before → IsModule path → r.spelled ≡ spelling (before ++ path) → ReadsFrom ts r
+data ReadsFrom : List Terminal → ReadText → Type 0 where
+  only_dots : (ts before : List Terminal) (r : ReadText) → ts ≡ before ++ import_word ∷ r.rest → AreDots before → r.spelled ≡ spelling before → ReadsFrom ts r
+  with_module : (ts before path : List Terminal) (r : ReadText) → ts ≡ (before ++ path) ++ import_word ∷ r.rest → AreDots before → IsModule path → r.spelled ≡ spelling (before ++ path) → ReadsFrom ts r
 
 -- these terminals begin with a relative module that is spelled so, and the word `import`
-pub record ReadsOffFrom (ts : List Terminal) (r : Read) : Type 0 where
+pub record ReadsOffFrom (ts : List Terminal) (r : ReadText) : Type 0 where
   pub from : List Terminal
   pub split : ts ≡ from ++ import_word ∷ r.rest
   pub is : IsRelativeModule from
   pub spelled : r.spelled ≡ spelling from
 
-import_after-some : (spelled : List ℕ) (ts : List Terminal) (r : Read) → import_after spelled ts ≡ Some r → (ts ≡ import_word ∷ r.rest) × (spelled ≡ r.spelled)
+import_after-some : (spelled : List ℕ) (ts : List Terminal) (r : ReadText) → import_after spelled ts ≡ Some r → (ts ≡ import_word ∷ r.rest) × (spelled ≡ r.spelled)
 import_after-some spelled (import_word ∷ ts) r e =
     let f : record { spelled = spelled; rest = ts } ≡ r = cc in
     (ap (λ x. import_word ∷ x.rest) f, ap (λ x. x.spelled) f)
@@ -119,26 +119,26 @@ pub option_and_then-some : {A B : Type 0} (f : A → Option B) (o : Option A) (y
 option_and_then-some f None y e = absurd cc
 option_and_then-some f (Some x) y e = (x, refl, e)
 
-module_first : (ts : List Terminal) (r : Read) → option_and_then (λ x. import_after x.spelled x.rest) (at_module ts) ≡ Some r → (path : List Terminal) × (ts ≡ path ++ import_word ∷ r.rest) × IsModule path × (r.spelled ≡ spelling path)
+module_first : (ts : List Terminal) (r : ReadText) → option_and_then (λ x. import_after x.spelled x.rest) (at_module ts) ≡ Some r → (path : List Terminal) × (ts ≡ path ++ import_word ∷ r.rest) × IsModule path × (r.spelled ≡ spelling path)
 module_first ts r e =
     let inner = option_and_then-some (λ x. import_after x.spelled x.rest) (at_module ts) r e in
     let off = at_module-sound ts inner.0 inner.1 in
     let later = import_after-some inner.0.spelled inner.0.rest r inner.2 in
     (off.path, off.split ∙ ap (λ x. off.path ++ x) later.0, off.is, sym later.1 ∙ off.spelled)
 
-module_behind : (ts : List Terminal) (r : Read) → option_and_then (λ x. import_after x.spelled x.rest) (at_module ts) ≡ Some r → ReadsFrom ts r
+module_behind : (ts : List Terminal) (r : ReadText) → option_and_then (λ x. import_after x.spelled x.rest) (at_module ts) ≡ Some r → ReadsFrom ts r
 module_behind ts r e = let m = module_first ts r e in with_module ts [] m.0 r m.1 no_dot m.2 m.3
 
-dot_first : (ts : List Terminal) (r : Read) → ReadsFrom ts r → ReadsFrom (dot ∷ ts) (spelled_before (46 ∷ []) r)
+dot_first : (ts : List Terminal) (r : ReadText) → ReadsFrom ts r → ReadsFrom (dot ∷ ts) (spelled_before (46 ∷ []) r)
 dot_first ts r (only_dots t before q e d s) = only_dots (dot ∷ t) (dot ∷ before) _ (ap (λ x. dot ∷ x) e) (one_more before d) (ap (λ x. 46 ∷ x) s)
 dot_first ts r (with_module t before path q e d m s) = with_module (dot ∷ t) (dot ∷ before) path _ (ap (λ x. dot ∷ x) e) (one_more before d) m (ap (λ x. 46 ∷ x) s)
 
-import_first : (ts : List Terminal) (r : Read) → Some (record { spelled = []; rest = ts }) ≡ Some r → ReadsFrom (import_word ∷ ts) r
+import_first : (ts : List Terminal) (r : ReadText) → Some (record { spelled = []; rest = ts }) ≡ Some r → ReadsFrom (import_word ∷ ts) r
 import_first ts r e =
     let f : record { spelled = []; rest = ts } ≡ r = cc in
     subst (ReadsFrom (import_word ∷ ts)) f (only_dots _ [] _ refl no_dot refl)
 
-behind_dot : (ts : List Terminal) (r : Read) → at_relative true ts ≡ Some r → ReadsFrom ts r
+behind_dot : (ts : List Terminal) (r : ReadText) → at_relative true ts ≡ Some r → ReadsFrom ts r
 behind_dot (dot ∷ ts) r e =
     let inner = option_map-some (spelled_before (46 ∷ [])) (at_relative true ts) r e in
     subst (ReadsFrom (dot ∷ ts)) inner.2 (dot_first ts inner.0 (behind_dot ts inner.0 inner.1))
@@ -153,15 +153,15 @@ behind_dot (opening ∷ ts) r e = module_behind (opening ∷ ts) r e
 behind_dot (closing ∷ ts) r e = module_behind (closing ∷ ts) r e
 behind_dot (other ∷ ts) r e = module_behind (other ∷ ts) r e
 
-from_dot : (ts : List Terminal) (r : Read) → ReadsFrom ts r → ReadsOffFrom (dot ∷ ts) (spelled_before (46 ∷ []) r)
+from_dot : (ts : List Terminal) (r : ReadText) → ReadsFrom ts r → ReadsOffFrom (dot ∷ ts) (spelled_before (46 ∷ []) r)
 from_dot ts r (only_dots t before q e d s) = record { from = dot ∷ before; split = ap (λ x. dot ∷ x) e; is = dots before d; spelled = ap (λ x. 46 ∷ x) s }
 from_dot ts r (with_module t before path q e d m s) = record { from = dot ∷ before ++ path; split = ap (λ x. dot ∷ x) e; is = named _ (dot ∷ before) path refl (one_more before d) m; spelled = ap (λ x. 46 ∷ x) s }
 
-from_module : (ts : List Terminal) (r : Read) → option_and_then (λ x. import_after x.spelled x.rest) (at_module ts) ≡ Some r → ReadsOffFrom ts r
+from_module : (ts : List Terminal) (r : ReadText) → option_and_then (λ x. import_after x.spelled x.rest) (at_module ts) ≡ Some r → ReadsOffFrom ts r
 from_module ts r e = let m = module_first ts r e in record { from = m.0; split = m.1; is = named m.0 [] m.0 refl no_dot m.2; spelled = m.3 }
 
 -- what is read of a relative module is one
-pub at_relative-sound : (ts : List Terminal) (r : Read) → at_relative false ts ≡ Some r → ReadsOffFrom ts r
+pub at_relative-sound : (ts : List Terminal) (r : ReadText) → at_relative false ts ≡ Some r → ReadsOffFrom ts r
 at_relative-sound (dot ∷ ts) r e =
     let inner = option_map-some (spelled_before (46 ∷ [])) (at_relative true ts) r e in
     subst (ReadsOffFrom (dot ∷ ts)) inner.2 (from_dot ts inner.0 (behind_dot ts inner.0 inner.1))

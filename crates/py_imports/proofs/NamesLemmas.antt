@@ -1,7 +1,7 @@
 -- What may stand after `from .. import`, by its first terminal.
 use Rattle.std.proofs.Common.{◌≡◌, ◌≢◌, Bool, true, false, List, [], ◌∷◌, refl, subst}
 use Rattle.py_imports.specs.Grammar.{Terminal, star, opening, identifiers, Item, AreItems, AreBracketed, AreNames, plain_names, bracketed, all_names}
-use Rattle.py_imports.specs.Private.Lexemes.{followed_by}
+use Rattle.py_imports.specs.Private.Lexemes.{lexeme_then}
 use Rattle.py_imports.specs.declared.lexeme.Lexeme.{Lexeme}
 use Rattle.py_imports.specs.declared.lexeme.Lexeme.TheVariants as lexeme
 use Rattle.py_imports.proofs.ListLemmas.{items_none}
@@ -27,7 +27,7 @@ plain_only ts is (plain_names t js a) e = a
 plain_only ts is (bracketed t js a) e = absurd cc
 plain_only ts is all_names e = absurd cc
 
-pub begins_plain-lexeme : (first : Lexeme) (ts : List Terminal) → first ≢ lexeme.Star → first ≢ lexeme.Opening → begins_plain (followed_by first ts) ≡ true
+pub begins_plain-lexeme : (first : Lexeme) (ts : List Terminal) → first ≢ lexeme.Star → first ≢ lexeme.Opening → begins_plain (lexeme_then first ts) ≡ true
 begins_plain-lexeme lexeme.Import ts h k = refl
 begins_plain-lexeme lexeme.From ts h k = refl
 begins_plain-lexeme lexeme.As ts h k = refl

@@ -66,7 +66,7 @@ one_first line (p ∷ before) (q ∷ others) start other later after bounds more
     one_first line before others start other later after rest tail h each bad fine worse
 
 -- a logical line has one fault: its first bad statement is one
-pub one_fault : (line : LogicalLine) (fault other : Fault) → IsBadAt line fault → IsBadAt line other → fault ≡ other
-one_fault line fault other f g =
+pub one_bad_fault : (line : LogicalLine) (fault other : Fault) → IsBadAt line fault → IsBadAt line other → fault ≡ other
+one_bad_fault line fault other f g =
     let same = one_first line f.before g.before f.start g.start f.after g.after f.bounds g.bounds (sym f.split ∙ g.split) f.good f.bad g.good g.bad in
     f.place ∙ ap (λ p. record { kind = BadImport; offset = line.offset + p.token.start; line = p.token.line }) same ∙ sym g.place

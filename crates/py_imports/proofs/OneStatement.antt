@@ -9,7 +9,7 @@ use Rattle.py_imports.specs.Bound.{bound_at}
 use Rattle.py_imports.specs.Binds.{Binds, BindEach, BindsAt, imports, bounds_at, terminals_at, terminal_in}
 use Rattle.py_imports.specs.Grammar.{Terminal, Imported, IsImport, begins_import}
 use Rattle.py_imports.specs.Shape.{terminals_of}
-use Rattle.py_imports.specs.Statement.{is_semicolon, is_colon, is_divider, depth_past, ends_in_divider, may_start_after, Place, places_from, starts, is_end, statement_at, significant}
+use Rattle.py_imports.specs.Statement.{is_semicolon, is_colon_token, is_divider, depth_past, ends_in_divider, may_start_after, Place, places_from, starts, is_end, statement_at, significant}
 
 no_divider_last : (d : ℕ) (t : Token) (ts : List Token) → list_any (λ u. is_divider u.kind) (t ∷ ts) ≡ false → ends_in_divider d (t ∷ ts) ≡ false
 no_divider_last d t [] h = ap (λ b. b && (d == 0)) (or_parts (is_divider t.kind) false h).0
@@ -39,7 +39,7 @@ no_end_in : (before ts : List Token) → list_any (λ t. is_divider t.kind) ts �
 no_end_in before [] h = refl
 no_end_in before (t ∷ ts) h =
     let parts = or_parts (is_divider t.kind) (list_any (λ u. is_divider u.kind) ts) h in
-    rw ((or_parts (is_semicolon t.kind) (is_colon t.kind) parts.0).0, no_end_in (before ++ t ∷ []) ts parts.1)
+    rw ((or_parts (is_semicolon t.kind) (is_colon_token t.kind) parts.0).0, no_end_in (before ++ t ∷ []) ts parts.1)
 
 all_taken : (ps : List Place) → list_any is_end ps ≡ false → take_while (λ q. not (is_end q)) ps ≡ ps
 all_taken [] h = refl

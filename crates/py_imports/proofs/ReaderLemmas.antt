@@ -6,10 +6,10 @@ use Rattle.py_lines.specs.declared.token.Token.{Token}
 use Rattle.py_imports.specs.Binds.{terminal_in}
 use Rattle.py_imports.specs.Grammar.{Terminal, import_word, from_word, comma, star, opening, closing, NameKind, modules, identifiers, Item, AreItems, AreBracketed, bracketed, AreNames, plain_names, all_names, whole_module, attribute_of, Imported, IsImport, import_statement, from_statement}
 use Rattle.py_imports.specs.Statement.{significant}
-use Rattle.py_imports.specs.Private.Lexemes.{followed_by, rest_of, IsFurther}
+use Rattle.py_imports.specs.Private.Lexemes.{lexeme_then, unread_of, IsFurther}
 use Rattle.py_imports.specs.declared.lexemes.Lexemes.{Lexemes}
 use Rattle.py_imports.specs.Private.Parsing.{at_module, at_relative, ItemRead, alias_after, at_item}
-use Rattle.py_imports.specs.Private.Items.{item_imported, ListsOf, AreLeftAt, AreLeft, most_left_at, AreSameLists, StartWith, IsFirst, FollowsItem, begins_closing, IsClosing, by_bracket, by_comma, IsOutOfBrackets, FollowsBracketed, ReadsStar, ListsFrom, path_of}
+use Rattle.py_imports.specs.Private.Items.{item_imported, ListsOf, AreLeftAt, AreLeft, most_left_at, AreSameLists, StartWith, IsFirstOfLists, FollowsItem, begins_closing, IsClosing, by_bracket, by_comma, IsOutOfBrackets, FollowsBracketed, ReadsStar, ListsFrom, path_of}
 use Rattle.py_imports.specs.declared.items.ImportItem.{ImportItem}
 use Rattle.py_imports.specs.declared.items.ImportItems.{ImportItems}
 use Rattle.py_imports.specs.declared.items.ModulePath.{ModulePath}
@@ -37,8 +37,8 @@ terminals-split text tokens a b c h k =
     ap (λ x. map (terminal_in text) (significant x)) (window-split tokens a b c h k) ∙ ap (map (terminal_in text)) (significant-append (window tokens a b) (window tokens b c)) ∙ map-append (terminal_in text) (significant (window tokens a b)) (significant (window tokens b c))
 
 -- a reader stays, or goes on in two steps
-pub stays : (s : Lexemes) → IsFurther s s
-stays s = record { unit = refl; end = refl; place = omega arith }
+pub further_same : (s : Lexemes) → IsFurther s s
+further_same s = record { unit = refl; end = refl; place = omega arith }
 
 pub follows_on : (a b c : Lexemes) → IsFurther a b → IsFurther b c → IsFurther a c
 follows_on a b c f g = record { unit = g.unit ∙ f.unit; end = g.end ∙ f.end; place = omega (arith, f.place, g.place) }
@@ -133,12 +133,12 @@ bracketed_fewer m next now rest after i e (inr (n, closes)) =
     omega (arith, same)
 
 -- the same lists have the same first item
-pub first_of_same : (Before Others After : List Imported → Type 0) (o : Option ImportItem) → AreSameLists Before Others → IsFirst Others o After → IsFirst Before o After
+pub first_of_same : (Before Others After : List Imported → Type 0) (o : Option ImportItem) → AreSameLists Before Others → IsFirstOfLists Others o After → IsFirstOfLists Before o After
 first_of_same Before Others After None same first = λ is a. first is (same.to is a)
 first_of_same Before Others After (Some i) same first = record { puts = λ is a. same.from (item_imported i ∷ is) (first.puts is a); takes = λ is a. first.takes is (same.to is a) }
 
-pub same_lists : (Are Others : List Item → Type 0) (import : Item → Imported) → ((is : List Item) → Are is → Others is) → ((is : List Item) → Others is → Are is) → AreSameLists (ListsOf import Are) (ListsOf import Others)
-same_lists Are Others import to from = record { to = goes; from = comes }
+pub lists_are_same : (Are Others : List Item → Type 0) (import : Item → Imported) → ((is : List Item) → Are is → Others is) → ((is : List Item) → Others is → Are is) → AreSameLists (ListsOf import Are) (ListsOf import Others)
+lists_are_same Are Others import to from = record { to = goes; from = comes }
   where
     goes : (is : List Imported) → ListsOf import Are is → ListsOf import Others is
     goes is (items, a, e) = (items, to items a, e)
@@ -148,11 +148,11 @@ same_lists Are Others import to from = record { to = goes; from = comes }
 
 -- names in brackets are what stands in the brackets
 pub same_in_brackets : (import : Item → Imported) (ts rest : List Terminal) → ts ≡ opening ∷ rest → AreSameLists (ListsOf import (AreNames ts)) (ListsOf import (AreBracketed rest))
-same_in_brackets import ts rest e = same_lists (AreNames ts) (AreBracketed rest) import (λ is a. opening_brackets ts is a rest e) (λ is a. subst (λ x. AreNames x is) (sym e) (bracketed rest is a))
+same_in_brackets import ts rest e = lists_are_same (AreNames ts) (AreBracketed rest) import (λ is a. opening_brackets ts is a rest e) (λ is a. subst (λ x. AreNames x is) (sym e) (bracketed rest is a))
 
 -- names without brackets
-pub same_plain : (import : Item → Imported) (ts : List Terminal) → begins_plain ts ≡ true → AreSameLists (ListsOf import (AreNames ts)) (ListsOf import (AreItems identifiers ts))
-same_plain import ts e = same_lists (AreNames ts) (AreItems identifiers ts) import (λ is a. plain_only ts is a e) (λ is a. plain_names ts is a)
+pub plain_names_same : (import : Item → Imported) (ts : List Terminal) → begins_plain ts ≡ true → AreSameLists (ListsOf import (AreNames ts)) (ListsOf import (AreItems identifiers ts))
+plain_names_same import ts e = lists_are_same (AreNames ts) (AreItems identifiers ts) import (λ is a. plain_only ts is a e) (λ is a. plain_names ts is a)
 
 -- `*` alone
 pub star_first : (import : Item → Imported) (ts rest : List Terminal) → ts ≡ star ∷ rest → rest ≡ [] → StartWith (ListsOf import (AreNames ts)) (import (record { path = codes "*"; alias = None })) (λ is. is ≡ [])
@@ -170,11 +170,11 @@ star_first import ts rest e n = lists_end (AreNames ts) import all (record { is 
     one us w is all_names = refl
 
 -- and no list where something comes after it
-pub star_by : (m : ModulePath) (ts rest : List Terminal) (o : Option ImportItem) (after : ImportItems) → ts ≡ star ∷ rest → ReadsStar m rest o after.stage → IsFirst (ListsFrom m (AreNames ts)) o (AreLeft after)
+pub star_by : (m : ModulePath) (ts rest : List Terminal) (o : Option ImportItem) (after : ImportItems) → ts ≡ star ∷ rest → ReadsStar m rest o after.stage → IsFirstOfLists (ListsFrom m (AreNames ts)) o (AreLeft after)
 star_by m ts rest None after e h = no_lists (AreNames ts) (attribute_of (path_of m)) (star_bad ts rest e h)
 star_by m ts rest (Some i) after e all =
     let first = star_first (attribute_of (path_of m)) ts rest e all.nothing in
-    subst (λ j. StartWith (ListsFrom m (AreNames ts)) j (AreLeft after)) (sym all.star) (record { puts = λ is a. first.puts is (subst (λ s. AreLeftAt s (rest_of after.tokens) is) all.ended a); takes = λ is a. let t = first.takes is a in (t.0, t.1, subst (λ s. AreLeftAt s (rest_of after.tokens) t.0) (sym all.ended) t.2) })
+    subst (λ j. StartWith (ListsFrom m (AreNames ts)) j (AreLeft after)) (sym all.star) (record { puts = λ is a. first.puts is (subst (λ s. AreLeftAt s (unread_of after.tokens) is) all.ended a); takes = λ is a. let t = first.takes is a in (t.0, t.1, subst (λ s. AreLeftAt s (unread_of after.tokens) t.0) (sym all.ended) t.2) })
 
 -- what the names after `from .. import` import, the statement does
 pub same_from : (before later : List Terminal) (w : List ℕ) → at_relative false before ≡ Some (record { spelled = w; rest = later }) → AreSameLists (IsImport (from_word ∷ before)) (ListsOf (attribute_of w) (AreNames later))
@@ -214,21 +214,21 @@ comma_closing_by m before mid after rest None e f h = record { not_closed = ends
 comma_closing_by m before mid after rest (Some s) e f (end, n) = inr (end, by_comma before (e ∙ ap (λ x. comma ∷ x) (f ∙ ap (λ x. closing ∷ x) n)))
 
 -- something else after an item in brackets
-pub out_of_brackets : (after : Lexeme) (before rest : List Terminal) → before ≡ followed_by after rest → after ≢ lexeme.Comma → after ≢ lexeme.Closing → IsOutOfBrackets before
+pub out_of_brackets : (after : Lexeme) (before rest : List Terminal) → before ≡ lexeme_then after rest → after ≢ lexeme.Comma → after ≢ lexeme.Closing → IsOutOfBrackets before
 out_of_brackets after before rest e h n =
     let c : begins_comma before ≡ false = ap begins_comma e ∙ no_comma after rest h in
     record { not_closed = neither_ends before c (ap begins_closing e ∙ no_closing after rest n); stuck = comma_not_first before c }
 
 -- the first item, by the stage
-pub first_by_stage : (r : ImportItems) (s : Stage) (o p : Option ImportItem) (after now : ImportItems) → r.stage ≡ s → p ≡ o → now ≡ after → IsFirst (AreLeftAt s (rest_of r.tokens)) o (AreLeft after) → IsFirst (AreLeft r) p (AreLeft now)
-first_by_stage r s o p after now e f g h = subst (λ x. IsFirst (AreLeftAt x (rest_of r.tokens)) p (AreLeft now)) (sym e) (subst (λ x. IsFirst (AreLeftAt s (rest_of r.tokens)) x (AreLeft now)) (sym f) (subst (λ x. IsFirst (AreLeftAt s (rest_of r.tokens)) o (AreLeft x)) (sym g) h))
+pub first_by_stage : (r : ImportItems) (s : Stage) (o p : Option ImportItem) (after now : ImportItems) → r.stage ≡ s → p ≡ o → now ≡ after → IsFirstOfLists (AreLeftAt s (unread_of r.tokens)) o (AreLeft after) → IsFirstOfLists (AreLeft r) p (AreLeft now)
+first_by_stage r s o p after now e f g h = subst (λ x. IsFirstOfLists (AreLeftAt x (unread_of r.tokens)) p (AreLeft now)) (sym e) (subst (λ x. IsFirstOfLists (AreLeftAt s (unread_of r.tokens)) x (AreLeft now)) (sym f) (subst (λ x. IsFirstOfLists (AreLeftAt s (unread_of r.tokens)) o (AreLeft x)) (sym g) h))
 
 -- the reader's answer, by its next item
-pub next_some : (Before After : List Imported → Type 0) (o : Option ImportItem) (i : ImportItem) → o ≡ Some i → IsFirst Before o After → StartWith Before (item_imported i) After
-next_some Before After o i e h = subst (λ x. IsFirst Before x After) e h
+pub next_some : (Before After : List Imported → Type 0) (o : Option ImportItem) (i : ImportItem) → o ≡ Some i → IsFirstOfLists Before o After → StartWith Before (item_imported i) After
+next_some Before After o i e h = subst (λ x. IsFirstOfLists Before x After) e h
 
-pub next_none : (Before After : List Imported → Type 0) (o : Option ImportItem) → o ≡ None → IsFirst Before o After → (is : List Imported) → ¬ (Before is)
-next_none Before After o e h = subst (λ x. IsFirst Before x After) e h
+pub next_none : (Before After : List Imported → Type 0) (o : Option ImportItem) → o ≡ None → IsFirstOfLists Before o After → (is : List Imported) → ¬ (Before is)
+next_none Before After o e h = subst (λ x. IsFirstOfLists Before x After) e h
 
 -- and so do the modules after `import`
 pub same_import : (rest : List Terminal) → AreSameLists (IsImport (import_word ∷ rest)) (ListsOf whole_module (AreItems modules rest))

@@ -5,15 +5,15 @@ use Rattle.std.specs.Option.{option_map}
 use Rattle.py_imports.specs.Grammar.{Terminal, import_word, from_word, as_word, name, dot, comma, star, opening, closing, other, spelling}
 use Rattle.py_imports.specs.declared.lexeme.Lexeme.{Lexeme}
 use Rattle.py_imports.specs.declared.lexeme.Lexeme.TheVariants as lexeme
-use Rattle.py_imports.specs.Private.Lexemes.{followed_by, begins_dot, begins_import_word, PassesDots}
-use Rattle.py_imports.specs.Private.Parsing.{Read, spelled_before, at_module, import_after, at_relative}
+use Rattle.py_imports.specs.Private.Lexemes.{lexeme_then, begins_dot, begins_import_word, PassesDots}
+use Rattle.py_imports.specs.Private.Parsing.{ReadText, spelled_before, at_module, import_after, at_relative}
 use Rattle.py_imports.proofs.ModuleLemmas.{after_name-other, at_module-sound, at_relative-sound}
 
-before_twice : (a b : List ℕ) (o : Option Read) → option_map (spelled_before a) (option_map (spelled_before b) o) ≡ option_map (spelled_before (a ++ b)) o
+before_twice : (a b : List ℕ) (o : Option ReadText) → option_map (spelled_before a) (option_map (spelled_before b) o) ≡ option_map (spelled_before (a ++ b)) o
 before_twice a b None = refl
 before_twice a b (Some r) = ap (λ s. Some (record { spelled = s; rest = r.rest })) (sym (append_assoc a b r.spelled))
 
-before_nothing : (o : Option Read) → option_map (spelled_before []) o ≡ o
+before_nothing : (o : Option ReadText) → option_map (spelled_before []) o ≡ o
 before_nothing None = refl
 before_nothing (Some r) = refl
 
@@ -33,7 +33,7 @@ names_dot start before now after w r b e = record {
 }
 
 -- what was read of a module is spelled so, where this is left
-module_is : (start read : List Terminal) (r : Read) → at_module start ≡ Some r → start ≡ read ++ r.rest → at_module start ≡ Some (record { spelled = spelling read; rest = r.rest })
+module_is : (start read : List Terminal) (r : ReadText) → at_module start ≡ Some r → start ≡ read ++ r.rest → at_module start ≡ Some (record { spelled = spelling read; rest = r.rest })
 module_is start read r e split =
     let off = at_module-sound start r e in
     let path : off.path ≡ read = append_cancel_right off.path read r.rest (sym off.split ∙ split) in
@@ -57,7 +57,7 @@ dots_dot dotted start before now r b = record {
 }
 
 -- what was read of a relative module is spelled so, where this is left
-relative_is : (start read : List Terminal) (r : Read) → at_relative false start ≡ Some r → start ≡ read ++ import_word ∷ r.rest → at_relative false start ≡ Some (record { spelled = spelling read; rest = r.rest })
+relative_is : (start read : List Terminal) (r : ReadText) → at_relative false start ≡ Some r → start ≡ read ++ import_word ∷ r.rest → at_relative false start ≡ Some (record { spelled = spelling read; rest = r.rest })
 relative_is start read r e split =
     let off = at_relative-sound start r e in
     let from : off.from ≡ read = append_cancel_right off.from read (import_word ∷ r.rest) (sym off.split ∙ split) in
@@ -90,7 +90,7 @@ relative_named dotted start now later rest read w d h e f split =
     relative_is start read (spelled_before d.written (record { spelled = w; rest = rest })) (d.same ∙ ap (option_map (spelled_before d.written)) (named_next dotted now d.ended h ∙ ap (option_and_then (λ r. import_after r.spelled r.rest)) e ∙ ap (import_after w) f)) (split ∙ ap (λ x. read ++ x) f)
 
 -- no dot is next, where another lexeme is
-pub no_dot-lexeme : (after : Lexeme) (ts : List Terminal) → after ≢ lexeme.Dot → begins_dot (followed_by after ts) ≡ false
+pub no_dot-lexeme : (after : Lexeme) (ts : List Terminal) → after ≢ lexeme.Dot → begins_dot (lexeme_then after ts) ≡ false
 no_dot-lexeme lexeme.Import ts h = refl
 no_dot-lexeme lexeme.From ts h = refl
 no_dot-lexeme lexeme.As ts h = refl

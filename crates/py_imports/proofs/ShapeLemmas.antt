@@ -19,7 +19,7 @@ use Rattle.py_imports.specs.Grammar.{Terminal, terminal_of, begins_import}
 use Rattle.py_imports.specs.Private.Items.{with_first_word}
 use Rattle.py_imports.specs.Private.Places.{IsFirstCode, BeginsAt}
 use Rattle.py_imports.specs.declared.items.Form.{Form}
-use Rattle.py_imports.proofs.StatementLemmas.{token_at}
+use Rattle.py_imports.proofs.StatementLemmas.{token_at_place}
 use Rattle.py_imports.proofs.TokenLemmas.{depth_behind-snoc}
 use Rattle.py_imports.proofs.EndLemmas.{significant-append}
 use Rattle.py_imports.proofs.BindingLemmas.{from_significant}
@@ -71,11 +71,11 @@ no_code tokens e = by_found (nat_lt (position_or_len is_no_comment tokens) (leng
 terminals_begin : (line : LogicalLine) (place : ℕ) (none : Token) (word : List ℕ) (f : IsFirstCode line.tokens place) → place < length line.tokens → word ≡ slice_range line.text f.first.start f.first.stop → terminals_of line ≡ terminal_of (get_or line.tokens place none).kind word ∷ map (terminal_in line.text) (significant (drop (place + 1) line.tokens))
 terminals_begin line place none word f within w =
     let rest = map (terminal_in line.text) (significant (drop (place + 1) line.tokens)) in
-    ap (map (terminal_in line.text)) f.all ∙ ap (λ v. terminal_of f.first.kind v ∷ rest) (sym w) ∙ ap (λ (t : Token). terminal_of t.kind word ∷ rest) (sym (token_at line.tokens place none f.first within f.at))
+    ap (map (terminal_in line.text)) f.all ∙ ap (λ v. terminal_of f.first.kind v ∷ rest) (sym w) ∙ ap (λ (t : Token). terminal_of t.kind word ∷ rest) (sym (token_at_place line.tokens place none f.first within f.at))
 
 -- that token begins no import statement
-pub begins_none : (line : LogicalLine) (place : ℕ) (none : Token) (word : List ℕ) (f : IsFirstCode line.tokens place) → line.kind ≡ unit_kind.Code → place < length line.tokens → word ≡ slice_range line.text f.first.start f.first.stop → ((ts : List Terminal) → begins_import (terminal_of (get_or line.tokens place none).kind word ∷ ts) ≡ false) → begins_so line ≡ false
-begins_none line place none word f code within w h =
+pub begins_no_import : (line : LogicalLine) (place : ℕ) (none : Token) (word : List ℕ) (f : IsFirstCode line.tokens place) → line.kind ≡ unit_kind.Code → place < length line.tokens → word ≡ slice_range line.text f.first.start f.first.stop → ((ts : List Terminal) → begins_import (terminal_of (get_or line.tokens place none).kind word ∷ ts) ≡ false) → begins_so line ≡ false
+begins_no_import line place none word f code within w h =
     ap (λ k. line_is_code k && begins_import (terminals_of line)) code ∙ ap begins_import (terminals_begin line place none word f within w) ∙ h (map (terminal_in line.text) (significant (drop (place + 1) line.tokens)))
 
 -- that token begins one

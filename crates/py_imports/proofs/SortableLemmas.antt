@@ -15,26 +15,26 @@ use Rattle.py_imports.specs.Statement.{significant, places_from, is_end}
 use Rattle.py_imports.specs.declared.items.Form.{Form}
 
 -- a test tells whether a fact holds
-abbrev pub Tells : Bool → Type 0 → Type 0
-Tells b P = MatchBool b P (¬ P)
+abbrev pub TellsIf : Bool → Type 0 → Type 0
+TellsIf b P = MatchBool b P (¬ P)
 
 -- a second test, which is made where the first passes
-both : (a b : Bool) (P Q : Type 0) → Tells a P → a ≡ true → Tells b Q → Tells b (P × Q)
+both : (a b : Bool) (P Q : Type 0) → TellsIf a P → a ≡ true → TellsIf b Q → TellsIf b (P × Q)
 both true true P Q p e q = (p, q)
 both true false P Q p e fails = λ pq. fails pq.1
 both false b P Q fails e q = absurd cc
 
 -- where the first fails, there is no second
-pub neither : (a b : Bool) (P Q : Type 0) → Tells a P → a ≡ false → b ≡ a → Tells b (P × Q)
+pub neither : (a b : Bool) (P Q : Type 0) → TellsIf a P → a ≡ false → b ≡ a → TellsIf b (P × Q)
 neither false false P Q fails e f = λ pq. fails pq.0
 neither false true P Q fails e f = absurd cc
 neither true b P Q p e f = absurd cc
 
-tells_true : (b x : Bool) → b ≡ x → Tells b (x ≡ true)
+tells_true : (b x : Bool) → b ≡ x → TellsIf b (x ≡ true)
 tells_true true x e = sym e
 tells_true false x e = λ t. let f : false ≡ true = e ∙ t in cc
 
-tells_false : (a b x : Bool) → a ≡ not b → b ≡ x → Tells a (x ≡ false)
+tells_false : (a b x : Bool) → a ≡ not b → b ≡ x → TellsIf a (x ≡ false)
 tells_false true true x n e = absurd cc
 tells_false true false x n e = sym e
 tells_false false true x n e = λ f. let g : true ≡ false = e ∙ f in cc
@@ -54,22 +54,22 @@ abbrev pub StandsWell : LogicalLine → Type 0
 StandsWell line = list_all stands_well (places_from [] line.tokens) ≡ true
 
 -- where the line's first token that is no comment stands
-pub first : (line : LogicalLine) (place : ℕ) (which : Form) (b : Bool) → BeginsAt line place which → ((t : Token) → slice_get line.tokens place ≡ Some t → b ≡ (t.start == mark_len line + line.indent)) → Tells b (StandsFirst line)
+pub first : (line : LogicalLine) (place : ℕ) (which : Form) (b : Bool) → BeginsAt line place which → ((t : Token) → slice_get line.tokens place ≡ Some t → b ≡ (t.start == mark_len line + line.indent)) → TellsIf b (StandsFirst line)
 first line place which b begins at =
     tells_true b _ (at begins.first.first begins.first.at ∙ sym (ap (λ ts. begins_at (mark_len line + line.indent) (slice_get ts 0)) begins.first.all))
 
-pub alone : (line : LogicalLine) (a b divided : Bool) → Tells a (StandsFirst line) → a ≡ true → b ≡ not divided → divided ≡ list_any is_end (places_from [] (significant line.tokens)) → Tells b (StandsFirst line × StandsAlone line)
+pub alone : (line : LogicalLine) (a b divided : Bool) → TellsIf a (StandsFirst line) → a ≡ true → b ≡ not divided → divided ≡ list_any is_end (places_from [] (significant line.tokens)) → TellsIf b (StandsFirst line × StandsAlone line)
 alone line a b divided fact holds is said = both a b _ _ fact holds (tells_false b divided _ is said)
 
-tells_whether : (b : Bool) (Are These : List Imported → Type 0) → AreSameLists These Are → TellsWhether b Are → Tells b ((is : List Imported) × These is)
+tells_whether : (b : Bool) (Are These : List Imported → Type 0) → AreSameLists These Are → TellsWhether b Are → TellsIf b ((is : List Imported) × These is)
 tells_whether true Are These same some = (some.0, same.from some.0 some.1)
 tells_whether false Are These same none = λ these. none these.0 (same.to these.0 these.1)
 
 -- the items that are read are those of the line
 pub in_grammar : (line : LogicalLine) (place : ℕ) (which : Form) (a b read : Bool) (Are : List Imported → Type 0) → BeginsAt line place which
     → AreSameLists (IsImport (with_first_word which (map (terminal_in line.text) (significant (take (length line.tokens - (place + 1)) (drop (place + 1) line.tokens)))))) Are
-    → Tells a (StandsFirst line × StandsAlone line) → a ≡ true → b ≡ read → TellsWhether read Are
-    → Tells b ((StandsFirst line × StandsAlone line) × IsInGrammar line)
+    → TellsIf a (StandsFirst line × StandsAlone line) → a ≡ true → b ≡ read → TellsWhether read Are
+    → TellsIf b ((StandsFirst line × StandsAlone line) × IsInGrammar line)
 in_grammar line place which a b read Are begins same fact holds is tells =
     let rest = drop (place + 1) line.tokens in
     let all : take (length line.tokens - (place + 1)) rest ≡ rest = take_all (length line.tokens - (place + 1)) rest (rw (length-drop (place + 1) line.tokens) (omega arith)) in
@@ -77,14 +77,14 @@ in_grammar line place which a b read Are begins same fact holds is tells =
     let Same : _ = λ ts. AreSameLists (IsImport ts) Are in
     both a b _ _ fact holds (tells_whether b Are (IsImport (terminals_of line)) (subst Same these same) (rw is tells))
 
-pub commented_well : (line : LogicalLine) (a b well : Bool) (P : Type 0) → Tells a P → a ≡ true → b ≡ well → well ≡ list_all stands_well (places_from [] line.tokens) → Tells b (P × StandsWell line)
+pub commented_well : (line : LogicalLine) (a b well : Bool) (P : Type 0) → TellsIf a P → a ≡ true → b ≡ well → well ≡ list_all stands_well (places_from [] line.tokens) → TellsIf b (P × StandsWell line)
 commented_well line a b well P fact holds is said = both a b P _ fact holds (tells_true b _ (is ∙ said))
 
 -- a line that passes all tests but the last
 abbrev pub PassesAllButSkip : LogicalLine → Type 0
 PassesAllButSkip line = ((StandsFirst line × StandsAlone line) × IsInGrammar line) × StandsWell line
 
-pub sortable : (line : LogicalLine) (a skip : Bool) → line.kind ≡ unit_kind.Code → Tells a (PassesAllButSkip line) → a ≡ true → skip ≡ list_any (says_skip line.text) line.tokens → Tells (not skip) (IsSortable line)
+pub sortable : (line : LogicalLine) (a skip : Bool) → line.kind ≡ unit_kind.Code → TellsIf a (PassesAllButSkip line) → a ≡ true → skip ≡ list_any (says_skip line.text) line.tokens → TellsIf (not skip) (IsSortable line)
 sortable line true true code fact holds said = λ s. let f : true ≡ false = said ∙ s.unskipped in cc
 sortable line true false code fact holds said = record {
   code = code;
@@ -97,6 +97,6 @@ sortable line true false code fact holds said = record {
 }
 sortable line false skip code fact holds said = absurd cc
 
-pub not_sortable : (line : LogicalLine) (a : Bool) → Tells a (PassesAllButSkip line) → a ≡ false → Tells a (IsSortable line)
+pub not_sortable : (line : LogicalLine) (a : Bool) → TellsIf a (PassesAllButSkip line) → a ≡ false → TellsIf a (IsSortable line)
 not_sortable line true fact fails = absurd cc
 not_sortable line false fact fails = λ s. fact (((s.first, s.alone), (s.imported, s.is)), s.comments)

@@ -13,7 +13,7 @@ use Rattle.py_imports.specs.Private.Parsing.{up_to_semicolon}
 use Rattle.py_imports.proofs.EndLemmas.{statement_is}
 use Rattle.py_imports.specs.Bound.{bound_of, bound_at}
 use Rattle.py_imports.specs.Binds.{terminal_in, terminals_at, nothing, imports, IsBadStart}
-use Rattle.py_imports.specs.Private.Parsing.{Read, at_relative}
+use Rattle.py_imports.specs.Private.Parsing.{ReadText, at_relative}
 use Rattle.py_imports.specs.Private.Items.{with_first_word, AreSameLists}
 use Rattle.py_imports.specs.Private.Bindings.{BindsOne, BindsMore, IsPlaceAt, RefusesItems, RefusesAt}
 use Rattle.py_imports.specs.declared.binding.Binding.{Binding}
@@ -42,7 +42,7 @@ one_from from other rest later m n e =
     let c = sym a ∙ ap (at_relative false) e ∙ b in
     same (record { spelled = spelling from; rest = rest }) (record { spelled = spelling other; rest = later }) c
   where
-    same : (x y : Read) → Some x ≡ Some y → (x.spelled ≡ y.spelled) × (x.rest ≡ y.rest)
+    same : (x y : ReadText) → Some x ≡ Some y → (x.spelled ≡ y.spelled) × (x.rest ≡ y.rest)
     same x y f = let g : x ≡ y = cc in (ap (λ r. r.spelled) g, ap (λ r. r.rest) g)
 
 pub import_bad : (rest : List Terminal) → ((items : List Item) → ¬ (AreItems modules rest items)) → (is : List Imported) → ¬ (IsImport (import_word ∷ rest) is)
@@ -62,7 +62,7 @@ from_none before e is i =
     let f : None ≡ Some (record { spelled = spelling r.0; rest = r.1 }) = sym e ∙ ap (at_relative false) r.3 ∙ at_relative-whole r.0 r.4 r.1 in
     none_some (record { spelled = spelling r.0; rest = r.1 }) f
   where
-    none_some : (x : Read) → None ≡ Some x → ⊥
+    none_some : (x : ReadText) → None ≡ Some x → ⊥
     none_some x f = cc
 
 -- a word begins its statement
@@ -82,8 +82,8 @@ pub binds_none : (line : LogicalLine) (p : Place) (old : List Binding) → ((ts 
 binds_none line p old h = record { bounds = []; binds = nothing line p [] (no_import line p h) refl; adds = sym (append-nil (map bound_of old)) }
 
 -- the statement that starts with a word
-pub begun_at : (line : LogicalLine) (p : Place) (f : Form) (rest : List Terminal) → p.token.kind ≡ kind.Name → ((ts : List Terminal) → terminal_in line.text p.token ∷ ts ≡ with_first_word f ts) → rest ≡ map (terminal_in line.text) (up_to_semicolon 0 p.after) → terminals_at line p ≡ with_first_word f rest
-begun_at line p f rest k h e =
+pub started_by_word : (line : LogicalLine) (p : Place) (f : Form) (rest : List Terminal) → p.token.kind ≡ kind.Name → ((ts : List Terminal) → terminal_in line.text p.token ∷ ts ≡ with_first_word f ts) → rest ≡ map (terminal_in line.text) (up_to_semicolon 0 p.after) → terminals_at line p ≡ with_first_word f rest
+started_by_word line p f rest k h e =
     ap (map (terminal_in line.text)) (statement_is p ∙ up_to_semicolon-name p.token p.after (ap is_semicolon k) (ap (depth_past 0) k)) ∙ ap (λ x. terminal_in line.text p.token ∷ x) (sym e) ∙ h rest
 
 begins_begun : (f : Form) (ts : List Terminal) → begins_import (with_first_word f ts) ≡ true
@@ -103,14 +103,14 @@ pub bad_import : (line : LogicalLine) (p : Place) (f : Form) (rest : List Termin
 bad_import line p f rest e bad = record { begins = ap begins_import e ∙ begins_begun f rest; bad = λ is i. bad is (subst (λ x. IsImport x is) e i) }
 
 -- the token at a place
-pub token_at : (tokens : List Token) (i : ℕ) (t u : Token) → i < length tokens → slice_get tokens i ≡ Some u → get_or tokens i t ≡ u
-token_at tokens i t u within e = let f : Some (get_or tokens i t) ≡ Some u = sym (slice_get-get_or tokens i t within) ∙ e in cc
+pub token_at_place : (tokens : List Token) (i : ℕ) (t u : Token) → i < length tokens → slice_get tokens i ≡ Some u → get_or tokens i t ≡ u
+token_at_place tokens i t u within e = let f : Some (get_or tokens i t) ≡ Some u = sym (slice_get-get_or tokens i t within) ∙ e in cc
 
 -- the statement that starts at the token of a place, where its word begins an import statement
 pub begun_word : (line : LogicalLine) (place end : ℕ) (p : Place) (f : Form) (word : List ℕ) (none : Token) → place < length line.tokens → IsPlaceAt line.tokens place p → word ≡ slice_range line.text p.token.start p.token.stop → ((ts : List Terminal) → terminal_of (get_or line.tokens place none).kind word ∷ ts ≡ with_first_word f ts) → (get_or line.tokens place none).kind ≡ kind.Name → significant (take (end - (place + 1)) (drop (place + 1) line.tokens)) ≡ up_to_semicolon 0 (significant (drop (place + 1) line.tokens)) → terminals_at line p ≡ with_first_word f (map (terminal_in line.text) (significant (take (end - (place + 1)) (drop (place + 1) line.tokens))))
 begun_word line place end p f word none within h w begins name upto =
-    let e : get_or line.tokens place none ≡ p.token = token_at line.tokens place none p.token within h.0 in
-    begun_at line p f _ (ap (λ (x : Token). x.kind) (sym e) ∙ name) (λ ts. ap (λ (x : Token). terminal_of x.kind (slice_range line.text p.token.start p.token.stop) ∷ ts) (sym e) ∙ ap (λ v. terminal_of (get_or line.tokens place none).kind v ∷ ts) (sym w) ∙ begins ts) (ap (map (terminal_in line.text)) (upto ∙ ap (up_to_semicolon 0) (sym h.1)))
+    let e : get_or line.tokens place none ≡ p.token = token_at_place line.tokens place none p.token within h.0 in
+    started_by_word line p f _ (ap (λ (x : Token). x.kind) (sym e) ∙ name) (λ ts. ap (λ (x : Token). terminal_of x.kind (slice_range line.text p.token.start p.token.stop) ∷ ts) (sym e) ∙ ap (λ v. terminal_of (get_or line.tokens place none).kind v ∷ ts) (sym w) ∙ begins ts) (ap (map (terminal_in line.text)) (upto ∙ ap (up_to_semicolon 0) (sym h.1)))
 
 -- why the items of a statement weren't bound, the statement wasn't
 pub refuses_import : (line : LogicalLine) (p : Place) (f : Form) (rest : List Terminal) (Are : List Imported → Type 0) (fault : Fault) (e : ImportError) → terminals_at line p ≡ with_first_word f rest → AreSameLists (IsImport (with_first_word f rest)) Are → fault ≡ record { kind = BadImport; offset = line.offset + p.token.start; line = p.token.line } → RefusesItems Are fault e → RefusesAt line p e

@@ -13,12 +13,12 @@ significant tokens = filter (λ t. not (is_comment t.kind)) tokens
 abbrev pub is_semicolon : TokKind → Bool
 is_semicolon k = is_operator_where (λ c. c == byte ";") k
 
-abbrev pub is_colon : TokKind → Bool
-is_colon k = is_operator_where (λ c. c == byte ":") k
+abbrev pub is_colon_token : TokKind → Bool
+is_colon_token k = is_operator_where (λ c. c == byte ":") k
 
 -- `;` stands between statements, and `:` before those of a suite (7, 8)
 abbrev pub is_divider : TokKind → Bool
-is_divider k = is_semicolon k || is_colon k
+is_divider k = is_semicolon k || is_colon_token k
 
 -- the depth after a token: opening brackets less closing ones
 abbrev pub depth_past : ℕ → TokKind → ℕ

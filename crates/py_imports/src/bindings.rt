@@ -10,7 +10,7 @@ ghost use Rattle.py_imports.specs.Statement.{Place};
 ghost use Rattle.py_imports.specs.Binds.{terminal_in, Binds, Refuses};
 ghost use Rattle.py_imports.specs.Bound.{bound_of, bound_at};
 ghost use Rattle.py_imports.specs.Private.Items.{item_imported, AreLeft};
-ghost use Rattle.py_imports.specs.Private.Bindings.{is_first_word, fault_of, BindsOne, RefusesItems, BindsMoreAt, RefusesAt, IsPlaceAt};
+ghost use Rattle.py_imports.specs.Private.Bindings.{is_first_word, statement_fault, BindsOne, RefusesItems, BindsMoreAt, RefusesAt, IsPlaceAt};
 
 use crate::binding::{Binding, owned};
 use crate::error::ImportError;
@@ -66,7 +66,7 @@ fn bind_items(
 /// The fault of a bad statement that starts at `place`.
 fn fault_at(unit: &Unit<'_>, place: usize) -> Fault
     requires { place < length unit.now.tokens.now }
-    ensures { (t : Token) → slice_get unit.now.tokens.now place ≡ Some t → result ≡ fault_of unit.now.offset t }
+    ensures { (t : Token) → slice_get unit.now.tokens.now place ≡ Some t → result ≡ statement_fault unit.now.offset t }
 {
     let token = unit.tokens[place];
     Fault {

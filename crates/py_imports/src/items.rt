@@ -2,7 +2,7 @@
 ghost use Rattle.std.specs.Prelude.{◌≡◌, ◌≢◌, ◌≤◌, ◌-◌, ◌++◌, List, [], ◌∷◌, false, None, length, map, take, drop, codes, string_bytes, OnOk, IfSome, MatchOption};
 ghost use Rattle.py_imports.specs.Statement.{significant};
 ghost use Rattle.py_imports.specs.Binds.{terminal_in};
-ghost use Rattle.py_imports.specs.Private.Lexemes.{rest_of, terminals_between};
+ghost use Rattle.py_imports.specs.Private.Lexemes.{unread_of, terminals_between};
 ghost use Rattle.py_imports.specs.Private.Items.{with_first_word, BeginsForm};
 ghost use Rattle.py_imports.specs.Grammar.{Terminal, from_word, terminal_of, begins_import, modules, identifiers, AreItems, AreBracketed, AreNames, whole_module, attribute_of, IsImport};
 
@@ -87,7 +87,7 @@ enum Stage<'u> {
 
 /// The stage of a statement's end, where nothing is left.
 fn end_at<'u>(tokens: Lexemes<'u>) -> Option<Stage<'u>>
-    ensures { MatchOption result (rest_of tokens.entry ≢ []) (λ stage. (stage ≡ Stage.End) × (rest_of tokens.entry ≡ [])) }
+    ensures { MatchOption result (unread_of tokens.entry ≢ []) (λ stage. (stage ≡ Stage.End) × (unread_of tokens.entry ≡ [])) }
 {
     if tokens.is_at_end() {
         Some(Stage::End)
@@ -110,7 +110,7 @@ pub(crate) struct ImportItems<'u> {
 }
 
 impl<'u> ImportItems<'u> {
-    ghost use Rattle.py_imports.specs.Private.Items.{ReadsStar, ListsFrom, ListsOf, AreLeft, most_left, AreSameLists, IsFirst, IsNext, GetFewer, FollowsItem, FollowsBracketed, TellsWhether};
+    ghost use Rattle.py_imports.specs.Private.Items.{ReadsStar, ListsFrom, ListsOf, AreLeft, most_left, AreSameLists, IsFirstOfLists, IsNext, GetFewer, FollowsItem, FollowsBracketed, TellsWhether};
 
     /// The items of the statement whose first word stands directly before the token at `place`, and which ends before
     /// the token at `end`.
@@ -165,8 +165,8 @@ impl<'u> ImportItems<'u> {
 
     /// MODULE [as NAME], and the comma after it, if there is one
     fn module_item(&mut self) -> Option<ImportItem<'u>>
-        ensures item { IsFirst (ListsOf whole_module (AreItems modules (rest_of self.old.tokens))) result (AreLeft self.new) }
-        ensures fewer { IfSome result (λ _. most_left self.new ≤ length (rest_of self.old.tokens)) }
+        ensures item { IsFirstOfLists (ListsOf whole_module (AreItems modules (unread_of self.old.tokens))) result (AreLeft self.new) }
+        ensures fewer { IfSome result (λ _. most_left self.new ≤ length (unread_of self.old.tokens)) }
     {
         let names = self.tokens.module()?;
         let alias = self.tokens.alias()?;
@@ -180,8 +180,8 @@ impl<'u> ImportItems<'u> {
 
     /// RELATIVE_MODULE `import`, and the first item after them
     fn from_item(&mut self) -> Option<ImportItem<'u>>
-        ensures item { IsFirst (IsImport (from_word ∷ rest_of self.old.tokens)) result (AreLeft self.new) }
-        ensures fewer { IfSome result (λ _. most_left self.new ≤ length (rest_of self.old.tokens)) }
+        ensures item { IsFirstOfLists (IsImport (from_word ∷ unread_of self.old.tokens)) result (AreLeft self.new) }
+        ensures fewer { IfSome result (λ _. most_left self.new ≤ length (unread_of self.old.tokens)) }
     {
         let names = self.tokens.relative_module()?;
         self.first_item(ModulePath { names })
@@ -189,8 +189,8 @@ impl<'u> ImportItems<'u> {
 
     /// `*` alone, NAME [as NAME], or the same in brackets
     fn first_item(&mut self, from: ModulePath<'u>) -> Option<ImportItem<'u>>
-        ensures item { IsFirst (ListsFrom from.entry (AreNames (rest_of self.old.tokens))) result (AreLeft self.new) }
-        ensures fewer { IfSome result (λ _. most_left self.new ≤ length (rest_of self.old.tokens)) }
+        ensures item { IsFirstOfLists (ListsFrom from.entry (AreNames (unread_of self.old.tokens))) result (AreLeft self.new) }
+        ensures fewer { IfSome result (λ _. most_left self.new ≤ length (unread_of self.old.tokens)) }
     {
         let mut after = self.tokens;
         match after.next() {
@@ -205,7 +205,7 @@ impl<'u> ImportItems<'u> {
 
     /// `*`, where nothing comes after it
     fn star_item(&mut self, from: ModulePath<'u>, after: Lexemes<'u>) -> Option<ImportItem<'u>>
-        ensures item { ReadsStar from.entry (rest_of after.entry) result self.new.stage }
+        ensures item { ReadsStar from.entry (unread_of after.entry) result self.new.stage }
     {
         if !after.is_at_end() {
             return None;
@@ -220,8 +220,8 @@ impl<'u> ImportItems<'u> {
 
     /// NAME [as NAME], and the comma after it, if there is one
     fn name_item(&mut self, from: ModulePath<'u>) -> Option<ImportItem<'u>>
-        ensures item { IsFirst (ListsFrom from.entry (AreItems identifiers (rest_of self.old.tokens))) result (AreLeft self.new) }
-        ensures fewer { IfSome result (λ _. most_left self.new ≤ length (rest_of self.old.tokens)) }
+        ensures item { IsFirstOfLists (ListsFrom from.entry (AreItems identifiers (unread_of self.old.tokens))) result (AreLeft self.new) }
+        ensures fewer { IfSome result (λ _. most_left self.new ≤ length (unread_of self.old.tokens)) }
     {
         let (name, alias) = self.tokens.name_with_alias()?;
         self.stage = self.after_item(Stage::Names(from))?;
@@ -234,8 +234,8 @@ impl<'u> ImportItems<'u> {
 
     /// NAME [as NAME] in brackets, and the comma or the closing bracket after it
     fn bracketed_item(&mut self, from: ModulePath<'u>) -> Option<ImportItem<'u>>
-        ensures item { IsFirst (ListsFrom from.entry (AreBracketed (rest_of self.old.tokens))) result (AreLeft self.new) }
-        ensures fewer { IfSome result (λ _. most_left self.new ≤ length (rest_of self.old.tokens)) }
+        ensures item { IsFirstOfLists (ListsFrom from.entry (AreBracketed (unread_of self.old.tokens))) result (AreLeft self.new) }
+        ensures fewer { IfSome result (λ _. most_left self.new ≤ length (unread_of self.old.tokens)) }
     {
         let (name, alias) = self.tokens.name_with_alias()?;
         self.stage = self.after_bracketed(from)?;
@@ -248,7 +248,7 @@ impl<'u> ImportItems<'u> {
 
     /// What has to come after an item without brackets: after a comma more at this stage.
     fn after_item(&mut self, stage: Stage<'u>) -> Option<Stage<'u>>
-        ensures { FollowsItem stage.entry (rest_of self.old.tokens) result (rest_of self.new.tokens) }
+        ensures { FollowsItem stage.entry (unread_of self.old.tokens) result (unread_of self.new.tokens) }
     {
         match self.tokens.next() {
             Lexeme::Comma => Some(stage),
@@ -259,7 +259,7 @@ impl<'u> ImportItems<'u> {
 
     /// What has to come after an item in brackets: after a comma more, or nothing after the closing bracket.
     fn after_bracketed(&mut self, from: ModulePath<'u>) -> Option<Stage<'u>>
-        ensures { FollowsBracketed from.entry (rest_of self.old.tokens) result (rest_of self.new.tokens) }
+        ensures { FollowsBracketed from.entry (unread_of self.old.tokens) result (unread_of self.new.tokens) }
     {
         match self.tokens.next() {
             Lexeme::Closing => end_at(self.tokens),

@@ -57,11 +57,11 @@ pub(crate) enum Lexeme<'s> {
 }
 
 impl<'s> Lexeme<'s> {
-    ghost use Rattle.py_imports.specs.Private.Lexemes.{followed_by};
+    ghost use Rattle.py_imports.specs.Private.Lexemes.{lexeme_then};
 
     /// The lexeme of a token with this text.
     pub(crate) fn of_token(kind: TokKind, word: &'s str) -> Lexeme<'s>
-        ensures { (ts : List Terminal) → followed_by result ts ≡ terminal_of kind word.now ∷ ts }
+        ensures { (ts : List Terminal) → lexeme_then result ts ≡ terminal_of kind word.now ∷ ts }
     {
         match kind {
             TokKind::Name => Lexeme::of_word(word),
@@ -72,7 +72,7 @@ impl<'s> Lexeme<'s> {
 
     /// What a name or keyword is to the grammar.
     fn of_word(word: &'s str) -> Lexeme<'s>
-        ensures { (ts : List Terminal) → followed_by result ts ≡ terminal_of_word word.now ∷ ts }
+        ensures { (ts : List Terminal) → lexeme_then result ts ≡ terminal_of_word word.now ∷ ts }
     {
         match word {
             "import" => Lexeme::Import,
@@ -85,7 +85,7 @@ impl<'s> Lexeme<'s> {
 
     /// What an operator is to the grammar.
     fn of_operator(c: u8) -> Lexeme<'s>
-        ensures { (ts : List Terminal) → followed_by result ts ≡ terminal_of_operator c ∷ ts }
+        ensures { (ts : List Terminal) → lexeme_then result ts ≡ terminal_of_operator c ∷ ts }
     {
         match c {
             b'.' => Lexeme::Dot,

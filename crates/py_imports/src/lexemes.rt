@@ -23,20 +23,20 @@ pub(crate) struct Lexemes<'u> {
 }
 
 impl<'u> Lexemes<'u> {
-    ghost use Rattle.py_imports.specs.Private.Lexemes.{followed_by, rest_of, terminals_between, IsFurther, ReadsPath, ReadsAlias, ReadsName, begins_import_word, PassesDots};
+    ghost use Rattle.py_imports.specs.Private.Lexemes.{lexeme_then, unread_of, terminals_between, IsFurther, ReadsPath, ReadsAlias, ReadsName, begins_import_word, PassesDots};
 
     /// The tokens from `place` up to `end`, of which none was read.
     pub(crate) fn new(unit: &'u Unit<'u>, place: usize, end: usize) -> Lexemes<'u>
         requires ordered { place ≤ end }
         requires within { end ≤ length unit.now.tokens.now }
-        ensures { rest_of result ≡ terminals_between unit.now place end }
+        ensures { unread_of result ≡ terminals_between unit.now place end }
     {
         Lexemes { unit, place, end }
     }
 
     /// The next token that is no comment.
     pub(crate) fn next(&mut self) -> Lexeme<'u>
-        ensures lexeme { rest_of self.old ≡ followed_by result (rest_of self.new) }
+        ensures lexeme { unread_of self.old ≡ lexeme_then result (unread_of self.new) }
         ensures further { IsFurther self.old self.new }
     {
         while self.place < self.end {
@@ -52,14 +52,14 @@ impl<'u> Lexemes<'u> {
 
     /// Whether the word `import` is next.
     fn is_at_import(mut self) -> bool
-        ensures { result ≡ begins_import_word (rest_of self.entry) }
+        ensures { result ≡ begins_import_word (unread_of self.entry) }
     {
         matches!(self.next(), Lexeme::Import)
     }
 
     /// Whether nothing is left.
     pub(crate) fn is_at_end(mut self) -> bool
-        ensures { MatchBool result (rest_of self.entry ≡ []) (rest_of self.entry ≢ []) }
+        ensures { MatchBool result (unread_of self.entry ≡ []) (unread_of self.entry ≢ []) }
     {
         matches!(self.next(), Lexeme::End)
     }
@@ -67,7 +67,7 @@ impl<'u> Lexemes<'u> {
     /// What was read since `start`.
     fn since(self, start: Lexemes<'u>) -> Lexemes<'u>
         requires { IsFurther start self }
-        ensures { rest_of start.entry ≡ rest_of result ++ rest_of self.entry }
+        ensures { unread_of start.entry ≡ unread_of result ++ unread_of self.entry }
     {
         Lexemes {
             unit: self.unit,
@@ -78,7 +78,7 @@ impl<'u> Lexemes<'u> {
 
     /// Reads a module, and answers its names and dots.
     pub(crate) fn module(&mut self) -> Option<Lexemes<'u>>
-        ensures path { ReadsPath (at_module (rest_of self.old)) result (rest_of self.new) }
+        ensures path { ReadsPath (at_module (unread_of self.old)) result (unread_of self.new) }
         ensures further { IsFurther self.old self.new }
     {
         let start = *self;
@@ -96,7 +96,7 @@ impl<'u> Lexemes<'u> {
 
     /// Passes the dots that a relative module begins with: whether there are any.
     fn pass_dots(&mut self) -> bool
-        ensures dots { PassesDots (rest_of self.old) result (rest_of self.new) }
+        ensures dots { PassesDots (unread_of self.old) result (unread_of self.new) }
         ensures further { IsFurther self.old self.new }
     {
         let mut dotted = false;
@@ -110,7 +110,7 @@ impl<'u> Lexemes<'u> {
 
     /// Reads a relative module and the word `import` after it, and answers the module's names and dots.
     pub(crate) fn relative_module(&mut self) -> Option<Lexemes<'u>>
-        ensures { ReadsPath (at_relative false (rest_of self.old)) result (rest_of self.new) }
+        ensures { ReadsPath (at_relative false (unread_of self.old)) result (unread_of self.new) }
     {
         let start = *self;
         let dotted = self.pass_dots();
@@ -126,7 +126,7 @@ impl<'u> Lexemes<'u> {
 
     /// Reads the name after `as`, if that is what follows. There is no answer where no name comes after it.
     pub(crate) fn alias(&mut self) -> Option<Option<&'u str>>
-        ensures { ReadsAlias (rest_of self.old) result (rest_of self.new) }
+        ensures { ReadsAlias (unread_of self.old) result (unread_of self.new) }
     {
         let mut after = *self;
         let Lexeme::As = after.next() else {
@@ -141,7 +141,7 @@ impl<'u> Lexemes<'u> {
 
     /// Reads NAME [as NAME].
     pub(crate) fn name_with_alias(&mut self) -> Option<(&'u str, Option<&'u str>)>
-        ensures { ReadsName (rest_of self.old) result (rest_of self.new) }
+        ensures { ReadsName (unread_of self.old) result (unread_of self.new) }
     {
         let Lexeme::Name(name) = self.next() else {
             return None;

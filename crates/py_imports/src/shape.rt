@@ -32,7 +32,7 @@ fn first_code(tokens: &[Token]) -> Option<usize>
 
 /// The place and the first word of the import statement that code begins with, if it does.
 #[tactic(auto, using(crate::proofs::ShapeLemmas::no_code))]
-fn begun_at(unit: &Unit<'_>) -> Option<(usize, Form)>
+fn started_by_word(unit: &Unit<'_>) -> Option<(usize, Form)>
     ensures { MatchOption result (begins_so (line_in unit.now) ≡ false) (λ r. BeginsAt (line_in unit.now) r.0 r.1) }
 {
     let UnitKind::Code = unit.kind else {
@@ -135,7 +135,7 @@ fn is_sortable(unit: &Unit<'_>, place: usize, form: Form) -> bool
 pub fn shape_of(unit: &Unit<'_>) -> Shape
     ensures { HasShape (line_in unit.now) result }
 {
-    match begun_at(unit) {
+    match started_by_word(unit) {
         None => Shape::Other,
         Some((place, form)) if is_sortable(unit, place, form) => Shape::Sortable,
         Some(_) => Shape::Pinned,

@@ -33,8 +33,8 @@ abbrev pub IsPlaceAt : List Token → ℕ → Place → Type 0
 IsPlaceAt tokens i p = (slice_get tokens i ≡ Some p.token) × (p.after ≡ significant (drop (i + 1) tokens))
 
 -- the fault of a bad statement that starts with this token, in a line that begins at this byte of the text
-abbrev pub fault_of : ℕ → Token → Fault
-fault_of offset t = record { kind = BadImport; offset = offset + t.start; line = t.line }
+abbrev pub statement_fault : ℕ → Token → Fault
+statement_fault offset t = record { kind = BadImport; offset = offset + t.start; line = t.line }
 
 -- what the statement that starts here binds was put after others
 pub record BindsMore (line : LogicalLine) (p : Place) (old new : List Binding) : Type 0 where
@@ -49,4 +49,4 @@ BindsMoreAt line i old new = (p : Place) → IsPlaceAt line.tokens i p → Binds
 -- why the statement that starts here wasn't bound
 abbrev pub RefusesAt : LogicalLine → Place → ImportError → Type 0
 RefusesAt line p error.Memory = Unit {0}
-RefusesAt line p (error.Fault fault) = IsBadStart line p × (fault ≡ fault_of line.offset p.token)
+RefusesAt line p (error.Fault fault) = IsBadStart line p × (fault ≡ statement_fault line.offset p.token)

@@ -2,7 +2,7 @@
 use Rattle.std.specs.Prelude.{◌≡◌, ◌≢◌, ℕ, suc, ◌<◌, Bool, true, false, Option, None, Some, Result, Ok, Err, List, [], ◌∷◌, length, map, codes, ◌⊎◌}
 use Rattle.std.specs.Option.{option_map}
 use Rattle.py_imports.specs.Grammar.{Terminal, import_word, from_word, comma, closing, begins_import, modules, identifiers, Item, AreItems, AreBracketed, whole_module, attribute_of, Imported, IsImport}
-use Rattle.py_imports.specs.Private.Lexemes.{rest_of, lexemes_text}
+use Rattle.py_imports.specs.Private.Lexemes.{unread_of, lexemes_text}
 use Rattle.py_imports.specs.declared.items.BadStatement.{BadStatement}
 use Rattle.py_imports.specs.declared.items.Form.{Form}
 use Rattle.py_imports.specs.declared.items.Form.TheVariants as form
@@ -52,7 +52,7 @@ AreLeftAt stage.End ts is = is ≡ []
 
 -- what is left to be read
 abbrev pub AreLeft : ImportItems → List Imported → Type 0
-AreLeft r is = AreLeftAt r.stage (rest_of r.tokens) is
+AreLeft r is = AreLeftAt r.stage (unread_of r.tokens) is
 
 -- how many items may be left at most
 abbrev pub most_left_at : Stage → List Terminal → ℕ
@@ -63,7 +63,7 @@ most_left_at (stage.Bracketed m) ts = suc (length ts)
 most_left_at stage.End ts = 0
 
 abbrev pub most_left : ImportItems → ℕ
-most_left r = most_left_at r.stage (rest_of r.tokens)
+most_left r = most_left_at r.stage (unread_of r.tokens)
 
 -- the same lists are meant
 pub record AreSameLists (Before After : List Imported → Type 0) : Type 0 where
@@ -76,9 +76,9 @@ pub record StartWith (Before : List Imported → Type 0) (i : Imported) (After :
   pub takes : (is : List Imported) → Before is → (js : List Imported) × (is ≡ i ∷ js) × After js
 
 -- the first item of the lists before, with those that are left; or there is no such list
-abbrev pub IsFirst : (List Imported → Type 0) → Option ImportItem → (List Imported → Type 0) → Type 0
-IsFirst Before None After = (is : List Imported) → ¬ (Before is)
-IsFirst Before (Some i) After = StartWith Before (item_imported i) After
+abbrev pub IsFirstOfLists : (List Imported → Type 0) → Option ImportItem → (List Imported → Type 0) → Type 0
+IsFirstOfLists Before None After = (is : List Imported) → ¬ (Before is)
+IsFirstOfLists Before (Some i) After = StartWith Before (item_imported i) After
 
 -- all names of this module are imported by a `*`, after which nothing is left
 pub record ImportsAll (m : ModulePath) (i : ImportItem) (rest : List Terminal) (next : Stage) : Type 0 where

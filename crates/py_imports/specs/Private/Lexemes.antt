@@ -4,7 +4,7 @@ use Rattle.std.specs.Prelude.{◌≡◌, ℕ, ◌≤◌, ◌-◌, Bool, true, fa
 use Rattle.std.specs.Option.{option_map}
 use Rattle.py_imports.specs.Binds.{terminal_in}
 use Rattle.py_imports.specs.Grammar.{Terminal, import_word, from_word, as_word, name, dot, comma, star, opening, closing, other, spelling, identifiers}
-use Rattle.py_imports.specs.Private.Parsing.{Read, spelled_before, at_relative, alias_after, at_item}
+use Rattle.py_imports.specs.Private.Parsing.{ReadText, spelled_before, at_relative, alias_after, at_item}
 use Rattle.py_imports.specs.Statement.{significant}
 use Rattle.py_lines.specs.declared.unit.Unit.{Unit}
 use Rattle.py_imports.specs.declared.lexeme.Lexeme.{Lexeme}
@@ -12,26 +12,26 @@ use Rattle.py_imports.specs.declared.lexeme.Lexeme.TheVariants as lexeme
 use Rattle.py_imports.specs.declared.lexemes.Lexemes.{Lexemes}
 
 -- a lexeme and what follows it
-abbrev pub followed_by : Lexeme → List Terminal → List Terminal
-followed_by lexeme.Import ts = import_word ∷ ts
-followed_by lexeme.From ts = from_word ∷ ts
-followed_by lexeme.As ts = as_word ∷ ts
-followed_by (lexeme.Name w) ts = name w.now ∷ ts
-followed_by lexeme.Dot ts = dot ∷ ts
-followed_by lexeme.Comma ts = comma ∷ ts
-followed_by lexeme.Star ts = star ∷ ts
-followed_by lexeme.Opening ts = opening ∷ ts
-followed_by lexeme.Closing ts = closing ∷ ts
-followed_by lexeme.Other ts = other ∷ ts
-followed_by lexeme.End ts = []
+abbrev pub lexeme_then : Lexeme → List Terminal → List Terminal
+lexeme_then lexeme.Import ts = import_word ∷ ts
+lexeme_then lexeme.From ts = from_word ∷ ts
+lexeme_then lexeme.As ts = as_word ∷ ts
+lexeme_then (lexeme.Name w) ts = name w.now ∷ ts
+lexeme_then lexeme.Dot ts = dot ∷ ts
+lexeme_then lexeme.Comma ts = comma ∷ ts
+lexeme_then lexeme.Star ts = star ∷ ts
+lexeme_then lexeme.Opening ts = opening ∷ ts
+lexeme_then lexeme.Closing ts = closing ∷ ts
+lexeme_then lexeme.Other ts = other ∷ ts
+lexeme_then lexeme.End ts = []
 
 -- the terminals of a logical line's tokens from one place up to another
 abbrev pub terminals_between : Unit → ℕ → ℕ → List Terminal
 terminals_between unit place end = map (terminal_in unit.text.now) (significant (take (end - place) (drop place unit.tokens.now)))
 
 -- what hasn't been read
-abbrev pub rest_of : Lexemes → List Terminal
-rest_of s = terminals_between s.unit.now s.place s.end
+abbrev pub unread_of : Lexemes → List Terminal
+unread_of s = terminals_between s.unit.now s.place s.end
 
 -- the second reads the same tokens as the first, and stands at the same place or further on
 pub record IsFurther (before after : Lexemes) : Type 0 where
@@ -41,10 +41,10 @@ pub record IsFurther (before after : Lexemes) : Type 0 where
 
 -- how the names and dots are spelled that are left
 abbrev pub lexemes_text : Lexemes → List ℕ
-lexemes_text s = spelling (rest_of s)
+lexemes_text s = spelling (unread_of s)
 
 -- what stands here was read: names and dots, with what follows them; or there are none here, and there is no answer
-abbrev pub ReadsPath : Option Read → Option Lexemes → List Terminal → Type 0
+abbrev pub ReadsPath : Option ReadText → Option Lexemes → List Terminal → Type 0
 ReadsPath here None after = here ≡ None
 ReadsPath here (Some path) after = here ≡ Some (record { spelled = lexemes_text path; rest = after })
 

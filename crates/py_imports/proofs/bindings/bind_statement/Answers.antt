@@ -9,7 +9,7 @@ use Rattle.py_imports.specs.Grammar.{terminal_of, begins_import}
 use Rattle.py_imports.specs.Private.Bindings.{BindsOne}
 use Rattle.py_imports.specs.Private.Items.{AreLeft}
 use Rattle.py_imports.specs.Statement.{significant}
-use Rattle.py_imports.proofs.StatementLemmas.{binds_none, begun_word, binds_import, refuses_import, token_at}
+use Rattle.py_imports.proofs.StatementLemmas.{binds_none, begun_word, binds_import, refuses_import, token_at_place}
 use Rattle.py_imports.proofs.bindings.bind_statement.Goals as goal
 
 pub returns-in_default-clause-ok : goal.returns-in_default-clause-ok
@@ -18,7 +18,7 @@ returns-in_default-clause-ok c = λ p h.
     let unit = c.args.unit.now in
     let text = unit.text.now in
     let t = get_or unit.tokens.now c.args.place none in
-    let e : t ≡ p.token = token_at unit.tokens.now c.args.place none p.token c.requires h.0 in
+    let e : t ≡ p.token = token_at_place unit.tokens.now c.args.place none p.token c.requires h.0 in
     let w : c.word.result.now ≡ slice_range text p.token.start p.token.stop = c.word.ensures p.token h.0 in
     binds_none (line_in unit) p _ (λ ts. ap (λ (x : Token). begins_import (terminal_of x.kind (slice_range text p.token.start p.token.stop) ∷ ts)) (sym e) ∙ ap (λ v. begins_import (terminal_of t.kind v ∷ ts)) (sym w) ∙ c.in_default.ensures.form ts)
 
@@ -29,7 +29,7 @@ returns-clause-ok c =
     let rest = map (terminal_in unit.text.now) (significant (take (c.statement_end-end.result - (c.args.place + 1)) (drop (c.args.place + 1) unit.tokens.now))) in
     on_ok_weaker c.bind_items.result (λ (r : BindsOne (AreLeft c.new-items.result) _ c.args.bindings.now.items c.bind_items.new.bindings.items) p h.
     let at = begun_word (line_in unit) c.args.place c.statement_end-end.result p c.in-Some.form c.word.result.now none c.requires h (c.word.ensures p.token h.0) c.in-Some.ensures.form c.in-Some.ensures.name c.statement_end-end.ensures.tokens in
-    binds_import (line_in unit) p c.in-Some.form rest _ _ _ at (ap (λ (x : Token). x.line) (token_at unit.tokens.now c.args.place none p.token c.requires h.0)) refl (record { imported = r.imported; are = c.new-items.ensures.from r.imported r.are; adds = r.adds })) c.bind_items.ensures.ok
+    binds_import (line_in unit) p c.in-Some.form rest _ _ _ at (ap (λ (x : Token). x.line) (token_at_place unit.tokens.now c.args.place none p.token c.requires h.0)) refl (record { imported = r.imported; are = c.new-items.ensures.from r.imported r.are; adds = r.adds })) c.bind_items.ensures.ok
 
 pub returns-clause-err : goal.returns-clause-err
 returns-clause-err c =

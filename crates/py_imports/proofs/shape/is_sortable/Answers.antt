@@ -2,20 +2,20 @@
 use Rattle.std.proofs.Common.{arith}
 use Rattle.std.proofs.lemmas.Option.{slice_get_within}
 use Rattle.py_lines.specs.Lines.{line_in}
-use Rattle.py_imports.proofs.SortableLemmas.{first, alone, in_grammar, commented_well, neither, sortable, not_sortable, Tells, StandsFirst, StandsAlone, IsInGrammar, PassesAllButSkip}
+use Rattle.py_imports.proofs.SortableLemmas.{first, alone, in_grammar, commented_well, neither, sortable, not_sortable, TellsIf, StandsFirst, StandsAlone, IsInGrammar, PassesAllButSkip}
 use Rattle.py_imports.proofs.shape.is_sortable.Goals as goal
 use Rattle.py_imports.proofs.shape.is_sortable.Goals.{Joined-is_in_grammar, then-stands_first, else-stands_first, then-not-is_divided, else-not-is_divided, then-is_in_grammar, else-is_in_grammar}
 
 -- whether all tests but that of skips were passed
-passes : (c : Joined-is_in_grammar) → Tells c.if-is_in_grammar.value (PassesAllButSkip (line_in c.args.unit.now))
+passes : (c : Joined-is_in_grammar) → TellsIf c.if-is_in_grammar.value (PassesAllButSkip (line_in c.args.unit.now))
 passes c =
     let line = line_in c.args.unit.now in
     let stands = first line c.args.place c.args.form c.stands_first.result c.requires c.stands_first.ensures in
-    let one : Tells c.if-stands_first.value (StandsFirst line × StandsAlone line) = elim c.if-stands_first.branch [
+    let one : TellsIf c.if-stands_first.value (StandsFirst line × StandsAlone line) = elim c.if-stands_first.branch [
       | then-stands_first w ↦ alone line _ _ _ stands w.if-stands_first.true w.value-is w.is_divided.ensures
       | else-stands_first w ↦ neither _ _ _ _ stands w.if-stands_first.false w.value-is
     ] in
-    let import : Tells c.if-not-is_divided.value ((StandsFirst line × StandsAlone line) × IsInGrammar line) = elim c.if-not-is_divided.branch [
+    let import : TellsIf c.if-not-is_divided.value ((StandsFirst line × StandsAlone line) × IsInGrammar line) = elim c.if-not-is_divided.branch [
       | then-not-is_divided w ↦ in_grammar line c.args.place c.args.form _ _ _ _ c.requires c.new-items.ensures one w.if-not-is_divided.true w.value-is w.is_in_grammar.ensures
       | else-not-is_divided w ↦ neither _ _ _ _ one w.if-not-is_divided.false w.value-is
     ] in

@@ -1,12 +1,12 @@
 -- Each stage reads the first item of the lists that are left at it.
-use Rattle.py_imports.specs.Private.Items.{AreLeft, IsFirst}
+use Rattle.py_imports.specs.Private.Items.{AreLeft, IsFirstOfLists}
 use Rattle.py_imports.specs.declared.items.Stage.TheVariants as stage
 use Rattle.py_imports.proofs.ReaderLemmas.{first_by_stage, next_some, next_none}
 use Rattle.py_imports.proofs.items.ImportItems.next.Goals as goal
 use Rattle.py_imports.proofs.items.ImportItems.next.Goals.{Joined-self, in-Modules, in-From, in-Names, in-Bracketed}
 
 -- the first of what is left, by the stage
-first : (c : Joined-self) → IsFirst (AreLeft c.args.self.now) c.match-self.item (AreLeft c.match-self.self)
+first : (c : Joined-self) → IsFirstOfLists (AreLeft c.args.self.now) c.match-self.item (AreLeft c.match-self.self)
 first c = elim c.match-self.branch [
   | in-Modules w ↦ first_by_stage c.args.self.now stage.Modules _ _ _ _ w.in-Modules.is w.item-is w.self-is w.module_item-item.ensures.item
   | in-From w ↦ first_by_stage c.args.self.now stage.From _ _ _ _ w.in-From.is w.item-is w.self-is w.from_item-item.ensures.item

@@ -1,6 +1,6 @@
 -- Only comments were passed.
 use Rattle.std.proofs.Common.{◌≡◌, ◌-◌, ◌≤◌}
-use Rattle.py_imports.specs.Private.Lexemes.{rest_of}
+use Rattle.py_imports.specs.Private.Lexemes.{unread_of}
 use Rattle.py_imports.proofs.lexemes.Lexemes.next.Given as goal
 
 abbrev pub invariant-loop-self : goal.invariant-loop-self
@@ -8,7 +8,7 @@ invariant-loop-self l = record {
   unit : l.self.unit ≡ l.initial.self.unit;
   end : l.self.end ≡ l.initial.self.end;
   place : l.initial.self.place ≤ l.self.place;
-  rest : rest_of l.self ≡ rest_of l.initial.self;
+  rest : unread_of l.self ≡ unread_of l.initial.self;
 }
 
 abbrev pub decreases-loop-self : goal.decreases-loop-self
