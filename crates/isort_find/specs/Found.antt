@@ -19,7 +19,9 @@ has_one_like (Some key) earlier b = list_any (λ a. key_eq (binding_key key b) (
 -- the bindings after `earlier` that have none before them with an equal key, in order
 abbrev pub firsts : Option ImportKey → List Bound → List Bound → List Bound
 firsts unique earlier [] = []
-firsts unique earlier (b ∷ bs) = if has_one_like unique earlier b then firsts unique (earlier ++ b ∷ []) bs else b ∷ firsts unique (earlier ++ b ∷ []) bs
+firsts unique earlier (b ∷ bs) =
+    if has_one_like unique earlier b then firsts unique (earlier ++ b ∷ []) bs
+    else b ∷ firsts unique (earlier ++ b ∷ []) bs
 
 -- whether the logical line ends the top: with `top_only` a declaration does
 abbrev pub ends_top : FindOptions → LogicalLine → Bool
@@ -36,8 +38,16 @@ counted_end options lines end = if list_any (ends_top options) lines then None e
 -- What is found in logical lines with this lexical end: the first bindings of all of them; or, where one is bad,
 -- those of the lines before the first bad one, and its fault.
 pub data AreFound : Option ImportKey → List LogicalLine → Option Fault → List Bound → Option Fault → Type 0 where
-  of_all : (unique : Option ImportKey) (lines : List LogicalLine) (last : Option Fault) (bounds : List Bound) (end : Option Fault) (all : List Bound) → BindAll lines all → bounds ≡ firsts unique [] all → end ≡ last → AreFound unique lines last bounds end
-  before_bad : (unique : Option ImportKey) (lines : List LogicalLine) (last : Option Fault) (bounds : List Bound) (end : Option Fault) (before : List LogicalLine) (line : LogicalLine) (after : List LogicalLine) (all : List Bound) (fault : Fault) → lines ≡ before ++ line ∷ after → BindAll before all → IsBadAt line fault → bounds ≡ firsts unique [] all → end ≡ Some fault → AreFound unique lines last bounds end
+  of_all : (unique : Option ImportKey) (lines : List LogicalLine) (last : Option Fault) (bounds : List Bound)
+      (end : Option Fault) (all : List Bound)
+      → BindAll lines all → bounds ≡ firsts unique [] all → end ≡ last
+      → AreFound unique lines last bounds end
+  before_bad : (unique : Option ImportKey) (lines : List LogicalLine) (last : Option Fault) (bounds : List Bound)
+      (end : Option Fault) (before : List LogicalLine) (line : LogicalLine) (after : List LogicalLine) (all : List Bound)
+      (fault : Fault)
+      → lines ≡ before ++ line ∷ after → BindAll before all → IsBadAt line fault
+      → bounds ≡ firsts unique [] all → end ≡ Some fault
+      → AreFound unique lines last bounds end
 
 -- the imports of a text that are found with these options, and then its end, or its fault
 pub record IsFound (text : List ℕ) (options : FindOptions) (bounds : List Bound) (end : Option Fault) : Type 0 where

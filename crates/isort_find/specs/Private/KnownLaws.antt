@@ -15,7 +15,8 @@ GivenLinesBegin = (reader : Reader) (lines : List LogicalLine) → HasGiven read
 
 -- the laws of `py_lines` and of `py_imports::binds_or_is_bad` that these lemmas stand on
 pub record BasicLaws : Type 0 where
-  pub one_lexing : (text : List ℕ) (lines others : List LogicalLine) (end other : Option Fault) → IsLexed text lines end → IsLexed text others other → lines ≡ others
+  pub one_lexing : (text : List ℕ) (lines others : List LogicalLine) (end other : Option Fault)
+      → IsLexed text lines end → IsLexed text others other → lines ≡ others
   pub begins : GivenLinesBegin
   pub one_list : (line : LogicalLine) (bounds others : List Bound) → Binds line bounds → Binds line others → bounds ≡ others
   pub not_both : (line : LogicalLine) (bounds : List Bound) (fault : Fault) → Binds line bounds → ¬ (IsBadAt line fault)
@@ -23,7 +24,8 @@ pub record BasicLaws : Type 0 where
 -- the laws that a text has one end and a logical line one fault, beside those of its lines
 pub record EndLaws : Type 0 where
   pub laws : BasicLaws
-  pub one_end : (text : List ℕ) (lines others : List LogicalLine) (end other : Option Fault) → IsLexed text lines end → IsLexed text others other → end ≡ other
+  pub one_end : (text : List ℕ) (lines others : List LogicalLine) (end other : Option Fault)
+      → IsLexed text lines end → IsLexed text others other → end ≡ other
   pub one_fault : (line : LogicalLine) (fault other : Fault) → IsBadAt line fault → IsBadAt line other → fault ≡ other
 
 -- the law `some` of `py_imports::binds_or_is_bad`
@@ -35,8 +37,10 @@ pub record SettledLaws : Type 0 where
   pub ends : EndLaws
   pub each : EachBindsOrIsBad
   pub lines : (text more : List ℕ) (lines : List LogicalLine) → IsSettled text lines → BeginsLexing (text ++ more) lines
-  pub fault : (text more : List ℕ) (fault : Fault) (lines : List LogicalLine) (end : Option Fault) → Decides text fault → IsLexed (text ++ more) lines end → end ≡ Some fault
-  pub all : (text more : List ℕ) (fault : Fault) (lines : List LogicalLine) → Decides text fault → IsLexed text lines (Some fault) → IsLexed (text ++ more) lines (Some fault)
+  pub fault : (text more : List ℕ) (fault : Fault) (lines : List LogicalLine) (end : Option Fault)
+      → Decides text fault → IsLexed (text ++ more) lines end → end ≡ Some fault
+  pub all : (text more : List ℕ) (fault : Fault) (lines : List LogicalLine)
+      → Decides text fault → IsLexed text lines (Some fault) → IsLexed (text ++ more) lines (Some fault)
 
 -- the law `one` of `py_lines::settled_is_final`
 abbrev pub OneSettled : Type 0
@@ -44,8 +48,10 @@ OneSettled = (text : List ℕ) (lines others : List LogicalLine) → IsSettled t
 
 -- the laws `within` and `grow` of `py_lines::settled_is_final`
 pub record AscentLaws : Type 0 where
-  pub within : (text : List ℕ) (place line : ℕ) (lines others : List LogicalLine) → AreFirstLines text place line lines → IsSettled (take place text) others → (more : List LogicalLine) × (lines ≡ others ++ more)
-  pub grow : (text more : List ℕ) (lines others : List LogicalLine) → IsSettled text lines → IsSettled (text ++ more) others → (rest : List LogicalLine) × (others ≡ lines ++ rest)
+  pub within : (text : List ℕ) (place line : ℕ) (lines others : List LogicalLine)
+      → AreFirstLines text place line lines → IsSettled (take place text) others → (more : List LogicalLine) × (lines ≡ others ++ more)
+  pub grow : (text more : List ℕ) (lines others : List LogicalLine)
+      → IsSettled text lines → IsSettled (text ++ more) others → (rest : List LogicalLine) × (others ≡ lines ++ rest)
 
 -- the law `some` of `py_lines::one_lexing`
 abbrev pub EachIsLexed : Type 0
