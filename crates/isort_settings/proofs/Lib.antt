@@ -10,6 +10,9 @@
 --
 -- Own sections (proofs/Names, OwnListsRead): what `sections` lists, name by name, and the lists, one after another.
 --
+-- What all settings keep (proofs/SectionOrders, EntriesAlone): in the order of a table each section stands once, and a
+-- list that was read holds entries alone.
+--
 -- The list of keys (proofs/KeyLaws): it is complete and ascends.
 --
 -- Sections (proofs/Prefixes, Places, Indexes): the own lists come first, and their index gives the first that holds a
@@ -39,5 +42,7 @@ pub mod Places
 pub mod Prefixes
 pub mod Readings
 pub mod Refusals
+pub mod SectionOrders
 pub mod Table
 pub mod Entries
+pub mod EntriesAlone

@@ -1,5 +1,6 @@
--- The five sections that are always there, and the order in which sections are printed.
-use Rattle.std.specs.Prelude.{codes, ℕ, ◌+◌, ◌==◌, Bool, List, [], ◌∷◌, Option, find, bytes_eq}
+-- The five sections that are always there, the own ones, and the order in which sections are printed.
+use Rattle.std.specs.Prelude.{◌≡◌, codes, ℕ, ◌+◌, ◌==◌, nat_lt, Bool, true, if◌then◌else◌, List, [], ◌∷◌, Option, find, bytes_eq}
+use Rattle.std.specs.List.{count_by}
 use Rattle.isort_settings.specs.declared.section.Section.{Section}
 use Rattle.isort_settings.specs.declared.section.Section.TheVariants.{Future, Stdlib, ThirdParty, FirstParty, LocalFolder, Own}
 use Rattle.isort_settings.specs.declared.section_order.SectionOrder.{SectionOrder}
@@ -39,3 +40,16 @@ section_number (Own i) = 5 + i
 -- the same section
 abbrev pub same_section : Section → Section → Bool
 same_section s t = section_number s == section_number t
+
+-- a section that is there where so many are own ones
+abbrev pub is_there : ℕ → Section → Bool
+is_there count (Own i) = nat_lt i count
+is_there count _ = true
+
+-- how often a section stands in an order
+unfoldable pub times_in : List Section → Section → ℕ
+times_in order s = count_by (same_section s) order
+
+-- in the order each section that is there stands once, and no other one does
+abbrev pub StandOnce : ℕ → List Section → Type 0
+StandOnce count order = (s : Section) → times_in order s ≡ (if is_there count s then 1 else 0)

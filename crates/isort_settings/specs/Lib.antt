@@ -1,5 +1,6 @@
 pub mod StandardLibrary
 pub mod Holds
+pub mod Entries
 pub mod OwnLists
 pub mod Limits
 pub mod Modules

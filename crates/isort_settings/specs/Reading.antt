@@ -1,24 +1,20 @@
 -- What a TOML value says for a key of each kind, or how it is refused.
-use Rattle.std.specs.Prelude.{codes, ℕ, ℤ, pos, negsuc, Bool, ◌&&◌, ◌||◌, ◌==◌, nat_le, int_le, if◌then◌else◌, List, [], ◌∷◌, Option, Some, None, option_map, option_and_then, ok_or, Result, Ok, Err, bytes_eq}
+use Rattle.std.specs.Prelude.{codes, ℕ, ℤ, pos, negsuc, ◌&&◌, nat_le, int_le, if◌then◌else◌, List, [], ◌∷◌, Option, Some, None, option_map, option_and_then, ok_or, Result, Ok, Err, bytes_eq}
 use Rattle.std.specs.List.{list_any}
 use Rattle.std.specs.Option.{option_map_or}
-use Rattle.std.specs.Str.{byte}
 use Rattle.toml.specs.Data.{Data, as_str, as_integer, as_bool, as_array, Items, no_items, item}
 use Rattle.isort_settings.specs.declared.error.SettingsError.{SettingsError}
 use Rattle.isort_settings.specs.declared.error.SettingsError.TheVariants.{BadValue, UnknownProfile, UnsupportedMode}
 use Rattle.isort_settings.specs.declared.key.SettingKey.{SettingKey}
 use Rattle.isort_settings.specs.declared.profile.Profile.{Profile}
 use Rattle.isort_settings.specs.declared.profile.Profile.TheVariants.{Black}
+use Rattle.isort_settings.specs.Entries.{is_wildcard}
 use Rattle.isort_settings.specs.SectionNames.{section_named}
 use Rattle.isort_settings.specs.Keys.{Kind, count, whole, wrap_mode, flag, section, texts, no_field, Meaning}
 
 -- the profile that a text names
 abbrev pub profile_named : List ℕ → Result Profile SettingsError
 profile_named name = if bytes_eq name (codes "black") then Ok Black else Err UnknownProfile
-
--- the characters that stand for others in a pattern
-abbrev pub is_wildcard : ℕ → Bool
-is_wildcard c = (c == byte "*") || (c == byte "?")
 
 -- an entry of a list: a text without `*` and `?`
 abbrev pub entry_of : Data → Option (List ℕ)
@@ -37,8 +33,8 @@ count_within low high (negsuc n) = None
 abbrev pub whole_within : ℤ → ℤ → ℤ → Option ℤ
 whole_within low high z = if int_le low z && int_le z high then Some z else None
 
--- what a TOML value says for a key of this kind, with these own sections, or its refusal: a whole number that is no wrap mode is refused as
--- one, and every other value of another kind or out of range as a bad value for the key
+-- what a TOML value says for a key of this kind, with these own sections, or its refusal: a whole number that is no wrap
+-- mode is refused as one, and every other value of another kind or out of range as a bad value for the key
 abbrev pub read_value : List (List ℕ) → (kind : Kind) → SettingKey → Data → Result (Meaning kind) SettingsError
 read_value own (count low high) k d = ok_or (option_and_then (count_within low high) (as_integer d)) (BadValue k)
 read_value own (whole low high) k d = ok_or (option_and_then (whole_within low high) (as_integer d)) (BadValue k)

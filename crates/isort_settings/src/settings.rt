@@ -1,11 +1,14 @@
 //! The settings, one field for each key.
-ghost use Rattle.std.specs.Prelude.{◌≡◌, ◌≤◌, ◌==◌, false, Ok, Err, MatchResult, length, slice_index};
+ghost use Rattle.std.specs.Prelude.{◌≡◌, ◌≤◌, ◌==◌, false, Ok, Err, MatchResult, ◌∷◌, length, slice_index};
 ghost use Rattle.std.specs.Cmp.Lexicographic.{slice_cmp};
 ghost use Rattle.std.specs.Option.{option_map_or};
 ghost use Rattle.std.specs.Ordering.{is_lt, nat_cmp};
 ghost use Rattle.std.specs.Str.{byte};
+ghost use Rattle.isort_settings.specs.Entries.{HoldEntries};
+ghost use Rattle.isort_settings.specs.FiveSections.{order_of, StandOnce};
 ghost use Rattle.isort_settings.specs.Keys.{name_of};
 ghost use Rattle.isort_settings.specs.Limits.{IsWithin, IsWithinSigned};
+ghost use Rattle.isort_settings.specs.Modules.{texts_of};
 ghost use Rattle.isort_settings.specs.declared.limits.TheConstants.{LINE_LENGTH, MODES, GRID_WRAP, SECTION_GAP, TYPE_GAP, END_GAP};
 
 use crate::error::SettingsError;
@@ -83,6 +86,14 @@ pub struct Settings {
     pub ghost end_gap_in_range: { IsWithinSigned END_GAP lines_after_imports },
     pub ghost few_own_sections: { length own_names.items ≤ 64 },
     pub ghost list_for_each_own: { length own_lists ≡ length own_names.items },
+
+    // The five and each own section, and no others, in the order of `sections`.
+    pub ghost each_section_once: { StandOnce (length own_names.items) (order_of sections) },
+
+    // No module in a list holds `*` or `?`.
+    pub ghost entries_alone: { HoldEntries (texts_of known_standard_library ∷ texts_of extra_standard_library
+        ∷ texts_of known_third_party ∷ texts_of known_first_party ∷ texts_of known_local_folder
+        ∷ texts_of known_future_library ∷ own_lists) },
 }
 
 impl Settings {
