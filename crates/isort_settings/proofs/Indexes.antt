@@ -7,7 +7,7 @@ use Rattle.std.specs.Cmp.Lexicographic.{pointwise}
 use Rattle.std.specs.List.{position_from}
 use Rattle.std.specs.Option.{option_or}
 use Rattle.isort_settings.specs.Holds.{holds}
-use Rattle.isort_settings.specs.OwnLists.{texts_of_lists}
+use Rattle.isort_settings.specs.OwnLists.{modules_of_lists}
 use Rattle.isort_settings.proofs.Places.{place-push}
 
 abbrev Texts : Type 0
@@ -18,12 +18,12 @@ bytes_of list = map string_bytes list.items
 
 -- lists of texts are compared by the texts' bytes
 pub same_lists : (xs ys : List Texts)
-    → pointwise (pointwise bytes_eq) (texts_of_lists xs) (texts_of_lists ys) ≡ pointwise (λ a b. pointwise (λ s t. bytes_eq (string_bytes s) (string_bytes t)) a.items b.items) xs ys
+    → pointwise (pointwise bytes_eq) (modules_of_lists xs) (modules_of_lists ys) ≡ pointwise (λ a b. pointwise (λ s t. bytes_eq (string_bytes s) (string_bytes t)) a.items b.items) xs ys
 same_lists [] [] = refl
 same_lists [] (y ∷ ys) = refl
 same_lists (x ∷ xs) [] = refl
 same_lists (x ∷ xs) (y ∷ ys) =
-    ap (λ b. b && pointwise (pointwise bytes_eq) (texts_of_lists xs) (texts_of_lists ys)) (pointwise-map string_bytes bytes_eq x.items y.items)
+    ap (λ b. b && pointwise (pointwise bytes_eq) (modules_of_lists xs) (modules_of_lists ys)) (pointwise-map string_bytes bytes_eq x.items y.items)
     ∙ ap (λ b. pointwise (λ s t. bytes_eq (string_bytes s) (string_bytes t)) x.items y.items && b) (same_lists xs ys)
 
 or_false : (b : Bool) → (b || false) ≡ b
@@ -59,15 +59,15 @@ one_name_more list i place name text start before now within at so_far added =
 
 -- a list more was added
 pub one_list_more : (lists : List Texts) (i : ℕ) (list : Texts) (text : List ℕ) (before now : Option ℕ) → i < length lists → list ≡ get_or lists i list
-    → before ≡ position_from (λ l. holds l text) 0 (texts_of_lists (take i lists))
+    → before ≡ position_from (λ l. holds l text) 0 (modules_of_lists (take i lists))
     → now ≡ option_or before (if holds (map string_bytes list.items) text then Some i else None)
-    → now ≡ position_from (λ l. holds l text) 0 (texts_of_lists (take (i + 1) lists))
+    → now ≡ position_from (λ l. holds l text) 0 (modules_of_lists (take (i + 1) lists))
 one_list_more lists i list text before now within at so_far added =
     let p : List (List ℕ) → Bool = λ l. holds l text in
-    let size : 0 + length (texts_of_lists (take i lists)) ≡ i = omega (arith, length-map (take i lists) bytes_of, length-take-le i lists (omega (arith, within))) in
+    let size : 0 + length (modules_of_lists (take i lists)) ≡ i = omega (arith, length-map (take i lists) bytes_of, length-take-le i lists (omega (arith, within))) in
     added
     ∙ ap (λ o. option_or o (if holds (bytes_of list) text then Some i else None)) so_far
-    ∙ ap (λ n. option_or (position_from p 0 (texts_of_lists (take i lists))) (cond (holds (bytes_of list) text) (Some n) None)) (sym size)
-    ∙ sym (place-push p 0 (texts_of_lists (take i lists)) (bytes_of list))
+    ∙ ap (λ n. option_or (position_from p 0 (modules_of_lists (take i lists))) (cond (holds (bytes_of list) text) (Some n) None)) (sym size)
+    ∙ sym (place-push p 0 (modules_of_lists (take i lists)) (bytes_of list))
     ∙ ap (position_from p 0) (sym (map-append bytes_of (take i lists) (list ∷ [])))
-    ∙ ap (λ xs. position_from p 0 (texts_of_lists xs)) (sym (take_more lists i list within ∙ ap (λ x. take i lists ++ x ∷ []) (sym at)))
+    ∙ ap (λ xs. position_from p 0 (modules_of_lists xs)) (sym (take_more lists i list within ∙ ap (λ x. take i lists ++ x ∷ []) (sym at)))

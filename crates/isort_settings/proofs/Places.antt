@@ -1,12 +1,14 @@
 -- The place of the first element that passes a test, and the lists of own sections by their places.
-use Rattle.std.proofs.Common.{◌≡◌, ℕ, ◌+◌, suc, Bool, true, false, not, cond, List, [], ◌∷◌, ◌++◌, map, length, Option, Some, None, option_map, unwrap_or, refl, ◌∙◌, ap, arith, inl, inr}
-use Rattle.std.proofs.lemmas.Bool.{cases_lt, lt-ltb, le-ltb}
+use Rattle.std.proofs.Common.{◌≡◌, ℕ, ◌+◌, ◌==◌, ◌<◌, sym, suc, Bool, true, false, not, cond, List, [], ◌∷◌, ◌++◌, map, length, Option, Some, None, option_map, unwrap_or, refl, ◌∙◌, ap, arith, inl, inr}
+use Rattle.std.proofs.lemmas.Bool.{cases_eq, eq-eqb, ne_eqb, cases_lt, lt-ltb, le-ltb}
 use Rattle.std.proofs.lemmas.List.Folds.{find-append}
 use Rattle.std.proofs.lemmas.List.Sums.{prefix_len-le-length}
+use Rattle.std.specs.Cmp.Lexicographic.{pointwise}
 use Rattle.std.specs.List.{find, position, position_from, position_or_len, enumerate_from}
 use Rattle.std.specs.Option.{option_or}
 use Rattle.isort_settings.specs.declared.section.Section.{Section}
 use Rattle.isort_settings.specs.declared.section.Section.TheVariants.{Own}
+use Rattle.isort_settings.specs.FiveSections.{same_section}
 use Rattle.isort_settings.specs.Holds.{holds}
 use Rattle.isort_settings.specs.Sections.{lists_of, own_lists_of, five_lists_of}
 use Rattle.isort_settings.specs.Sections.OnePrefix.{section_holding}
@@ -56,3 +58,23 @@ own_lists_first v text =
     ap (option_map (λ (s : Entry). s.0)) (find-append (λ (s : Entry). holds s.1 text) (own_lists_of v) (five_lists_of v))
     ∙ or_map (λ (s : Entry). s.0) (find (λ (s : Entry). holds s.1 text) (own_lists_of v)) _
     ∙ ap (λ o. option_or o (section_holding (five_lists_of v) text)) (own_holding 0 v.own_lists text)
+
+-- sections are the same by the one test where they are by the other
+pub same_pointwise : (E : Section → Section → Bool) → ((s t : Section) → E s t ≡ same_section s t) → (xs ys : List Section) → pointwise E xs ys ≡ pointwise same_section xs ys
+same_pointwise E same [] [] = refl
+same_pointwise E same [] (y ∷ ys) = refl
+same_pointwise E same (x ∷ xs) [] = refl
+same_pointwise E same (x ∷ xs) (y ∷ ys) = rw (same x y, same_pointwise E same xs ys) refl
+
+-- own sections and the five by their numbers
+pub own_apart : (i k : ℕ) → k < 5 → false ≡ (5 + i == k)
+own_apart i k small = sym (ne_eqb (5 + i) k (λ e. omega (arith, e, small)))
+
+pub other_apart : (k i : ℕ) → k < 5 → false ≡ (k == 5 + i)
+other_apart k i small = sym (ne_eqb k (5 + i) (λ e. omega (arith, e, small)))
+
+pub same_own : (i j : ℕ) → (i == j) ≡ (5 + i == 5 + j)
+same_own i j = elim (cases_eq i j) [
+  | inl is ↦ rw (eq-eqb i j is, eq-eqb (5 + i) (5 + j) (omega (arith, is))) refl
+  | inr isnt ↦ rw (ne_eqb i j isnt, ne_eqb (5 + i) (5 + j) (λ e. isnt (omega (arith, e)))) refl
+]

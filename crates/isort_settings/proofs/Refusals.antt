@@ -8,6 +8,7 @@ use Rattle.std.specs.Option.{option_map_or}
 use Rattle.std.specs.Ordering.{nat_cmp, is_lt, ordering_reverse}
 use Rattle.isort_settings.specs.Keys.{name_of}
 use Rattle.isort_settings.specs.TableSections.{Refused, earlier, first_of}
+use Rattle.isort_settings.specs.TableSections.Steps.{earliest}
 
 -- the name of the one comes before that of the other
 abbrev pub before : List ℕ → List ℕ → Bool
@@ -125,11 +126,16 @@ earlier-assoc r s t = assoc (before (name_at t) (name_at s)) (before (name_at s)
     assoc false true p q = rw (p, q) refl
     assoc false false p q = rw (q, not_before-trans (name_at t) (name_at s) (name_at r) p q) refl
 
--- a refused key more at the end
-pub first_of-push : (rs : List Refused) (x : Refused) → first_of (rs ++ x ∷ []) ≡ Some (option_map_or (λ r. earlier r x) (first_of rs) x)
-first_of-push [] x = refl
-first_of-push (r ∷ rs) x = ap (λ o. Some (option_map_or (earlier r) o r)) (first_of-push rs x) ∙ ap Some (more (first_of rs))
+-- the first of all is the first of some and of the others
+pub first_of-append : (rs ss : List Refused) → first_of (rs ++ ss) ≡ earliest (first_of rs) (first_of ss)
+first_of-append [] ss = none_first (first_of ss)
   where
-    more : (o : Option Refused) → earlier r (option_map_or (λ s. earlier s x) o x) ≡ earlier (option_map_or (earlier r) o r) x
-    more None = refl
-    more (Some s) = earlier-assoc r s x
+    none_first : (o : Option Refused) → o ≡ earliest None o
+    none_first None = refl
+    none_first (Some s) = refl
+first_of-append (r ∷ rs) ss = ap (λ o. Some (option_map_or (earlier r) o r)) (first_of-append rs ss) ∙ more (first_of rs) (first_of ss)
+  where
+    more : (o p : Option Refused) → Some (option_map_or (earlier r) (earliest o p) r) ≡ earliest (Some (option_map_or (earlier r) o r)) p
+    more o None = refl
+    more None (Some s) = refl
+    more (Some q) (Some s) = ap Some (earlier-assoc r q s)

@@ -5,7 +5,7 @@ use Rattle.isort_settings.specs.declared.modules.Modules.TheVariants.{StandardLi
 use Rattle.isort_settings.specs.StandardLibrary.{standard_library}
 
 -- the modules of a list, each as its bytes
-abbrev pub texts_of : Modules → List (List ℕ)
-texts_of StandardLibrary = standard_library
-texts_of Future = codes "__future__" ∷ []
-texts_of (Listed modules) = map string_bytes modules.items
+abbrev pub modules_of : Modules → List (List ℕ)
+modules_of StandardLibrary = standard_library
+modules_of Future = codes "__future__" ∷ []
+modules_of (Listed modules) = map string_bytes modules.items

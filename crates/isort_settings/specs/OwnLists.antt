@@ -6,8 +6,8 @@ use Rattle.std.specs.List.{position_from}
 use Rattle.isort_settings.specs.Holds.{holds}
 
 -- the lists, each module as its bytes
-abbrev pub texts_of_lists : List (Vec (String Global) Global) → List (List (List ℕ))
-texts_of_lists lists = map (λ list. map string_bytes list.items) lists
+abbrev pub modules_of_lists : List (Vec (String Global) Global) → List (List (List ℕ))
+modules_of_lists lists = map (λ list. map string_bytes list.items) lists
 
 -- the index gives for each module the place of the first list that holds it
 abbrev pub IsIndexOf : {S : Type 0} → List (List (List ℕ)) → HashMap (String Global) ℕ S → Type 0

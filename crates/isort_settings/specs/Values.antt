@@ -6,7 +6,7 @@ use Rattle.isort_settings.specs.declared.key.SettingKey.TheVariants as key
 use Rattle.isort_settings.specs.declared.section.Section.{Section}
 use Rattle.isort_settings.specs.declared.settings.Settings.{Settings}
 use Rattle.isort_settings.specs.Keys.{Meaning, row_of}
-use Rattle.isort_settings.specs.Modules.{texts_of}
+use Rattle.isort_settings.specs.Modules.{modules_of}
 use Rattle.isort_settings.specs.FiveSections.{usual_order, order_of}
 
 -- what settings say: a value for each key, the lists as lists of bytes; and the sections in the order in which they are
@@ -55,12 +55,12 @@ values s = record {
   lines_between_types = s.lines_between_types;
   lines_after_imports = s.lines_after_imports;
   default_section = s.default_section;
-  known_standard_library = texts_of s.known_standard_library;
-  extra_standard_library = texts_of s.extra_standard_library;
-  known_third_party = texts_of s.known_third_party;
-  known_first_party = texts_of s.known_first_party;
-  known_local_folder = texts_of s.known_local_folder;
-  known_future_library = texts_of s.known_future_library;
+  known_standard_library = modules_of s.known_standard_library;
+  extra_standard_library = modules_of s.extra_standard_library;
+  known_third_party = modules_of s.known_third_party;
+  known_first_party = modules_of s.known_first_party;
+  known_local_folder = modules_of s.known_local_folder;
+  known_future_library = modules_of s.known_future_library;
   sections = order_of s.sections;
   own_names = map string_bytes s.own_names.items;
   own_lists = s.own_lists;

@@ -20,11 +20,11 @@ pub enum Modules {
 const FUTURE: [&str; 1] = ["__future__"];
 
 impl Modules {
-    ghost use Rattle.isort_settings.specs.Modules.{texts_of};
+    ghost use Rattle.isort_settings.specs.Modules.{modules_of};
 
     /// How many modules there are.
     fn len(&self) -> usize
-        ensures { result ≡ length (texts_of self.now) }
+        ensures { result ≡ length (modules_of self.now) }
     {
         match self {
             Modules::StandardLibrary => standard_library::modules().len(),
@@ -35,7 +35,7 @@ impl Modules {
 
     /// The module at the index, if there are that many.
     pub fn get(&self, index: usize) -> Option<&str>
-        ensures { option_copied result ≡ slice_get (texts_of self.now) index }
+        ensures { option_copied result ≡ slice_get (modules_of self.now) index }
     {
         match self {
             Modules::StandardLibrary => text_at(standard_library::modules(), index),
@@ -46,7 +46,7 @@ impl Modules {
 
     /// Whether the list holds the module.
     pub(crate) fn holds(&self, module: &[u8]) -> bool
-        ensures { result ≡ holds (texts_of self.now) «module».now }
+        ensures { result ≡ holds (modules_of self.now) «module».now }
     {
         match self {
             Modules::StandardLibrary => standard_library::holds(module),
@@ -62,11 +62,11 @@ impl PartialEq for Modules {
     ghost use Rattle.std.specs.Cmp.Lexicographic.{lists_equiv, nat_list_eq_equiv, pointwise};
     ghost use Rattle.std.specs.Ordering.{on};
     ghost use Rattle.std.proofs.lemmas.Cmp.{on_equiv};
-    ghost use Rattle.isort_settings.specs.Modules.{texts_of};
+    ghost use Rattle.isort_settings.specs.Modules.{modules_of};
 
-    ghost eq = { on texts_of (pointwise bytes_eq) };
+    ghost eq = { on modules_of (pointwise bytes_eq) };
 
-    ghost laws = { partial_equiv_from_equiv (on_equiv texts_of (lists_equiv nat_list_eq_equiv)) };
+    ghost laws = { partial_equiv_from_equiv (on_equiv modules_of (lists_equiv nat_list_eq_equiv)) };
 
     fn eq(&self, other: &Modules) -> bool {
         let count = self.len();
@@ -85,9 +85,9 @@ impl PartialEq for Modules {
 impl Eq for Modules {
     ghost use Rattle.std.specs.Cmp.Lexicographic.{lists_equiv, nat_list_eq_equiv};
     ghost use Rattle.std.proofs.lemmas.Cmp.{on_equiv};
-    ghost use Rattle.isort_settings.specs.Modules.{texts_of};
+    ghost use Rattle.isort_settings.specs.Modules.{modules_of};
 
-    ghost laws = { on_equiv texts_of (lists_equiv nat_list_eq_equiv) };
+    ghost laws = { on_equiv modules_of (lists_equiv nat_list_eq_equiv) };
 }
 
 /// The text at the index, if there are that many.

@@ -1,8 +1,8 @@
 //! The natural order of texts, in which a number counts by its value, and the classes of names.
 ghost use Rattle.std.specs.Prelude.{◌≡◌, ◌==◌, drop, take};
 ghost use Rattle.std.specs.Cmp.Lexicographic.{slice_cmp};
-ghost use Rattle.std.specs.List.{prefix_len, position_or_len};
-ghost use Rattle.std.specs.Char.{is_ascii_digit};
+ghost use Rattle.std.specs.List.{list_any, prefix_len, position_or_len};
+ghost use Rattle.std.specs.Char.{is_ascii_digit, is_ascii_lowercase, is_ascii_uppercase};
 ghost use Rattle.std.specs.Ordering.{nat_cmp};
 ghost use Rattle.std.specs.Str.{byte};
 ghost use Rattle.std.specs.Str.Parse.{AllDigits, digits_value};
@@ -45,9 +45,21 @@ pub fn class_cmp(a: &[u8], b: &[u8]) -> Ordering
 fn is_constant(name: &[u8]) -> bool
     ensures { result ≡ is_constant name.now }
 {
-    name.len() >= 2
-        && name.iter().any(|b| b.is_ascii_uppercase())
-        && !name.iter().any(|b| b.is_ascii_lowercase())
+    name.len() >= 2 && has_capital(name) && !has_small_letter(name)
+}
+
+/// Whether the name has an ASCII capital.
+fn has_capital(name: &[u8]) -> bool
+    ensures { result ≡ list_any is_ascii_uppercase name.now }
+{
+    name.iter().any(|b| b.is_ascii_uppercase())
+}
+
+/// Whether the name has a small ASCII letter.
+fn has_small_letter(name: &[u8]) -> bool
+    ensures { result ≡ list_any is_ascii_lowercase name.now }
+{
+    name.iter().any(|b| b.is_ascii_lowercase())
 }
 
 /// How many dots a module begins with, and what follows them.

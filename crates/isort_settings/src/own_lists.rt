@@ -23,15 +23,15 @@ impl Model for OwnLists {
 
     ghost Value = { List (List (List ℕ)) };
 
-    ghost use Rattle.isort_settings.specs.OwnLists.{texts_of_lists, IsIndexOf};
+    ghost use Rattle.isort_settings.specs.OwnLists.{modules_of_lists, IsIndexOf};
 
-    ghost view = { λ own. texts_of_lists own.lists.items };
+    ghost view = { λ own. modules_of_lists own.lists.items };
 
-    ghost invariant = { λ own. IsIndexOf (texts_of_lists own.lists.items) own.index };
+    ghost invariant = { λ own. IsIndexOf (modules_of_lists own.lists.items) own.index };
 }
 
 impl OwnLists {
-    ghost use Rattle.isort_settings.specs.OwnLists.{texts_of_lists};
+    ghost use Rattle.isort_settings.specs.OwnLists.{modules_of_lists};
 
     /// No list. This takes no memory.
     pub(crate) fn none(alloc: Global) -> OwnLists
@@ -46,7 +46,7 @@ impl OwnLists {
     /// The lists, in this order.
     pub(crate) fn new(alloc: Global, lists: Vec<Vec<String>>) -> Result<OwnLists, AllocError>
         requires { length lists.items ≤ 256 }
-        ensures { IfOk result (λ own. own ≡ texts_of_lists lists.items) }
+        ensures { IfOk result (λ own. own ≡ modules_of_lists lists.items) }
     {
         let mut index = HashMap::new(alloc);
         for (place, list) in lists.iter().enumerate() {
@@ -57,7 +57,7 @@ impl OwnLists {
 
     /// The lists.
     pub fn lists(&self) -> &[Vec<String>]
-        ensures { texts_of_lists result.now ≡ self.now }
+        ensures { modules_of_lists result.now ≡ self.now }
     {
         self.lists.as_slice()
     }

@@ -8,7 +8,7 @@ ghost use Rattle.isort_settings.specs.Entries.{HoldEntries};
 ghost use Rattle.isort_settings.specs.FiveSections.{order_of, StandOnce};
 ghost use Rattle.isort_settings.specs.Keys.{name_of};
 ghost use Rattle.isort_settings.specs.Limits.{IsWithin, IsWithinSigned};
-ghost use Rattle.isort_settings.specs.Modules.{texts_of};
+ghost use Rattle.isort_settings.specs.Modules.{modules_of};
 ghost use Rattle.isort_settings.specs.declared.limits.TheConstants.{LINE_LENGTH, MODES, GRID_WRAP, SECTION_GAP, TYPE_GAP, END_GAP};
 
 use crate::error::SettingsError;
@@ -91,9 +91,9 @@ pub struct Settings {
     pub ghost each_section_once: { StandOnce (length own_names.items) (order_of sections) },
 
     // No module in a list holds `*` or `?`.
-    pub ghost entries_alone: { HoldEntries (texts_of known_standard_library ∷ texts_of extra_standard_library
-        ∷ texts_of known_third_party ∷ texts_of known_first_party ∷ texts_of known_local_folder
-        ∷ texts_of known_future_library ∷ own_lists) },
+    pub ghost entries_alone: { HoldEntries (modules_of known_standard_library ∷ modules_of extra_standard_library
+        ∷ modules_of known_third_party ∷ modules_of known_first_party ∷ modules_of known_local_folder
+        ∷ modules_of known_future_library ∷ own_lists) },
 }
 
 impl Settings {
@@ -243,9 +243,10 @@ impl Settings {
             if is_after(&key, refused) {
                 return Ok(());
             }
-            if let Some(value) = pyproject::member(table, key.name()) {
-                self.take_value(alloc, key, value)?;
-            }
+            let Some(value) = pyproject::member(table, key.name()) else {
+                continue;
+            };
+            self.take_value(alloc, key, value)?;
         }
         Ok(())
     }

@@ -1,14 +1,13 @@
 //! Reading the sections of a table: `sections` itself, and the lists of the own ones.
-ghost use Rattle.std.specs.Prelude.{◌≡◌, ◌≤◌, IfOk, IfSome, [], length, map, ok_or, option_map, string_bytes};
-ghost use Rattle.std.specs.Option.{option_map_or};
+ghost use Rattle.std.specs.Prelude.{◌≡◌, ◌≤◌, IfOk, IfSome, [], ◌∷◌, length, map, ok_or, option_map, string_bytes};
 ghost use Rattle.std.specs.Result.{result_unwrap_or};
 ghost use Rattle.toml.specs.View.{table_view};
 ghost use Rattle.isort_settings.specs.declared.error.SettingsError.TheVariants.{BadValue};
 ghost use Rattle.isort_settings.specs.declared.key.SettingKey.TheVariants.{Sections};
-ghost use Rattle.isort_settings.specs.OwnLists.{texts_of_lists};
+ghost use Rattle.isort_settings.specs.OwnLists.{modules_of_lists};
 ghost use Rattle.isort_settings.specs.SectionNames.{five_alone, sections_of};
-ghost use Rattle.isort_settings.specs.TableSections.{section_table, sections_in, own_names_in, entries_under, own_list, earlier, first_of, sections_refused};
-ghost use Rattle.isort_settings.specs.TableSections.Steps.{listed_value, lists_refused, bad_key};
+ghost use Rattle.isort_settings.specs.TableSections.{section_table, sections_in, own_names_in, entries_under, own_list, first_of, sections_refused};
+ghost use Rattle.isort_settings.specs.TableSections.Steps.{listed_value, lists_refused, bad_key, earliest};
 
 use crate::key::SettingKey;
 use crate::own_key::OwnKey;
@@ -83,13 +82,34 @@ fn entries_under(alloc: Global, table: &Table, key: &str) -> Result<Option<Vec<S
     }
 }
 
-/// Of two keys the one whose name comes first.
-fn earlier(first: Option<SettingKey>, key: SettingKey) -> SettingKey
-    ensures { bad_key result ≡ option_map_or (λ k. earlier (bad_key k) (bad_key key)) first (bad_key key) }
+/// The list of the own section of a name, or an empty one and its key where it is refused.
+fn own_list(
+    alloc: Global,
+    table: &Table,
+    name: &str,
+) -> Result<(Vec<String>, Option<SettingKey>), AllocError>
+    ensures list { IfOk result (λ r. map string_bytes r.0.items
+        ≡ result_unwrap_or (own_list (table_view table.now) name.now) []) }
+    ensures refused { IfOk result (λ r. option_map bad_key r.1
+        ≡ first_of (lists_refused (table_view table.now) (name.now ∷ []))) }
 {
+    let key = OwnKey::of_section(alloc, name)?;
+    match entries_under(alloc, table, key.as_str())? {
+        Some(list) => Ok((list, None)),
+        None => Ok((Vec::new(alloc), Some(SettingKey::OwnList(key)))),
+    }
+}
+
+/// Of two keys, if they are there, the one whose name comes first.
+fn earlier(first: Option<SettingKey>, other: Option<SettingKey>) -> Option<SettingKey>
+    ensures { option_map bad_key result ≡ earliest (option_map bad_key first) (option_map bad_key other) }
+{
+    let Some(key) = other else {
+        return first;
+    };
     match first {
-        Some(first) if !key.comes_before(&first) => first,
-        _ => key,
+        Some(first) if !key.comes_before(&first) => Some(first),
+        _ => Some(key),
     }
 }
 
@@ -100,7 +120,7 @@ fn own_lists(
     names: &[String],
 ) -> Result<(Vec<Vec<String>>, Option<SettingKey>), AllocError>
     ensures count { IfOk result (λ r. length r.0.items ≡ length names.now) }
-    ensures lists { IfOk result (λ r. texts_of_lists r.0.items
+    ensures lists { IfOk result (λ r. modules_of_lists r.0.items
         ≡ map (λ name. result_unwrap_or (own_list (table_view table.now) name) []) (map string_bytes names.now)) }
     ensures refused { IfOk result (λ r. option_map bad_key r.1
         ≡ first_of (lists_refused (table_view table.now) (map string_bytes names.now))) }
@@ -108,14 +128,9 @@ fn own_lists(
     let mut lists = Vec::new(alloc);
     let mut refused = None;
     for name in names {
-        let key = SettingKey::OwnList(OwnKey::of_section(alloc, name.as_str())?);
-        match entries_under(alloc, table, key.name())? {
-            Some(list) => lists.push(list)?,
-            None => {
-                lists.push(Vec::new(alloc))?;
-                refused = Some(earlier(refused, key));
-            }
-        }
+        let (list, key) = own_list(alloc, table, name.as_str())?;
+        lists.push(list)?;
+        refused = earlier(refused, key);
     }
     Ok((lists, refused))
 }

@@ -4,7 +4,7 @@ ghost use Rattle.std.specs.List.{list_any};
 ghost use Rattle.toml.specs.Data.{as_array};
 ghost use Rattle.toml.specs.View.{view};
 ghost use Rattle.isort_settings.specs.Keys.{count, whole, wrap_mode, flag, section, texts};
-ghost use Rattle.isort_settings.specs.Modules.{texts_of};
+ghost use Rattle.isort_settings.specs.Modules.{modules_of};
 ghost use Rattle.isort_settings.specs.Entries.{is_wildcard, are_entries};
 ghost use Rattle.isort_settings.specs.Reading.{entry_of, entries_of, count_within, whole_within, read_value};
 
@@ -114,8 +114,8 @@ impl KeyValue<'_> {
     /// A list of modules.
     pub fn modules(self, alloc: Global) -> Result<Modules, SettingsError>
         ensures ok { IfOk result (λ m. read_value [] texts self.entry.key (view self.entry.value.now)
-            ≡ Ok (texts_of m)) }
-        ensures entries { IfOk result (λ m. IsTrue (are_entries (texts_of m))) }
+            ≡ Ok (modules_of m)) }
+        ensures entries { IfOk result (λ m. IsTrue (are_entries (modules_of m))) }
         ensures err { IfErr result (λ e. e ≢ SettingsError.Memory
             → read_value [] texts self.entry.key (view self.entry.value.now) ≡ Err e) }
     {

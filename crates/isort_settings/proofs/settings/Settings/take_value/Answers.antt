@@ -1,115 +1,72 @@
 -- In each arm the reader of the key's kind has answered, and its answer was put in the key's place.
-use Rattle.std.proofs.Common.{ℕ, List, refl, inl, inr}
-use Rattle.isort_settings.specs.Modules.{texts_of}
-use Rattle.isort_settings.specs.Values.{values}
+use Rattle.std.proofs.Common.{refl, inl, inr}
+use Rattle.isort_settings.specs.Modules.{modules_of}
 use Rattle.isort_settings.specs.declared.key.SettingKey.TheVariants as key
 use Rattle.isort_settings.proofs.Readings.{taken, took, took_shown, kept_with, with_known_standard_library, with_extra_standard_library, with_known_third_party, with_known_first_party, with_known_local_folder, with_known_future_library}
 use Rattle.isort_settings.proofs.settings.Settings.take_value.Goals as goal
 
 pub returns-in-CaseSensitive : goal.returns-in-CaseSensitive
-returns-in-CaseSensitive c =
-    let own : List (List ℕ) = (values c.args.self.now).own_names in
-    took own _ key.CaseSensitive _ _ _ _ _ _ c.in-CaseSensitive.is c.flag.ensures c.put.ensures
+returns-in-CaseSensitive c = took _ key.CaseSensitive _ _ _ _ _ _ c.in-CaseSensitive.is c.flag.ensures c.put.ensures
 
 pub returns-in-CombineAsImports : goal.returns-in-CombineAsImports
-returns-in-CombineAsImports c =
-    let own : List (List ℕ) = (values c.args.self.now).own_names in
-    took own _ key.CombineAsImports _ _ _ _ _ _ c.in-CombineAsImports.is c.flag-in-CombineAsImports.ensures c.put-in-CombineAsImports.ensures
+returns-in-CombineAsImports c = took _ key.CombineAsImports _ _ _ _ _ _ c.in-CombineAsImports.is c.flag-in-CombineAsImports.ensures c.put-in-CombineAsImports.ensures
 
 pub returns-in-DefaultSection : goal.returns-in-DefaultSection
-returns-in-DefaultSection c =
-    let own : List (List ℕ) = (values c.args.self.now).own_names in
-    took own _ key.DefaultSection _ _ _ _ _ _ c.in-DefaultSection.is (rw c.as_slice.ensures.value at c.section.ensures) c.put-in-DefaultSection.ensures
+returns-in-DefaultSection c = took _ key.DefaultSection _ _ _ _ _ _ c.in-DefaultSection.is (rw c.as_slice.ensures.value at c.section.ensures) c.put-in-DefaultSection.ensures
 
 pub returns-in-EnsureNewlineBeforeComments : goal.returns-in-EnsureNewlineBeforeComments
-returns-in-EnsureNewlineBeforeComments c =
-    let own : List (List ℕ) = (values c.args.self.now).own_names in
-    took own _ key.EnsureNewlineBeforeComments _ _ _ _ _ _ c.in-EnsureNewlineBeforeComments.is c.flag-in-EnsureNewlineBeforeComments.ensures c.put-in-EnsureNewlineBeforeComments.ensures
+returns-in-EnsureNewlineBeforeComments c = took _ key.EnsureNewlineBeforeComments _ _ _ _ _ _ c.in-EnsureNewlineBeforeComments.is c.flag-in-EnsureNewlineBeforeComments.ensures c.put-in-EnsureNewlineBeforeComments.ensures
 
 pub returns-in-ExtraStandardLibrary : goal.returns-in-ExtraStandardLibrary
-returns-in-ExtraStandardLibrary c =
-    let own : List (List ℕ) = (values c.args.self.now).own_names in
-    took_shown own _ key.ExtraStandardLibrary _ _ texts_of _ _ _ _ c.in-ExtraStandardLibrary.is c.modules.ensures.ok c.modules.ensures.err c.put-in-ExtraStandardLibrary.ensures
+returns-in-ExtraStandardLibrary c = took_shown _ key.ExtraStandardLibrary _ _ modules_of _ _ _ _ c.in-ExtraStandardLibrary.is c.modules.ensures.ok c.modules.ensures.err c.put-in-ExtraStandardLibrary.ensures
 
 pub returns-in-ForceGridWrap : goal.returns-in-ForceGridWrap
-returns-in-ForceGridWrap c =
-    let own : List (List ℕ) = (values c.args.self.now).own_names in
-    took own _ key.ForceGridWrap _ _ _ _ _ _ c.in-ForceGridWrap.is c.count.ensures c.put-in-ForceGridWrap.ensures
+returns-in-ForceGridWrap c = took _ key.ForceGridWrap _ _ _ _ _ _ c.in-ForceGridWrap.is c.count.ensures c.put-in-ForceGridWrap.ensures
 
 pub returns-in-ForceSingleLine : goal.returns-in-ForceSingleLine
-returns-in-ForceSingleLine c =
-    let own : List (List ℕ) = (values c.args.self.now).own_names in
-    took own _ key.ForceSingleLine _ _ _ _ _ _ c.in-ForceSingleLine.is c.flag-in-ForceSingleLine.ensures c.put-in-ForceSingleLine.ensures
+returns-in-ForceSingleLine c = took _ key.ForceSingleLine _ _ _ _ _ _ c.in-ForceSingleLine.is c.flag-in-ForceSingleLine.ensures c.put-in-ForceSingleLine.ensures
 
 pub returns-in-ForceSortWithinSections : goal.returns-in-ForceSortWithinSections
-returns-in-ForceSortWithinSections c =
-    let own : List (List ℕ) = (values c.args.self.now).own_names in
-    took own _ key.ForceSortWithinSections _ _ _ _ _ _ c.in-ForceSortWithinSections.is c.flag-in-ForceSortWithinSections.ensures c.put-in-ForceSortWithinSections.ensures
+returns-in-ForceSortWithinSections c = took _ key.ForceSortWithinSections _ _ _ _ _ _ c.in-ForceSortWithinSections.is c.flag-in-ForceSortWithinSections.ensures c.put-in-ForceSortWithinSections.ensures
 
 pub returns-in-IncludeTrailingComma : goal.returns-in-IncludeTrailingComma
-returns-in-IncludeTrailingComma c =
-    let own : List (List ℕ) = (values c.args.self.now).own_names in
-    took own _ key.IncludeTrailingComma _ _ _ _ _ _ c.in-IncludeTrailingComma.is c.flag-in-IncludeTrailingComma.ensures c.put-in-IncludeTrailingComma.ensures
+returns-in-IncludeTrailingComma c = took _ key.IncludeTrailingComma _ _ _ _ _ _ c.in-IncludeTrailingComma.is c.flag-in-IncludeTrailingComma.ensures c.put-in-IncludeTrailingComma.ensures
 
 pub returns-in-KnownFirstParty : goal.returns-in-KnownFirstParty
-returns-in-KnownFirstParty c =
-    let own : List (List ℕ) = (values c.args.self.now).own_names in
-    took_shown own _ key.KnownFirstParty _ _ texts_of _ _ _ _ c.in-KnownFirstParty.is c.modules-in-KnownFirstParty.ensures.ok c.modules-in-KnownFirstParty.ensures.err c.put-in-KnownFirstParty.ensures
+returns-in-KnownFirstParty c = took_shown _ key.KnownFirstParty _ _ modules_of _ _ _ _ c.in-KnownFirstParty.is c.modules-in-KnownFirstParty.ensures.ok c.modules-in-KnownFirstParty.ensures.err c.put-in-KnownFirstParty.ensures
 
 pub returns-in-KnownFutureLibrary : goal.returns-in-KnownFutureLibrary
-returns-in-KnownFutureLibrary c =
-    let own : List (List ℕ) = (values c.args.self.now).own_names in
-    took_shown own _ key.KnownFutureLibrary _ _ texts_of _ _ _ _ c.in-KnownFutureLibrary.is c.modules-in-KnownFutureLibrary.ensures.ok c.modules-in-KnownFutureLibrary.ensures.err c.put-in-KnownFutureLibrary.ensures
+returns-in-KnownFutureLibrary c = took_shown _ key.KnownFutureLibrary _ _ modules_of _ _ _ _ c.in-KnownFutureLibrary.is c.modules-in-KnownFutureLibrary.ensures.ok c.modules-in-KnownFutureLibrary.ensures.err c.put-in-KnownFutureLibrary.ensures
 
 pub returns-in-KnownLocalFolder : goal.returns-in-KnownLocalFolder
-returns-in-KnownLocalFolder c =
-    let own : List (List ℕ) = (values c.args.self.now).own_names in
-    took_shown own _ key.KnownLocalFolder _ _ texts_of _ _ _ _ c.in-KnownLocalFolder.is c.modules-in-KnownLocalFolder.ensures.ok c.modules-in-KnownLocalFolder.ensures.err c.put-in-KnownLocalFolder.ensures
+returns-in-KnownLocalFolder c = took_shown _ key.KnownLocalFolder _ _ modules_of _ _ _ _ c.in-KnownLocalFolder.is c.modules-in-KnownLocalFolder.ensures.ok c.modules-in-KnownLocalFolder.ensures.err c.put-in-KnownLocalFolder.ensures
 
 pub returns-in-KnownStandardLibrary : goal.returns-in-KnownStandardLibrary
-returns-in-KnownStandardLibrary c =
-    let own : List (List ℕ) = (values c.args.self.now).own_names in
-    took_shown own _ key.KnownStandardLibrary _ _ texts_of _ _ _ _ c.in-KnownStandardLibrary.is c.modules-in-KnownStandardLibrary.ensures.ok c.modules-in-KnownStandardLibrary.ensures.err c.put-in-KnownStandardLibrary.ensures
+returns-in-KnownStandardLibrary c = took_shown _ key.KnownStandardLibrary _ _ modules_of _ _ _ _ c.in-KnownStandardLibrary.is c.modules-in-KnownStandardLibrary.ensures.ok c.modules-in-KnownStandardLibrary.ensures.err c.put-in-KnownStandardLibrary.ensures
 
 pub returns-in-KnownThirdParty : goal.returns-in-KnownThirdParty
-returns-in-KnownThirdParty c =
-    let own : List (List ℕ) = (values c.args.self.now).own_names in
-    took_shown own _ key.KnownThirdParty _ _ texts_of _ _ _ _ c.in-KnownThirdParty.is c.modules-in-KnownThirdParty.ensures.ok c.modules-in-KnownThirdParty.ensures.err c.put-in-KnownThirdParty.ensures
+returns-in-KnownThirdParty c = took_shown _ key.KnownThirdParty _ _ modules_of _ _ _ _ c.in-KnownThirdParty.is c.modules-in-KnownThirdParty.ensures.ok c.modules-in-KnownThirdParty.ensures.err c.put-in-KnownThirdParty.ensures
 
 pub returns-in-LineLength : goal.returns-in-LineLength
-returns-in-LineLength c =
-    let own : List (List ℕ) = (values c.args.self.now).own_names in
-    took own _ key.LineLength _ _ _ _ _ _ c.in-LineLength.is c.count-in-LineLength.ensures c.put-in-LineLength.ensures
+returns-in-LineLength c = took _ key.LineLength _ _ _ _ _ _ c.in-LineLength.is c.count-in-LineLength.ensures c.put-in-LineLength.ensures
 
 pub returns-in-LinesAfterImports : goal.returns-in-LinesAfterImports
-returns-in-LinesAfterImports c =
-    let own : List (List ℕ) = (values c.args.self.now).own_names in
-    took own _ key.LinesAfterImports _ _ _ _ _ _ c.in-LinesAfterImports.is c.whole.ensures c.put-in-LinesAfterImports.ensures
+returns-in-LinesAfterImports c = took _ key.LinesAfterImports _ _ _ _ _ _ c.in-LinesAfterImports.is c.whole.ensures c.put-in-LinesAfterImports.ensures
 
 pub returns-in-LinesBetweenSections : goal.returns-in-LinesBetweenSections
-returns-in-LinesBetweenSections c =
-    let own : List (List ℕ) = (values c.args.self.now).own_names in
-    took own _ key.LinesBetweenSections _ _ _ _ _ _ c.in-LinesBetweenSections.is c.count-in-LinesBetweenSections.ensures c.put-in-LinesBetweenSections.ensures
+returns-in-LinesBetweenSections c = took _ key.LinesBetweenSections _ _ _ _ _ _ c.in-LinesBetweenSections.is c.count-in-LinesBetweenSections.ensures c.put-in-LinesBetweenSections.ensures
 
 pub returns-in-LinesBetweenTypes : goal.returns-in-LinesBetweenTypes
-returns-in-LinesBetweenTypes c =
-    let own : List (List ℕ) = (values c.args.self.now).own_names in
-    took own _ key.LinesBetweenTypes _ _ _ _ _ _ c.in-LinesBetweenTypes.is c.count-in-LinesBetweenTypes.ensures c.put-in-LinesBetweenTypes.ensures
+returns-in-LinesBetweenTypes c = took _ key.LinesBetweenTypes _ _ _ _ _ _ c.in-LinesBetweenTypes.is c.count-in-LinesBetweenTypes.ensures c.put-in-LinesBetweenTypes.ensures
 
 pub returns-in-MultiLineOutput : goal.returns-in-MultiLineOutput
-returns-in-MultiLineOutput c =
-    let own : List (List ℕ) = (values c.args.self.now).own_names in
-    took own _ key.MultiLineOutput _ _ _ _ _ _ c.in-MultiLineOutput.is c.mode.ensures c.put-in-MultiLineOutput.ensures
+returns-in-MultiLineOutput c = took _ key.MultiLineOutput _ _ _ _ _ _ c.in-MultiLineOutput.is c.mode.ensures c.put-in-MultiLineOutput.ensures
 
 pub returns-in-OrderByType : goal.returns-in-OrderByType
-returns-in-OrderByType c =
-    let own : List (List ℕ) = (values c.args.self.now).own_names in
-    took own _ key.OrderByType _ _ _ _ _ _ c.in-OrderByType.is c.flag-in-OrderByType.ensures c.put-in-OrderByType.ensures
+returns-in-OrderByType c = took _ key.OrderByType _ _ _ _ _ _ c.in-OrderByType.is c.flag-in-OrderByType.ensures c.put-in-OrderByType.ensures
 
 pub returns-in-UseParentheses : goal.returns-in-UseParentheses
-returns-in-UseParentheses c =
-    let own : List (List ℕ) = (values c.args.self.now).own_names in
-    took own _ key.UseParentheses _ _ _ _ _ _ c.in-UseParentheses.is c.flag-in-UseParentheses.ensures c.put-in-UseParentheses.ensures
+returns-in-UseParentheses c = took _ key.UseParentheses _ _ _ _ _ _ c.in-UseParentheses.is c.flag-in-UseParentheses.ensures c.put-in-UseParentheses.ensures
 
 pub returns-in-Tool : goal.returns-in-Tool
 returns-in-Tool c =

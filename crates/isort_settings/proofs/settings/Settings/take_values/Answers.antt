@@ -7,14 +7,11 @@ use Rattle.isort_settings.proofs.settings.Settings.take_values.Goals as goal
 pub loop-key-init : goal.loop-key-init
 loop-key-init c = (tt, tt, Left-all _ _ _ (c.into_iter-key-iterator.ensures.into_iter_gives.0 ∙ c.in_order-key-items.ensures) c.requires.own_names)
 
-pub loop-key-preserved : goal.loop-key-preserved
-loop-key-preserved c = (tt, tt, Left-none _ _ c.in-Some.key _ _ _ (Left-next _ _ _ _ _ _ c.in-Some.ensures.steps c.loop-key.invariant.2) c.name.ensures c.in_default.ensures)
-
 pub loop-key-preserved-in_default : goal.loop-key-preserved-in_default
 loop-key-preserved-in_default c = (tt, tt, Left-none _ _ c.in-Some.key _ _ _ (Left-next _ _ _ _ _ _ c.in-Some.ensures.steps c.loop-key.invariant.2) c.name.ensures c.in_default.ensures)
 
-pub loop-key-preserved-in-Continue-1 : goal.loop-key-preserved-in-Continue-1
-loop-key-preserved-in-Continue-1 c =
+pub loop-key-preserved : goal.loop-key-preserved
+loop-key-preserved c =
     (tt, tt, Left-some _ _ c.in-Some.key _ _ _ _ _ (Left-next _ _ _ _ _ _ c.in-Some.ensures.steps c.loop-key.invariant.2) c.name.ensures c.in-Some-member.ensures c.in_ok-take_value.ensures.ok)
 
 pub returns-then-is_after : goal.returns-then-is_after
