@@ -1,6 +1,6 @@
 -- The values of settings, one for each key that a field keeps.
 pub mod OneKey
-use Rattle.std.specs.Prelude.{ℕ, ℤ, Bool, List, [], map, string_bytes}
+use Rattle.std.specs.Prelude.{ℕ, ℤ, Bool, List, [], ◌∷◌, map, string_bytes}
 use Rattle.isort_settings.specs.declared.key.SettingKey.{SettingKey}
 use Rattle.isort_settings.specs.declared.key.SettingKey.TheVariants as key
 use Rattle.isort_settings.specs.declared.section.Section.{Section}
@@ -101,3 +101,9 @@ plain_values = values_from (λ k. (row_of k).plain)
 
 abbrev pub black_values : Values
 black_values = values_from (λ k. (row_of k).black)
+
+-- all lists of modules: those of the keys, and those of own sections
+abbrev pub all_lists : Values → List (List (List ℕ))
+all_lists v =
+    v.known_standard_library ∷ v.extra_standard_library ∷ v.known_third_party ∷ v.known_first_party ∷ v.known_local_folder
+    ∷ v.known_future_library ∷ v.own_lists

@@ -1,5 +1,5 @@
 //! The settings, one field for each key.
-ghost use Rattle.std.specs.Prelude.{◌≡◌, ◌≤◌, ◌==◌, false, Ok, Err, MatchResult, ◌∷◌, length, slice_index};
+ghost use Rattle.std.specs.Prelude.{◌≡◌, ◌≤◌, ◌==◌, false, Ok, Err, MatchResult, length, slice_index};
 ghost use Rattle.std.specs.Cmp.Lexicographic.{slice_cmp};
 ghost use Rattle.std.specs.Option.{option_map_or};
 ghost use Rattle.std.specs.Ordering.{is_lt, nat_cmp};
@@ -8,7 +8,6 @@ ghost use Rattle.isort_settings.specs.Entries.{HoldEntries};
 ghost use Rattle.isort_settings.specs.FiveSections.{order_of, StandOnce};
 ghost use Rattle.isort_settings.specs.Keys.{name_of};
 ghost use Rattle.isort_settings.specs.Limits.{IsWithin, IsWithinSigned};
-ghost use Rattle.isort_settings.specs.Modules.{modules_of};
 ghost use Rattle.isort_settings.specs.declared.limits.TheConstants.{LINE_LENGTH, MODES, GRID_WRAP, SECTION_GAP, TYPE_GAP, END_GAP};
 
 use crate::error::SettingsError;
@@ -90,10 +89,8 @@ pub struct Settings {
     // The five and each own section, and no others, in the order of `sections`.
     pub ghost each_section_once: { StandOnce (length own_names.items) (order_of sections) },
 
-    // No module in a list holds `*` or `?`.
-    pub ghost entries_alone: { HoldEntries (modules_of known_standard_library ∷ modules_of extra_standard_library
-        ∷ modules_of known_third_party ∷ modules_of known_first_party ∷ modules_of known_local_folder
-        ∷ modules_of known_future_library ∷ own_lists) },
+    // No module in a list of theirs holds `*` or `?`.
+    pub ghost entries_in_own_lists: { HoldEntries own_lists },
 }
 
 impl Settings {
@@ -208,12 +205,12 @@ impl Settings {
         ensures refused { IfErr result (λ e. e ≢ SettingsError.Memory
             → first_refusal (table_view table.now) ≡ Some e) }
     {
-        let mut settings = Settings::of_profile(alloc, profile)?;
         let TableSections {
             listed,
             own_lists,
             refused,
         } = TableSections::read(alloc, table)?;
+        let mut settings = Settings::of_profile(alloc, profile)?;
         settings.sections = listed.order;
         settings.own_names = listed.own_names;
         settings.own_lists = own_lists;

@@ -1,11 +1,11 @@
 //! A reader for each kind of value that a key may have.
-ghost use Rattle.std.specs.Prelude.{◌≡◌, ◌≢◌, ◌≤◌, [], IfOk, IfErr, IsTrue, Ok, Err, length, map, option_and_then, option_copied, option_map, string_bytes};
+ghost use Rattle.std.specs.Prelude.{◌≡◌, ◌≢◌, ◌≤◌, [], IfOk, IfErr, Ok, Err, length, map, option_and_then, option_copied, option_map, string_bytes};
 ghost use Rattle.std.specs.List.{list_any};
 ghost use Rattle.toml.specs.Data.{as_array};
 ghost use Rattle.toml.specs.View.{view};
 ghost use Rattle.isort_settings.specs.Keys.{count, whole, wrap_mode, flag, section, texts};
 ghost use Rattle.isort_settings.specs.Modules.{modules_of};
-ghost use Rattle.isort_settings.specs.Entries.{is_wildcard, are_entries};
+ghost use Rattle.isort_settings.specs.Entries.{is_wildcard};
 ghost use Rattle.isort_settings.specs.Reading.{entry_of, entries_of, count_within, whole_within, read_value};
 
 use crate::error::SettingsError;
@@ -115,7 +115,6 @@ impl KeyValue<'_> {
     pub fn modules(self, alloc: Global) -> Result<Modules, SettingsError>
         ensures ok { IfOk result (λ m. read_value [] texts self.entry.key (view self.entry.value.now)
             ≡ Ok (modules_of m)) }
-        ensures entries { IfOk result (λ m. IsTrue (are_entries (modules_of m))) }
         ensures err { IfErr result (λ e. e ≢ SettingsError.Memory
             → read_value [] texts self.entry.key (view self.entry.value.now) ≡ Err e) }
     {

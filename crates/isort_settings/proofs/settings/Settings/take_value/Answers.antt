@@ -2,7 +2,7 @@
 use Rattle.std.proofs.Common.{refl, inl, inr}
 use Rattle.isort_settings.specs.Modules.{modules_of}
 use Rattle.isort_settings.specs.declared.key.SettingKey.TheVariants as key
-use Rattle.isort_settings.proofs.Readings.{taken, took, took_shown, kept_with, with_known_standard_library, with_extra_standard_library, with_known_third_party, with_known_first_party, with_known_local_folder, with_known_future_library}
+use Rattle.isort_settings.proofs.Readings.{taken, took, took_shown, kept}
 use Rattle.isort_settings.proofs.settings.Settings.take_value.Goals as goal
 
 pub returns-in-CaseSensitive : goal.returns-in-CaseSensitive
@@ -86,49 +86,49 @@ returns-in-Tool c =
 
 -- where no number was changed, the numbers are still in their ranges
 pub invariant_of-self : goal.invariant_of-self
-invariant_of-self c = kept_with c.args.self.now _ c.args.self.now.entries_alone
+invariant_of-self c = kept c.args.self.now
 
 pub invariant_of-self-in-CombineAsImports : goal.invariant_of-self-in-CombineAsImports
-invariant_of-self-in-CombineAsImports c = kept_with c.args.self.now _ c.args.self.now.entries_alone
+invariant_of-self-in-CombineAsImports c = kept c.args.self.now
 
 pub invariant_of-self-in-DefaultSection : goal.invariant_of-self-in-DefaultSection
-invariant_of-self-in-DefaultSection c = kept_with c.args.self.now _ c.args.self.now.entries_alone
+invariant_of-self-in-DefaultSection c = kept c.args.self.now
 
 pub invariant_of-self-in-EnsureNewlineBeforeComments : goal.invariant_of-self-in-EnsureNewlineBeforeComments
-invariant_of-self-in-EnsureNewlineBeforeComments c = kept_with c.args.self.now _ c.args.self.now.entries_alone
+invariant_of-self-in-EnsureNewlineBeforeComments c = kept c.args.self.now
 
 pub invariant_of-self-in-ExtraStandardLibrary : goal.invariant_of-self-in-ExtraStandardLibrary
-invariant_of-self-in-ExtraStandardLibrary c = with_extra_standard_library c.args.self.now c.modules.result c.put-in-ExtraStandardLibrary.result c.put-in-ExtraStandardLibrary.new.place c.modules.ensures.entries c.put-in-ExtraStandardLibrary.ensures
+invariant_of-self-in-ExtraStandardLibrary c = kept c.args.self.now
 
 pub invariant_of-self-in-ForceSingleLine : goal.invariant_of-self-in-ForceSingleLine
-invariant_of-self-in-ForceSingleLine c = kept_with c.args.self.now _ c.args.self.now.entries_alone
+invariant_of-self-in-ForceSingleLine c = kept c.args.self.now
 
 pub invariant_of-self-in-ForceSortWithinSections : goal.invariant_of-self-in-ForceSortWithinSections
-invariant_of-self-in-ForceSortWithinSections c = kept_with c.args.self.now _ c.args.self.now.entries_alone
+invariant_of-self-in-ForceSortWithinSections c = kept c.args.self.now
 
 pub invariant_of-self-in-IncludeTrailingComma : goal.invariant_of-self-in-IncludeTrailingComma
-invariant_of-self-in-IncludeTrailingComma c = kept_with c.args.self.now _ c.args.self.now.entries_alone
+invariant_of-self-in-IncludeTrailingComma c = kept c.args.self.now
 
 pub invariant_of-self-in-KnownFirstParty : goal.invariant_of-self-in-KnownFirstParty
-invariant_of-self-in-KnownFirstParty c = with_known_first_party c.args.self.now c.modules-in-KnownFirstParty.result c.put-in-KnownFirstParty.result c.put-in-KnownFirstParty.new.place c.modules-in-KnownFirstParty.ensures.entries c.put-in-KnownFirstParty.ensures
+invariant_of-self-in-KnownFirstParty c = kept c.args.self.now
 
 pub invariant_of-self-in-KnownFutureLibrary : goal.invariant_of-self-in-KnownFutureLibrary
-invariant_of-self-in-KnownFutureLibrary c = with_known_future_library c.args.self.now c.modules-in-KnownFutureLibrary.result c.put-in-KnownFutureLibrary.result c.put-in-KnownFutureLibrary.new.place c.modules-in-KnownFutureLibrary.ensures.entries c.put-in-KnownFutureLibrary.ensures
+invariant_of-self-in-KnownFutureLibrary c = kept c.args.self.now
 
 pub invariant_of-self-in-KnownLocalFolder : goal.invariant_of-self-in-KnownLocalFolder
-invariant_of-self-in-KnownLocalFolder c = with_known_local_folder c.args.self.now c.modules-in-KnownLocalFolder.result c.put-in-KnownLocalFolder.result c.put-in-KnownLocalFolder.new.place c.modules-in-KnownLocalFolder.ensures.entries c.put-in-KnownLocalFolder.ensures
+invariant_of-self-in-KnownLocalFolder c = kept c.args.self.now
 
 pub invariant_of-self-in-KnownStandardLibrary : goal.invariant_of-self-in-KnownStandardLibrary
-invariant_of-self-in-KnownStandardLibrary c = with_known_standard_library c.args.self.now c.modules-in-KnownStandardLibrary.result c.put-in-KnownStandardLibrary.result c.put-in-KnownStandardLibrary.new.place c.modules-in-KnownStandardLibrary.ensures.entries c.put-in-KnownStandardLibrary.ensures
+invariant_of-self-in-KnownStandardLibrary c = kept c.args.self.now
 
 pub invariant_of-self-in-KnownThirdParty : goal.invariant_of-self-in-KnownThirdParty
-invariant_of-self-in-KnownThirdParty c = with_known_third_party c.args.self.now c.modules-in-KnownThirdParty.result c.put-in-KnownThirdParty.result c.put-in-KnownThirdParty.new.place c.modules-in-KnownThirdParty.ensures.entries c.put-in-KnownThirdParty.ensures
+invariant_of-self-in-KnownThirdParty c = kept c.args.self.now
 
 pub invariant_of-self-in-OrderByType : goal.invariant_of-self-in-OrderByType
-invariant_of-self-in-OrderByType c = kept_with c.args.self.now _ c.args.self.now.entries_alone
+invariant_of-self-in-OrderByType c = kept c.args.self.now
 
 pub invariant_of-self-in-UseParentheses : goal.invariant_of-self-in-UseParentheses
-invariant_of-self-in-UseParentheses c = kept_with c.args.self.now _ c.args.self.now.entries_alone
+invariant_of-self-in-UseParentheses c = kept c.args.self.now
 
 pub invariant_of-self-in-ForceGridWrap-clause-few_own_sections : goal.invariant_of-self-in-ForceGridWrap-clause-few_own_sections
 invariant_of-self-in-ForceGridWrap-clause-few_own_sections c = c.args.self.now.few_own_sections
