@@ -1,13 +1,14 @@
 -- The lists of own sections, read one after another.
 use Rattle.std.proofs.Common.{◌≡◌, ℕ, ◌+◌, ◌<◌, List, [], ◌∷◌, ◌++◌, map, length, take, get_or, Option, option_map, string_bytes, String, Global, Vec, sym, ◌∙◌, ap, arith, length-append}
-use Rattle.std.proofs.lemmas.List.{map-append}
+use Rattle.std.proofs.lemmas.List.{length-map, map-append}
 use Rattle.std.proofs.lemmas.List.Elements.{filter_map-append}
 use Rattle.std.specs.Result.{result_unwrap_or}
 use Rattle.toml.specs.Data.{Members}
 use Rattle.isort_settings.specs.declared.key.SettingKey.{SettingKey}
+use Rattle.isort_settings.specs.declared.table_sections.Listed.{Listed}
 use Rattle.isort_settings.specs.OwnLists.{modules_of_lists}
-use Rattle.isort_settings.specs.TableSections.{own_list, first_of}
-use Rattle.isort_settings.specs.TableSections.Steps.{lists_refused, bad_key, earliest}
+use Rattle.isort_settings.specs.TableSections.{own_list, own_names_in, sections_in, first_of}
+use Rattle.isort_settings.specs.TableSections.Steps.{listed_value, lists_refused, bad_key, earliest}
 use Rattle.isort_settings.proofs.Names.{bytes_more}
 use Rattle.isort_settings.proofs.Refusals.{first_of-append}
 
@@ -45,3 +46,9 @@ refused_more ms names i name text bad one new within at same read chosen so_far 
 -- one list more, by their number
 pub grown : (lists new : List (Vec (String Global) Global)) (list : Vec (String Global) Global) (i : ℕ) → new ≡ lists ++ list ∷ [] → length lists ≡ i → length new ≡ i + 1
 grown lists new list i put size = omega (arith, ap length put, length-append lists (list ∷ []), size)
+
+-- a list for each own section
+pub list_for_each : (l : Listed) (ms : Members) (lists : List (List (List ℕ))) → listed_value l ≡ sections_in ms → lists ≡ map (λ n. result_unwrap_or (own_list ms n) []) (own_names_in ms)
+    → length lists ≡ length l.own_names.items
+list_for_each l ms lists listed read =
+    ap length read ∙ length-map (own_names_in ms) (list_or_none ms) ∙ ap (λ t. length t.own_names) (sym listed) ∙ length-map l.own_names.items string_bytes

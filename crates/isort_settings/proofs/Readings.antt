@@ -1,10 +1,11 @@
 -- What taking a key's value does, where the code has matched the key.
-use Rattle.std.proofs.Common.{◌≡◌, ◌≢◌, ◌≤◌, ℕ, List, length, sym, subst, ap, Result, Ok, Err, IsOkAnd, OnOk, IfOk, IfErr, MatchResult}
+use Rattle.std.proofs.Common.{◌≡◌, ◌≢◌, ◌≤◌, ℕ, List, String, Global, length, sym, subst, ap, Result, Ok, Err, IsOkAnd, OnOk, IfOk, IfErr, MatchResult}
 use Rattle.toml.specs.Data.{Data}
 use Rattle.isort_settings.specs.declared.error.SettingsError.{SettingsError}
 use Rattle.isort_settings.specs.declared.error.SettingsError.TheVariants.{Memory}
 use Rattle.isort_settings.specs.declared.key.SettingKey.{SettingKey}
 use Rattle.isort_settings.specs.declared.limits.TheConstants.{LINE_LENGTH, MODES, GRID_WRAP, SECTION_GAP, TYPE_GAP, END_GAP}
+use Rattle.isort_settings.specs.declared.section.Section.{Section}
 use Rattle.isort_settings.specs.declared.settings.Settings.{Settings}
 use Rattle.isort_settings.specs.Entries.{HoldEntries}
 use Rattle.isort_settings.specs.FiveSections.{order_of, StandOnce}
@@ -37,33 +38,38 @@ Takes k d answer old new = record {
 }
 
 -- what all settings keep: the ranges of numbers, and what is said of sections and of the lists of own ones
-abbrev pub Kept : Settings → Type 0
-Kept s = record {
+abbrev pub Kept : Settings → List (String Global) → List Section → List (List (List ℕ)) → Type 0
+Kept s own_names order own_lists = record {
   line_length_in_range : IsWithin LINE_LENGTH s.line_length;
   mode_in_range : IsWithin MODES s.multi_line_output;
   grid_wrap_in_range : IsWithin GRID_WRAP s.force_grid_wrap;
   section_gap_in_range : IsWithin SECTION_GAP s.lines_between_sections;
   type_gap_in_range : IsWithin TYPE_GAP s.lines_between_types;
   end_gap_in_range : IsWithinSigned END_GAP s.lines_after_imports;
-  few_own_sections : length s.own_names.items ≤ 64;
-  list_for_each_own : length s.own_lists ≡ length s.own_names.items;
-  each_section_once : StandOnce (length s.own_names.items) (order_of s.sections);
-  entries_in_own_lists : HoldEntries s.own_lists;
+  few_own_sections : length own_names ≤ 64;
+  list_for_each_own : length own_lists ≡ length own_names;
+  each_section_once : StandOnce (length own_names) order;
+  entries_in_own_lists : HoldEntries own_lists;
 }
 
-pub kept : (s : Settings) → Kept s
-kept s = record {
+-- what they keep with other sections
+pub kept_with : (s : Settings) (own_names : List (String Global)) (order : List Section) (own_lists : List (List (List ℕ)))
+    → length own_names ≤ 64 → length own_lists ≡ length own_names → StandOnce (length own_names) order → HoldEntries own_lists → Kept s own_names order own_lists
+kept_with s own_names order own_lists few for_each once entries = record {
   line_length_in_range = s.line_length_in_range;
   mode_in_range = s.mode_in_range;
   grid_wrap_in_range = s.grid_wrap_in_range;
   section_gap_in_range = s.section_gap_in_range;
   type_gap_in_range = s.type_gap_in_range;
   end_gap_in_range = s.end_gap_in_range;
-  few_own_sections = s.few_own_sections;
-  list_for_each_own = s.list_for_each_own;
-  each_section_once = s.each_section_once;
-  entries_in_own_lists = s.entries_in_own_lists;
+  few_own_sections = few;
+  list_for_each_own = for_each;
+  each_section_once = once;
+  entries_in_own_lists = entries;
 }
+
+pub kept : (s : Settings) → Kept s s.own_names.items (order_of s.sections) s.own_lists
+kept s = kept_with s s.own_names.items (order_of s.sections) s.own_lists s.few_own_sections s.list_for_each_own s.each_section_once s.entries_in_own_lists
 
 -- what was put in a field's place is what the key says, or its refusal
 abbrev pub Puts : {T : Type 0} → Result T SettingsError → Result (Unit {0}) SettingsError → T → T → Type 0
