@@ -1,8 +1,9 @@
 //! The text of each error.
-use crate::harness::cases::{Case, all_are_so, each_holds_again};
+use crate::harness::cases::{Case, all_are_so, each_holds_again, is_shown};
+use crate::settings::pyproject::refusal;
 use isort_cmd::{RunError, fault_text, settings_text};
 use isort_find::{FindError, ResumeError};
-use isort_settings::{Settings, SettingsError};
+use isort_settings::SettingsError;
 use isort_sort::SortError;
 use py_imports::ImportError;
 use py_lines::{Fault, FaultKind, LexError};
@@ -15,10 +16,7 @@ struct Shown<E>(E, &'static str);
 
 impl<E: Display> Case for Shown<E> {
     fn holds(&self, alloc: Global) -> bool {
-        match format!(in alloc; "{}", self.0) {
-            Ok(text) => text.as_str() == self.1,
-            Err(_) => false,
-        }
+        is_shown(alloc, &self.0, self.1)
     }
 }
 
@@ -149,17 +147,17 @@ struct Refusal(&'static str, &'static str, &'static str);
 
 /// Whether the error has this text, and this line tells of it.
 fn is_told(alloc: Global, error: &SettingsError, shown: &str, line: &str) -> bool {
-    match (format!(in alloc; "{error}"), settings_text(alloc, error)) {
-        (Ok(text), Ok(told)) => text.as_str() == shown && told.as_str() == line,
-        _ => false,
+    match settings_text(alloc, error) {
+        Ok(told) => told.as_str() == line && is_shown(alloc, error, shown),
+        Err(_) => false,
     }
 }
 
 impl Case for Refusal {
     fn holds(&self, alloc: Global) -> bool {
-        match Settings::from_pyproject(alloc, self.0.as_bytes(), None) {
-            Ok(_) => false,
-            Err(error) => is_told(alloc, &error, self.1, self.2),
+        match refusal(alloc, self.0.as_bytes(), None) {
+            Some(error) => is_told(alloc, &error, self.1, self.2),
+            None => false,
         }
     }
 }

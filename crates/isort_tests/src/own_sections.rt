@@ -1,8 +1,6 @@
 //! Own sections: settings, sections, sorted texts and runs.
-use crate::harness::cases::{
-    Case, LinesCase, all_are_so, are_texts, each_holds_again, each_holds_with,
-};
-use crate::settings::pyproject::{Refused, Sectioned, Why};
+use crate::harness::cases::{Case, SettingsCase, each_holds_again, each_holds_with};
+use crate::settings::pyproject::{Refused, Sectioned, is_read_so};
 use crate::sort::sorted::Under;
 use isort_cmd::{Metered, sort_run};
 use isort_settings::{Section, Settings};
@@ -22,145 +20,94 @@ const SORTED: &str = "import os\n\nimport django.db\n\nimport requests\n\nfrom .
 const TWO: &str =
     "sections = [\"Web\", \"Data_2\"]\nknown_web = [\"flask\", \"m\"]\nknown_data_2 = [\"m.n\", \"m\", \"os\"]\n";
 
+/// How bad names of sections are refused.
+const BAD: &str = "bad value for sections";
+
 const REFUSED: &[Refused] = &[
+    Refused(b"[tool.isort]\nsections = [\"A\", \"a\"]", None, BAD),
+    Refused(b"[tool.isort]\nsections = [\"1a\"]", None, BAD),
+    Refused(b"[tool.isort]\nsections = [\"stdlib\"]", None, BAD),
+    Refused(b"[tool.isort]\nsections = [\"First_Party\"]", None, BAD),
     Refused(
-        b"[tool.isort]\nsections = [\"A\", \"a\"]",
+        b"[tool.isort]\nsections = [\"A00\", \"A01\", \"A02\", \"A03\", \"A04\", \"A05\", \"A06\", \"A07\", \
+          \"A08\", \"A09\", \"A10\", \"A11\", \"A12\", \"A13\", \"A14\", \"A15\", \"A16\", \"A17\", \"A18\", \
+          \"A19\", \"A20\", \"A21\", \"A22\", \"A23\", \"A24\", \"A25\", \"A26\", \"A27\", \"A28\", \"A29\", \
+          \"A30\", \"A31\", \"A32\", \"A33\", \"A34\", \"A35\", \"A36\", \"A37\", \"A38\", \"A39\", \"A40\", \
+          \"A41\", \"A42\", \"A43\", \"A44\", \"A45\", \"A46\", \"A47\", \"A48\", \"A49\", \"A50\", \"A51\", \
+          \"A52\", \"A53\", \"A54\", \"A55\", \"A56\", \"A57\", \"A58\", \"A59\", \"A60\", \"A61\", \"A62\", \
+          \"A63\", \"A64\"]",
         None,
-        Why::Value("sections"),
-    ),
-    Refused(
-        b"[tool.isort]\nsections = [\"1a\"]",
-        None,
-        Why::Value("sections"),
-    ),
-    Refused(
-        b"[tool.isort]\nsections = [\"stdlib\"]",
-        None,
-        Why::Value("sections"),
-    ),
-    Refused(
-        b"[tool.isort]\nsections = [\"First_Party\"]",
-        None,
-        Why::Value("sections"),
-    ),
-    Refused(
-        b"[tool.isort]\nsections = [\"A00\", \"A01\", \"A02\", \"A03\", \"A04\", \"A05\", \"A06\", \"A07\", \"A08\", \"A09\", \"A10\", \"A11\", \"A12\", \"A13\", \"A14\", \"A15\", \"A16\", \"A17\", \"A18\", \"A19\", \"A20\", \"A21\", \"A22\", \"A23\", \"A24\", \"A25\", \"A26\", \"A27\", \"A28\", \"A29\", \"A30\", \"A31\", \"A32\", \"A33\", \"A34\", \"A35\", \"A36\", \"A37\", \"A38\", \"A39\", \"A40\", \"A41\", \"A42\", \"A43\", \"A44\", \"A45\", \"A46\", \"A47\", \"A48\", \"A49\", \"A50\", \"A51\", \"A52\", \"A53\", \"A54\", \"A55\", \"A56\", \"A57\", \"A58\", \"A59\", \"A60\", \"A61\", \"A62\", \"A63\", \"A64\"]",
-        None,
-        Why::Value("sections"),
+        BAD,
     ),
     Refused(
         b"[tool.isort]\nsections = [\"A\"]\nknown_a = 1",
         None,
-        Why::Value("known_a"),
+        "bad value for known_a",
     ),
     Refused(
         b"[tool.isort]\nsections = [\"1a\"]\ndefault_section = \"1a\"",
         None,
-        Why::Value("default_section"),
+        "bad value for default_section",
     ),
     // A name twice, names that are no words, and the five in other capitals.
     Refused(
         b"[tool.isort]\nsections = [\"STDLIB\", \"STDLIB\"]",
         None,
-        Why::Value("sections"),
+        BAD,
     ),
-    Refused(
-        b"[tool.isort]\nsections = [\"\"]",
-        None,
-        Why::Value("sections"),
-    ),
-    Refused(
-        b"[tool.isort]\nsections = [\"_a\"]",
-        None,
-        Why::Value("sections"),
-    ),
-    Refused(
-        b"[tool.isort]\nsections = [\"a-b\"]",
-        None,
-        Why::Value("sections"),
-    ),
-    Refused(
-        b"[tool.isort]\nsections = [\"\xc3\xa9\"]",
-        None,
-        Why::Value("sections"),
-    ),
-    Refused(
-        b"[tool.isort]\nsections = [\"Future\"]",
-        None,
-        Why::Value("sections"),
-    ),
-    Refused(
-        b"[tool.isort]\nsections = [\"thirdparty\"]",
-        None,
-        Why::Value("sections"),
-    ),
+    Refused(b"[tool.isort]\nsections = [\"\"]", None, BAD),
+    Refused(b"[tool.isort]\nsections = [\"_a\"]", None, BAD),
+    Refused(b"[tool.isort]\nsections = [\"a-b\"]", None, BAD),
+    Refused(b"[tool.isort]\nsections = [\"\xc3\xa9\"]", None, BAD),
+    Refused(b"[tool.isort]\nsections = [\"Future\"]", None, BAD),
+    Refused(b"[tool.isort]\nsections = [\"thirdparty\"]", None, BAD),
     // Names whose list would be a key of the table.
     Refused(
         b"[tool.isort]\nsections = [\"standard_library\"]",
         None,
-        Why::Value("sections"),
+        BAD,
     ),
-    Refused(
-        b"[tool.isort]\nsections = [\"Third_Party\"]",
-        None,
-        Why::Value("sections"),
-    ),
-    Refused(
-        b"[tool.isort]\nsections = [\"LOCAL_FOLDER\"]",
-        None,
-        Why::Value("sections"),
-    ),
-    Refused(
-        b"[tool.isort]\nsections = [\"Future_Library\"]",
-        None,
-        Why::Value("sections"),
-    ),
+    Refused(b"[tool.isort]\nsections = [\"Third_Party\"]", None, BAD),
+    Refused(b"[tool.isort]\nsections = [\"LOCAL_FOLDER\"]", None, BAD),
+    Refused(b"[tool.isort]\nsections = [\"Future_Library\"]", None, BAD),
     // Values that are no lists of texts.
-    Refused(
-        b"[tool.isort]\nsections = \"A\"",
-        None,
-        Why::Value("sections"),
-    ),
-    Refused(
-        b"[tool.isort]\nsections = [\"A\", 1]",
-        None,
-        Why::Value("sections"),
-    ),
+    Refused(b"[tool.isort]\nsections = \"A\"", None, BAD),
+    Refused(b"[tool.isort]\nsections = [\"A\", 1]", None, BAD),
     Refused(
         b"[tool.isort]\nsections = [\"A\"]\nknown_a = [\"b\", \"c*\"]",
         None,
-        Why::Value("known_a"),
+        "bad value for known_a",
     ),
     // The first refusal by the bytes of the keys. Where `sections` is refused, no own list is judged.
     Refused(
         b"[tool.isort]\nsections = [\"1a\"]\nknown_1a = 1",
         None,
-        Why::Value("sections"),
+        BAD,
     ),
     Refused(
         b"[tool.isort]\nsections = [\"A\", \"a\"]\nknown_a = 1\nuse_parentheses = 1",
         None,
-        Why::Value("sections"),
+        BAD,
     ),
     Refused(
         b"[tool.isort]\nsections = [\"A\"]\nknown_a = 1\nline_length = 0",
         None,
-        Why::Value("known_a"),
+        "bad value for known_a",
     ),
     Refused(
         b"[tool.isort]\nsections = [\"A\"]\nknown_a = 1\nknown_third_party = 1",
         None,
-        Why::Value("known_a"),
+        "bad value for known_a",
     ),
     Refused(
         b"[tool.isort]\nsections = [\"A\"]\nknown_a = 1\ndefault_section = \"B\"",
         None,
-        Why::Value("default_section"),
+        "bad value for default_section",
     ),
     Refused(
         b"[tool.isort]\nsections = [\"A\"]\ndefault_section = \"a\"",
         None,
-        Why::Value("default_section"),
+        "bad value for default_section",
     ),
 ];
 
@@ -172,19 +119,10 @@ fn refuses_sections(rt: HostRuntime) -> Result<(), Fail> {
 /// Lines of `[tool.isort]`, and its unknown keys.
 struct Accepted(&'static str, &'static [&'static str]);
 
-impl Accepted {
-    fn is_accepted(&self, alloc: Global, table: &[u8]) -> bool {
-        match Settings::from_pyproject(alloc, table, None) {
-            Ok((_, unknown)) => are_texts(unknown.as_slice(), self.1),
-            Err(_) => false,
-        }
-    }
-}
-
 impl Case for Accepted {
     fn holds(&self, alloc: Global) -> bool {
         match format!(in alloc; "[tool.isort]\n{}\n", self.0) {
-            Ok(table) => self.is_accepted(alloc, table.as_bytes()),
+            Ok(table) => is_read_so(alloc, table.as_bytes(), None, None, self.1),
             Err(_) => false,
         }
     }
@@ -193,7 +131,12 @@ impl Case for Accepted {
 const ACCEPTED: &[Accepted] = &[
     Accepted("sections = []", &[]),
     Accepted(
-        "sections = [\"A00\", \"A01\", \"A02\", \"A03\", \"A04\", \"A05\", \"A06\", \"A07\", \"A08\", \"A09\", \"A10\", \"A11\", \"A12\", \"A13\", \"A14\", \"A15\", \"A16\", \"A17\", \"A18\", \"A19\", \"A20\", \"A21\", \"A22\", \"A23\", \"A24\", \"A25\", \"A26\", \"A27\", \"A28\", \"A29\", \"A30\", \"A31\", \"A32\", \"A33\", \"A34\", \"A35\", \"A36\", \"A37\", \"A38\", \"A39\", \"A40\", \"A41\", \"A42\", \"A43\", \"A44\", \"A45\", \"A46\", \"A47\", \"A48\", \"A49\", \"A50\", \"A51\", \"A52\", \"A53\", \"A54\", \"A55\", \"A56\", \"A57\", \"A58\", \"A59\", \"A60\", \"A61\", \"A62\", \"A63\"]",
+        "sections = [\"A00\", \"A01\", \"A02\", \"A03\", \"A04\", \"A05\", \"A06\", \"A07\", \"A08\", \
+         \"A09\", \"A10\", \"A11\", \"A12\", \"A13\", \"A14\", \"A15\", \"A16\", \"A17\", \"A18\", \"A19\", \
+         \"A20\", \"A21\", \"A22\", \"A23\", \"A24\", \"A25\", \"A26\", \"A27\", \"A28\", \"A29\", \"A30\", \
+         \"A31\", \"A32\", \"A33\", \"A34\", \"A35\", \"A36\", \"A37\", \"A38\", \"A39\", \"A40\", \"A41\", \
+         \"A42\", \"A43\", \"A44\", \"A45\", \"A46\", \"A47\", \"A48\", \"A49\", \"A50\", \"A51\", \"A52\", \
+         \"A53\", \"A54\", \"A55\", \"A56\", \"A57\", \"A58\", \"A59\", \"A60\", \"A61\", \"A62\", \"A63\"]",
         &[],
     ),
     Accepted("known_a = [\"x\"]", &["known_a"]),
@@ -265,26 +208,18 @@ fn finds_own_sections(rt: HostRuntime) -> Result<(), Fail> {
 /// Lines of `[tool.isort]`, and the sections in their order.
 struct Ranked(&'static str, &'static [Section]);
 
-impl Ranked {
-    fn are_ranks(&self, settings: &Settings) -> bool {
+impl SettingsCase for Ranked {
+    fn lines(&self) -> &str {
+        self.0
+    }
+
+    fn holds_under(&self, _alloc: Global, settings: &Settings) -> bool {
         for (rank, section) in self.1.iter().enumerate() {
             if settings.section_rank(*section) != rank {
                 return false;
             }
         }
         settings.section_rank(Section::Own(200)) == self.1.len()
-    }
-}
-
-impl LinesCase for Ranked {
-    fn holds_with(&self, alloc: Global, more: &str) -> bool {
-        match format!(in alloc; "[tool.isort]\n{}\n{more}", self.0) {
-            Ok(table) => match Settings::from_pyproject(alloc, table.as_bytes(), None) {
-                Ok((settings, _)) => self.are_ranks(&settings),
-                Err(_) => false,
-            },
-            Err(_) => false,
-        }
     }
 }
 
@@ -346,7 +281,8 @@ const STATEMENTS: &[Under] = &[
     Under(
         TWO,
         "import requests\nimport m.n\nfrom flask import g\nimport os\nfrom __future__ import annotations\nimport m\n",
-        "import m\nfrom flask import g\n\nimport m.n\nimport os\n\nfrom __future__ import annotations\n\nimport requests\n",
+        "import m\nfrom flask import g\n\nimport m.n\nimport os\n\nfrom __future__ import annotations\n\n\
+         import requests\n",
     ),
     Under(
         "sections = [\"LOCALFOLDER\", \"A\", \"STDLIB\"]\nknown_a = [\"a\"]\nforce_sort_within_sections = true",
@@ -367,29 +303,28 @@ const STATEMENTS: &[Under] = &[
 
 #[test]
 fn orders_statements_by_own_sections(rt: HostRuntime) -> Result<(), Fail> {
-    each_holds_again(rt.alloc(), STATEMENTS)
+    each_holds_with(rt.alloc(), "", STATEMENTS)
 }
 
-/// Whether a run sorts the text under these settings.
-fn runs_under(alloc: Global, settings: &Settings) -> bool {
-    let mut reader = Metered::new(UNSORTED.as_bytes());
-    let mut writer = Metered::new(Vec::new(alloc));
-    let got = sort_run(alloc, &mut reader, &mut writer, settings, 1000);
-    got == Ok(Outcome::Changed) && writer.into_inner().as_slice() == SORTED.as_bytes()
-}
+/// Lines of `[tool.isort]`, a text, and what a run sorts it to under these settings.
+struct Run(&'static str, &'static str, &'static str);
 
-fn runs(alloc: Global) -> bool {
-    match format!(in alloc; "[tool.isort]\n{DJANGO}") {
-        Ok(table) => match Settings::from_pyproject(alloc, table.as_bytes(), None) {
-            Ok((settings, _)) => runs_under(alloc, &settings),
-            Err(_) => false,
-        },
-        Err(_) => false,
+impl SettingsCase for Run {
+    fn lines(&self) -> &str {
+        self.0
+    }
+
+    fn holds_under(&self, alloc: Global, settings: &Settings) -> bool {
+        let mut reader = Metered::new(self.1.as_bytes());
+        let mut writer = Metered::new(Vec::new(alloc));
+        let got = sort_run(alloc, &mut reader, &mut writer, settings, 1000);
+        got == Ok(Outcome::Changed) && writer.into_inner().as_slice() == self.2.as_bytes()
     }
 }
 
+const RUNS: &[Run] = &[Run(DJANGO, UNSORTED, SORTED)];
+
 #[test]
 fn sorts_a_run_by_own_sections(rt: HostRuntime) -> Result<(), Fail> {
-    let alloc = rt.alloc();
-    all_are_so(&[runs(alloc) || runs(alloc)])
+    each_holds_with(rt.alloc(), "", RUNS)
 }

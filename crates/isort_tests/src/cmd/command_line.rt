@@ -1,5 +1,5 @@
 //! The words of a command line.
-use crate::harness::cases::{Case, all_are_so, each_holds_again};
+use crate::harness::cases::{Case, all_are_so, each_holds_again, is_shown};
 use isort_cmd::{UsageError, command};
 use std::alloc::Global;
 use std::test::Fail;
@@ -81,11 +81,6 @@ const REFUSALS: &[Reads] = &[
     Reads(&["isort", "-h"], HELP),
 ];
 
-#[test]
-fn refuses_words(rt: HostRuntime) -> Result<(), Fail> {
-    each_holds_again(rt.alloc(), REFUSALS)
-}
-
 const JOBS: &[Reads] = &[
     Reads(
         &["isort", "--identify", "-"],
@@ -113,44 +108,48 @@ const JOBS: &[Reads] = &[
     ),
     Reads(
         &["isort", "a.py", "b.py"],
-        "Ok(Job { files: [\"a.py\", \"b.py\"], action: Sort { check: false, to_stdout: false, settings_file: None, profile: None, line_length: None, multi_line: None } })",
+        "Ok(Job { files: [\"a.py\", \"b.py\"], action: Sort { check: false, to_stdout: false, \
+         settings_file: None, profile: None, line_length: None, multi_line: None } })",
     ),
     Reads(
         &["isort", "-l", "0", "a.py"],
-        "Ok(Job { files: [\"a.py\"], action: Sort { check: false, to_stdout: false, settings_file: None, profile: None, line_length: Some(0), multi_line: None } })",
+        "Ok(Job { files: [\"a.py\"], action: Sort { check: false, to_stdout: false, settings_file: None, \
+         profile: None, line_length: Some(0), multi_line: None } })",
     ),
     Reads(
         &["isort", "-c", "-l", "100", "a.py"],
-        "Ok(Job { files: [\"a.py\"], action: Sort { check: true, to_stdout: false, settings_file: None, profile: None, line_length: Some(100), multi_line: None } })",
+        "Ok(Job { files: [\"a.py\"], action: Sort { check: true, to_stdout: false, settings_file: None, \
+         profile: None, line_length: Some(100), multi_line: None } })",
     ),
     Reads(
         &["isort", "--check", "-m=3", "-"],
-        "Ok(Job { files: [\"-\"], action: Sort { check: true, to_stdout: false, settings_file: None, profile: None, line_length: None, multi_line: Some(3) } })",
+        "Ok(Job { files: [\"-\"], action: Sort { check: true, to_stdout: false, settings_file: None, \
+         profile: None, line_length: None, multi_line: Some(3) } })",
     ),
     Reads(
         &["isort", "a.py", "-cdl5", "b.py"],
-        "Ok(Job { files: [\"a.py\", \"b.py\"], action: Sort { check: true, to_stdout: true, settings_file: None, profile: None, line_length: Some(5), multi_line: None } })",
+        "Ok(Job { files: [\"a.py\", \"b.py\"], action: Sort { check: true, to_stdout: true, \
+         settings_file: None, profile: None, line_length: Some(5), multi_line: None } })",
     ),
     Reads(
         &["isort", "--settings-file", "s.toml", "--profile=", "a.py"],
-        "Ok(Job { files: [\"a.py\"], action: Sort { check: false, to_stdout: false, settings_file: Some(\"s.toml\"), profile: Some(\"\"), line_length: None, multi_line: None } })",
+        "Ok(Job { files: [\"a.py\"], action: Sort { check: false, to_stdout: false, \
+         settings_file: Some(\"s.toml\"), profile: Some(\"\"), line_length: None, multi_line: None } })",
     ),
 ];
 
-#[test]
-fn reads_jobs(rt: HostRuntime) -> Result<(), Fail> {
-    each_holds_again(rt.alloc(), JOBS)
-}
-
 /// Whether options that do not go together are told so.
 fn is_printed(alloc: Global) -> bool {
-    match format!(in alloc; "{}", UsageError::Together) {
-        Ok(text) => text.as_str() == "isort: U1 options do not go together\n",
-        Err(_) => false,
-    }
+    is_shown(
+        alloc,
+        &UsageError::Together,
+        "isort: U1 options do not go together\n",
+    )
 }
 
 #[test]
-fn prints_errors(rt: HostRuntime) -> Result<(), Fail> {
-    all_are_so(&[is_printed(rt.alloc()) || is_printed(rt.alloc())])
+fn reads_words(rt: HostRuntime) -> Result<(), Fail> {
+    all_are_so(&[is_printed(rt.alloc()) || is_printed(rt.alloc())])?;
+    each_holds_again(rt.alloc(), REFUSALS)?;
+    each_holds_again(rt.alloc(), JOBS)
 }

@@ -3,7 +3,7 @@ ghost use Rattle.std.specs.Prelude.{◌≡◌};
 ghost use Rattle.isort_sort.specs.Metered.{last_of};
 
 use crate::find::options::ALL;
-use crate::harness::cases::{PlainCase, each_holds_plainly};
+use crate::harness::cases::{SettingsCase, each_holds_with};
 use crate::harness::devices::{Device, Trouble};
 use crate::texts::{FIRST, FIRST_LINES, SORTED, UNSORTED};
 use isort_cmd::{Last, Metered, RunError, identify, sort_run};
@@ -195,7 +195,7 @@ impl Ran {
     }
 }
 
-impl PlainCase for Ran {
+impl SettingsCase for Ran {
     fn holds_under(&self, alloc: Global, settings: &Settings) -> bool {
         self.meets_failures(alloc, settings, 1)
             && self.meets_failures(alloc, settings, 7)
@@ -219,15 +219,10 @@ const ROWS: &[Ran] = &[
     Ran(Task::Sort, UNSORTED, SORTED),
 ];
 
-#[test]
-fn answers_each_failure_and_waits_for_interrupted_calls(rt: HostRuntime) -> Result<(), Fail> {
-    each_holds_plainly(rt.alloc(), ROWS)
-}
-
 /// What is run over a reader without end, which is too long.
 struct Endless(Task);
 
-impl PlainCase for Endless {
+impl SettingsCase for Endless {
     fn holds_under(&self, alloc: Global, settings: &Settings) -> bool {
         let mut reader = Metered::new(io::repeat(b'#'));
         let mut writer = Device::new(alloc, b"", 1000, Trouble::None);
@@ -239,6 +234,11 @@ impl PlainCase for Endless {
 const TASKS: &[Endless] = &[Endless(Task::Identify), Endless(Task::Sort)];
 
 #[test]
+fn answers_each_failure_and_waits_for_interrupted_calls(rt: HostRuntime) -> Result<(), Fail> {
+    each_holds_with(rt.alloc(), "", ROWS)
+}
+
+#[test]
 fn leaves_a_reader_without_end(rt: HostRuntime) -> Result<(), Fail> {
-    each_holds_plainly(rt.alloc(), TASKS)
+    each_holds_with(rt.alloc(), "", TASKS)
 }

@@ -1,5 +1,5 @@
 //! Sorting and checking what a reader has.
-use crate::harness::cases::{PlainCase, each_holds_plainly};
+use crate::harness::cases::{SettingsCase, each_holds_with};
 use crate::harness::devices::{Device, Trouble};
 use crate::texts::{BROKEN, SKIPPED, SORTED, UNSORTED};
 use isort_cmd::{Metered, RunError, check_run, sort_run};
@@ -15,70 +15,58 @@ const WRONG_CLOSE: RunError = RunError::Fault(Fault {
     line: 3,
 });
 
-/// A text, how many bytes are taken, how it is sorted, and what is written.
-struct Run(&'static str, u16, Result<Outcome, RunError>, &'static str);
+/// A text, how many bytes are taken, how it is sorted to a writer with room for 1000 bytes or fewer, what is written, and
+/// what a check answers.
+struct Run(
+    &'static str,
+    (u16, usize),
+    Result<Outcome, RunError>,
+    &'static str,
+    Result<bool, RunError>,
+);
 
-impl PlainCase for Run {
-    fn holds_under(&self, alloc: Global, settings: &Settings) -> bool {
+impl Run {
+    fn is_sorted_so(&self, alloc: Global, settings: &Settings) -> bool {
+        let (max, room) = self.1;
         let mut reader = Metered::new(self.0.as_bytes());
-        let mut writer = Metered::new(Vec::new(alloc));
-        let got = sort_run(alloc, &mut reader, &mut writer, settings, u64::from(self.1));
-        got == self.2 && writer.into_inner().as_slice() == self.3.as_bytes()
+        let mut writer = Device::new(alloc, b"", 1000, Trouble::Full(room));
+        let got = sort_run(alloc, &mut reader, &mut writer, settings, u64::from(max));
+        got == self.2 && writer.into_inner().taken.as_slice() == self.3.as_bytes()
     }
 }
 
-const SORTS: &[Run] = &[
-    Run(UNSORTED, 1000, Ok(Outcome::Changed), SORTED),
-    Run(SORTED, 1000, Ok(Outcome::Same), SORTED),
-    Run(SKIPPED, 1000, Ok(Outcome::Skipped), SKIPPED),
-    Run("", 0, Ok(Outcome::Same), ""),
-    Run(BROKEN, 1000, Err(WRONG_CLOSE), ""),
-    Run(BROKEN, 22, Err(RunError::TooLong), ""),
+impl SettingsCase for Run {
+    fn holds_under(&self, alloc: Global, settings: &Settings) -> bool {
+        let mut reader = Metered::new(self.0.as_bytes());
+        self.is_sorted_so(alloc, settings)
+            && check_run(alloc, &mut reader, settings, u64::from(self.1.0)) == self.4
+    }
+}
+
+const ALL: (u16, usize) = (1000, 1000);
+
+const CHANGED: Result<Outcome, RunError> = Ok(Outcome::Changed);
+
+const TOO_LONG: RunError = RunError::TooLong;
+
+const RUNS: &[Run] = &[
+    Run(UNSORTED, ALL, CHANGED, SORTED, Ok(false)),
+    Run(SORTED, ALL, Ok(Outcome::Same), SORTED, Ok(true)),
+    Run(SKIPPED, ALL, Ok(Outcome::Skipped), SKIPPED, Ok(true)),
+    Run("", (0, 1000), Ok(Outcome::Same), "", Ok(true)),
+    Run(BROKEN, ALL, Err(WRONG_CLOSE), "", Err(WRONG_CLOSE)),
+    Run(BROKEN, (22, 1000), Err(TOO_LONG), "", Err(TOO_LONG)),
+    // Of a text for which the writer has no room the first bytes are written.
+    Run(
+        UNSORTED,
+        (1000, 5),
+        Err(RunError::Write),
+        "from ",
+        Ok(false),
+    ),
 ];
 
 #[test]
-fn sorts_texts(rt: HostRuntime) -> Result<(), Fail> {
-    each_holds_plainly(rt.alloc(), SORTS)
-}
-
-/// A text, how many bytes are taken, and what a check answers.
-struct Check(&'static str, u16, Result<bool, RunError>);
-
-impl PlainCase for Check {
-    fn holds_under(&self, alloc: Global, settings: &Settings) -> bool {
-        let mut reader = Metered::new(self.0.as_bytes());
-        check_run(alloc, &mut reader, settings, u64::from(self.1)) == self.2
-    }
-}
-
-const CHECKS: &[Check] = &[
-    Check(UNSORTED, 1000, Ok(false)),
-    Check(SORTED, 1000, Ok(true)),
-    Check(SKIPPED, 1000, Ok(true)),
-    Check(BROKEN, 1000, Err(WRONG_CLOSE)),
-    Check(BROKEN, 22, Err(RunError::TooLong)),
-];
-
-#[test]
-fn checks_texts(rt: HostRuntime) -> Result<(), Fail> {
-    each_holds_plainly(rt.alloc(), CHECKS)
-}
-
-/// A text, and the first bytes of the sorted text, which are written where the writer has no more room.
-struct Prefix(&'static str, &'static str);
-
-impl PlainCase for Prefix {
-    fn holds_under(&self, alloc: Global, settings: &Settings) -> bool {
-        let mut reader = Metered::new(self.0.as_bytes());
-        let mut writer = Device::new(alloc, b"", 1000, Trouble::Full(self.1.len()));
-        let got = sort_run(alloc, &mut reader, &mut writer, settings, 1000);
-        got == Err(RunError::Write) && writer.into_inner().taken.as_slice() == self.1.as_bytes()
-    }
-}
-
-const PREFIXES: &[Prefix] = &[Prefix(UNSORTED, "from ")];
-
-#[test]
-fn writes_a_prefix(rt: HostRuntime) -> Result<(), Fail> {
-    each_holds_plainly(rt.alloc(), PREFIXES)
+fn sorts_and_checks_texts(rt: HostRuntime) -> Result<(), Fail> {
+    each_holds_with(rt.alloc(), "", RUNS)
 }

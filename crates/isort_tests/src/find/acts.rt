@@ -1,5 +1,5 @@
 //! What is done with a finder of pieces, and what it tells then.
-ghost use Rattle.std.specs.Prelude.{◌≡◌, ◌≤◌, false, true, length, IfOk};
+ghost use Rattle.std.specs.Prelude.{◌≡◌, false, true};
 ghost use Rattle.isort_find.specs.Pieces.{IsOpenYet};
 
 use crate::harness::cases::page;
@@ -32,14 +32,15 @@ impl Model for Fed {
 }
 
 impl Fed {
-    /// One of a text of which nothing was fed.
-    fn new(alloc: Global, options: FindOptions) -> Result<Fed, FindError> {
-        let finder = PieceFinder::new(alloc, options)?;
-        Ok(Fed {
+    /// One whose text is not ended.
+    fn of(finder: PieceFinder) -> Fed
+        requires { finder.scanning.ended ≡ false }
+    {
+        Fed {
             finder,
             ended: false,
             faulty: false,
-        })
+        }
     }
 
     /// One that goes on from a cursor of a short text; where memory ran out, it is made again of the cursor that came back.
@@ -56,19 +57,13 @@ impl Fed {
             return Err(cursor);
         }
         match PieceFinder::resume(alloc, cursor) {
-            Ok(finder) => Ok(Fed {
-                finder,
-                ended: false,
-                faulty: false,
-            }),
+            Ok(finder) => Ok(Fed::of(finder)),
             Err((cursor, _)) => Err(cursor),
         }
     }
 
     /// Feeds a short piece once; where memory ran out, it is fed again.
-    fn feed(&mut self, piece: &[u8]) -> Result<usize, FindError>
-        ensures { IfOk result (λ taken. taken ≤ length piece.now) }
-    {
+    fn feed(&mut self, piece: &[u8]) -> Result<usize, FindError> {
         match self.try_feed(piece) {
             Err(FindError::Memory) => self.try_feed(piece),
             answer => answer,
@@ -76,9 +71,7 @@ impl Fed {
     }
 
     /// Feeds a short piece once, if the finder allows it.
-    fn try_feed(&mut self, piece: &[u8]) -> Result<usize, FindError>
-        ensures { IfOk result (λ taken. taken ≤ length piece.now) }
-    {
+    fn try_feed(&mut self, piece: &[u8]) -> Result<usize, FindError> {
         if self.ended && !self.faulty || self.finder.fed() > MOST || piece.len() as u64 > MOST {
             return Err(FindError::Memory);
         }
@@ -95,20 +88,10 @@ impl Fed {
 
     /// The next import that is ready; where memory ran out, it is asked for again.
     fn next_ready(&mut self) -> Result<Option<Binding>, FindError> {
-        match self.try_next() {
-            Err(FindError::Memory) => self.try_next(),
-            answer => answer,
-        }
-    }
-
-    /// The next import that is ready, asked for once.
-    fn try_next(&mut self) -> Result<Option<Binding>, FindError> {
         self.faulty = false;
         match self.finder.next_ready() {
-            Ok(Some(binding)) => Ok(Some(binding)),
-            Ok(None) => Ok(None),
-            Err(FindError::Fault(fault)) => Err(FindError::Fault(fault)),
-            Err(FindError::Memory) => Err(FindError::Memory),
+            Err(FindError::Memory) => self.finder.next_ready(),
+            answer => answer,
         }
     }
 
@@ -155,30 +138,53 @@ impl Fed {
     }
 }
 
-/// The next import that is ready, if one is: whether one is.
-fn tell_next(alloc: Global, finder: &mut Fed, none: &str, out: &mut String) -> bool {
-    match finder.next_ready() {
+/// What a finder was asked for last.
+#[derive(Clone, Copy)]
+pub(crate) enum Told {
+    /// An import.
+    Import,
+    /// That there is none.
+    None,
+    /// A fault.
+    Fault,
+}
+
+/// What a finder answers: an import, that there is none, or a fault.
+fn tell_answer(
+    alloc: Global,
+    answer: Result<Option<Binding>, FindError>,
+    none: &str,
+    out: &mut String,
+) -> Told {
+    match answer {
         Ok(Some(binding)) => {
             tell_binding(alloc, &binding, out);
-            return true;
+            Told::Import
         }
-        Ok(None) => tell(none, out),
-        Err(error) => tell_error(error, out),
+        Ok(None) => {
+            tell(none, out);
+            Told::None
+        }
+        Err(error) => {
+            tell_error(error, out);
+            Told::Fault
+        }
     }
-    false
+}
+
+/// The next import that is ready, if one is.
+fn tell_next(alloc: Global, finder: &mut Fed, none: &str, out: &mut String) -> Told {
+    tell_answer(alloc, finder.next_ready(), none, out)
 }
 
 /// All imports that are ready, but at most a hundred: whether they meet no fault. Where a growth was refused, a fault of the
 /// last line may be met here first.
 fn tell_ready(alloc: Global, finder: &mut Fed, out: &mut String) -> bool {
     for _ in 0..100 {
-        match finder.next_ready() {
-            Ok(Some(binding)) => tell_binding(alloc, &binding, out),
-            Ok(None) => return true,
-            Err(error) => {
-                tell_error(error, out);
-                return false;
-            }
+        match tell_next(alloc, finder, "", out) {
+            Told::Import => {}
+            Told::None => return true,
+            Told::Fault => return false,
         }
     }
     true
@@ -189,7 +195,7 @@ fn tell_piece(alloc: Global, finder: &mut Fed, piece: &[u8], out: &mut String) -
     let mut rest = piece;
     for _ in 0..=piece.len() {
         match finder.feed(rest) {
-            Ok(taken) => rest = &rest[taken..],
+            Ok(taken) => rest = rest.get(taken..).unwrap_or(rest),
             Err(error) => {
                 tell_error(error, out);
                 return false;
@@ -218,19 +224,19 @@ fn tell_end(alloc: Global, finder: &mut Fed, out: &mut String) {
     }
 }
 
-/// Whether an import is ready, up to which byte the text was fed, and how many bytes are held.
-fn tell_state(finder: &Fed, out: &mut String) {
-    let ready = if finder.finder.has_ready() {
+/// Whether an import is ready.
+fn readiness(finder: &Fed) -> &'static str {
+    if finder.finder.has_ready() {
         "ready"
     } else {
         "none"
-    };
-    let _ = writeln!(
-        out,
-        "{ready}, {}, {}",
-        finder.finder.fed(),
-        finder.finder.held().len()
-    );
+    }
+}
+
+/// Whether an import is ready, up to which byte the text was fed, and how many bytes are held.
+fn tell_state(finder: &Fed, out: &mut String) {
+    let (fed, held) = (finder.finder.fed(), finder.finder.held().len());
+    let _ = writeln!(out, "{}, {fed}, {held}", readiness(finder));
 }
 
 /// A piece fed once: how many bytes were taken, or the fault. Whether it has none.
@@ -337,45 +343,23 @@ fn tell_held(finder: &Fed, out: &mut String) {
     }
 }
 
-/// Whether an import is ready.
-fn tell_whether(finder: &Fed, out: &mut String) {
-    tell(
-        if finder.finder.has_ready() {
-            "ready\n"
-        } else {
-            "none\n"
-        },
-        out,
-    );
-}
-
-/// The next import of a whole text, that there is none, or the fault: whether there is one. It is asked for once more
-/// where memory ran out.
+/// The next import of a whole text, that there is none, or the fault. It is asked for once more where memory ran out.
 pub(crate) fn tell_import(
     alloc: Global,
     finder: &mut Finder<'_>,
     none: &str,
     out: &mut String,
-) -> bool {
-    let answer = match finder.next_import() {
-        Err(FindError::Memory) => finder.next_import(),
-        answer => answer,
-    };
-    match answer {
-        Ok(Some(binding)) => {
-            tell_binding(alloc, &binding, out);
-            return true;
-        }
-        Ok(None) => tell(none, out),
-        Err(error) => tell_error(error, out),
+) -> Told {
+    match finder.next_import() {
+        Err(FindError::Memory) => tell_answer(alloc, finder.next_import(), none, out),
+        answer => tell_answer(alloc, answer, none, out),
     }
-    false
 }
 
 /// The imports of a whole text up to the last, and what comes after it, but at most so many.
 fn tell_imports(alloc: Global, finder: &mut Finder<'_>, most: usize, none: &str, out: &mut String) {
     for _ in 0..most {
-        if !tell_import(alloc, finder, none, out) {
+        if !matches!(tell_import(alloc, finder, none, out), Told::Import) {
             return;
         }
     }
@@ -399,9 +383,9 @@ pub(crate) fn resumed(alloc: Global, text: &[u8], cursor: Cursor) -> Option<Find
 
 /// A finder of pieces; where memory ran out, it is begun again.
 fn begun_in_pieces(alloc: Global, options: FindOptions) -> Option<Fed> {
-    match Fed::new(alloc, options) {
-        Ok(finder) => Some(finder),
-        Err(_) => Fed::new(alloc, options).ok(),
+    match PieceFinder::new(alloc, options) {
+        Ok(finder) => Some(Fed::of(finder)),
+        Err(_) => Some(Fed::of(PieceFinder::new(alloc, options).ok()?)),
     }
 }
 
@@ -454,7 +438,9 @@ fn tell_act(alloc: Global, finder: &mut Fed, act: Act<'_>, out: &mut String) {
         Act::Next => {
             tell_next(alloc, finder, "no import\n", out);
         }
-        Act::Ready => tell_whether(finder, out),
+        Act::Ready => {
+            let _ = writeln!(out, "{}", readiness(finder));
+        }
         Act::Held => tell_held(finder, out),
         Act::Finish => tell_finish(finder, out),
         _ => {}
@@ -476,28 +462,24 @@ fn go(alloc: Global, mut finder: Fed, act: Act<'_>, out: &mut String) -> Option<
     }
 }
 
-/// Does all this with one finder, in order, or up to where none can go on.
-fn go_through(alloc: Global, mut finder: Fed, acts: &[Act<'_>], out: &mut String) -> Option<Fed> {
-    for act in acts {
-        finder = go(alloc, finder, *act, out)?;
-    }
-    Some(finder)
-}
-
-/// A finder with which all this was done, in order.
-fn gone_through(
+/// Does all this with one finder, in order, or up to where none can go on. Gives where it stops.
+fn go_through(
     alloc: Global,
     options: FindOptions,
     acts: &[Act<'_>],
     out: &mut String,
-) -> Option<Fed> {
-    go_through(alloc, begun_in_pieces(alloc, options)?, acts, out)
+) -> Option<Cursor> {
+    let mut finder = begun_in_pieces(alloc, options)?;
+    for act in acts {
+        finder = go(alloc, finder, *act, out)?;
+    }
+    Some(finder.stop())
 }
 
 /// What a finder tells with which all this is done, in order.
 pub(crate) fn tell_acts(alloc: Global, options: FindOptions, acts: &[Act<'_>]) -> String {
     let mut out = page(alloc);
-    if gone_through(alloc, options, acts, &mut out).is_none() {
+    if go_through(alloc, options, acts, &mut out).is_none() {
         tell("no finder\n", &mut out);
     }
     out

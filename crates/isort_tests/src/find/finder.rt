@@ -1,5 +1,6 @@
 //! Finding the imports of a whole text, and going on from a cursor.
 use crate::find::acts::{begun, resumed, tell_import, tell_place};
+use crate::find::options::{ALL, ATTRIBUTES, MODULES, PACKAGES, TOP, UNIQUE};
 use crate::harness::cases::{Case, all_are_so, each_holds, each_holds_again, page};
 use isort_find::laws::equal_keys;
 use isort_find::{Cursor, FindOptions, Finder, ImportKey, KeyText, ResumeError, binding_key};
@@ -22,23 +23,14 @@ const ALIKE: &str = "import a.b\nfrom a import c\nfrom .a import d\nfrom a impor
 const DECLARED: &str = "import a\nif a:\n    def f(): pass\n    import b\n@d\nx = (\n";
 
 /// A text, the options, how many answers are told before a stop and how many after it, and what is told.
-struct Story(
-    &'static str,
-    (Option<ImportKey>, bool),
-    (usize, usize),
-    &'static str,
-);
+struct Story(&'static str, FindOptions, (usize, usize), &'static str);
 
 impl Story {
     /// Tells all that, or gives up where there is no finder.
-    fn tell(&self, alloc: Global, out: &mut String) -> Option<()> {
+    fn tell(&self, alloc: Global, out: &mut String) -> Option<Cursor> {
         let text = self.0.as_bytes();
-        let (unique, top_only) = self.1;
-        let finder = begun(alloc, text, FindOptions { unique, top_only })?;
-        let cursor = tell_some(alloc, finder, self.2.0, out);
-        let finder = resumed(alloc, text, cursor)?;
-        tell_some(alloc, finder, self.2.1, out);
-        Some(())
+        let cursor = tell_some(alloc, begun(alloc, text, self.1)?, self.2.0, out);
+        Some(tell_some(alloc, resumed(alloc, text, cursor)?, self.2.1, out))
     }
 }
 
@@ -49,127 +41,113 @@ impl Case for Story {
     }
 }
 
-// The first import of each key is given.
-const FIRST: &[Story] = &[
+const STORIES: &[Story] = &[
+    // The first import of each key is given.
     Story(
         ALIKE,
-        (Some(ImportKey::Package), false),
+        PACKAGES,
         (1, 2),
         "1 import a.b\nat 0, 1\n3 from .a import d\nend\nat 65, 2\n",
     ),
     Story(
         ALIKE,
-        (Some(ImportKey::Module), false),
+        MODULES,
         (2, 2),
         "1 import a.b\n2 from a import c\nat 11, 2\n3 from .a import d\nend\nat 65, 3\n",
     ),
     Story(
         ALIKE,
-        (Some(ImportKey::Attribute), false),
+        ATTRIBUTES,
         (2, 2),
         "1 import a.b\n2 from a import c\nat 11, 2\n3 from .a import d\nend\nat 65, 3\n",
     ),
     Story(
         ALIKE,
-        (Some(ImportKey::Alias), false),
+        UNIQUE,
         (3, 2),
         "1 import a.b\n2 from a import c\n3 from .a import d\nat 27, 3\n4 from a import c as e\nend\nat 65, 4\n",
     ),
-];
-
-// Later imports of a key are dropped.
-const LATER: &[Story] = &[
+    // Later imports of a key are dropped.
     Story(
         "import a, b, a as c\nimport b.c\n",
-        (Some(ImportKey::Module), false),
+        MODULES,
         (2, 2),
         "1 import a\n1 import b\nat 0, 2\n2 import b.c\nend\nat 31, 3\n",
     ),
     Story(
         "import a\nimport a, b\nimport b\n",
-        (Some(ImportKey::Module), false),
+        MODULES,
         (1, 2),
         "1 import a\nat 0, 1\n2 import b\nend\nat 30, 2\n",
     ),
     Story(
         "import a\nimport b, a, c, b, d\nimport a, e\n",
-        (Some(ImportKey::Module), false),
+        MODULES,
         (3, 3),
         "1 import a\n2 import b\n2 import c\nat 9, 3\n2 import d\n3 import e\nend\nat 42, 5\n",
     ),
-    Story(
-        "",
-        (Some(ImportKey::Module), false),
-        (2, 1),
-        "end\nend\nat 0, 0\nend\nat 0, 0\n",
-    ),
+    Story("", MODULES, (2, 1), "end\nend\nat 0, 0\nend\nat 0, 0\n"),
     Story(
         "\u{feff}",
-        (Some(ImportKey::Module), false),
+        MODULES,
         (2, 1),
         "end\nend\nat 3, 0\nend\nat 3, 0\n",
     ),
-];
-
-// The finder stops at the top if it is asked to.
-const TOP: &[Story] = &[
+    // The finder stops at the top if it is asked to.
     Story(
         DECLARED,
-        (None, true),
+        TOP,
         (4, 1),
         "1 import a\n4 indented import b\nend\nend\nat 46, 2\nend\nat 46, 2\n",
     ),
     Story(
         DECLARED,
-        (None, false),
+        ALL,
         (4, 1),
-        "1 import a\n4 indented import b\nF6 bracket not closed, 53, 6\nF6 bracket not closed, 53, 6\nat 49, 2\nF6 bracket not closed, 53, 6\nat 49, 2\n",
+        "1 import a\n4 indented import b\nF6 bracket not closed, 53, 6\nF6 bracket not closed, 53, 6\n\
+         at 49, 2\nF6 bracket not closed, 53, 6\nat 49, 2\n",
     ),
-];
-
-// A fault is told again and again.
-const FAULTS: &[Story] = &[
+    // A fault is told again and again.
     Story(
         "import a\nimport b\nx = (1,",
-        (None, true),
+        TOP,
         (3, 1),
         "1 import a\n2 import b\nF6 bracket not closed, 22, 3\nat 18, 2\nF6 bracket not closed, 22, 3\nat 18, 2\n",
     ),
     Story(
         "import a\nfrom b import c,\n",
-        (None, true),
+        TOP,
         (3, 1),
-        "1 import a\nF9 import statement not understood, 9, 2\nF9 import statement not understood, 9, 2\nat 9, 1\nF9 import statement not understood, 9, 2\nat 9, 1\n",
+        "1 import a\nF9 import statement not understood, 9, 2\nF9 import statement not understood, 9, 2\n\
+         at 9, 1\nF9 import statement not understood, 9, 2\nat 9, 1\n",
     ),
     Story(
         "import a\n\u{feff}",
-        (None, true),
+        TOP,
         (3, 1),
-        "1 import a\nF2 unexpected character, 9, 2\nF2 unexpected character, 9, 2\nat 9, 1\nF2 unexpected character, 9, 2\nat 9, 1\n",
+        "1 import a\nF2 unexpected character, 9, 2\nF2 unexpected character, 9, 2\nat 9, 1\n\
+         F2 unexpected character, 9, 2\nat 9, 1\n",
     ),
     Story(
         "import a\ndef f(): x = )\n",
-        (None, true),
+        TOP,
         (3, 1),
-        "1 import a\nF5 closing bracket without its opening, 22, 2\nF5 closing bracket without its opening, 22, 2\nat 9, 1\nF5 closing bracket without its opening, 22, 2\nat 9, 1\n",
+        "1 import a\nF5 closing bracket without its opening, 22, 2\n\
+         F5 closing bracket without its opening, 22, 2\nat 9, 1\n\
+         F5 closing bracket without its opening, 22, 2\nat 9, 1\n",
+    ),
+    // The finder goes on inside a line.
+    Story(
+        "import a, b, c",
+        ALL,
+        (2, 2),
+        "1 import a\n1 import b\nat 0, 2\n1 import c\nend\nat 14, 3\n",
     ),
 ];
 
-// The finder goes on inside a line.
-const INSIDE: &[Story] = &[Story(
-    "import a, b, c",
-    (None, false),
-    (2, 2),
-    "1 import a\n1 import b\nat 0, 2\n1 import c\nend\nat 14, 3\n",
-)];
-
 #[test]
 fn tells_stories(rt: HostRuntime) -> Result<(), Fail> {
-    each_holds(rt.alloc(), FIRST)?;
-    each_holds(rt.alloc(), LATER)?;
-    each_holds(rt.alloc(), TOP)?;
-    each_holds(rt.alloc(), FAULTS)?;
-    each_holds(rt.alloc(), INSIDE)
+    each_holds(rt.alloc(), STORIES)
 }
 
 /// A text, how many answers of it are told, a shorter text, which its cursor is refused for, and what is told.
@@ -194,27 +172,12 @@ impl Case for Short {
     }
 }
 
-const ALL: FindOptions = FindOptions {
-    unique: None,
-    top_only: false,
-};
-
 const SHORT: &[Short] = &[Short(
     "import a, b, c",
     4,
     "import a",
     "1 import a\n1 import b\n1 import c\nend\nat 14, 3\nat 14, 3\n",
 )];
-
-#[test]
-fn refuses_short_texts(rt: HostRuntime) -> Result<(), Fail> {
-    each_holds_again(rt.alloc(), SHORT)
-}
-
-const ATTRIBUTES: FindOptions = FindOptions {
-    unique: Some(ImportKey::Attribute),
-    top_only: false,
-};
 
 /// Where a finder stops that goes on from the cursor and tells its next answer.
 fn pass(alloc: Global, text: &[u8], cursor: Cursor, out: &mut String) -> Option<Cursor> {
@@ -229,13 +192,13 @@ struct Asked(&'static str, usize, &'static str);
 
 impl Asked {
     /// Tells all that, or gives up where there is no finder.
-    fn tell(&self, alloc: Global, out: &mut String) -> Option<()> {
+    fn tell(&self, alloc: Global, out: &mut String) -> Option<Cursor> {
         let text = self.0.as_bytes();
         let mut cursor = begun(alloc, text, ATTRIBUTES)?.stop();
         for _ in 0..self.1 {
             cursor = pass(alloc, text, cursor, out)?;
         }
-        Some(())
+        Some(cursor)
     }
 }
 
@@ -265,8 +228,11 @@ const ASKED: &[Asked] = &[
 ];
 
 #[test]
-fn answers_when_it_is_asked_one_by_one(rt: HostRuntime) -> Result<(), Fail> {
-    each_holds(rt.alloc(), ASKED)
+fn answers_when_it_is_asked_one_by_one_and_refuses_short_texts(
+    rt: HostRuntime,
+) -> Result<(), Fail> {
+    each_holds(rt.alloc(), ASKED)?;
+    each_holds_again(rt.alloc(), SHORT)
 }
 
 /// Whether a cursor that stopped at once has its finder's options.
@@ -281,11 +247,6 @@ const ASKED_FOR: FindOptions = FindOptions {
     unique: Some(ImportKey::Alias),
     top_only: true,
 };
-
-#[test]
-fn keeps_its_options(rt: HostRuntime) -> Result<(), Fail> {
-    all_are_so(&[keeps(rt.alloc(), ASKED_FOR) || keeps(rt.alloc(), ASKED_FOR)])
-}
 
 /// The first import of a text.
 fn first_of(alloc: Global, text: &str) -> Option<Binding> {
@@ -367,6 +328,7 @@ const KEYS: &[Keys] = &[
 ];
 
 #[test]
-fn makes_keys(rt: HostRuntime) -> Result<(), Fail> {
+fn makes_keys_and_keeps_its_options(rt: HostRuntime) -> Result<(), Fail> {
+    all_are_so(&[keeps(rt.alloc(), ASKED_FOR) || keeps(rt.alloc(), ASKED_FOR)])?;
     each_holds_again(rt.alloc(), KEYS)
 }

@@ -364,7 +364,8 @@ const STEPS: &[Script] = &[
             Act::Step(b""),
             Act::Stop,
         ],
-        "took 10\nready, 10, 10\n1 import x\nnone, 10, 1\nF5 closing bracket without its opening, 9, 2\nF5 closing bracket without its opening, 9, 2\nat 9, 1\n",
+        "took 10\nready, 10, 10\n1 import x\nnone, 10, 1\nF5 closing bracket without its opening, 9, 2\n\
+         F5 closing bracket without its opening, 9, 2\nat 9, 1\n",
     ),
     Script(
         ALL,
@@ -374,7 +375,8 @@ const STEPS: &[Script] = &[
             Act::Step(b""),
             Act::Stop,
         ],
-        "F5 closing bracket without its opening, 2, 2\nF5 closing bracket without its opening, 2, 2\nF5 closing bracket without its opening, 2, 2\nat 2, 0\n",
+        "F5 closing bracket without its opening, 2, 2\nF5 closing bracket without its opening, 2, 2\n\
+         F5 closing bracket without its opening, 2, 2\nat 2, 0\n",
     ),
     Script(
         ALL,
@@ -384,7 +386,8 @@ const STEPS: &[Script] = &[
             Act::Step(b""),
             Act::Stop,
         ],
-        "took 2\nnone, 2, 2\nnone, 2, 2\nF5 closing bracket without its opening, 2, 2\nF5 closing bracket without its opening, 2, 2\nat 2, 0\n",
+        "took 2\nnone, 2, 2\nnone, 2, 2\nF5 closing bracket without its opening, 2, 2\n\
+         F5 closing bracket without its opening, 2, 2\nat 2, 0\n",
     ),
     Script(
         ALL,
@@ -394,7 +397,8 @@ const STEPS: &[Script] = &[
             Act::Step(b"y"),
             Act::Stop,
         ],
-        "took 9\nnone, 9, 9\nnone, 9, 9\ntook 1\nready, 10, 10\n1 import a\nnone, 10, 1\ntook 1\nnone, 11, 2\nnone, 11, 2\nat 9, 1\n",
+        "took 9\nnone, 9, 9\nnone, 9, 9\ntook 1\nready, 10, 10\n1 import a\nnone, 10, 1\ntook 1\nnone, 11, 2\n\
+         none, 11, 2\nat 9, 1\n",
     ),
     Script(
         MODULES,
@@ -404,7 +408,8 @@ const STEPS: &[Script] = &[
             Act::Step(b""),
             Act::Stop,
         ],
-        "took 9\nready, 9, 9\n1 import a\nnone, 9, 0\nF5 closing bracket without its opening, 18, 3\nF5 closing bracket without its opening, 18, 3\nat 18, 1\n",
+        "took 9\nready, 9, 9\n1 import a\nnone, 9, 0\nF5 closing bracket without its opening, 18, 3\n\
+         F5 closing bracket without its opening, 18, 3\nat 18, 1\n",
     ),
     // Other pieces: a line that ends the top, a character in two pieces, and a piece after a line without imports.
     Script(
@@ -415,7 +420,8 @@ const STEPS: &[Script] = &[
             Act::Step(b"import b\n"),
             Act::Stop,
         ],
-        "took 9\nready, 9, 9\n1 import a\nnone, 9, 0\ntook 15\nnone, 24, 0\nnone, 24, 0\ntook 9\nnone, 33, 0\nnone, 33, 0\nat 9, 1\n",
+        "took 9\nready, 9, 9\n1 import a\nnone, 9, 0\ntook 15\nnone, 24, 0\nnone, 24, 0\ntook 9\nnone, 33, 0\n\
+         none, 33, 0\nat 9, 1\n",
     ),
     Script(
         ALL,
@@ -425,7 +431,8 @@ const STEPS: &[Script] = &[
             Act::Step(b""),
             Act::Stop,
         ],
-        "took 9\nnone, 9, 9\nnone, 9, 9\ntook 2\nready, 11, 11\n1 import a\u{e9}\nnone, 11, 0\ntook 0\nnone, 11, 0\nnone, 11, 0\nat 11, 1\n",
+        "took 9\nnone, 9, 9\nnone, 9, 9\ntook 2\nready, 11, 11\n1 import a\u{e9}\nnone, 11, 0\ntook 0\n\
+         none, 11, 0\nnone, 11, 0\nat 11, 1\n",
     ),
     Script(
         MODULES,
@@ -435,7 +442,8 @@ const STEPS: &[Script] = &[
             Act::Step(b"y"),
             Act::Stop,
         ],
-        "took 15\nready, 15, 9\n2 import a\nnone, 15, 0\ntook 18\nready, 33, 9\n4 import b\nnone, 33, 0\ntook 1\nnone, 34, 1\nnone, 34, 1\nat 33, 2\n",
+        "took 15\nready, 15, 9\n2 import a\nnone, 15, 0\ntook 18\nready, 33, 9\n4 import b\nnone, 33, 0\n\
+         took 1\nnone, 34, 1\nnone, 34, 1\nat 33, 2\n",
     ),
 ];
 
@@ -518,7 +526,8 @@ const SCRIPTS: &[Script] = &[
             Act::Held,
             Act::Whole(b"import a, b, c"),
         ],
-        "took 14\nnone\nend\n1 import a\n1 import b\nready\n14, import a, b, c\nat 0, 2\n1 import c\nno import\nat 14, 3\n",
+        "took 14\nnone\nend\n1 import a\n1 import b\nready\n14, import a, b, c\nat 0, 2\n1 import c\n\
+         no import\nat 14, 3\n",
     ),
     // A cursor of a finder of a whole text is taken.
     Script(
@@ -540,7 +549,8 @@ const SCRIPTS: &[Script] = &[
             Act::Next,
             Act::Stop,
         ],
-        "1 import a\n1 import b\nat 0, 2\nnone\n0, \nnone\n14, import a, b, c\nend\n1 import c\nno import\nat 14, 3\nnone\n14, \nend\nno import\nat 14, 3\n",
+        "1 import a\n1 import b\nat 0, 2\nnone\n0, \nnone\n14, import a, b, c\nend\n1 import c\nno import\n\
+         at 14, 3\nnone\n14, \nend\nno import\nat 14, 3\n",
     ),
     // After the line that ends the top a cursor stands at that line, whichever finder has it.
     Script(
@@ -558,7 +568,8 @@ const SCRIPTS: &[Script] = &[
             Act::Held,
             Act::Stop,
         ],
-        "1 import a\n2 import b\nnone\n27, \nat 18, 2\nno import\nat 18, 2\ntook 9\nnone\n27, \nno import\nnone\n27, \nat 18, 2\n",
+        "1 import a\n2 import b\nnone\n27, \nat 18, 2\nno import\nat 18, 2\ntook 9\nnone\n27, \nno import\n\
+         none\n27, \nat 18, 2\n",
     ),
     // A text with a fault; and the same once more, fed from the line with the fault on.
     Script(
@@ -574,7 +585,9 @@ const SCRIPTS: &[Script] = &[
             Act::Stop,
             Act::Feed(b"\xef\xbb\xbf"),
         ],
-        "1 import a\nF2 unexpected character, 9, 2\nF2 unexpected character, 9, 2\nno import\nnone\nF2 unexpected character, 9, 2\nnone\nF2 unexpected character, 9, 2\nat 9, 1\nF2 unexpected character, 9, 2\n",
+        "1 import a\nF2 unexpected character, 9, 2\nF2 unexpected character, 9, 2\nno import\nnone\n\
+         F2 unexpected character, 9, 2\nnone\nF2 unexpected character, 9, 2\nat 9, 1\n\
+         F2 unexpected character, 9, 2\n",
     ),
     Script(
         ALL,
@@ -589,7 +602,10 @@ const SCRIPTS: &[Script] = &[
             Act::Stop,
             Act::Feed(b"import\n"),
         ],
-        "1 import a\n1 import b\nF9 import statement not understood, 19, 2\nF9 import statement not understood, 19, 2\nno import\nnone\nF9 import statement not understood, 19, 2\nnone\nF9 import statement not understood, 19, 2\nat 19, 2\nF9 import statement not understood, 19, 2\n",
+        "1 import a\n1 import b\nF9 import statement not understood, 19, 2\n\
+         F9 import statement not understood, 19, 2\nno import\nnone\n\
+         F9 import statement not understood, 19, 2\nnone\nF9 import statement not understood, 19, 2\n\
+         at 19, 2\nF9 import statement not understood, 19, 2\n",
     ),
     // The last logical line is bad: a text that is ended again, or fed, has the same fault.
     Script(
@@ -601,7 +617,8 @@ const SCRIPTS: &[Script] = &[
             Act::Finish,
             Act::Feed(b"a"),
         ],
-        "took 12\nnone\nF9 import statement not understood, 6, 2\nF9 import statement not understood, 6, 2\nF9 import statement not understood, 6, 2\n",
+        "took 12\nnone\nF9 import statement not understood, 6, 2\nF9 import statement not understood, 6, 2\n\
+         F9 import statement not understood, 6, 2\n",
     ),
     // A cursor after a last line that CR ends, or nothing, and that the bytes before it don't settle.
     Script(

@@ -1,6 +1,7 @@
 //! Tables of cases. What such a test costs lies in the one function that tries a row, and not in the test.
 use isort_settings::Settings;
 use std::alloc::Global;
+use std::fmt::Display;
 use std::test::Fail;
 
 /// A row of a test's table.
@@ -30,44 +31,40 @@ pub(crate) fn each_holds_again<C: Case>(alloc: Global, cases: &[C]) -> Result<()
     Ok(())
 }
 
-/// A row of a test's table that is tried under the settings without a profile.
-pub(crate) trait PlainCase {
+/// A row of a test's table that is tried under settings.
+pub(crate) trait SettingsCase {
+    /// Lines of `[tool.isort]`, which make the settings: none for those without a profile.
+    fn lines(&self) -> &str {
+        ""
+    }
+
     /// Whether what the row says is so. Where a call fails that has to go well, it isn't.
     fn holds_under(&self, alloc: Global, settings: &Settings) -> bool;
 }
 
-/// Whether a row holds under the settings without a profile.
-fn holds_plainly<C: PlainCase>(alloc: Global, case: &C) -> bool {
-    match Settings::plain(alloc) {
-        Ok(settings) => case.holds_under(alloc, &settings),
-        Err(_) => false,
+/// The settings of these lines of `[tool.isort]` and more of them.
+fn settings_of(alloc: Global, lines: &str, more: &str) -> Option<Settings> {
+    let table = format!(in alloc; "[tool.isort]\n{lines}\n{more}").ok()?;
+    let (settings, _) = Settings::from_pyproject(alloc, table.as_bytes(), None).ok()?;
+    Some(settings)
+}
+
+/// Whether a row holds with these lines of `[tool.isort]` added to its own.
+pub(crate) fn holds_with<C: SettingsCase>(alloc: Global, more: &str, case: &C) -> bool {
+    match settings_of(alloc, case.lines(), more) {
+        Some(settings) => case.holds_under(alloc, &settings),
+        None => false,
     }
 }
 
-/// Every row holds under the settings without a profile. One that doesn't is tried once more, as above.
-pub(crate) fn each_holds_plainly<C: PlainCase>(alloc: Global, cases: &[C]) -> Result<(), Fail> {
-    for (i, case) in cases.iter().enumerate() {
-        if !holds_plainly(alloc, case) && !holds_plainly(alloc, case) {
-            return Err(Fail::new(format_args!("row {i} does not hold")));
-        }
-    }
-    Ok(())
-}
-
-/// A row of a test's table that is tried under lines of `[tool.isort]`.
-pub(crate) trait LinesCase {
-    /// Whether what the row says is so with these lines added to its own. Where a call fails that has to go well, it isn't.
-    fn holds_with(&self, alloc: Global, more: &str) -> bool;
-}
-
-/// Every row holds with these lines added. One that doesn't is tried once more, as above.
-pub(crate) fn each_holds_with<C: LinesCase>(
+/// Every row holds with these lines of `[tool.isort]` added to its own. One that doesn't is tried once more, as above.
+pub(crate) fn each_holds_with<C: SettingsCase>(
     alloc: Global,
     more: &str,
     cases: &[C],
 ) -> Result<(), Fail> {
     for (i, case) in cases.iter().enumerate() {
-        if !case.holds_with(alloc, more) && !case.holds_with(alloc, more) {
+        if !holds_with(alloc, more, case) && !holds_with(alloc, more, case) {
             return Err(Fail::new(format_args!("row {i} does not hold")));
         }
     }
@@ -85,6 +82,14 @@ pub(crate) fn page(alloc: Global) -> String {
             Ok(page) => page,
             Err(_) => String::new(alloc),
         },
+    }
+}
+
+/// Whether this is how it is shown.
+pub(crate) fn is_shown<E: Display>(alloc: Global, shown: &E, want: &str) -> bool {
+    match format!(in alloc; "{shown}") {
+        Ok(text) => text.as_str() == want,
+        Err(_) => false,
     }
 }
 

@@ -1,3 +1,4 @@
 //! Tests of py_lines.
-pub(crate) mod reader;
+mod reader;
+mod rows;
 mod scanner;

@@ -1,7 +1,6 @@
 //! Settings files, settings, sections and orders.
 use crate::harness::cases::{
-    Case, LinesCase, PlainCase, all_are_so, are_texts, each_holds_again, each_holds_plainly,
-    each_holds_with,
+    Case, SettingsCase, all_are_so, are_texts, each_holds_again, each_holds_with, is_shown,
 };
 use isort_settings::{Modules, Profile, Section, SettingKey, Settings, SettingsError, laws};
 use std::alloc::{AllocError, Global};
@@ -28,44 +27,27 @@ fn ascend(settings: &Settings, names: &[&str]) -> bool {
 
 const BLACK: Option<Profile> = Some(Profile::Black);
 
-/// Why settings are refused.
-#[derive(Clone, Copy)]
-pub(crate) enum Why {
-    /// The text is not TOML.
-    Toml,
-    /// The value of the key of this name is bad.
-    Value(&'static str),
-    /// The profile is unknown.
-    Profile,
-    /// The wrap mode is not supported.
-    Mode,
+/// Why the settings of a text are refused, if they are.
+pub(crate) fn refusal(
+    alloc: Global,
+    text: &[u8],
+    profile: Option<Profile>,
+) -> Option<SettingsError> {
+    Settings::from_pyproject(alloc, text, profile).err()
 }
 
-impl Why {
-    /// Whether the error says so.
-    fn is_said_by(self, error: &SettingsError) -> bool {
-        match (self, error) {
-            (Why::Toml, SettingsError::BadToml)
-            | (Why::Profile, SettingsError::UnknownProfile)
-            | (Why::Mode, SettingsError::UnsupportedMode) => true,
-            (Why::Value(name), SettingsError::BadValue(key)) => key.name() == name,
-            _ => false,
-        }
-    }
-}
-
-/// A text, the profile that is handed in, and why the text is refused.
+/// A text, the profile that is handed in, and how the text is refused.
 pub(crate) struct Refused(
     pub(crate) &'static [u8],
     pub(crate) Option<Profile>,
-    pub(crate) Why,
+    pub(crate) &'static str,
 );
 
 impl Case for Refused {
     fn holds(&self, alloc: Global) -> bool {
-        match Settings::from_pyproject(alloc, self.0, self.1) {
-            Ok(_) => false,
-            Err(error) => self.2.is_said_by(&error),
+        match refusal(alloc, self.0, self.1) {
+            Some(error) => is_shown(alloc, &error, self.2),
+            None => false,
         }
     }
 }
@@ -74,77 +56,89 @@ const REFUSED: &[Refused] = &[
     Refused(
         b"[tool.isort]\nline_length = \"x\"",
         None,
-        Why::Value("line_length"),
+        "bad value for line_length",
     ),
     Refused(
         b"[tool.isort]\nline_length = 0",
         None,
-        Why::Value("line_length"),
+        "bad value for line_length",
     ),
     Refused(
         b"[tool.isort]\nline_length = 10001",
         None,
-        Why::Value("line_length"),
+        "bad value for line_length",
     ),
     Refused(
         b"[tool.isort]\nline_length = 0\ncombine_as_imports = 3",
         None,
-        Why::Value("combine_as_imports"),
+        "bad value for combine_as_imports",
     ),
     Refused(
         b"[tool.isort]\ncase_sensitive = 1\nprofile = \"google\"",
         None,
-        Why::Profile,
+        "unknown profile",
     ),
-    Refused(b"[tool.isort]\nprofile = \"google\"", None, Why::Profile),
-    Refused(b"[tool.isort]\nprofile = 1", None, Why::Value("profile")),
-    Refused(b"[tool.isort]\nmulti_line_output = 7", None, Why::Mode),
-    Refused(b"[tool.isort]\nmulti_line_output = -1", None, Why::Mode),
+    Refused(
+        b"[tool.isort]\nprofile = \"google\"",
+        None,
+        "unknown profile",
+    ),
+    Refused(b"[tool.isort]\nprofile = 1", None, "bad value for profile"),
+    Refused(
+        b"[tool.isort]\nmulti_line_output = 7",
+        None,
+        "unsupported wrap mode",
+    ),
+    Refused(
+        b"[tool.isort]\nmulti_line_output = -1",
+        None,
+        "unsupported wrap mode",
+    ),
     Refused(
         b"[tool.isort]\nmulti_line_output = \"3\"",
         None,
-        Why::Value("multi_line_output"),
+        "bad value for multi_line_output",
     ),
     Refused(
         b"[tool.isort]\nknown_first_party = [\"a*\"]",
         None,
-        Why::Value("known_first_party"),
+        "bad value for known_first_party",
     ),
     Refused(
         b"[tool.isort]\nknown_third_party = [\"a\", \"b?\"]",
         None,
-        Why::Value("known_third_party"),
+        "bad value for known_third_party",
     ),
     Refused(
         b"[tool.isort]\nknown_third_party = \"a,b\"",
         None,
-        Why::Value("known_third_party"),
+        "bad value for known_third_party",
     ),
     Refused(
         b"[tool.isort]\ndefault_section = \"future\"",
         None,
-        Why::Value("default_section"),
+        "bad value for default_section",
     ),
     Refused(
         b"[tool.isort]\nlines_after_imports = -2",
         None,
-        Why::Value("lines_after_imports"),
+        "bad value for lines_after_imports",
     ),
     Refused(
         b"[tool.isort]\nlines_between_types = 101",
         None,
-        Why::Value("lines_between_types"),
+        "bad value for lines_between_types",
     ),
     Refused(
         b"[tool.isort]\nforce_grid_wrap = 1.0",
         None,
-        Why::Value("force_grid_wrap"),
+        "bad value for force_grid_wrap",
     ),
-    Refused(b"[tool", BLACK, Why::Toml),
-    Refused(b"# \xff\n", BLACK, Why::Toml),
-    Refused(b"tool = 1", BLACK, Why::Value("tool")),
-    Refused(b"[tool]\nisort = 1", BLACK, Why::Value("tool.isort")),
-    Refused(b"[[tool.isort]]\n", BLACK, Why::Value("tool.isort")),
+    Refused(b"[tool", BLACK, "the settings are not TOML"),
+    Refused(b"# \xff\n", BLACK, "the settings are not TOML"),
+    Refused(b"tool = 1", BLACK, "bad value for tool"),
+    Refused(b"[tool]\nisort = 1", BLACK, "bad value for tool.isort"),
+    Refused(b"[[tool.isort]]\n", BLACK, "bad value for tool.isort"),
 ];
 
 #[test]
@@ -176,19 +170,12 @@ enum Known {
     Wide,
 }
 
-/// The profile `black` with lines of 100 characters.
-fn wide(alloc: Global) -> Result<Settings, SettingsError> {
-    let mut wide = Settings::black(alloc)?;
-    wide.set_line_length(100)?;
-    Ok(wide)
-}
-
 impl Known {
-    fn settings(self, alloc: Global) -> Result<Settings, SettingsError> {
+    /// Those settings, but with the lines of `black` where they are wide.
+    fn settings(self, alloc: Global) -> Option<Settings> {
         match self {
-            Known::Plain => Settings::plain(alloc),
-            Known::Black => Settings::black(alloc),
-            Known::Wide => wide(alloc),
+            Known::Plain => Settings::plain(alloc).ok(),
+            Known::Black | Known::Wide => Settings::black(alloc).ok(),
         }
     }
 
@@ -204,8 +191,8 @@ impl Known {
 impl Case for Known {
     fn holds(&self, alloc: Global) -> bool {
         match self.settings(alloc) {
-            Ok(settings) => self.are_these(&settings),
-            Err(_) => false,
+            Some(settings) => self.are_these(&settings),
+            None => false,
         }
     }
 }
@@ -225,20 +212,34 @@ struct Stands(
     &'static [&'static str],
 );
 
-impl Stands {
-    fn is_for(&self, alloc: Global, want: &Settings) -> bool {
-        match Settings::from_pyproject(alloc, self.0, self.1) {
-            Ok((settings, unknown)) => settings == *want && are_texts(unknown.as_slice(), self.3),
-            Err(_) => false,
+/// Whether a text has these unknown keys, and stands for these settings, if any are given.
+pub(crate) fn is_read_so(
+    alloc: Global,
+    text: &[u8],
+    profile: Option<Profile>,
+    want: Option<&Settings>,
+    unknown: &[&str],
+) -> bool {
+    match Settings::from_pyproject(alloc, text, profile).ok() {
+        Some((settings, keys)) => {
+            let is_wanted = match want {
+                Some(want) => settings == *want,
+                None => true,
+            };
+            is_wanted && are_texts(keys.as_slice(), unknown)
         }
+        None => false,
     }
 }
 
 impl Case for Stands {
     fn holds(&self, alloc: Global) -> bool {
         match self.2.settings(alloc) {
-            Ok(want) => self.is_for(alloc, &want),
-            Err(_) => false,
+            Some(mut want) => {
+                let is_made = !matches!(self.2, Known::Wide) || want.set_line_length(100).is_ok();
+                is_made && is_read_so(alloc, self.0, self.1, Some(&want), self.3)
+            }
+            None => false,
         }
     }
 }
@@ -288,18 +289,19 @@ const LENGTHS: &[(u32, bool, u32)] = &[
 ];
 
 /// What a setter answers, as whether it takes the value; none where that is another refusal than this one.
-fn is_taken(set: Result<(), SettingsError>, refusal: Why) -> Option<bool> {
-    match set {
-        Ok(()) => Some(true),
-        Err(error) if refusal.is_said_by(&error) => Some(false),
-        Err(_) => None,
+fn is_taken(alloc: Global, set: Result<(), SettingsError>, refusal: &str) -> Option<bool> {
+    match set.err() {
+        None => Some(true),
+        Some(error) if is_shown(alloc, &error, refusal) => Some(false),
+        Some(_) => None,
     }
 }
 
 /// Whether each length is set so, one after another.
-fn sets_lengths(settings: &mut Settings) -> bool {
+fn sets_lengths(alloc: Global, settings: &mut Settings) -> bool {
     for (length, want, kept) in LENGTHS {
-        let taken = is_taken(settings.set_line_length(*length), Why::Value("line_length"));
+        let set = settings.set_line_length(*length);
+        let taken = is_taken(alloc, set, "bad value for line_length");
         if taken != Some(*want) || settings.line_length != *kept {
             return false;
         }
@@ -311,9 +313,9 @@ fn sets_lengths(settings: &mut Settings) -> bool {
 const MODES: &[(u32, bool)] = &[(3, true), (4, false)];
 
 /// Whether each mode is set so, one after another.
-fn sets_modes(settings: &mut Settings) -> bool {
+fn sets_modes(alloc: Global, settings: &mut Settings) -> bool {
     for (mode, want) in MODES {
-        let taken = is_taken(settings.set_mode(*mode), Why::Mode);
+        let taken = is_taken(alloc, settings.set_mode(*mode), "unsupported wrap mode");
         if taken != Some(*want) || settings.multi_line_output != 3 {
             return false;
         }
@@ -323,9 +325,11 @@ fn sets_modes(settings: &mut Settings) -> bool {
 
 /// Whether plain settings are set so.
 fn sets(alloc: Global) -> bool {
-    match Settings::plain(alloc) {
-        Ok(mut settings) => sets_lengths(&mut settings) && sets_modes(&mut settings),
-        Err(_) => false,
+    match Known::Plain.settings(alloc) {
+        Some(mut settings) => {
+            sets_lengths(alloc, &mut settings) && sets_modes(alloc, &mut settings)
+        }
+        None => false,
     }
 }
 
@@ -368,21 +372,13 @@ pub(crate) struct Sectioned(
     pub(crate) Section,
 );
 
-impl Sectioned {
-    fn holds_under(&self, alloc: Global, table: &[u8]) -> bool {
-        match Settings::from_pyproject(alloc, table, None) {
-            Ok((settings, _)) => settings.section_of(self.1) == self.2,
-            Err(_) => false,
-        }
+impl SettingsCase for Sectioned {
+    fn lines(&self) -> &str {
+        self.0
     }
-}
 
-impl LinesCase for Sectioned {
-    fn holds_with(&self, alloc: Global, more: &str) -> bool {
-        match format!(in alloc; "[tool.isort]\n{}\n{more}", self.0) {
-            Ok(table) => self.holds_under(alloc, table.as_bytes()),
-            Err(_) => false,
-        }
+    fn holds_under(&self, _alloc: Global, settings: &Settings) -> bool {
+        settings.section_of(self.1) == self.2
     }
 }
 
@@ -431,53 +427,48 @@ const SECTIONS: &[Sectioned] = &[
 
 #[test]
 fn sections(rt: HostRuntime) -> Result<(), Fail> {
-    each_holds_with(rt.alloc(), "", SECTIONS)
-}
-
-#[test]
-fn sections_beside_own_ones(rt: HostRuntime) -> Result<(), Fail> {
+    each_holds_with(rt.alloc(), "", SECTIONS)?;
     each_holds_with(rt.alloc(), OWN, SECTIONS)
 }
 
-/// Whether names are ordered by their classes, whether their case counts, and names in their order.
-struct Ordered(bool, bool, &'static [&'static str]);
+/// Lines of `[tool.isort]`, and names in their order.
+struct Ordered(&'static str, &'static [&'static str]);
 
-impl Case for Ordered {
-    fn holds(&self, alloc: Global) -> bool {
-        match Settings::plain(alloc) {
-            Ok(mut settings) => {
-                settings.order_by_type = self.0;
-                settings.case_sensitive = self.1;
-                ascend(&settings, self.2)
-            }
-            Err(_) => false,
-        }
+impl SettingsCase for Ordered {
+    fn lines(&self) -> &str {
+        self.0
+    }
+
+    fn holds_under(&self, _alloc: Global, settings: &Settings) -> bool {
+        ascend(settings, self.1)
     }
 }
 
 const ORDERS: &[Ordered] = &[
-    Ordered(true, false, &["CONST", "A", "Klass", "b9", "b10", "func"]),
-    Ordered(true, false, &["a", "a01", "a1", "ab"]),
+    Ordered("", &["CONST", "A", "Klass", "b9", "b10", "func"]),
+    Ordered("", &["a", "a01", "a1", "ab"]),
     Ordered(
-        true,
-        false,
+        "",
         &["a99999999999999999999999", "a100000000000000000000000"],
     ),
-    Ordered(false, false, &["A", "b9", "b10", "CONST", "func", "Klass"]),
-    Ordered(false, false, &["A", "a", "A0", "B"]),
-    Ordered(false, true, &["B", "a"]),
+    Ordered(
+        "order_by_type = false",
+        &["A", "b9", "b10", "CONST", "func", "Klass"],
+    ),
+    Ordered("order_by_type = false", &["A", "a", "A0", "B"]),
+    Ordered("order_by_type = false\ncase_sensitive = true", &["B", "a"]),
 ];
 
 #[test]
 fn orders_of_names(rt: HostRuntime) -> Result<(), Fail> {
     laws::names_are_totally_ordered();
-    each_holds_again(rt.alloc(), ORDERS)
+    each_holds_with(rt.alloc(), "", ORDERS)
 }
 
 /// Two modules and their order.
 struct Compared(&'static str, &'static str, Ordering);
 
-impl PlainCase for Compared {
+impl SettingsCase for Compared {
     fn holds_under(&self, _alloc: Global, settings: &Settings) -> bool {
         settings.order_modules(self.0, self.1) == self.2
     }
@@ -495,7 +486,20 @@ const MODULES: &[Compared] = &[
 #[test]
 fn orders_of_modules(rt: HostRuntime) -> Result<(), Fail> {
     laws::modules_are_totally_ordered();
-    each_holds_plainly(rt.alloc(), MODULES)
+    each_holds_with(rt.alloc(), "", MODULES)
+}
+
+/// Whether the key has this name.
+fn is_named(key: SettingKey, name: &str) -> bool {
+    key.name() == name
+}
+
+/// Whether no profile has this name.
+fn is_unknown(name: &str) -> bool {
+    matches!(
+        Profile::read(name).err(),
+        Some(SettingsError::UnknownProfile)
+    )
 }
 
 #[test]
@@ -503,11 +507,11 @@ fn names() -> Result<(), Fail> {
     laws::every_key_has_its_place(SettingKey::Profile);
     laws::keys_are_in_byte_order();
     all_are_so(&[
-        Profile::read("black") == Ok(Profile::Black),
-        Profile::read("Black") == Err(SettingsError::UnknownProfile),
-        SettingKey::LineLength.name() == "line_length",
-        SettingKey::Tool.name() == "tool",
-        SettingKey::ToolIsort.name() == "tool.isort",
-        SettingKey::Sections.name() == "sections",
+        Profile::read("black").ok() == Some(Profile::Black),
+        is_unknown("Black"),
+        is_named(SettingKey::LineLength, "line_length"),
+        is_named(SettingKey::Tool, "tool"),
+        is_named(SettingKey::ToolIsort, "tool.isort"),
+        is_named(SettingKey::Sections, "sections"),
     ])
 }

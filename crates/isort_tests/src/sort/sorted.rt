@@ -1,7 +1,5 @@
 //! Sorted texts.
-use crate::harness::cases::{
-    Case, LinesCase, PlainCase, all_are_so, each_holds_again, each_holds_plainly, each_holds_with,
-};
+use crate::harness::cases::{SettingsCase, all_are_so, each_holds_with};
 use crate::settings::pyproject::OWN;
 use crate::sort::writing::is_written;
 use isort_settings::Settings;
@@ -46,30 +44,13 @@ pub(crate) struct Under(
     pub(crate) &'static str,
 );
 
-impl Under {
-    fn holds_under(&self, alloc: Global, table: &[u8]) -> bool {
-        match Settings::from_pyproject(alloc, table, None) {
-            Ok((settings, _)) => {
-                is_sorted(alloc, &settings, self.1, self.2)
-                    && is_sorted(alloc, &settings, self.2, self.2)
-            }
-            Err(_) => false,
-        }
+impl SettingsCase for Under {
+    fn lines(&self) -> &str {
+        self.0
     }
-}
 
-impl LinesCase for Under {
-    fn holds_with(&self, alloc: Global, more: &str) -> bool {
-        match format!(in alloc; "[tool.isort]\n{}\n{more}", self.0) {
-            Ok(table) => self.holds_under(alloc, table.as_bytes()),
-            Err(_) => false,
-        }
-    }
-}
-
-impl Case for Under {
-    fn holds(&self, alloc: Global) -> bool {
-        self.holds_with(alloc, "")
+    fn holds_under(&self, alloc: Global, settings: &Settings) -> bool {
+        is_sorted(alloc, settings, self.1, self.2) && is_sorted(alloc, settings, self.2, self.2)
     }
 }
 
@@ -123,11 +104,7 @@ pub(crate) const STATEMENTS: &[Under] = &[
 
 #[test]
 fn orders_statements(rt: HostRuntime) -> Result<(), Fail> {
-    each_holds_again(rt.alloc(), STATEMENTS)
-}
-
-#[test]
-fn orders_statements_beside_own_sections(rt: HostRuntime) -> Result<(), Fail> {
+    each_holds_with(rt.alloc(), "", STATEMENTS)?;
     each_holds_with(rt.alloc(), OWN, STATEMENTS)
 }
 
@@ -176,7 +153,7 @@ pub(crate) const MERGED: &[Under] = &[
 
 #[test]
 fn merges_statements(rt: HostRuntime) -> Result<(), Fail> {
-    each_holds_again(rt.alloc(), MERGED)
+    each_holds_with(rt.alloc(), "", MERGED)
 }
 
 pub(crate) const BETWEEN: &[Under] = &[
@@ -208,7 +185,7 @@ pub(crate) const BETWEEN: &[Under] = &[
 
 #[test]
 fn puts_blank_lines_and_line_ends(rt: HostRuntime) -> Result<(), Fail> {
-    each_holds_again(rt.alloc(), BETWEEN)
+    each_holds_with(rt.alloc(), "", BETWEEN)
 }
 
 const NAMES: &str = "from m import dddd, aaaa, cccc, bbbb\n";
@@ -278,7 +255,7 @@ pub(crate) const WRAPPED: &[Under] = &[
 
 #[test]
 fn wraps_in_four_modes(rt: HostRuntime) -> Result<(), Fail> {
-    each_holds_again(rt.alloc(), WRAPPED)
+    each_holds_with(rt.alloc(), "", WRAPPED)
 }
 
 const FOUR: &str = "from m import aa, bb, cc, dd\n";
@@ -346,7 +323,7 @@ pub(crate) const PACKED: &[Under] = &[
 
 #[test]
 fn packs_lines(rt: HostRuntime) -> Result<(), Fail> {
-    each_holds_again(rt.alloc(), PACKED)
+    each_holds_with(rt.alloc(), "", PACKED)
 }
 
 const FITS: &str =
@@ -366,7 +343,7 @@ pub(crate) const OF_BLACK: &[Under] = &[
 #[test]
 fn wraps_at_the_profile_of_black(rt: HostRuntime) -> Result<(), Fail> {
     all_are_so(&[FITS.len() == 89, LONG.len() == 90])?;
-    each_holds_again(rt.alloc(), OF_BLACK)
+    each_holds_with(rt.alloc(), "", OF_BLACK)
 }
 
 pub(crate) const BLOCKS: &[Under] = &[
@@ -439,7 +416,7 @@ pub(crate) const BLOCKS: &[Under] = &[
 
 #[test]
 fn sorts_each_block(rt: HostRuntime) -> Result<(), Fail> {
-    each_holds_again(rt.alloc(), BLOCKS)
+    each_holds_with(rt.alloc(), "", BLOCKS)
 }
 
 pub(crate) const COMMENTS: &[Under] = &[
@@ -487,7 +464,7 @@ pub(crate) const COMMENTS: &[Under] = &[
 
 #[test]
 fn moves_comments_with_their_statements(rt: HostRuntime) -> Result<(), Fail> {
-    each_holds_again(rt.alloc(), COMMENTS)
+    each_holds_with(rt.alloc(), "", COMMENTS)
 }
 
 pub(crate) const AFTER: &[Under] = &[
@@ -549,14 +526,16 @@ pub(crate) const AFTER: &[Under] = &[
 
 #[test]
 fn puts_blank_lines_after_blocks(rt: HostRuntime) -> Result<(), Fail> {
-    each_holds_again(rt.alloc(), AFTER)
+    each_holds_with(rt.alloc(), "", AFTER)
 }
 
 pub(crate) const ACTIONS: &[Under] = &[
     Under(
         "",
-        "import b\nimport a  # isort: skip\nimport d\nimport c\n# isort: off\nimport z\nimport y\n# isort: on\nimport x\nimport w\n",
-        "import b\nimport a  # isort: skip\nimport c\nimport d\n# isort: off\nimport z\nimport y\n# isort: on\nimport w\nimport x\n",
+        "import b\nimport a  # isort: skip\nimport d\nimport c\n# isort: off\nimport z\nimport y\n\
+         # isort: on\nimport x\nimport w\n",
+        "import b\nimport a  # isort: skip\nimport c\nimport d\n# isort: off\nimport z\nimport y\n\
+         # isort: on\nimport w\nimport x\n",
     ),
     Under(
         "",
@@ -597,7 +576,7 @@ pub(crate) const ACTIONS: &[Under] = &[
 
 #[test]
 fn heeds_action_comments(rt: HostRuntime) -> Result<(), Fail> {
-    each_holds_again(rt.alloc(), ACTIONS)
+    each_holds_with(rt.alloc(), "", ACTIONS)
 }
 
 /// A text, and how it is answered: when it is sorted and when it is checked. A text that is skipped has no blocks.
@@ -619,7 +598,7 @@ impl Answered {
     }
 }
 
-impl PlainCase for Answered {
+impl SettingsCase for Answered {
     fn holds_under(&self, alloc: Global, settings: &Settings) -> bool {
         let is_same = self.1 != Outcome::Changed;
         self.is_sorted_so(alloc, settings)
@@ -666,13 +645,13 @@ const ANSWERS: &[Answered] = &[
 
 #[test]
 fn answers_texts(rt: HostRuntime) -> Result<(), Fail> {
-    each_holds_plainly(rt.alloc(), ANSWERS)
+    each_holds_with(rt.alloc(), "", ANSWERS)
 }
 
 /// A text, and the kind, the byte and the line of its fault.
 struct Faulty(&'static str, FaultKind, u64, u64);
 
-impl PlainCase for Faulty {
+impl SettingsCase for Faulty {
     /// Whether each call refuses the text so.
     fn holds_under(&self, alloc: Global, settings: &Settings) -> bool {
         let want = SortError::Fault(Fault {
@@ -700,5 +679,5 @@ const FAULTS: &[Faulty] = &[
 
 #[test]
 fn refuses_faults(rt: HostRuntime) -> Result<(), Fail> {
-    each_holds_plainly(rt.alloc(), FAULTS)
+    each_holds_with(rt.alloc(), "", FAULTS)
 }

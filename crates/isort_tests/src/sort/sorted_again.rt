@@ -1,10 +1,11 @@
 //! Sorted texts, sorted again under the same settings: they stay as they are.
+use crate::harness::cases::{SettingsCase, holds_with};
 use crate::sort::sorted::{
     ACTIONS, AFTER, BETWEEN, BLOCKS, COMMENTS, MERGED, OF_BLACK, PACKED, STATEMENTS, Under, WRAPPED,
 };
 use isort_settings::Settings;
 use isort_sort::{Sorted, check_code, sort_code};
-use std::alloc::{AllocError, Global};
+use std::alloc::Global;
 use std::test::Fail;
 
 /// Lines of `[tool.isort]` under which each text is sorted, beside its own: a profile, and each mode with short lines.
@@ -15,19 +16,6 @@ const TABLES: &[&str] = &[
     "line_length = 30\nmulti_line_output = 2",
     "line_length = 30\nmulti_line_output = 3",
 ];
-
-/// The text with this line end in the place of each LF.
-fn with_line_ends(alloc: Global, text: &str, end: &[u8]) -> Result<Vec<u8>, AllocError> {
-    let mut bytes = Vec::new(alloc);
-    for byte in text.as_bytes() {
-        if *byte == b'\n' {
-            bytes.extend_from_slice(end)?;
-        } else {
-            bytes.push(*byte)?;
-        }
-    }
-    Ok(bytes)
-}
 
 /// Whether the text is its own sorted text, both when it is sorted and when it is checked.
 fn is_sorted(alloc: Global, text: &[u8], settings: &Settings) -> bool {
@@ -47,36 +35,40 @@ fn stays_sorted(alloc: Global, text: &[u8], settings: &Settings) -> bool {
     }
 }
 
-fn stays_with(alloc: Global, text: &str, end: &[u8], settings: &Settings) -> bool {
-    match with_line_ends(alloc, text, end) {
-        Ok(bytes) => stays_sorted(alloc, bytes.as_slice(), settings),
-        Err(_) => false,
+/// Lines of `[tool.isort]`, and a text that stays sorted under these settings, with each line end.
+#[derive(Drop)]
+struct Again<'r>(&'r str, &'r str);
+
+impl Again<'_> {
+    /// Whether the text stays sorted with this line end in the place of each LF.
+    fn stays_with(&self, alloc: Global, end: &str, settings: &Settings) -> bool {
+        match self.1.replace(alloc, "\n", end) {
+            Ok(text) => stays_sorted(alloc, text.as_bytes(), settings),
+            Err(_) => false,
+        }
     }
 }
 
-/// Whether the text stays sorted under these lines of `[tool.isort]`, with each line end.
-fn stays_under(alloc: Global, table: &str, text: &str) -> bool {
-    let Ok(table) = format!(in alloc; "[tool.isort]\n{}\n", table) else {
-        return false;
-    };
-    match Settings::from_pyproject(alloc, table.as_bytes(), None) {
-        Ok((settings, _)) => {
-            stays_with(alloc, text, b"\n", &settings)
-                && stays_with(alloc, text, b"\r\n", &settings)
-                && stays_with(alloc, text, b"\r", &settings)
-        }
-        Err(_) => false,
+impl SettingsCase for Again<'_> {
+    fn lines(&self) -> &str {
+        self.0
+    }
+
+    fn holds_under(&self, alloc: Global, settings: &Settings) -> bool {
+        self.stays_with(alloc, "\n", settings)
+            && self.stays_with(alloc, "\r\n", settings)
+            && self.stays_with(alloc, "\r", settings)
     }
 }
 
 /// Whether the row's text stays sorted under its own settings and under each of the others.
 fn row_stays(alloc: Global, row: &Under) -> bool {
     for table in TABLES {
-        if !stays_under(alloc, table, row.1) {
+        if !holds_with(alloc, "", &Again(table, row.1)) {
             return false;
         }
     }
-    stays_under(alloc, row.0, row.1)
+    holds_with(alloc, "", &Again(row.0, row.1))
 }
 
 /// Every row stays sorted. One that doesn't is tried once more, as in `each_holds_again`.

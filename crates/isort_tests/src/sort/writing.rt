@@ -2,7 +2,7 @@
 ghost use Rattle.std.specs.Prelude.{◌≡◌, ◌≤◌, length};
 ghost use Rattle.isort_sort.specs.Metered.{last_of};
 
-use crate::harness::cases::{PlainCase, each_holds_plainly};
+use crate::harness::cases::{SettingsCase, each_holds_with};
 use crate::harness::devices::{Device, Trouble};
 use crate::texts::{BROKEN, SKIPPED, SORTED, UNSORTED};
 use isort_settings::Settings;
@@ -55,7 +55,7 @@ const BAD_IMPORT: SortError = SortError::Fault(Fault {
 /// A text, the answer, and what is written.
 struct Written(&'static str, Result<Outcome, SortError>, &'static str);
 
-impl PlainCase for Written {
+impl SettingsCase for Written {
     fn holds_under(&self, alloc: Global, settings: &Settings) -> bool {
         is_written(alloc, settings, self.0, self.1, self.2.as_bytes())
     }
@@ -69,11 +69,6 @@ const WRITTEN: &[Written] = &[
     Written(BROKEN, Err(WRONG_CLOSE), ""),
     Written("from b import c,\n", Err(BAD_IMPORT), ""),
 ];
-
-#[test]
-fn writes_the_sorted_text(rt: HostRuntime) -> Result<(), Fail> {
-    each_holds_plainly(rt.alloc(), WRITTEN)
-}
 
 /// A text, what sorting it comes to, and the sorted text.
 struct Sorting(&'static str, Outcome, &'static str);
@@ -113,7 +108,7 @@ impl Sorting {
     }
 }
 
-impl PlainCase for Sorting {
+impl SettingsCase for Sorting {
     fn holds_under(&self, alloc: Global, settings: &Settings) -> bool {
         self.is_written_slowly(alloc, settings) && self.is_cut_everywhere(alloc, settings)
     }
@@ -127,5 +122,6 @@ const SORTINGS: &[Sorting] = &[
 
 #[test]
 fn writes_whole_texts_slowly_and_prefixes_of_every_length(rt: HostRuntime) -> Result<(), Fail> {
-    each_holds_plainly(rt.alloc(), SORTINGS)
+    each_holds_with(rt.alloc(), "", WRITTEN)?;
+    each_holds_with(rt.alloc(), "", SORTINGS)
 }
