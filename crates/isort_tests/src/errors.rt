@@ -8,32 +8,33 @@ use isort_sort::SortError;
 use py_imports::ImportError;
 use py_lines::{Fault, FaultKind, LexError};
 use std::alloc::Global;
-use std::fmt::Display;
 use std::test::Fail;
 
-/// An error, and its text.
-struct Shown<E>(E, &'static str);
-
-impl<E: Display> Case for Shown<E> {
-    fn holds(&self, alloc: Global) -> bool {
-        is_shown(alloc, &self.0, self.1)
-    }
+/// An error of a library, or the kind of a fault.
+enum Error {
+    Kind(FaultKind),
+    Lexing(LexError),
+    Imports(ImportError),
+    Finding(FindError),
+    Resuming(ResumeError),
+    Sorting(SortError),
 }
 
-const KINDS: &[Shown<FaultKind>] = &[
-    Shown(FaultKind::BadUtf8, "F1 not UTF-8"),
-    Shown(FaultKind::BadChar, "F2 unexpected character"),
-    Shown(FaultKind::OpenString, "F3 string not closed"),
-    Shown(FaultKind::OpenTriple, "F4 triple-quoted string not closed"),
-    Shown(
-        FaultKind::WrongClose,
-        "F5 closing bracket without its opening",
-    ),
-    Shown(FaultKind::OpenBracket, "F6 bracket not closed"),
-    Shown(FaultKind::BadJoin, "F7 backslash not before a line end"),
-    Shown(FaultKind::TooDeep, "F8 more than 200 brackets open"),
-    Shown(FaultKind::BadImport, "F9 import statement not understood"),
-];
+/// An error, and its text.
+struct Shown(Error, &'static str);
+
+impl Case for Shown {
+    fn holds(&self, alloc: Global) -> bool {
+        match &self.0 {
+            Error::Kind(kind) => is_shown(alloc, kind, self.1),
+            Error::Lexing(error) => is_shown(alloc, error, self.1),
+            Error::Imports(error) => is_shown(alloc, error, self.1),
+            Error::Finding(error) => is_shown(alloc, error, self.1),
+            Error::Resuming(error) => is_shown(alloc, error, self.1),
+            Error::Sorting(error) => is_shown(alloc, error, self.1),
+        }
+    }
+}
 
 /// A fault, and its text in each error that has it.
 const FAULT: Fault = Fault {
@@ -46,43 +47,50 @@ const FAULT_TEXT: &str = "line 3: F2 unexpected character";
 
 const NO_MEMORY: &str = "out of memory";
 
-const LEXING: &[Shown<LexError>] = &[
-    Shown(LexError::Memory, NO_MEMORY),
-    Shown(LexError::Fault(FAULT), FAULT_TEXT),
-];
-
-const IMPORTS: &[Shown<ImportError>] = &[
-    Shown(ImportError::Memory, NO_MEMORY),
-    Shown(ImportError::Fault(FAULT), FAULT_TEXT),
-];
-
-const FINDING: &[Shown<FindError>] = &[
-    Shown(FindError::Memory, NO_MEMORY),
-    Shown(FindError::Fault(FAULT), FAULT_TEXT),
-];
-
-const RESUMING: &[Shown<ResumeError>] = &[
-    Shown(ResumeError::Memory, NO_MEMORY),
+const ERRORS: &[Shown] = &[
+    Shown(Error::Kind(FaultKind::BadUtf8), "F1 not UTF-8"),
+    Shown(Error::Kind(FaultKind::BadChar), "F2 unexpected character"),
+    Shown(Error::Kind(FaultKind::OpenString), "F3 string not closed"),
     Shown(
-        ResumeError::TextTooShort,
+        Error::Kind(FaultKind::OpenTriple),
+        "F4 triple-quoted string not closed",
+    ),
+    Shown(
+        Error::Kind(FaultKind::WrongClose),
+        "F5 closing bracket without its opening",
+    ),
+    Shown(Error::Kind(FaultKind::OpenBracket), "F6 bracket not closed"),
+    Shown(
+        Error::Kind(FaultKind::BadJoin),
+        "F7 backslash not before a line end",
+    ),
+    Shown(
+        Error::Kind(FaultKind::TooDeep),
+        "F8 more than 200 brackets open",
+    ),
+    Shown(
+        Error::Kind(FaultKind::BadImport),
+        "F9 import statement not understood",
+    ),
+    Shown(Error::Lexing(LexError::Memory), NO_MEMORY),
+    Shown(Error::Lexing(LexError::Fault(FAULT)), FAULT_TEXT),
+    Shown(Error::Imports(ImportError::Memory), NO_MEMORY),
+    Shown(Error::Imports(ImportError::Fault(FAULT)), FAULT_TEXT),
+    Shown(Error::Finding(FindError::Memory), NO_MEMORY),
+    Shown(Error::Finding(FindError::Fault(FAULT)), FAULT_TEXT),
+    Shown(Error::Resuming(ResumeError::Memory), NO_MEMORY),
+    Shown(
+        Error::Resuming(ResumeError::TextTooShort),
         "C1 text is shorter than the cursor's offset",
     ),
-];
-
-const SORTING: &[Shown<SortError>] = &[
-    Shown(SortError::Memory, NO_MEMORY),
-    Shown(SortError::Fault(FAULT), FAULT_TEXT),
-    Shown(SortError::Write, "cannot be written"),
+    Shown(Error::Sorting(SortError::Memory), NO_MEMORY),
+    Shown(Error::Sorting(SortError::Fault(FAULT)), FAULT_TEXT),
+    Shown(Error::Sorting(SortError::Write), "cannot be written"),
 ];
 
 #[test]
 fn displays_errors(rt: HostRuntime) -> Result<(), Fail> {
-    each_holds_again(rt.alloc(), KINDS)?;
-    each_holds_again(rt.alloc(), LEXING)?;
-    each_holds_again(rt.alloc(), IMPORTS)?;
-    each_holds_again(rt.alloc(), FINDING)?;
-    each_holds_again(rt.alloc(), RESUMING)?;
-    each_holds_again(rt.alloc(), SORTING)
+    each_holds_again(rt.alloc(), ERRORS)
 }
 
 /// An error of a run, and the line that tells of it.

@@ -1,6 +1,6 @@
 //! Own sections: settings, sections, sorted texts and runs.
-use crate::harness::cases::{Case, SettingsCase, each_holds_again, each_holds_with};
-use crate::settings::pyproject::{Refused, Sectioned, is_read_so};
+use crate::harness::cases::{Case, SettingsCase, each_holds_again, each_holds_with, table_of};
+use crate::settings::pyproject::{Sectioned, is_read_so, is_refused};
 use crate::sort::sorted::Under;
 use isort_cmd::{Metered, sort_run};
 use isort_settings::{Section, Settings};
@@ -23,97 +23,85 @@ const TWO: &str =
 /// How bad names of sections are refused.
 const BAD: &str = "bad value for sections";
 
-const REFUSED: &[Refused] = &[
-    Refused(b"[tool.isort]\nsections = [\"A\", \"a\"]", None, BAD),
-    Refused(b"[tool.isort]\nsections = [\"1a\"]", None, BAD),
-    Refused(b"[tool.isort]\nsections = [\"stdlib\"]", None, BAD),
-    Refused(b"[tool.isort]\nsections = [\"First_Party\"]", None, BAD),
-    Refused(
-        b"[tool.isort]\nsections = [\"A00\", \"A01\", \"A02\", \"A03\", \"A04\", \"A05\", \"A06\", \"A07\", \
+/// Lines of `[tool.isort]`, and how they are refused.
+struct Unfit(&'static str, &'static str);
+
+impl Case for Unfit {
+    fn holds(&self, alloc: Global) -> bool {
+        match table_of(alloc, self.0, "") {
+            Some(table) => is_refused(alloc, table.as_bytes(), None, self.1),
+            None => false,
+        }
+    }
+}
+
+const UNFIT: &[Unfit] = &[
+    Unfit("sections = [\"A\", \"a\"]", BAD),
+    Unfit("sections = [\"1a\"]", BAD),
+    Unfit("sections = [\"stdlib\"]", BAD),
+    Unfit("sections = [\"First_Party\"]", BAD),
+    Unfit(
+        "sections = [\"A00\", \"A01\", \"A02\", \"A03\", \"A04\", \"A05\", \"A06\", \"A07\", \
           \"A08\", \"A09\", \"A10\", \"A11\", \"A12\", \"A13\", \"A14\", \"A15\", \"A16\", \"A17\", \"A18\", \
           \"A19\", \"A20\", \"A21\", \"A22\", \"A23\", \"A24\", \"A25\", \"A26\", \"A27\", \"A28\", \"A29\", \
           \"A30\", \"A31\", \"A32\", \"A33\", \"A34\", \"A35\", \"A36\", \"A37\", \"A38\", \"A39\", \"A40\", \
           \"A41\", \"A42\", \"A43\", \"A44\", \"A45\", \"A46\", \"A47\", \"A48\", \"A49\", \"A50\", \"A51\", \
           \"A52\", \"A53\", \"A54\", \"A55\", \"A56\", \"A57\", \"A58\", \"A59\", \"A60\", \"A61\", \"A62\", \
           \"A63\", \"A64\"]",
-        None,
         BAD,
     ),
-    Refused(
-        b"[tool.isort]\nsections = [\"A\"]\nknown_a = 1",
-        None,
-        "bad value for known_a",
-    ),
-    Refused(
-        b"[tool.isort]\nsections = [\"1a\"]\ndefault_section = \"1a\"",
-        None,
+    Unfit("sections = [\"A\"]\nknown_a = 1", "bad value for known_a"),
+    Unfit(
+        "sections = [\"1a\"]\ndefault_section = \"1a\"",
         "bad value for default_section",
     ),
     // A name twice, names that are no words, and the five in other capitals.
-    Refused(
-        b"[tool.isort]\nsections = [\"STDLIB\", \"STDLIB\"]",
-        None,
-        BAD,
-    ),
-    Refused(b"[tool.isort]\nsections = [\"\"]", None, BAD),
-    Refused(b"[tool.isort]\nsections = [\"_a\"]", None, BAD),
-    Refused(b"[tool.isort]\nsections = [\"a-b\"]", None, BAD),
-    Refused(b"[tool.isort]\nsections = [\"\xc3\xa9\"]", None, BAD),
-    Refused(b"[tool.isort]\nsections = [\"Future\"]", None, BAD),
-    Refused(b"[tool.isort]\nsections = [\"thirdparty\"]", None, BAD),
+    Unfit("sections = [\"STDLIB\", \"STDLIB\"]", BAD),
+    Unfit("sections = [\"\"]", BAD),
+    Unfit("sections = [\"_a\"]", BAD),
+    Unfit("sections = [\"a-b\"]", BAD),
+    Unfit("sections = [\"\u{e9}\"]", BAD),
+    Unfit("sections = [\"Future\"]", BAD),
+    Unfit("sections = [\"thirdparty\"]", BAD),
     // Names whose list would be a key of the table.
-    Refused(
-        b"[tool.isort]\nsections = [\"standard_library\"]",
-        None,
-        BAD,
-    ),
-    Refused(b"[tool.isort]\nsections = [\"Third_Party\"]", None, BAD),
-    Refused(b"[tool.isort]\nsections = [\"LOCAL_FOLDER\"]", None, BAD),
-    Refused(b"[tool.isort]\nsections = [\"Future_Library\"]", None, BAD),
+    Unfit("sections = [\"standard_library\"]", BAD),
+    Unfit("sections = [\"Third_Party\"]", BAD),
+    Unfit("sections = [\"LOCAL_FOLDER\"]", BAD),
+    Unfit("sections = [\"Future_Library\"]", BAD),
     // Values that are no lists of texts.
-    Refused(b"[tool.isort]\nsections = \"A\"", None, BAD),
-    Refused(b"[tool.isort]\nsections = [\"A\", 1]", None, BAD),
-    Refused(
-        b"[tool.isort]\nsections = [\"A\"]\nknown_a = [\"b\", \"c*\"]",
-        None,
+    Unfit("sections = \"A\"", BAD),
+    Unfit("sections = [\"A\", 1]", BAD),
+    Unfit(
+        "sections = [\"A\"]\nknown_a = [\"b\", \"c*\"]",
         "bad value for known_a",
     ),
     // The first refusal by the bytes of the keys. Where `sections` is refused, no own list is judged.
-    Refused(
-        b"[tool.isort]\nsections = [\"1a\"]\nknown_1a = 1",
-        None,
+    Unfit("sections = [\"1a\"]\nknown_1a = 1", BAD),
+    Unfit(
+        "sections = [\"A\", \"a\"]\nknown_a = 1\nuse_parentheses = 1",
         BAD,
     ),
-    Refused(
-        b"[tool.isort]\nsections = [\"A\", \"a\"]\nknown_a = 1\nuse_parentheses = 1",
-        None,
-        BAD,
-    ),
-    Refused(
-        b"[tool.isort]\nsections = [\"A\"]\nknown_a = 1\nline_length = 0",
-        None,
+    Unfit(
+        "sections = [\"A\"]\nknown_a = 1\nline_length = 0",
         "bad value for known_a",
     ),
-    Refused(
-        b"[tool.isort]\nsections = [\"A\"]\nknown_a = 1\nknown_third_party = 1",
-        None,
+    Unfit(
+        "sections = [\"A\"]\nknown_a = 1\nknown_third_party = 1",
         "bad value for known_a",
     ),
-    Refused(
-        b"[tool.isort]\nsections = [\"A\"]\nknown_a = 1\ndefault_section = \"B\"",
-        None,
+    Unfit(
+        "sections = [\"A\"]\nknown_a = 1\ndefault_section = \"B\"",
         "bad value for default_section",
     ),
-    Refused(
-        b"[tool.isort]\nsections = [\"A\"]\ndefault_section = \"a\"",
-        None,
+    Unfit(
+        "sections = [\"A\"]\ndefault_section = \"a\"",
         "bad value for default_section",
     ),
 ];
 
 #[test]
 fn refuses_sections(rt: HostRuntime) -> Result<(), Fail> {
-    each_holds_again(rt.alloc(), REFUSED)
+    each_holds_again(rt.alloc(), UNFIT)
 }
 
 /// Lines of `[tool.isort]`, and its unknown keys.
@@ -121,9 +109,9 @@ struct Accepted(&'static str, &'static [&'static str]);
 
 impl Case for Accepted {
     fn holds(&self, alloc: Global) -> bool {
-        match format!(in alloc; "[tool.isort]\n{}\n", self.0) {
-            Ok(table) => is_read_so(alloc, table.as_bytes(), None, None, self.1),
-            Err(_) => false,
+        match table_of(alloc, self.0, "") {
+            Some(table) => is_read_so(alloc, table.as_bytes(), None, None, self.1),
+            None => false,
         }
     }
 }

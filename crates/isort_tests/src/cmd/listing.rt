@@ -7,7 +7,7 @@ use crate::harness::cases::{Case, each_holds_again};
 use crate::harness::devices::{Device, Trouble};
 use crate::texts::{FIRST, FIRST_LINES, brackets};
 use isort_cmd::*;
-use py_lines::{Fault, FaultKind};
+use py_lines::{Fault, FaultKind as Kind};
 use std::alloc::Global;
 use std::io::ErrorKind;
 use std::test::Fail;
@@ -20,7 +20,7 @@ enum End {
     /// With this error.
     Error(RunError),
     /// With this fault at this byte, in this line.
-    Fault(FaultKind, u64, u64),
+    Fault(Kind, u64, u64),
 }
 
 impl End {
@@ -95,9 +95,9 @@ impl Listing<'_> {
     }
 }
 
-/// A text, the options, how many bytes are taken, its lines, and how the listing ends.
+/// A text, the options with how many bytes are taken, its lines, and how the listing ends.
 #[derive(Drop)]
-struct Listed<'t>(&'t [u8], FindOptions, u16, &'static str, End);
+struct Listed<'t>(&'t [u8], (FindOptions, u16), &'static str, End);
 
 impl Case for Listed<'_> {
     fn holds(&self, alloc: Global) -> bool {
@@ -106,11 +106,16 @@ impl Case for Listed<'_> {
             text: (self.0, 8192),
             troubles: (Trouble::None, Trouble::None),
             most: 8192,
-            asked: (self.1, self.2),
+            asked: self.1,
         };
-        listing.is_so(alloc, self.4, self.3, Seen::None)
+        listing.is_so(alloc, self.3, self.2, Seen::None)
     }
 }
+
+/// All imports of a text of at most 1000 bytes.
+const WHOLE: (FindOptions, u16) = (ALL, 1000);
+
+const TOO_LONG: End = End::Error(RunError::TooLong);
 
 const ALIKE: &[u8] = b"import a.b\nfrom a import c\nfrom .a import d\nfrom a import c as e\n";
 
@@ -121,170 +126,109 @@ const THREE: &str = "p.py:1 import a.b\np.py:2 from a import c\np.py:3 from .a i
 const BOTH: &str = "p.py:1 import a\np.py:4 indented import b\n";
 
 const LISTED: &[Listed<'static>] = &[
-    Listed(b"", ALL, 1000, "", End::Fine),
-    Listed(b"\xef\xbb\xbf", ALL, 1000, "", End::Fine),
+    Listed(b"", WHOLE, "", End::Fine),
+    Listed(b"\xef\xbb\xbf", WHOLE, "", End::Fine),
     Listed(
         b"import os, sys as s",
-        ALL,
-        1000,
+        WHOLE,
         "p.py:1 import os\np.py:1 import sys as s\n",
         End::Fine,
     ),
     Listed(
         b"x = \"import a\"  # import b\nimport c",
-        ALL,
-        1000,
+        WHOLE,
         "p.py:2 import c\n",
         End::Fine,
     ),
     Listed(
         b"\"\"\"a \\\" import a\nimport b\n\"\"\"\ny = \"\"\nimport c\n",
-        ALL,
-        1000,
+        WHOLE,
         "p.py:5 import c\n",
         End::Fine,
     ),
     Listed(
         b"from a import (  # k\n    b as x,  # l\n    c,\n)\n",
-        ALL,
-        1000,
+        WHOLE,
         "p.py:1 from a import b as x\np.py:1 from a import c\n",
         End::Fine,
     ),
     Listed(
         b"x = 1 + \\\r\n  2\r\nfrom . .x import y\r\n",
-        ALL,
-        1000,
+        WHOLE,
         "p.py:3 from ..x import y\n",
         End::Fine,
     ),
     Listed(
         b"if a: import b; from c import *\nraise X from Y\nz = yield from w\n",
-        ALL,
-        1000,
+        WHOLE,
         "p.py:1 import b\np.py:1 from c import *\n",
         End::Fine,
     ),
     Listed(
         b"if a:\n    import b\n",
-        ALL,
-        1000,
+        WHOLE,
         "p.py:2 indented import b\n",
         End::Fine,
     ),
-    Listed(
-        b"import \xc3\xa9",
-        ALL,
-        1000,
-        "p.py:1 import é\n",
-        End::Fine,
-    ),
+    Listed(b"import \xc3\xa9", WHOLE, "p.py:1 import é\n", End::Fine),
     Listed(
         b"import a\nimport b\nx = (1,",
-        ALL,
-        1000,
+        WHOLE,
         "p.py:1 import a\np.py:2 import b\n",
-        End::Fault(FaultKind::OpenBracket, 22, 3),
+        End::Fault(Kind::OpenBracket, 22, 3),
     ),
     Listed(
         b"import a\nfrom b import c,\n",
-        ALL,
-        1000,
+        WHOLE,
         "p.py:1 import a\n",
-        End::Fault(FaultKind::BadImport, 9, 2),
+        End::Fault(Kind::BadImport, 9, 2),
     ),
     Listed(
         b"import a; import\n",
-        ALL,
-        1000,
+        WHOLE,
         "",
-        End::Fault(FaultKind::BadImport, 10, 1),
+        End::Fault(Kind::BadImport, 10, 1),
     ),
-    Listed(
-        b"x = 'abc\n",
-        ALL,
-        1000,
-        "",
-        End::Fault(FaultKind::OpenString, 4, 1),
-    ),
-    Listed(
-        b"\"\"\"a",
-        ALL,
-        1000,
-        "",
-        End::Fault(FaultKind::OpenTriple, 0, 1),
-    ),
-    Listed(
-        b"x = )",
-        ALL,
-        1000,
-        "",
-        End::Fault(FaultKind::WrongClose, 4, 1),
-    ),
-    Listed(
-        b"x = \\ 1\n",
-        ALL,
-        1000,
-        "",
-        End::Fault(FaultKind::BadJoin, 4, 1),
-    ),
-    Listed(b"$", ALL, 1000, "", End::Fault(FaultKind::BadChar, 0, 1)),
-    Listed(
-        b"a\xff",
-        ALL,
-        1000,
-        "",
-        End::Fault(FaultKind::BadUtf8, 1, 1),
-    ),
+    Listed(b"x = 'abc\n", WHOLE, "", End::Fault(Kind::OpenString, 4, 1)),
+    Listed(b"\"\"\"a", WHOLE, "", End::Fault(Kind::OpenTriple, 0, 1)),
+    Listed(b"x = )", WHOLE, "", End::Fault(Kind::WrongClose, 4, 1)),
+    Listed(b"x = \\ 1\n", WHOLE, "", End::Fault(Kind::BadJoin, 4, 1)),
+    Listed(b"$", WHOLE, "", End::Fault(Kind::BadChar, 0, 1)),
+    Listed(b"a\xff", WHOLE, "", End::Fault(Kind::BadUtf8, 1, 1)),
     // What the options ask for.
     Listed(
         ALIKE,
-        PACKAGES,
-        1000,
+        (PACKAGES, 1000),
         "p.py:1 import a.b\np.py:3 from .a import d\n",
         End::Fine,
     ),
-    Listed(ALIKE, MODULES, 1000, THREE, End::Fine),
-    Listed(ALIKE, ATTRIBUTES, 1000, THREE, End::Fine),
+    Listed(ALIKE, (MODULES, 1000), THREE, End::Fine),
+    Listed(ALIKE, (ATTRIBUTES, 1000), THREE, End::Fine),
     Listed(
         ALIKE,
-        UNIQUE,
-        1000,
+        (UNIQUE, 1000),
         "p.py:1 import a.b\np.py:2 from a import c\np.py:3 from .a import d\np.py:4 from a import c as e\n",
         End::Fine,
     ),
-    Listed(DECLARED, TOP, 1000, BOTH, End::Fine),
-    Listed(
-        DECLARED,
-        ALL,
-        1000,
-        BOTH,
-        End::Fault(FaultKind::OpenBracket, 53, 6),
-    ),
+    Listed(DECLARED, (TOP, 1000), BOTH, End::Fine),
+    Listed(DECLARED, WHOLE, BOTH, End::Fault(Kind::OpenBracket, 53, 6)),
     // At most so many bytes are taken.
-    Listed(b"a = 1\n", ALL, 5, "", End::Error(RunError::TooLong)),
-    Listed(b"a = 1\n", ALL, 6, "", End::Fine),
+    Listed(b"a = 1\n", (ALL, 5), "", TOO_LONG),
+    Listed(b"a = 1\n", (ALL, 6), "", End::Fine),
 ];
 
 #[test]
 fn counts_brackets(rt: HostRuntime) -> Result<(), Fail> {
     let text = brackets();
     let rows = [
-        Listed(&text[1..401], ALL, 1000, "", End::Fine),
+        Listed(&text[1..401], WHOLE, "", End::Fine),
         Listed(
             &text[1..201],
-            ALL,
-            1000,
+            WHOLE,
             "",
-            End::Fault(FaultKind::OpenBracket, 199, 1),
+            End::Fault(Kind::OpenBracket, 199, 1),
         ),
-        Listed(
-            &text[..201],
-            ALL,
-            1000,
-            "",
-            End::Fault(FaultKind::TooDeep, 200, 1),
-        ),
+        Listed(&text[..201], WHOLE, "", End::Fault(Kind::TooDeep, 200, 1)),
     ];
     each_holds_again(rt.alloc(), &rows)
 }
@@ -309,14 +253,10 @@ const FOLLOWED: &[Followed] = &[
     Followed(b"import a", End::Fine, "a:1 import a\nb:1 import b\n"),
     Followed(
         b"import a\nx = )",
-        End::Fault(FaultKind::WrongClose, 13, 2),
+        End::Fault(Kind::WrongClose, 13, 2),
         "a:1 import a\nb:1 import b\n",
     ),
-    Followed(
-        b"import a, c, d, e, f\n",
-        End::Error(RunError::TooLong),
-        "b:1 import b\n",
-    ),
+    Followed(b"import a, c, d, e, f\n", TOO_LONG, "b:1 import b\n"),
 ];
 
 #[test]
@@ -327,7 +267,7 @@ fn lists_texts(rt: HostRuntime) -> Result<(), Fail> {
 
 /// A text, what goes wrong with its reader, the options, how many bytes are taken, and how the listing of `import a`
 /// ends.
-struct Cut(&'static [u8], Trouble, FindOptions, u16, End);
+struct Cut(&'static [u8], Trouble, (FindOptions, u16), End);
 
 impl Case for Cut {
     fn holds(&self, alloc: Global) -> bool {
@@ -337,9 +277,9 @@ impl Case for Cut {
                 text: (self.0, piece),
                 troubles: (self.1, Trouble::None),
                 most: 8192,
-                asked: (self.2, self.3),
+                asked: self.2,
             };
-            if !listing.is_so(alloc, self.4, "-:1 import a\n", Seen::None) {
+            if !listing.is_so(alloc, self.3, "-:1 import a\n", Seen::None) {
                 return false;
             }
         }
@@ -347,99 +287,66 @@ impl Case for Cut {
     }
 }
 
+/// A reader that fails at its end.
+const FAILS: Trouble = Trouble::End(ErrorKind::Other);
+
+const UNREAD: End = End::Error(RunError::Read);
+
 const CUT: &[Cut] = &[
-    Cut(
-        b"import a\nimport b",
-        Trouble::End(ErrorKind::Other),
-        ALL,
-        1000,
-        End::Error(RunError::Read),
-    ),
+    Cut(b"import a\nimport b", FAILS, WHOLE, UNREAD),
     Cut(
         b"import a\nimport b",
         Trouble::End(ErrorKind::Interrupted),
-        ALL,
-        1000,
+        WHOLE,
         End::Error(RunError::NeverEnds),
     ),
-    Cut(
-        b"import a\nimport b\r",
-        Trouble::End(ErrorKind::Other),
-        ALL,
-        1000,
-        End::Error(RunError::Read),
-    ),
-    Cut(
-        b"import a\nimport b\n",
-        Trouble::None,
-        ALL,
-        12,
-        End::Error(RunError::TooLong),
-    ),
+    Cut(b"import a\nimport b\r", FAILS, WHOLE, UNREAD),
+    Cut(b"import a\nimport b\n", Trouble::None, (ALL, 12), TOO_LONG),
     Cut(
         b"import a\nimport b\r\n",
         Trouble::None,
-        ALL,
-        18,
-        End::Error(RunError::TooLong),
+        (ALL, 18),
+        TOO_LONG,
     ),
     Cut(
         b"import a\n)",
-        Trouble::End(ErrorKind::Other),
-        ALL,
-        1000,
-        End::Fault(FaultKind::WrongClose, 9, 2),
+        FAILS,
+        WHOLE,
+        End::Fault(Kind::WrongClose, 9, 2),
     ),
     Cut(
         b"import a\n)import b\n",
         Trouble::None,
-        ALL,
-        10,
-        End::Fault(FaultKind::WrongClose, 9, 2),
+        (ALL, 10),
+        End::Fault(Kind::WrongClose, 9, 2),
     ),
     Cut(
         b"import a\r)",
-        Trouble::End(ErrorKind::Other),
-        ALL,
-        1000,
-        End::Fault(FaultKind::WrongClose, 9, 2),
+        FAILS,
+        WHOLE,
+        End::Fault(Kind::WrongClose, 9, 2),
     ),
     Cut(
         b"import a\nimport b,\n",
-        Trouble::End(ErrorKind::Other),
-        ALL,
-        1000,
-        End::Fault(FaultKind::BadImport, 9, 2),
+        FAILS,
+        WHOLE,
+        End::Fault(Kind::BadImport, 9, 2),
     ),
-    Cut(
-        b"import a\nimport b,",
-        Trouble::End(ErrorKind::Other),
-        ALL,
-        1000,
-        End::Error(RunError::Read),
-    ),
+    Cut(b"import a\nimport b,", FAILS, WHOLE, UNREAD),
     Cut(
         b"import a\ndef f(): pass\n(",
         Trouble::None,
-        TOP,
-        1000,
+        (TOP, 1000),
         End::Fine,
     ),
-    Cut(
-        b"import a\ndef f(): pass\n)",
-        Trouble::End(ErrorKind::Other),
-        TOP,
-        1000,
-        End::Error(RunError::Read),
-    ),
+    Cut(b"import a\ndef f(): pass\n)", FAILS, (TOP, 1000), UNREAD),
     Cut(
         b"import a\ndef f(): pass\n)",
         Trouble::None,
-        TOP,
-        23,
-        End::Error(RunError::TooLong),
+        (TOP, 23),
+        TOO_LONG,
     ),
-    Cut(b"import a\n", Trouble::None, ALL, 9, End::Fine),
+    Cut(b"import a\n", Trouble::None, (ALL, 9), End::Fine),
 ];
 
 /// A text, what goes wrong with its reader and with the writer, how many bytes a call the writer takes, how the listing
@@ -460,7 +367,7 @@ impl Case for Troubled {
             text: (self.0.as_bytes(), 1000),
             troubles: self.1,
             most: self.2,
-            asked: (ALL, 1000),
+            asked: WHOLE,
         };
         listing.is_so(alloc, self.3, self.4, self.5)
     }

@@ -253,12 +253,14 @@ fn tell_feed(finder: &mut Fed, piece: &[u8], out: &mut String) -> bool {
     }
 }
 
-/// A piece fed once, the state, the imports that are ready, and the state after them; or the fault.
-fn tell_step(alloc: Global, finder: &mut Fed, piece: &[u8], out: &mut String) {
-    if tell_feed(finder, piece, out) {
-        tell_state(finder, out);
-        tell_ready(alloc, finder, out);
-        tell_state(finder, out);
+/// Each piece fed once, the state, the imports that are ready, and the state after them; or the fault.
+fn tell_steps(alloc: Global, finder: &mut Fed, pieces: &[&[u8]], out: &mut String) {
+    for piece in pieces {
+        if tell_feed(finder, piece, out) {
+            tell_state(finder, out);
+            tell_ready(alloc, finder, out);
+            tell_state(finder, out);
+        }
     }
 }
 
@@ -301,8 +303,8 @@ pub(crate) enum Act<'t> {
     Feed(&'t [u8]),
     /// Feeds a piece whole, and tells the imports that get ready, and its fault.
     Piece(&'t [u8]),
-    /// Feeds a piece once, and tells that, the state, the imports that are ready, and the state after them.
-    Step(&'t [u8]),
+    /// Feeds each of these pieces once, and tells that, the state, the imports that are ready, and the state after them.
+    Steps(&'t [&'t [u8]]),
     /// Feeds two pieces whole, and ends the text, up to a fault.
     Text(&'t [u8], &'t [u8]),
     /// Feeds this text byte by byte, and ends it, up to a fault. It stops before each byte, and goes on from there.
@@ -433,7 +435,7 @@ fn tell_act(alloc: Global, finder: &mut Fed, act: Act<'_>, out: &mut String) {
         Act::Piece(piece) => {
             tell_piece(alloc, finder, piece, out);
         }
-        Act::Step(piece) => tell_step(alloc, finder, piece, out),
+        Act::Steps(pieces) => tell_steps(alloc, finder, pieces, out),
         Act::Text(first, second) => tell_text(alloc, finder, first, second, out),
         Act::Next => {
             tell_next(alloc, finder, "no import\n", out);

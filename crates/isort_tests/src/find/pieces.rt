@@ -329,83 +329,49 @@ const STEPS: &[Script] = &[
     Script(
         ALL,
         &[
-            Act::Step(b"import a\nx\r\xff"),
-            Act::Step(b"x\r\xff"),
-            Act::Step(b""),
+            Act::Steps(&[b"import a\nx\r\xff", b"x\r\xff", b""]),
             Act::Stop,
         ],
         "took 9\nready, 9, 9\n1 import a\nnone, 9, 0\nF1 not UTF-8, 11, 3\nF1 not UTF-8, 11, 3\nat 11, 1\n",
     ),
     Script(
         ALL,
-        &[
-            Act::Step(b"x\r"),
-            Act::Step(b"\xff"),
-            Act::Step(b""),
-            Act::Stop,
-        ],
+        &[Act::Steps(&[b"x\r", b"\xff", b""]), Act::Stop],
         "took 2\nnone, 2, 2\nnone, 2, 2\nF1 not UTF-8, 2, 2\nF1 not UTF-8, 2, 2\nat 2, 0\n",
     ),
     Script(
         ALL,
-        &[
-            Act::Step(b"import x\r\xff"),
-            Act::Step(b""),
-            Act::Step(b""),
-            Act::Stop,
-        ],
+        &[Act::Steps(&[b"import x\r\xff", b"", b""]), Act::Stop],
         "took 10\nready, 10, 10\n1 import x\nnone, 10, 1\nF1 not UTF-8, 9, 2\nF1 not UTF-8, 9, 2\nat 9, 1\n",
     ),
     Script(
         ALL,
-        &[
-            Act::Step(b"import x\r)"),
-            Act::Step(b""),
-            Act::Step(b""),
-            Act::Stop,
-        ],
+        &[Act::Steps(&[b"import x\r)", b"", b""]), Act::Stop],
         "took 10\nready, 10, 10\n1 import x\nnone, 10, 1\nF5 closing bracket without its opening, 9, 2\n\
          F5 closing bracket without its opening, 9, 2\nat 9, 1\n",
     ),
     Script(
         ALL,
-        &[
-            Act::Step(b"x\r)"),
-            Act::Step(b""),
-            Act::Step(b""),
-            Act::Stop,
-        ],
+        &[Act::Steps(&[b"x\r)", b"", b""]), Act::Stop],
         "F5 closing bracket without its opening, 2, 2\nF5 closing bracket without its opening, 2, 2\n\
          F5 closing bracket without its opening, 2, 2\nat 2, 0\n",
     ),
     Script(
         ALL,
-        &[
-            Act::Step(b"x\r"),
-            Act::Step(b")"),
-            Act::Step(b""),
-            Act::Stop,
-        ],
+        &[Act::Steps(&[b"x\r", b")", b""]), Act::Stop],
         "took 2\nnone, 2, 2\nnone, 2, 2\nF5 closing bracket without its opening, 2, 2\n\
          F5 closing bracket without its opening, 2, 2\nat 2, 0\n",
     ),
     Script(
         ALL,
-        &[
-            Act::Step(b"import a\r"),
-            Act::Step(b"x"),
-            Act::Step(b"y"),
-            Act::Stop,
-        ],
+        &[Act::Steps(&[b"import a\r", b"x", b"y"]), Act::Stop],
         "took 9\nnone, 9, 9\nnone, 9, 9\ntook 1\nready, 10, 10\n1 import a\nnone, 10, 1\ntook 1\nnone, 11, 2\n\
          none, 11, 2\nat 9, 1\n",
     ),
     Script(
         MODULES,
         &[
-            Act::Step(b"import a\nimport a\r)"),
-            Act::Step(b"import a\r)"),
-            Act::Step(b""),
+            Act::Steps(&[b"import a\nimport a\r)", b"import a\r)", b""]),
             Act::Stop,
         ],
         "took 9\nready, 9, 9\n1 import a\nnone, 9, 0\nF5 closing bracket without its opening, 18, 3\n\
@@ -415,9 +381,11 @@ const STEPS: &[Script] = &[
     Script(
         TOP,
         &[
-            Act::Step(b"import a\ndef f(): pass\r)"),
-            Act::Step(b"def f(): pass\r)"),
-            Act::Step(b"import b\n"),
+            Act::Steps(&[
+                b"import a\ndef f(): pass\r)",
+                b"def f(): pass\r)",
+                b"import b\n",
+            ]),
             Act::Stop,
         ],
         "took 9\nready, 9, 9\n1 import a\nnone, 9, 0\ntook 15\nnone, 24, 0\nnone, 24, 0\ntook 9\nnone, 33, 0\n\
@@ -425,21 +393,18 @@ const STEPS: &[Script] = &[
     ),
     Script(
         ALL,
-        &[
-            Act::Step(b"import a\xc3"),
-            Act::Step(b"\xa9\n"),
-            Act::Step(b""),
-            Act::Stop,
-        ],
+        &[Act::Steps(&[b"import a\xc3", b"\xa9\n", b""]), Act::Stop],
         "took 9\nnone, 9, 9\nnone, 9, 9\ntook 2\nready, 11, 11\n1 import a\u{e9}\nnone, 11, 0\ntook 0\n\
          none, 11, 0\nnone, 11, 0\nat 11, 1\n",
     ),
     Script(
         MODULES,
         &[
-            Act::Step(b"x = 1\nimport a\nimport a\nimport b\ny"),
-            Act::Step(b"import a\nimport b\ny"),
-            Act::Step(b"y"),
+            Act::Steps(&[
+                b"x = 1\nimport a\nimport a\nimport b\ny",
+                b"import a\nimport b\ny",
+                b"y",
+            ]),
             Act::Stop,
         ],
         "took 15\nready, 15, 9\n2 import a\nnone, 15, 0\ntook 18\nready, 33, 9\n4 import b\nnone, 33, 0\n\

@@ -42,9 +42,14 @@ pub(crate) trait SettingsCase {
     fn holds_under(&self, alloc: Global, settings: &Settings) -> bool;
 }
 
+/// A text of settings: these lines of `[tool.isort]`, and more of them.
+pub(crate) fn table_of(alloc: Global, lines: &str, more: &str) -> Option<String> {
+    format!(in alloc; "[tool.isort]\n{lines}\n{more}").ok()
+}
+
 /// The settings of these lines of `[tool.isort]` and more of them.
 fn settings_of(alloc: Global, lines: &str, more: &str) -> Option<Settings> {
-    let table = format!(in alloc; "[tool.isort]\n{lines}\n{more}").ok()?;
+    let table = table_of(alloc, lines, more)?;
     let (settings, _) = Settings::from_pyproject(alloc, table.as_bytes(), None).ok()?;
     Some(settings)
 }

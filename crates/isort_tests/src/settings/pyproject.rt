@@ -36,19 +36,20 @@ pub(crate) fn refusal(
     Settings::from_pyproject(alloc, text, profile).err()
 }
 
+/// Whether the settings of a text are refused so.
+pub(crate) fn is_refused(alloc: Global, text: &[u8], profile: Option<Profile>, want: &str) -> bool {
+    match refusal(alloc, text, profile) {
+        Some(error) => is_shown(alloc, &error, want),
+        None => false,
+    }
+}
+
 /// A text, the profile that is handed in, and how the text is refused.
-pub(crate) struct Refused(
-    pub(crate) &'static [u8],
-    pub(crate) Option<Profile>,
-    pub(crate) &'static str,
-);
+struct Refused(&'static [u8], Option<Profile>, &'static str);
 
 impl Case for Refused {
     fn holds(&self, alloc: Global) -> bool {
-        match refusal(alloc, self.0, self.1) {
-            Some(error) => is_shown(alloc, &error, self.2),
-            None => false,
-        }
+        is_refused(alloc, self.0, self.1, self.2)
     }
 }
 
@@ -171,7 +172,7 @@ enum Known {
 }
 
 impl Known {
-    /// Those settings, but with the lines of `black` where they are wide.
+    /// Those settings, but as they are for `black` where lines are longer.
     fn settings(self, alloc: Global) -> Option<Settings> {
         match self {
             Known::Plain => Settings::plain(alloc).ok(),
@@ -179,29 +180,14 @@ impl Known {
         }
     }
 
-    fn are_these(self, settings: &Settings) -> bool {
+    /// Whether the settings, so made, are those of the profile, and lines are made longer where they have to be.
+    fn are_made(self, settings: &mut Settings) -> bool {
         match self {
             Known::Plain => are_plain(settings),
             Known::Black => are_black(settings),
-            Known::Wide => settings.line_length == 100,
+            Known::Wide => are_black(settings) && settings.set_line_length(100).is_ok(),
         }
     }
-}
-
-impl Case for Known {
-    fn holds(&self, alloc: Global) -> bool {
-        match self.settings(alloc) {
-            Some(settings) => self.are_these(&settings),
-            None => false,
-        }
-    }
-}
-
-const PROFILES: &[Known] = &[Known::Plain, Known::Black];
-
-#[test]
-fn profiles(rt: HostRuntime) -> Result<(), Fail> {
-    each_holds_again(rt.alloc(), PROFILES)
 }
 
 /// A text, the profile that is handed in, the settings that the text stands for, and its unknown keys.
@@ -236,8 +222,7 @@ impl Case for Stands {
     fn holds(&self, alloc: Global) -> bool {
         match self.2.settings(alloc) {
             Some(mut want) => {
-                let is_made = !matches!(self.2, Known::Wide) || want.set_line_length(100).is_ok();
-                is_made && is_read_so(alloc, self.0, self.1, Some(&want), self.3)
+                self.2.are_made(&mut want) && is_read_so(alloc, self.0, self.1, Some(&want), self.3)
             }
             None => false,
         }
@@ -276,7 +261,7 @@ const STANDS: &[Stands] = &[
 ];
 
 #[test]
-fn texts(rt: HostRuntime) -> Result<(), Fail> {
+fn profiles_and_texts(rt: HostRuntime) -> Result<(), Fail> {
     each_holds_again(rt.alloc(), STANDS)
 }
 

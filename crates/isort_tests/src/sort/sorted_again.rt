@@ -71,11 +71,13 @@ fn row_stays(alloc: Global, row: &Under) -> bool {
     holds_with(alloc, "", &Again(row.0, row.1))
 }
 
-/// Every row stays sorted. One that doesn't is tried once more, as in `each_holds_again`.
-fn each_stays(alloc: Global, rows: &[Under]) -> Result<(), Fail> {
-    for (i, row) in rows.iter().enumerate() {
-        if !row_stays(alloc, row) && !row_stays(alloc, row) {
-            return Err(Fail::new(format_args!("row {i} does not stay sorted")));
+/// Every row of these tables stays sorted. One that doesn't is tried once more, as in `each_holds_again`.
+fn each_stays(alloc: Global, tables: &[&[Under]]) -> Result<(), Fail> {
+    for rows in tables {
+        for (i, row) in rows.iter().enumerate() {
+            if !row_stays(alloc, row) && !row_stays(alloc, row) {
+                return Err(Fail::new(format_args!("row {i} does not stay sorted")));
+            }
         }
     }
     Ok(())
@@ -83,22 +85,15 @@ fn each_stays(alloc: Global, rows: &[Under]) -> Result<(), Fail> {
 
 #[test]
 fn statements_stay_sorted(rt: HostRuntime) -> Result<(), Fail> {
-    each_stays(rt.alloc(), STATEMENTS)?;
-    each_stays(rt.alloc(), MERGED)?;
-    each_stays(rt.alloc(), BETWEEN)
+    each_stays(rt.alloc(), &[STATEMENTS, MERGED, BETWEEN])
 }
 
 #[test]
 fn wrapped_statements_stay_sorted(rt: HostRuntime) -> Result<(), Fail> {
-    each_stays(rt.alloc(), WRAPPED)?;
-    each_stays(rt.alloc(), PACKED)?;
-    each_stays(rt.alloc(), OF_BLACK)
+    each_stays(rt.alloc(), &[WRAPPED, PACKED, OF_BLACK])
 }
 
 #[test]
 fn blocks_stay_sorted(rt: HostRuntime) -> Result<(), Fail> {
-    each_stays(rt.alloc(), BLOCKS)?;
-    each_stays(rt.alloc(), COMMENTS)?;
-    each_stays(rt.alloc(), AFTER)?;
-    each_stays(rt.alloc(), ACTIONS)
+    each_stays(rt.alloc(), &[BLOCKS, COMMENTS, AFTER, ACTIONS])
 }
