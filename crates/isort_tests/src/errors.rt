@@ -1,4 +1,5 @@
 //! The text of each error.
+use crate::cmd::listing::End;
 use crate::harness::cases::{Case, all_are_so, each_holds_again, is_shown};
 use crate::settings::pyproject::refusal;
 use isort_cmd::{RunError, fault_text, settings_text};
@@ -6,13 +7,13 @@ use isort_find::{FindError, ResumeError};
 use isort_settings::SettingsError;
 use isort_sort::SortError;
 use py_imports::ImportError;
-use py_lines::{Fault, FaultKind, LexError};
+use py_lines::{Fault, FaultKind as Kind, LexError};
 use std::alloc::Global;
 use std::test::Fail;
 
 /// An error of a library, or the kind of a fault.
 enum Error {
-    Kind(FaultKind),
+    Kind(Kind),
     Lexing(LexError),
     Imports(ImportError),
     Finding(FindError),
@@ -38,7 +39,7 @@ impl Case for Shown {
 
 /// A fault, and its text in each error that has it.
 const FAULT: Fault = Fault {
-    kind: FaultKind::BadChar,
+    kind: Kind::BadChar,
     offset: 40,
     line: 3,
 };
@@ -48,28 +49,25 @@ const FAULT_TEXT: &str = "line 3: F2 unexpected character";
 const NO_MEMORY: &str = "out of memory";
 
 const ERRORS: &[Shown] = &[
-    Shown(Error::Kind(FaultKind::BadUtf8), "F1 not UTF-8"),
-    Shown(Error::Kind(FaultKind::BadChar), "F2 unexpected character"),
-    Shown(Error::Kind(FaultKind::OpenString), "F3 string not closed"),
+    Shown(Error::Kind(Kind::BadUtf8), "F1 not UTF-8"),
+    Shown(Error::Kind(Kind::BadChar), "F2 unexpected character"),
+    Shown(Error::Kind(Kind::OpenString), "F3 string not closed"),
     Shown(
-        Error::Kind(FaultKind::OpenTriple),
+        Error::Kind(Kind::OpenTriple),
         "F4 triple-quoted string not closed",
     ),
     Shown(
-        Error::Kind(FaultKind::WrongClose),
+        Error::Kind(Kind::WrongClose),
         "F5 closing bracket without its opening",
     ),
-    Shown(Error::Kind(FaultKind::OpenBracket), "F6 bracket not closed"),
+    Shown(Error::Kind(Kind::OpenBracket), "F6 bracket not closed"),
     Shown(
-        Error::Kind(FaultKind::BadJoin),
+        Error::Kind(Kind::BadJoin),
         "F7 backslash not before a line end",
     ),
+    Shown(Error::Kind(Kind::TooDeep), "F8 more than 200 brackets open"),
     Shown(
-        Error::Kind(FaultKind::TooDeep),
-        "F8 more than 200 brackets open",
-    ),
-    Shown(
-        Error::Kind(FaultKind::BadImport),
+        Error::Kind(Kind::BadImport),
         "F9 import statement not understood",
     ),
     Shown(Error::Lexing(LexError::Memory), NO_MEMORY),
@@ -93,56 +91,51 @@ fn displays_errors(rt: HostRuntime) -> Result<(), Fail> {
     each_holds_again(rt.alloc(), ERRORS)
 }
 
+/// Whether this line tells of the error.
+fn is_line(alloc: Global, error: &RunError, line: &str) -> bool {
+    match fault_text(alloc, "-", error) {
+        Ok(text) => text.as_str() == line,
+        Err(_) => false,
+    }
+}
+
 /// An error of a run, and the line that tells of it.
-struct ErrorLine(RunError, &'static str);
+struct ErrorLine(End, &'static str);
 
 impl Case for ErrorLine {
     fn holds(&self, alloc: Global) -> bool {
-        match fault_text(alloc, "-", &self.0) {
-            Ok(text) => text.as_str() == self.1,
-            Err(_) => false,
+        match self.0.answer() {
+            Ok(()) => false,
+            Err(error) => is_line(alloc, &error, self.1),
         }
     }
 }
 
 const RUN_ERRORS: &[ErrorLine] = &[
+    ErrorLine(End::Fault(Kind::BadUtf8, 1, 1), "-:1: F1 not UTF-8\n"),
     ErrorLine(
-        RunError::Fault(Fault {
-            kind: FaultKind::BadUtf8,
-            offset: 1,
-            line: 1,
-        }),
-        "-:1: F1 not UTF-8\n",
-    ),
-    ErrorLine(
-        RunError::Fault(Fault {
-            kind: FaultKind::BadChar,
-            offset: 13,
-            line: 2,
-        }),
+        End::Fault(Kind::BadChar, 13, 2),
         "-:2: F2 unexpected character\n",
     ),
     ErrorLine(
-        RunError::Fault(Fault {
-            kind: FaultKind::OpenString,
-            offset: 4,
-            line: 1,
-        }),
+        End::Fault(Kind::OpenString, 4, 1),
         "-:1: F3 string not closed\n",
     ),
     ErrorLine(
-        RunError::Fault(Fault {
-            kind: FaultKind::BadImport,
-            offset: 9,
-            line: 2,
-        }),
+        End::Fault(Kind::BadImport, 9, 2),
         "-:2: F9 import statement not understood\n",
     ),
-    ErrorLine(RunError::Read, "isort: -: R1 cannot be read\n"),
-    ErrorLine(RunError::TooLong, "isort: -: R2 is too long\n"),
-    ErrorLine(RunError::Write, "isort: -: R3 cannot be written\n"),
-    ErrorLine(RunError::Memory, "isort: -: R5 out of memory\n"),
-    ErrorLine(RunError::NeverEnds, "isort: -: R6 reader never ends\n"),
+    ErrorLine(End::Error(RunError::Read), "isort: -: R1 cannot be read\n"),
+    ErrorLine(End::Error(RunError::TooLong), "isort: -: R2 is too long\n"),
+    ErrorLine(
+        End::Error(RunError::Write),
+        "isort: -: R3 cannot be written\n",
+    ),
+    ErrorLine(End::Error(RunError::Memory), "isort: -: R5 out of memory\n"),
+    ErrorLine(
+        End::Error(RunError::NeverEnds),
+        "isort: -: R6 reader never ends\n",
+    ),
 ];
 
 #[test]

@@ -12,10 +12,10 @@ use std::alloc::Global;
 use std::io::ErrorKind;
 use std::test::Fail;
 
-/// How a listing ends.
+/// How a run ends.
 #[derive(Clone, Copy)]
-enum End {
-    /// With all lines.
+pub(crate) enum End {
+    /// Well.
     Fine,
     /// With this error.
     Error(RunError),
@@ -24,8 +24,8 @@ enum End {
 }
 
 impl End {
-    /// What the listing answers.
-    fn answer(self) -> Result<(), RunError> {
+    /// What the run answers.
+    pub(crate) fn answer(self) -> Result<(), RunError> {
         match self {
             End::Fine => Ok(()),
             End::Error(error) => Err(error),

@@ -1,6 +1,6 @@
 //! Tests of isort_cmd.
 mod command_line;
 mod failures;
-mod listing;
+pub(crate) mod listing;
 mod report;
 mod sorting;

@@ -177,6 +177,13 @@ fn tell_next(alloc: Global, finder: &mut Fed, none: &str, out: &mut String) -> T
     tell_answer(alloc, finder.next_ready(), none, out)
 }
 
+/// So often the next import that is ready, or that there is none.
+fn tell_some(alloc: Global, finder: &mut Fed, times: usize, out: &mut String) {
+    for _ in 0..times {
+        tell_next(alloc, finder, "no import\n", out);
+    }
+}
+
 /// All imports that are ready, but at most a hundred: whether they meet no fault. Where a growth was refused, a fault of the
 /// last line may be met here first.
 fn tell_ready(alloc: Global, finder: &mut Fed, out: &mut String) -> bool {
@@ -309,12 +316,14 @@ pub(crate) enum Act<'t> {
     Text(&'t [u8], &'t [u8]),
     /// Feeds this text byte by byte, and ends it, up to a fault. It stops before each byte, and goes on from there.
     Bytes(&'t [u8]),
-    /// Tells the next import that is ready, if one is.
-    Next,
+    /// Tells so often the next import that is ready, or that there is none.
+    Next(usize),
     /// Tells whether an import is ready.
     Ready,
     /// Tells up to which byte the text was fed, and what is held.
     Held,
+    /// Tells whether an import is ready, and then the same.
+    State,
     /// Ends the text, and tells that, or the fault.
     Finish,
     /// Stops, tells the place, and goes on from there.
@@ -333,6 +342,12 @@ fn tell_finish(finder: &mut Fed, out: &mut String) {
         Ok(()) => tell("end\n", out),
         Err(error) => tell_error(error, out),
     }
+}
+
+/// Whether an import is ready, on a line of its own.
+fn tell_readiness(finder: &Fed, out: &mut String) {
+    tell(readiness(finder), out);
+    tell("\n", out);
 }
 
 /// Up to which byte the text was fed, and what is held.
@@ -437,13 +452,13 @@ fn tell_act(alloc: Global, finder: &mut Fed, act: Act<'_>, out: &mut String) {
         }
         Act::Steps(pieces) => tell_steps(alloc, finder, pieces, out),
         Act::Text(first, second) => tell_text(alloc, finder, first, second, out),
-        Act::Next => {
-            tell_next(alloc, finder, "no import\n", out);
-        }
-        Act::Ready => {
-            let _ = writeln!(out, "{}", readiness(finder));
-        }
+        Act::Next(times) => tell_some(alloc, finder, times, out),
+        Act::Ready => tell_readiness(finder, out),
         Act::Held => tell_held(finder, out),
+        Act::State => {
+            tell_readiness(finder, out);
+            tell_held(finder, out);
+        }
         Act::Finish => tell_finish(finder, out),
         _ => {}
     }
