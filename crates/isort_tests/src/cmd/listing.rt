@@ -1,7 +1,4 @@
 //! Listing the imports of a reader.
-ghost use Rattle.std.specs.Prelude.{◌≡◌};
-ghost use Rattle.isort_sort.specs.Metered.{last_of};
-
 use crate::find::options::{ALL, ATTRIBUTES, MODULES, PACKAGES, TOP, UNIQUE};
 use crate::harness::cases::{Case, each_holds_again};
 use crate::harness::devices::{Device, Trouble};

@@ -5,7 +5,7 @@ use crate::find::acts::{Act, tell_acts, tells};
 use crate::find::options::{ALL, ATTRIBUTES, MODULES, PACKAGES, TOP, UNIQUE};
 use crate::harness::cases::{Case, all_are_so, each_holds, each_holds_again};
 use crate::texts::brackets;
-use isort_find::{FindOptions, ImportKey};
+use isort_find::FindOptions;
 use std::alloc::Global;
 use std::test::Fail;
 

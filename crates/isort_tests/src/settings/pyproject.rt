@@ -332,15 +332,16 @@ fn only(alloc: Global, module: &str) -> Result<Modules, AllocError> {
 
 /// Whether lists of modules are read, and compared by what they hold.
 fn are_lists(alloc: Global) -> Result<bool, AllocError> {
+    let (usual, standard) = (Modules::Future, Modules::StandardLibrary);
     let future = only(alloc, "__future__")?;
     let os = only(alloc, "os")?;
     Ok(
-        future == Modules::Future
-            && os != Modules::Future
-            && os != Modules::StandardLibrary
+        future == usual
+            && os != usual
+            && os != standard
             && os.get(0) == Some("os")
             && os.get(1).is_none()
-            && Modules::Future.get(0) == Some("__future__"),
+            && usual.get(0) == Some("__future__"),
     )
 }
 
