@@ -1,4 +1,5 @@
 -- The blocks of rows, and how they are found.
+pub mod RoleTests
 pub mod Steps
 pub mod Rows
 pub mod SomeBlocks

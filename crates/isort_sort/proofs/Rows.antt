@@ -1,4 +1,5 @@
 -- The rows of a text's lines.
+pub mod Spaces
 pub mod Comments
 pub mod Marks
 pub mod Roles

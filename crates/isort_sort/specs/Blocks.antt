@@ -10,10 +10,10 @@ abbrev pub role_is_member : Role → Bool
 role_is_member (member is cs) = true
 role_is_member _ = false
 
-abbrev pub role_is_between : Role → Bool
-role_is_between (comments cs) = true
-role_is_between blank = true
-role_is_between _ = false
+abbrev pub role_stands_between : Role → Bool
+role_stands_between (comments cs) = true
+role_stands_between blank = true
+role_stands_between _ = false
 
 abbrev pub role_is_blank : Role → Bool
 role_is_blank blank = true
@@ -35,8 +35,8 @@ abbrev pub is_member : Row → Bool
 is_member row = role_is_member row.role
 
 -- comments and blank lines may stand between members
-abbrev pub is_between : Row → Bool
-is_between row = role_is_between row.role
+abbrev pub stands_between : Row → Bool
+stands_between row = role_stands_between row.role
 
 abbrev pub is_blank : Row → Bool
 is_blank row = role_is_blank row.role
@@ -45,7 +45,7 @@ is_blank row = role_is_blank row.role
 abbrev pub leads_to : List ℕ → List Row → Bool
 leads_to indentation [] = false
 leads_to indentation (row ∷ rows) =
-    (is_member row && bytes_eq row.indentation indentation) || (is_between row && leads_to indentation rows)
+    (is_member row && bytes_eq row.indentation indentation) || (stands_between row && leads_to indentation rows)
 
 -- a further member of a run, after comments and blank lines
 pub record Further : Type 0 where
@@ -65,7 +65,7 @@ run_rows run = run.first ∷ flat_map further_rows run.others
 
 -- a further member has the same indentation, and only comments and blank lines before it
 abbrev pub goes_on : List ℕ → Further → Bool
-goes_on indentation f = list_all is_between f.between && is_member f.row && bytes_eq f.row.indentation indentation
+goes_on indentation f = list_all stands_between f.between && is_member f.row && bytes_eq f.row.indentation indentation
 
 abbrev pub is_run : Run → Bool
 is_run run = is_member run.first && list_all (goes_on run.first.indentation) run.others

@@ -15,14 +15,14 @@ IsFilled fits (x ∷ []) = Unit {0}
 IsFilled fits (x ∷ y ∷ ys) = fits (x ∷ y ∷ ys) ≡ true
 
 -- the first item of the next line, put after it, wouldn't fit
-abbrev pub IsFull : {X : Type 0} → (List X → Bool) → List X → List (List X) → Type 0
-IsFull fits line [] = Unit {0}
-IsFull fits line ([] ∷ lines) = Unit {0}
-IsFull fits line ((x ∷ xs) ∷ lines) = fits (line ++ x ∷ []) ≡ false
+abbrev pub HasNoRoomFor : {X : Type 0} → (List X → Bool) → List X → List (List X) → Type 0
+HasNoRoomFor fits line [] = Unit {0}
+HasNoRoomFor fits line ([] ∷ lines) = Unit {0}
+HasNoRoomFor fits line ((x ∷ xs) ∷ lines) = fits (line ++ x ∷ []) ≡ false
 
 abbrev pub ArePacked : {X : Type 0} → (List X → Bool) → List (List X) → Type 0
 ArePacked fits [] = Unit {0}
-ArePacked fits (line ∷ lines) = IsFilled fits line × IsFull fits line lines × ArePacked fits lines
+ArePacked fits (line ∷ lines) = IsFilled fits line × HasNoRoomFor fits line lines × ArePacked fits lines
 
 -- the items, cut into lines: each line of two or more items fits, and the next line's first item wouldn't fit after it
 pub record IsCut {X : Type 0} (fits : List X → Bool) (items : List X) (lines : List (List X)) : Type 0 where

@@ -2,7 +2,7 @@
 ghost use Rattle.std.specs.Prelude.{◌≡◌, ◌+◌, ◌<◌, ◌≤◌, ◌^◌, [], None, MatchOption, is_some, map, option_map};
 ghost use Rattle.std.specs.Prelude.{string_bytes, IfOk, OnOk, IfErr};
 ghost use Rattle.isort_sort.specs.Private.Finding.{after_blank, after_comments, after_member, after_other};
-ghost use Rattle.isort_sort.specs.Private.Finding.{begun_with, closed_before, closed_found, closed_with};
+ghost use Rattle.isort_sort.specs.Private.Finding.{begun_with, closed_before, closed_found, closed_block};
 ghost use Rattle.isort_sort.specs.Private.Finding.{with_blank, with_comments, with_member};
 ghost use Rattle.isort_sort.specs.Private.FoundValues.{before_value, finding_value, found_value, open_value, IsCounted};
 ghost use Rattle.isort_sort.specs.Private.LineRole.{before_of};
@@ -127,7 +127,7 @@ impl OpenBlock {
 
     /// The block, which ends before a line that asks for these blank lines, or at the text's end.
     fn close(self, next: Option<BlankLines>) -> FoundBlock
-        ensures { found_value result ≡ closed_with (before_value next) (open_value self) }
+        ensures { found_value result ≡ closed_block (before_value next) (open_value self) }
     {
         let mut block = self.block;
         block.next = if self.commented {

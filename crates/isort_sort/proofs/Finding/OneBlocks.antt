@@ -3,8 +3,10 @@ use Rattle.std.proofs.Common.{◌≡◌, ℕ, Bool, true, false, ◌||◌, ◌&&
 use Rattle.std.specs.Prelude.{bytes_eq}
 use Rattle.std.specs.List.{list_all, list_any}
 use Rattle.std.proofs.lemmas.Bool.{and_parts, or_parts, both_ways}
-use Rattle.isort_sort.specs.Row.{Role, member, comments, blank, other, Row}
-use Rattle.isort_sort.specs.Blocks.{is_member, is_between, is_blank, role_is_member, role_is_between, leads_to, Further, further_rows, goes_on, Cut, rest, block, cut_rows, begins_blank, AreBlocks, IsCutAtBlocks}
+use Rattle.isort_sort.specs.Row.{Row}
+use Rattle.isort_sort.specs.Blocks.{is_member, stands_between, is_blank, leads_to, Further, further_rows, goes_on, Cut, rest, block, cut_rows, begins_blank, AreBlocks, IsCutAtBlocks}
+use Rattle.isort_sort.proofs.Finding.RoleTests.{no_member}
+use Rattle.isort_sort.proofs.Finding.Steps.{none_between}
 
 -- lists that are the same up to the first that passes
 record Same {X : Type 0} (xs ys : List X) (x y : X) (more others : List X) : Type 0 where
@@ -36,29 +38,18 @@ longest {X} p (c ∷ xs) (d ∷ zs) ys ws e h k m n =
     let more = longest p xs zs ys ws tail (and_parts (p c) (list_all p xs) h).1 (and_parts (p d) (list_all p zs) k).1 m n in
     ((λ i. same i ∷ more.0 i), more.1)
 
--- what stands between members is no member
-between_no_member : (r : Role) → role_is_between r ≡ true → role_is_member r ≡ false
-between_no_member (member is cs) h = absurd (cc)
-between_no_member (comments cs) h = refl
-between_no_member blank h = refl
-between_no_member (other b) h = absurd (cc)
-
-none_between : (rows : List Row) → list_all is_between rows ≡ true → list_any is_member rows ≡ false
-none_between [] h = refl
-none_between (r ∷ rs) h = let parts = and_parts (is_between r) (list_all is_between rs) h in rw (between_no_member r.role parts.0, none_between rs parts.1)
-
 -- a further member is led to
-led : (indentation : List ℕ) (between : List Row) (row : Row) (behind : List Row) → list_all is_between between ≡ true → is_member row ≡ true → bytes_eq row.indentation indentation ≡ true → leads_to indentation (between ++ row ∷ behind) ≡ true
+led : (indentation : List ℕ) (between : List Row) (row : Row) (behind : List Row) → list_all stands_between between ≡ true → is_member row ≡ true → bytes_eq row.indentation indentation ≡ true → leads_to indentation (between ++ row ∷ behind) ≡ true
 led indentation [] row behind h m same = rw (m, same)
 led indentation (r ∷ rs) row behind h m same =
-    let parts = and_parts (is_between r) (list_all is_between rs) h in
-    rw (between_no_member r.role parts.0, parts.0, led indentation rs row behind parts.1 m same)
+    let parts = and_parts (stands_between r) (list_all stands_between rs) h in
+    rw (no_member r.role parts.0, parts.0, led indentation rs row behind parts.1 m same)
 
 abbrev Going : List ℕ → Further → Type 0
-Going indentation f = (list_all is_between f.between ≡ true) × (is_member f.row ≡ true) × (bytes_eq f.row.indentation indentation ≡ true)
+Going indentation f = (list_all stands_between f.between ≡ true) × (is_member f.row ≡ true) × (bytes_eq f.row.indentation indentation ≡ true)
 
 going : (indentation : List ℕ) (f : Further) → goes_on indentation f ≡ true → Going indentation f
-going indentation f h = let parts = and_parts (list_all is_between f.between && is_member f.row) (bytes_eq f.row.indentation indentation) h in let both = and_parts (list_all is_between f.between) (is_member f.row) parts.0 in (both.0, both.1, parts.1)
+going indentation f h = let parts = and_parts (list_all stands_between f.between && is_member f.row) (bytes_eq f.row.indentation indentation) h in let both = and_parts (list_all stands_between f.between) (is_member f.row) parts.0 in (both.0, both.1, parts.1)
 
 leads_on : (indentation : List ℕ) (f : Further) (fs : List Further) (behind : List Row) → goes_on indentation f ≡ true → leads_to indentation (flat_map further_rows (f ∷ fs) ++ behind) ≡ true
 leads_on indentation f fs behind h =

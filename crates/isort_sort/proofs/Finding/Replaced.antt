@@ -1,81 +1,49 @@
 -- Where blocks are replaced, those that come are blocks.
-use Rattle.std.proofs.Common.{◌≡◌, ℕ, Bool, true, false, ◌||◌, ◌&&◌, List, [], ◌∷◌, ◌++◌, flat_map, refl, sym, ap, ◌∙◌, append_assoc}
+use Rattle.std.proofs.Common.{◌≡◌, ℕ, true, false, ◌||◌, ◌&&◌, List, [], ◌∷◌, ◌++◌, flat_map, refl, sym, ap, ◌∙◌, append_assoc}
 use Rattle.std.specs.Prelude.{bytes_eq}
 use Rattle.std.specs.List.{list_all, list_any}
 use Rattle.std.proofs.lemmas.Bool.{and_parts, or_parts}
-use Rattle.isort_sort.specs.Row.{Role, member, comments, blank, other, Row}
-use Rattle.isort_sort.specs.Blocks.{is_member, is_between, is_blank, role_is_member, role_is_between, role_is_blank, leads_to, further_rows, Run, goes_on, is_run, Cut, rest, block, cut_rows, begins_blank, AreBlocks}
-use Rattle.isort_sort.specs.BlocksReplaced.{role_is_comments, is_comments, AreReplaced, no_block, one_more}
-
--- what a row is that is comments, and one that is a member
-record AreComments (role : Role) : Type 0 where
-  no_member : role_is_member role ≡ false
-  between : role_is_between role ≡ true
-  no_blank : role_is_blank role ≡ false
-
-comments_are : (role : Role) → role_is_comments role ≡ true → AreComments role
-comments_are (comments cs) h = record { no_member = refl; between = refl; no_blank = refl }
-comments_are (member is cs) h = absurd (cc)
-comments_are blank h = absurd (cc)
-comments_are (other b) h = absurd (cc)
-
-member_no_blank : (role : Role) → role_is_member role ≡ true → role_is_blank role ≡ false
-member_no_blank (member is cs) h = refl
-member_no_blank (comments cs) h = absurd (cc)
-member_no_blank blank h = absurd (cc)
-member_no_blank (other b) h = absurd (cc)
-
-member_not_between : (role : Role) → role_is_member role ≡ true → role_is_between role ≡ false
-member_not_between (member is cs) h = refl
-member_not_between (comments cs) h = absurd (cc)
-member_not_between blank h = absurd (cc)
-member_not_between (other b) h = absurd (cc)
-
-blank_leads : (role : Role) → role_is_blank role ≡ true → (role_is_member role ≡ false) × (role_is_between role ≡ true)
-blank_leads blank h = (refl, refl)
-blank_leads (member is cs) h = absurd (cc)
-blank_leads (comments cs) h = absurd (cc)
-blank_leads (other b) h = absurd (cc)
+use Rattle.isort_sort.specs.Row.{Row}
+use Rattle.isort_sort.specs.Blocks.{is_member, stands_between, is_blank, leads_to, further_rows, Run, goes_on, is_run, Cut, rest, block, cut_rows, begins_blank, AreBlocks}
+use Rattle.isort_sort.specs.BlocksReplaced.{is_comments, AreReplaced, no_block, one_more}
+use Rattle.isort_sort.proofs.Finding.RoleTests.{of_member, of_comments, of_blank}
+use Rattle.std.proofs.Math.Bool.{or-false}
 
 comments_no_member : (before above : List Row) → list_any is_member before ≡ false → list_all is_comments above ≡ true → list_any is_member (before ++ above) ≡ false
 comments_no_member [] [] h k = refl
-comments_no_member [] (r ∷ rs) h k = let parts = and_parts (is_comments r) (list_all is_comments rs) k in rw ((comments_are r.role parts.0).no_member, comments_no_member [] rs refl parts.1)
+comments_no_member [] (r ∷ rs) h k = let parts = and_parts (is_comments r) (list_all is_comments rs) k in rw ((of_comments r.role parts.0).no_member, comments_no_member [] rs refl parts.1)
 comments_no_member (r ∷ rs) above h k = let parts = or_parts (is_member r) (list_any is_member rs) h in rw (parts.0, comments_no_member rs above parts.1 k)
 
-or_false : (x : Bool) → x || false ≡ x
-or_false true = refl
-or_false false = refl
-
 -- what isn't a member and may stand between members leads on to what stands after it
-leads_through : (indentation : List ℕ) (row : Row) (rows : List Row) → is_member row ≡ false → is_between row ≡ true → leads_to indentation (row ∷ rows) ≡ leads_to indentation rows
-leads_through indentation row rows h k = ap (λ b. (b && bytes_eq row.indentation indentation) || (is_between row && leads_to indentation rows)) h ∙ ap (λ b. b && leads_to indentation rows) k
+leads_through : (indentation : List ℕ) (row : Row) (rows : List Row) → is_member row ≡ false → stands_between row ≡ true → leads_to indentation (row ∷ rows) ≡ leads_to indentation rows
+leads_through indentation row rows h k = ap (λ b. (b && bytes_eq row.indentation indentation) || (stands_between row && leads_to indentation rows)) h ∙ ap (λ b. b && leads_to indentation rows) k
 
 leads_blanks : (indentation : List ℕ) (blanks rows : List Row) → list_all is_blank blanks ≡ true → leads_to indentation (blanks ++ rows) ≡ leads_to indentation rows
 leads_blanks indentation [] rows h = refl
 leads_blanks indentation (b ∷ bs) rows h =
     let parts = and_parts (is_blank b) (list_all is_blank bs) h in
-    let leads = blank_leads b.role parts.0 in
-    leads_through indentation b (bs ++ rows) leads.0 leads.1 ∙ leads_blanks indentation bs rows parts.1
+    let leads = of_blank b.role parts.0 in
+    leads_through indentation b (bs ++ rows) leads.no_member leads.between ∙ leads_blanks indentation bs rows parts.1
 
 leads_comments : (indentation : List ℕ) (above rows : List Row) → list_all is_comments above ≡ true → leads_to indentation (above ++ rows) ≡ leads_to indentation rows
 leads_comments indentation [] rows h = refl
 leads_comments indentation (r ∷ rs) rows h =
     let parts = and_parts (is_comments r) (list_all is_comments rs) h in
-    let are = comments_are r.role parts.0 in
+    let are = of_comments r.role parts.0 in
     leads_through indentation r (rs ++ rows) are.no_member are.between ∙ leads_comments indentation rs rows parts.1
 
 leads_before : (indentation : List ℕ) (before a b : List Row) → leads_to indentation a ≡ leads_to indentation b → leads_to indentation (before ++ a) ≡ leads_to indentation (before ++ b)
 leads_before indentation [] a b h = h
-leads_before indentation (r ∷ rs) a b h = ap (λ x. (is_member r && bytes_eq r.indentation indentation) || (is_between r && x)) (leads_before indentation rs a b h)
+leads_before indentation (r ∷ rs) a b h = ap (λ x. (is_member r && bytes_eq r.indentation indentation) || (stands_between r && x)) (leads_before indentation rs a b h)
 
 -- a member leads to its own indentation, and stops the search for another
 leads_member : (indentation : List ℕ) (row : Row) (rows : List Row) → is_member row ≡ true → leads_to indentation (row ∷ rows) ≡ bytes_eq row.indentation indentation
 leads_member indentation row rows h =
-    ap (λ b. (b && bytes_eq row.indentation indentation) || (is_between row && leads_to indentation rows)) h
-    ∙ ap (λ b. bytes_eq row.indentation indentation || (b && leads_to indentation rows)) (member_not_between row.role h)
-    ∙ or_false (bytes_eq row.indentation indentation)
+    ap (λ b. (b && bytes_eq row.indentation indentation) || (stands_between row && leads_to indentation rows)) h
+    ∙ ap (λ b. bytes_eq row.indentation indentation || (b && leads_to indentation rows)) (of_member row.role h).between
+    ∙ or-false (bytes_eq row.indentation indentation)
 
-run_member : (run : Run) → is_run run ≡ true → is_member run.first ≡ true
+pub run_member : (run : Run) → is_run run ≡ true → is_member run.first ≡ true
 run_member run h = (and_parts (is_member run.first) (list_all (goes_on run.first.indentation) run.others) h).0
 
 leads_same : (indentation : List ℕ) (a b : Cut) → AreBlocks a → AreReplaced a b → leads_to indentation (cut_rows b) ≡ leads_to indentation (cut_rows a)
@@ -91,8 +59,8 @@ leads_same indentation (block before run blanks cut) _ p (one_more _ above _ new
 
 no_blank_first : (before above : List Row) (first old : Row) (after more : List Row) → list_all is_comments above ≡ true → is_member first ≡ true → begins_blank (before ++ old ∷ more) ≡ false → begins_blank ((before ++ above) ++ first ∷ after) ≡ false
 no_blank_first (r ∷ rs) above first old after more h k e = e
-no_blank_first [] [] first old after more h k e = member_no_blank first.role k
-no_blank_first [] (r ∷ rs) first old after more h k e = (comments_are r.role (and_parts (is_comments r) (list_all is_comments rs) h).0).no_blank
+no_blank_first [] [] first old after more h k e = (of_member first.role k).no_blank
+no_blank_first [] (r ∷ rs) first old after more h k e = (of_comments r.role (and_parts (is_comments r) (list_all is_comments rs) h).0).no_blank
 
 begins_same : (a b : Cut) → AreBlocks a → AreReplaced a b → begins_blank (cut_rows a) ≡ false → begins_blank (cut_rows b) ≡ false
 begins_same (rest rows) _ p (no_block _) h = h

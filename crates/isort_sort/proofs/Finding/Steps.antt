@@ -2,19 +2,20 @@
 use Rattle.std.proofs.Common.{◌≡◌, ℕ, ◌+◌, Bool, true, false, cond, ◌&&◌, Option, None, Some, List, [], ◌∷◌, ◌++◌, length, length-append, flat_map, refl, sym, ap, ◌∙◌, subst, append_assoc, append-nil, arith}
 use Rattle.std.specs.Prelude.{bytes_eq}
 use Rattle.std.specs.List.{list_any, list_all}
-use Rattle.std.proofs.lemmas.Bool.{and_parts}
+use Rattle.std.proofs.lemmas.Bool.{and_parts, and_from}
 use Rattle.std.proofs.lemmas.List.Folds.{list_all-append}
 use Rattle.std.proofs.lemmas.List.{map-append}
 use Rattle.std.proofs.lemmas.List.Concat.{flat_map-append}
 use Rattle.std.proofs.lemmas.List.Sums.{sum_by-append}
-use Rattle.isort_sort.specs.Blocks.{is_member, is_between, is_blank, Run, Further, further_rows, run_rows, is_run, goes_on, begins_blank, comments_in, member_of, members_of, leads_to, Cut, block, cut_rows, IsCutAtBlocks, role_is_member, role_is_blank, role_is_between, role_comments}
+use Rattle.isort_sort.specs.Blocks.{is_member, stands_between, is_blank, Run, Further, further_rows, run_rows, is_run, goes_on, begins_blank, comments_in, member_of, members_of, leads_to, Cut, block, cut_rows, IsCutAtBlocks, role_is_blank, role_stands_between, role_comments}
 use Rattle.isort_sort.specs.Private.Found.{Found, found_from, next_of, ended_among}
-use Rattle.isort_sort.specs.Private.Finding.{Open, IsOpen, is_some_row, with_blank, with_comments, with_member, begun_with, closed_with}
+use Rattle.isort_sort.specs.Private.Finding.{Open, EndInOpenRun, is_some_row, with_blank, with_comments, with_member, begun_with, closed_block}
 use Rattle.isort_sort.specs.Member.{Member}
-use Rattle.isort_sort.specs.Row.{Before, as_many, one, Row, Role, member, comments, blank, other}
+use Rattle.isort_sort.specs.Row.{Before, as_many, Row, Role, comments, blank}
 use Rattle.isort_sort.specs.Sorted.{texts_of, last_row, before_role}
+use Rattle.isort_sort.proofs.Finding.RoleTests.{of_blank, no_member}
 
-texts_append : (a b : List Row) → texts_of (a ++ b) ≡ texts_of a ++ texts_of b
+pub texts_append : (a b : List Row) → texts_of (a ++ b) ≡ texts_of a ++ texts_of b
 texts_append a b = flat_map-append (λ (row : Row). row.text) a b
 
 pub texts_len : (a b : List Row) → length (texts_of (a ++ b)) ≡ length (texts_of a) + length (texts_of b)
@@ -23,11 +24,8 @@ texts_len a b = ap length (texts_append a b) ∙ length-append (texts_of a) (tex
 ended_append : (a b : List Row) → ended_among (a ++ b) ≡ ended_among a + ended_among b
 ended_append a b = sum_by-append (λ (row : Row). cond row.ended 1 0) a b
 
-pub both : (a b : Bool) → a ≡ true → b ≡ true → a && b ≡ true
-both a b h k = rw (h, k)
-
 push_all : (p : Row → Bool) (rows : List Row) (row : Row) → list_all p rows ≡ true → p row ≡ true → list_all p (rows ++ row ∷ []) ≡ true
-push_all p rows row h k = list_all-append p rows (row ∷ []) ∙ both (list_all p rows) (p row && true) h (rw k)
+push_all p rows row h k = list_all-append p rows (row ∷ []) ∙ and_from (list_all p rows) (p row && true) h (rw k)
 
 -- one row more
 more_split : (rows before run blanks later : List Row) (row : Row) → rows ≡ before ++ (run ++ (blanks ++ later)) → rows ++ row ∷ [] ≡ before ++ (run ++ (blanks ++ (later ++ row ∷ [])))
@@ -47,11 +45,29 @@ some_pushed (r ∷ rs) row = refl
 comments_pushed : (rows : List Row) (row : Row) → comments_in (rows ++ row ∷ []) ≡ comments_in rows ++ (role_comments row.role ++ [])
 comments_pushed rows row = flat_map-append (λ (r : Row). role_comments r.role) rows (row ∷ [])
 
+-- a row more after comments that stand after the run
+pushed_later : (at : ℕ) (rows : List Row) (o p : Open) (row : Row) (h : EndInOpenRun at rows o) → stands_between row ≡ true → begins_blank (h.later ++ row ∷ []) ≡ false → p.found ≡ o.found → p.above ≡ o.above ++ role_comments row.role → p.commented ≡ true → EndInOpenRun at (rows ++ row ∷ []) p
+pushed_later at rows o p row h between ends found above commented = record {
+  before = h.before;
+  run = h.run;
+  blanks = h.blanks;
+  later = h.later ++ row ∷ [];
+  split = more_split rows h.before (run_rows h.run) h.blanks h.later row h.split;
+  none = h.none;
+  is = h.is;
+  blank_rows = h.blank_rows;
+  between = push_all stands_between h.later row h.between between;
+  ends = ends;
+  found = found ∙ h.found;
+  above = above ∙ ap (λ (l : List (List ℕ)). l ++ role_comments row.role) h.above ∙ sym (comments_pushed h.later row ∙ ap (λ (l : List (List ℕ)). comments_in h.later ++ l) (append-nil (role_comments row.role)));
+  commented = commented ∙ sym (some_pushed h.later row);
+}
+
 -- a blank row
-pub blank_step : (at : ℕ) (rows : List Row) (o : Open) (row : Row) (stop : ℕ) → IsOpen at rows o → row.role ≡ blank → stop ≡ at + length (texts_of (rows ++ row ∷ [])) → IsOpen at (rows ++ row ∷ []) (with_blank stop row.ended o)
+pub blank_step : (at : ℕ) (rows : List Row) (o : Open) (row : Row) (stop : ℕ) → EndInOpenRun at rows o → row.role ≡ blank → stop ≡ at + length (texts_of (rows ++ row ∷ [])) → EndInOpenRun at (rows ++ row ∷ []) (with_blank stop row.ended o)
 blank_step at rows o row stop h r s = by h.later refl
   where
-    by : (later : List Row) → h.later ≡ later → IsOpen at (rows ++ row ∷ []) (with_blank stop row.ended o)
+    by : (later : List Row) → h.later ≡ later → EndInOpenRun at (rows ++ row ∷ []) (with_blank stop row.ended o)
     by [] e =
         let not_yet : o.commented ≡ false = h.commented ∙ ap is_some_row e in
         let split : rows ++ row ∷ [] ≡ h.before ++ (run_rows h.run ++ ((h.blanks ++ row ∷ []) ++ [])) =
@@ -59,7 +75,7 @@ blank_step at rows o row stop h r s = by h.later refl
         let stops : stop ≡ at + length (texts_of h.before) + length (texts_of (run_rows h.run)) + length (texts_of (h.blanks ++ row ∷ [])) =
         omega (arith, split_len (rows ++ row ∷ []) h.before (run_rows h.run) (h.blanks ++ row ∷ []) [] split) in
         let count : o.found.blanks + cond row.ended 1 0 ≡ ended_among (h.blanks ++ row ∷ []) = omega (arith, ended_append h.blanks (row ∷ []), ap (λ (f : Found). f.blanks) h.found) in
-        subst (IsOpen at (rows ++ row ∷ [])) (sym (ap (λ (b : Bool). cond b o (record o { found = record o.found { stop = stop; blanks = o.found.blanks + cond row.ended 1 0 } })) not_yet))
+        subst (EndInOpenRun at (rows ++ row ∷ [])) (sym (ap (λ (b : Bool). cond b o (record o { found = record o.found { stop = stop; blanks = o.found.blanks + cond row.ended 1 0 } })) not_yet))
         (record {
           before = h.before;
           run = h.run;
@@ -77,40 +93,13 @@ blank_step at rows o row stop h r s = by h.later refl
         })
     by (l ∷ ls) e =
         let commented : o.commented ≡ true = h.commented ∙ ap is_some_row e in
-        subst (IsOpen at (rows ++ row ∷ [])) (sym (ap (λ (b : Bool). cond b o (record o { found = record o.found { stop = stop; blanks = o.found.blanks + cond row.ended 1 0 } })) commented))
-        (record {
-          before = h.before;
-          run = h.run;
-          blanks = h.blanks;
-          later = h.later ++ row ∷ [];
-          split = more_split rows h.before (run_rows h.run) h.blanks h.later row h.split;
-          none = h.none;
-          is = h.is;
-          blank_rows = h.blank_rows;
-          between = push_all is_between h.later row h.between (ap role_is_between r);
-          ends = begins_pushed h.later row l ls e h.ends;
-          found = h.found;
-          above = h.above ∙ sym (comments_pushed h.later row ∙ ap (λ (x : Role). comments_in h.later ++ (role_comments x ++ [])) r ∙ append-nil (comments_in h.later));
-          commented = commented ∙ sym (some_pushed h.later row);
-        })
+        subst (EndInOpenRun at (rows ++ row ∷ [])) (sym (ap (λ (b : Bool). cond b o (record o { found = record o.found { stop = stop; blanks = o.found.blanks + cond row.ended 1 0 } })) commented))
+        (pushed_later at rows o o row h (ap role_stands_between r) (begins_pushed h.later row l ls e h.ends) refl (sym (ap (λ (x : Role). o.above ++ role_comments x) r ∙ append-nil o.above)) commented)
 
 -- a row with comments
-pub comments_step : (at : ℕ) (rows : List Row) (o : Open) (row : Row) (cs : List (List ℕ)) → IsOpen at rows o → row.role ≡ comments cs → IsOpen at (rows ++ row ∷ []) (with_comments cs o)
-comments_step at rows o row cs h r = record {
-  before = h.before;
-  run = h.run;
-  blanks = h.blanks;
-  later = h.later ++ row ∷ [];
-  split = more_split rows h.before (run_rows h.run) h.blanks h.later row h.split;
-  none = h.none;
-  is = h.is;
-  blank_rows = h.blank_rows;
-  between = push_all is_between h.later row h.between (ap role_is_between r);
-  ends = ends h.later h.ends;
-  found = h.found;
-  above = ap (λ (l : List (List ℕ)). l ++ cs) h.above ∙ sym (comments_pushed h.later row ∙ ap (λ (x : Role). comments_in h.later ++ (role_comments x ++ [])) r ∙ ap (λ (l : List (List ℕ)). comments_in h.later ++ l) (append-nil cs));
-  commented = sym (some_pushed h.later row);
-}
+pub comments_step : (at : ℕ) (rows : List Row) (o : Open) (row : Row) (cs : List (List ℕ)) → EndInOpenRun at rows o → row.role ≡ comments cs → EndInOpenRun at (rows ++ row ∷ []) (with_comments cs o)
+comments_step at rows o row cs h r =
+    pushed_later at rows o (with_comments cs o) row h (ap role_stands_between r) (ends h.later h.ends) refl (sym (ap (λ (x : Role). o.above ++ role_comments x) r)) refl
   where
     ends : (later : List Row) → begins_blank later ≡ false → begins_blank (later ++ row ∷ []) ≡ false
     ends [] e = ap role_is_blank r
@@ -127,43 +116,31 @@ last_pushed row (g ∷ gs) f = last_pushed g.row gs f
 is_run_pushed : (run : Run) (f : Further) → is_run run ≡ true → goes_on run.first.indentation f ≡ true → is_run (record { first = run.first; others = run.others ++ f ∷ [] }) ≡ true
 is_run_pushed run f h k =
     let parts = and_parts (is_member run.first) (list_all (goes_on run.first.indentation) run.others) h in
-    both _ _ parts.0 (list_all-append (goes_on run.first.indentation) run.others (f ∷ []) ∙ both _ _ parts.1 (rw k))
+    and_from _ _ parts.0 (list_all-append (goes_on run.first.indentation) run.others (f ∷ []) ∙ and_from _ _ parts.1 (rw k))
 
-blanks_between : (rows : List Row) → list_all is_blank rows ≡ true → list_all is_between rows ≡ true
+blanks_between : (rows : List Row) → list_all is_blank rows ≡ true → list_all stands_between rows ≡ true
 blanks_between [] h = refl
 blanks_between (row ∷ rows) h =
     let parts = and_parts (is_blank row) (list_all is_blank rows) h in
-    both _ _ (by row.role parts.0) (blanks_between rows parts.1)
-  where
-    by : (x : Role) → role_is_blank x ≡ true → role_is_between x ≡ true
-    by (member is cs) e = absurd (cc)
-    by (comments cs) e = refl
-    by blank e = refl
-    by (other b) e = absurd (cc)
+    and_from _ _ (of_blank row.role parts.0).between (blanks_between rows parts.1)
 
 no_comments : (rows : List Row) → list_all is_blank rows ≡ true → comments_in rows ≡ []
 no_comments [] h = refl
 no_comments (row ∷ rows) h =
     let parts = and_parts (is_blank row) (list_all is_blank rows) h in
-    ap (λ (l : List (List ℕ)). l ++ comments_in rows) (by row.role parts.0) ∙ no_comments rows parts.1
-  where
-    by : (x : Role) → role_is_blank x ≡ true → role_comments x ≡ []
-    by (member is cs) e = refl
-    by (comments cs) e = absurd (cc)
-    by blank e = refl
-    by (other b) e = refl
+    ap (λ (l : List (List ℕ)). l ++ comments_in rows) (of_blank row.role parts.0).no_comments ∙ no_comments rows parts.1
 
 -- a member that goes on
-pub member_step : (at : ℕ) (rows : List Row) (o : Open) (row : Row) (stop : ℕ) (m : Member) → IsOpen at rows o → is_member row ≡ true → bytes_eq row.indentation o.found.indentation ≡ true → m ≡ member_of [] row → stop ≡ at + length (texts_of (rows ++ row ∷ [])) → IsOpen at (rows ++ row ∷ []) (with_member stop row.ended m o)
+pub member_step : (at : ℕ) (rows : List Row) (o : Open) (row : Row) (stop : ℕ) (m : Member) → EndInOpenRun at rows o → is_member row ≡ true → bytes_eq row.indentation o.found.indentation ≡ true → m ≡ member_of [] row → stop ≡ at + length (texts_of (rows ++ row ∷ [])) → EndInOpenRun at (rows ++ row ∷ []) (with_member stop row.ended m o)
 member_step at rows o row stop m h is same value s =
     let f : Further = record { between = h.blanks ++ h.later; row = row } in
     let run : Run = record { first = h.run.first; others = h.run.others ++ f ∷ [] } in
     let rows_of_run : run_rows run ≡ run_rows h.run ++ ((h.blanks ++ h.later) ++ row ∷ []) = run_pushed h.run f in
     let split : rows ++ row ∷ [] ≡ h.before ++ (run_rows run ++ ([] ++ [])) =
     ap (λ (rs : List Row). rs ++ row ∷ []) h.split ∙ regroup h.before (run_rows h.run) (h.blanks ++ h.later) row ∙ ap (λ (rs : List Row). h.before ++ rs) (sym rows_of_run ∙ sym (append-nil (run_rows run))) in
-    let between : list_all is_between (h.blanks ++ h.later) ≡ true = list_all-append is_between h.blanks h.later ∙ both _ _ (blanks_between h.blanks h.blank_rows) h.between in
+    let between : list_all stands_between (h.blanks ++ h.later) ≡ true = list_all-append stands_between h.blanks h.later ∙ and_from _ _ (blanks_between h.blanks h.blank_rows) h.between in
     let indentation : bytes_eq row.indentation h.run.first.indentation ≡ true = subst (λ (i : List ℕ). bytes_eq row.indentation i ≡ true) (ap (λ (x : Found). x.indentation) h.found) same in
-    let goes : goes_on h.run.first.indentation f ≡ true = both _ _ (both _ _ between is) indentation in
+    let goes : goes_on h.run.first.indentation f ≡ true = and_from _ _ (and_from _ _ between is) indentation in
     let above : o.above ≡ comments_in (h.blanks ++ h.later) = h.above ∙ sym (flat_map-append (λ (r : Row). role_comments r.role) h.blanks h.later ∙ ap (λ (l : List (List ℕ)). l ++ comments_in h.later) (no_comments h.blanks h.blank_rows)) in
     let stops : stop ≡ at + length (texts_of h.before) + length (texts_of (run_rows run)) + 0 =
     omega (arith, s, split_len (rows ++ row ∷ []) h.before (run_rows run) [] [] split) in
@@ -189,7 +166,7 @@ member_step at rows o row stop m h is same value s =
     regroup a b c r = append_assoc a (b ++ c) (r ∷ []) ∙ ap (λ (x : List Row). a ++ x) (append_assoc b c (r ∷ []))
 
 -- a member that begins a run
-pub begin_step : (at : ℕ) (rows : List Row) (row : Row) (place stop : ℕ) (m : Member) → list_any is_member rows ≡ false → is_member row ≡ true → m ≡ member_of [] row → place ≡ at + length (texts_of rows) → stop ≡ at + length (texts_of (rows ++ row ∷ [])) → IsOpen at (rows ++ row ∷ []) (begun_with place stop row.ended row.indentation m)
+pub begin_step : (at : ℕ) (rows : List Row) (row : Row) (place stop : ℕ) (m : Member) → list_any is_member rows ≡ false → is_member row ≡ true → m ≡ member_of [] row → place ≡ at + length (texts_of rows) → stop ≡ at + length (texts_of (rows ++ row ∷ [])) → EndInOpenRun at (rows ++ row ∷ []) (begun_with place stop row.ended row.indentation m)
 begin_step at rows row place stop m none is value p s =
     let run : Run = record { first = row; others = [] } in
     let stops : stop ≡ at + length (texts_of rows) + length (texts_of (run_rows run)) + 0 = omega (arith, s, texts_len rows (row ∷ [])) in
@@ -200,7 +177,7 @@ begin_step at rows row place stop m none is value p s =
       later = [];
       split = refl;
       none = none;
-      is = both _ _ is refl;
+      is = and_from _ _ is refl;
       blank_rows = refl;
       between = refl;
       ends = refl;
@@ -209,61 +186,51 @@ begin_step at rows row place stop m none is value p s =
       commented = refl;
     }
 
--- what stands between members is no member
-no_member : (x : Role) → role_is_between x ≡ true → role_is_member x ≡ false
-no_member (member is cs) h = absurd (cc)
-no_member (comments cs) h = refl
-no_member blank h = refl
-no_member (other b) h = absurd (cc)
-
-pub none_between : (rows : List Row) → list_all is_between rows ≡ true → list_any is_member rows ≡ false
+-- none of the rows that may stand between members is a member
+pub none_between : (rows : List Row) → list_all stands_between rows ≡ true → list_any is_member rows ≡ false
 none_between [] h = refl
-none_between (r ∷ rs) h = let parts = and_parts (is_between r) (list_all is_between rs) h in rw (no_member r.role parts.0, none_between rs parts.1)
+none_between (r ∷ rs) h = let parts = and_parts (stands_between r) (list_all stands_between rs) h in rw (no_member r.role parts.0, none_between rs parts.1)
 
 -- a run doesn't go on after rows that may stand between members, where it doesn't go on at the row after these
-stops_after : (indentation : List ℕ) (rows more : List Row) → list_all is_between rows ≡ true → leads_to indentation more ≡ false → leads_to indentation (rows ++ more) ≡ false
+stops_after : (indentation : List ℕ) (rows more : List Row) → list_all stands_between rows ≡ true → leads_to indentation more ≡ false → leads_to indentation (rows ++ more) ≡ false
 stops_after indentation [] more h k = k
-stops_after indentation (r ∷ rs) more h k = let parts = and_parts (is_between r) (list_all is_between rs) h in rw (no_member r.role parts.0, parts.0, stops_after indentation rs more parts.1 k)
+stops_after indentation (r ∷ rs) more h k = let parts = and_parts (stands_between r) (list_all stands_between rs) h in rw (no_member r.role parts.0, parts.0, stops_after indentation rs more parts.1 k)
 
 -- a row that is neither between members nor a further member ends a run
 pub record Stops (indentation : List ℕ) (row : Row) : Type 0 where
-  pub between : is_between row ≡ false
+  pub between : stands_between row ≡ false
   pub further : is_member row && bytes_eq row.indentation indentation ≡ false
 
 pub stops_at : (indentation : List ℕ) (row : Row) (more : List Row) → Stops indentation row → leads_to indentation (row ∷ more) ≡ false
 stops_at indentation row more s = rw (s.further, s.between)
 
-pub no_blank : (x : Role) → role_is_between x ≡ false → role_is_blank x ≡ false
-no_blank (member is cs) h = refl
-no_blank (comments cs) h = refl
+pub no_blank : (x : Role) → role_stands_between x ≡ false → role_is_blank x ≡ false
 no_blank blank h = absurd (cc)
-no_blank (other b) h = refl
+no_blank _ h = refl
 
 pub begins_later : (later more : List Row) (row : Row) → begins_blank later ≡ false → is_blank row ≡ false → begins_blank (later ++ row ∷ more) ≡ false
 begins_later [] more row h k = k
 begins_later (l ∷ ls) more row h k = h
 
 -- the first row after the blank lines of a run that has ended
-after_comment : (x : Role) → role_is_between x ≡ true → role_is_blank x ≡ false → before_role x ≡ as_many
-after_comment (member is cs) h k = absurd (cc)
+after_comment : (x : Role) → role_stands_between x ≡ true → role_is_blank x ≡ false → before_role x ≡ as_many
 after_comment (comments cs) h k = refl
-after_comment blank h k = absurd (cc)
-after_comment (other b) h k = absurd (cc)
+after_comment _ h k = absurd (cc)
 
-next_after : (later more : List Row) → list_all is_between later ≡ true → begins_blank later ≡ false → next_of (later ++ more) ≡ cond (is_some_row later) (Some as_many) (next_of more)
+next_after : (later more : List Row) → list_all stands_between later ≡ true → begins_blank later ≡ false → next_of (later ++ more) ≡ cond (is_some_row later) (Some as_many) (next_of more)
 next_after [] more h k = refl
-next_after (l ∷ ls) more h k = ap (λ (b : Before). Some b) (after_comment l.role (and_parts (is_between l) (list_all is_between ls) h).0 k)
+next_after (l ∷ ls) more h k = ap (λ (b : Before). Some b) (after_comment l.role (and_parts (stands_between l) (list_all stands_between ls) h).0 k)
 
 -- where the rows end, by the open run
-pub open_place : (at : ℕ) (left : List Row) (o : Open) (h : IsOpen at left o) → at + length (texts_of left) ≡ o.found.stop + length (texts_of h.later)
+pub open_place : (at : ℕ) (left : List Row) (o : Open) (h : EndInOpenRun at left o) → at + length (texts_of left) ≡ o.found.stop + length (texts_of h.later)
 open_place at left o h = omega (arith, split_len left h.before (run_rows h.run) h.blanks h.later h.split, ap (λ (f : Found). f.stop) h.found)
 
 -- the block of an open run that ends before these rows
-pub record IsEnded (at : ℕ) (left more : List Row) (o : Open) (h : IsOpen at left o) (next : Option Before) : Type 0 where
+pub record IsEnded (at : ℕ) (left more : List Row) (o : Open) (h : EndInOpenRun at left o) (next : Option Before) : Type 0 where
   pub cuts : (cut : Cut) → IsCutAtBlocks (h.later ++ more) cut → IsCutAtBlocks (left ++ more) (block h.before h.run h.blanks cut)
-  pub spans : (cut : Cut) → IsCutAtBlocks (h.later ++ more) cut → found_from at (block h.before h.run h.blanks cut) ≡ closed_with next o ∷ found_from o.found.stop cut
+  pub spans : (cut : Cut) → IsCutAtBlocks (h.later ++ more) cut → found_from at (block h.before h.run h.blanks cut) ≡ closed_block next o ∷ found_from o.found.stop cut
 
-pub ended : (at : ℕ) (left more : List Row) (o : Open) (h : IsOpen at left o) → leads_to h.run.first.indentation more ≡ false → begins_blank (h.later ++ more) ≡ false → IsEnded at left more o h (next_of more)
+pub ended : (at : ℕ) (left more : List Row) (o : Open) (h : EndInOpenRun at left o) → leads_to h.run.first.indentation more ≡ false → begins_blank (h.later ++ more) ≡ false → IsEnded at left more o h (next_of more)
 ended at left more o h stops begins = record {
   cuts = λ cut is. record {
     all = ap (λ (rows : List Row). h.before ++ (run_rows h.run ++ (h.blanks ++ rows))) is.all ∙ sym (ap (λ (rows : List Row). rows ++ more) h.split ∙ regroup h.before (run_rows h.run) h.blanks h.later);
@@ -283,15 +250,3 @@ ended at left more o h stops begins = record {
   where
     regroup : (a b c d : List Row) → (a ++ (b ++ (c ++ d))) ++ more ≡ a ++ (b ++ (c ++ (d ++ more)))
     regroup a b c d = append_assoc a (b ++ (c ++ d)) more ∙ ap (λ (x : List Row). a ++ x) (append_assoc b (c ++ d) more ∙ ap (λ (x : List Row). b ++ x) (append_assoc c d more))
-
-pub member_before : (x : Role) → role_is_member x ≡ true → before_role x ≡ one
-member_before (member is cs) h = refl
-member_before (comments cs) h = absurd (cc)
-member_before blank h = absurd (cc)
-member_before (other b) h = absurd (cc)
-
-pub member_apart : (x : Role) → role_is_member x ≡ true → role_is_between x ≡ false
-member_apart (member is cs) h = refl
-member_apart (comments cs) h = absurd (cc)
-member_apart blank h = absurd (cc)
-member_apart (other b) h = absurd (cc)

@@ -9,7 +9,7 @@ use Rattle.std.proofs.lemmas.List.Elements.{filter-append}
 use Rattle.std.proofs.lemmas.Slice.Eq.{bytes_eq-Decides}
 use Rattle.py_imports.specs.Grammar.{Imported, Item}
 use Rattle.isort_settings.specs.Values.{Values}
-use Rattle.isort_sort.specs.Private.Gathered.{Brought, brings, brought, listed_by, listed_item, Seen, nothing_seen, joined, seen_with, seen_after}
+use Rattle.isort_sort.specs.Private.Gathered.{Brought, brings, brought, listed_by, listed_item, Seen, nothing_seen, with_brought, seen_with, seen_after}
 use Rattle.isort_sort.specs.Member.{Member, imports_of, name_or_nothing, item_of, belongs, begins_with, owned}
 use Rattle.isort_sort.specs.Statement.{Statement, straight, star, names, single, is_star, stands_alone, statement_of, statement_with, same_statement}
 use Rattle.isort_sort.proofs.Orders.Equality.{is_same}
@@ -25,7 +25,7 @@ gathered g bs = record { items = g.items ++ flat_map (λ b. b.listed) bs; commen
 gathered-none : (g : Seen) → g ≡ gathered g []
 gathered-none g = λ i. record { items = sym (append-nil g.items) i; comments = sym (append-nil g.comments) i; above = sym (append-nil g.above) i }
 
-gathered-more : (g : Seen) (b : Brought) (bs : List Brought) → gathered (joined g b) bs ≡ gathered g (b ∷ bs)
+gathered-more : (g : Seen) (b : Brought) (bs : List Brought) → gathered (with_brought g b) bs ≡ gathered g (b ∷ bs)
 gathered-more g b bs = λ i. record {
   items = append_assoc g.items b.listed (flat_map (λ b. b.listed) bs) i;
   comments = append_assoc g.comments b.comments (flat_map (λ b. b.comments) bs) i;
@@ -37,7 +37,7 @@ pub seen_is_gathered : (s : Statement) (o : Option Seen) (bs : List Brought) →
 seen_is_gathered s o [] = gathered-none (unwrap_or o nothing_seen)
 seen_is_gathered s o (b ∷ bs) = seen_is_gathered s (seen_with s o b) bs ∙ by (same_statement b.statement s)
   where
-    by : (t : Bool) → gathered (unwrap_or (cond t (Some (joined (unwrap_or o nothing_seen) b)) o) nothing_seen) (for s bs) ≡ gathered (unwrap_or o nothing_seen) (cond t (b ∷ for s bs) (for s bs))
+    by : (t : Bool) → gathered (unwrap_or (cond t (Some (with_brought (unwrap_or o nothing_seen) b)) o) nothing_seen) (for s bs) ≡ gathered (unwrap_or o nothing_seen) (cond t (b ∷ for s bs) (for s bs))
     by true = gathered-more (unwrap_or o nothing_seen) b (for s bs)
     by false = refl
 
@@ -47,7 +47,7 @@ is_seen s None [] = refl
 is_seen s (Some g) [] = refl
 is_seen s o (b ∷ bs) = is_seen s (seen_with s o b) bs ∙ by (same_statement b.statement s) o (list_any (λ (t : Statement). same_statement t s) (map (λ b. b.statement) bs))
   where
-    by : (t : Bool) (o : Option Seen) (others : Bool) → is_some (cond t (Some (joined (unwrap_or o nothing_seen) b)) o) || others ≡ is_some o || (t || others)
+    by : (t : Bool) (o : Option Seen) (others : Bool) → is_some (cond t (Some (with_brought (unwrap_or o nothing_seen) b)) o) || others ≡ is_some o || (t || others)
     by true None others = refl
     by true (Some g) others = refl
     by false None others = refl

@@ -5,7 +5,7 @@ use Rattle.std.specs.Map.{lookup}
 use Rattle.std.specs.Option.{option_map, unwrap_or}
 use Rattle.std.specs.String.{string_eq}
 use Rattle.indexmap.specs.IndexMap.{insert_entry}
-use Rattle.isort_sort.specs.Private.Gathered.{Brought, Seen, nothing_seen, joined, seen_with, seen_value, found}
+use Rattle.isort_sort.specs.Private.Gathered.{Brought, Seen, nothing_seen, with_brought, seen_with, seen_value, found}
 use Rattle.isort_sort.specs.Statement.{Statement, same_statement, same_alias}
 use Rattle.isort_sort.specs.Private.Values.{statement_value}
 use Rattle.isort_sort.specs.contracts.statement.StatementPartialEq.TheImpl as same
@@ -32,18 +32,7 @@ statement_eq (form.Straight m x) (form.Straight n y) = ap (λ t. bytes_eq (strin
 statement_eq (form.Star m) (form.Star n) = and_trues (string_eq m n)
 statement_eq (form.Names m) (form.Names n) = and_trues (string_eq m n)
 statement_eq (form.Single m i) (form.Single n j) = ap (λ t. string_eq m n && (string_eq i.name j.name && t)) (aliases i.alias j.alias) ∙ and_all (string_eq m n) (string_eq i.name j.name) (same_alias (option_map string_bytes i.alias) (option_map string_bytes j.alias))
-statement_eq (form.Straight m x) (form.Star n) = refl
-statement_eq (form.Straight m x) (form.Names n) = refl
-statement_eq (form.Straight m x) (form.Single n j) = refl
-statement_eq (form.Star m) (form.Straight n y) = refl
-statement_eq (form.Star m) (form.Names n) = refl
-statement_eq (form.Star m) (form.Single n j) = refl
-statement_eq (form.Names m) (form.Straight n y) = refl
-statement_eq (form.Names m) (form.Star n) = refl
-statement_eq (form.Names m) (form.Single n j) = refl
-statement_eq (form.Single m i) (form.Straight n y) = refl
-statement_eq (form.Single m i) (form.Star n) = refl
-statement_eq (form.Single m i) (form.Names n) = refl
+statement_eq _ _ = refl
 
 -- the test for the same statement goes either way
 same_back : (a b : Statement) → same_statement a b ≡ true → same_statement b a ≡ true
@@ -96,12 +85,12 @@ module _ (eq : code.Statement → code.Statement → Bool) (agree : (a b : code.
 
   -- the map after one more import
   pub gathers : (old new : List (code.Statement × code_gathered.Gathered)) (k : code.Statement) (fresh before after : code_gathered.Gathered) (b : Brought)
-      → new ≡ insert_entry eq old k after → before ≡ unwrap_or (lookup (eq k) old) fresh → seen_value fresh ≡ nothing_seen → b.statement ≡ statement_value k → seen_value after ≡ joined (seen_value before) b
+      → new ≡ insert_entry eq old k after → before ≡ unwrap_or (lookup (eq k) old) fresh → seen_value fresh ≡ nothing_seen → b.statement ≡ statement_value k → seen_value after ≡ with_brought (seen_value before) b
       → (s : Statement) → found s new ≡ seen_with s (found s old) b
   gathers old new k fresh before after b made was none of added s =
-      ap (found s) made ∙ found-insert_entry s k after old ∙ by (same_statement (statement_value k) s) refl ∙ ap (λ (x : Statement). cond (same_statement x s) (Some (joined (unwrap_or (found s old) nothing_seen) b)) (found s old)) (sym of)
+      ap (found s) made ∙ found-insert_entry s k after old ∙ by (same_statement (statement_value k) s) refl ∙ ap (λ (x : Statement). cond (same_statement x s) (Some (with_brought (unwrap_or (found s old) nothing_seen) b)) (found s old)) (sym of)
     where
-      by : (t : Bool) → same_statement (statement_value k) s ≡ t → cond t (Some (seen_value after)) (found s old) ≡ cond t (Some (joined (unwrap_or (found s old) nothing_seen) b)) (found s old)
+      by : (t : Bool) → same_statement (statement_value k) s ≡ t → cond t (Some (seen_value after)) (found s old) ≡ cond t (Some (with_brought (unwrap_or (found s old) nothing_seen) b)) (found s old)
       by true is =
-          ap Some (added ∙ ap (λ (x : Seen). joined x b) (ap seen_value was ∙ seen-unwrap_or (lookup (eq k) old) fresh none ∙ ap (λ o. unwrap_or o nothing_seen) (found-lookup k old ∙ ap (λ (x : Statement). found x old) (is_same (statement_value k) s is))))
+          ap Some (added ∙ ap (λ (x : Seen). with_brought x b) (ap seen_value was ∙ seen-unwrap_or (lookup (eq k) old) fresh none ∙ ap (λ o. unwrap_or o nothing_seen) (found-lookup k old ∙ ap (λ (x : Statement). found x old) (is_same (statement_value k) s is))))
       by false is = refl

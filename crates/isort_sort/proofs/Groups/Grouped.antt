@@ -20,6 +20,7 @@ use Rattle.isort_sort.proofs.Groups.Brought.{for, gathered, seen_is_gathered, is
 use Rattle.isort_sort.proofs.Orders.Contained.{in_map, map_in, in_filter, filter_in}
 use Rattle.isort_sort.proofs.Orders.InOrder.{nothing_in, alone_in, in_cons, head_in, tail_in}
 use Rattle.isort_sort.proofs.Orders.Equality.{is_same, itself}
+use Rattle.std.proofs.lemmas.Bool.{or_right}
 
 abbrev pub Entries : Type 0
 Entries = List (code_statement.Statement × code_gathered.Gathered)
@@ -40,10 +41,6 @@ any_in s (x ∷ xs) h = by (λ k. any_in s xs k) (same_statement x s) refl h
     by : (list_any (λ (t : Statement). same_statement t s) xs ≡ true → Contains xs s) → (b : Bool) → same_statement x s ≡ b → b || list_any (λ (t : Statement). same_statement t s) xs ≡ true → Contains (x ∷ xs) s
     by more true e k = subst (λ (t : Statement). Contains (x ∷ xs) t) (is_same x s e) (head_in x xs)
     by more false e k = tail_in x xs s (more k)
-
-or_right : (a b : Bool) → b ≡ true → a || b ≡ true
-or_right true b h = refl
-or_right false b h = h
 
 in_any : (s : Statement) (xs : List Statement) → Contains xs s → list_any (λ (t : Statement). same_statement t s) xs ≡ true
 in_any s [] h = absurd (nothing_in s h)

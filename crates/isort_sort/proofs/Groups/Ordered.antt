@@ -1,10 +1,10 @@
 -- Groups of different statements that were sorted by their order are in order.
-use Rattle.std.proofs.Common.{◌≡◌, Bool, true, false, cond, None, List, [], ◌∷◌, map, refl, sym, ap, ◌∙◌, subst, Ordering, Less, Equal, Greater}
+use Rattle.std.proofs.Common.{◌≡◌, Bool, true, false, cond, None, List, [], ◌∷◌, map, refl, sym, ap, ◌∙◌, subst, Ordering, Less, Equal}
 use Rattle.std.specs.Cmp.{IsTotalOrder}
 use Rattle.std.specs.List.{AllByRecursion, Contains, IsDistinct, dedup, dedup_from}
 use Rattle.std.specs.List.Sorted.{IsPermutation, IsSorted, IsStrictlySortedBy}
 use Rattle.std.specs.Map.{keys_of}
-use Rattle.std.specs.Ordering.{eq_by_cmp, is_eq, nat_cmp, ordering_then}
+use Rattle.std.specs.Ordering.{eq_by_cmp, nat_cmp, ordering_then}
 use Rattle.std.proofs.lemmas.Cmp.{eq_by_cmp_equiv, nat_cmp_total, on_total, then_total}
 use Rattle.std.proofs.lemmas.Simd.{map-map}
 use Rattle.std.proofs.lemmas.List.Kept.{IsStrictlySortedBy-dedup}
@@ -23,10 +23,10 @@ use Rattle.isort_sort.specs.declared.group.Group as code
 use Rattle.isort_sort.proofs.Orders.Contained.{in_map, map_in}
 use Rattle.isort_sort.proofs.Groups.Gathered.{same_either_way}
 use Rattle.isort_sort.proofs.Groups.Grouped.{Entries, keys_in, statements_in, same_keys, each_found, made_statements, made_groups}
-use Rattle.isort_sort.proofs.Orders.InOrder.{head_in, tail_in, all_in}
+use Rattle.isort_sort.proofs.Orders.InOrder.{all_in, all_from}
 use Rattle.isort_sort.proofs.Orders.Equality.{itself}
-use Rattle.isort_sort.proofs.Orders.SortedVectors.{by_value}
-use Rattle.isort_sort.proofs.Orders.Statements.{AreOrders, item_cmp_total, exact_items, same_parts}
+use Rattle.isort_sort.proofs.Orders.SortedVectors.{by_value, is_equal}
+use Rattle.isort_sort.proofs.Orders.Statements.{AreOrders, item_cmp_total, exact_items, same_parts, equal_then}
 
 -- the order of groups is total
 pub group_cmp_total : (v : Values) → AreOrders v → IsTotalOrder (group_cmp v)
@@ -35,16 +35,6 @@ group_cmp_total v o =
     (then_total (on_total (λ (g : Group). group_place v g.statement) nat_cmp_total)
     (then_total (on_total (λ (g : Group). module_of g.statement) o.modules)
     (then_total (on_total (λ (g : Group). form_place g.statement) nat_cmp_total) (on_total (λ (g : Group). own_item g.statement) (item_cmp_total v o)))))
-
-equal_then : (o p : Ordering) → ordering_then o p ≡ Equal → (o ≡ Equal) × (p ≡ Equal)
-equal_then Less p h = cc
-equal_then Equal p h = (refl, h)
-equal_then Greater p h = cc
-
-is_equal : (o : Ordering) → is_eq o ≡ true → o ≡ Equal
-is_equal Less h = absurd (cc)
-is_equal Equal h = refl
-is_equal Greater h = absurd (cc)
 
 -- groups that the order doesn't tell apart have one statement
 same_group : (v : Values) → AreOrders v → (a b : Group) → group_cmp v a b ≡ Equal → a.statement ≡ b.statement
@@ -109,10 +99,6 @@ ascending : (v : Values) (members : List Member) (xs : List code.Group) → AllB
 unfolding IsStrictlySortedBy
 ascending v members [] gs h = tt
 ascending v members (x ∷ xs) gs h = (below_group v members x xs gs.0 gs.1 h.0, ascending v members xs gs.1 h.1)
-
-all_from : {X : Type 0} (P : X → Type 0) (xs : List X) → ((y : X) → Contains xs y → P y) → AllByRecursion P xs
-all_from P [] each = tt
-all_from P (x ∷ xs) each = (each x (head_in x xs), all_from P xs (λ y h. each y (tail_in x xs y h)))
 
 true_or_false : (a b : Bool) → a ≡ false → (b ≡ true → a ≡ true) → b ≡ false
 true_or_false a true h f = sym (f refl) ∙ h

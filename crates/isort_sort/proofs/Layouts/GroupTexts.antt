@@ -15,7 +15,7 @@ use Rattle.isort_sort.specs.Layout.{block_lines, lines_after, own_lines, text_of
 use Rattle.isort_sort.specs.Private.Packing.{group_text, laid_of, line_room, packed, packed_after, text_with}
 use Rattle.isort_sort.specs.Statement.{module_of}
 use Rattle.isort_sort.specs.Width.{width}
-use Rattle.isort_sort.specs.Wrapping.{IsCut, IsFilled, IsFull, ArePacked, fits_line, head, item_text, items_text}
+use Rattle.isort_sort.specs.Wrapping.{IsCut, IsFilled, HasNoRoomFor, ArePacked, fits_line, head, item_text, items_text}
 use Rattle.isort_sort.specs.declared.group.Group as code
 use Rattle.isort_sort.proofs.Layouts.Lengths.{width-append}
 use Rattle.isort_sort.proofs.Layouts.Packing.{one_more, packed_begins}
@@ -137,8 +137,8 @@ filled : (fits : List Item → Bool) (x i : Item) (line : List Item) → fits (x
 filled fits x i [] h = h
 filled fits x i (y ∷ line) h = h
 
-full : (fits : List Item → Bool) (x i : Item) (line : List Item) (lines : List (List Item)) (first : List Item) (more : List (List Item)) → lines ≡ (i ∷ first) ∷ more → fits (x ∷ line ++ i ∷ []) ≡ false → IsFull fits (x ∷ line) lines
-full fits x i line lines first more e h = subst (IsFull fits (x ∷ line)) (sym e) h
+full : (fits : List Item → Bool) (x i : Item) (line : List Item) (lines : List (List Item)) (first : List Item) (more : List (List Item)) → lines ≡ (i ∷ first) ∷ more → fits (x ∷ line ++ i ∷ []) ≡ false → HasNoRoomFor fits (x ∷ line) lines
+full fits x i line lines first more e h = subst (HasNoRoomFor fits (x ∷ line)) (sym e) h
 
 packed_is_packed : (fits : List Item → Bool) (room : ℕ) → Agrees fits room → (xs : List Item) (x : Item) (line : List Item) → IsFilled fits (x ∷ line) → ArePacked fits (packed_after room xs (x ∷ line))
 unfolding packed_after

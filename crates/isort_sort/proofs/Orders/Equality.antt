@@ -1,11 +1,11 @@
 -- Statements and items that the code finds equal are the same to contracts.
-use Rattle.std.proofs.Common.{◌≡◌, ◌==◌, ℕ, sym, ap, refl, ◌∙◌, Bool, true, false, ◌&&◌, Option, None, Some, List, Ordering, Less, Equal, Greater}
+use Rattle.std.proofs.Common.{◌≡◌, ◌==◌, ℕ, sym, ap, refl, ◌∙◌, Bool, true, false, ◌&&◌, Option, None, Some, List}
 use Rattle.std.specs.Prelude.{string_bytes, bytes_eq}
 use Rattle.std.specs.String.{string_eq}
 use Rattle.std.specs.declared.string.String.{String}
 use Rattle.std.specs.Option.{option_eq, option_map}
 use Rattle.std.specs.Cmp.{IsTotalOrder, IsEquivalence}
-use Rattle.std.specs.Ordering.{eq_by_cmp, is_eq}
+use Rattle.std.specs.Ordering.{eq_by_cmp}
 use Rattle.std.proofs.lemmas.Cmp.{eq_by_cmp_equiv, on_total}
 use Rattle.std.proofs.lemmas.Bool.{and_parts, and_from, eqb-true}
 use Rattle.std.proofs.lemmas.Slice.Eq.{bytes_eq-Decides}
@@ -15,7 +15,7 @@ use Rattle.isort_settings.specs.Values.{Values}
 use Rattle.isort_sort.specs.Statement.{Statement, straight, star, names, single, form_place, module_of, own_item, item_cmp, same_alias, same_statement}
 use Rattle.isort_sort.specs.Private.Values.{item_value}
 use Rattle.isort_sort.specs.declared.statement.Item as code
-use Rattle.isort_sort.proofs.Orders.SortedVectors.{by_value}
+use Rattle.isort_sort.proofs.Orders.SortedVectors.{by_value, is_equal}
 use Rattle.isort_sort.proofs.Orders.Statements.{same_parts}
 
 -- aliases that pass the test are the same, and each passes it with itself
@@ -79,16 +79,11 @@ equal_of_values x y h =
     and_from _ _ ((bytes_eq-Decides (string_bytes x.name) (string_bytes y.name)).1 (ap (λ (i : grammar.Item). i.path) h))
     (aliases x.alias y.alias ∙ ap (same_alias (option_map string_bytes x.alias)) (sym (ap (λ (i : grammar.Item). i.alias) h)) ∙ alias_itself (option_map string_bytes x.alias))
 
-equal_is : (o : Ordering) → is_eq o ≡ true → o ≡ Equal
-equal_is Less h = absurd (cc)
-equal_is Equal h = refl
-equal_is Greater h = absurd (cc)
-
 pub ties : (v : Values) → IsTotalOrder (item_cmp v) → CmpEqualImpliesEq (item_cmp v) → (x y : code.Item) → item_eq x y ≡ eq_by_cmp (by_value item_value (item_cmp v)) x y
 ties v o exact x y =
     same_test _ _
     (λ h. ap (λ i. eq_by_cmp (item_cmp v) (item_value x) i) (sym (same_values_of x y h)) ∙ (eq_by_cmp_equiv o).refl (item_value x))
-    (λ h. equal_of_values x y (exact (item_value x) (item_value y) (equal_is (item_cmp v (item_value x) (item_value y)) h)))
+    (λ h. equal_of_values x y (exact (item_value x) (item_value y) (is_equal (item_cmp v (item_value x) (item_value y)) h)))
 
 pub equivalence : (v : Values) → IsTotalOrder (item_cmp v) → CmpEqualImpliesEq (item_cmp v) → IsEquivalence item_eq
 equivalence v o exact =

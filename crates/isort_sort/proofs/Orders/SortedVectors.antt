@@ -26,7 +26,7 @@ unfolding IsStrictlySortedBy
 ascend_mapped f R [] h = tt
 ascend_mapped f R (x ∷ xs) h = (below_mapped f R x xs h.0, ascend_mapped f R xs h.1)
 
-is_equal : (o : Ordering) → is_eq o ≡ true → o ≡ Equal
+pub is_equal : (o : Ordering) → is_eq o ≡ true → o ≡ Equal
 is_equal Less h = absurd (cc)
 is_equal Equal h = refl
 is_equal Greater h = absurd (cc)

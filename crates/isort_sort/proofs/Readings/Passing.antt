@@ -11,14 +11,13 @@ use Rattle.py_lines.specs.declared.token.Token.{Token}
 use Rattle.py_imports.specs.Action.{says}
 use Rattle.py_imports.specs.Binds.{terminal_in}
 use Rattle.py_imports.specs.Declaration.{is_code}
-use Rattle.py_imports.specs.Grammar.{Terminal, import_word, from_word, as_word, name, dot, comma, star, opening, closing, begins_import}
-use Rattle.py_imports.specs.Grammar.{other}
+use Rattle.py_imports.specs.Grammar.{Terminal, import_word, begins_import}
 use Rattle.py_imports.specs.Shape.{is_nothing, begins_so}
 use Rattle.py_imports.specs.Statement.{is_comment, significant}
 use Rattle.py_imports.specs.declared.action.Action.{Action}
 use Rattle.py_imports.specs.declared.action.Action.TheVariants as action
 use Rattle.py_imports.specs.declared.shape.Shape.TheVariants as shape
-use Rattle.isort_sort.specs.Private.Finding.{Finding, IsFinding, with_blank, with_comments, closed_with, after_blank, after_comments, after_other}
+use Rattle.isort_sort.specs.Private.Finding.{Finding, IsFinding, with_blank, with_comments, closed_block, after_blank, after_comments, after_other}
 use Rattle.isort_sort.specs.Private.FoundValues.{finding_value}
 use Rattle.isort_sort.specs.Line.{comment_texts}
 use Rattle.isort_sort.specs.Private.Silence.{IsSilent}
@@ -34,22 +33,12 @@ use Rattle.isort_sort.proofs.Readings.LinesRead.{read_on}
 use Rattle.isort_sort.proofs.Rows.Roles.{sortable_begins}
 use Rattle.isort_sort.proofs.Rows.Silence.{silent_comments}
 use Rattle.isort_sort.proofs.Rows.Skips.{skip_pushed}
-
-and_false : (b : Bool) → b && false ≡ false
-and_false true = refl
-and_false false = refl
+use Rattle.std.proofs.Math.Bool.{and-false, or-false}
+use Rattle.std.proofs.lemmas.Bool.{or_parts}
 
 first_only : (x : Terminal) (xs : List Terminal) → begins_import (x ∷ []) ≡ begins_import (x ∷ xs)
 first_only import_word xs = refl
-first_only from_word xs = refl
-first_only as_word xs = refl
-first_only (name word) xs = refl
-first_only dot xs = refl
-first_only comma xs = refl
-first_only star xs = refl
-first_only opening xs = refl
-first_only closing xs = refl
-first_only other xs = refl
+first_only _ xs = refl
 
 -- whether a token is spelled as the first word of an import statement
 abbrev is_first : List ℕ → Token → Bool
@@ -59,21 +48,17 @@ none_first : (text : List ℕ) (tokens : List Token) → list_any (is_first text
 none_first text [] h = refl
 none_first text (t ∷ ts) h = by (is_comment t.kind) (none_first text ts)
   where
-    apart : (a b : Bool) → a || b ≡ false → (a ≡ false) × (b ≡ false)
-    apart true b e = absurd (cc)
-    apart false b e = (refl, e)
-
     by : (c : Bool) → (list_any (is_first text) ts ≡ false → begins_import (map (terminal_in text) (significant ts)) ≡ false) → begins_import (map (terminal_in text) (cond (not c) (t ∷ significant ts) (significant ts))) ≡ false
-    by true later = later (apart (is_first text t) (list_any (is_first text) ts) h).1
-    by false later = sym (first_only (terminal_in text t) (map (terminal_in text) (significant ts))) ∙ (apart (is_first text t) (list_any (is_first text) ts) h).0
+    by true later = later (or_parts (is_first text t) (list_any (is_first text) ts) h).1
+    by false later = sym (first_only (terminal_in text t) (map (terminal_in text) (significant ts))) ∙ (or_parts (is_first text t) (list_any (is_first text) ts) h).0
 
 -- a line without a token that is spelled as `import` or `from` begins with none
 pub begins_none : (line : LogicalLine) → list_any (λ t. begins_import (terminal_in line.text t ∷ [])) line.tokens ≡ false → begins_so line ≡ false
-begins_none line none = (λ i. is_code line.kind && none_first line.text line.tokens none i) ∙ and_false (is_code line.kind)
+begins_none line none = (λ i. is_code line.kind && none_first line.text line.tokens none i) ∙ and-false (is_code line.kind)
 
 -- a silent line is no action
 pub silent_alone : (line : LogicalLine) → IsSilent line.text → (a : Action) → says_alone a line ≡ false
-silent_alone line silent a = (λ i. is_comment_kind line.kind && silent_comments a line silent i) ∙ and_false (is_comment_kind line.kind)
+silent_alone line silent a = (λ i. is_comment_kind line.kind && silent_comments a line silent i) ∙ and-false (is_comment_kind line.kind)
 
 silent_turned : (line : LogicalLine) → IsSilent line.text → (off : Bool) → turned off line ≡ off
 silent_turned line silent off = λ i. cond (silent_alone line silent action.Off i) true (cond (silent_alone line silent action.On i && not (silent_alone line silent action.Off i)) false off)
@@ -118,7 +103,7 @@ finds_passed off line f utf8 silent plain closed = λ start rows h. by line.kind
     by unit_kind.Code k start rows h =
         let asks = before_line line shape.Other in
         let found = row_with (row.other asks) in
-        let same : after_other stop asks f ≡ passed_to (length line.text) f = λ i. record { found = ap (λ o. option_map_or (λ o. f.found ++ closed_with (Some asks) o ∷ []) o f.found) closed i; opened = sym closed i; place = stop } in (
+        let same : after_other stop asks f ≡ passed_to (length line.text) f = λ i. record { found = ap (λ o. option_map_or (λ o. f.found ++ closed_block (Some asks) o ∷ []) o f.found) closed i; opened = sym closed i; place = stop } in (
           found,
           is_row (row.other asks) (shape.Other, plain, refl, inl (k, inr (λ is. let both : true ≡ false = sym (sortable_begins line is) ∙ plain in absurd (cc)))),
           subst (λ (new : Finding). IsFinding start (rows ++ found ∷ []) new) same (found_other start rows f found stop asks h refl refl),
@@ -157,12 +142,8 @@ still_begun line false h = sym h
 skips_on : (lines : List LogicalLine) (line : LogicalLine) (r : SkipReader) → IsSilent line.text → not r.begun && has_code line ≡ false → IsSkipSoFar lines r → IsSkipSoFar (lines ++ line ∷ []) r
 skips_on lines line r silent late h = skip_pushed lines line r r (sym kept) (still_begun line r.begun late) h
   where
-    or_false : (b : Bool) → b || false || false ≡ b
-    or_false true = refl
-    or_false false = refl
-
     kept : r.skips || list_any (says action.SkipFile) (comment_texts line) || (not r.begun && string_skips line (slice_get (significant line.tokens) 0)) ≡ r.skips
-    kept = (λ i. r.skips || silent_comments action.SkipFile line silent i || no_string line r.begun late i) ∙ or_false r.skips
+    kept = (λ i. r.skips || silent_comments action.SkipFile line silent i || no_string line r.begun late i) ∙ or-false (r.skips || false) ∙ or-false r.skips
 
 -- a line was passed over
 pub passed_on : (lines : List LogicalLine) (line : LogicalLine) (old new : LineReader) → IsUtf8 line.text → IsSilent line.text → begins_so line ≡ false → old.begun ≡ true → not old.skip.begun && has_code line ≡ false → (finding_value old.blocks).opened ≡ None → finding_value new.blocks ≡ passed_to (length line.text) (finding_value old.blocks) → new.begun ≡ old.begun → new.off ≡ old.off → new.skip ≡ old.skip → IsReadSoFar lines old → IsReadSoFar (lines ++ line ∷ []) new

@@ -1,6 +1,6 @@
 -- What is cut off a comment, and the comments of a line one after another.
 use Rattle.std.proofs.Common.{◌≡◌, ℕ, ◌+◌, ◌-◌, ◌<◌, Bool, true, false, cond, ◌==◌, ◌||◌, ◌&&◌, Option, None, Some, MatchOption, Bor, lit<, List, [], ◌∷◌, ◌++◌, length, take, drop, get_or, append_assoc, length-drop, length-append, map, refl, sym, ap, ◌∙◌, arith}
-use Rattle.std.specs.Prelude.{filter, slice_range, if◌then◌else◌}
+use Rattle.std.specs.Prelude.{filter, slice_range, if◌then◌else◌, slice_get}
 use Rattle.std.specs.Char.{IsScalar, char_set_contains}
 use Rattle.std.specs.List.{list_all, list_any}
 use Rattle.std.specs.Str.Pattern.{FindsPrefixBy, FindsSuffixBy, HasCharAt, FindsCharPrefix, StripsPrefix, CutsPrefixes, CutsSuffixes, IsFullyTrimmed, IsTrimStartMatches, IsTrimEndMatches}
@@ -12,11 +12,15 @@ use Rattle.std.proofs.lemmas.Str.{encode_ascii}
 use Rattle.std.proofs.lemmas.Str.Pattern.{drop_at_char}
 use Rattle.std.proofs.Math.Seq.{drop-length}
 use Rattle.py_lines.specs.Character.{is_space}
+use Rattle.py_lines.specs.declared.token.TokKind.TheVariants as kind
 use Rattle.py_lines.specs.declared.token.Token.{Token}
 use Rattle.py_imports.specs.Action.{says}
 use Rattle.py_imports.specs.Statement.{is_comment}
 use Rattle.py_imports.specs.declared.action.Action.{Action}
 use Rattle.isort_sort.specs.Line.{without_hash, without_start, without_end, stripped, is_text}
+use Rattle.std.proofs.Math.Bool.{and-false}
+use Rattle.isort_sort.proofs.Rows.Spaces.{space_low}
+use Rattle.std.proofs.lemmas.Option.{slice_get-get_or}
 
 -- space, tab and form feed
 abbrev pub spaces : List ℕ
@@ -30,16 +34,12 @@ is_space_set : (c : ℕ) → char_set_contains spaces c ≡ is_space c
 unfolding is_space
 is_space_set c = grind (arith, nat_tests)
 
-space_is_ascii : (c : ℕ) → is_space c ≡ true → c < 128
-unfolding is_space
-space_is_ascii c h = grind (arith, nat_tests)
-
 space_is_scalar : (c : ℕ) → c < 128 → IsScalar c
 space_is_scalar c h = rw (lt-ltb c 55296 (omega arith)) refl
 
 -- a text at whose start a space was found
 begins_so : (c n : ℕ) (text : List ℕ) → is_space c ≡ true → HasCharAt c text 0 n → text ≡ c ∷ drop n text
-begins_so c n text space here = drop_at_char c text 0 n here (space_is_ascii c space)
+begins_so c n text space here = drop_at_char c text 0 n here (space_low c space)
 
 cut_start : (text : List ℕ) (ns : List ℕ) (rest : List ℕ) → CutsPrefixes (Finds FindsPrefixBy) text ns rest → without_start text ≡ without_start rest
 cut_start text [] rest e = ap without_start (sym e)
@@ -57,7 +57,7 @@ bare_start (b ∷ text) h = by (is_space b) refl
   where
     by : (x : Bool) → is_space b ≡ x → without_start (b ∷ text) ≡ b ∷ text
     by true e =
-        let low = space_is_ascii b e in
+        let low = space_low b e in
         let none = h b text (space_is_scalar b low) (ap (λ l. l ++ text) (sym (encode_ascii b low))) in
         absurd (cc)
     by false e = rw e refl
@@ -77,7 +77,7 @@ start_is text rest h = sym (cut_start text h.0.0 rest h.0.1 ∙ trimmed_start re
 ends_so : (c n : ℕ) (text : List ℕ) → is_space c ≡ true → HasCharAt c text (length text - n) (length text) → text ≡ take (length text - n) text ++ c ∷ []
 ends_so c n text space here =
     sym (take-append-drop (length text - n) text)
-    ∙ ap (λ l. take (length text - n) text ++ l) (drop_at_char c text (length text - n) (length text) here (space_is_ascii c space) ∙ ap (λ l. c ∷ l) (drop-length text))
+    ∙ ap (λ l. take (length text - n) text ++ l) (drop_at_char c text (length text - n) (length text) here (space_low c space) ∙ ap (λ l. c ∷ l) (drop-length text))
 
 all_but : (text : List ℕ) (c : ℕ) → is_space c ≡ true → list_all is_space (text ++ c ∷ []) ≡ list_all is_space text
 all_but [] c space = ap (λ b. b && true) space
@@ -102,11 +102,7 @@ IsBareEnd text = (front : List ℕ) (c : ℕ) → text ≡ front ++ c ∷ [] →
 
 none_all : (b : ℕ) (text : List ℕ) → IsBareEnd (b ∷ text) → list_all is_space (b ∷ text) ≡ false
 none_all b [] bare = ap (λ x. x && true) (bare [] b refl)
-none_all b (c ∷ text) bare = ap (λ x. is_space b && x) (none_all c text (λ front d e. bare (b ∷ front) d (ap (λ l. b ∷ l) e))) ∙ and_false (is_space b)
-  where
-    and_false : (x : Bool) → x && false ≡ false
-    and_false true = refl
-    and_false false = refl
+none_all b (c ∷ text) bare = ap (λ x. is_space b && x) (none_all c text (λ front d e. bare (b ∷ front) d (ap (λ l. b ∷ l) e))) ∙ and-false (is_space b)
 
 bare_end : (text : List ℕ) → IsBareEnd text → without_end text ≡ text
 bare_end [] bare = refl
@@ -117,7 +113,7 @@ trimmed_end text (None, finds, small) = bare_end text (λ front c e. by front c 
   where
     by : (front : List ℕ) (c : ℕ) → text ≡ front ++ c ∷ [] → (x : Bool) → is_space c ≡ x → is_space c ≡ false
     by front c e true space =
-        let low = space_is_ascii c space in
+        let low = space_low c space in
         finds is_space is_space_set c front (space_is_scalar c low) (e ∙ ap (λ l. front ++ l) (sym (encode_ascii c low)))
     by front c e false space = space
 trimmed_end text (Some n, finds, small) =
@@ -138,41 +134,49 @@ hash_cut comment None none = by comment.now none
     by (b ∷ text) h = sym (rw (ne_eqb b 35 (λ e. h text (ap (λ x. x ∷ text) e ∙ ap (λ l. l ++ text) (sym (encode_ascii 35 (lit< tt)))))) refl)
 hash_cut comment (Some rest) cut = cut.2 ∙ sym (ap without_hash (drop_at_char 35 comment.now 0 cut.0 cut.1 (lit< tt)))
 
--- the bytes of a token of this text
-abbrev word_in : List ℕ → Token → List ℕ
-word_in text t = slice_range text t.start t.stop
+-- the token at a place, and its bytes
+abbrev pub token_at : List Token → ℕ → Token
+token_at tokens i = get_or tokens i (record { kind = kind.Name; start = 0; stop = 0; line = 0 })
 
--- whether a comment among these tokens of a text says the action
-abbrev pub comments_say : Action → List ℕ → List Token → Bool
-comments_say a text tokens = list_any (says a) (map (λ t. slice_range text t.start t.stop) (filter (λ t. is_comment t.kind) tokens))
+pub token_is_at : (tokens : List Token) (i : ℕ) → i < length tokens → slice_get tokens i ≡ Some (token_at tokens i)
+token_is_at tokens i within = slice_get-get_or tokens i (record { kind = kind.Name; start = 0; stop = 0; line = 0 }) within
 
--- one token after the others
-pub says_on : (a : Action) (text : List ℕ) (tokens : List Token) (i : ℕ) (t : Token) → i < length tokens → comments_say a text tokens ≡ comments_say a text (drop i tokens) → comments_say a text tokens ≡ is_comment (get_or tokens i t).kind && says a (word_in text (get_or tokens i t)) || comments_say a text (drop (i + 1) tokens)
-says_on a text tokens i t within e = e ∙ ap (comments_say a text) (drop_more tokens i t within) ∙ by (is_comment (get_or tokens i t).kind)
-  where
-    others : List Token
-    others = filter (λ t. is_comment t.kind) (drop (i + 1) tokens)
+abbrev pub word_at : List ℕ → List Token → ℕ → List ℕ
+word_at text tokens i = slice_range text (token_at tokens i).start (token_at tokens i).stop
 
-    by : (b : Bool) → list_any (says a) (map (λ t. slice_range text t.start t.stop) (cond b (get_or tokens i t ∷ others) others)) ≡ b && says a (word_in text (get_or tokens i t)) || list_any (says a) (map (λ t. slice_range text t.start t.stop) others)
-    by true = refl
-    by false = refl
-
--- the comments among these tokens of a text
+-- the comments among these tokens of a text, and whether one of them says the action
 abbrev pub texts : List ℕ → List Token → List (List ℕ)
 texts text tokens = map (λ t. slice_range text t.start t.stop) (filter (λ t. is_comment t.kind) tokens)
 
+abbrev pub comments_say : Action → List ℕ → List Token → Bool
+comments_say a text tokens = list_any (says a) (texts text tokens)
+
 -- one token after the others
-pub texts_on : (text : List ℕ) (tokens : List Token) (i : ℕ) (t : Token) (before after : List (List ℕ)) → i < length tokens → before ++ texts text (drop i tokens) ≡ texts text tokens → after ≡ before ++ (if is_comment (get_or tokens i t).kind then word_in text (get_or tokens i t) ∷ [] else []) → after ++ texts text (drop (i + 1) tokens) ≡ texts text tokens
-texts_on text tokens i t before after within e here =
-    ap (λ l. l ++ texts text (drop (i + 1) tokens)) here
-    ∙ append_assoc before _ (texts text (drop (i + 1) tokens))
-    ∙ ap (λ l. before ++ l) (sym (by (is_comment (get_or tokens i t).kind)) ∙ sym (ap (texts text) (drop_more tokens i t within)))
-    ∙ e
+pub says_on : (a : Action) (text : List ℕ) (tokens : List Token) (i : ℕ) → i < length tokens → comments_say a text tokens ≡ comments_say a text (drop i tokens) → comments_say a text tokens ≡ is_comment (token_at tokens i).kind && says a (word_at text tokens i) || comments_say a text (drop (i + 1) tokens)
+says_on a text tokens i within e = e ∙ ap (comments_say a text) (drop_more tokens i _ within) ∙ by (is_comment (token_at tokens i).kind)
   where
     others : List Token
     others = filter (λ t. is_comment t.kind) (drop (i + 1) tokens)
 
-    by : (b : Bool) → map (λ t. slice_range text t.start t.stop) (cond b (get_or tokens i t ∷ others) others) ≡ (if b then word_in text (get_or tokens i t) ∷ [] else []) ++ map (λ t. slice_range text t.start t.stop) others
+    by : (b : Bool) → list_any (says a) (map (λ t. slice_range text t.start t.stop) (cond b (token_at tokens i ∷ others) others)) ≡ b && says a (word_at text tokens i) || list_any (says a) (map (λ t. slice_range text t.start t.stop) others)
+    by true = refl
+    by false = refl
+
+-- what is taken of tokens, where one token after the others brings some more
+taken_on : (f : List Token → List (List ℕ)) (tokens : List Token) (i : ℕ) (before after here : List (List ℕ)) → i < length tokens → before ++ f (drop i tokens) ≡ f tokens → after ≡ before ++ here → f (token_at tokens i ∷ drop (i + 1) tokens) ≡ here ++ f (drop (i + 1) tokens) → after ++ f (drop (i + 1) tokens) ≡ f tokens
+taken_on f tokens i before after here within e is more =
+    ap (λ l. l ++ f (drop (i + 1) tokens)) is
+    ∙ append_assoc before here (f (drop (i + 1) tokens))
+    ∙ ap (λ l. before ++ l) (sym more ∙ sym (ap f (drop_more tokens i _ within)))
+    ∙ e
+
+pub texts_on : (text : List ℕ) (tokens : List Token) (i : ℕ) (before after : List (List ℕ)) → i < length tokens → before ++ texts text (drop i tokens) ≡ texts text tokens → after ≡ before ++ (if is_comment (token_at tokens i).kind then word_at text tokens i ∷ [] else []) → after ++ texts text (drop (i + 1) tokens) ≡ texts text tokens
+texts_on text tokens i before after within e is = taken_on (texts text) tokens i before after _ within e is (by (is_comment (token_at tokens i).kind))
+  where
+    others : List Token
+    others = filter (λ t. is_comment t.kind) (drop (i + 1) tokens)
+
+    by : (b : Bool) → map (λ t. slice_range text t.start t.stop) (cond b (token_at tokens i ∷ others) others) ≡ (if b then word_at text tokens i ∷ [] else []) ++ map (λ t. slice_range text t.start t.stop) others
     by true = refl
     by false = refl
 
@@ -182,15 +186,10 @@ content_of comment = if is_text (stripped (without_hash comment)) then stripped 
 
 -- what the comments among these tokens of a text say
 abbrev pub contents : List ℕ → List Token → List (List ℕ)
-contents text tokens = filter is_text (map (λ t. stripped (without_hash t)) (map (λ t. slice_range text t.start t.stop) (filter (λ t. is_comment t.kind) tokens)))
+contents text tokens = filter is_text (map (λ t. stripped (without_hash t)) (texts text tokens))
 
--- one token after the others
-pub contents_on : (text : List ℕ) (tokens : List Token) (i : ℕ) (t : Token) (before after : List (List ℕ)) → i < length tokens → before ++ contents text (drop i tokens) ≡ contents text tokens → after ≡ before ++ (if is_comment (get_or tokens i t).kind then content_of (word_in text (get_or tokens i t)) else []) → after ++ contents text (drop (i + 1) tokens) ≡ contents text tokens
-contents_on text tokens i t before after within e here =
-    ap (λ l. l ++ contents text (drop (i + 1) tokens)) here
-    ∙ append_assoc before _ (contents text (drop (i + 1) tokens))
-    ∙ ap (λ l. before ++ l) (sym (by (is_comment (get_or tokens i t).kind)) ∙ sym (ap (contents text) (drop_more tokens i t within)))
-    ∙ e
+pub contents_on : (text : List ℕ) (tokens : List Token) (i : ℕ) (before after : List (List ℕ)) → i < length tokens → before ++ contents text (drop i tokens) ≡ contents text tokens → after ≡ before ++ (if is_comment (token_at tokens i).kind then content_of (word_at text tokens i) else []) → after ++ contents text (drop (i + 1) tokens) ≡ contents text tokens
+contents_on text tokens i before after within e is = taken_on (contents text) tokens i before after _ within e is (by (is_comment (token_at tokens i).kind))
   where
     others : List Token
     others = filter (λ t. is_comment t.kind) (drop (i + 1) tokens)
@@ -199,8 +198,8 @@ contents_on text tokens i t before after within e here =
     by_text content cs true = refl
     by_text content cs false = refl
 
-    by : (b : Bool) → filter is_text (map (λ t. stripped (without_hash t)) (map (λ t. slice_range text t.start t.stop) (cond b (get_or tokens i t ∷ others) others))) ≡ (if b then content_of (word_in text (get_or tokens i t)) else []) ++ filter is_text (map (λ t. stripped (without_hash t)) (map (λ t. slice_range text t.start t.stop) others))
-    by true = by_text (stripped (without_hash (word_in text (get_or tokens i t)))) _ (is_text (stripped (without_hash (word_in text (get_or tokens i t)))))
+    by : (b : Bool) → filter is_text (map (λ t. stripped (without_hash t)) (map (λ t. slice_range text t.start t.stop) (cond b (token_at tokens i ∷ others) others))) ≡ (if b then content_of (word_at text tokens i) else []) ++ filter is_text (map (λ t. stripped (without_hash t)) (map (λ t. slice_range text t.start t.stop) others))
+    by true = by_text (stripped (without_hash (word_at text tokens i))) _ (is_text (stripped (without_hash (word_at text tokens i))))
     by false = refl
 
 -- a comment that says something, and one that says nothing

@@ -5,6 +5,7 @@ use Rattle.std.specs.List.{join_by, list_all}
 use Rattle.py_lines.specs.Character.{is_space}
 use Rattle.py_lines.specs.LogicalLine.{LogicalLine}
 use Rattle.isort_sort.specs.Line.{without_start, without_end, stripped, without_hash, is_text, comment_texts, own_comments, IsOwnComment, AreOwnComments}
+use Rattle.std.proofs.Math.Bool.{and-false}
 
 -- a text that neither begins nor ends with space, and isn't empty
 abbrev IsBare : List ℕ → Type 0
@@ -39,11 +40,7 @@ ends_bare b text e = by (list_all is_space (b ∷ text)) e
 
 all_of : (xs : List ℕ) (b : ℕ) (text : List ℕ) → list_all is_space (b ∷ text) ≡ false → list_all is_space (xs ++ b ∷ text) ≡ false
 all_of [] b text h = h
-all_of (x ∷ xs) b text h = ap (λ y. is_space x && y) (all_of xs b text h) ∙ and_false (is_space x)
-  where
-    and_false : (y : Bool) → y && false ≡ false
-    and_false true = refl
-    and_false false = refl
+all_of (x ∷ xs) b text h = ap (λ y. is_space x && y) (all_of xs b text h) ∙ and-false (is_space x)
 
 end_after : (xs : List ℕ) (b : ℕ) (text : List ℕ) → without_end (b ∷ text) ≡ b ∷ text → without_end (xs ++ b ∷ text) ≡ xs ++ b ∷ text
 end_after [] b text e = e

@@ -7,12 +7,12 @@ use Rattle.py_imports.specs.Shape.{terminals_of, begins_so, IsSortable, HasShape
 use Rattle.py_imports.specs.declared.shape.Shape.{Shape}
 use Rattle.py_imports.specs.declared.shape.Shape.TheVariants as shape
 
-begins : (ts : List Terminal) (is : List Imported) → IsImport ts is → begins_import ts ≡ true
-begins ts is (import_statement rest items h) = refl
-begins ts is (from_statement all from rest items e h k) = ap begins_import e
+pub import_begins : (ts : List Terminal) (is : List Imported) → IsImport ts is → begins_import ts ≡ true
+import_begins ts is (import_statement rest items h) = refl
+import_begins ts is (from_statement all from rest items e h k) = ap begins_import e
 
 pub sortable_begins : (line : LogicalLine) → IsSortable line → begins_so line ≡ true
-sortable_begins line h = ap (λ k. is_code k && begins_import (terminals_of line)) h.code ∙ begins (terminals_of line) h.imported h.is
+sortable_begins line h = ap (λ k. is_code k && begins_import (terminals_of line)) h.code ∙ import_begins (terminals_of line) h.imported h.is
 
 -- a line of another shape can't be sorted
 pub unsortable : (line : LogicalLine) (s : Shape) (same : Shape → Bool) → same shape.Sortable ≡ true → HasShape line s → same s ≡ false → ¬ (IsSortable line)

@@ -1,11 +1,11 @@
 -- Whether the lines of a text ask for it to be left as it is, one line after another.
-use Rattle.std.proofs.Common.{◌≡◌, ℕ, suc, ◌+◌, ◌<◌, Bool, true, false, not, cond, ◌&&◌, ◌||◌, nat_lt, Option, None, Some, List, [], ◌∷◌, ◌++◌, length, slice_get, slice_range, is_some, refl, sym, ap, ◌∙◌, arith}
+use Rattle.std.proofs.Common.{◌≡◌, ℕ, suc, ◌+◌, ◌<◌, Bool, true, false, not, cond, ◌&&◌, ◌||◌, nat_lt, Option, None, Some, List, [], ◌∷◌, ◌++◌, length, slice_get, is_some, refl, sym, ap, ◌∙◌, arith}
 use Rattle.std.specs.List.{list_any, position, position_or_len}
 use Rattle.std.proofs.Math.Bool.{or-false}
 use Rattle.std.proofs.lemmas.Bool.{ltb-false}
 use Rattle.std.proofs.lemmas.List.Folds.{list_any-append}
 use Rattle.std.proofs.lemmas.List.Quantifiers.{position-Some}
-use Rattle.std.proofs.lemmas.Option.{slice_get-get_or, slice_get_past}
+use Rattle.std.proofs.lemmas.Option.{slice_get_past}
 use Rattle.py_lines.specs.LogicalLine.{LogicalLine}
 use Rattle.py_lines.specs.declared.token.TokKind.TheVariants as kind
 use Rattle.py_lines.specs.declared.token.Token.{Token}
@@ -17,6 +17,7 @@ use Rattle.isort_sort.specs.Line.{comment_texts}
 use Rattle.isort_sort.specs.Private.Reading.{has_code, IsSkipSoFar}
 use Rattle.isort_sort.specs.Row.{is_string, string_skips, first_string_skips}
 use Rattle.isort_sort.specs.declared.skip.SkipReader.{SkipReader}
+use Rattle.isort_sort.proofs.Rows.Comments.{token_at, word_at, token_is_at}
 
 -- whether a token is no comment
 abbrev is_no_comment : Token → Bool
@@ -58,13 +59,13 @@ something (t ∷ ts) = refl
 -- whether there is a token that is no comment, by where the first one was found
 pub code_found : (line : LogicalLine) (found : Option ℕ) → found ≡ position (λ t. not (is_comment t.kind)) line.tokens → is_some found ≡ has_code line
 code_found line None e = sym (something (significant line.tokens) ∙ ap is_some (first_missing line.tokens e))
-code_found line (Some place) e =
-    let none : Token = record { kind = kind.Name; start = 0; stop = 0; line = 0 } in
-    sym (something (significant line.tokens) ∙ ap is_some (first_found line.tokens place e ∙ slice_get-get_or line.tokens place none (place_within line.tokens place e)))
+code_found line (Some place) e = sym (something (significant line.tokens) ∙ ap is_some (first_found line.tokens place e ∙ token_is_at line.tokens place (place_within line.tokens place e)))
 
--- whether the string skips that was found
-pub string_found : (line : LogicalLine) (place : ℕ) (t : Token) → Some place ≡ position (λ t. not (is_comment t.kind)) line.tokens → slice_get line.tokens place ≡ Some t → string_skips line (slice_get (significant line.tokens) 0) ≡ is_string t.kind && says action.SkipFile (slice_range line.text t.start t.stop)
-string_found line place t e here = ap (string_skips line) (first_found line.tokens place e ∙ here)
+-- whether what was found is a string that skips
+pub string_at : (line : LogicalLine) (place : ℕ) (is : Bool) → Some place ≡ position (λ t. not (is_comment t.kind)) line.tokens → is ≡ is_string (token_at line.tokens place).kind → is && says action.SkipFile (word_at line.text line.tokens place) ≡ string_skips line (slice_get (significant line.tokens) 0)
+string_at line place is e same =
+    ap (λ b. b && says action.SkipFile (word_at line.text line.tokens place)) same
+    ∙ sym (ap (string_skips line) (first_found line.tokens place e ∙ token_is_at line.tokens place (place_within line.tokens place e)))
 
 pub string_missing : (line : LogicalLine) → None ≡ position (λ t. not (is_comment t.kind)) line.tokens → string_skips line (slice_get (significant line.tokens) 0) ≡ false
 string_missing line e = ap (string_skips line) (first_missing line.tokens e)
@@ -82,13 +83,9 @@ string_snoc [] l = by (significant l.tokens)
     by (t ∷ ts) = refl
 string_snoc (x ∷ xs) l = by (is_nothing (significant x.tokens)) (string_snoc xs l)
   where
-    or_false : (b c : Bool) → b ≡ b || (false && c)
-    or_false true c = refl
-    or_false false c = refl
-
     by : (b : Bool) → first_string_skips (xs ++ l ∷ []) ≡ first_string_skips xs || (not (list_any has_code xs) && string_skips l (slice_get (significant l.tokens) 0)) → cond b (first_string_skips (xs ++ l ∷ [])) (string_skips x (slice_get (significant x.tokens) 0)) ≡ cond b (first_string_skips xs) (string_skips x (slice_get (significant x.tokens) 0)) || (not (not b || list_any has_code xs) && string_skips l (slice_get (significant l.tokens) 0))
     by true later = later
-    by false later = or_false (string_skips x (slice_get (significant x.tokens) 0)) (string_skips l (slice_get (significant l.tokens) 0))
+    by false later = sym (or-false (string_skips x (slice_get (significant x.tokens) 0)))
 
 -- one more line
 pub skip_pushed : (lines : List LogicalLine) (line : LogicalLine) (old new : SkipReader) → new.skips ≡ old.skips || list_any (says action.SkipFile) (comment_texts line) || (not old.begun && string_skips line (slice_get (significant line.tokens) 0)) → new.begun ≡ old.begun || has_code line → IsSkipSoFar lines old → IsSkipSoFar (lines ++ line ∷ []) new

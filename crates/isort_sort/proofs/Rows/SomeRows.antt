@@ -9,13 +9,14 @@ use Rattle.py_lines.specs.declared.unit.UnitKind.{UnitKind}
 use Rattle.py_lines.specs.declared.unit.UnitKind.TheVariants as unit_kind
 use Rattle.py_imports.specs.Binds.{Binds, BindEach, BindsAt, nothing, imports, BindAll, terminals_at, terminal_in}
 use Rattle.py_imports.specs.Bound.{Bound}
-use Rattle.py_imports.specs.Grammar.{Terminal, begins_import, Imported, IsImport, import_statement, from_statement}
+use Rattle.py_imports.specs.Grammar.{Terminal, begins_import, Imported, IsImport}
 use Rattle.py_imports.specs.Shape.{terminals_of, stands_first, stands_well, says_skip, begins_so, IsSortable, HasShape}
 use Rattle.py_imports.specs.Statement.{significant, Place, places_from, starts, is_end, statement_at}
 use Rattle.py_imports.specs.declared.shape.Shape.{Shape}
 use Rattle.py_imports.specs.declared.shape.Shape.TheVariants as shape
 use Rattle.isort_sort.specs.Line.{own_comments, comment_texts, imported_of}
 use Rattle.isort_sort.specs.Row.{is_comment_kind, parts_blocks, is_off_after, before_line, Role, member, comments, blank, other, HasRole, mark_after, indentation_of, Row, AreRows}
+use Rattle.isort_sort.proofs.Rows.Roles.{import_begins}
 
 -- a fact that holds or doesn't
 abbrev pub Decided : Type 0 → Type 0
@@ -32,11 +33,6 @@ is_code unit_kind.Code = inl refl
 is_code unit_kind.Comment = inr (λ e. cc)
 is_code unit_kind.Blank = inr (λ e. cc)
 
--- an import statement begins with `import` or `from`
-pub begins_import_so : (ts : List Terminal) (is : List Imported) → IsImport ts is → begins_import ts ≡ true
-begins_import_so ts is (import_statement rest items are) = refl
-begins_import_so ts is (from_statement all from rest items e relative names) = ap begins_import e
-
 -- a statement that no `;` ends is all of the line
 pub tokens_again : (b ts : List Token) → map (λ p. p.token) (places_from b ts) ≡ ts
 tokens_again b [] = refl
@@ -51,11 +47,11 @@ all_taken (p ∷ ps) h =
 
 -- what the statement imports that a line begins with and that no `;` ends, or that it is none
 first_statement : (line : LogicalLine) (p : Place) (bounds : List Bound) → terminals_of line ≡ terminals_at line p → BindsAt line p bounds → Decided ((is : List Imported) × IsImport (terminals_of line) is)
-first_statement line p bounds same (nothing l q bs none e) = inr (λ (h : (is : List Imported) × IsImport (terminals_of line) is). both_ways _ (ap begins_import same ∙ none) (begins_import_so (terminals_of line) h.0 h.1))
+first_statement line p bounds same (nothing l q bs none e) = inr (λ (h : (is : List Imported) × IsImport (terminals_of line) is). both_ways _ (ap begins_import same ∙ none) (import_begins (terminals_of line) h.0 h.1))
 first_statement line p bounds same (imports l q bs is begins import e) = inl (is, subst (λ (ts : List Terminal). IsImport ts is) (sym same) import)
 
 imported : (line : LogicalLine) (tokens : List Token) (bounds : List Bound) → significant line.tokens ≡ tokens → list_any is_end (places_from [] tokens) ≡ false → Binds line bounds → Decided ((is : List Imported) × IsImport (terminals_of line) is)
-imported line [] bounds e alone binds = inr (λ (h : (is : List Imported) × IsImport (terminals_of line) is). both_ways _ (ap (λ ts. begins_import (map (terminal_in line.text) ts)) e) (begins_import_so (terminals_of line) h.0 h.1))
+imported line [] bounds e alone binds = inr (λ (h : (is : List Imported) × IsImport (terminals_of line) is). both_ways _ (ap (λ ts. begins_import (map (terminal_in line.text) ts)) e) (import_begins (terminals_of line) h.0 h.1))
 imported line (t ∷ ts) bounds e alone binds =
     let p : Place = record { before = []; token = t; after = ts } in
     let b : BindEach line (starts (t ∷ ts)) bounds = subst (λ (tokens : List Token). BindEach line (starts tokens) bounds) e binds in

@@ -4,7 +4,6 @@ use Rattle.std.specs.Prelude.{slice_range}
 use Rattle.std.specs.Str.{IsUtf8}
 use Rattle.std.proofs.lemmas.Str.{IsUtf8-nil, IsUtf8-append}
 use Rattle.std.proofs.Math.Seq.{drop-append_seam, take-append_seam}
-use Rattle.std.proofs.lemmas.List.Concat.{flat_map-append}
 use Rattle.isort_settings.specs.Values.{Values}
 use Rattle.isort_sort.specs.Private.Arranged.{IsArranged}
 use Rattle.isort_sort.specs.Private.Arranging.{AreUtf8, IsCutText, IsArranging}
@@ -12,6 +11,7 @@ use Rattle.isort_sort.specs.Blocks.{Run, run_rows, Cut, rest, block, cut_rows}
 use Rattle.isort_sort.specs.Private.Found.{Found, found_of, found_from}
 use Rattle.isort_sort.specs.Row.{Row}
 use Rattle.isort_sort.specs.Sorted.{texts_of, IsLayout, IsSortedCut}
+use Rattle.isort_sort.proofs.Finding.Steps.{texts_append}
 
 -- what stands between two places
 pub part_between : (a b c : List ℕ) (n m : ℕ) → n ≡ length a → m ≡ length a + length b → slice_range (a ++ (b ++ c)) n m ≡ b
@@ -30,9 +30,6 @@ utf8_first (row ∷ a) b h = (h.0, utf8_first a b h.1)
 utf8_last : (a b : List Row) → AreUtf8 (a ++ b) → AreUtf8 b
 utf8_last [] b h = h
 utf8_last (row ∷ a) b h = utf8_last a b h.1
-
-pub texts_append : (a b : List Row) → texts_of (a ++ b) ≡ texts_of a ++ texts_of b
-texts_append a b = flat_map-append (λ (row : Row). row.text) a b
 
 -- at the start
 pub begin : (text : List ℕ) (v : Values) (end mark : List ℕ) (cut : Cut) (found : List Found) → IsCutText text mark cut found → IsArranging text v end mark cut found (length mark) mark

@@ -9,8 +9,9 @@ use Rattle.isort_sort.specs.Blocks.{Run, run_rows, Cut, rest, block, cut_rows}
 use Rattle.isort_sort.specs.Row.{Row}
 use Rattle.isort_sort.specs.Sorted.{texts_of, mark_of, first_end, IsSortedCut, HasBlocks, IsLaidOut, IsSorted}
 use Rattle.isort_sort.specs.declared.answer.Block.{Block}
-use Rattle.isort_sort.proofs.SortedTexts.Arranging.{part_between, texts_append}
+use Rattle.isort_sort.proofs.SortedTexts.Arranging.{part_between}
 use Rattle.isort_sort.proofs.Rows.Texts.{text_of_rows}
+use Rattle.isort_sort.proofs.Finding.Steps.{texts_append}
 
 -- the texts of a block's rows, and of those before and after it
 cut_texts : (before : List Row) (run : Run) (blanks : List Row) (cut : Cut) → texts_of (cut_rows (block before run blanks cut)) ≡ texts_of before ++ (texts_of (run_rows run) ++ (texts_of blanks ++ texts_of (cut_rows cut)))

@@ -218,15 +218,18 @@ same_asked (negsuc n) kept b = same_number kept b
 same_before : (a b : Before) → Some a ≡ Some b → a ≡ b
 same_before a b h = cc
 
+-- so many blank lines, after a block before rows the first of which asks for this
+blanks_before : (v : Values) (run new : Run) (n : ℕ) (row : Row) (rows : List Row) (asks : Before) → new.first.indentation ≡ run.first.indentation → before_role row.role ≡ asks → blanks_after v new n (row ∷ rows) ≡ (if is_indented run then n else asked v.lines_after_imports (number_before n asks))
+blanks_before v run new n row rows asks same e =
+    let indented : is_indented new ≡ is_indented run = ap (λ (t : List ℕ). nat_lt 0 (length t)) same in
+    λ i. if indented i then n else asked v.lines_after_imports (number_before n (e i))
+
 pub blanks_again : (v : Values) (run new : Run) (kept : ℕ) (rows others : List Row) → new.first.indentation ≡ run.first.indentation → asked_by others ≡ asked_by rows → blanks_after v new (blanks_after v run kept rows) others ≡ blanks_after v run kept rows
 blanks_again v run new kept [] [] same asks = refl
 blanks_again v run new kept [] (o ∷ os) same asks = absurd (cc)
 blanks_again v run new kept (r ∷ rs) [] same asks = absurd (cc)
 blanks_again v run new kept (r ∷ rs) (o ∷ os) same asks =
-    let b = same_before (before_role o.role) (before_role r.role) asks in
-    let indented : is_indented new ≡ is_indented run = ap (λ (t : List ℕ). nat_lt 0 (length t)) same in
-    (λ i. if indented i then blanks_after v run kept (r ∷ rs) else asked v.lines_after_imports (number_before (blanks_after v run kept (r ∷ rs)) (b i)))
-    ∙ by (is_indented run)
+    blanks_before v run new (blanks_after v run kept (r ∷ rs)) o os _ same (same_before (before_role o.role) (before_role r.role) asks) ∙ by (is_indented run)
   where
     written : Bool → ℕ
     written x = if x then kept else asked v.lines_after_imports (number_before kept (before_role r.role))
@@ -239,10 +242,7 @@ blanks_again v run new kept (r ∷ rs) (o ∷ os) same asks =
 pub blanks_kept : (v : Values) (run new : Run) (kept : ℕ) (row : Row) (rows others : List Row) → new.first.indentation ≡ run.first.indentation → asked_by others ≡ Some as_many → blanks_after v new (blanks_after v run kept (row ∷ rows)) others ≡ blanks_after v run kept (row ∷ rows)
 blanks_kept v run new kept row rows [] same asks = refl
 blanks_kept v run new kept row rows (o ∷ os) same asks =
-    let b = same_before (before_role o.role) as_many asks in
-    let indented : is_indented new ≡ is_indented run = ap (λ (t : List ℕ). nat_lt 0 (length t)) same in
-    (λ i. if indented i then blanks_after v run kept (row ∷ rows) else asked v.lines_after_imports (number_before (blanks_after v run kept (row ∷ rows)) (b i)))
-    ∙ by (is_indented run)
+    blanks_before v run new (blanks_after v run kept (row ∷ rows)) o os _ same (same_before (before_role o.role) as_many asks) ∙ by (is_indented run)
   where
     written : Bool → ℕ
     written x = if x then kept else asked v.lines_after_imports (number_before kept (before_role row.role))

@@ -12,18 +12,18 @@ use Rattle.py_lines.specs.PieceGrammar.{IsLineEnd}
 use Rattle.py_imports.specs.Shape.{is_nothing}
 use Rattle.py_imports.specs.Statement.{significant}
 use Rattle.isort_settings.specs.Values.{Values}
-use Rattle.isort_sort.specs.Blocks.{goes_on, role_is_member, is_member, Run, run_rows, is_run, Cut, rest, block, cut_rows, begins_blank, AreBlocks, members_of}
-use Rattle.isort_sort.specs.BlocksReplaced.{role_is_comments, is_comments, AreReplaced, no_block, one_more}
+use Rattle.isort_sort.specs.Blocks.{Run, run_rows, is_run, Cut, rest, block, cut_rows, begins_blank, AreBlocks, members_of}
+use Rattle.isort_sort.specs.BlocksReplaced.{is_comments, AreReplaced, no_block, one_more}
 use Rattle.isort_sort.specs.LaidAgain.{asked_by}
 use Rattle.isort_sort.specs.Layout.{Laid, AreLaid, block_lines, text_of_lines}
-use Rattle.isort_sort.specs.Row.{one, as_many, Role, member, comments, blank, other, Row, string_skips, first_string_skips}
-use Rattle.isort_sort.specs.Sorted.{before_role, last_row, blanks_after, texts_of, IsLayout, IsSortedCut}
+use Rattle.isort_sort.specs.Row.{as_many, Row, string_skips, first_string_skips}
+use Rattle.isort_sort.specs.Sorted.{last_row, blanks_after, texts_of, IsLayout, IsSortedCut}
 use Rattle.isort_sort.specs.WrittenLine.{end_pieces}
 use Rattle.isort_sort.proofs.Orders.Statements.{AreOrders}
 use Rattle.isort_sort.proofs.SortedTexts.LaidAgain.{blanks_again, blanks_kept}
 use Rattle.isort_sort.proofs.Stable.Units.{LineLaws, IsUnit, Follows, AreUnits, units_after, units_before}
 use Rattle.isort_sort.proofs.Stable.UnitRows.{TokenLaws, unit_line, AreUnitRows, off_through, rows_spelled, rows_apart, rows_together}
-use Rattle.isort_sort.proofs.Stable.LineUnits.{false_right, NeighbourLaw, are_some, says_skip_file}
+use Rattle.isort_sort.proofs.Stable.LineUnits.{NeighbourLaw, are_some, says_skip_file}
 use Rattle.isort_sort.proofs.Stable.Joined.{AreSome, some_first, some_append, bytes_of, bytes_of-append, none-append}
 use Rattle.isort_sort.proofs.Stable.BlockUnits.{AreReady}
 use Rattle.isort_sort.proofs.Stable.FirstEnds.{AreUnbroken}
@@ -31,6 +31,9 @@ use Rattle.isort_sort.proofs.Stable.OldBlock.{AreSeen, run_in_block, blanks_in_b
 use Rattle.isort_sort.proofs.Stable.FirstCharacters.{WordsLaw, first_feed}
 use Rattle.isort_sort.proofs.Stable.UnitBinds.{EachBinds, binds_append, binds_first}
 use Rattle.isort_sort.proofs.Stable.WrittenBlocks.{IsWrittenBlock, written_block}
+use Rattle.isort_sort.proofs.Finding.Replaced.{run_member}
+use Rattle.isort_sort.proofs.Finding.RoleTests.{of_member, of_comments}
+use Rattle.std.proofs.Math.Bool.{and-false}
 
 -- each is a logical line that is read
 abbrev pub EachIsUnit : List (List Piece) → Type 0
@@ -109,7 +112,7 @@ can_follow law end us (c ∷ cs) (row ∷ rows) some are seen h =
     let all = subst (λ (l : List (List Piece)). AreUnits (l ++ (c ∷ cs))) some.2 are in
     let unit = (units_after us (c ∷ cs) are).0 in (
       inr ([], record { class = line_end; text = end }, refl, refl, refl),
-      record { unmarked = unmarked_after some.0 some.1 c cs all; uncut = ap (λ b. ends is_return (spelled (end_pieces true end)) && b) (first_feed law c unit false row.role seen.0.role h) ∙ false_right (ends is_return (spelled (end_pieces true end))) },
+      record { unmarked = unmarked_after some.0 some.1 c cs all; uncut = ap (λ b. ends is_return (spelled (end_pieces true end)) && b) (first_feed law c unit false row.role seen.0.role h) ∙ and-false (ends is_return (spelled (end_pieces true end))) },
     )
 
 pub some_from : (us : List (List Piece)) → are_some us ≡ true → AreSome us
@@ -141,27 +144,12 @@ block_again v laws end is rs bs cs run blanks cut own others run_is unblank are 
     closed some true e = run_ended rs (bs ++ cs) run (some_append bs cs (some_from cs e)) are seen
     closed some false e = absurd (both_ways _ (z.none e) some)
 
--- what a member and comments ask for
-member_asks : (role : Role) → role_is_member role ≡ true → before_role role ≡ one
-member_asks (member is cs) h = refl
-member_asks (comments cs) h = absurd (cc)
-member_asks blank h = absurd (cc)
-member_asks (other b) h = absurd (cc)
-
-comments_ask : (role : Role) → role_is_comments role ≡ true → before_role role ≡ as_many
-comments_ask (comments cs) h = refl
-comments_ask (member is cs) h = absurd (cc)
-comments_ask blank h = absurd (cc)
-comments_ask (other b) h = absurd (cc)
-
-pub run_member : (run : Run) → is_run run ≡ true → is_member run.first ≡ true
-run_member run h = (and_parts (is_member run.first) (list_all (goes_on run.first.indentation) run.others) h).0
-
+-- the row after a block asks for what it did
 asked_again : (before above : List Row) (run new : Run) (rows others : List Row) → list_all is_comments above ≡ true → is_run run ≡ true → is_run new ≡ true → AskAlike ((before ++ above) ++ (run_rows new ++ others)) (before ++ (run_rows run ++ rows))
 asked_again (r ∷ rs) above run new rows others h k l = inl refl
-asked_again [] [] run new rows others h k l = inl (ap Some (member_asks new.first.role (run_member new l) ∙ sym (member_asks run.first.role (run_member run k))))
+asked_again [] [] run new rows others h k l = inl (ap Some ((of_member new.first.role (run_member new l)).asks ∙ sym (of_member run.first.role (run_member run k)).asks))
 asked_again [] (c ∷ cs) run new rows others h k l =
-    inr (ap Some (comments_ask c.role (and_parts (is_comments c) (list_all is_comments cs) h).0), (run.first, _, refl))
+    inr (ap Some (of_comments c.role (and_parts (is_comments c) (list_all is_comments cs) h).0).asks, (run.first, _, refl))
 
 -- strings are looked for up to the first statement
 pub strings_before : (lines ls ks : List LogicalLine) → (first_string_skips ls ≡ false → first_string_skips ks ≡ false) → first_string_skips (lines ++ ls) ≡ false → first_string_skips (lines ++ ks) ≡ false
@@ -203,7 +191,7 @@ again_block v end off a rs bs cs before run blanks cut own others body run_is ar
 
     follows_some : (u : List Piece) (l : List (List Piece)) → AreSome l → Follows u (l ++ more) → Follows u us
     follows_some u [] some h = absurd (let e = some.2 in cc)
-    follows_some u (r ∷ l) some h = (h.0, record { unmarked = w.unmarked; uncut = ap (λ b. ends is_return (spelled u) && b) w.no_feed ∙ false_right (ends is_return (spelled u)) })
+    follows_some u (r ∷ l) some h = (h.0, record { unmarked = w.unmarked; uncut = ap (λ b. ends is_return (spelled u) && b) w.no_feed ∙ and-false (ends is_return (spelled u)) })
 
     follows : (u : List Piece) → Follows u (rs ++ more) → Follows u us
     follows u h = follows_some u rs (seen_some rs run seen) h

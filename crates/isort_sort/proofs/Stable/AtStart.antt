@@ -27,7 +27,7 @@ use Rattle.isort_sort.specs.Sorted.{HasBlocks, first_end, last_row, blanks_after
 use Rattle.isort_sort.specs.WrittenLine.{mark_pieces, mark_bytes, end_pieces}
 use Rattle.isort_sort.proofs.Finding.Replaced.{blocks_again}
 use Rattle.isort_sort.proofs.Rows.Texts.{text_of_rows}
-use Rattle.isort_sort.proofs.Stable.Units.{IsUnit, Follows, AreUnits, spelled-append, first_character, units_after}
+use Rattle.isort_sort.proofs.Stable.Units.{IsUnit, Follows, AreUnits, first_character, units_after}
 use Rattle.isort_sort.proofs.Stable.UnitRows.{TokenLaws, unit_line, comments_of_unit, off_past, AreUnitRows, off_through, rows_apart, silent}
 use Rattle.isort_sort.proofs.Stable.LineUnits.{are_some, says_skip_file}
 use Rattle.isort_sort.proofs.Stable.Joined.{AreSome, some_first, some_append, bytes_of, bytes_of-cons, bytes_of-append, none-append}
@@ -38,6 +38,7 @@ use Rattle.isort_sort.proofs.Stable.FirstEnds.{is_end_byte, is_feed_byte, first_
 use Rattle.isort_sort.proofs.Stable.WrittenBlocks.{IsWrittenBlock}
 use Rattle.isort_sort.proofs.Stable.Again.{SortLaws, IsReadable, IsAgain, each_unit, first_units, none_first, some_from, can_follow, seen_some, block_again, again}
 use Rattle.isort_sort.proofs.Stable.SortedAgain.{IsCutText, first_seen, text_again, cut_text, ahead}
+use Rattle.isort_sort.proofs.Stable.Parts.{spelled-append}
 
 -- a byte order mark before pieces
 marked_unit : (marked : Bool) (u : List Piece) → IsUnit u → begins_marked u ≡ false → IsUnit (mark_pieces marked ++ u)

@@ -5,30 +5,31 @@ use Rattle.std.specs.List.{list_any, list_all}
 use Rattle.std.specs.Str.{all_scalars}
 use Rattle.std.proofs.lemmas.Bool.{and_from}
 use Rattle.std.proofs.lemmas.Slice.Eq.{bytes_eq-Decides}
-use Rattle.std.proofs.Math.Utf8.{encode}
 use Rattle.std.proofs.lemmas.Str.{encodes-append, length-le-encodes}
 use Rattle.py_lines.specs.Balance.{depth_after, IsShallow, IsBalanced as balance}
 use Rattle.py_lines.specs.Character.{is_space, is_line_feed, is_return}
 use Rattle.py_lines.specs.LogicalLine.{LogicalLine, line_of}
 use Rattle.py_lines.specs.Neighbours.{is_simple, AreSimple, MayTouch}
-use Rattle.py_lines.specs.Piece.{Class, mark, space, word, string, operator, comment, join, line_end, Piece, begins, ends, is_mark_class, begins_marked, spelled}
+use Rattle.py_lines.specs.Piece.{Class, mark, line_end, Piece, begins, ends, is_mark_class, begins_marked, spelled}
 use Rattle.py_lines.specs.PieceGrammar.{IsLineEnd}
 use Rattle.py_imports.specs.Action.{says}
 use Rattle.py_imports.specs.Shape.{mark_len}
 use Rattle.py_imports.specs.declared.action.Action.TheVariants as action
 use Rattle.isort_settings.specs.Values.{Values}
-use Rattle.isort_sort.specs.Blocks.{role_imports, role_own, is_member, is_between, is_blank, Further, further_rows, goes_on, member_of}
+use Rattle.isort_sort.specs.Blocks.{role_imports, role_own, is_member, stands_between, is_blank, Further, further_rows, goes_on, member_of}
 use Rattle.isort_sort.specs.LaidAgain.{import_of, joined_comments, as_member}
 use Rattle.isort_sort.specs.Layout.{Laid, gap_by_kind, gap_by_comment, lines_after}
 use Rattle.isort_sort.specs.Row.{member, Row, IsRow, first_string_skips}
 use Rattle.isort_sort.specs.Sorted.{last_row}
 use Rattle.isort_sort.specs.Wrapping.{remark, statement_lines}
 use Rattle.isort_sort.specs.WrittenLine.{mark_pieces, mark_bytes, end_pieces, IsWritten}
-use Rattle.isort_sort.proofs.Stable.Units.{IsUnit, spelled-append, scalars-append, begins-first, first_character}
+use Rattle.isort_sort.proofs.Stable.Units.{IsUnit, begins-first, first_character}
 use Rattle.isort_sort.proofs.Stable.UnitRows.{TokenLaws, IsUnitRow}
-use Rattle.isort_sort.proofs.Stable.LineUnits.{false_right, NeighbourLaw, are_some, line_anyway, blank_row, by_end, IsEnded, IsLine, AreLines, lines_append, AreInner, inner_append, says_skip_file, row_of, end_encoded, blank_units, blank_rows, blank_is_ended, blank_lines, blank_inner, blank_text, blank_between, blank_blank, blank_no_comments, blank_unskipped, AreAbove, above_units, above_rows, above_lines, above_inner, above_text, above_comments, above_between, above_unskipped}
-use Rattle.isort_sort.proofs.Stable.Joined.{joined, ended_lines, AreSome, joined_ended, joined_parts, bytes_of, bytes_of-cons, bytes_of-append, none-append, all-append, count-replicate, regroup}
+use Rattle.isort_sort.proofs.Stable.LineUnits.{NeighbourLaw, are_some, line_anyway, blank_row, by_end, IsEnded, IsLine, AreLines, lines_append, AreInner, inner_append, says_skip_file, row_of, end_encoded, blank_units, blank_rows, blank_is_ended, blank_lines, blank_inner, blank_text, blank_between, blank_blank, blank_no_comments, blank_unskipped, AreAbove, above_units, above_rows, above_lines, above_inner, above_text, above_comments, above_between, above_unskipped}
+use Rattle.isort_sort.proofs.Stable.Joined.{joined_lines, ended_lines, AreSome, joined_ended, joined_parts, bytes_of, bytes_of-cons, bytes_of-append, none-append, all-append, count-replicate, regroup}
 use Rattle.isort_sort.proofs.Stable.Marked.{after_mark}
+use Rattle.std.proofs.Math.Bool.{and-false}
+use Rattle.isort_sort.proofs.Stable.Parts.{spelled-append, scalars-append}
 
 -- the lines of a statement
 abbrev pub lines_of_statement : Values → List ℕ → Laid → List (List ℕ)
@@ -61,13 +62,7 @@ shallow_end d (p ∷ ps) end h = (h.0, shallow_end (depth_after d p) ps end h.1)
 
 simple_no_mark : (class : Class) → is_simple class ≡ true → is_mark_class class ≡ false
 simple_no_mark mark h = absurd (cc)
-simple_no_mark space h = refl
-simple_no_mark word h = refl
-simple_no_mark string h = refl
-simple_no_mark operator h = refl
-simple_no_mark comment h = refl
-simple_no_mark join h = refl
-simple_no_mark line_end h = refl
+simple_no_mark _ h = refl
 
 unmarked_end : (ps : List Piece) (ended : Bool) (end : List ℕ) → AreSimple ps → begins_marked (ps ++ end_pieces ended end) ≡ false
 unmarked_end [] true end h = refl
@@ -102,7 +97,7 @@ statement_starts law indentation end s lines pieces ended w = begins-first is_li
 
 pub statement_line : NeighbourLaw → (indentation end : List ℕ) (s : Laid) (lines : List (List ℕ)) (pieces : List Piece) (ended : Bool) → IsLineEnd end → IsWritten indentation end s lines pieces → IsLine end ended (pieces ++ end_pieces ended end)
 statement_line law indentation end s lines pieces ended is w =
-    record { unit = unit ended; unmarked = unmarked_end pieces ended end w.simple; uncut = ap (λ b. ends is_return end && b) (statement_starts law indentation end s lines pieces ended w) ∙ false_right (ends is_return end); ended = closed ended }
+    record { unit = unit ended; unmarked = unmarked_end pieces ended end w.simple; uncut = ap (λ b. ends is_return end && b) (statement_starts law indentation end s lines pieces ended w) ∙ and-false (ends is_return end); ended = closed ended }
   where
     alone : IsUnit pieces
     alone = statement_alone law indentation end s lines pieces w
@@ -124,14 +119,14 @@ abbrev pub blanks_of : Bool → ℕ → ℕ
 blanks_of true n = n
 blanks_of false n = 0
 
-pub statement_text : (indentation end : List ℕ) (s : Laid) (lines : List (List ℕ)) (pieces : List Piece) (ended : Bool) (n : ℕ) → IsLineEnd end → IsWritten indentation end s lines pieces → bytes_of ((pieces ++ end_pieces ended end) ∷ blank_units (blanks_of ended n) end) ≡ joined end lines ++ tail_of end ended n
+pub statement_text : (indentation end : List ℕ) (s : Laid) (lines : List (List ℕ)) (pieces : List Piece) (ended : Bool) (n : ℕ) → IsLineEnd end → IsWritten indentation end s lines pieces → bytes_of ((pieces ++ end_pieces ended end) ∷ blank_units (blanks_of ended n) end) ≡ joined_lines end lines ++ tail_of end ended n
 statement_text indentation end s lines pieces true n is w =
     bytes_of-cons (pieces ++ end_pieces true end) (blank_units n end)
     ∙ (λ i. (ap encode_utf8_all (spelled-append pieces (end_pieces true end)) ∙ encodes-append (spelled pieces) (end ++ [])) i ++ blank_text n end is i)
     ∙ append_assoc (encode_utf8_all (spelled pieces)) (encode_utf8_all (end ++ [])) (ended_lines end (replicate n []))
     ∙ (λ i. w.spell i ++ (end_encoded end is i ++ ended_lines end (replicate n [])))
 statement_text indentation end s lines pieces false n is w =
-    bytes_of-cons (pieces ++ []) [] ∙ append-nil (encode_utf8_all (spelled (pieces ++ []))) ∙ ap (λ l. encode_utf8_all (spelled l)) (append-nil pieces) ∙ w.spell ∙ sym (append-nil (joined end lines))
+    bytes_of-cons (pieces ++ []) [] ∙ append-nil (encode_utf8_all (spelled (pieces ++ []))) ∙ ap (λ l. encode_utf8_all (spelled l)) (append-nil pieces) ∙ w.spell ∙ sym (append-nil (joined_lines end lines))
 
 -- it has a line
 some_bytes : (c : ℕ) (cs : List ℕ) → encode_utf8_all (c ∷ cs) ≡ [] → ⊥
@@ -162,7 +157,7 @@ pub record IsBuilt (v : Values) (space end : List ℕ) (closed : Bool) (n : ℕ)
   pub imports : role_imports row.role ≡ map (import_of a.statement) a.items
   pub own : role_own row.role ≡ joined_comments a.comments
   pub members : map (λ f. member_of f.between f.row) others ≡ map as_member ss
-  pub text : bytes_of (first ∷ later) ≡ joined end (lines_of_statement v space a ++ lines_after v space a ss) ++ tail_of end closed n
+  pub text : bytes_of (first ∷ later) ≡ joined_lines end (lines_of_statement v space a ++ lines_after v space a ss) ++ tail_of end closed n
   pub unmarked : begins_marked first ≡ false
   pub no_feed : begins is_line_feed (spelled first) ≡ false
   pub unskipped : list_any says_skip_file (first ∷ later) ≡ false
@@ -219,7 +214,7 @@ last_built law v indentation end ended n a is r =
       members = refl;
       unmarked = unmarked_end r.pieces ended end r.written.simple;
       no_feed = statement_starts law indentation end a lines r.pieces ended r.written;
-      text = statement_text indentation end a lines r.pieces ended n is r.written ∙ ap (λ l. joined end l ++ tail_of end ended n) (sym (append-nil lines));
+      text = statement_text indentation end a lines r.pieces ended n is r.written ∙ ap (λ l. joined_lines end l ++ tail_of end ended n) (sym (append-nil lines));
       unskipped = λ i. plain.says_no_more action.SkipFile r.unskipped i || blank_unskipped m end i;
       no_string = λ marked offset row lines. (r.written.line marked ended offset row).no_string lines;
       starts = λ marked. first_row v indentation end ended marked a r;
@@ -233,14 +228,14 @@ gap_of v a b = max (gap_by_kind v a.statement b.statement) (gap_by_comment v b.a
 same_bytes : (xs ys : List ℕ) → xs ≡ ys → bytes_eq xs ys ≡ true
 same_bytes xs ys = (bytes_eq-Decides xs ys).1
 
-one_more_text : NeighbourLaw → (v : Values) (indentation end : List ℕ) (ended : Bool) (n : ℕ) (a b : Laid) (ss : List Laid) → list_all is_space indentation ≡ true → IsLineEnd end → (r : IsReady v indentation end a) (q : IsReady v indentation end b) (k : IsBuilt v indentation end ended n b ss) → bytes_of ((r.pieces ++ end_pieces true end) ∷ (blank_units (gap_of v a b) end ++ (above_units indentation end b.above q.above ++ (k.first ∷ k.later)))) ≡ joined end (lines_of_statement v indentation a ++ lines_after v indentation a (b ∷ ss)) ++ tail_of end ended n
+one_more_text : NeighbourLaw → (v : Values) (indentation end : List ℕ) (ended : Bool) (n : ℕ) (a b : Laid) (ss : List Laid) → list_all is_space indentation ≡ true → IsLineEnd end → (r : IsReady v indentation end a) (q : IsReady v indentation end b) (k : IsBuilt v indentation end ended n b ss) → bytes_of ((r.pieces ++ end_pieces true end) ∷ (blank_units (gap_of v a b) end ++ (above_units indentation end b.above q.above ++ (k.first ∷ k.later)))) ≡ joined_lines end (lines_of_statement v indentation a ++ lines_after v indentation a (b ∷ ss)) ++ tail_of end ended n
 one_more_text law v indentation end ended n a b ss spaces is r q k =
     let u : List Piece = r.pieces ++ end_pieces true end in
     let mine : List (List ℕ) = lines_of_statement v indentation a in
     let gaps : List (List Piece) = blank_units (gap_of v a b) end in
     let above : List (List Piece) = above_units indentation end b.above q.above in
     let some = statement_some law indentation end a mine r.pieces r.written in
-    let first : bytes_of (u ∷ []) ≡ ended_lines end mine = statement_text indentation end a mine r.pieces true 0 is r.written ∙ ap (λ (t : List ℕ). joined end mine ++ t) (append-nil end) ∙ sym (joined_ended end mine some) in
+    let first : bytes_of (u ∷ []) ≡ ended_lines end mine = statement_text indentation end a mine r.pieces true 0 is r.written ∙ ap (λ (t : List ℕ). joined_lines end mine ++ t) (append-nil end) ∙ sym (joined_ended end mine some) in
     bytes_of-append (u ∷ []) (gaps ++ (above ++ (k.first ∷ k.later)))
     ∙ (λ i. first i ++ bytes_of-append gaps (above ++ (k.first ∷ k.later)) i)
     ∙ (λ i. ended_lines end mine ++ (blank_text (gap_of v a b) end is i ++ bytes_of-append above (k.first ∷ k.later) i))
@@ -256,7 +251,7 @@ more_built law tokens v indentation end ended n a b ss spaces is r q k =
     let above : List (List Piece) = above_units indentation end b.above q.above in
     let between : List Row = blank_rows g end ++ above_rows indentation end b.above q.above in
     let plain = r.written.line false true 0 1 in
-    let all_between = all-append is_between (blank_rows g end) (above_rows indentation end b.above q.above) (blank_between g end) (above_between indentation end b.above q.above) in
+    let all_between = all-append stands_between (blank_rows g end) (above_rows indentation end b.above q.above) (blank_between g end) (above_between indentation end b.above q.above) in
     record {
       first = u;
       later = gaps ++ (above ++ (k.first ∷ k.later));

@@ -1,9 +1,8 @@
 -- What stands after `import ` in a written `from` statement: `*`, or names in each mode.
-use Rattle.std.proofs.Common.{◌≡◌, ℕ, Bool, true, false, not, ◌||◌, ◌&&◌, Option, None, Some, List, [], ◌∷◌, ◌++◌, flat_map, codes, refl, sym, ap, ◌∙◌, subst, arith}
+use Rattle.std.proofs.Common.{◌≡◌, ℕ, Bool, true, false, not, ◌||◌, ◌&&◌, Option, None, Some, List, [], ◌∷◌, ◌++◌, flat_map, codes, refl, sym, ap, ◌∙◌, subst}
 use Rattle.std.specs.List.{list_any, list_all, join_by, AllByRecursion}
 use Rattle.std.specs.Str.{chars}
 use Rattle.std.proofs.lemmas.Bool.{and_parts}
-use Rattle.std.proofs.lemmas.Bool.Decides.{nat_tests}
 use Rattle.std.proofs.lemmas.List.Folds.{list_any-append}
 use Rattle.py_lines.specs.Balance.{is_opening, is_closing}
 use Rattle.py_lines.specs.Character.{is_space, is_line_feed, is_return, is_operator}
@@ -17,6 +16,8 @@ use Rattle.isort_sort.proofs.Stable.OneLine.{is_bracket, is_end, plain-line, lin
 use Rattle.isort_sort.proofs.Stable.Parts.{piece, IsPart, part-append, part-space, part-operator, part-end, part-join, LettersAreWords}
 use Rattle.isort_sort.proofs.Stable.Phrases.{end_piece, IsPhrase, remark_pieces, remark_said, part-remark, touch-remark, well-remark, line-remark}
 use Rattle.isort_sort.proofs.Stable.Touching.{touch-space, touch-operator, word_after_space}
+use Rattle.isort_sort.proofs.Rows.Spaces.{space_no_feed}
+use Rattle.std.proofs.Math.Bool.{and-false}
 
 abbrev pub comma_piece : Piece
 comma_piece = piece operator (44 ∷ [])
@@ -58,17 +59,9 @@ pub record IsPad (pad : List ℕ) : Type 0 where
 pub part-pad : (pad : List ℕ) → IsPad pad → IsPart (piece space pad ∷ []) pad [] []
 part-pad pad p = subst (λ (t : List ℕ). IsPart (piece space t ∷ []) t [] []) (sym p.is) (part-space (p.first ∷ p.others) (ap (list_all is_space) (sym p.is) ∙ p.spaces))
 
-space_no_feed : (c : ℕ) → is_space c ≡ true → is_line_feed c ≡ false
-unfolding is_space is_line_feed
-space_no_feed c h = grind (arith, nat_tests)
-
 pub pad_no_feed : (b : Bool) (pad : List ℕ) → IsPad pad → not (b && begins is_line_feed pad) ≡ true
 pad_no_feed b pad p =
-    ap (λ x. not (b && x)) (ap (begins is_line_feed) p.is ∙ space_no_feed p.first (and_parts _ _ (ap (list_all is_space) (sym p.is) ∙ p.spaces)).0) ∙ by b
-  where
-    by : (x : Bool) → not (x && false) ≡ true
-    by true = refl
-    by false = refl
+    ap (λ x. not (b && x)) (ap (begins is_line_feed) p.is ∙ space_no_feed p.first (and_parts _ _ (ap (list_all is_space) (sym p.is) ∙ p.spaces)).0) ∙ ap not (and-false b)
 
 -- what stands between two items: on one line, on two lines, and on two joined lines
 abbrev pub comma_space : List Piece

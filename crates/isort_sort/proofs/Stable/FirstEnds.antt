@@ -12,9 +12,10 @@ use Rattle.py_lines.specs.PieceGrammar.{InClass, AreReadBefore, IsLineEnd, feed,
 use Rattle.isort_sort.specs.Layout.{text_of_lines}
 use Rattle.isort_sort.specs.Sorted.{first_end}
 use Rattle.isort_sort.specs.WrittenLine.{end_pieces}
-use Rattle.isort_sort.proofs.Stable.Units.{IsUnit, Follows, AreUnits, flat, spelled-append, begins-first, ends-last}
+use Rattle.isort_sort.proofs.Stable.Units.{IsUnit, Follows, AreUnits, flat, begins-first, ends-last}
 use Rattle.isort_sort.proofs.Stable.LineUnits.{end_encoded, are_some}
-use Rattle.isort_sort.proofs.Stable.Joined.{none-append, joined, ended_lines, AreSome, bytes_of, bytes_of-cons}
+use Rattle.isort_sort.proofs.Stable.Joined.{none-append, joined_lines, ended_lines, AreSome, bytes_of, bytes_of-cons}
+use Rattle.isort_sort.proofs.Stable.Parts.{spelled-append}
 
 -- bytes of line ends
 abbrev pub is_end_byte : ℕ → Bool
@@ -139,7 +140,7 @@ begins_blanks : (end others : List ℕ) (n : ℕ) → (end ≡ 13 ∷ [] → beg
 begins_blanks end others zero h e = h e
 begins_blanks end others (suc n) h e = ap (λ (t : List ℕ). begins is_feed_byte ((t ++ ended_lines end (replicate n [])) ++ others)) e
 
-begins_last : (end m : List ℕ) (ms : List (List ℕ)) (others : List ℕ) → list_any is_end_byte m ≡ false → others ≡ [] → end ≡ 13 ∷ [] → begins is_feed_byte (joined end (m ∷ ms) ++ others) ≡ false
+begins_last : (end m : List ℕ) (ms : List (List ℕ)) (others : List ℕ) → list_any is_end_byte m ≡ false → others ≡ [] → end ≡ 13 ∷ [] → begins is_feed_byte (joined_lines end (m ∷ ms) ++ others) ≡ false
 begins_last end [] [] others none empty e = ap (begins is_feed_byte) empty
 begins_last end [] (k ∷ ks) others none empty e = ap (λ (t : List ℕ). begins is_feed_byte (((t ++ k) ++ flat_map (λ y. end ++ y) ks) ++ others)) e
 begins_last end (b ∷ m) ms others none empty e = (or_parts (b == 10) (b == 13) (or_parts (is_end_byte b) (list_any is_end_byte m) none).0).0
@@ -162,7 +163,7 @@ first_lines p end true n (l ∷ m ∷ ms) others none some all is h last =
     moved : (a r : List ℕ) → ((a ++ end) ++ r) ++ others ≡ a ++ (end ++ (r ++ others))
     moved a r = simp append_assoc
 first_lines p end false n (l ∷ m ∷ ms) others none some all is h last =
-    inl (ap (λ (t : List ℕ). first_end (p ++ ((l ++ t) ++ others))) (append_assoc end m (flat_map (λ y. end ++ y) ms)) ∙ ap first_end (pushed p l end (joined end (m ∷ ms)) others) ∙ first_end_is (p ++ l) end (joined end (m ∷ ms) ++ others) (none-append is_end_byte p l none all.0) is (begins_last end m ms others all.1.0 (last refl)))
+    inl (ap (λ (t : List ℕ). first_end (p ++ ((l ++ t) ++ others))) (append_assoc end m (flat_map (λ y. end ++ y) ms)) ∙ ap first_end (pushed p l end (joined_lines end (m ∷ ms)) others) ∙ first_end_is (p ++ l) end (joined_lines end (m ∷ ms) ++ others) (none-append is_end_byte p l none all.0) is (begins_last end m ms others all.1.0 (last refl)))
 
 -- a text goes on after its first line
 pub first_end_stays : (u : List Piece) (us vs : List (List Piece)) (text sorted : List ℕ) → IsUnit u → Follows u us → Follows u vs → AreUnits us → AreUnits vs → (are_some us ≡ false → are_some vs ≡ false) → bytes_of (u ∷ us) ≡ text → bytes_of (u ∷ vs) ≡ sorted → first_end sorted ≡ first_end text

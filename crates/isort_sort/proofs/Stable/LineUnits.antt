@@ -1,12 +1,12 @@
 -- Logical lines that sorting writes, one after another: blank lines, and comments above a statement.
-use Rattle.std.proofs.Common.{◌≡◌, ℕ, ◌<◌, suc, zero, Bool, true, false, ◌&&◌, ◌||◌, List, [], ◌∷◌, ◌++◌, map, flat_map, refl, sym, ap, ◌∙◌, subst, append_assoc, append-nil, inr, arith}
+use Rattle.std.proofs.Common.{◌≡◌, ℕ, suc, zero, Bool, true, false, ◌&&◌, ◌||◌, List, [], ◌∷◌, ◌++◌, map, flat_map, refl, sym, ap, ◌∙◌, subst, append_assoc, append-nil, inr, arith}
 use Rattle.std.specs.Prelude.{encode_utf8_all, nat_lt, replicate}
 use Rattle.std.specs.List.{list_any, list_all}
 use Rattle.std.specs.Str.{all_scalars}
-use Rattle.std.proofs.lemmas.Bool.{and_parts, lt-ltb}
+use Rattle.std.proofs.lemmas.Bool.{and_parts}
 use Rattle.std.proofs.lemmas.Bool.Decides.{nat_tests}
 use Rattle.std.proofs.Math.Utf8.{encode}
-use Rattle.std.proofs.lemmas.Str.{encodes-append, encode_ascii}
+use Rattle.std.proofs.lemmas.Str.{encodes-append}
 use Rattle.py_lines.specs.Balance.{IsBalanced, depth_through, IsBalanced as balance}
 use Rattle.py_lines.specs.Character.{is_space, is_line_feed, is_return, is_hash}
 use Rattle.py_lines.specs.Reading.{IsBalancedReading, EndsLine}
@@ -18,14 +18,17 @@ use Rattle.py_lines.specs.Words.{words_of}
 use Rattle.py_imports.specs.Action.{says}
 use Rattle.py_imports.specs.declared.action.Action.{Action}
 use Rattle.py_imports.specs.declared.action.Action.TheVariants as action
-use Rattle.isort_sort.specs.Blocks.{is_between, is_blank, comments_in}
+use Rattle.isort_sort.specs.Blocks.{stands_between, is_blank, comments_in}
 use Rattle.isort_sort.specs.BlocksReplaced.{is_comments}
 use Rattle.isort_sort.specs.Line.{comment_texts}
 use Rattle.isort_sort.specs.Row.{is_comment_kind, says_alone, Role, comments, blank, Row, HasRole, indentation_of, first_string_skips}
 use Rattle.isort_sort.specs.Sorted.{texts_of}
 use Rattle.isort_sort.specs.WrittenLine.{mark_pieces, end_pieces}
-use Rattle.isort_sort.proofs.Stable.Units.{IsUnit, Follows, AreUnits, flat, spelled-append, scalars-append, ends-last}
+use Rattle.isort_sort.proofs.Stable.Units.{IsUnit, Follows, AreUnits, flat, ends-last}
 use Rattle.isort_sort.proofs.Stable.UnitRows.{TokenLaws, unit_line, remarks, comments_of_unit, IsUnitRow, AreUnitRows, role_in_block, silent}
+use Rattle.isort_sort.proofs.Rows.Spaces.{space_no_feed}
+use Rattle.std.proofs.Math.Bool.{and-false, or-false, or-true}
+use Rattle.isort_sort.proofs.Stable.Parts.{spelled-append, scalars-append, space_pieces, spaces_low, low-spell, low-scalars}
 
 -- simple neighbouring pieces are read
 abbrev pub NeighbourLaw : Type 0
@@ -60,14 +63,6 @@ by_end P end a b c (feed e) = subst P (sym e) a
 by_end P end a b c (return_feed e) = subst P (sym e) b
 by_end P end a b c (return e) = subst P (sym e) c
 
-pub or_true : (b : Bool) → b || true ≡ true
-or_true true = refl
-or_true false = refl
-
-or_false : (b : Bool) → b || false ≡ b
-or_false true = refl
-or_false false = refl
-
 -- what may follow a line end, may follow a line that ends with it
 ends_line : (end : List ℕ) (u : List Piece) → IsEnded end u → EndsLine u
 ends_line end u h = inr (h.body, record { class = line_end; text = end }, h.is, refl, h.deep)
@@ -89,10 +84,10 @@ line_follows end needed w us h = (
 pub lines_units : (end : List ℕ) (ended : Bool) (us vs : List (List Piece)) → IsLineEnd end → AreLines end ended us → (are_some vs ≡ true → ended ≡ true) → Follows (end_pieces true end) vs → AreUnits vs → AreUnits (us ++ vs)
 lines_units end ended [] vs is h all f k = k
 lines_units end ended (u ∷ []) [] is h all f k = (h.0.unit, tt, tt)
-lines_units end ended (u ∷ []) (w ∷ vs) is h all f k = (h.0.unit, follows_line end u (w ∷ vs) is (h.0.ended (or_false ended ∙ all refl)) f, k)
+lines_units end ended (u ∷ []) (w ∷ vs) is h all f k = (h.0.unit, follows_line end u (w ∷ vs) is (h.0.ended (or-false ended ∙ all refl)) f, k)
 lines_units end ended (u ∷ w ∷ us) vs is h all f k = (
   h.0.unit,
-  follows_line end u (w ∷ (us ++ vs)) is (h.0.ended (or_true ended)) (line_follows end _ w (us ++ vs) h.1.0),
+  follows_line end u (w ∷ (us ++ vs)) is (h.0.ended (or-true ended)) (line_follows end _ w (us ++ vs) h.1.0),
   lines_units end ended (w ∷ us) vs is h.1 all f k,
 )
 
@@ -187,7 +182,7 @@ blank_text (suc n) end is =
     ∙ encodes-append (end ++ []) (spelled (flat (blank_units n end)))
     ∙ (λ i. end_encoded end is i ++ blank_text n end is i)
 
-pub blank_between : (n : ℕ) (end : List ℕ) → list_all is_between (blank_rows n end) ≡ true
+pub blank_between : (n : ℕ) (end : List ℕ) → list_all stands_between (blank_rows n end) ≡ true
 blank_between zero end = refl
 blank_between (suc n) end = blank_between n end
 
@@ -218,29 +213,12 @@ abbrev pub AreAbove : List (List ℕ) → Type 0
 AreAbove [] = Unit {0}
 AreAbove (c ∷ cs) = IsAbove c × AreAbove cs
 
--- indentation: space, tab and form feed
-pub space_low : (c : ℕ) → is_space c ≡ true → c < 128
-unfolding is_space
-space_low c h = grind (arith, nat_tests)
-
+-- indentation is ASCII
 pub indentation_encoded : (indentation : List ℕ) → list_all is_space indentation ≡ true → encode_utf8_all indentation ≡ indentation
-indentation_encoded [] h = refl
-indentation_encoded (c ∷ cs) h =
-    let parts = and_parts (is_space c) (list_all is_space cs) h in
-    (λ i. encode_ascii c (space_low c parts.0) i ++ indentation_encoded cs parts.1 i)
-
-low_scalar : (c : ℕ) → c < 128 → all_scalars (c ∷ []) ≡ true
-low_scalar c h = rw (lt-ltb c 55296 (omega arith)) refl
+indentation_encoded indentation h = low-spell indentation (spaces_low indentation h)
 
 pub indentation_scalar : (indentation : List ℕ) → list_all is_space indentation ≡ true → all_scalars indentation ≡ true
-indentation_scalar [] h = refl
-indentation_scalar (c ∷ cs) h =
-    let parts = and_parts (is_space c) (list_all is_space cs) h in
-    scalars-append (c ∷ []) cs (low_scalar c (space_low c parts.0)) (indentation_scalar cs parts.1)
-
-abbrev pub space_pieces : List ℕ → List Piece
-space_pieces [] = []
-space_pieces (c ∷ cs) = record { class = space; text = c ∷ cs } ∷ []
+indentation_scalar indentation h = low-scalars indentation (spaces_low indentation h)
 
 -- a line with a comment alone
 abbrev pub comment_unit : List ℕ → List ℕ → List ℕ → List Piece
@@ -279,10 +257,6 @@ comment_reading law (c ∷ cs) characters end spaces is closes =
       shallow = (λ e. absurd (cc), (λ e. absurd (cc), (λ e. absurd (cc), tt)));
     }
 
-space_no_feed : (c : ℕ) → is_space c ≡ true → is_line_feed c ≡ false
-unfolding is_space is_line_feed
-space_no_feed c h = grind (arith, nat_tests)
-
 hash_no_feed : (c : ℕ) → is_hash c ≡ true → is_line_feed c ≡ false
 unfolding is_hash is_line_feed
 hash_no_feed c h = grind (arith, nat_tests)
@@ -291,15 +265,11 @@ pub comment_starts : (indentation characters end : List ℕ) → list_all is_spa
 comment_starts [] characters end spaces (hash, body, is, opens, none) = ap (λ t. begins is_line_feed (t ++ (end ++ []))) is ∙ hash_no_feed hash opens
 comment_starts (c ∷ cs) characters end spaces is = space_no_feed c (and_parts (is_space c) (list_all is_space cs) spaces).0
 
-pub false_right : (b : Bool) → b && false ≡ false
-false_right true = refl
-false_right false = refl
-
 pub comment_line : NeighbourLaw → (indentation text end : List ℕ) (above : IsAbove text) → list_all is_space indentation ≡ true → IsLineEnd end → IsLine end true (comment_unit indentation above.characters end)
 comment_line law indentation text end above spaces is = record {
   unit = record { reading = comment_reading law indentation above.characters end spaces above.is is; scalars = comment_scalars indentation above.characters end spaces above.scalars is; whole = whole indentation };
   unmarked = unmarked indentation;
-  uncut = ap (λ b. ends is_return end && b) (comment_starts indentation above.characters end spaces above.is) ∙ false_right (ends is_return end);
+  uncut = ap (λ b. ends is_return end && b) (comment_starts indentation above.characters end spaces above.is) ∙ and-false (ends is_return end);
   ended = λ e. ended indentation;
 }
   where
@@ -375,7 +345,7 @@ pub above_comments : (indentation end : List ℕ) (cs : List (List ℕ)) (are : 
 above_comments indentation end [] are = refl
 above_comments indentation end (c ∷ cs) are = ap (λ l. c ∷ l) (above_comments indentation end cs are.1)
 
-pub above_between : (indentation end : List ℕ) (cs : List (List ℕ)) (are : AreAbove cs) → list_all is_between (above_rows indentation end cs are) ≡ true
+pub above_between : (indentation end : List ℕ) (cs : List (List ℕ)) (are : AreAbove cs) → list_all stands_between (above_rows indentation end cs are) ≡ true
 above_between indentation end [] are = refl
 above_between indentation end (c ∷ cs) are = above_between indentation end cs are.1
 

@@ -1,5 +1,5 @@
 -- The logical line of a written statement.
-use Rattle.std.proofs.Common.{◌≡◌, ℕ, ◌+◌, ◌-◌, Bool, true, false, cond, ◌&&◌, List, [], ◌∷◌, ◌++◌, length, take, drop, codes, nat_eq, slice_get, refl, sym, ap, ◌∙◌, arith, ltb-true, eq-eqb}
+use Rattle.std.proofs.Common.{◌≡◌, ℕ, ◌+◌, ◌-◌, Bool, true, false, cond, ◌&&◌, List, [], ◌∷◌, ◌++◌, length, take, drop, codes, nat_eq, slice_get, refl, sym, ap, ◌∙◌, arith, eq-eqb}
 use Rattle.std.specs.Prelude.{encode_utf8_all, slice_range}
 use Rattle.std.specs.List.{list_all, starts_with}
 use Rattle.std.proofs.Math.Seq.{drop-append_seam, take-append_seam}
@@ -17,7 +17,8 @@ use Rattle.py_imports.specs.Statement.{significant}
 use Rattle.isort_sort.specs.Row.{indentation_of}
 use Rattle.isort_sort.specs.WrittenLine.{mark_pieces, mark_bytes}
 use Rattle.isort_sort.proofs.Stable.Items.{a_space}
-use Rattle.isort_sort.proofs.Stable.Parts.{piece, space_pieces, space_low, spaces_low, low-spell}
+use Rattle.isort_sort.proofs.Stable.Parts.{piece, space_pieces, spaces_low, low-spell}
+use Rattle.isort_sort.proofs.Rows.Spaces.{space_low}
 
 -- the word that a statement begins with
 abbrev pub first_word : Bool → List ℕ
@@ -66,7 +67,7 @@ line-mark offset row false [] false phrase ends h = refl
 line-mark offset row false (c ∷ cs) from phrase ends h =
     let both = and_parts _ _ h in
     let rest : List ℕ = encode_utf8_all (cs ++ spelled ((piece word (first_word from) ∷ a_space ∷ phrase) ++ ends)) in
-    ap (λ t. cond (starts_with nat_eq (t ++ rest) (0xef ∷ 0xbb ∷ 0xbf ∷ [])) 3 0) (encode_ascii c (let low = ltb-true c 128 (space_low c both.0) in low))
+    ap (λ t. cond (starts_with nat_eq (t ++ rest) (0xef ∷ 0xbb ∷ 0xbf ∷ [])) 3 0) (encode_ascii c (space_low c both.0))
     ∙ ap (λ b. cond b 3 0) (space-no_mark c rest both.0)
 
 -- the first token that is no comment

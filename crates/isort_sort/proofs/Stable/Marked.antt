@@ -14,7 +14,8 @@ use Rattle.py_imports.specs.Shape.{mark_len}
 use Rattle.isort_sort.specs.Row.{comments, indentation_of, IsRow}
 use Rattle.isort_sort.specs.WrittenLine.{mark_pieces, mark_bytes}
 use Rattle.isort_sort.proofs.Stable.UnitRows.{TokenLaws, unit_line}
-use Rattle.isort_sort.proofs.Stable.LineUnits.{space_low, row_of, IsAbove, comment_unit, comment_role}
+use Rattle.isort_sort.proofs.Stable.LineUnits.{row_of, IsAbove, comment_unit, comment_role}
+use Rattle.isort_sort.proofs.Rows.Spaces.{space_low}
 
 -- the bytes of a logical line after its mark
 pub after_mark : (marked : Bool) (u : List Piece) → encode_utf8_all (spelled u) ≡ drop (mark_bytes marked) (encode_utf8_all (spelled (mark_pieces marked ++ u)))

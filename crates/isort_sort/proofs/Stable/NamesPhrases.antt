@@ -17,6 +17,7 @@ use Rattle.isort_sort.proofs.Stable.Parts.{piece, remarks_in, IsPart, words-appe
 use Rattle.isort_sort.proofs.Stable.Phrases.{end_piece, IsPhrase, remark_pieces, remark_said, part-remark, touch-remark, remark_after_word, well-remark, any-remark, line-remark}
 use Rattle.isort_sort.proofs.Stable.Tokens.{are_well, no_words, well-append}
 use Rattle.isort_sort.proofs.Stable.Touching.{after_word, after_space, touch-space, touch-operator, word_after_space}
+use Rattle.std.proofs.Math.Bool.{and-false}
 
 -- names and the comment
 plain-phrase : (end : List ℕ) (ps : List Piece) (bytes : List ℕ) (terminals : List Terminal) → IsJoinable ps bytes terminals → list_any is_bracket ps ≡ false → list_any is_end ps ≡ false → (cs : List (List ℕ)) → AreRemarks cs → IsPhrase end (ps ++ remark_pieces cs) (bytes ++ remark cs) (terminals ++ []) (remark_said cs)
@@ -156,11 +157,7 @@ well-opened (c ∷ cs) vs h = by (no_words vs) ∙ h false
 -- a line end before the closing bracket
 touch-closing : (end indentation : List ℕ) (rest : List Piece) → list_all is_space indentation ≡ true → MayTouch rest → MayTouch (end_piece end ∷ (space_pieces indentation ++ (closing_piece ∷ rest)))
 unfolding is_line_feed
-touch-closing end [] rest h k = (by (ends is_return end), touch-operator (41 ∷ []) rest k)
-  where
-    by : (b : Bool) → not (b && false) ≡ true
-    by true = refl
-    by false = refl
+touch-closing end [] rest h k = (ap not (and-false (ends is_return end)), touch-operator (41 ∷ []) rest k)
 touch-closing end (c ∷ cs) rest h k = (pad_no_feed (ends is_return end) (c ∷ cs) (record { first = c; others = cs; is = refl; spaces = h }), (refl, touch-operator (41 ∷ []) rest k))
 
 regroup-hung : (o q e s : Piece) (r j c i rest : List Piece) → (o ∷ ((r ++ (e ∷ s ∷ (j ++ (c ++ (e ∷ i))))) ++ q ∷ [])) ++ rest ≡ o ∷ (r ++ (e ∷ s ∷ (j ++ (c ++ (e ∷ (i ++ (q ∷ rest)))))))

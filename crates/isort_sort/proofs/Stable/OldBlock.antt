@@ -8,12 +8,13 @@ use Rattle.py_lines.specs.Reading.{EndsLine}
 use Rattle.py_lines.specs.LogicalLine.{is_line_end_class, byte_len, end_len_of}
 use Rattle.py_lines.specs.Piece.{line_end, Piece}
 use Rattle.py_lines.specs.PieceGrammar.{AreReadBefore}
-use Rattle.isort_sort.specs.Blocks.{is_member, is_between, is_blank, role_is_member, role_is_between, Further, further_rows, Run, run_rows, goes_on, is_run}
-use Rattle.isort_sort.specs.Row.{Role, member, comments, blank, other, Row, HasRole, indentation_of}
+use Rattle.isort_sort.specs.Blocks.{is_member, stands_between, is_blank, role_is_member, role_stands_between, Further, further_rows, Run, run_rows, goes_on, is_run}
+use Rattle.isort_sort.specs.Row.{Role, member, comments, blank, Row, HasRole, indentation_of}
 use Rattle.isort_sort.specs.Sorted.{last_row}
 use Rattle.isort_sort.proofs.Stable.Units.{IsUnit, AreUnits, first_character}
 use Rattle.isort_sort.proofs.Stable.UnitRows.{unit_line, off_past, AreUnitRows, off_through, role_in_block, silent}
 use Rattle.isort_sort.proofs.Stable.Joined.{AreSome}
+use Rattle.isort_sort.proofs.Finding.RoleTests.{of_blank}
 
 -- what is known of a row of a block but its text
 pub record IsSeen (u : List Piece) (row : Row) : Type 0 where
@@ -32,36 +33,27 @@ in_block row = role_in_block row.role
 
 pub member_in_block : (role : Role) → role_is_member role ≡ true → role_in_block role ≡ true
 member_in_block (member is cs) h = refl
-member_in_block (comments cs) h = absurd (cc)
-member_in_block blank h = absurd (cc)
-member_in_block (other b) h = absurd (cc)
+member_in_block _ h = absurd (cc)
 
-between_in_block : (role : Role) → role_is_between role ≡ true → role_in_block role ≡ true
-between_in_block (member is cs) h = absurd (cc)
+between_in_block : (role : Role) → role_stands_between role ≡ true → role_in_block role ≡ true
 between_in_block (comments cs) h = refl
 between_in_block blank h = refl
-between_in_block (other b) h = absurd (cc)
-
-blank_in_block : (role : Role) → is_blank (record { text = []; indentation = []; ended = true; role = role }) ≡ true → role_in_block role ≡ true
-blank_in_block (member is cs) h = absurd (cc)
-blank_in_block (comments cs) h = absurd (cc)
-blank_in_block blank h = refl
-blank_in_block (other b) h = absurd (cc)
+between_in_block _ h = absurd (cc)
 
 pub blanks_in_block : (rows : List Row) → list_all is_blank rows ≡ true → list_all in_block rows ≡ true
 blanks_in_block [] h = refl
-blanks_in_block (row ∷ rows) h = let parts = and_parts (is_blank row) (list_all is_blank rows) h in and_from _ _ (blank_in_block row.role parts.0) (blanks_in_block rows parts.1)
+blanks_in_block (row ∷ rows) h = let parts = and_parts (is_blank row) (list_all is_blank rows) h in and_from _ _ (between_in_block row.role (of_blank row.role parts.0).between) (blanks_in_block rows parts.1)
 
-between_rows : (between : List Row) (row : Row) (rows : List Row) → list_all is_between between ≡ true → in_block row ≡ true → list_all in_block rows ≡ true → list_all in_block ((between ++ row ∷ []) ++ rows) ≡ true
+between_rows : (between : List Row) (row : Row) (rows : List Row) → list_all stands_between between ≡ true → in_block row ≡ true → list_all in_block rows ≡ true → list_all in_block ((between ++ row ∷ []) ++ rows) ≡ true
 between_rows [] row rows h k l = and_from _ _ k l
-between_rows (b ∷ bs) row rows h k l = let parts = and_parts (is_between b) (list_all is_between bs) h in and_from _ _ (between_in_block b.role parts.0) (between_rows bs row rows parts.1 k l)
+between_rows (b ∷ bs) row rows h k l = let parts = and_parts (stands_between b) (list_all stands_between bs) h in and_from _ _ (between_in_block b.role parts.0) (between_rows bs row rows parts.1 k l)
 
 others_in_block : (indentation : List ℕ) (fs : List Further) → list_all (goes_on indentation) fs ≡ true → list_all in_block (flat_map further_rows fs) ≡ true
 others_in_block indentation [] h = refl
 others_in_block indentation (f ∷ fs) h =
     let parts = and_parts (goes_on indentation f) (list_all (goes_on indentation) fs) h in
-    let one = and_parts (list_all is_between f.between && is_member f.row) (bytes_eq f.row.indentation indentation) parts.0 in
-    let two = and_parts (list_all is_between f.between) (is_member f.row) one.0 in
+    let one = and_parts (list_all stands_between f.between && is_member f.row) (bytes_eq f.row.indentation indentation) parts.0 in
+    let two = and_parts (list_all stands_between f.between) (is_member f.row) one.0 in
     between_rows f.between f.row (flat_map further_rows fs) two.0 (member_in_block f.row.role two.1) (others_in_block indentation fs parts.1)
 
 pub run_in_block : (run : Run) → is_run run ≡ true → list_all in_block (run_rows run) ≡ true
@@ -93,9 +85,7 @@ member_off off u row h k = by row.role h k
   where
     by : (role : Role) → HasRole off (unit_line u) role → role_is_member role ≡ true → off ≡ false
     by (member is cs) r m = r.0
-    by (comments cs) r m = absurd (cc)
-    by blank r m = absurd (cc)
-    by (other b) r m = absurd (cc)
+    by _ r m = absurd (cc)
 
 -- a line that others follow has a line end
 last_bytes : (body : List Piece) (last : Piece) → last.class ≡ line_end → AreReadBefore (body ++ last ∷ []) [] → 0 < end_len_of (body ++ last ∷ [])

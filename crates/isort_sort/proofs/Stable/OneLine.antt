@@ -4,8 +4,9 @@ use Rattle.std.specs.List.{list_any}
 use Rattle.std.proofs.lemmas.Bool.{and_parts, and_from, or_parts, both_ways}
 use Rattle.py_lines.specs.Balance.{is_opening, is_closing, is_opener, is_closer, IsBalanced, none, one, pair, both, IsShallow, depth_after, depth_through}
 use Rattle.py_lines.specs.LogicalLine.{is_line_end_class, put_first, cut, byte_len, end_len_of}
-use Rattle.py_lines.specs.Piece.{Class, mark, space, word, string, operator, comment, join, line_end, Piece}
+use Rattle.py_lines.specs.Piece.{Class, operator, line_end, Piece}
 use Rattle.isort_sort.proofs.Stable.Parts.{piece}
+use Rattle.std.proofs.Math.Bool.{and-false}
 
 abbrev pub is_bracket : Piece → Bool
 is_bracket p = is_opener p || is_closer p
@@ -56,11 +57,7 @@ inside-kept : (ps : List Piece) → list_any is_bracket ps ≡ false → keeps 1
 inside-kept [] h = refl
 inside-kept (p ∷ ps) h =
     let parts = or_parts (is_bracket p) (list_any is_bracket ps) h in
-    and_from _ _ (by (is_end p)) (subst (λ (d : ℕ). keeps d ps ≡ true) (sym (same_depth 1 p parts.0)) (inside-kept ps parts.1))
-  where
-    by : (b : Bool) → not (b && false) ≡ true
-    by true = refl
-    by false = refl
+    and_from _ _ (ap not (and-false (is_end p))) (subst (λ (d : ℕ). keeps d ps ≡ true) (sym (same_depth 1 p parts.0)) (inside-kept ps parts.1))
 
 -- no bracket, and no line end
 pub plain-line : (ps : List Piece) → list_any is_bracket ps ≡ false → list_any is_end ps ≡ false → IsOneLine ps
@@ -134,14 +131,8 @@ ended-cut ps end more l = cut-end 0 ps end more l.kept l.deep
 
 -- the pieces end with no line end
 end-depth : (d : ℕ) (c : Class) (t : List ℕ) → not (is_line_end_class c && (d == 0)) ≡ true → depth_after d (piece c t) ≡ 0 → is_line_end_class c ≡ false
-end-depth d mark t h k = refl
-end-depth d space t h k = refl
-end-depth d word t h k = refl
-end-depth d string t h k = refl
-end-depth d operator t h k = refl
-end-depth d comment t h k = refl
-end-depth d join t h k = refl
 end-depth d line_end t h k = let zero : not (0 == 0) ≡ true = subst (λ (n : ℕ). not (n == 0) ≡ true) k h in absurd (cc)
+end-depth d _ t h k = refl
 
 none-after : (d : ℕ) (ps : List Piece) → keeps d ps ≡ true → depth_through d ps ≡ 0 → end_len_of ps ≡ 0
 none-after d [] h k = refl

@@ -5,8 +5,7 @@ use Rattle.std.specs.Char.{is_ascii_alphabetic}
 use Rattle.std.specs.List.{list_any, list_all}
 use Rattle.std.specs.Str.{all_scalars, chars}
 use Rattle.std.proofs.Math.Utf8.{low_scalar}
-use Rattle.std.proofs.lemmas.Bool.{and_parts, and_from, or_parts, false_from_ne_true}
-use Rattle.std.proofs.lemmas.Bool.Decides.{nat_tests}
+use Rattle.std.proofs.lemmas.Bool.{and_parts, and_from, or_parts, false_from_ne_true, lt-ltb}
 use Rattle.std.proofs.lemmas.List.{map-append}
 use Rattle.std.proofs.lemmas.List.Elements.{filter-append}
 use Rattle.std.proofs.lemmas.List.Folds.{list_any-append}
@@ -24,6 +23,7 @@ use Rattle.std.specs.Str.{bytes_eq}
 use Rattle.std.proofs.Common.{get_or, length, zero, suc, lit<}
 use Rattle.std.proofs.lemmas.Slice.Eq.{bytes_eq-Decides}
 use Rattle.std.proofs.lemmas.Bool.{both_ways}
+use Rattle.isort_sort.proofs.Rows.Spaces.{space_low}
 
 abbrev pub piece : Class → List ℕ → Piece
 piece class text = record { class = class; text = text }
@@ -94,7 +94,7 @@ pub low-spell : (cs : List ℕ) → list_all (λ c. nat_lt c 128) cs ≡ true �
 low-spell [] h = refl
 low-spell (c ∷ cs) h = let both = and_parts _ _ h in (λ i. encode_ascii c (ltb-true c 128 both.0) i ++ low-spell cs both.1 i)
 
-low-scalars : (cs : List ℕ) → list_all (λ c. nat_lt c 128) cs ≡ true → all_scalars cs ≡ true
+pub low-scalars : (cs : List ℕ) → list_all (λ c. nat_lt c 128) cs ≡ true → all_scalars cs ≡ true
 low-scalars [] h = refl
 low-scalars (c ∷ cs) h = let both = and_parts _ _ h in and_from _ _ (low_scalar c (let k = ltb-true c 128 both.0 in omega arith)) (low-scalars cs both.1)
 
@@ -103,13 +103,9 @@ abbrev pub space_pieces : List ℕ → List Piece
 space_pieces [] = []
 space_pieces (c ∷ cs) = piece space (c ∷ cs) ∷ []
 
-pub space_low : (c : ℕ) → is_space c ≡ true → nat_lt c 128 ≡ true
-unfolding is_space
-space_low c h = grind (arith, nat_tests)
-
 pub spaces_low : (cs : List ℕ) → list_all is_space cs ≡ true → list_all (λ c. nat_lt c 128) cs ≡ true
 spaces_low [] h = refl
-spaces_low (c ∷ cs) h = let both = and_parts _ _ h in and_from _ _ (space_low c both.0) (spaces_low cs both.1)
+spaces_low (c ∷ cs) h = let both = and_parts _ _ h in and_from _ _ (lt-ltb c 128 (space_low c both.0)) (spaces_low cs both.1)
 
 pub part-space : (t : List ℕ) → list_all is_space t ≡ true → IsPart (space_pieces t) t [] []
 part-space [] h = part-nil

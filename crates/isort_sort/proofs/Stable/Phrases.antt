@@ -8,9 +8,9 @@ use Rattle.std.proofs.lemmas.Str.{encodes-append, chars-encodes}
 use Rattle.py_lines.specs.Balance.{is_opening, is_closing}
 use Rattle.py_lines.specs.Character.{is_space, is_break, is_digit}
 use Rattle.py_lines.specs.Neighbours.{MayTouch}
-use Rattle.py_lines.specs.Piece.{space, word, comment, line_end, Piece}
+use Rattle.py_lines.specs.Piece.{space, word, comment, line_end, Piece, operator}
 use Rattle.py_lines.specs.Words.{words_of}
-use Rattle.py_imports.specs.Grammar.{Terminal, import_word, from_word, as_word, name, dot, comma, star, opening, closing, other, IsModule, IsRelativeModule, spelling}
+use Rattle.py_imports.specs.Grammar.{Terminal, import_word, name, dot, IsModule, IsRelativeModule, spelling}
 use Rattle.py_imports.specs.Names.{HaveNames, IsAlias}
 use Rattle.py_imports.specs.Spelled.{alias_text}
 use Rattle.isort_sort.specs.WrittenLine.{IsRemark, AreRemarks}
@@ -110,35 +110,15 @@ any-remark p s c (x ∷ xs) = λ i. s (32 ∷ 32 ∷ []) i || (c (35 ∷ 32 ∷ 
 pub line-remark : (cs : List (List ℕ)) → IsOneLine (remark_pieces cs)
 line-remark cs = plain-line (remark_pieces cs) (any-remark is_bracket (λ t. refl) (λ t. refl) cs) (any-remark is_end (λ t. refl) (λ t. refl) cs)
 
-bare-path : (ts : List Terminal) → list_any is_bracket (path_pieces ts) ≡ false
-unfolding is_opening is_closing
-bare-path [] = refl
-bare-path (name w ∷ ts) = bare-path ts
-bare-path (dot ∷ ts) = bare-path ts
-bare-path (import_word ∷ ts) = bare-path ts
-bare-path (from_word ∷ ts) = bare-path ts
-bare-path (as_word ∷ ts) = bare-path ts
-bare-path (comma ∷ ts) = bare-path ts
-bare-path (star ∷ ts) = bare-path ts
-bare-path (opening ∷ ts) = bare-path ts
-bare-path (closing ∷ ts) = bare-path ts
-bare-path (other ∷ ts) = bare-path ts
-
-unended-path : (ts : List Terminal) → list_any is_end (path_pieces ts) ≡ false
-unended-path [] = refl
-unended-path (name w ∷ ts) = unended-path ts
-unended-path (dot ∷ ts) = unended-path ts
-unended-path (import_word ∷ ts) = unended-path ts
-unended-path (from_word ∷ ts) = unended-path ts
-unended-path (as_word ∷ ts) = unended-path ts
-unended-path (comma ∷ ts) = unended-path ts
-unended-path (star ∷ ts) = unended-path ts
-unended-path (opening ∷ ts) = unended-path ts
-unended-path (closing ∷ ts) = unended-path ts
-unended-path (other ∷ ts) = unended-path ts
+any-path : (p : Piece → Bool) → ((w : List ℕ) → p (piece word (chars w)) ≡ false) → p (piece operator (46 ∷ [])) ≡ false → (ts : List Terminal) → list_any p (path_pieces ts) ≡ false
+any-path p w d [] = refl
+any-path p w d (name x ∷ ts) = λ i. w x i || any-path p w d ts i
+any-path p w d (dot ∷ ts) = λ i. d i || any-path p w d ts i
+any-path p w d (_ ∷ ts) = any-path p w d ts
 
 line-path : (ts : List Terminal) → IsOneLine (path_pieces ts)
-line-path ts = plain-line (path_pieces ts) (bare-path ts) (unended-path ts)
+unfolding is_opening is_closing
+line-path ts = plain-line (path_pieces ts) (any-path is_bracket (λ w. refl) refl ts) (any-path is_end (λ w. refl) refl ts)
 
 -- a relative module, ` import `, and what follows
 abbrev pub import_pieces : List Piece

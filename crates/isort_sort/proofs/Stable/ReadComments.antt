@@ -6,7 +6,7 @@ use Rattle.std.specs.Str.{all_scalars}
 use Rattle.std.proofs.lemmas.Bool.{or_parts}
 use Rattle.py_lines.specs.Character.{is_digit}
 use Rattle.py_lines.specs.LogicalLine.{LogicalLine}
-use Rattle.py_lines.specs.Piece.{Class, mark, space, word, string, operator, comment, join, line_end, Piece, begins, spelled}
+use Rattle.py_lines.specs.Piece.{Class, word, comment, Piece, begins, spelled}
 use Rattle.py_lines.specs.PieceGrammar.{InClass, IsComment, AreReadBefore}
 use Rattle.py_lines.specs.Words.{Word, words_of_piece, words_of}
 use Rattle.py_lines.specs.declared.token.TokKind.TheVariants as kind
@@ -36,18 +36,13 @@ AreCommentTexts [] = Unit {0}
 AreCommentTexts (c ∷ cs) = IsCommentText c × AreCommentTexts cs
 
 piece_comments : (class : Class) (text : List ℕ) (ws : List Word) → InClass class text → all_scalars text ≡ true → AreCommentTexts (remarks ws) → AreCommentTexts (remarks (words_of_piece class text ++ ws))
-piece_comments mark text ws is fine h = h
-piece_comments space text ws is fine h = h
-piece_comments join text ws is fine h = h
-piece_comments line_end text ws is fine h = h
-piece_comments string text ws is fine h = h
-piece_comments operator text ws is fine h = h
-piece_comments comment text ws is fine h = (record { characters = text; spell = refl; is = is; scalars = fine }, h)
 piece_comments word text ws is fine h = by (begins is_digit text)
   where
     by : (b : Bool) → AreCommentTexts (remarks (record { kind = if b then kind.Number else kind.Name; bytes = encode_utf8_all text } ∷ ws))
     by true = h
     by false = h
+piece_comments comment text ws is fine h = (record { characters = text; spell = refl; is = is; scalars = fine }, h)
+piece_comments _ text ws is fine h = h
 
 words_comments : (ps : List Piece) (rest : List ℕ) → AreReadBefore ps rest → all_scalars (spelled ps) ≡ true → AreCommentTexts (remarks (words_of ps))
 words_comments [] rest fit fine = tt

@@ -1,8 +1,6 @@
 -- What the logical lines of members import: something, under names that are words.
-use Rattle.std.proofs.Common.{◌≡◌, ℕ, ◌+◌, ◌-◌, suc, zero, nat_eq, Bool, true, false, cond, not, ◌&&◌, ◌||◌, ◌==◌, ◌<◌, ◌⊎◌, ⊎_elim, inl, inr, List, [], ◌∷◌, ◌++◌, map, take, drop, length, refl, sym, ap, ◌∙◌, subst, arith}
+use Rattle.std.proofs.Common.{◌≡◌, ℕ, ◌+◌, suc, zero, nat_eq, Bool, true, false, cond, not, ◌||◌, ◌==◌, ◌⊎◌, ⊎_elim, inl, inr, List, [], ◌∷◌, ◌++◌, map, take, drop, length, refl, sym, ap, ◌∙◌, subst}
 use Rattle.std.specs.Prelude.{encode_utf8_all, filter, nat_lt, slice_range, if◌then◌else◌}
-use Rattle.std.specs.Cmp.Lexicographic.{pointwise}
-use Rattle.std.proofs.lemmas.Bool.Decides.{nat_tests}
 use Rattle.std.specs.List.{list_any, list_all, prefix_len, starts_with}
 use Rattle.std.specs.Str.{all_scalars}
 use Rattle.std.proofs.Math.Utf8.{encode}
@@ -10,7 +8,7 @@ use Rattle.std.proofs.lemmas.Bool.{and_parts, both_ways, cases_Bool, eqb-true}
 use Rattle.std.proofs.lemmas.Str.{encodes-append, encode_ascii}
 use Rattle.py_lines.specs.Character.{is_mark, is_space}
 use Rattle.py_lines.specs.LogicalLine.{LogicalLine, byte_len, space_len, line_of}
-use Rattle.py_lines.specs.Piece.{Class, mark, space, word, string, operator, comment, join, line_end, Piece, is_mark_class, spelled}
+use Rattle.py_lines.specs.Piece.{Class, mark, space, Piece, is_mark_class, spelled}
 use Rattle.py_lines.specs.PieceGrammar.{InClass, AreReadBefore}
 use Rattle.py_lines.specs.declared.token.Token.{Token}
 use Rattle.py_imports.specs.Binds.{BindEach, BindsAt, nothing, imports, terminals_at, terminal_in}
@@ -22,12 +20,14 @@ use Rattle.py_imports.specs.Statement.{significant, Place, places_from, may_star
 use Rattle.isort_sort.specs.Line.{imported_of}
 use Rattle.isort_sort.specs.Row.{Imports, indentation_of}
 use Rattle.isort_sort.proofs.Rows.Moved.{imported_again}
-use Rattle.isort_sort.proofs.Rows.SomeRows.{begins_import_so, tokens_again, all_taken}
+use Rattle.isort_sort.proofs.Rows.SomeRows.{tokens_again, all_taken}
 use Rattle.isort_sort.proofs.Stable.Units.{IsUnit}
 use Rattle.isort_sort.proofs.Stable.UnitRows.{unit_line}
-use Rattle.isort_sort.proofs.Stable.LineUnits.{space_low, indentation_encoded}
+use Rattle.isort_sort.proofs.Stable.LineUnits.{indentation_encoded}
 use Rattle.isort_sort.proofs.Stable.Joined.{AreSome, some_first}
 use Rattle.isort_sort.proofs.Stable.Marked.{low_start, sliced}
+use Rattle.isort_sort.proofs.Rows.Spaces.{space_low}
+use Rattle.isort_sort.proofs.Rows.Roles.{import_begins}
 
 -- what lines that are read import, as the laws of import statements say
 pub record ImportLaws : Type 0 where
@@ -116,11 +116,11 @@ first_bound line p bounds begins (nothing l q bs none e) = absurd (both_ways _ n
 first_bound line p bounds begins (imports l q bs is more import e) = subst AreSome (sym e) (some_map _ is (some_imported _ is import))
 
 some_bounds : (line : LogicalLine) (tokens : List Token) (bounds : List Bound) (is : List Imported) → list_any is_end (places_from [] tokens) ≡ false → IsImport (map (terminal_in line.text) tokens) is → BindEach line (starts tokens) bounds → AreSome bounds
-some_bounds line [] bounds is alone import binds = absurd (both_ways _ refl (begins_import_so [] is import))
+some_bounds line [] bounds is alone import binds = absurd (both_ways _ refl (import_begins [] is import))
 some_bounds line (t ∷ ts) bounds is alone import binds =
     let p : Place = record { before = []; token = t; after = ts } in
     let whole : statement_at p ≡ t ∷ ts = ap (map (λ (q : Place). q.token)) (all_taken (places_from [] (t ∷ ts)) alone) ∙ tokens_again [] (t ∷ ts) in
-    let begins = ap (λ (l : List Token). begins_import (map (terminal_in line.text) l)) whole ∙ begins_import_so (map (terminal_in line.text) (t ∷ ts)) is import in
+    let begins = ap (λ (l : List Token). begins_import (map (terminal_in line.text) l)) whole ∙ import_begins (map (terminal_in line.text) (t ∷ ts)) is import in
     subst AreSome (sym binds.2) (some_first binds.0 binds.1 (first_bound line p binds.0 begins binds.3))
 
 pub imports_some : (line : LogicalLine) (is : List Imported) → Imports line is → AreSome is
@@ -158,13 +158,7 @@ begins_space : (class : Class) (text : List ℕ) (ps : List Piece) → InClass c
 begins_space space text ps is m h =
     ap (λ (k : ℕ). list_all is_space (slice_range (encode_utf8_all (text ++ spelled ps)) k (k + byte_len text))) (h refl)
     ∙ spaces_after 0 (byte_len text) (encode_utf8_all (text ++ spelled ps)) (spaces_taken text (spelled ps) is.3)
-begins_space mark text ps is m h = nothing_taken m (encode_utf8_all (text ++ spelled ps))
-begins_space word text ps is m h = nothing_taken m (encode_utf8_all (text ++ spelled ps))
-begins_space string text ps is m h = nothing_taken m (encode_utf8_all (text ++ spelled ps))
-begins_space operator text ps is m h = nothing_taken m (encode_utf8_all (text ++ spelled ps))
-begins_space comment text ps is m h = nothing_taken m (encode_utf8_all (text ++ spelled ps))
-begins_space join text ps is m h = nothing_taken m (encode_utf8_all (text ++ spelled ps))
-begins_space line_end text ps is m h = nothing_taken m (encode_utf8_all (text ++ spelled ps))
+begins_space _ text ps is m h = nothing_taken m (encode_utf8_all (text ++ spelled ps))
 
 unmarked_space : (p : Piece) (ps : List Piece) → InClass p.class p.text → p.class ≡ space → mark_len (unit_line (p ∷ ps)) ≡ 0
 unmarked_space p ps is e =
@@ -187,13 +181,7 @@ after_mark text rest is =
 
 second_space : (class : Class) (text : List ℕ) (ps : List Piece) → InClass class text → list_all is_space (take (space_len class text) (encode_utf8_all (text ++ spelled ps))) ≡ true
 second_space space text ps is = spaces_taken text (spelled ps) is.3
-second_space mark text ps is = refl
-second_space word text ps is = refl
-second_space string text ps is = refl
-second_space operator text ps is = refl
-second_space comment text ps is = refl
-second_space join text ps is = refl
-second_space line_end text ps is = refl
+second_space _ text ps is = refl
 
 marked_spaces : (p q : Piece) (ps : List Piece) → InClass p.class p.text → InClass q.class q.text → p.class ≡ mark → list_all is_space (slice_range (encode_utf8_all (spelled (p ∷ q ∷ ps))) (mark_len (unit_line (p ∷ q ∷ ps))) (mark_len (unit_line (p ∷ q ∷ ps)) + space_len q.class q.text)) ≡ true
 marked_spaces p q ps is other e =
@@ -206,13 +194,7 @@ marked_spaces p q ps is other e =
 
 is_mark_or_not : (class : Class) → (class ≡ mark) ⊎ (is_mark_class class ≡ false)
 is_mark_or_not mark = inl refl
-is_mark_or_not space = inr refl
-is_mark_or_not word = inr refl
-is_mark_or_not string = inr refl
-is_mark_or_not operator = inr refl
-is_mark_or_not comment = inr refl
-is_mark_or_not join = inr refl
-is_mark_or_not line_end = inr refl
+is_mark_or_not _ = inr refl
 
 pub indentation_spaces : (u : List Piece) → IsUnit u → list_all is_space (indentation_of (unit_line u)) ≡ true
 indentation_spaces [] is = absurd (let e = is.whole in cc)

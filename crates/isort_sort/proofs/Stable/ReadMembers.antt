@@ -10,11 +10,11 @@ use Rattle.py_imports.specs.Action.{says}
 use Rattle.py_imports.specs.Grammar.{Imported}
 use Rattle.py_imports.specs.declared.action.Action.TheVariants as action
 use Rattle.isort_settings.specs.Values.{Values}
-use Rattle.isort_sort.specs.Blocks.{role_is_member, role_is_between, role_imports, role_own, role_comments, is_member, is_between, comments_in, Further, further_rows, Run, run_rows, goes_on, is_run, member_of, members_of}
+use Rattle.isort_sort.specs.Blocks.{role_is_member, role_stands_between, role_imports, role_own, role_comments, is_member, stands_between, comments_in, Further, further_rows, Run, run_rows, goes_on, is_run, member_of, members_of}
 use Rattle.isort_sort.specs.Layout.{Laid, EachIsLaid, AreLaid}
 use Rattle.isort_sort.specs.Line.{own_comments, AreOwnComments}
 use Rattle.isort_sort.specs.Member.{Member, imports_of, begins_with, owned, first_texts}
-use Rattle.isort_sort.specs.Row.{Role, member, comments, blank, other, Row, HasRole}
+use Rattle.isort_sort.specs.Row.{Role, member, comments, blank, Row, HasRole}
 use Rattle.isort_sort.specs.Statement.{Statement, statement_of}
 use Rattle.isort_sort.specs.WrittenLine.{AreRemarks, IsReadMember, AreReadMembers, EachIsWritten}
 use Rattle.isort_sort.proofs.Orders.Contained.{map_in}
@@ -59,19 +59,16 @@ fine_row tokens laws own u above row is skip role m h = by row.role role m
       above = h;
       unskipped = ap (list_any (says action.SkipFile)) k.2 ∙ own_unskipped u skip;
     }
-    by (comments cs) k e = absurd (cc)
-    by blank k e = absurd (cc)
-    by (other b) k e = absurd (cc)
+    by _ k e = absurd (cc)
 
 above_append : (a b : List (List ℕ)) → AreAbove a → AreAbove b → AreAbove (a ++ b)
 above_append [] b h k = k
 above_append (c ∷ cs) b h k = (h.0, above_append cs b h.1 k)
 
-between_above : TokenLaws → (u : List Piece) (role : Role) → IsUnit u → says_skip_file u ≡ false → HasRole false (unit_line u) role → role_is_between role ≡ true → AreAbove (role_comments role)
+between_above : TokenLaws → (u : List Piece) (role : Role) → IsUnit u → says_skip_file u ≡ false → HasRole false (unit_line u) role → role_stands_between role ≡ true → AreAbove (role_comments role)
 between_above tokens u (comments cs) is skip h k = comments_above tokens false u cs is skip h
 between_above tokens u blank is skip h k = tt
-between_above tokens u (member i cs) is skip h k = absurd (cc)
-between_above tokens u (other b) is skip h k = absurd (cc)
+between_above tokens u _ is skip h k = absurd (cc)
 
 -- a further member, and what stands after it
 record IsRead (between : List Row) (row : Row) (rows : List Row) : Type 0 where
@@ -84,12 +81,12 @@ record IsRead (between : List Row) (row : Row) (rows : List Row) : Type 0 where
   lines : AreReadLines us
   later : AreSeen us rows
 
-read_further : TokenLaws → (us : List (List Piece)) (between : List Row) (row : Row) (rows : List Row) → AreReadLines us → AreSeen us ((between ++ row ∷ []) ++ rows) → list_all is_between between ≡ true → IsRead between row rows
+read_further : TokenLaws → (us : List (List Piece)) (between : List Row) (row : Row) (rows : List Row) → AreReadLines us → AreSeen us ((between ++ row ∷ []) ++ rows) → list_all stands_between between ≡ true → IsRead between row rows
 read_further tokens [] [] row rows h seen all = absurd seen
 read_further tokens [] (b ∷ bs) row rows h seen all = absurd seen
 read_further tokens (u ∷ us) [] row rows h seen all = record { u = u; us = us; above = tt; is = h.0; skip = h.1; seen = seen.0; lines = h.2; later = seen.1 }
 read_further tokens (u ∷ us) (b ∷ bs) row rows h seen all =
-    let parts = and_parts (is_between b) (list_all is_between bs) all in
+    let parts = and_parts (stands_between b) (list_all stands_between bs) all in
     let more = read_further tokens us bs row rows h.2 seen.1 parts.1 in
     record {
       u = more.u;
@@ -106,8 +103,8 @@ fine_others : TokenLaws → ImportLaws → OwnLaw → (indentation : List ℕ) (
 fine_others tokens laws own indentation us [] h seen all = tt
 fine_others tokens laws own indentation us (f ∷ fs) h seen all =
     let parts = and_parts (goes_on indentation f) (list_all (goes_on indentation) fs) all in
-    let one = and_parts (list_all is_between f.between && is_member f.row) (bytes_eq f.row.indentation indentation) parts.0 in
-    let two = and_parts (list_all is_between f.between) (is_member f.row) one.0 in
+    let one = and_parts (list_all stands_between f.between && is_member f.row) (bytes_eq f.row.indentation indentation) parts.0 in
+    let two = and_parts (list_all stands_between f.between) (is_member f.row) one.0 in
     let r = read_further tokens us f.between f.row (flat_map further_rows fs) h seen two.0 in (
       fine_row tokens laws own r.u f.between f.row r.is r.skip r.seen.role two.1 r.above,
       fine_others tokens laws own indentation r.us fs r.lines r.later parts.1,
@@ -124,9 +121,7 @@ first_some u row role m = by row.role role m
   where
     by : (r : Role) → HasRole false (unit_line u) r → role_is_member r ≡ true → AreSome (role_imports r)
     by (member i cs) k e = imports_some (unit_line u) i k.1
-    by (comments cs) k e = absurd (cc)
-    by blank k e = absurd (cc)
-    by (other b) k e = absurd (cc)
+    by _ k e = absurd (cc)
 
 pub fine_run : TokenLaws → ImportLaws → OwnLaw → (us : List (List Piece)) (run : Run) → AreReadLines us → AreSeen us (run_rows run) → is_run run ≡ true → IsFineRun run
 fine_run tokens laws own [] run h seen is = absurd seen

@@ -1,9 +1,8 @@
 -- A written statement is one logical line that imports what its words import.
-use Rattle.std.proofs.Common.{◌≡◌, ℕ, Bool, true, false, ◌&&◌, List, [], ◌∷◌, ◌++◌, map, nat_lt, slice_get, if◌then◌else◌, refl, sym, ap, ◌∙◌, subst, append_assoc, append-nil, arith}
+use Rattle.std.proofs.Common.{◌≡◌, ℕ, Bool, true, false, ◌&&◌, List, [], ◌∷◌, ◌++◌, map, nat_lt, slice_get, if◌then◌else◌, refl, sym, ap, ◌∙◌, subst, append_assoc, append-nil}
 use Rattle.std.specs.Prelude.{filter}
 use Rattle.std.specs.List.{list_any, list_all, join_by}
 use Rattle.std.proofs.lemmas.Bool.{and_parts}
-use Rattle.std.proofs.lemmas.Bool.Decides.{nat_tests}
 use Rattle.py_lines.specs.Character.{is_space, is_digit, is_line_feed}
 use Rattle.py_lines.specs.LogicalLine.{byte_len, cut, end_len_of}
 use Rattle.py_lines.specs.Neighbours.{MayTouch}
@@ -31,6 +30,7 @@ use Rattle.isort_sort.proofs.Stable.Phrases.{IsPhrase, remark_said}
 use Rattle.isort_sort.proofs.Stable.Remarks.{own-again, said-silent, unskipped}
 use Rattle.isort_sort.proofs.Stable.Tokens.{remarks-of, skips-of, undivided-of, alone-of, are_well, well-of}
 use Rattle.isort_sort.proofs.Stable.Touching.{touch-space}
+use Rattle.isort_sort.proofs.Rows.Spaces.{space_no_feed}
 
 abbrev pub first_terminal : Bool → Terminal
 first_terminal true = from_word
@@ -150,15 +150,11 @@ statement-touch : (indentation : List ℕ) (from : Bool) (phrase ends : List Pie
 statement-touch [] from phrase ends h = h
 statement-touch (c ∷ cs) from phrase ends h = (refl, h)
 
-space_unbroken : (c : ℕ) → is_space c ≡ true → is_line_feed c ≡ false
-unfolding is_space is_line_feed
-space_unbroken c h = grind (arith, nat_tests)
-
 statement-unbroken : (indentation : List ℕ) (from : Bool) (phrase : List Piece) → list_all is_space indentation ≡ true → begins is_line_feed (spelled (statement_pieces indentation from phrase)) ≡ false
 unfolding is_line_feed
 statement-unbroken [] true phrase h = refl
 statement-unbroken [] false phrase h = refl
-statement-unbroken (c ∷ cs) from phrase h = space_unbroken c (and_parts _ _ h).0
+statement-unbroken (c ∷ cs) from phrase h = space_no_feed c (and_parts _ _ h).0
 
 statement-cut : (indentation : List ℕ) (from : Bool) (phrase : List Piece) → IsOneLine (statement_pieces indentation from phrase) → cut 0 (statement_pieces indentation from phrase) ≡ statement_pieces indentation from phrase ∷ []
 statement-cut [] from phrase l = one-cut (piece word (first_word from)) (a_space ∷ phrase) l

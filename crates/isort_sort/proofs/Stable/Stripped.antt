@@ -14,8 +14,10 @@ use Rattle.py_imports.specs.declared.action.Action.{Action}
 use Rattle.isort_sort.specs.Line.{without_hash, without_start, without_end, stripped}
 use Rattle.isort_sort.proofs.Stable.Units.{scalars-parts}
 use Rattle.isort_sort.proofs.Stable.FirstEnds.{is_end_byte}
-use Rattle.isort_sort.proofs.Stable.LineUnits.{space_low, or_true}
 use Rattle.isort_sort.proofs.Stable.Joined.{none-append}
+use Rattle.isort_sort.proofs.Rows.Spaces.{space_low}
+use Rattle.std.proofs.Math.Bool.{or-true}
+use Rattle.std.proofs.Math.Seq.{drop-append_seam}
 
 -- a test that bytes of ASCII alone pass says the same of a character and of its bytes
 none_at : (p : ℕ → Bool) (xs : List ℕ) → ((k : ℕ) → k < length xs → p (get_or xs k 0) ≡ false) → list_any p xs ≡ false
@@ -127,12 +129,8 @@ phrase_more phrase text rest bare h =
     let whole : text ++ rest ≡ phrase ++ (drop (length phrase) text ++ rest) = ap (λ (t : List ℕ). t ++ rest) split ∙ append_assoc phrase (drop (length phrase) text) rest in
     and_from _ _
     ((starts_is Decides-eqb (text ++ rest) phrase (starts_with nat_eq (text ++ rest) phrase) refl).1 (drop (length phrase) text ++ rest) whole)
-    (ap (λ (t : List ℕ). not (begins_with_word_byte t)) (ap (drop (length phrase)) whole ∙ drop_past phrase (drop (length phrase) text ++ rest)) ∙ by (drop (length phrase) text) parts.1)
+    (ap (λ (t : List ℕ). not (begins_with_word_byte t)) (ap (drop (length phrase)) whole ∙ drop-append_seam phrase (drop (length phrase) text ++ rest)) ∙ by (drop (length phrase) text) parts.1)
   where
-    drop_past : (p t : List ℕ) → drop (length p) (p ++ t) ≡ t
-    drop_past [] t = refl
-    drop_past (x ∷ p) t = drop_past p t
-
     by : (t : List ℕ) → not (begins_with_word_byte t) ≡ true → not (begins_with_word_byte (t ++ rest)) ≡ true
     by [] k = ap not bare
     by (x ∷ t) k = k
@@ -143,7 +141,7 @@ action_more a text rest bare h =
     let two : List ℕ = codes "isort: " ++ action_word a in
     ⊎_elim
     (λ (k : begins_with_phrase one text ≡ true). ap (λ b. b || begins_with_phrase two (text ++ rest)) (phrase_more one text rest bare k))
-    (λ (k : begins_with_phrase two text ≡ true). ap (λ b. begins_with_phrase one (text ++ rest) || b) (phrase_more two text rest bare k) ∙ or_true (begins_with_phrase one (text ++ rest)))
+    (λ (k : begins_with_phrase two text ≡ true). ap (λ b. begins_with_phrase one (text ++ rest) || b) (phrase_more two text rest bare k) ∙ or-true (begins_with_phrase one (text ++ rest)))
     (or_cases (begins_with_phrase one text) (begins_with_phrase two text) h)
 
 says_head : (a : Action) (text : List ℕ) → begins_with_action a text ≡ true → says a text ≡ true
@@ -156,11 +154,11 @@ says_more a [] rest bare h =
 says_more a (b ∷ text) rest bare h =
     ⊎_elim
     (λ (k : begins_with_action a (b ∷ text) ≡ true). says_head a ((b ∷ text) ++ rest) (action_more a (b ∷ text) rest bare k))
-    (λ (k : says a text ≡ true). ap (λ x. begins_with_action a (b ∷ (text ++ rest)) || x) (says_more a text rest bare k) ∙ or_true (begins_with_action a (b ∷ (text ++ rest))))
+    (λ (k : says a text ≡ true). ap (λ x. begins_with_action a (b ∷ (text ++ rest)) || x) (says_more a text rest bare k) ∙ or-true (begins_with_action a (b ∷ (text ++ rest))))
     (or_cases (begins_with_action a (b ∷ text)) (says a text) h)
 
 says_after : (a : Action) (b : ℕ) (text : List ℕ) → says a text ≡ true → says a (b ∷ text) ≡ true
-says_after a b text h = ap (λ x. begins_with_action a (b ∷ text) || x) h ∙ or_true (begins_with_action a (b ∷ text))
+says_after a b text h = ap (λ x. begins_with_action a (b ∷ text) || x) h ∙ or-true (begins_with_action a (b ∷ text))
 
 -- what is stripped off
 space_no_word : (c : ℕ) → is_space c ≡ true → is_word_byte c ≡ false

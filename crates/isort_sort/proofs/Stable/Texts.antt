@@ -1,7 +1,6 @@
 -- The text of a written statement, in the order of its pieces.
-use Rattle.std.proofs.Common.{◌≡◌, ℕ, ◌+◌, Bool, true, false, List, [], ◌∷◌, ◌++◌, map, flat_map, replicate, codes, if◌then◌else◌, refl, sym, ap, ◌∙◌, subst, append_assoc, append-nil}
+use Rattle.std.proofs.Common.{◌≡◌, ℕ, ◌+◌, Bool, true, false, List, [], ◌∷◌, ◌++◌, map, replicate, codes, if◌then◌else◌, refl, sym, ap, ◌∙◌, append_assoc, append-nil}
 use Rattle.std.specs.List.{join_by}
-use Rattle.std.proofs.lemmas.List.Concat.{flat_map-append}
 use Rattle.py_imports.specs.Grammar.{Item}
 use Rattle.isort_settings.specs.Values.{Values}
 use Rattle.isort_sort.specs.Wrapping.{items_text, head, framed, four_spaces, trailing_comma, in_brackets, hanging, hanging_in_brackets}
@@ -9,31 +8,18 @@ use Rattle.isort_sort.specs.Width.{width}
 use Rattle.isort_sort.proofs.Layouts.Writing.{join_by-map}
 use Rattle.isort_sort.proofs.Stable.Items.{join-more, join-one}
 use Rattle.isort_sort.proofs.Stable.NamesPhrases.{comma_text}
+use Rattle.isort_sort.proofs.Stable.Joined.{joined_lines, AreSome, some_first, joined_more, joined-append, joined_ended}
 
--- lines with line ends between them
-abbrev pub joined : List ℕ → List (List ℕ) → List ℕ
-joined end lines = join_by (λ (l : List ℕ). l) end lines
+-- framed lines, of which there is one, and lines before and after others
+some-framed : (first next between last t : List ℕ) (ts : List (List ℕ)) → AreSome (framed first next between last (t ∷ ts))
+some-framed first next between last t [] = (first ++ (t ++ last), [], refl)
+some-framed first next between last t (u ∷ us) = (first ++ (t ++ between), framed next next between last (u ∷ us), refl)
 
--- there is a line
-pub record IsSome (lines : List (List ℕ)) : Type 0 where
-  pub first : List ℕ
-  pub others : List (List ℕ)
-  pub is : lines ≡ first ∷ others
+joined-first : (end x : List ℕ) (lines : List (List ℕ)) → AreSome lines → joined_lines end (x ∷ lines) ≡ x ++ (end ++ joined_lines end lines)
+joined-first end x lines s = joined_more end x lines s ∙ append_assoc x end (joined_lines end lines)
 
-some-framed : (first next between last t : List ℕ) (ts : List (List ℕ)) → IsSome (framed first next between last (t ∷ ts))
-some-framed first next between last t [] = record { first = first ++ (t ++ last); others = []; is = refl }
-some-framed first next between last t (u ∷ us) = record { first = first ++ (t ++ between); others = framed next next between last (u ∷ us); is = refl }
-
-joined-first : (end x : List ℕ) (lines : List (List ℕ)) → IsSome lines → joined end (x ∷ lines) ≡ x ++ (end ++ joined end lines)
-joined-first end x lines s = subst (λ ls. joined end (x ∷ ls) ≡ x ++ (end ++ joined end ls)) (sym s.is) (join-more (λ (l : List ℕ). l) end x s.first s.others)
-
-joined-last : (end z : List ℕ) (lines : List (List ℕ)) → IsSome lines → joined end (lines ++ z ∷ []) ≡ joined end lines ++ (end ++ z)
-joined-last end z lines s = subst (λ ls. joined end (ls ++ z ∷ []) ≡ joined end ls ++ (end ++ z)) (sym s.is) (by s.first s.others)
-  where
-    by : (x : List ℕ) (xs : List (List ℕ)) → joined end ((x ∷ xs) ++ z ∷ []) ≡ joined end (x ∷ xs) ++ (end ++ z)
-    by x xs =
-        ap (λ t. x ++ t) (flat_map-append (λ (l : List ℕ). end ++ l) xs (z ∷ []) ∙ ap (λ t. flat_map (λ (l : List ℕ). end ++ l) xs ++ t) (append-nil (end ++ z)))
-        ∙ sym (append_assoc x (flat_map (λ (l : List ℕ). end ++ l) xs) (end ++ z))
+joined-last : (end z : List ℕ) (lines : List (List ℕ)) → AreSome lines → joined_lines end (lines ++ z ∷ []) ≡ joined_lines end lines ++ (end ++ z)
+joined-last end z lines s = joined-append end lines (z ∷ []) (z, [], refl) ∙ (λ i. joined_ended end lines s i ++ append-nil z i) ∙ append_assoc (joined_lines end lines) end z
 
 regroup-framed : (f t b e n j l : List ℕ) → (f ++ (t ++ b)) ++ (e ++ (n ++ (j ++ l))) ≡ f ++ ((t ++ ((b ++ (e ++ n)) ++ j)) ++ l)
 regroup-framed f t b e n j l = simp append_assoc
@@ -42,15 +28,15 @@ regroup-one : (f t l : List ℕ) → (f ++ (t ++ l)) ++ [] ≡ f ++ ((t ++ []) +
 regroup-one f t l = simp (append_assoc, append-nil)
 
 -- framed lines: the texts, with what stands between two of them
-framed-joined : (end first next between last t : List ℕ) (ts : List (List ℕ)) → joined end (framed first next between last (t ∷ ts)) ≡ first ++ (joined (between ++ (end ++ next)) (t ∷ ts) ++ last)
+framed-joined : (end first next between last t : List ℕ) (ts : List (List ℕ)) → joined_lines end (framed first next between last (t ∷ ts)) ≡ first ++ (joined_lines (between ++ (end ++ next)) (t ∷ ts) ++ last)
 framed-joined end first next between last t [] = regroup-one first t last
 framed-joined end first next between last t (u ∷ us) =
     joined-first end (first ++ (t ++ between)) (framed next next between last (u ∷ us)) (some-framed next next between last u us)
     ∙ ap (λ x. (first ++ (t ++ between)) ++ (end ++ x)) (framed-joined end next next between last u us)
-    ∙ regroup-framed first t between end next (joined (between ++ (end ++ next)) (u ∷ us)) last
+    ∙ regroup-framed first t between end next (joined_lines (between ++ (end ++ next)) (u ∷ us)) last
     ∙ ap (λ x. first ++ (x ++ last)) (sym (join-more (λ (l : List ℕ). l) (between ++ (end ++ next)) t u us))
 
-framed-text : (end first next between last : List ℕ) (line : List Item) (lines : List (List Item)) → joined end (framed first next between last (map items_text (line ∷ lines))) ≡ first ++ (join_by items_text (between ++ (end ++ next)) (line ∷ lines) ++ last)
+framed-text : (end first next between last : List ℕ) (line : List Item) (lines : List (List Item)) → joined_lines end (framed first next between last (map items_text (line ∷ lines))) ≡ first ++ (join_by items_text (between ++ (end ++ next)) (line ∷ lines) ++ last)
 framed-text end first next between last line lines =
     framed-joined end first next between last (items_text line) (map items_text lines)
     ∙ ap (λ x. first ++ (x ++ last)) (join_by-map (λ t. t) items_text (between ++ (end ++ next)) (line ∷ lines))
@@ -63,7 +49,7 @@ abbrev pub from_text : List ℕ → List ℕ → List ℕ → List ℕ
 from_text indentation m body = indentation ++ (codes "from" ++ (32 ∷ (m ++ (codes " import " ++ body))))
 
 -- on one line
-pub one-text : (end indentation m body : List ℕ) → from_text indentation m body ≡ joined end ((indentation ++ (head m ++ body)) ∷ [])
+pub one-text : (end indentation m body : List ℕ) → from_text indentation m body ≡ joined_lines end ((indentation ++ (head m ++ body)) ∷ [])
 one-text end indentation m body = sym (head-text indentation m body) ∙ sym (join-one (λ (l : List ℕ). l) end (indentation ++ (head m ++ body)))
 
 trailing-text : (v : Values) → trailing_comma v ≡ comma_text v.include_trailing_comma
@@ -77,7 +63,7 @@ regroup-brackets : (i h p j c q r : List ℕ) → (i ++ (h ++ p)) ++ (j ++ (c ++
 regroup-brackets i h p j c q r = simp append_assoc
 
 -- in brackets
-pub brackets-text : (v : Values) (end indentation m comment : List ℕ) (line : List Item) (lines : List (List Item)) → from_text indentation m ((codes "(" ++ ((join_by items_text (codes "," ++ (end ++ (indentation ++ replicate (width (head m) + 1) 32))) (line ∷ lines) ++ comma_text v.include_trailing_comma) ++ codes ")")) ++ comment) ≡ joined end (in_brackets v indentation m comment (map items_text (line ∷ lines)))
+pub brackets-text : (v : Values) (end indentation m comment : List ℕ) (line : List Item) (lines : List (List Item)) → from_text indentation m ((codes "(" ++ ((join_by items_text (codes "," ++ (end ++ (indentation ++ replicate (width (head m) + 1) 32))) (line ∷ lines) ++ comma_text v.include_trailing_comma) ++ codes ")")) ++ comment) ≡ joined_lines end (in_brackets v indentation m comment (map items_text (line ∷ lines)))
 brackets-text v end indentation m comment line lines =
     let pad : List ℕ = indentation ++ replicate (width (head m) + 1) 32 in
     let names : List ℕ = join_by items_text (codes "," ++ (end ++ pad)) (line ∷ lines) in
@@ -90,7 +76,7 @@ regroup-hanging : (i h s e p j r : List ℕ) → (i ++ (h ++ s)) ++ (e ++ (p ++ 
 regroup-hanging i h s e p j r = simp append_assoc
 
 -- after a backslash
-pub hanging-text : (end indentation m comment : List ℕ) (line : List Item) (lines : List (List Item)) → from_text indentation m ((92 ∷ end) ++ ((indentation ++ four_spaces) ++ (join_by items_text ((codes ", " ++ 92 ∷ []) ++ (end ++ (indentation ++ four_spaces))) (line ∷ lines) ++ comment))) ≡ joined end (hanging indentation m comment (map items_text (line ∷ lines)))
+pub hanging-text : (end indentation m comment : List ℕ) (line : List Item) (lines : List (List Item)) → from_text indentation m ((92 ∷ end) ++ ((indentation ++ four_spaces) ++ (join_by items_text ((codes ", " ++ 92 ∷ []) ++ (end ++ (indentation ++ four_spaces))) (line ∷ lines) ++ comment))) ≡ joined_lines end (hanging indentation m comment (map items_text (line ∷ lines)))
 hanging-text end indentation m comment line lines =
     let pad : List ℕ = indentation ++ four_spaces in
     let between : List ℕ = codes ", " ++ 92 ∷ [] in
@@ -105,7 +91,7 @@ regroup-hung : (i h o r e p j c q : List ℕ) → (i ++ (h ++ (o ++ r))) ++ (e +
 regroup-hung i h o r e p j c q = simp append_assoc
 
 -- in brackets of their own
-pub hung-text : (v : Values) (end indentation m comment : List ℕ) (line : List Item) (lines : List (List Item)) → from_text indentation m (codes "(" ++ ((comment ++ (end ++ ((indentation ++ four_spaces) ++ (join_by items_text (codes "," ++ (end ++ (indentation ++ four_spaces))) (line ∷ lines) ++ (comma_text v.include_trailing_comma ++ (end ++ indentation)))))) ++ codes ")")) ≡ joined end (hanging_in_brackets v indentation m comment (map items_text (line ∷ lines)))
+pub hung-text : (v : Values) (end indentation m comment : List ℕ) (line : List Item) (lines : List (List Item)) → from_text indentation m (codes "(" ++ ((comment ++ (end ++ ((indentation ++ four_spaces) ++ (join_by items_text (codes "," ++ (end ++ (indentation ++ four_spaces))) (line ∷ lines) ++ (comma_text v.include_trailing_comma ++ (end ++ indentation)))))) ++ codes ")")) ≡ joined_lines end (hanging_in_brackets v indentation m comment (map items_text (line ∷ lines)))
 hung-text v end indentation m comment line lines =
     let pad : List ℕ = indentation ++ four_spaces in
     let names : List ℕ = join_by items_text (codes "," ++ (end ++ pad)) (line ∷ lines) in
@@ -113,7 +99,7 @@ hung-text v end indentation m comment line lines =
     let last : List ℕ = indentation ++ codes ")" in
     let inner = framed pad pad (codes ",") (trailing_comma v) (map items_text (line ∷ lines)) in
     let some = some-framed pad pad (codes ",") (trailing_comma v) (items_text line) (map items_text lines) in
-    sym (joined-first end first (inner ++ last ∷ []) (record { first = some.first; others = some.others ++ last ∷ []; is = ap (λ ls. ls ++ last ∷ []) some.is })
+    sym (joined-first end first (inner ++ last ∷ []) (some_first inner (last ∷ []) some)
     ∙ ap (λ t. first ++ (end ++ t)) (joined-last end last inner some)
     ∙ ap (λ t. first ++ (end ++ (t ++ (end ++ last)))) (framed-text end pad pad (codes ",") (trailing_comma v) line lines)
     ∙ ap (λ c. first ++ (end ++ ((pad ++ (names ++ c)) ++ (end ++ last)))) (trailing-text v)

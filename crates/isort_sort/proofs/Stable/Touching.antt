@@ -1,11 +1,10 @@
 -- Which pieces may stand before others.
 use Rattle.std.proofs.Common.{◌≡◌, ℕ, Bool, true, false, not, List, [], ◌∷◌, refl}
-use Rattle.py_lines.specs.LogicalLine.{is_line_end_class}
 use Rattle.py_lines.specs.Neighbours.{is_space_class, is_word_class, MayTouch}
-use Rattle.py_lines.specs.Piece.{Class, mark, space, word, string, operator, comment, join, line_end, Piece}
+use Rattle.py_lines.specs.Piece.{Class, space, word, operator, Piece}
 use Rattle.isort_sort.proofs.Stable.Parts.{piece}
 
--- what may stand after a word, after space, and after a comment
+-- what may stand after a word, and after space
 abbrev pub after_word : List Piece → Bool
 after_word [] = true
 after_word (p ∷ ps) = not (is_word_class p.class)
@@ -13,10 +12,6 @@ after_word (p ∷ ps) = not (is_word_class p.class)
 abbrev pub after_space : List Piece → Bool
 after_space [] = true
 after_space (p ∷ ps) = not (is_space_class p.class)
-
-abbrev pub after_comment : List Piece → Bool
-after_comment [] = true
-after_comment (p ∷ ps) = is_line_end_class p.class
 
 -- whether pieces begin with a word
 abbrev pub begins_word : List Piece → Bool
@@ -31,10 +26,6 @@ pub touch-space : (t : List ℕ) (rest : List Piece) → after_space rest ≡ tr
 touch-space t [] h k = tt
 touch-space t (p ∷ ps) h k = (h, k)
 
-pub touch-comment : (t : List ℕ) (rest : List Piece) → after_comment rest ≡ true → MayTouch rest → MayTouch (piece comment t ∷ rest)
-touch-comment t [] h k = tt
-touch-comment t (p ∷ ps) h k = (h, k)
-
 pub touch-operator : (t : List ℕ) (rest : List Piece) → MayTouch rest → MayTouch (piece operator t ∷ rest)
 touch-operator t [] k = tt
 touch-operator t (p ∷ ps) k = (refl, k)
@@ -45,11 +36,5 @@ word_after_space [] h = absurd (cc)
 word_after_space (p ∷ ps) h = by p.class h
   where
     by : (c : Class) → is_word_class c ≡ true → not (is_space_class c) ≡ true
-    by mark k = refl
     by space k = absurd (cc)
-    by word k = refl
-    by string k = refl
-    by operator k = refl
-    by comment k = refl
-    by join k = refl
-    by line_end k = refl
+    by _ k = refl

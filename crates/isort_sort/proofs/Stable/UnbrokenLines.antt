@@ -6,7 +6,7 @@ use Rattle.std.proofs.lemmas.Bool.{and_parts}
 use Rattle.std.proofs.lemmas.Bool.Decides.{nat_tests}
 use Rattle.std.proofs.Common.{arith}
 use Rattle.py_lines.specs.Character.{is_space, is_break, is_hash}
-use Rattle.py_imports.specs.Grammar.{Terminal, import_word, from_word, as_word, name, dot, comma, star, opening, closing, other, Item, spelling}
+use Rattle.py_imports.specs.Grammar.{Terminal, name, Item, spelling}
 use Rattle.py_imports.specs.Names.{IsName, HaveNames, IsModuleName, IsRelativeName, IsAlias}
 use Rattle.py_imports.specs.Spelled.{alias_text}
 use Rattle.isort_settings.specs.Values.{Values}
@@ -46,15 +46,7 @@ unbroken_name law b h = subst IsUnbroken h.spell (unbroken_bytes h.characters (l
 unbroken_path : WordsLaw → (ts : List Terminal) → HaveNames ts → IsUnbroken (spelling ts)
 unbroken_path law [] h = refl
 unbroken_path law (name w ∷ ts) h = joins w (spelling ts) (unbroken_name law w h.0) (unbroken_path law ts h.1)
-unbroken_path law (dot ∷ ts) h = unbroken_path law ts h.1
-unbroken_path law (import_word ∷ ts) h = unbroken_path law ts h.1
-unbroken_path law (from_word ∷ ts) h = unbroken_path law ts h.1
-unbroken_path law (as_word ∷ ts) h = unbroken_path law ts h.1
-unbroken_path law (comma ∷ ts) h = unbroken_path law ts h.1
-unbroken_path law (star ∷ ts) h = unbroken_path law ts h.1
-unbroken_path law (opening ∷ ts) h = unbroken_path law ts h.1
-unbroken_path law (closing ∷ ts) h = unbroken_path law ts h.1
-unbroken_path law (other ∷ ts) h = unbroken_path law ts h.1
+unbroken_path law (_ ∷ ts) h = unbroken_path law ts h.1
 
 unbroken_module : WordsLaw → (m : List ℕ) → IsModuleName m → IsUnbroken m
 unbroken_module law m h = subst IsUnbroken (sym h.spell) (unbroken_path law h.path h.names)

@@ -4,7 +4,7 @@ use Rattle.std.specs.Prelude.{slice_get, slice_range}
 use Rattle.std.specs.List.{list_any}
 use Rattle.std.proofs.lemmas.Bool.{both_ways, or_parts}
 use Rattle.py_lines.specs.LogicalLine.{LogicalLine, byte_len, line_ends, is_code_class, is_comment_class, tokens_of_piece, tokens_from, kind_of, line_of, lines_from}
-use Rattle.py_lines.specs.Piece.{Class, mark, space, word, string, operator, comment, join, line_end, Piece, spelled}
+use Rattle.py_lines.specs.Piece.{Class, word, string, operator, join, Piece, spelled}
 use Rattle.py_lines.specs.declared.token.Token.{Token}
 use Rattle.py_lines.specs.declared.unit.UnitKind.{UnitKind}
 use Rattle.py_lines.specs.declared.unit.UnitKind.TheVariants as unit_kind
@@ -38,14 +38,11 @@ binds_first (u ∷ us) vs h = let later = binds_first us vs h.1 in ((h.0, later.
 
 -- comments and blank lines have no tokens of statements
 piece_no_code : (start stop line : ℕ) (class : Class) (text : List ℕ) (ts : List Token) → is_code_class class ≡ false → significant (tokens_of_piece start stop line class text ++ ts) ≡ significant ts
-piece_no_code start stop line mark text ts h = refl
-piece_no_code start stop line space text ts h = refl
 piece_no_code start stop line word text ts h = absurd (cc)
 piece_no_code start stop line string text ts h = absurd (cc)
 piece_no_code start stop line operator text ts h = absurd (cc)
-piece_no_code start stop line comment text ts h = refl
 piece_no_code start stop line join text ts h = absurd (cc)
-piece_no_code start stop line line_end text ts h = refl
+piece_no_code start stop line _ text ts h = refl
 
 no_code : (start line : ℕ) (ps : List Piece) → list_any (λ p. is_code_class p.class) ps ≡ false → significant (tokens_from start line ps) ≡ []
 no_code start line [] h = refl

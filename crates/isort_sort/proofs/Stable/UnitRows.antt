@@ -17,7 +17,8 @@ use Rattle.isort_sort.specs.Line.{word_of, comment_texts}
 use Rattle.isort_sort.specs.Row.{is_comment_kind, says_alone, says_off, says_on, is_off_after, Role, member, comments, blank, other, Row, HasRole, indentation_of, AreRows}
 use Rattle.isort_sort.specs.Sorted.{texts_of}
 use Rattle.isort_sort.proofs.Rows.MovedRoles.{role_moved}
-use Rattle.isort_sort.proofs.Stable.Units.{flat, spelled-append}
+use Rattle.isort_sort.proofs.Stable.Units.{flat}
+use Rattle.isort_sort.proofs.Stable.Parts.{spelled-append}
 
 -- what the tokens of pieces are, as the lexer's law says
 pub record TokenLaws : Type 0 where

@@ -1,5 +1,5 @@
 -- The pieces of a text's logical lines, one list after another.
-use Rattle.std.proofs.Common.{◌≡◌, ℕ, ◌==◌, Bool, true, false, cond, ◌&&◌, ◌⊎◌, ⊎_elim, inl, inr, List, [], ◌∷◌, ◌++◌, flat_map, refl, sym, ap, ◌∙◌, subst, append_assoc, append-nil}
+use Rattle.std.proofs.Common.{◌≡◌, ℕ, ◌==◌, Bool, true, false, cond, ◌&&◌, ◌⊎◌, ⊎_elim, inl, inr, List, [], ◌∷◌, ◌++◌, flat_map, refl, sym, ap, ◌∙◌, subst, append-nil}
 use Rattle.std.specs.Str.{all_scalars}
 use Rattle.std.proofs.lemmas.Bool.{and_parts, and_from, eqb-true, cases_Bool}
 use Rattle.py_lines.specs.Balance.{depth_after, depth_through, IsBalanced as balance}
@@ -9,6 +9,7 @@ use Rattle.py_lines.specs.LogicalLine.{is_line_end_class, put_first, cut}
 use Rattle.py_lines.specs.Neighbours.{MayFollowLines}
 use Rattle.py_lines.specs.Piece.{Class, mark, space, word, string, operator, comment, join, line_end, Piece, begins, ends, begins_marked, spelled}
 use Rattle.py_lines.specs.PieceGrammar.{InClass, MayPrecede, AreReadBefore, feed, return_feed, return}
+use Rattle.isort_sort.proofs.Stable.Parts.{spelled-append, scalars-append}
 
 -- what whole lines and pieces after them are, as the lexer's laws say
 pub record LineLaws : Type 0 where
@@ -36,23 +37,13 @@ abbrev pub AreUnits : List (List Piece) → Type 0
 AreUnits [] = Unit {0}
 AreUnits (u ∷ us) = IsUnit u × Follows u us × AreUnits us
 
--- characters and pieces, one list after another
-pub spelled-append : (ps qs : List Piece) → spelled (ps ++ qs) ≡ spelled ps ++ spelled qs
-spelled-append [] qs = refl
-spelled-append (p ∷ ps) qs = ap (λ t. p.text ++ t) (spelled-append ps qs) ∙ sym (append_assoc p.text (spelled ps) (spelled qs))
-
+-- the characters of two lists
 pub scalars-parts : (xs ys : List ℕ) → all_scalars (xs ++ ys) ≡ true → (all_scalars xs ≡ true) × (all_scalars ys ≡ true)
 scalars-parts [] ys h = (refl, h)
 scalars-parts (x ∷ xs) ys h =
     let parts = and_parts _ (all_scalars (xs ++ ys)) h in
     let later = scalars-parts xs ys parts.1 in
     (and_from _ _ parts.0 later.0, later.1)
-
-pub scalars-append : (xs ys : List ℕ) → all_scalars xs ≡ true → all_scalars ys ≡ true → all_scalars (xs ++ ys) ≡ true
-scalars-append [] ys h k = k
-scalars-append (x ∷ xs) ys h k =
-    let parts = and_parts _ (all_scalars xs) h in
-    and_from _ _ parts.0 (scalars-append xs ys parts.1 k)
 
 -- a piece has a character
 some_after : (prefix : List ℕ) (q : ℕ) (more : List ℕ) → (c : ℕ) × (cs : List ℕ) × (prefix ++ q ∷ more ≡ c ∷ cs)
@@ -120,13 +111,7 @@ record FirstLine (d : ℕ) (all : List Piece) : Type 0 where
 
 pub is_end_class : (class : Class) → is_line_end_class class ≡ true → class ≡ line_end
 is_end_class line_end h = refl
-is_end_class mark h = absurd (cc)
-is_end_class space h = absurd (cc)
-is_end_class word h = absurd (cc)
-is_end_class string h = absurd (cc)
-is_end_class operator h = absurd (cc)
-is_end_class comment h = absurd (cc)
-is_end_class join h = absurd (cc)
+is_end_class _ h = absurd (cc)
 
 -- one more piece before pieces
 tested : (d : ℕ) (p : Piece) (qs : List Piece) (b : Bool) → is_line_end_class p.class && (d == 0) ≡ b → cut d (p ∷ qs) ≡ cond b ((p ∷ []) ∷ cut d qs) (put_first p (cut (depth_after d p) qs))

@@ -7,7 +7,7 @@ use Rattle.py_lines.specs.Character.{is_space}
 use Rattle.py_lines.specs.Piece.{Piece}
 use Rattle.py_lines.specs.PieceGrammar.{IsLineEnd}
 use Rattle.py_imports.specs.Grammar as grammar
-use Rattle.py_imports.specs.Grammar.{Terminal, import_word, spelling, IsModule, IsRelativeModule, AreNames, attribute_of, IsImport, Imported, Item}
+use Rattle.py_imports.specs.Grammar.{Terminal, import_word, spelling, IsModule, IsRelativeModule, AreNames, attribute_of, IsImport, Item}
 use Rattle.py_imports.specs.Names.{HaveNames, IsAlias}
 use Rattle.py_imports.specs.Spelled.{alias_text}
 use Rattle.isort_settings.specs.Values.{Values}
@@ -30,7 +30,8 @@ use Rattle.isort_sort.proofs.Stable.NamesPhrases.{flat-phrase, hanging-phrase, b
 use Rattle.isort_sort.proofs.Stable.Phrases.{IsPhrase, remark_said, import_pieces, phrase-from, phrase-module}
 use Rattle.isort_sort.proofs.Stable.Sources.{IsWritable, laid-writable, remarks-of_statement, cut-lines}
 use Rattle.isort_sort.proofs.Stable.Statements.{written}
-use Rattle.isort_sort.proofs.Stable.Texts.{joined, from_text, one-text, brackets-text, hanging-text, hung-text}
+use Rattle.isort_sort.proofs.Stable.Texts.{from_text, one-text, brackets-text, hanging-text, hung-text}
+use Rattle.isort_sort.proofs.Stable.Joined.{joined_lines}
 
 -- where a statement is written
 record IsPlace (indentation end : List ℕ) : Type 0 where
@@ -42,7 +43,7 @@ abbrev Writes : List ℕ → List ℕ → Laid → List (List ℕ) → Type 0
 Writes indentation end s lines = (pieces : List Piece) × IsWritten indentation end s lines pieces
 
 -- a `from` statement
-from-written : Laws → (indentation end : List ℕ) → IsPlace indentation end → (path : List Terminal) → IsRelativeModule path → HaveNames path → (s : Laid) → AreRemarks s.comments → (body : List Piece) (bytes : List ℕ) (terminals : List Terminal) → IsPhrase end body bytes terminals (remark_said s.comments) → (is : List Item) → AreNames terminals is → map (attribute_of (spelling path)) is ≡ map (import_of s.statement) s.items → (lines : List (List ℕ)) → from_text indentation (spelling path) bytes ≡ joined end lines → Writes indentation end s lines
+from-written : Laws → (indentation end : List ℕ) → IsPlace indentation end → (path : List Terminal) → IsRelativeModule path → HaveNames path → (s : Laid) → AreRemarks s.comments → (body : List Piece) (bytes : List ℕ) (terminals : List Terminal) → IsPhrase end body bytes terminals (remark_said s.comments) → (is : List Item) → AreNames terminals is → map (attribute_of (spelling path)) is ≡ map (import_of s.statement) s.items → (lines : List (List ℕ)) → from_text indentation (spelling path) bytes ≡ joined_lines end lines → Writes indentation end s lines
 from-written laws indentation end place path r named s remarks body bytes terminals phrase is are same lines text = (
   _,
   written laws indentation end s true (path_pieces path ++ (import_pieces ++ body)) (spelling path ++ (codes " import " ++ bytes)) (path ++ (import_word ∷ terminals)) lines

@@ -25,7 +25,7 @@ use Rattle.isort_sort.proofs.Stable.UnitRows.{TokenLaws, unit_line, AreUnitRows,
 use Rattle.isort_sort.proofs.Stable.OldBlock.{member_in_block}
 use Rattle.isort_sort.proofs.Stable.UnitBinds.{EachBinds, binds_append, inner_binds}
 use Rattle.isort_sort.proofs.Stable.LineUnits.{NeighbourLaw, are_some, AreLines, row_of, lines_units, lines_append, inner_rows, inner_append, says_skip_file, AreAbove, comment_unit, comment_starts, above_units, above_rows, above_lines, above_inner, above_text, above_rows_text, above_are_comments, above_unskipped, first_above_passes}
-use Rattle.isort_sort.proofs.Stable.Joined.{joined, ended_lines, AreSome, some_first, some_append, joined-append, joined_ended, bytes_of, bytes_of-append, none-append}
+use Rattle.isort_sort.proofs.Stable.Joined.{joined_lines, ended_lines, AreSome, some_first, some_append, joined-append, joined_ended, bytes_of, bytes_of-append, none-append}
 use Rattle.isort_sort.proofs.Stable.BlockUnits.{lines_of_statement, IsReady, AreReady, tail_of, blanks_of, statement_some, IsBuilt, built}
 use Rattle.isort_sort.proofs.Stable.Marked.{comment_mark, comment_first}
 
@@ -59,11 +59,11 @@ pub record IsWrittenBlock (v : Values) (end : List ℕ) (run : Run) (own : List 
   pub mark : (marked : Bool) → mark_len (line_of 0 1 (mark_pieces marked ++ first)) ≡ mark_bytes marked
 
 -- the text of lines is that of the lines, and what follows the last
-text_is : (end : List ℕ) (ended : Bool) (n : ℕ) (lines : List (List ℕ)) → AreSome lines → text_of_lines end ended n lines ≡ joined end lines ++ tail_of end ended n
+text_is : (end : List ℕ) (ended : Bool) (n : ℕ) (lines : List (List ℕ)) → AreSome lines → text_of_lines end ended n lines ≡ joined_lines end lines ++ tail_of end ended n
 text_is end true n lines some =
     flat_map-append (λ (l : List ℕ). l ++ end) lines (replicate n []) ∙ ap (λ (t : List ℕ). t ++ ended_lines end (replicate n [])) (joined_ended end lines some)
-    ∙ append_assoc (joined end lines) end (ended_lines end (replicate n []))
-text_is end false n lines some = sym (append-nil (joined end lines))
+    ∙ append_assoc (joined_lines end lines) end (ended_lines end (replicate n []))
+text_is end false n lines some = sym (append-nil (joined_lines end lines))
 
 after_alike : (v : Values) (indentation : List ℕ) (s : Laid) (ss : List Laid) → lines_after v indentation (without_above s) ss ≡ lines_after v indentation s ss
 after_alike v indentation s [] = refl
@@ -109,7 +109,7 @@ layout_again law v o space end members ended n s ss rest laid r b kept = (again,
 
     text : bytes_of (b.first ∷ b.later) ≡ text_of_lines end (last_row new.first new.others).ended (blanks_after v new (count_by (λ (row : Row). row.ended) b.blanks) rest) (block_lines v new.first.indentation again)
     text =
-        b.text ∙ ap (λ (t : List ℕ). joined end lines ++ t) (tail_again v end ended n (blanks_after v new (count_by (λ (row : Row). row.ended) b.blanks) rest) count)
+        b.text ∙ ap (λ (t : List ℕ). joined_lines end lines ++ t) (tail_again v end ended n (blanks_after v new (count_by (λ (row : Row). row.ended) b.blanks) rest) count)
         ∙ sym (text_is end ended (blanks_after v new (count_by (λ (row : Row). row.ended) b.blanks) rest) lines some)
         ∙ (λ i. text_of_lines end (sym b.last i) (blanks_after v new (count_by (λ (row : Row). row.ended) b.blanks) rest) (same_lines i))
 
@@ -121,9 +121,9 @@ layout_parts law v space end ended n s ss r b =
     let later : List (List ℕ) = lines_after v space s ss in
     let some = statement_some law space end s mine r.pieces r.written in
     text_is end ended n ((above ++ mine) ++ later) (some_first (above ++ mine) later (some_append above mine some))
-    ∙ ap (λ l. joined end l ++ tail_of end ended n) (append_assoc above mine later)
+    ∙ ap (λ l. joined_lines end l ++ tail_of end ended n) (append_assoc above mine later)
     ∙ ap (λ (t : List ℕ). t ++ tail_of end ended n) (joined-append end above (mine ++ later) (some_first mine later some))
-    ∙ append_assoc (ended_lines end above) (joined end (mine ++ later)) (tail_of end ended n)
+    ∙ append_assoc (ended_lines end above) (joined_lines end (mine ++ later)) (tail_of end ended n)
     ∙ ap (λ (t : List ℕ). ended_lines end above ++ t) (sym b.text)
 
 -- what is known of a block whose first statement is written, with the comments above it

@@ -3,7 +3,7 @@ use Rattle.std.specs.Prelude.{◌≡◌, ℕ, ◌+◌, Bool, true, false, Option
 use Rattle.std.specs.Prelude.{◌++◌, length, MatchOption, bytes_eq, if◌then◌else◌, option_map}
 use Rattle.std.specs.List.{list_any, list_all}
 use Rattle.std.specs.Option.{option_map_or}
-use Rattle.isort_sort.specs.Blocks.{is_member, is_between, is_blank, Run, run_rows, is_run}
+use Rattle.isort_sort.specs.Blocks.{is_member, stands_between, is_blank, Run, run_rows, is_run}
 use Rattle.isort_sort.specs.Blocks.{Cut, IsCutAtBlocks, begins_blank, comments_in}
 use Rattle.isort_sort.specs.Private.Found.{Found, found_of, found_from}
 use Rattle.isort_sort.specs.Member.{Member}
@@ -28,7 +28,7 @@ is_some_row [] = false
 is_some_row (row ∷ rows) = true
 
 -- the rows, which begin at this byte, end in a run that may go on
-pub record IsOpen (at : ℕ) (rows : List Row) (o : Open) : Type 0 where
+pub record EndInOpenRun (at : ℕ) (rows : List Row) (o : Open) : Type 0 where
   pub before : List Row
   pub run : Run
   pub blanks : List Row
@@ -37,7 +37,7 @@ pub record IsOpen (at : ℕ) (rows : List Row) (o : Open) : Type 0 where
   pub none : list_any is_member before ≡ false
   pub is : is_run run ≡ true
   pub blank_rows : list_all is_blank blanks ≡ true
-  pub between : list_all is_between later ≡ true
+  pub between : list_all stands_between later ≡ true
   pub ends : begins_blank later ≡ false
   pub found : o.found ≡ found_of (at + length (texts_of before)) run blanks []
   pub above : o.above ≡ comments_in later
@@ -56,7 +56,7 @@ pub record IsFinding (mark : ℕ) (rows : List Row) (f : Finding) : Type 0 where
   pub at : ℕ
   pub closed : IsClosed mark rows left f.found at
   pub place : f.place ≡ at + length (texts_of left)
-  pub now : MatchOption f.opened (list_any is_member left ≡ false) (IsOpen at left)
+  pub now : MatchOption f.opened (list_any is_member left ≡ false) (EndInOpenRun at left)
 
 -- what each kind of row makes of the state, where the row ends at `stop` and has a line end or not
 
@@ -85,11 +85,11 @@ begun_with start stop ended indentation m = record {
 }
 
 -- the block is known, before a row that asks for this, or at the text's end
-abbrev pub closed_with : Option Before → Open → Found
-closed_with next o = record o.found { next = if o.commented then Some as_many else next }
+abbrev pub closed_block : Option Before → Open → Found
+closed_block next o = record o.found { next = if o.commented then Some as_many else next }
 
 abbrev pub closed_found : Option Before → Finding → List Found
-closed_found next f = option_map_or (λ o. f.found ++ closed_with next o ∷ []) f.opened f.found
+closed_found next f = option_map_or (λ o. f.found ++ closed_block next o ∷ []) f.opened f.found
 
 -- no block may go on
 abbrev pub closed_before : Option Before → Finding → Finding

@@ -53,12 +53,12 @@ abbrev pub nothing_seen : Seen
 nothing_seen = record { items = []; comments = []; above = [] }
 
 -- what was seen, with what an import brings
-abbrev pub joined : Seen → Brought → Seen
-joined s b = record { items = s.items ++ b.listed; comments = s.comments ++ b.comments; above = s.above ++ b.above }
+abbrev pub with_brought : Seen → Brought → Seen
+with_brought s b = record { items = s.items ++ b.listed; comments = s.comments ++ b.comments; above = s.above ++ b.above }
 
 -- what is seen of a statement after one more import
 abbrev pub seen_with : Statement → Option Seen → Brought → Option Seen
-seen_with s o b = if same_statement b.statement s then Some (joined (unwrap_or o nothing_seen) b) else o
+seen_with s o b = if same_statement b.statement s then Some (with_brought (unwrap_or o nothing_seen) b) else o
 
 -- what is seen of a statement after more imports
 abbrev pub seen_after : Statement → Option Seen → List Brought → Option Seen

@@ -1,28 +1,22 @@
-use Rattle.std.proofs.Common.{◌++◌, [], ◌∷◌, map, string_bytes, get_or, if◌then◌else◌, append-nil, sym, ap, ◌∙◌}
-use Rattle.std.specs.Prelude.{slice_range}
+use Rattle.std.proofs.Common.{◌++◌, [], ◌∷◌, map, string_bytes, if◌then◌else◌, append-nil, sym, ap, ◌∙◌}
 use Rattle.std.proofs.lemmas.List.{map-append}
-use Rattle.std.proofs.lemmas.Option.{slice_get-get_or}
-use Rattle.py_lines.specs.declared.token.Token.{Token}
-use Rattle.py_lines.specs.declared.token.TokKind.TheVariants as kind
-use Rattle.isort_sort.proofs.Rows.Comments.{texts_on}
+use Rattle.isort_sort.proofs.Rows.Comments.{texts_on, token_is_at, word_at}
 use Rattle.isort_sort.proofs.comment.comment_texts.Goals as goal
 use Rattle.isort_sort.proofs.comment.comment_texts.Goals.{then-is_comment+in_ok-to_string+in_ok-push, else-is_comment}
 
 pub tokens-preserved : goal.tokens-preserved
 tokens-preserved c =
-    let none : Token = record { kind = kind.Name; start = 0; stop = 0; line = 0 } in
     let text = c.args.unit.now.text.now in
     let tokens = c.args.unit.now.tokens.now in
-    let t = get_or tokens c.tokens.place none in
-    let here = slice_get-get_or tokens c.tokens.place none c.tokens-test.true in
+    let here = token_is_at tokens c.tokens.place c.tokens-test.true in
     let so_far = map string_bytes c.tokens.comments.items in
-    let comment = slice_range text t.start t.stop in
-    texts_on text tokens c.tokens.place none _ _ c.tokens-test.true c.tokens.invariant (elim c.if-is_comment.branch [
+    let comment = word_at text tokens c.tokens.place in
+    texts_on text tokens c.tokens.place _ _ c.tokens-test.true c.tokens.invariant (elim c.if-is_comment.branch [
       | then-is_comment+in_ok-to_string+in_ok-push w ↦
           ap (λ v. map string_bytes v.items) w.comments-is
           ∙ ap (map string_bytes) w.in_ok-push.ensures.items
           ∙ map-append string_bytes c.tokens.comments.items (w.in_ok-to_string.field-0 ∷ [])
-          ∙ ap (λ s. so_far ++ s ∷ []) (w.in_ok-to_string.ensures.ok ∙ w.word.ensures t here)
+          ∙ ap (λ s. so_far ++ s ∷ []) (w.in_ok-to_string.ensures.ok ∙ w.word.ensures _ here)
           ∙ ap (λ b. so_far ++ (if b then comment ∷ [] else [])) (sym (sym c.is_comment.ensures ∙ w.if-is_comment.true))
       | else-is_comment w ↦
           ap (λ v. map string_bytes v.items) w.comments-is

@@ -1,11 +1,7 @@
-use Rattle.std.proofs.Common.{◌||◌, ◌&&◌, ◌+◌, drop, get_or, sym, ap, ◌∙◌, subst}
-use Rattle.std.specs.Prelude.{slice_range}
-use Rattle.std.proofs.lemmas.Option.{slice_get-get_or}
+use Rattle.std.proofs.Common.{◌||◌, ◌&&◌, ◌+◌, drop, sym, ap, ◌∙◌, subst}
 use Rattle.py_lines.specs.Lines.{line_in}
-use Rattle.py_lines.specs.declared.token.Token.{Token}
-use Rattle.py_lines.specs.declared.token.TokKind.TheVariants as kind
 use Rattle.py_imports.specs.Action.{says}
-use Rattle.isort_sort.proofs.Rows.Comments.{comments_say, says_on}
+use Rattle.isort_sort.proofs.Rows.Comments.{comments_say, says_on, token_is_at, word_at}
 use Rattle.isort_sort.specs.Private.Silence.{IsSilent}
 use Rattle.isort_sort.proofs.Rows.Silence.{silent_comments}
 use Rattle.isort_sort.proofs.comment.comments_say.Goals as goal
@@ -16,30 +12,26 @@ returns-then-is_silent c = sym (silent_comments c.args.action (line_in c.args.un
 
 pub returns-then-says : goal.returns-then-says
 returns-then-says c =
-    let none : Token = record { kind = kind.Name; start = 0; stop = 0; line = 0 } in
     let text = c.args.unit.now.text.now in
     let tokens = c.args.unit.now.tokens.now in
-    let t = get_or tokens c.tokens.place none in
-    let comment = slice_range text t.start t.stop in
+    let comment = word_at text tokens c.tokens.place in
     let others = comments_say c.args.action text (drop (c.tokens.place + 1) tokens) in
-    let word = c.word.ensures t (slice_get-get_or tokens c.tokens.place none c.tokens-test.true) in
-    sym (says_on c.args.action text tokens c.tokens.place none c.tokens-test.true c.tokens.invariant
+    let word = c.word.ensures _ (token_is_at tokens c.tokens.place c.tokens-test.true) in
+    sym (says_on c.args.action text tokens c.tokens.place c.tokens-test.true c.tokens.invariant
     ∙ ap (λ b. b && says c.args.action comment || others) (sym c.is_comment.ensures ∙ c.if-is_comment.true)
     ∙ ap (λ b. b || others) (ap (says c.args.action) (sym word) ∙ sym c.says.ensures ∙ c.if-says.true))
 
 pub tokens-preserved : goal.tokens-preserved
 tokens-preserved c =
-    let none : Token = record { kind = kind.Name; start = 0; stop = 0; line = 0 } in
     let text = c.args.unit.now.text.now in
     let tokens = c.args.unit.now.tokens.now in
-    let t = get_or tokens c.tokens.place none in
-    let comment = slice_range text t.start t.stop in
+    let comment = word_at text tokens c.tokens.place in
     let others = comments_say c.args.action text (drop (c.tokens.place + 1) tokens) in
-    let on = says_on c.args.action text tokens c.tokens.place none c.tokens-test.true c.tokens.invariant in
+    let on = says_on c.args.action text tokens c.tokens.place c.tokens-test.true c.tokens.invariant in
     elim c.else-is_comment.branch [
       | else-is_comment-via-then-is_comment+else-says w ↦
           on
           ∙ ap (λ b. b && says c.args.action comment || others) (sym c.is_comment.ensures ∙ w.if-is_comment.true)
-          ∙ ap (λ b. b || others) (ap (says c.args.action) (sym (w.word.ensures t (slice_get-get_or tokens c.tokens.place none c.tokens-test.true))) ∙ sym w.says.ensures ∙ w.if-says.false)
+          ∙ ap (λ b. b || others) (ap (says c.args.action) (sym (w.word.ensures _ (token_is_at tokens c.tokens.place c.tokens-test.true))) ∙ sym w.says.ensures ∙ w.if-says.false)
       | else-is_comment-via-else-is_comment w ↦ on ∙ ap (λ b. b && says c.args.action comment || others) (sym c.is_comment.ensures ∙ w.if-is_comment.false)
     ]

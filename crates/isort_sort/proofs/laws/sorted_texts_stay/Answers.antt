@@ -5,35 +5,19 @@ use Rattle.isort_sort.proofs.Stable.ReadImports.{ImportLaws}
 use Rattle.isort_sort.proofs.Stable.Sorted.{reads_blocks}
 use Rattle.isort_sort.proofs.Stable.UnitRows.{TokenLaws}
 use Rattle.isort_sort.proofs.laws.sorted_texts_stay.Goals as goal
+use Rattle.isort_settings.specs.Values.{Values}
 
-pub returns-clause-sorted : goal.returns-clause-sorted
-returns-clause-sorted c =
-    λ text v sorted.
-    let o : AreOrders v = record { modules = c.modules_are_totally_ordered.ensures.total v; exact_modules = c.modules_are_totally_ordered.ensures.equal v; names = c.names_are_totally_ordered.ensures.total v; exact_names = c.names_are_totally_ordered.ensures.equal v } in
+pub returns : goal.returns
+returns c =
+    let orders : (v : Values) → AreOrders v = λ v. record { modules = c.modules_are_totally_ordered.ensures.total v; exact_modules = c.modules_are_totally_ordered.ensures.equal v; names = c.names_are_totally_ordered.ensures.total v; exact_names = c.names_are_totally_ordered.ensures.equal v } in
     let tokens : TokenLaws = record { words = c.tokens_are_words.ensures.words; anywhere = c.tokens_are_words.ensures.anywhere } in
     let imports : ImportLaws = record { names = c.names_are_words.ensures.names; named = c.imports_of_words_are_named.ensures } in
-    let laws : SortLaws v = record {
+    let laws : (v : Values) → SortLaws v = λ v. record {
       lines = record { together = c.lines_before_a_text.ensures.together; apart = c.lines_before_a_text.ensures.apart; cut_apart = c.lines_before_a_text.ensures.cut };
       neighbours = c.neighbours_are_read.ensures;
       tokens = tokens;
       words = c.words_hold_no_line_end.ensures;
-      orders = o;
-      reads = reads_blocks tokens imports c.joined_comments_are_read_back.ensures.own c.words_hold_no_line_end.ensures v o (c.written_statements_are_read_back.ensures v);
+      orders = orders v;
+      reads = reads_blocks tokens imports c.joined_comments_are_read_back.ensures.own c.words_hold_no_line_end.ensures v (orders v) (c.written_statements_are_read_back.ensures v);
     } in
-    sorted_again v laws text sorted
-
-pub returns-clause-laid : goal.returns-clause-laid
-returns-clause-laid c =
-    λ text v sorted.
-    let o : AreOrders v = record { modules = c.modules_are_totally_ordered.ensures.total v; exact_modules = c.modules_are_totally_ordered.ensures.equal v; names = c.names_are_totally_ordered.ensures.total v; exact_names = c.names_are_totally_ordered.ensures.equal v } in
-    let tokens : TokenLaws = record { words = c.tokens_are_words.ensures.words; anywhere = c.tokens_are_words.ensures.anywhere } in
-    let imports : ImportLaws = record { names = c.names_are_words.ensures.names; named = c.imports_of_words_are_named.ensures } in
-    let laws : SortLaws v = record {
-      lines = record { together = c.lines_before_a_text.ensures.together; apart = c.lines_before_a_text.ensures.apart; cut_apart = c.lines_before_a_text.ensures.cut };
-      neighbours = c.neighbours_are_read.ensures;
-      tokens = tokens;
-      words = c.words_hold_no_line_end.ensures;
-      orders = o;
-      reads = reads_blocks tokens imports c.joined_comments_are_read_back.ensures.own c.words_hold_no_line_end.ensures v o (c.written_statements_are_read_back.ensures v);
-    } in
-    laid_again v laws text sorted
+    record { sorted = λ text v sorted. sorted_again v (laws v) text sorted; laid = λ text v sorted. laid_again v (laws v) text sorted }
