@@ -29,8 +29,8 @@ pub(crate) fn is_silent(text: &[u8]) -> bool
     memmem::find(text, b"isort:").is_none()
 }
 
-/// Whether the text of a string says the action.
-pub(crate) fn string_says(text: &str, action: Action) -> bool
+/// Whether a comment or a string with this text says the action.
+pub(crate) fn text_says(text: &str, action: Action) -> bool
     ensures { result ≡ says action text.now }
 {
     !is_silent(text.as_bytes()) && says(text, action)
@@ -40,11 +40,8 @@ pub(crate) fn string_says(text: &str, action: Action) -> bool
 pub(crate) fn comments_say(unit: &Unit<'_>, action: Action) -> bool
     ensures { result ≡ list_any (says action) (comment_texts (line_in unit.now)) }
 {
-    if is_silent(unit.text.as_bytes()) {
-        return false;
-    }
     'tokens: for (place, token) in unit.tokens.iter().enumerate() {
-        if token.kind.is_comment() && says(unit.word(place), action) {
+        if token.kind.is_comment() && text_says(unit.word(place), action) {
             return true;
         }
     }

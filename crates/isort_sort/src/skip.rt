@@ -10,7 +10,7 @@ ghost use Rattle.isort_sort.specs.Line.{comment_texts};
 ghost use Rattle.isort_sort.specs.Private.Reading.{has_code, IsSkipSoFar};
 ghost use Rattle.isort_sort.specs.Row.{is_string, string_skips};
 
-use crate::comment::{comments_say, string_says};
+use crate::comment::{comments_say, text_says};
 use py_imports::Action;
 use py_lines::{TokKind, Token, Unit};
 
@@ -41,7 +41,7 @@ fn string_skips(unit: &Unit<'_>) -> bool
 {
     match first_code(unit.tokens) {
         Some(place) => {
-            is_string(unit.tokens[place].kind) && string_says(unit.word(place), Action::SkipFile)
+            is_string(unit.tokens[place].kind) && text_says(unit.word(place), Action::SkipFile)
         }
         None => false,
     }

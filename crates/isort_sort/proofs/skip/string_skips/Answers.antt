@@ -9,7 +9,7 @@ use Rattle.isort_sort.proofs.Rows.Comments.{token_is_at}
 pub returns-then-is_string : goal.returns-then-is_string
 returns-then-is_string c =
     let line = line_in c.args.unit.now in
-    c.string_says.ensures
+    c.text_says.ensures
     ∙ ap (says action.SkipFile) (c.word.ensures _ (token_is_at line.tokens c.in-Some.place (place_within line.tokens c.in-Some.place c.in-Some.ensures)))
     ∙ string_at line c.in-Some.place true c.in-Some.ensures (sym c.if-is_string.true ∙ c.is_string.ensures)
 
