@@ -100,25 +100,14 @@ fn bind_statement(
     bind_items(alloc, items, head, fault_at(unit, place), bindings)
 }
 
-/// The length and the first byte of `import`, as one number. One comparison of it rules out most words.
-const IMPORT: usize = 6 << 8 | b'i' as usize;
-
-/// The same of `from`.
-const FROM: usize = 4 << 8 | b'f' as usize;
-
-/// Whether the length of a word and its first byte are those of `import` or `from`. Few other words have them.
+/// Whether a word has the length of `import` or `from`, and begins as one of them. Its length rules out most words.
 #[inline(always)]
 fn may_be_first_word(word: &str) -> bool
     ensures import { result ≡ false → bytes_eq word.now (codes "import") ≡ false }
     ensures from { result ≡ false → bytes_eq word.now (codes "from") ≡ false }
 {
-    match word.as_bytes().first().copied() {
-        Some(first) => {
-            let outline = word.len() << 8 | first as usize;
-            outline == IMPORT || outline == FROM
-        }
-        None => false,
-    }
+    let bytes = word.as_bytes();
+    matches!(bytes.len(), 4 | 6) && matches!(bytes[0], b'i' | b'f')
 }
 
 /// Whether the token at `place` is spelled as the first word of an import statement.
