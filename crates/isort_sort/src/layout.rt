@@ -62,6 +62,18 @@ fn gap(settings: &Settings, before: &Group, group: &Group) -> u32
     gap_by_kind(settings, before, group).max(gap_by_comment(settings, &group.above))
 }
 
+/// What a statement of names writes.
+#[derive(Clone, Copy)]
+struct Names<'a> {
+    /// The module.
+    path: &'a str,
+    /// The names, in order; there is one.
+    items: &'a [Item],
+    /// What its joined comments say.
+    comments: &'a [String],
+    ghost some: { items.now ≢ [] },
+}
+
 /// How the statements of a block are laid out.
 #[derive(Clone, Copy)]
 struct Layout<'a> {
@@ -150,33 +162,26 @@ impl Layout<'_> {
     }
 
     /// Puts a statement in brackets from its first line on after `out`: the modes 0 (grid) and 1 (vertical).
-    fn push_in_brackets(
-        &self,
-        out: &mut String,
-        module: &str,
-        items: &[Item],
-        comments: &[String],
-    ) -> Result<(), AllocError>
-        requires { items.now ≢ [] }
+    fn push_in_brackets(&self, out: &mut String, names: Names<'_>) -> Result<(), AllocError>
         ensures { OnOk result (string_bytes out.new ≡ string_bytes out.old
             ++ text_with self.now.end.now (in_brackets (values self.now.settings.now)
-            self.now.indentation.now module.now
-            (remark (map string_bytes comments.now))
-            (cut_texts (values self.now.settings.now) self.now.indentation.now module.now
-            (map item_value items.now)))) }
+            self.now.indentation.now names.entry.path.now
+            (remark (map string_bytes names.entry.comments.now))
+            (cut_texts (values self.now.settings.now) self.now.indentation.now names.entry.path.now
+            (map item_value names.entry.items.now)))) }
     {
         let wrap = Wrap {
-            room: self.line_room(module),
+            room: self.line_room(names.path),
             between: ",",
             end: self.end,
             indentation: self.indentation,
-            spaces: bracket_width(module),
+            spaces: bracket_width(names.path),
         };
-        self.push_opening(out, module, "(")?;
-        wrap.push_items(out, items)?;
+        self.push_opening(out, names.path, "(")?;
+        wrap.push_items(out, names.items)?;
         self.push_trailing_comma(out)?;
         out.push_str(")")?;
-        self.push_line_end(out, comments)
+        self.push_line_end(out, names.comments)
     }
 
     /// Puts the names of a wrapped statement after `out`, on lines that are indented further by four spaces.
@@ -205,24 +210,17 @@ impl Layout<'_> {
     }
 
     /// Puts a statement after `out` whose names follow a backslash: the mode 2 (hanging indent).
-    fn push_hanging(
-        &self,
-        out: &mut String,
-        module: &str,
-        items: &[Item],
-        comments: &[String],
-    ) -> Result<(), AllocError>
-        requires { items.now ≢ [] }
+    fn push_hanging(&self, out: &mut String, names: Names<'_>) -> Result<(), AllocError>
         ensures { OnOk result (string_bytes out.new ≡ string_bytes out.old
-            ++ text_with self.now.end.now (hanging self.now.indentation.now module.now
-            (remark (map string_bytes comments.now))
-            (cut_texts (values self.now.settings.now) self.now.indentation.now module.now
-            (map item_value items.now)))) }
+            ++ text_with self.now.end.now (hanging self.now.indentation.now names.entry.path.now
+            (remark (map string_bytes names.entry.comments.now))
+            (cut_texts (values self.now.settings.now) self.now.indentation.now names.entry.path.now
+            (map item_value names.entry.items.now)))) }
     {
-        self.push_opening(out, module, "\\")?;
+        self.push_opening(out, names.path, "\\")?;
         out.push_str(self.end)?;
-        self.push_further(out, self.line_room(module), ", \\", items)?;
-        self.push_line_end(out, comments)
+        self.push_further(out, self.line_room(names.path), ", \\", names.items)?;
+        self.push_line_end(out, names.comments)
     }
 
     /// Puts the end of a statement after `out` whose closing bracket stands on a line of its own.
@@ -240,67 +238,43 @@ impl Layout<'_> {
 
     /// Puts a statement after `out` whose names stand on lines between the brackets: the mode 3 (vertical hanging
     /// indent).
-    fn push_hanging_in_brackets(
-        &self,
-        out: &mut String,
-        module: &str,
-        items: &[Item],
-        comments: &[String],
-    ) -> Result<(), AllocError>
-        requires { items.now ≢ [] }
+    fn push_hanging_in_brackets(&self, out: &mut String, names: Names<'_>) -> Result<(), AllocError>
         ensures { OnOk result (string_bytes out.new ≡ string_bytes out.old
             ++ text_with self.now.end.now (hanging_in_brackets (values self.now.settings.now)
-            self.now.indentation.now module.now
-            (remark (map string_bytes comments.now))
-            (cut_texts (values self.now.settings.now) self.now.indentation.now module.now
-            (map item_value items.now)))) }
+            self.now.indentation.now names.entry.path.now
+            (remark (map string_bytes names.entry.comments.now))
+            (cut_texts (values self.now.settings.now) self.now.indentation.now names.entry.path.now
+            (map item_value names.entry.items.now)))) }
     {
-        self.push_opening(out, module, "(")?;
-        self.push_line_end(out, comments)?;
-        self.push_further(out, self.line_room(module), ",", items)?;
+        self.push_opening(out, names.path, "(")?;
+        self.push_line_end(out, names.comments)?;
+        self.push_further(out, self.line_room(names.path), ",", names.items)?;
         self.push_closing(out)
     }
 
     /// Puts the lines of a wrapped statement after `out`.
-    fn push_wrapped(
-        &self,
-        out: &mut String,
-        module: &str,
-        items: &[Item],
-        comments: &[String],
-    ) -> Result<(), AllocError>
-        requires { items.now ≢ [] }
+    fn push_wrapped(&self, out: &mut String, names: Names<'_>) -> Result<(), AllocError>
         ensures { OnOk result (string_bytes out.new ≡ string_bytes out.old
-            ++ wrapped_text (values self.now.settings.now) self.now.indentation.now self.now.end.now module.now
-            (map string_bytes comments.now) (map item_value items.now)) }
+            ++ wrapped_text (values self.now.settings.now) self.now.indentation.now self.now.end.now names.entry.path.now
+            (map string_bytes names.entry.comments.now) (map item_value names.entry.items.now)) }
     {
         match WrapMode::of(self.settings) {
-            WrapMode::Grid | WrapMode::Vertical => {
-                self.push_in_brackets(out, module, items, comments)
-            }
-            WrapMode::HangingIndent => self.push_hanging(out, module, items, comments),
-            WrapMode::VerticalHangingIndent => {
-                self.push_hanging_in_brackets(out, module, items, comments)
-            }
+            WrapMode::Grid | WrapMode::Vertical => { self.push_in_brackets(out, names) }
+            WrapMode::HangingIndent => self.push_hanging(out, names),
+            WrapMode::VerticalHangingIndent => { self.push_hanging_in_brackets(out, names) }
         }
     }
 
     /// Puts names from a module after `out`, on one line without its line end.
-    fn push_one_line(
-        &self,
-        out: &mut String,
-        module: &str,
-        items: &[Item],
-        comments: &[String],
-    ) -> Result<(), AllocError>
+    fn push_one_line(&self, out: &mut String, names: Names<'_>) -> Result<(), AllocError>
         ensures { OnOk result (string_bytes out.new ≡ string_bytes out.old
-            ++ flat self.now.indentation.now module.now (remark (map string_bytes comments.now))
-            (map item_value items.now)) }
+            ++ flat self.now.indentation.now names.entry.path.now (remark (map string_bytes names.entry.comments.now))
+            (map item_value names.entry.items.now)) }
     {
         out.push_str(self.indentation)?;
-        push_head(out, module)?;
-        push_items(out, items)?;
-        push_remark(out, comments)
+        push_head(out, names.path)?;
+        push_items(out, names.items)?;
+        push_remark(out, names.comments)
     }
 
     /// Whether the settings ask for more lines than one.
@@ -325,25 +299,18 @@ impl Layout<'_> {
     /// Puts the lines of names from a module after `out`.
     ///
     /// The one line is written first, and taken back where the statement has to be wrapped.
-    fn push_names(
-        &self,
-        out: &mut String,
-        module: &str,
-        items: &[Item],
-        comments: &[String],
-    ) -> Result<(), AllocError>
-        requires { items.now ≢ [] }
+    fn push_names(&self, out: &mut String, names: Names<'_>) -> Result<(), AllocError>
         ensures { OnOk result (string_bytes out.new ≡ string_bytes out.old
-            ++ names_text (values self.now.settings.now) self.now.indentation.now self.now.end.now module.now
-            (map string_bytes comments.now) (map item_value items.now)) }
+            ++ names_text (values self.now.settings.now) self.now.indentation.now self.now.end.now names.entry.path.now
+            (map string_bytes names.entry.comments.now) (map item_value names.entry.items.now)) }
     {
         let start = out.len();
-        self.push_one_line(out, module, items, comments)?;
-        if !self.wraps(&out.as_bytes()[start..], items) {
+        self.push_one_line(out, names)?;
+        if !self.wraps(&out.as_bytes()[start..], names.items) {
             return out.push_str(self.end);
         }
         out.truncate(start);
-        self.push_wrapped(out, module, items, comments)
+        self.push_wrapped(out, names)
     }
 
     /// Puts `import MODULE` after `out`.
@@ -410,10 +377,20 @@ impl Layout<'_> {
             }
             Statement::Star { module } => self.push_star(out, module, &group.comments),
             Statement::Names { module } => {
-                self.push_names(out, module, &group.items, &group.comments)
+                let names = Names {
+                    path: module,
+                    items: &group.items,
+                    comments: &group.comments,
+                };
+                self.push_names(out, names)
             }
             Statement::Single { module, item } => {
-                self.push_names(out, module, slice::from_ref(item), &group.comments)
+                let names = Names {
+                    path: module,
+                    items: slice::from_ref(item),
+                    comments: &group.comments,
+                };
+                self.push_names(out, names)
             }
         }
     }

@@ -42,10 +42,10 @@ part-star = part-operator 42 refl refl refl
 pub star-phrase : (end : List ℕ) (cs : List (List ℕ)) → AreRemarks cs → IsPhrase end (piece operator (42 ∷ []) ∷ remark_pieces cs) (codes "*" ++ remark cs) (star ∷ []) (remark_said cs)
 unfolding is_opening is_closing
 star-phrase end cs h = record {
-  part = part-append (piece operator (42 ∷ []) ∷ []) (remark_pieces cs) (codes "*") (remark cs) (star ∷ []) [] [] (remark_said cs) part-star (part-remark cs h);
+  part = part-append part-star (part-remark cs h);
   touch = touch-operator (42 ∷ []) (remark_pieces cs ++ end_piece end ∷ []) (touch-remark cs end [] tt);
   start = refl;
-  line = line-append (piece operator (42 ∷ []) ∷ []) (remark_pieces cs) (plain-line (piece operator (42 ∷ []) ∷ []) refl refl) (line-remark cs);
+  line = line-append (plain-line (piece operator (42 ∷ []) ∷ []) refl refl) (line-remark cs);
   well = λ o. well-remark cs false;
 }
 
@@ -69,7 +69,7 @@ comma_space = comma_piece ∷ a_space ∷ []
 
 pub comma-glue : IsGlue comma_space (codes ", ")
 comma-glue = record {
-  part = part-append (comma_piece ∷ []) (a_space ∷ []) (codes ",") (32 ∷ []) (comma ∷ []) [] [] [] part-comma part-a_space;
+  part = part-append part-comma part-a_space;
   touch = λ rest h k. (refl, touch-space (32 ∷ []) rest (word_after_space rest h) k);
   after = λ rest. refl;
 }
@@ -80,8 +80,7 @@ comma_line end pad = comma_piece ∷ end_piece end ∷ piece space pad ∷ []
 pub line-glue : (end pad : List ℕ) → IsLineEnd end → IsPad pad → IsGlue (comma_line end pad) (codes "," ++ (end ++ pad))
 line-glue end pad e p = record {
   part =
-      part-append (comma_piece ∷ []) (end_piece end ∷ piece space pad ∷ []) (codes ",") (end ++ pad) (comma ∷ []) [] [] [] part-comma
-      (part-append (end_piece end ∷ []) (piece space pad ∷ []) end pad [] [] [] [] (part-end end e) (part-pad pad p));
+      part-append part-comma (part-append (part-end end e) (part-pad pad p));
   touch = λ rest h k. (refl, (pad_no_feed (ends is_return end) pad p, touch-space pad rest (word_after_space rest h) k));
   after = λ rest. refl;
 }
@@ -92,9 +91,7 @@ comma_join end pad = comma_piece ∷ a_space ∷ piece join (92 ∷ end) ∷ pie
 pub join-glue : (end pad : List ℕ) → IsLineEnd end → IsPad pad → IsGlue (comma_join end pad) ((codes ", " ++ 92 ∷ []) ++ (end ++ pad))
 join-glue end pad e p = record {
   part =
-      part-append (comma_piece ∷ []) (a_space ∷ piece join (92 ∷ end) ∷ piece space pad ∷ []) (codes ",") (32 ∷ 92 ∷ (end ++ pad)) (comma ∷ []) [] [] [] part-comma
-      (part-append (a_space ∷ []) (piece join (92 ∷ end) ∷ piece space pad ∷ []) (32 ∷ []) (92 ∷ (end ++ pad)) [] [] [] [] part-a_space
-      (part-append (piece join (92 ∷ end) ∷ []) (piece space pad ∷ []) (92 ∷ end) pad [] [] [] [] (part-join end e) (part-pad pad p)));
+      part-append part-comma (part-append part-a_space (part-append (part-join end e) (part-pad pad p)));
   touch = λ rest h k. (refl, (refl, (pad_no_feed (ends is_return (92 ∷ end)) pad p, touch-space pad rest (word_after_space rest h) k)));
   after = λ rest. refl;
 }

@@ -32,9 +32,7 @@ pub part-alias : LettersAreWords → (a : Option (List ℕ)) → IsAlias a → I
 unfolding is_digit
 part-alias law None h = part-nil
 part-alias law (Some a) h =
-    part-append (a_space ∷ []) (piece word (codes "as") ∷ a_space ∷ name_piece a ∷ []) (32 ∷ []) (codes "as " ++ a) [] (as_word ∷ name a ∷ []) [] [] part-a_space
-    (part-append (piece word (codes "as") ∷ []) (a_space ∷ name_piece a ∷ []) (codes "as") (32 ∷ a) (as_word ∷ []) (name a ∷ []) [] [] (part-letters law 97 (codes "s") refl refl refl)
-    (part-append (a_space ∷ []) (name_piece a ∷ []) (32 ∷ []) a [] (name a ∷ []) [] [] part-a_space (part-name a h)))
+    part-append part-a_space (part-append (part-letters law 97 (codes "s") refl refl refl) (part-append part-a_space (part-name a h)))
 
 pub touch-alias : (t : List ℕ) (a : Option (List ℕ)) (rest : List Piece) → after_word rest ≡ true → MayTouch rest → MayTouch (piece word t ∷ (alias_pieces a ++ rest))
 touch-alias t None rest h k = touch-word t rest h k
@@ -59,7 +57,7 @@ pub record IsJoinable (pieces : List Piece) (bytes : List ℕ) (terminals : List
 
 pub item-joinable : LettersAreWords → (i : Item) → IsNameItem i → IsJoinable (item_pieces i) (item_text i) (item_terminals i)
 item-joinable law i n = record {
-  part = part-append (name_piece i.path ∷ []) (alias_pieces i.alias) i.path (alias_text i.alias) (name i.path ∷ []) (alias_terminals i.alias) [] [] (part-name i.path n.path) (part-alias law i.alias n.alias);
+  part = part-append (part-name i.path n.path) (part-alias law i.alias n.alias);
   touch = λ rest h k. touch-alias (chars i.path) i.alias rest h k;
   begins = λ rest. refl;
 }
@@ -73,9 +71,9 @@ pub record IsGlue (glue : List Piece) (bytes : List ℕ) : Type 0 where
 joinable-as : (ps qs : List Piece) (b c : List ℕ) (t u : List Terminal) → ps ≡ qs → b ≡ c → t ≡ u → IsJoinable ps b t → IsJoinable qs c u
 joinable-as ps qs b c t u e f g j = subst (λ (x : List Piece). IsJoinable x c u) e (subst (λ (x : List ℕ). IsJoinable ps x u) f (subst (λ (x : List Terminal). IsJoinable ps b x) g j))
 
-two-joinable : (ps glue qs : List Piece) (b g c : List ℕ) (t u : List Terminal) → IsJoinable ps b t → IsGlue glue g → IsJoinable qs c u → IsJoinable (ps ++ (glue ++ qs)) (b ++ (g ++ c)) (t ++ comma ∷ u)
-two-joinable ps glue qs b g c t u p h q = record {
-  part = part-append ps (glue ++ qs) b (g ++ c) t (comma ∷ u) [] [] p.part (part-append glue qs g c (comma ∷ []) u [] [] h.part q.part);
+two-joinable : {ps glue qs : List Piece} {b g c : List ℕ} {t u : List Terminal} → IsJoinable ps b t → IsGlue glue g → IsJoinable qs c u → IsJoinable (ps ++ (glue ++ qs)) (b ++ (g ++ c)) (t ++ comma ∷ u)
+two-joinable {ps = ps} {glue = glue} {qs = qs} p h q = record {
+  part = part-append p.part (part-append h.part q.part);
   touch = λ rest after k.
       subst MayTouch (sym (append_assoc ps (glue ++ qs) rest ∙ ap (λ l. ps ++ l) (append_assoc glue qs rest)))
       (p.touch (glue ++ (qs ++ rest)) (h.after (qs ++ rest)) (h.touch (qs ++ rest) (q.begins rest) (q.touch rest after k)));
@@ -93,7 +91,7 @@ pub all-joinable : {X : Type 0} (f : X → List Piece) (text : X → List ℕ) (
 all-joinable f text terminals glue sep g x [] each = joinable-as _ _ _ _ _ _ (sym (join-one f glue x)) (sym (join-one text sep x)) (sym (join-one terminals (comma ∷ []) x)) each.0
 all-joinable f text terminals glue sep g x (y ∷ ys) each =
     joinable-as _ _ _ _ _ _ (sym (join-more f glue x y ys)) (sym (join-more text sep x y ys)) (sym (join-more terminals (comma ∷ []) x y ys))
-    (two-joinable _ glue _ _ sep _ _ _ each.0 g (all-joinable f text terminals glue sep g y ys each.1))
+    (two-joinable each.0 g (all-joinable f text terminals glue sep g y ys each.1))
 
 -- the items that they are
 item-is : (i : Item) → IsItem identifiers (item_terminals i) i

@@ -21,14 +21,13 @@ unfolding is_operator
 part-dot = part-operator 46 refl refl refl
 
 pub part-module : (ts : List Terminal) → IsModule ts → HaveNames ts → IsPart (path_pieces ts) (spelling ts) ts []
-part-module _ (one w) h = part-append (name_piece w ∷ []) [] w [] (name w ∷ []) [] [] [] (part-name w h.0) part-nil
+part-module _ (one w) h = part-append (part-name w h.0) part-nil
 part-module _ (more w rest m) h =
-    part-append (name_piece w ∷ []) (piece operator (46 ∷ []) ∷ path_pieces rest) w (46 ∷ spelling rest) (name w ∷ []) (dot ∷ rest) [] [] (part-name w h.0)
-    (part-append (piece operator (46 ∷ []) ∷ []) (path_pieces rest) (46 ∷ []) (spelling rest) (dot ∷ []) rest [] [] part-dot (part-module rest m h.1.1))
+    part-append (part-name w h.0) (part-append part-dot (part-module rest m h.1.1))
 
 part-dots : (ts : List Terminal) → AreDots ts → IsPart (path_pieces ts) (spelling ts) ts []
 part-dots _ no_dot = part-nil
-part-dots _ (one_more rest d) = part-append (piece operator (46 ∷ []) ∷ []) (path_pieces rest) (46 ∷ []) (spelling rest) (dot ∷ []) rest [] [] part-dot (part-dots rest d)
+part-dots _ (one_more rest d) = part-append part-dot (part-dots rest d)
 
 -- dots before a module
 pieces-dots : (ts us : List Terminal) → AreDots ts → path_pieces (ts ++ us) ≡ path_pieces ts ++ path_pieces us
@@ -49,7 +48,7 @@ part-relative _ (named ts before path cut d m) h =
     subst (λ (x : List Terminal). IsPart (path_pieces x) (spelling x) x []) (sym cut)
     (subst (λ (ps : List Piece). IsPart ps (spelling (before ++ path)) (before ++ path) []) (sym (pieces-dots before path d))
     (subst (λ (b : List ℕ). IsPart (path_pieces before ++ path_pieces path) b (before ++ path) []) (sym (spelling-dots before path d))
-    (part-append (path_pieces before) (path_pieces path) (spelling before) (spelling path) before path [] [] (part-dots before d) (part-module path m (names_after_dots before path d (subst HaveNames cut h))))))
+    (part-append (part-dots before d) (part-module path m (names_after_dots before path d (subst HaveNames cut h))))))
 
 -- what a module may touch
 pub touch-module : (ts : List Terminal) → IsModule ts → (rest : List Piece) → after_word rest ≡ true → MayTouch rest → MayTouch (path_pieces ts ++ rest)

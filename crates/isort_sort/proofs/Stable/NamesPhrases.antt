@@ -24,10 +24,10 @@ plain-phrase : (end : List ℕ) (ps : List Piece) (bytes : List ℕ) (terminals 
 plain-phrase end ps bytes terminals j bare unended cs h =
     let whole : (ps ++ remark_pieces cs) ++ end_piece end ∷ [] ≡ ps ++ (remark_pieces cs ++ end_piece end ∷ []) = append_assoc ps (remark_pieces cs) (end_piece end ∷ []) in
     record {
-      part = part-append ps (remark_pieces cs) bytes (remark cs) terminals [] [] (remark_said cs) j.part (part-remark cs h);
+      part = part-append j.part (part-remark cs h);
       touch = subst MayTouch (sym whole) (j.touch (remark_pieces cs ++ end_piece end ∷ []) (remark_after_word cs end []) (touch-remark cs end [] tt));
       start = ap after_space whole ∙ word_after_space (ps ++ (remark_pieces cs ++ end_piece end ∷ [])) (j.begins (remark_pieces cs ++ end_piece end ∷ []));
-      line = line-append ps (remark_pieces cs) (plain-line ps bare unended) (line-remark cs);
+      line = line-append (plain-line ps bare unended) (line-remark cs);
       well = λ o. ap (are_well o) (words-append ps (remark_pieces cs)) ∙ well-append (words_of ps) (words_of (remark_pieces cs)) j.part.remarks (well-remark cs) o;
     }
 
@@ -50,11 +50,10 @@ hanging-phrase law end pad e p line lines named cs h =
     let rest = plain-phrase end names (join_by items_text sep (line ∷ lines)) (lines_terminals (line ∷ lines)) j (any-lines is_bracket no_bracket glue refl (line ∷ lines)) (any-lines is_end no_end glue refl (line ∷ lines)) cs h in
     record {
       part =
-          part-append (piece join (92 ∷ end) ∷ []) (piece space pad ∷ (names ++ remark_pieces cs)) (92 ∷ end) (pad ++ (join_by items_text sep (line ∷ lines) ++ remark cs)) [] (lines_terminals (line ∷ lines) ++ []) [] (remark_said cs) (part-join end e)
-          (part-append (piece space pad ∷ []) (names ++ remark_pieces cs) pad (join_by items_text sep (line ∷ lines) ++ remark cs) [] (lines_terminals (line ∷ lines) ++ []) [] (remark_said cs) (part-pad pad p) rest.part);
+          part-append (part-join end e) (part-append (part-pad pad p) rest.part);
       touch = (pad_no_feed (ends is_return (92 ∷ end)) pad p, touch-space pad ((names ++ remark_pieces cs) ++ end_piece end ∷ []) rest.start rest.touch);
       start = refl;
-      line = line-append (piece join (92 ∷ end) ∷ piece space pad ∷ []) (names ++ remark_pieces cs) (plain-line (piece join (92 ∷ end) ∷ piece space pad ∷ []) refl refl) rest.line;
+      line = line-append (plain-line (piece join (92 ∷ end) ∷ piece space pad ∷ []) refl refl) rest.line;
       well = λ o. rest.well o;
     }
 
@@ -114,17 +113,16 @@ brackets-phrase law end pad e p line lines named t cs h =
     let bare = any-append is_bracket names (comma_pieces t) (any-lines is_bracket no_bracket glue refl (line ∷ lines)) (any-trailing is_bracket no_bracket t) in
     let bracketed = opening_piece ∷ (inner ++ closing_piece ∷ []) in
     let part : IsPart bracketed (codes "(" ++ ((bytes ++ comma_text t) ++ codes ")")) (opening ∷ ((terminals ++ comma_terminals t) ++ closing ∷ [])) [] =
-    part-append (opening_piece ∷ []) (inner ++ closing_piece ∷ []) (codes "(") ((bytes ++ comma_text t) ++ codes ")") (opening ∷ []) ((terminals ++ comma_terminals t) ++ closing ∷ []) [] [] part-opening
-    (part-append inner (closing_piece ∷ []) (bytes ++ comma_text t) (codes ")") (terminals ++ comma_terminals t) (closing ∷ []) [] [] (part-append names (comma_pieces t) bytes (comma_text t) terminals (comma_terminals t) [] [] j.part (part-trailing t)) part-closing) in
+    part-append part-opening (part-append (part-append j.part (part-trailing t)) part-closing) in
     let ending = remark_pieces cs ++ end_piece end ∷ [] in
     let whole = regroup-brackets opening_piece closing_piece names (comma_pieces t) (remark_pieces cs) (end_piece end ∷ []) in
     record {
-      part = part-append bracketed (remark_pieces cs) (codes "(" ++ ((bytes ++ comma_text t) ++ codes ")")) (remark cs) (brackets_terminals terminals t) [] [] (remark_said cs) part (part-remark cs h);
+      part = part-append part (part-remark cs h);
       touch = subst MayTouch (sym whole)
           (touch-operator (40 ∷ []) (names ++ (comma_pieces t ++ (closing_piece ∷ ending)))
           (j.touch (comma_pieces t ++ (closing_piece ∷ ending)) (trailing_after_word t (closing_piece ∷ ending) refl) (touch-trailing t (closing_piece ∷ ending) (touch-operator (41 ∷ []) ending (touch-remark cs end [] tt)))));
       start = refl;
-      line = line-append bracketed (remark_pieces cs) (bracketed-line inner bare) (line-remark cs);
+      line = line-append (bracketed-line inner bare) (line-remark cs);
       well = λ o. ap (are_well o) (words-append bracketed (remark_pieces cs)) ∙ well-append (words_of bracketed) (words_of (remark_pieces cs)) part.remarks (well-remark cs) o;
     }
 
@@ -174,12 +172,9 @@ hung-phrase law end pad indentation e p spaces line lines named t cs h =
     let j = lines-joinable law glue sep (line-glue end pad e p) line lines named in
     let last = end_piece end ∷ space_pieces indentation in
     let behind = end_piece end ∷ piece space pad ∷ (names ++ (comma_pieces t ++ last)) in
-    let part-last : IsPart last (end ++ indentation) [] [] = part-append (end_piece end ∷ []) (space_pieces indentation) end indentation [] [] [] [] (part-end end e) (part-space indentation spaces) in
+    let part-last : IsPart last (end ++ indentation) [] [] = part-append (part-end end e) (part-space indentation spaces) in
     let part-behind : IsPart behind (end ++ (pad ++ (bytes ++ (comma_text t ++ (end ++ indentation))))) (terminals ++ (comma_terminals t ++ [])) [] =
-    part-append (end_piece end ∷ []) (piece space pad ∷ (names ++ (comma_pieces t ++ last))) end (pad ++ (bytes ++ (comma_text t ++ (end ++ indentation)))) [] (terminals ++ (comma_terminals t ++ [])) [] [] (part-end end e)
-    (part-append (piece space pad ∷ []) (names ++ (comma_pieces t ++ last)) pad (bytes ++ (comma_text t ++ (end ++ indentation))) [] (terminals ++ (comma_terminals t ++ [])) [] [] (part-pad pad p)
-    (part-append names (comma_pieces t ++ last) bytes (comma_text t ++ (end ++ indentation)) terminals (comma_terminals t ++ []) [] [] j.part
-    (part-append (comma_pieces t) last (comma_text t) (end ++ indentation) (comma_terminals t) [] [] [] (part-trailing t) part-last))) in
+    part-append (part-end end e) (part-append (part-pad pad p) (part-append j.part (part-append (part-trailing t) part-last))) in
     let inner = remark_pieces cs ++ behind in
     let bare-names = any-lines is_bracket no_bracket glue refl (line ∷ lines) in
     let bare-rest : list_any is_bracket (names ++ (comma_pieces t ++ last)) ≡ false = any-append is_bracket names (comma_pieces t ++ last) bare-names (any-append is_bracket (comma_pieces t) last (any-trailing is_bracket no_bracket t) (bare-spaces indentation)) in
@@ -189,10 +184,7 @@ hung-phrase law end pad indentation e p spaces line lines named t cs h =
     let closed = end_piece end ∷ (space_pieces indentation ++ (closing_piece ∷ ending)) in
     let after-names = names ++ (comma_pieces t ++ closed) in
     record {
-      part =
-          part-append (opening_piece ∷ []) (inner ++ closing_piece ∷ []) (codes "(") ((remark cs ++ (end ++ (pad ++ (bytes ++ (comma_text t ++ (end ++ indentation)))))) ++ codes ")") (opening ∷ []) ((terminals ++ (comma_terminals t ++ [])) ++ closing ∷ []) [] ((remark_said cs ++ []) ++ []) part-opening
-          (part-append inner (closing_piece ∷ []) (remark cs ++ (end ++ (pad ++ (bytes ++ (comma_text t ++ (end ++ indentation)))))) (codes ")") (terminals ++ (comma_terminals t ++ [])) (closing ∷ []) (remark_said cs ++ []) []
-          (part-append (remark_pieces cs) behind (remark cs) (end ++ (pad ++ (bytes ++ (comma_text t ++ (end ++ indentation))))) [] (terminals ++ (comma_terminals t ++ [])) (remark_said cs) [] (part-remark cs h) part-behind) part-closing);
+      part = part-append part-opening (part-append (part-append (part-remark cs h) part-behind) part-closing);
       touch = subst MayTouch (sym whole)
           (touch-operator (40 ∷ []) (remark_pieces cs ++ (end_piece end ∷ piece space pad ∷ after-names))
           (touch-remark cs end (piece space pad ∷ after-names) (
@@ -204,6 +196,6 @@ hung-phrase law end pad indentation e p spaces line lines named t cs h =
       line = bracketed-line inner bare;
       well = λ o.
           let words : words_of (inner ++ closing_piece ∷ []) ≡ words_of (remark_pieces cs) ++ words_of (behind ++ closing_piece ∷ []) = ap words_of (append_assoc (remark_pieces cs) behind (closing_piece ∷ [])) ∙ words-append (remark_pieces cs) (behind ++ closing_piece ∷ []) in
-          let rest : IsPart (behind ++ closing_piece ∷ []) ((end ++ (pad ++ (bytes ++ (comma_text t ++ (end ++ indentation))))) ++ codes ")") ((terminals ++ (comma_terminals t ++ [])) ++ closing ∷ []) [] = part-append behind (closing_piece ∷ []) _ (codes ")") _ (closing ∷ []) [] [] part-behind part-closing in
+          let rest : IsPart (behind ++ closing_piece ∷ []) ((end ++ (pad ++ (bytes ++ (comma_text t ++ (end ++ indentation))))) ++ codes ")") ((terminals ++ (comma_terminals t ++ [])) ++ closing ∷ []) [] = part-append part-behind part-closing in
           ap (are_well true) words ∙ well-opened cs (words_of (behind ++ closing_piece ∷ [])) (well-bare (words_of (behind ++ closing_piece ∷ [])) rest.remarks);
     }

@@ -76,8 +76,8 @@ kept-append : (d : ℕ) (ps qs : List Piece) → keeps d ps ≡ true → keeps (
 kept-append d [] qs h k = k
 kept-append d (p ∷ ps) qs h k = let parts = and_parts _ _ h in and_from _ _ parts.0 (kept-append (depth_after d p) ps qs parts.1 k)
 
-pub line-append : (ps qs : List Piece) → IsOneLine ps → IsOneLine qs → IsOneLine (ps ++ qs)
-line-append ps qs p q = record {
+pub line-append : {ps qs : List Piece} → IsOneLine ps → IsOneLine qs → IsOneLine (ps ++ qs)
+line-append {ps = ps} {qs = qs} p q = record {
   balanced = both (ps ++ qs) ps qs refl p.balanced q.balanced;
   shallow = shallow-append 0 ps qs p.shallow (subst (λ (d : ℕ). IsShallow d qs) (sym p.deep) q.shallow);
   deep = depth-append 0 ps qs ∙ ap (λ (d : ℕ). depth_through d qs) p.deep ∙ q.deep;

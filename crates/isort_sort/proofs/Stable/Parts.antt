@@ -72,8 +72,8 @@ remarks-append a b =
     ap (map (λ w. w.bytes)) (filter-append (λ w. is_comment w.kind) a b)
     ∙ map-append (λ w. w.bytes) (filter (λ w. is_comment w.kind) a) (filter (λ w. is_comment w.kind) b)
 
-pub part-append : (ps qs : List Piece) (b c : List ℕ) (t u : List Terminal) (r s : List (List ℕ)) → IsPart ps b t r → IsPart qs c u s → IsPart (ps ++ qs) (b ++ c) (t ++ u) (r ++ s)
-part-append ps qs b c t u r s p q = record {
+pub part-append : {ps qs : List Piece} {b c : List ℕ} {t u : List Terminal} {r s : List (List ℕ)} → IsPart ps b t r → IsPart qs c u s → IsPart (ps ++ qs) (b ++ c) (t ++ u) (r ++ s)
+part-append {ps = ps} {qs = qs} p q = record {
   simple = simple-append ps qs p.simple q.simple;
   scalars = ap all_scalars (spelled-append ps qs) ∙ scalars-append (spelled ps) (spelled qs) p.scalars q.scalars;
   spell = ap encode_utf8_all (spelled-append ps qs) ∙ encodes-append (spelled ps) (spelled qs) ∙ (λ i. p.spell i ++ q.spell i);

@@ -48,8 +48,8 @@ record IsBody (characters bytes : List ℕ) : Type 0 where
   spell : encode_utf8_all characters ≡ bytes
   unbroken : list_any is_break characters ≡ false
 
-body-append : (a b x y : List ℕ) → IsBody a x → IsBody b y → IsBody (a ++ b) (x ++ y)
-body-append a b x y p q = record {
+body-append : {a b x y : List ℕ} → IsBody a x → IsBody b y → IsBody (a ++ b) (x ++ y)
+body-append {a = a} {b = b} p q = record {
   scalars = scalars-append a b p.scalars q.scalars;
   spell = encodes-append a b ∙ (λ i. p.spell i ++ q.spell i);
   unbroken = list_any-append is_break a b ∙ (λ i. p.unbroken i || q.unbroken i);
@@ -74,8 +74,7 @@ body-nil = record { scalars = refl; spell = refl; unbroken = refl }
 bodies-of : (cs : List (List ℕ)) → AreRemarks cs → IsBody (flat_map (λ c. codes "; " ++ chars c) cs) (flat_map (λ (c : List ℕ). codes "; " ++ c) cs)
 bodies-of [] h = body-nil
 bodies-of (c ∷ cs) h =
-    body-append (codes "; " ++ chars c) (flat_map (λ d. codes "; " ++ chars d) cs) (codes "; " ++ c) (flat_map (λ (d : List ℕ). codes "; " ++ d) cs)
-    (body-append (codes "; ") (chars c) (codes "; ") c body-between (body-of c h.0)) (bodies-of cs h.1)
+    body-append (body-append body-between (body-of c h.0)) (bodies-of cs h.1)
 
 pub part-remark : (cs : List (List ℕ)) → AreRemarks cs → IsPart (remark_pieces cs) (remark cs) [] (remark_said cs)
 unfolding is_space
@@ -83,10 +82,9 @@ part-remark [] h = part-nil
 part-remark (c ∷ cs) h =
     let joined : List ℕ = join_by (λ (t : List ℕ). t) (codes "; ") (c ∷ cs) in
     let body : IsBody (32 ∷ join_by chars (codes "; ") (c ∷ cs)) (32 ∷ joined) =
-    body-append (32 ∷ []) (join_by chars (codes "; ") (c ∷ cs)) (32 ∷ []) joined body-space
-    (body-append (chars c) (flat_map (λ d. codes "; " ++ chars d) cs) c (flat_map (λ (d : List ℕ). codes "; " ++ d) cs) (body-of c h.0) (bodies-of cs h.1)) in
+    body-append body-space (body-append (body-of c h.0) (bodies-of cs h.1)) in
     let written = part-comment (32 ∷ join_by chars (codes "; ") (c ∷ cs)) body.scalars body.unbroken in
-    part-append (piece space (32 ∷ 32 ∷ []) ∷ []) (piece comment (35 ∷ 32 ∷ join_by chars (codes "; ") (c ∷ cs)) ∷ []) (codes "  ") (35 ∷ 32 ∷ joined) [] [] [] (remark_said (c ∷ cs))
+    part-append
     (part-space (32 ∷ 32 ∷ []) refl)
     (part-as _ _ _ _ _ _ _ (ap (λ t. 35 ∷ t) body.spell) refl (ap (λ t. (35 ∷ t) ∷ []) body.spell) written)
 
@@ -127,8 +125,7 @@ import_pieces = a_space ∷ piece word (codes "import") ∷ a_space ∷ []
 part-import : LettersAreWords → IsPart import_pieces (codes " import ") (import_word ∷ []) []
 unfolding is_digit
 part-import law =
-    part-append (a_space ∷ []) (piece word (codes "import") ∷ a_space ∷ []) (32 ∷ []) (codes "import ") [] (import_word ∷ []) [] [] part-a_space
-    (part-append (piece word (codes "import") ∷ []) (a_space ∷ []) (codes "import") (32 ∷ []) (import_word ∷ []) [] [] [] (part-letters law 105 (codes "mport") refl refl refl) part-a_space)
+    part-append part-a_space (part-append (part-letters law 105 (codes "mport") refl refl refl) part-a_space)
 
 pub phrase-from : LettersAreWords → (end : List ℕ) (path : List Terminal) → IsRelativeModule path → HaveNames path → (body : List Piece) (bytes : List ℕ) (terminals : List Terminal) (said : List (List ℕ)) → IsPhrase end body bytes terminals said → IsPhrase end (path_pieces path ++ (import_pieces ++ body)) (spelling path ++ (codes " import " ++ bytes)) (path ++ (import_word ∷ terminals)) said
 unfolding is_digit
@@ -136,10 +133,10 @@ phrase-from law end path r names body bytes terminals said p =
     let whole : (path_pieces path ++ (import_pieces ++ body)) ++ end_piece end ∷ [] ≡ path_pieces path ++ (import_pieces ++ (body ++ end_piece end ∷ [])) = append_assoc (path_pieces path) (import_pieces ++ body) (end_piece end ∷ []) in
     let first = part-relative path r names in
     record {
-      part = part-append (path_pieces path) (import_pieces ++ body) (spelling path) (codes " import " ++ bytes) path (import_word ∷ terminals) [] said first (part-append import_pieces body (codes " import ") bytes (import_word ∷ []) terminals [] said (part-import law) p.part);
+      part = part-append first (part-append (part-import law) p.part);
       touch = subst MayTouch (sym whole) (touch-relative path r (import_pieces ++ (body ++ end_piece end ∷ [])) refl (refl, (refl, touch-space (32 ∷ []) (body ++ end_piece end ∷ []) p.start p.touch)));
       start = ap after_space whole ∙ relative_after_space path r (import_pieces ++ (body ++ end_piece end ∷ []));
-      line = line-append (path_pieces path) (import_pieces ++ body) (line-path path) (line-append import_pieces body (plain-line import_pieces refl refl) p.line);
+      line = line-append (line-path path) (line-append (plain-line import_pieces refl refl) p.line);
       well = λ o. ap (are_well o) (words-append (path_pieces path) (import_pieces ++ body)) ∙ well-append (words_of (path_pieces path)) (words_of (import_pieces ++ body)) first.remarks (λ x. p.well false) o;
     }
 
@@ -165,10 +162,10 @@ phrase-module law end path m names a named cs remarks =
     let second = part-alias law a named in
     let after = remark_after_word cs end [] in
     record {
-      part = part-append (path_pieces path) (alias_pieces a ++ remark_pieces cs) (spelling path) (alias_text a ++ remark cs) path (alias_terminals a ++ []) [] (remark_said cs) first (part-append (alias_pieces a) (remark_pieces cs) (alias_text a) (remark cs) (alias_terminals a) [] [] (remark_said cs) second (part-remark cs remarks));
+      part = part-append first (part-append second (part-remark cs remarks));
       touch = subst MayTouch (sym whole) (touch-module path m (alias_pieces a ++ ending) (alias_after_word a ending after) (touch-after a ending after (touch-remark cs end [] tt)));
       start = ap after_space whole ∙ module_after_space path m (alias_pieces a ++ ending);
-      line = line-append (path_pieces path) (alias_pieces a ++ remark_pieces cs) (line-path path) (line-append (alias_pieces a) (remark_pieces cs) (plain-line (alias_pieces a) (unended-alias is_bracket (λ t. refl) (λ t. refl) a) (unended-alias is_end (λ t. refl) (λ t. refl) a)) (line-remark cs));
+      line = line-append (line-path path) (line-append (plain-line (alias_pieces a) (unended-alias is_bracket (λ t. refl) (λ t. refl) a) (unended-alias is_end (λ t. refl) (λ t. refl) a)) (line-remark cs));
       well = λ o.
           ap (are_well o) (words-append (path_pieces path) (alias_pieces a ++ remark_pieces cs))
           ∙ well-append (words_of (path_pieces path)) (words_of (alias_pieces a ++ remark_pieces cs)) first.remarks

@@ -51,9 +51,7 @@ pub record IsGiven (indentation end : List ℕ) (s : Laid) (from : Bool) (phrase
 
 part-statement : Laws → (indentation end : List ℕ) (s : Laid) (from : Bool) (phrase : List Piece) (bytes : List ℕ) (terminals : List Terminal) → IsGiven indentation end s from phrase bytes terminals → IsPart (statement_pieces indentation from phrase) (indentation ++ (first_word from ++ (32 ∷ bytes))) (first_terminal from ∷ terminals) (remark_said s.comments)
 part-statement laws indentation end s from phrase bytes terminals g =
-    part-append (space_pieces indentation) (piece word (first_word from) ∷ a_space ∷ phrase) indentation (first_word from ++ (32 ∷ bytes)) [] (first_terminal from ∷ terminals) [] (remark_said s.comments) (part-space indentation g.spaces)
-    (part-append (piece word (first_word from) ∷ []) (a_space ∷ phrase) (first_word from) (32 ∷ bytes) (first_terminal from ∷ []) terminals [] (remark_said s.comments) (part-first laws.letters from)
-    (part-append (a_space ∷ []) phrase (32 ∷ []) bytes [] terminals [] (remark_said s.comments) part-a_space g.phrase_is.part))
+    part-append (part-space indentation g.spaces) (part-append (part-first laws.letters from) (part-append part-a_space g.phrase_is.part))
 
 bare-space : (indentation : List ℕ) → IsOneLine (space_pieces indentation)
 bare-space [] = plain-line [] refl refl
@@ -61,8 +59,7 @@ bare-space (c ∷ cs) = plain-line (space_pieces (c ∷ cs)) refl refl
 
 statement-line : (indentation : List ℕ) (from : Bool) (phrase : List Piece) → IsOneLine phrase → IsOneLine (statement_pieces indentation from phrase)
 statement-line indentation from phrase l =
-    line-append (space_pieces indentation) (piece word (first_word from) ∷ a_space ∷ phrase) (bare-space indentation)
-    (line-append (piece word (first_word from) ∷ a_space ∷ []) phrase (plain-line (piece word (first_word from) ∷ a_space ∷ []) refl refl) l)
+    line-append (bare-space indentation) (line-append (plain-line (piece word (first_word from) ∷ a_space ∷ []) refl refl) l)
 
 statement-well : (indentation : List ℕ) (from : Bool) (phrase : List Piece) → are_well false (words_of phrase) ≡ true → are_well false (words_of (statement_pieces indentation from phrase)) ≡ true
 unfolding is_digit
@@ -88,7 +85,7 @@ begins-so false terminals = refl
 
 -- whether there is a line end
 marked-line : (marked : Bool) (ps : List Piece) → IsOneLine ps → IsOneLine (mark_pieces marked ++ ps)
-marked-line true ps l = line-append (mark_pieces true) ps (plain-line (mark_pieces true) refl refl) l
+marked-line true ps l = line-append (plain-line (mark_pieces true) refl refl) l
 marked-line false ps l = l
 
 end-some : (end : List ℕ) → IsLineEnd end → nat_lt 0 (byte_len end) ≡ true

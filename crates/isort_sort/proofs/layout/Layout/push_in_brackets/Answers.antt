@@ -13,10 +13,10 @@ returns c =
     let v = values c.args.self.now.settings.now in
     let indentation = c.args.self.now.indentation.now in
     let end = c.args.self.now.end.now in
-    let items = map item_value c.args.items.now in
+    let items = map item_value c.args.names.items.now in
     let text : ℕ → ℕ → List ℕ = λ r n. join_by items_text (codes "," ++ (end ++ (indentation ++ replicate n 32))) (packed r items) in
-    let packed_text = c.in_ok-push_items.ensures ∙ ap (λ r. string_bytes c.push_opening.new.out ++ text r c.bracket_width.result) c.line_room.ensures ∙ ap (λ n. string_bytes c.push_opening.new.out ++ text (line_room v indentation c.args.module.now) n) c.bracket_width.ensures in
+    let packed_text = c.in_ok-push_items.ensures ∙ ap (λ r. string_bytes c.push_opening.new.out ++ text r c.bracket_width.result) c.line_room.ensures ∙ ap (λ n. string_bytes c.push_opening.new.out ++ text (line_room v indentation c.args.names.path.now) n) c.bracket_width.ensures in
     last_extended _ _ _ _ _ _ _
     (extend _ _ _ _ _ (extend _ _ _ _ _ (extend _ _ _ _ _ c.in_ok-push_opening.ensures packed_text) c.in_ok-push_trailing_comma.ensures) c.in_ok-push_str.ensures.bytes)
     c.push_line_end.ensures
-    (in_brackets-written v indentation end c.args.module.now _ _ items (some_values item_value c.args.items.now c.requires))
+    (in_brackets-written v indentation end c.args.names.path.now _ _ items (some_values item_value c.args.names.items.now c.args.names.some))
