@@ -12,7 +12,7 @@ use Rattle.std.proofs.lemmas.Slice.Eq.{bytes_eq-Decides}
 use Rattle.std.proofs.lemmas.Map.Lookups.{CmpEqualImpliesEq}
 use Rattle.py_imports.specs.Grammar as grammar
 use Rattle.isort_settings.specs.Values.{Values}
-use Rattle.isort_sort.specs.Statement.{Statement, straight, star, names, single, form_place, module_of, own_item, item_cmp, same_alias, same_statement}
+use Rattle.isort_sort.specs.Statement.{Statement, straight, form_place, module_of, own_item, item_cmp, same_alias, same_statement}
 use Rattle.isort_sort.specs.Private.Values.{item_value}
 use Rattle.isort_sort.specs.declared.statement.Item as code
 use Rattle.isort_sort.proofs.Orders.SortedVectors.{by_value, is_equal}
@@ -44,9 +44,7 @@ and_all a b c d h i j k = rw (h, i, j, k)
 
 place_itself : (a : Statement) → form_place a == form_place a ≡ true
 place_itself (straight m x) = refl
-place_itself (star m) = refl
-place_itself (names m) = refl
-place_itself (single m x) = refl
+place_itself _ = refl
 
 pub itself : (a : Statement) → same_statement a a ≡ true
 itself a = and_all _ _ _ _ (place_itself a) ((bytes_eq-Decides (module_of a) (module_of a)).1 refl) ((bytes_eq-Decides (own_item a).path (own_item a).path).1 refl) (alias_itself (own_item a).alias)

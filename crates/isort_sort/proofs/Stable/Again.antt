@@ -180,7 +180,7 @@ again_block v end off a rs bs cs before run blanks cut own others body run_is ar
       binds_append a us parts.0 (binds_append (w.first ∷ w.later) z.units w.binds (z.binds later.1));
   no_string = λ h.
       ap first_string_skips (map-append unit_line a us)
-      ∙ strings_before (map unit_line a) (map unit_line (rs ++ more)) (map unit_line us) (λ k. ap (λ l. first_string_skips (unit_line w.first ∷ l)) (map-append unit_line w.later z.units) ∙ w.no_string false (map unit_line z.units)) (ap first_string_skips (sym (map-append unit_line a (rs ++ more))) ∙ h);
+      ∙ strings_before (map unit_line a) (map unit_line (rs ++ more)) (map unit_line us) (λ k. ap (λ l. first_string_skips (unit_line w.first ∷ l)) (map-append unit_line w.later z.units) ∙ w.top.no_string false (map unit_line z.units)) (ap first_string_skips (sym (map-append unit_line a (rs ++ more))) ∙ h);
 }
   where
     more : List (List Piece)
@@ -191,7 +191,7 @@ again_block v end off a rs bs cs before run blanks cut own others body run_is ar
 
     follows_some : (u : List Piece) (l : List (List Piece)) → AreSome l → Follows u (l ++ more) → Follows u us
     follows_some u [] some h = absurd (let e = some.2 in cc)
-    follows_some u (r ∷ l) some h = (h.0, record { unmarked = w.unmarked; uncut = ap (λ b. ends is_return (spelled u) && b) w.no_feed ∙ and-false (ends is_return (spelled u)) })
+    follows_some u (r ∷ l) some h = (h.0, record { unmarked = w.top.unmarked; uncut = ap (λ b. ends is_return (spelled u) && b) w.top.no_feed ∙ and-false (ends is_return (spelled u)) })
 
     follows : (u : List Piece) → Follows u (rs ++ more) → Follows u us
     follows u h = follows_some u rs (seen_some rs run seen) h

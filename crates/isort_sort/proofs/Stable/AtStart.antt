@@ -177,11 +177,11 @@ laid_first v laws sorted us run blanks later f marked end own others is layout l
         let u : List Piece = mark_pieces marked ++ w.first in
         let rest_units : List (List Piece) = w.later ++ z.units in
         let new : Cut = block w.above w.new w.blanks z.cut in
-        let rows = subst (AreUnitRows false (w.first ∷ rest_units)) w.heads w.rows in
-        let row = w.starts marked in
-        let plain : off_past false (unit_line w.first) ≡ false = silent false false (unit_line w.first) w.top.role rows.0.role w.inside in
-        let on : off_past false (unit_line u) ≡ false = silent false false (unit_line u) w.top.role row.role w.inside in
-        let below : AreUnitRows (off_past false (unit_line u)) rest_units w.below = subst (λ (b : Bool). AreUnitRows b rest_units w.below) (plain ∙ sym on) rows.1 in
+        let rows = subst (AreUnitRows false (w.first ∷ rest_units)) w.top.is w.rows in
+        let row = w.top.starts marked in
+        let plain : off_past false (unit_line w.first) ≡ false = silent false false (unit_line w.first) w.top.row.role rows.0.role w.top.inside in
+        let on : off_past false (unit_line u) ≡ false = silent false false (unit_line u) w.top.row.role row.role w.top.inside in
+        let below : AreUnitRows (off_past false (unit_line u)) rest_units w.top.below = subst (λ (b : Bool). AreUnitRows b rest_units w.top.below) (plain ∙ sym on) rows.1 in
         let bytes : bytes_of (u ∷ rest_units) ≡ sorted =
         marked_bytes marked w.first rest_units
         ∙ ap (λ (t : List ℕ). encode_utf8_all (spelled (mark_pieces marked)) ++ t) (bytes_of-append (w.first ∷ w.later) z.units ∙ (λ i. w.text i ++ z.text i))
@@ -192,16 +192,16 @@ laid_first v laws sorted us run blanks later f marked end own others is layout l
         record {
           lines = lines_from 0 1 (u ∷ rest_units);
           cut = new;
-          blocks = text_again v laws sorted u rest_units w.top w.below new
-              (marked_unit marked w.first w.are.0 w.unmarked, marked_follows marked w.first rest_units w.are.0 w.are.1, w.are.2)
+          blocks = text_again v laws sorted u rest_units w.top.row w.top.below new
+              (marked_unit marked w.first w.are.0 w.top.unmarked, marked_follows marked w.first rest_units w.are.0 w.are.1, w.are.2)
               bytes done row below
-              (role_binds false 0 1 u w.top.role row.role w.inside, binds_append w.later z.units w.binds.1 (z.binds f.binds))
+              (role_binds false 0 1 u w.top.row.role row.role w.top.inside, binds_append w.later z.units w.binds.1 (z.binds f.binds))
               (ap (λ (b : Bool). b || list_any says_skip_file rest_units) (marked_skips laws.tokens marked w.first) ∙ skip_rest)
-              (ap (λ l. first_string_skips (unit_line u ∷ l)) (map-append unit_line w.later z.units) ∙ w.no_string marked (map unit_line z.units))
-              w.heads (blocks_again (block [] run blanks later) new f.all_blocks replaced);
+              (ap (λ l. first_string_skips (unit_line u ∷ l)) (map-append unit_line w.later z.units) ∙ w.top.no_string marked (map unit_line z.units))
+              w.top.is (blocks_again (block [] run blanks later) new f.all_blocks replaced);
           body = own ++ others;
           layouts = subst (λ (e : List ℕ). IsSortedCut v e new (own ++ others)) (sym same) sorted_again;
-          is = text ∙ ap (λ (t : List ℕ). t ++ (own ++ others)) (sym (ap (λ (n : ℕ). take n (encode_utf8_all (spelled u))) (w.mark marked) ∙ marked_take marked w.first));
+          is = text ∙ ap (λ (t : List ℕ). t ++ (own ++ others)) (sym (ap (λ (n : ℕ). take n (encode_utf8_all (spelled u))) (w.top.mark marked) ∙ marked_take marked w.first));
         }
 
 -- its first line end is the one that was written, or it is one line without any

@@ -45,10 +45,7 @@ joined-silent laws a c (d ∷ ds) h =
 
 says-after : (a : Action) (t : List ℕ) → says a t ≡ false → says a (codes "# " ++ t) ≡ false
 says-after action.SkipFile t h = h
-says-after action.Skip t h = h
-says-after action.Off t h = h
-says-after action.On t h = h
-says-after action.Split t h = h
+says-after _ t h = h
 
 pub said-silent : Laws → (a : Action) (cs : List (List ℕ)) → list_any (says a) cs ≡ false → list_any (says a) (remark_said cs) ≡ false
 said-silent laws a [] h = refl

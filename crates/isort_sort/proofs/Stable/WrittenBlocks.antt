@@ -29,6 +29,18 @@ use Rattle.isort_sort.proofs.Stable.Joined.{joined_lines, ended_lines, AreSome, 
 use Rattle.isort_sort.proofs.Stable.BlockUnits.{lines_of_statement, IsReady, AreReady, tail_of, blanks_of, statement_some, IsBuilt, built}
 use Rattle.isort_sort.proofs.Stable.Marked.{comment_mark, comment_first}
 
+-- the first line of a block that is written, with the row that it has, and the rows after it
+pub record HasTop (first : List Piece) (later : List (List Piece)) (rows : List Row) : Type 0 where
+  pub unmarked : begins_marked first ≡ false
+  pub no_feed : begins is_line_feed (spelled first) ≡ false
+  pub no_string : (marked : Bool) (lines : List LogicalLine) → first_string_skips (line_of 0 1 (mark_pieces marked ++ first) ∷ (map unit_line later ++ lines)) ≡ false
+  pub row : Row
+  pub below : List Row
+  pub is : rows ≡ row ∷ below
+  pub starts : (marked : Bool) → IsRow [] (line_of 0 1 (mark_pieces marked ++ first)) row
+  pub inside : role_in_block row.role ≡ true
+  pub mark : (marked : Bool) → mark_len (line_of 0 1 (mark_pieces marked ++ first)) ≡ mark_bytes marked
+
 -- a block that was written, before these logical lines and rows
 pub record IsWrittenBlock (v : Values) (end : List ℕ) (run : Run) (own : List ℕ) (zs : List (List Piece)) (rest : List Row) : Type 0 where
   pub first : List Piece
@@ -47,16 +59,8 @@ pub record IsWrittenBlock (v : Values) (end : List ℕ) (run : Run) (own : List 
   pub layout : IsLayout v end new blanks rest mine
   pub text : bytes_of (first ∷ later) ≡ own
   pub unskipped : list_any says_skip_file (first ∷ later) ≡ false
-  pub unmarked : begins_marked first ≡ false
-  pub no_feed : begins is_line_feed (spelled first) ≡ false
-  pub no_string : (marked : Bool) (lines : List LogicalLine) → first_string_skips (line_of 0 1 (mark_pieces marked ++ first) ∷ (map unit_line later ++ lines)) ≡ false
-  pub top : Row
-  pub below : List Row
-  pub heads : above ++ (run_rows new ++ (blanks ++ rest)) ≡ top ∷ below
-  pub starts : (marked : Bool) → IsRow [] (line_of 0 1 (mark_pieces marked ++ first)) top
-  pub inside : role_in_block top.role ≡ true
+  pub top : HasTop first later (above ++ (run_rows new ++ (blanks ++ rest)))
   pub binds : EachBinds (first ∷ later)
-  pub mark : (marked : Bool) → mark_len (line_of 0 1 (mark_pieces marked ++ first)) ≡ mark_bytes marked
 
 -- the text of lines is that of the lines, and what follows the last
 text_is : (end : List ℕ) (ended : Bool) (n : ℕ) (lines : List (List ℕ)) → AreSome lines → text_of_lines end ended n lines ≡ joined_lines end lines ++ tail_of end ended n
@@ -126,18 +130,6 @@ layout_parts law v space end ended n s ss r b =
     ∙ append_assoc (ended_lines end above) (joined_lines end (mine ++ later)) (tail_of end ended n)
     ∙ ap (λ (t : List ℕ). ended_lines end above ++ t) (sym b.text)
 
--- what is known of a block whose first statement is written, with the comments above it
-record HasTop (end : List ℕ) (first : List Piece) (later : List (List Piece)) (rows : List Row) : Type 0 where
-  unmarked : begins_marked first ≡ false
-  no_feed : begins is_line_feed (spelled first) ≡ false
-  no_string : (marked : Bool) (lines : List LogicalLine) → first_string_skips (line_of 0 1 (mark_pieces marked ++ first) ∷ (map unit_line later ++ lines)) ≡ false
-  top : Row
-  below : List Row
-  heads : rows ≡ top ∷ below
-  starts : (marked : Bool) → IsRow [] (line_of 0 1 (mark_pieces marked ++ first)) top
-  inside : role_in_block top.role ≡ true
-  mark : (marked : Bool) → mark_len (line_of 0 1 (mark_pieces marked ++ first)) ≡ mark_bytes marked
-
 map_units : (us vs : List (List Piece)) (lines : List LogicalLine) → map unit_line (us ++ vs) ++ lines ≡ map unit_line us ++ (map unit_line vs ++ lines)
 map_units [] vs lines = refl
 map_units (u ∷ us) vs lines = ap (λ l. unit_line u ∷ l) (map_units us vs lines)
@@ -152,15 +144,15 @@ headed : (space end : List ℕ) (cs : List (List ℕ)) (are : AreAbove cs) (firs
 headed space end [] are first later = record { first = first; later = later; is = refl }
 headed space end (c ∷ cs) are first later = record { first = comment_unit space are.0.characters end; later = above_units space end cs are.1 ++ (first ∷ later); is = refl }
 
-top_of : TokenLaws → (v : Values) (space end : List ℕ) (ended : Bool) (n : ℕ) (s : Laid) (ss : List Laid) (cs : List (List ℕ)) (are : AreAbove cs) (others : List Row) → list_all is_space space ≡ true → (b : IsBuilt v space end ended n s ss) → HasTop end (headed space end cs are b.first b.later).first (headed space end cs are b.first b.later).later (above_rows space end cs are ++ (b.row ∷ others))
+top_of : TokenLaws → (v : Values) (space end : List ℕ) (ended : Bool) (n : ℕ) (s : Laid) (ss : List Laid) (cs : List (List ℕ)) (are : AreAbove cs) (others : List Row) → list_all is_space space ≡ true → (b : IsBuilt v space end ended n s ss) → HasTop (headed space end cs are b.first b.later).first (headed space end cs are b.first b.later).later (above_rows space end cs are ++ (b.row ∷ others))
 unfolding headed
 top_of laws v space end ended n s ss [] are others spaces b = record {
   unmarked = b.unmarked;
   no_feed = b.no_feed;
   no_string = λ marked lines. b.no_string marked 0 1 (map unit_line b.later ++ lines);
-  top = b.row;
+  row = b.row;
   below = others;
-  heads = refl;
+  is = refl;
   starts = b.starts;
   inside = member_in_block b.row.role b.member;
   mark = b.mark;
@@ -174,9 +166,9 @@ top_of laws v space end ended n s ss (c ∷ cs) are others spaces b =
           ap (λ l. first_string_skips (line_of 0 1 (mark_pieces marked ++ u) ∷ l)) (map_units (above_units space end cs are.1) (b.first ∷ b.later) lines)
           ∙ first_above_passes marked space end c cs are (map unit_line (b.first ∷ b.later) ++ lines)
           ∙ b.no_string false 0 1 (map unit_line b.later ++ lines);
-      top = row_of u (comments (c ∷ []));
+      row = row_of u (comments (c ∷ []));
       below = above_rows space end cs are.1 ++ (b.row ∷ others);
-      heads = refl;
+      is = refl;
       starts = λ marked. comment_first laws marked space c end are.0 spaces;
       inside = refl;
       mark = λ marked. comment_mark marked space c end are.0 spaces;
@@ -217,16 +209,8 @@ written_block law laws v o end run n s ss own zs rest is spaces ready laid text 
           ∙ ap (λ (t : List ℕ). t ++ bytes_of (b.first ∷ b.later)) (above_text space end s.above ready.0.above spaces is)
           ∙ sym (layout_parts law v space end ended n s ss ready.0 b) ∙ sym text;
       unskipped = ap (list_any says_skip_file) (sym head.is) ∙ none-append says_skip_file above_us (b.first ∷ b.later) (above_unskipped laws space end s.above ready.0.above) b.unskipped;
-      unmarked = top.unmarked;
-      no_feed = top.no_feed;
-      no_string = top.no_string;
-      top = top.top;
-      below = top.below;
-      heads = top.heads;
-      starts = top.starts;
-      inside = top.inside;
+      top = top_of laws v space end ended n s ss s.above ready.0.above (flat_map further_rows b.others ++ (b.blanks ++ rest)) spaces b;
       binds = subst EachBinds head.is (binds_append above_us (b.first ∷ b.later) (inner_binds above_us above (above_inner laws space end s.above ready.0.above)) (inner_binds (b.first ∷ b.later) (b.row ∷ (flat_map further_rows b.others ++ b.blanks)) b.inner));
-      mark = top.mark;
     }
   where
     space : List ℕ
@@ -252,9 +236,6 @@ written_block law laws v o end run n s ss own zs rest is spaces ready laid text 
 
     head : AreHeaded units
     head = headed space end s.above ready.0.above b.first b.later
-
-    top : HasTop end head.first head.later (above ++ (run_rows new ++ (b.blanks ++ rest)))
-    top = top_of laws v space end ended n s ss s.above ready.0.above (flat_map further_rows b.others ++ (b.blanks ++ rest)) spaces b
 
     lines : AreLines end ended units
     lines = lines_append end ended above_us (b.first ∷ b.later) (above_lines law space end s.above ready.0.above spaces is) b.lines
