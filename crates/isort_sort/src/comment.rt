@@ -1,11 +1,12 @@
 //! The comments of a logical line.
-ghost use Rattle.std.specs.Prelude.{◌≡◌, IfOk, IsTrue, map, string_bytes};
+ghost use Rattle.std.specs.Prelude.{◌≡◌, ◌++◌, IfOk, IsTrue, OnOk, map, string_bytes};
 ghost use Rattle.std.specs.List.{list_any};
 ghost use Rattle.py_lines.specs.Lines.{line_in};
 ghost use Rattle.py_imports.specs.Action.{says};
 ghost use Rattle.isort_sort.specs.Line.{comment_texts, own_comments, stripped, without_hash};
-ghost use Rattle.isort_sort.specs.Private.Silence.{IsSilent};
+ghost use Rattle.isort_sort.specs.Private.Silence.{IsSilent, content_of};
 
+use crate::texts::push_copy;
 use memchr::memmem;
 use py_imports::{Action, says};
 use py_lines::Unit;
@@ -48,6 +49,17 @@ pub(crate) fn comments_say(unit: &Unit<'_>, action: Action) -> bool
     false
 }
 
+/// Puts what a comment says after `comments`, if it says something.
+fn push_content(alloc: Global, comments: &mut Vec<String>, comment: &str) -> Result<(), AllocError>
+    ensures { OnOk result (map string_bytes comments.new.items ≡ map string_bytes comments.old.items ++ content_of comment.now) }
+{
+    let content = content(comment);
+    if content.is_empty() {
+        return Ok(());
+    }
+    push_copy(alloc, comments, content)
+}
+
 /// The line's own comments: what each says, without the empty ones.
 pub(crate) fn own_comments(alloc: Global, unit: &Unit<'_>) -> Result<Vec<String>, AllocError>
     ensures { IfOk result (λ comments. map string_bytes comments.items ≡ own_comments (line_in unit.now)) }
@@ -55,10 +67,7 @@ pub(crate) fn own_comments(alloc: Global, unit: &Unit<'_>) -> Result<Vec<String>
     let mut comments = Vec::new(alloc);
     'tokens: for (place, token) in unit.tokens.iter().enumerate() {
         if token.kind.is_comment() {
-            let content = content(unit.word(place));
-            if !content.is_empty() {
-                comments.push(content.to_string(alloc)?)?;
-            }
+            push_content(alloc, &mut comments, unit.word(place))?;
         }
     }
     Ok(comments)
@@ -71,7 +80,7 @@ pub(crate) fn comment_texts(alloc: Global, unit: &Unit<'_>) -> Result<Vec<String
     let mut comments = Vec::new(alloc);
     'tokens: for (place, token) in unit.tokens.iter().enumerate() {
         if token.kind.is_comment() {
-            comments.push(unit.word(place).to_string(alloc)?)?;
+            push_copy(alloc, &mut comments, unit.word(place))?;
         }
     }
     Ok(comments)

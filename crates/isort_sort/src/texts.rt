@@ -1,7 +1,7 @@
-//! A text that is written many times.
-ghost use Rattle.std.specs.Prelude.{◌≡◌, ◌++◌, OnOk, flat_map, replicate, string_bytes};
+//! Texts that are copied, or written many times.
+ghost use Rattle.std.specs.Prelude.{◌≡◌, [], ◌∷◌, ◌++◌, OnOk, flat_map, map, replicate, string_bytes};
 
-use std::alloc::AllocError;
+use std::alloc::{AllocError, Global};
 
 /// Puts a text after `out`, so many times.
 pub(crate) fn push_times(out: &mut String, text: &str, count: usize) -> Result<(), AllocError>
@@ -10,5 +10,17 @@ pub(crate) fn push_times(out: &mut String, text: &str, count: usize) -> Result<(
     for _ in 0..count {
         out.push_str(text)?;
     }
+    Ok(())
+}
+
+/// Puts a copy of a text after the others.
+pub(crate) fn push_copy(
+    alloc: Global,
+    texts: &mut Vec<String>,
+    text: &str,
+) -> Result<(), AllocError>
+    ensures { OnOk result (map string_bytes texts.new.items ≡ map string_bytes texts.old.items ++ text.now ∷ []) }
+{
+    texts.push(text.to_string(alloc)?)?;
     Ok(())
 }

@@ -1,11 +1,11 @@
 -- What is cut off a comment, and the comments of a line one after another.
-use Rattle.std.proofs.Common.{◌≡◌, ℕ, ◌+◌, ◌-◌, ◌<◌, Bool, true, false, cond, ◌==◌, ◌||◌, ◌&&◌, Option, None, Some, MatchOption, Bor, lit<, List, [], ◌∷◌, ◌++◌, length, take, drop, get_or, append_assoc, length-drop, length-append, map, refl, sym, ap, ◌∙◌, arith}
+use Rattle.std.proofs.Common.{◌≡◌, ℕ, ◌+◌, ◌-◌, ◌<◌, Bool, true, false, cond, ◌||◌, ◌&&◌, Option, None, Some, MatchOption, Bor, lit<, List, [], ◌∷◌, ◌++◌, length, take, drop, get_or, append_assoc, length-drop, length-append, map, refl, sym, ap, ◌∙◌, arith}
 use Rattle.std.specs.Prelude.{filter, slice_range, if◌then◌else◌, slice_get}
 use Rattle.std.specs.Char.{IsScalar, char_set_contains}
 use Rattle.std.specs.List.{list_all, list_any}
 use Rattle.std.specs.Str.Pattern.{FindsPrefixBy, FindsSuffixBy, HasCharAt, FindsCharPrefix, StripsPrefix, CutsPrefixes, CutsSuffixes, IsFullyTrimmed, IsTrimStartMatches, IsTrimEndMatches}
 use Rattle.std.specs.Option.{unwrap_or}
-use Rattle.std.proofs.lemmas.Bool.{lt-ltb, eqb-true, ne_eqb}
+use Rattle.std.proofs.lemmas.Bool.{lt-ltb, ne_eqb}
 use Rattle.std.proofs.lemmas.Bool.Decides.{nat_tests}
 use Rattle.std.proofs.lemmas.List.{take-append-drop, length-take, drop_more}
 use Rattle.std.proofs.lemmas.Str.{encode_ascii}
@@ -21,6 +21,7 @@ use Rattle.isort_sort.specs.Line.{without_hash, without_start, without_end, stri
 use Rattle.std.proofs.Math.Bool.{and-false}
 use Rattle.isort_sort.proofs.Rows.Spaces.{space_low}
 use Rattle.std.proofs.lemmas.Option.{slice_get-get_or}
+use Rattle.isort_sort.specs.Private.Silence.{content_of}
 
 -- space, tab and form feed
 abbrev pub spaces : List ℕ
@@ -180,10 +181,6 @@ texts_on text tokens i before after within e is = taken_on (texts text) tokens i
     by true = refl
     by false = refl
 
--- what a comment says, if it says something
-abbrev pub content_of : List ℕ → List (List ℕ)
-content_of comment = if is_text (stripped (without_hash comment)) then stripped (without_hash comment) ∷ [] else []
-
 -- what the comments among these tokens of a text say
 abbrev pub contents : List ℕ → List Token → List (List ℕ)
 contents text tokens = filter is_text (map (λ t. stripped (without_hash t)) (texts text tokens))
@@ -201,18 +198,3 @@ contents_on text tokens i before after within e is = taken_on (contents text) to
     by : (b : Bool) → filter is_text (map (λ t. stripped (without_hash t)) (map (λ t. slice_range text t.start t.stop) (cond b (token_at tokens i ∷ others) others))) ≡ (if b then content_of (word_at text tokens i) else []) ++ filter is_text (map (λ t. stripped (without_hash t)) (map (λ t. slice_range text t.start t.stop) others))
     by true = by_text (stripped (without_hash (word_at text tokens i))) _ (is_text (stripped (without_hash (word_at text tokens i))))
     by false = refl
-
--- a comment that says something, and one that says nothing
-pub something : (comment word content : List ℕ) → word ≡ comment → content ≡ stripped (without_hash word) → (length content == 0) ≡ false → content_of comment ≡ content ∷ []
-something comment word content e f some = rw (← e) (rw (← f) (by content some))
-  where
-    by : (content : List ℕ) → (length content == 0) ≡ false → (if is_text content then content ∷ [] else []) ≡ content ∷ []
-    by [] some = absurd (cc)
-    by (b ∷ bs) some = refl
-
-pub nothing_seen : (comment word content : List ℕ) → word ≡ comment → content ≡ stripped (without_hash word) → (length content == 0) ≡ true → content_of comment ≡ []
-nothing_seen comment word content e f none = rw (← e) (rw (← f) (by content none))
-  where
-    by : (content : List ℕ) → (length content == 0) ≡ true → (if is_text content then content ∷ [] else []) ≡ []
-    by [] none = refl
-    by (b ∷ bs) none = absurd (omega (arith, eqb-true (length (b ∷ bs)) 0 none))

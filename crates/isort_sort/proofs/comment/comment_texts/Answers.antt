@@ -1,22 +1,19 @@
 use Rattle.std.proofs.Common.{◌++◌, [], ◌∷◌, map, string_bytes, if◌then◌else◌, append-nil, sym, ap, ◌∙◌}
-use Rattle.std.proofs.lemmas.List.{map-append}
 use Rattle.isort_sort.proofs.Rows.Comments.{texts_on, token_is_at, word_at}
 use Rattle.isort_sort.proofs.comment.comment_texts.Goals as goal
-use Rattle.isort_sort.proofs.comment.comment_texts.Goals.{then-is_comment+in_ok-to_string+in_ok-push, else-is_comment}
+use Rattle.isort_sort.proofs.comment.comment_texts.Goals.{then-is_comment+in_ok-push_copy, else-is_comment}
 
 pub tokens-preserved : goal.tokens-preserved
 tokens-preserved c =
     let text = c.args.unit.now.text.now in
     let tokens = c.args.unit.now.tokens.now in
-    let here = token_is_at tokens c.tokens.place c.tokens-test.true in
     let so_far = map string_bytes c.tokens.comments.items in
     let comment = word_at text tokens c.tokens.place in
     texts_on text tokens c.tokens.place _ _ c.tokens-test.true c.tokens.invariant (elim c.if-is_comment.branch [
-      | then-is_comment+in_ok-to_string+in_ok-push w ↦
+      | then-is_comment+in_ok-push_copy w ↦
           ap (λ v. map string_bytes v.items) w.comments-is
-          ∙ ap (map string_bytes) w.in_ok-push.ensures.items
-          ∙ map-append string_bytes c.tokens.comments.items (w.in_ok-to_string.field-0 ∷ [])
-          ∙ ap (λ s. so_far ++ s ∷ []) (w.in_ok-to_string.ensures.ok ∙ w.word.ensures _ here)
+          ∙ w.in_ok-push_copy.ensures
+          ∙ ap (λ t. so_far ++ t ∷ []) (w.word.ensures _ (token_is_at tokens c.tokens.place c.tokens-test.true))
           ∙ ap (λ b. so_far ++ (if b then comment ∷ [] else [])) (sym (sym c.is_comment.ensures ∙ w.if-is_comment.true))
       | else-is_comment w ↦
           ap (λ v. map string_bytes v.items) w.comments-is
