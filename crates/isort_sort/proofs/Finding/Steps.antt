@@ -1,5 +1,5 @@
 -- What a row makes of the blocks found so far.
-use Rattle.std.proofs.Common.{◌≡◌, ℕ, ◌+◌, Bool, true, false, cond, ◌&&◌, Option, None, Some, List, [], ◌∷◌, ◌++◌, length, length-append, flat_map, refl, sym, ap, ◌∙◌, subst, append_assoc, append-nil, arith}
+use Rattle.std.proofs.Common.{◌≡◌, ℕ, ◌+◌, Bool, true, false, cond, ◌&&◌, Option, None, Some, List, [], ◌∷◌, ◌++◌, length, length-append, flat_map, refl, sym, ap, ◌∙◌, subst, append_assoc, append-nil, arith, ◌||◌}
 use Rattle.std.specs.Prelude.{bytes_eq}
 use Rattle.std.specs.List.{list_any, list_all}
 use Rattle.std.proofs.lemmas.Bool.{and_parts, and_from}
@@ -118,7 +118,7 @@ is_run_pushed run f h k =
     let parts = and_parts (is_member run.first) (list_all (goes_on run.first.indentation) run.others) h in
     and_from _ _ parts.0 (list_all-append (goes_on run.first.indentation) run.others (f ∷ []) ∙ and_from _ _ parts.1 (rw k))
 
-blanks_between : (rows : List Row) → list_all is_blank rows ≡ true → list_all stands_between rows ≡ true
+pub blanks_between : (rows : List Row) → list_all is_blank rows ≡ true → list_all stands_between rows ≡ true
 blanks_between [] h = refl
 blanks_between (row ∷ rows) h =
     let parts = and_parts (is_blank row) (list_all is_blank rows) h in
@@ -191,10 +191,12 @@ pub none_between : (rows : List Row) → list_all stands_between rows ≡ true �
 none_between [] h = refl
 none_between (r ∷ rs) h = let parts = and_parts (stands_between r) (list_all stands_between rs) h in rw (no_member r.role parts.0, none_between rs parts.1)
 
--- a run doesn't go on after rows that may stand between members, where it doesn't go on at the row after these
-stops_after : (indentation : List ℕ) (rows more : List Row) → list_all stands_between rows ≡ true → leads_to indentation more ≡ false → leads_to indentation (rows ++ more) ≡ false
-stops_after indentation [] more h k = k
-stops_after indentation (r ∷ rs) more h k = let parts = and_parts (stands_between r) (list_all stands_between rs) h in rw (no_member r.role parts.0, parts.0, stops_after indentation rs more parts.1 k)
+-- rows that may stand between members lead on to what stands after them
+pub leads_over : (indentation : List ℕ) (rows more : List Row) → list_all stands_between rows ≡ true → leads_to indentation (rows ++ more) ≡ leads_to indentation more
+leads_over indentation [] more h = refl
+leads_over indentation (r ∷ rs) more h =
+    let parts = and_parts (stands_between r) (list_all stands_between rs) h in
+    (λ i. (no_member r.role parts.0 i && bytes_eq r.indentation indentation) || (parts.0 i && leads_to indentation (rs ++ more))) ∙ leads_over indentation rs more parts.1
 
 -- a row that is neither between members nor a further member ends a run
 pub record Stops (indentation : List ℕ) (row : Row) : Type 0 where
@@ -237,7 +239,7 @@ ended at left more o h stops begins = record {
     blocks = (
       h.none,
       h.is,
-      ap (λ (rows : List Row). leads_to h.run.first.indentation (h.blanks ++ rows)) is.all ∙ stops_after h.run.first.indentation h.blanks (h.later ++ more) (blanks_between h.blanks h.blank_rows) (stops_after h.run.first.indentation h.later more h.between stops),
+      ap (λ (rows : List Row). leads_to h.run.first.indentation (h.blanks ++ rows)) is.all ∙ leads_over h.run.first.indentation h.blanks (h.later ++ more) (blanks_between h.blanks h.blank_rows) ∙ leads_over h.run.first.indentation h.later more h.between ∙ stops,
       h.blank_rows,
       ap begins_blank is.all ∙ begins,
       is.blocks,

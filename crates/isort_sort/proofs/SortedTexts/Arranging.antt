@@ -74,6 +74,10 @@ next_gap text v end mark cut b left at out h = by h.rest refl
         (block_split text h.passed before run blanks c (h.split ∙ ap (λ (x : Cut). h.passed ++ texts_of (cut_rows x)) e)) h.place (ap (λ (f : Found). f.start) is)
         (utf8_texts before (utf8_first before (run_rows run ++ (blanks ++ cut_rows c)) (subst (λ (x : Cut). AreUtf8 (cut_rows x)) e h.utf8)))
 
+-- four texts before a fifth
+pub regroup : (a b c d x : List ℕ) → a ++ (b ++ (c ++ (d ++ x))) ≡ (a ++ (b ++ (c ++ d))) ++ x
+regroup a b c d x = simp append_assoc
+
 -- one block more is written
 pub one_more : (text : List ℕ) (v : Values) (end mark : List ℕ) (cut : Cut) (b : Found) (left : List Found) (at : ℕ) (out own new : List ℕ) → IsArranging text v end mark cut (b ∷ left) at out → IsArranged v end b own → new ≡ (out ++ slice_range text at b.start) ++ own → IsArranging text v end mark cut left b.stop new
 one_more text v end mark cut b left at out own new h is written = by h.rest refl
@@ -81,9 +85,6 @@ one_more text v end mark cut b left at out own new h is written = by h.rest refl
     layout_of : (w : Values) (line_end : List ℕ) (start : ℕ) (run : Run) (blanks after : List Row) (text_of : List ℕ) → IsArranged w line_end (found_of start run blanks after) text_of → IsLayout w line_end run blanks after text_of
     layout_of w line_end start run blanks [] text_of a = a
     layout_of w line_end start run blanks (row ∷ rows) text_of a = a
-
-    regroup : (a b c d x : List ℕ) → a ++ (b ++ (c ++ (d ++ x))) ≡ (a ++ (b ++ (c ++ d))) ++ x
-    regroup a b c d x = simp append_assoc
 
     lengths : (a b c d : List ℕ) (n : ℕ) → n ≡ length a → n + length b + length c + length d ≡ length (a ++ (b ++ (c ++ d)))
     lengths a b c d n e = omega (arith, length-append a (b ++ (c ++ d)), length-append b (c ++ d), length-append c d)

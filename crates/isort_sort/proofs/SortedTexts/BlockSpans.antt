@@ -9,7 +9,7 @@ use Rattle.isort_sort.specs.Blocks.{Run, run_rows, Cut, rest, block, cut_rows}
 use Rattle.isort_sort.specs.Row.{Row}
 use Rattle.isort_sort.specs.Sorted.{texts_of, mark_of, first_end, IsSortedCut, HasBlocks, IsLaidOut, IsSorted}
 use Rattle.isort_sort.specs.declared.answer.Block.{Block}
-use Rattle.isort_sort.proofs.SortedTexts.Arranging.{part_between}
+use Rattle.isort_sort.proofs.SortedTexts.Arranging.{part_between, regroup}
 use Rattle.isort_sort.proofs.Rows.Texts.{text_of_rows}
 use Rattle.isort_sort.proofs.Finding.Steps.{texts_append}
 
@@ -20,9 +20,6 @@ cut_texts before run blanks cut = texts_append before (run_rows run ++ (blanks +
 -- a text is the texts of the rows of its cut, after its byte order mark
 text_of_cut : (text : List ℕ) (lines : List LogicalLine) (cut : Cut) → HasBlocks text lines cut → text ≡ mark_of lines ++ texts_of (cut_rows cut)
 text_of_cut text lines cut h = text_of_rows text lines h.rows h.accepted.lexed h.seen ∙ ap (λ (rows : List Row). mark_of lines ++ texts_of rows) (sym h.cut_at.all)
-
-regroup : (a b c d e : List ℕ) → a ++ (b ++ (c ++ (d ++ e))) ≡ (a ++ (b ++ (c ++ d))) ++ e
-regroup a b c d e = simp append_assoc
 
 four_lengths : (a b c d : List ℕ) → length (a ++ (b ++ (c ++ d))) ≡ length a + length b + length c + length d
 four_lengths a b c d = omega (arith, length-append a (b ++ (c ++ d)), length-append b (c ++ d), length-append c d)
