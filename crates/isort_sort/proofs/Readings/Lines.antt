@@ -88,29 +88,28 @@ is_row : (off : Bool) (mark : ℕ) (line : LogicalLine) (r : Role) → IsUtf8 li
 is_row off mark line r utf8 has = record { role = has; text = refl; indentation = refl; ended = refl; utf8 = utf8 }
 
 -- what each kind of line makes of the blocks found
-
-pub finds_blank : (off : Bool) (mark : ℕ) (line : LogicalLine) (utf8 : IsUtf8 line.text) (f : Finding) (stop : ℕ) (ended : Bool) → IsOfRole off line role.Blank → IsStop mark line f.place stop → ended ≡ nat_lt 0 line.end_len → FindsLine off mark line f (after_blank stop ended f)
-finds_blank off mark line utf8 f stop ended is s e = λ start rows h.
+pub finds_blank : (off : Bool) (mark : ℕ) (line : LogicalLine) (utf8 : IsUtf8 line.text) (f new : Finding) (stop : ℕ) (ended : Bool) → new ≡ after_blank stop ended f → IsOfRole off line role.Blank → IsStop mark line f.place stop → ended ≡ nat_lt 0 line.end_len → FindsLine off mark line f new
+finds_blank off mark line utf8 f new stop ended value is s e = subst (FindsLine off mark line f) (sym value) (λ start rows h.
     let found : Row = row_of mark line blank in
-    (found, is_row off mark line blank utf8 is, subst (λ (b : Bool). IsFinding start (rows ++ found ∷ []) (after_blank stop b f)) (sym e) (found_blank start rows f found stop h refl (stop_is mark line f.place stop s)))
+    (found, is_row off mark line blank utf8 is, subst (λ (b : Bool). IsFinding start (rows ++ found ∷ []) (after_blank stop b f)) (sym e) (found_blank start rows f found stop h refl (stop_is mark line f.place stop s))))
 
-pub finds_comments : (off : Bool) (mark : ℕ) (line : LogicalLine) (utf8 : IsUtf8 line.text) (f : Finding) (stop : ℕ) (passed : List (List ℕ)) → IsOfRole off line role.Comments → MatchOption f.opened (Unit {0}) (λ o. passed ≡ comment_texts line) → IsStop mark line f.place stop → FindsLine off mark line f (after_comments stop passed f)
-finds_comments off mark line utf8 f stop passed is same s = λ start rows h.
+pub finds_comments : (off : Bool) (mark : ℕ) (line : LogicalLine) (utf8 : IsUtf8 line.text) (f new : Finding) (stop : ℕ) (passed : List (List ℕ)) → new ≡ after_comments stop passed f → IsOfRole off line role.Comments → MatchOption f.opened (Unit {0}) (λ o. passed ≡ comment_texts line) → IsStop mark line f.place stop → FindsLine off mark line f new
+finds_comments off mark line utf8 f new stop passed value is same s = subst (FindsLine off mark line f) (sym value) (λ start rows h.
     let found : Row = row_of mark line (comments (comment_texts line)) in
-    (found, is_row off mark line (comments (comment_texts line)) utf8 (is.0, is.1, refl), found_comments start rows f found stop (comment_texts line) passed h refl same (stop_is mark line f.place stop s))
+    (found, is_row off mark line (comments (comment_texts line)) utf8 (is.0, is.1, refl), found_comments start rows f found stop (comment_texts line) passed h refl same (stop_is mark line f.place stop s)))
 
-pub finds_member : (off : Bool) (mark : ℕ) (line : LogicalLine) (utf8 : IsUtf8 line.text) (f : Finding) (stop : ℕ) (ended : Bool) (indentation : List ℕ) (m : Member) (bounds : List Bound) → IsOfRole off line role.Member → Binds line bounds → m ≡ record { imports = map imported_of bounds; comments = own_comments line; above = [] } → indentation ≡ indentation_of line → IsStop mark line f.place stop → ended ≡ nat_lt 0 line.end_len → FindsLine off mark line f (after_member stop ended indentation m f)
-finds_member off mark line utf8 f stop ended indentation m bounds is binds value at s e = λ start rows h.
+pub finds_member : (off : Bool) (mark : ℕ) (line : LogicalLine) (utf8 : IsUtf8 line.text) (f new : Finding) (stop : ℕ) (ended : Bool) (indentation : List ℕ) (m : Member) (bounds : List Bound) → new ≡ after_member stop ended indentation m f → IsOfRole off line role.Member → Binds line bounds → m ≡ record { imports = map imported_of bounds; comments = own_comments line; above = [] } → indentation ≡ indentation_of line → IsStop mark line f.place stop → ended ≡ nat_lt 0 line.end_len → FindsLine off mark line f new
+finds_member off mark line utf8 f new stop ended indentation m bounds same is binds value at s e = subst (FindsLine off mark line f) (sym same) (λ start rows h.
     let found : Row = row_of mark line (member (map imported_of bounds) (own_comments line)) in (
       found,
       is_row off mark line (member (map imported_of bounds) (own_comments line)) utf8 (is.0, (is.1, (bounds, binds, refl)), refl),
       subst (λ (b : Bool). IsFinding start (rows ++ found ∷ []) (after_member stop b indentation m f)) (sym e) (subst (λ (i : List ℕ). IsFinding start (rows ++ found ∷ []) (after_member stop (nat_lt 0 line.end_len) i m f)) (sym at) (found_member start rows f found stop m h refl value (stop_is mark line f.place stop s))),
-    )
+    ))
 
-pub finds_other : (off : Bool) (mark : ℕ) (line : LogicalLine) (utf8 : IsUtf8 line.text) (f : Finding) (stop : ℕ) (b : BlankLines) → IsOfRole off line (role.Other b) → IsStop mark line f.place stop → FindsLine off mark line f (after_other stop (before_of b) f)
-finds_other off mark line utf8 f stop b is s = λ start rows h.
+pub finds_other : (off : Bool) (mark : ℕ) (line : LogicalLine) (utf8 : IsUtf8 line.text) (f new : Finding) (stop : ℕ) (b : BlankLines) → new ≡ after_other stop (before_of b) f → IsOfRole off line (role.Other b) → IsStop mark line f.place stop → FindsLine off mark line f new
+finds_other off mark line utf8 f new stop b value is s = subst (FindsLine off mark line f) (sym value) (λ start rows h.
     let found : Row = row_of mark line (other (before_of b)) in
-    (found, is_row off mark line (other (before_of b)) utf8 is, found_other start rows f found stop (before_of b) h refl (stop_is mark line f.place stop s))
+    (found, is_row off mark line (other (before_of b)) utf8 is, found_other start rows f found stop (before_of b) h refl (stop_is mark line f.place stop s)))
 
 -- what is asked for where a block may go on
 pub any_match : {A : Type 0} {P : Type 0} (x : Option A) → P → MatchOption x (Unit {0}) (λ o. P)
