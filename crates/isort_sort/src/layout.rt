@@ -259,9 +259,9 @@ impl Layout<'_> {
             (map string_bytes names.entry.comments.now) (map item_value names.entry.items.now)) }
     {
         match WrapMode::of(self.settings) {
-            WrapMode::Grid | WrapMode::Vertical => { self.push_in_brackets(out, names) }
+            WrapMode::Grid | WrapMode::Vertical => self.push_in_brackets(out, names),
             WrapMode::HangingIndent => self.push_hanging(out, names),
-            WrapMode::VerticalHangingIndent => { self.push_hanging_in_brackets(out, names) }
+            WrapMode::VerticalHangingIndent => self.push_hanging_in_brackets(out, names),
         }
     }
 
