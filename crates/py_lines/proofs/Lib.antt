@@ -47,6 +47,9 @@
 -- or parts ends, so does the other. Fields are the same if those in them are, so this goes by how many stand one in another.
 -- What is open in a text with fields (proofs/OpenFields) is defined, and shown by rows alone.
 --
+-- A machine with fields (specs/Private/FieldMachine.antt, proofs/FieldMachine) stands beside the other until the code reads
+-- fields. Its state keeps the fields that are open as levels, and in each of them the pieces and brackets before.
+--
 -- proofs/Text has characters, the bytes that spell them, and vectors of bytes (Lanes). Files named WorkedRows and
 -- DepthRows are rows worked out by hand, on the definitions alone.
 pub mod Text
@@ -57,6 +60,7 @@ pub mod WordBreaks
 pub mod Fields
 pub mod OpenFields
 pub mod Machine
+pub mod FieldMachine
 pub mod Faults
 pub mod LogicalLines
 pub mod Lexings
