@@ -61,6 +61,7 @@ pub mod Fields
 pub mod OpenFields
 pub mod Machine
 pub mod FieldMachine
+pub mod FieldSoundness
 pub mod Faults
 pub mod LogicalLines
 pub mod Lexings
