@@ -4,3 +4,5 @@ pub mod OpenLists
 pub mod Holds
 pub mod Bodies
 pub mod BodyMoves
+pub mod Lists
+pub mod Code
