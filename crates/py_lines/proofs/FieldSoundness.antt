@@ -6,3 +6,5 @@ pub mod Bodies
 pub mod BodyMoves
 pub mod Lists
 pub mod Code
+pub mod PlainSteps
+pub mod HostSteps

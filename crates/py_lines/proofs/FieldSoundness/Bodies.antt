@@ -118,7 +118,7 @@ stands false q c h other = not_from_false _ (barred q c other (plain_one (is_bre
     plain_one false e = refl
 
 -- a string that holds something is no empty one
-quoted_prefix : (prefix : List ℕ) → IsNoneOr (λ p. is_prefix p || is_field_prefix p) prefix → list_any is_quote prefix ≡ false
+pub quoted_prefix : (prefix : List ℕ) → IsNoneOr (λ p. is_prefix p || is_field_prefix p) prefix → list_any is_quote prefix ≡ false
 quoted_prefix prefix (inl none) = ap (list_any is_quote) none
 quoted_prefix prefix (inr some) = ⊎_elim (λ is. plain_quotes prefix (inr is)) (λ is. (field_letters prefix is).quotes) (or_cases (is_prefix prefix) (is_field_prefix prefix) some)
 
@@ -133,7 +133,7 @@ more_than_one : (xs : List ℕ) (q r : ℕ) → IsFull xs → xs ++ q ∷ [] ≡
 more_than_one [] q r full same = full
 more_than_one (x ∷ xs) q r full same = not_one x xs q r same
 
-short_quotes : (host : Host) → host.is_long ≡ false → quotes_of host ≡ host.quote ∷ []
+pub short_quotes : (host : Host) → host.is_long ≡ false → quotes_of host ≡ host.quote ∷ []
 short_quotes host h = rw h
 
 long_quotes : (host : Host) → host.is_long ≡ true → quotes_of host ≡ host.quote ∷ host.quote ∷ host.quote ∷ []
