@@ -8,3 +8,4 @@ pub mod Lists
 pub mod Code
 pub mod PlainSteps
 pub mod HostSteps
+pub mod WholeTexts

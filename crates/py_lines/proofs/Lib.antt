@@ -49,6 +49,9 @@
 --
 -- A machine with fields (specs/Private/FieldMachine.antt, proofs/FieldMachine) stands beside the other until the code reads
 -- fields. Its state keeps the fields that are open as levels, and in each of them the pieces and brackets before.
+-- It is sound (proofs/FieldSoundness). What it holds, in each mode and of each field that is open, is stated for any limit on
+-- what may stand at a depth, so one proof gives two theorems: where it may end, its pieces read the text; and they are shallow
+-- if each character had room.
 --
 -- proofs/Text has characters, the bytes that spell them, and vectors of bytes (Lanes). Files named WorkedRows and
 -- DepthRows are rows worked out by hand, on the definitions alone.

@@ -52,7 +52,7 @@ short_opens : (host : Host) (held : List ℕ) → host.is_long ≡ false → Ope
 short_opens host held short h = subst (λ t. OpensHost host t held) (sym (short_quotes host short)) h
 
 -- two quotes are an empty string, unless a third one follows
-empty_string : (F : Host → List ℕ → Type 0) (host : Host) (held : List ℕ) → OpensHost host (host.quote ∷ host.quote ∷ []) held → is_quote host.quote ≡ true → host.is_long ≡ false → IsFieldString F held
+pub empty_string : (F : Host → List ℕ → Type 0) (host : Host) (held : List ℕ) → OpensHost host (host.quote ∷ host.quote ∷ []) held → is_quote host.quote ≡ true → host.is_long ≡ false → IsFieldString F held
 empty_string F host held h quotes short = record {
   prefix = h.prefix;
   host = host;
@@ -64,6 +64,9 @@ empty_string F host held h quotes short = record {
   each = tt;
   first = refl;
 }
+
+pub empty_end : (host : Host) (held : List ℕ) → OpensHost host (host.quote ∷ host.quote ∷ []) held → is_quote host.quote ≡ true → MayPrecedeIn fielded string held []
+empty_end host held h quotes prefix r spell begun also = refl
 
 empty_before : (host : Host) (held : List ℕ) (c : ℕ) (more : List ℕ) → OpensHost host (host.quote ∷ host.quote ∷ []) held → is_quote host.quote ≡ true → c == host.quote ≡ false → MayPrecedeIn fielded string held (c ∷ more)
 empty_before host held c more h quotes other prefix r spell begun also =

@@ -106,7 +106,7 @@ closes_class (modes.Word s) so = absurd so
 closes_class m so = (λ h. absurd (cc), λ h. absurd (cc))
 
 -- what keeps an open piece from being part of a string with fields
-plain_text : (class : Class) (text rest : List ℕ) → (class ≡ string → BeginsPlain text) → (class ≡ word → is_field_prefix text && begins is_quote rest ≡ false) → IsPlainText class text rest
+pub plain_text : (class : Class) (text rest : List ℕ) → (class ≡ string → BeginsPlain text) → (class ≡ word → is_field_prefix text && begins is_quote rest ≡ false) → IsPlainText class text rest
 plain_text word text rest one two = two refl
 plain_text string text rest one two = one refl
 plain_text other text rest one two = tt
@@ -120,15 +120,15 @@ unmarked modes.Start outer done start = inr start
 unmarked m outer done start = inl refl
 
 -- the class of a piece
-string_of : (F : Host → List ℕ → Type 0) (class : Class) (text : List ℕ) → InClassIn (with_fields F) class text → class ≡ string → InClassIn (with_fields F) string text
+pub string_of : (F : Host → List ℕ → Type 0) (class : Class) (text : List ℕ) → InClassIn (with_fields F) class text → class ≡ string → InClassIn (with_fields F) string text
 string_of F class text is at = subst (λ (x : Class). InClassIn (with_fields F) x text) at is
 
 -- the open piece, which is none of nothing or a piece that ends
-data Ends (m : Mode) : Type 0 where
+pub data Ends (m : Mode) : Type 0 where
   nothing : ((done : List Piece) (held : List ℕ) → closed m done held ≡ done) → ((held : List ℕ) → Holds m [] held → held ≡ []) → Ends m
   something : ((done : List Piece) (held : List ℕ) → closed m done held ≡ done ++ piece (class_of m) held ∷ []) → (class_of m ≡ operator → ⊥) → is_mark_class (class_of m) ≡ false → Ends m
 
-ends_of : (m : Mode) → Ends m
+pub ends_of : (m : Mode) → Ends m
 ends_of modes.Start = nothing (λ done held. refl) (λ held holds. holds.1)
 ends_of modes.Free = nothing (λ done held. refl) (λ held holds. holds)
 ends_of m = something (λ done held. refl) (λ h. absurd (cc)) refl
