@@ -9,3 +9,4 @@ pub mod Code
 pub mod PlainSteps
 pub mod HostSteps
 pub mod WholeTexts
+pub mod OpenTexts

@@ -35,7 +35,7 @@ unfolding is_quote
 bare_field q [] quotes = not_quote 123 q quotes refl
 bare_field q (c ∷ cs) quotes = refl
 
-single_at : (place : Place) (text : List ℕ) → IsSingle literal place text → place ≡ literal → (more : List ℕ) → begins_open (text ++ more) ≡ false
+pub single_at : (place : Place) (text : List ℕ) → IsSingle literal place text → place ≡ literal → (more : List ℕ) → begins_open (text ++ more) ≡ false
 single_at literal text one at = one
 single_at specification text one at = absurd (cc)
 

@@ -32,7 +32,7 @@ pub balanced_at : (os : List ℕ) (ps : List Piece) → os ≡ [] → Opens os p
 balanced_at os ps none (level _ _ is within) = within
 balanced_at os ps none (inside _ _ o others outer inner is spell out opens within) = absurd (cc)
 
-opens-closes : (o c : ℕ) (os : List ℕ) (ps : List Piece) → Opens (o ∷ os) ps → is_closing c ≡ true → c == closing_of o ≡ true → Opens os (ps ++ piece operator (c ∷ []) ∷ [])
+pub opens-closes : (o c : ℕ) (os : List ℕ) (ps : List Piece) → Opens (o ∷ os) ps → is_closing c ≡ true → c == closing_of o ≡ true → Opens os (ps ++ piece operator (c ∷ []) ∷ [])
 opens-closes o c os ps (level _ _ none within) closes kind = absurd (cc)
 opens-closes o c os ps (inside _ _ b others outer inner is spell out opens within) closes kind =
     let top : o ≡ b = cc in

@@ -19,7 +19,7 @@ part_map F G f host place named part rest (name s c d a b e g) = name s c d a b 
 part_map F G f host place named part rest (double c d a b e g h) = double c d a b e g h
 part_map F G f host place named part rest (field is a b) = field (f host part is) a b
 
-parts_map : (F G : Host → List ℕ → Type 0) → Within F G → (host : Host) (place : Place) (named : Bool) (parts : List (List ℕ)) (rest : List ℕ) → AreParts F host place named parts rest → AreParts G host place named parts rest
+pub parts_map : (F G : Host → List ℕ → Type 0) → Within F G → (host : Host) (place : Place) (named : Bool) (parts : List (List ℕ)) (rest : List ℕ) → AreParts F host place named parts rest → AreParts G host place named parts rest
 parts_map F G f host place named [] rest each = tt
 parts_map F G f host place named (p ∷ ps) rest each = (part_map F G f host place named p _ each.0, parts_map F G f host place (named_after named p) ps rest each.1)
 

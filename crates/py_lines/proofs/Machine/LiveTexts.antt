@@ -268,7 +268,7 @@ abbrev pub closers : List Bracket → List ℕ
 closers [] = []
 closers (b ∷ bs) = closing_of b.opener ∷ closers bs
 
-closing_of-closing : (c : ℕ) → is_closing (closing_of c) ≡ true
+pub closing_of-closing : (c : ℕ) → is_closing (closing_of c) ≡ true
 unfolding is_closing
 closing_of-closing c = cond_both (c == 40) _ _ (λ x. is_closing x ≡ true) (λ h. refl) (λ h. cond_both (c == 91) _ _ (λ x. is_closing x ≡ true) (λ k. refl) (λ k. refl))
 
