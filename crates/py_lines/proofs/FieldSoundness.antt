@@ -8,5 +8,7 @@ pub mod Lists
 pub mod Code
 pub mod PlainSteps
 pub mod HostSteps
+pub mod ListEnds
 pub mod WholeTexts
 pub mod OpenTexts
+pub mod OpenEnds

@@ -19,14 +19,14 @@ use Rattle.py_lines.proofs.Fields.SameStrings.{first_quote}
 use Rattle.py_lines.proofs.FieldSoundness.Holds.{Limit, HoldsParts, HoldsBetween, HoldsAt, HoldsMode}
 
 -- parts, one more after others
-parts-push : (F : Host → List ℕ → Type 0) (host : Host) (place : Place) (named : Bool) (parts : List (List ℕ)) (part rest : List ℕ) → AreParts F host place named parts (part ++ rest) → IsPart F host place (named_through named parts) part rest → AreParts F host place named (parts ++ part ∷ []) rest
+pub parts-push : (F : Host → List ℕ → Type 0) (host : Host) (place : Place) (named : Bool) (parts : List (List ℕ)) (part rest : List ℕ) → AreParts F host place named parts (part ++ rest) → IsPart F host place (named_through named parts) part rest → AreParts F host place named (parts ++ part ∷ []) rest
 parts-push F host place named [] part rest each one = (one, tt)
 parts-push F host place named (p ∷ ps) part rest each one = (
   subst (IsPart F host place named p) (sym (ap (λ t. t ++ rest) (joined-push ps part) ∙ append_assoc (joined ps) part rest)) each.0,
   parts-push F host place (named_after named p) ps part rest each.1 one,
 )
 
-named-push : (named : Bool) (parts : List (List ℕ)) (part : List ℕ) → named_through named (parts ++ part ∷ []) ≡ named_after (named_through named parts) part
+pub named-push : (named : Bool) (parts : List (List ℕ)) (part : List ℕ) → named_through named (parts ++ part ∷ []) ≡ named_after (named_through named parts) part
 named-push named [] part = refl
 named-push named (p ∷ ps) part = named-push (named_after named p) ps part
 

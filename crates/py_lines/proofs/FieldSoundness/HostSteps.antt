@@ -32,7 +32,7 @@ more_quotes host quotes held c same h = record {
 }
 
 -- after the opening of a string, no part of it
-no_parts : (limit : Limit) (outer : List Level) (depth : ℕ) (host : Host) (held next : List ℕ) → OpensHost host (quotes_of host) held → is_quote host.quote ≡ true → HoldsParts limit outer depth host literal false held next
+pub no_parts : (limit : Limit) (outer : List Level) (depth : ℕ) (host : Host) (held next : List ℕ) → OpensHost host (quotes_of host) held → is_quote host.quote ≡ true → HoldsParts limit outer depth host literal false held next
 no_parts limit outer depth host held next opens quotes = record {
   begin = held;
   parts = [];
@@ -48,7 +48,7 @@ long_begins : (limit : Limit) (outer : List Level) (depth : ℕ) (host : Host) (
 unfolding no_parts
 long_begins limit outer depth host held opens quotes long = record { all = no_parts limit outer depth host held [] opens quotes; apart = refl; full = λ at short. absurd (both_ways _ short long) }
 
-short_opens : (host : Host) (held : List ℕ) → host.is_long ≡ false → OpensHost host (host.quote ∷ []) held → OpensHost host (quotes_of host) held
+pub short_opens : (host : Host) (held : List ℕ) → host.is_long ≡ false → OpensHost host (host.quote ∷ []) held → OpensHost host (quotes_of host) held
 short_opens host held short h = subst (λ t. OpensHost host t held) (sym (short_quotes host short)) h
 
 -- two quotes are an empty string, unless a third one follows

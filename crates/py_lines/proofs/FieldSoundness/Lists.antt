@@ -65,11 +65,11 @@ pub record Adds (limit : Limit) (outer : List Level) (done : List Piece) (opener
   pub room : is_opener (piece class text) ≡ true → limit.Room (depth_through (levels_open outer) done)
   pub holds : class ≡ string → InClassIn (with_fields (limit.FieldsAt (depth_through (levels_open outer) done))) string text
 
-colon-push : (depth : ℕ) (ps : List Piece) (p : Piece) → HasNoColon depth ps → is_colon p && (depth_through depth ps == 0) ≡ false → HasNoColon depth (ps ++ p ∷ [])
+pub colon-push : (depth : ℕ) (ps : List Piece) (p : Piece) → HasNoColon depth ps → is_colon p && (depth_through depth ps == 0) ≡ false → HasNoColon depth (ps ++ p ∷ [])
 colon-push depth [] p none other = (other, tt)
 colon-push depth (q ∷ ps) p none other = (none.0, colon-push (depth_after depth q) ps p none.1 other)
 
-marked-push : (ps : List Piece) (p : Piece) → begins_marked ps ≡ false → is_mark_class p.class ≡ false → begins_marked (ps ++ p ∷ []) ≡ false
+pub marked-push : (ps : List Piece) (p : Piece) → begins_marked ps ≡ false → is_mark_class p.class ≡ false → begins_marked (ps ++ p ∷ []) ≡ false
 marked-push [] p none other = other
 marked-push (q ∷ ps) p none other = none
 

@@ -18,11 +18,11 @@ use Rattle.py_lines.proofs.FieldSoundness.Holds.{Limit, before, OpensPlace, Hold
 use Rattle.py_lines.proofs.FieldSoundness.Code.{single_at}
 
 -- brackets that are open can be closed
-closers_of : List ℕ → List Piece
+pub closers_of : List ℕ → List Piece
 closers_of [] = []
 closers_of (o ∷ os) = piece operator (closing_of o ∷ []) ∷ closers_of os
 
-opens-close : (os : List ℕ) (ps : List Piece) → Opens os ps → IsBalanced (ps ++ closers_of os)
+pub opens-close : (os : List ℕ) (ps : List Piece) → Opens os ps → IsBalanced (ps ++ closers_of os)
 unfolding closers_of
 opens-close [] ps opens = subst IsBalanced (sym (append-nil ps)) (balanced_at [] ps refl opens)
 opens-close (o ∷ os) ps opens =
@@ -53,13 +53,13 @@ pub record StandsOpen (place : Place) (outer : List Level) (done : List Piece) (
   pub depth_is : base + depth_through 0 pieces + spot.specifications ≡ length openers + levels_open outer
 
 -- directly after the `{` of a field, a list begins
-begins_in : (limit : Limit) (l : Level) (ls : List Level) (rest : List ℕ) (own : HoldsLevel limit l ls) → (l.place ≡ literal → begins_open rest ≡ false) → StandsOpen l.place ls l.done l.openers l.host false own.text (byte "{" ∷ rest) → BeginsList (before literal (l ∷ ls)) rest (levels_open (l ∷ ls))
-begins_in limit l ls rest own single inner =
-    in_field (before literal (l ∷ ls)) rest (levels_open (l ∷ ls)) inner.outside inner.base inner.pieces own.text l.host inner.spot
-    (ap (λ t. before l.place ls ++ (spelled l.done ++ t)) own.spell
-    ∙ sym (append_assoc (before l.place ls) (spelled l.done) (own.text ++ 123 ∷ []))
-    ∙ ap (λ t. t ++ (own.text ++ 123 ∷ [])) inner.before_is
-    ∙ append_assoc inner.outside (spelled inner.pieces) (own.text ++ 123 ∷ [])) inner.list inner.begun inner.string
+pub begins_in : (l : Level) (ls : List Level) (text rest : List ℕ) → l.front ≡ text ++ byte "{" ∷ [] → (l.place ≡ literal → begins_open rest ≡ false) → StandsOpen l.place ls l.done l.openers l.host false text (byte "{" ∷ rest) → BeginsList (before literal (l ∷ ls)) rest (levels_open (l ∷ ls))
+begins_in l ls text rest front single inner =
+    in_field (before literal (l ∷ ls)) rest (levels_open (l ∷ ls)) inner.outside inner.base inner.pieces text l.host inner.spot
+    (ap (λ t. before l.place ls ++ (spelled l.done ++ t)) front
+    ∙ sym (append_assoc (before l.place ls) (spelled l.done) (text ++ 123 ∷ []))
+    ∙ ap (λ t. t ++ (text ++ 123 ∷ [])) inner.before_is
+    ∙ append_assoc inner.outside (spelled inner.pieces) (text ++ 123 ∷ [])) inner.list inner.begun inner.string
     (record { unnamed = inner.named_is; single = λ at. single (sym inner.place_is ∙ at) })
     (omega (arith, inner.depth_is))
 
@@ -158,7 +158,7 @@ stands_open limit literal (l ∷ ls) done openers host named text rest held more
     (sym (append_assoc own.text (123 ∷ []) code) ∙ ap (λ t. t ++ code) (sym own.spell)) own.list
     (parts_at limit ls (length l.openers + levels_open ls) l.host l.place false own.text (123 ∷ []) code own.parts) levels.2 in
     literal_open limit (l ∷ ls) done openers host named text rest held more same list h
-    (begins_in limit l ls code own (λ at. ap begins_open is ∙ single_at l.place (spelled done ++ held) levels.0 at more) inner)
+    (begins_in l ls own.text code own.spell (λ at. ap begins_open is ∙ single_at l.place (spelled done ++ held) levels.0 at more) inner)
 stands_open limit specification [] done openers host named text rest held more same list h levels = absurd levels
 stands_open limit specification (l ∷ ls) done openers host named text rest held more same list h levels =
     let own = levels.1 in
@@ -175,7 +175,7 @@ list_begins limit [] text more levels = at_start [] _ 0 refl refl
 list_begins limit (l ∷ ls) text more levels =
     let own = levels.1 in
     let code = text ++ more in
-    begins_in limit l ls code own (λ at. single_at l.place text levels.0 at more)
+    begins_in l ls own.text code own.spell (λ at. single_at l.place text levels.0 at more)
     (stands_open limit l.place ls l.done l.openers l.host false own.text (123 ∷ code) l.front code
     (sym (append_assoc own.text (123 ∷ []) code) ∙ ap (λ t. t ++ code) (sym own.spell)) own.list
     (parts_at limit ls (length l.openers + levels_open ls) l.host l.place false own.text (123 ∷ []) code own.parts) levels.2)

@@ -43,7 +43,7 @@ begins_plain-more text c is = record {
 }
 
 -- so no prefix of it is one
-other_prefix : (text prefix body : List ℕ) (q : ℕ) → BeginsPlain text → text ≡ prefix ++ q ∷ body → list_any is_quote prefix ≡ false → is_quote q ≡ true → is_field_prefix prefix ≡ false
+pub other_prefix : (text prefix body : List ℕ) (q : ℕ) → BeginsPlain text → text ≡ prefix ++ q ∷ body → list_any is_quote prefix ≡ false → is_quote q ≡ true → is_field_prefix prefix ≡ false
 other_prefix text prefix body q is spell none quotes =
     let cut = first_quote prefix is.prefix body is.body q is.quote none is.none quotes is.opens (sym spell ∙ is.spell) in
     ap is_field_prefix cut.0 ∙ is.plain

@@ -1,23 +1,19 @@
 -- Where the machine with fields may end, its pieces read the text. They are shallow if each character had room.
-use Rattle.std.proofs.Common.{◌≡◌, ℕ, ◌+◌, ◌<◌, Bool, true, false, not, ◌||◌, Option, None, Some, List, [], ◌∷◌, ◌++◌, nat_lt, refl, sym, ap, ◌∙◌, subst, inr, append-nil, arith}
+use Rattle.std.proofs.Common.{◌≡◌, ℕ, ◌+◌, ◌<◌, Bool, true, false, not, ◌||◌, Option, None, Some, List, [], ◌∷◌, ◌++◌, nat_lt, refl, sym, ap, ◌∙◌, arith}
 use Rattle.std.specs.Prelude.{if◌then◌else◌}
-use Rattle.std.proofs.lemmas.Bool.{and_parts, and_right, both_ways, ltb-true}
-use Rattle.py_lines.specs.Piece.{Class, string, operator, Piece, is_mark_class, spelled}
-use Rattle.py_lines.specs.PieceGrammar.{InClassIn, MayPrecedeIn, AreReadBefore, AreReadIn, ReadsIn}
+use Rattle.std.proofs.lemmas.Bool.{and_parts, both_ways, ltb-true}
+use Rattle.py_lines.specs.Piece.{string, Piece, spelled}
+use Rattle.py_lines.specs.PieceGrammar.{InClassIn, ReadsIn}
 use Rattle.py_lines.specs.Balance.{is_opening, is_opener, IsBalanced, depth_after, depth_through}
 use Rattle.py_lines.specs.FieldStrings.{with_fields}
 use Rattle.py_lines.specs.Fields.{AnyPieces, Fields, fielded, ShallowFields, IsShallowFielded, IsFieldReading}
-use Rattle.py_lines.specs.declared.mode.Mode.{Mode}
-use Rattle.py_lines.specs.Private.Machine.{closed, class_of, is_final}
-use Rattle.py_lines.specs.Private.FieldMachine.{FieldMode, plain, opened, empty, body, FieldMove, grows, closes, breaks, begins_code, opens_field, ends_field, refused, Level, FieldScanned, field_state, field_text_start, field_move, field_step, field_steps_from, field_closed, field_pieces, frames, has_room, has_room_at, have_room, may_end, IsFieldFinal}
-use Rattle.py_lines.proofs.Pieces.PieceLists.{piece, spelled-push, AreReadIn-push, follows_any}
+use Rattle.py_lines.specs.Private.FieldMachine.{FieldMove, grows, closes, breaks, begins_code, opens_field, ends_field, refused, Level, FieldScanned, field_state, field_text_start, field_move, field_step, field_steps_from, field_pieces, frames, has_room, has_room_at, have_room, IsFieldFinal}
 use Rattle.py_lines.proofs.Fields.Nesting.{field_is, shallow_is, any_shallow}
-use Rattle.py_lines.proofs.FieldSoundness.PlainPieces.{IsPlainText, plain_class, plain_precede, end_holds}
-use Rattle.py_lines.proofs.FieldSoundness.OpenLists.{opens-other, balanced_at}
-use Rattle.py_lines.proofs.FieldSoundness.Holds.{Limit, IsFieldSound}
-use Rattle.py_lines.proofs.FieldSoundness.Lists.{neutral}
-use Rattle.py_lines.proofs.FieldSoundness.PlainSteps.{HasRoom, plain_text, string_of, Ends, nothing, something, ends_of}
-use Rattle.py_lines.proofs.FieldSoundness.HostSteps.{empty_string, empty_end, HaveRoom, sound_at}
+use Rattle.py_lines.proofs.FieldSoundness.OpenLists.{balanced_at}
+use Rattle.py_lines.proofs.FieldSoundness.Holds.{Limit, before, IsFieldSound}
+use Rattle.py_lines.proofs.FieldSoundness.PlainSteps.{HasRoom}
+use Rattle.py_lines.proofs.FieldSoundness.HostSteps.{HaveRoom, sound_at}
+use Rattle.py_lines.proofs.FieldSoundness.ListEnds.{code_at_end, list_ends}
 
 -- no limit on the depth of brackets and fields
 abbrev pub no_limit : Limit
@@ -96,57 +92,19 @@ pub record EndsField (limit : Limit) (pieces : List Piece) (read : List ℕ) : T
   pub balanced : IsBalanced pieces
   pub passes : limit.PiecesAt 0 pieces
 
-module _ (limit : Limit) (done : List Piece) (m : FieldMode) (held read : List ℕ) (sound : IsFieldSound limit (field_state [] done [] m held) read) (spell : spelled done ++ held ≡ read) where
-  -- after no open piece, and after one
-  ends_none : held ≡ [] → EndsField limit done read
-  ends_none none = record {
-    reads = record {
-      spell = sym (append-nil (spelled done)) ∙ ap (λ t. spelled done ++ t) (sym none) ∙ spell;
-      fit = subst (AreReadIn fielded done) (append-nil held ∙ none) (sound.list.fit []);
-    };
-    balanced = balanced_at [] done refl sound.list.opens;
-    passes = sound.list.passes;
-  }
-
-  ends_piece : (class : Class) → (class ≡ operator → ⊥) → is_mark_class class ≡ false → InClassIn fielded class held → MayPrecedeIn fielded class held [] → (class ≡ string → InClassIn (with_fields (limit.FieldsAt (depth_through 0 done))) string held) → EndsField limit (done ++ piece class held ∷ []) read
-  ends_piece class other marked is precedes holds =
-      let own = neutral class held other in
-      record {
-        reads = record {
-          spell = spelled-push done class held ∙ spell;
-          fit = AreReadIn-push fielded done class held [] (sound.list.fit []) is precedes (follows_any done class held marked);
-        };
-        balanced = balanced_at [] (done ++ piece class held ∷ []) refl (opens-other [] done (piece class held) sound.list.opens own.no_opener own.no_closer);
-        passes = limit.one_more 0 done (piece class held) sound.list.passes (λ opens. absurd (both_ways _ own.no_opener opens)) holds;
-      }
-
--- by its mode
-ends_plain : (limit : Limit) (done : List Piece) (m : Mode) (held read : List ℕ) → IsFieldSound limit (field_state [] done [] (plain m) held) read → is_final m ≡ true → EndsField limit (closed m done held) read
-ends_plain limit done m held read sound may = go (ends_of m)
-  where
-    go : Ends m → EndsField limit (closed m done held) read
-    go (nothing is none) = subst (λ (l : List Piece). EndsField limit l read) (sym (is done held)) (ends_none limit done (plain m) held read sound sound.spell (none held sound.mode.0))
-    go (something is class marked) =
-        let fit : AreReadBefore (piece (class_of m) held ∷ []) [] = subst (λ (l : List Piece). AreReadBefore l []) (is [] held) (end_holds m held sound.mode.0 may) in
-        let own : IsPlainText (class_of m) held [] = plain_text (class_of m) held [] sound.mode.1 (λ at. and_right _ _ refl) in
-        subst (λ (l : List Piece). EndsField limit l read) (sym (is done held))
-        (ends_piece limit done (plain m) held read sound sound.spell (class_of m) class marked (plain_class Fields (class_of m) held [] own fit.0) (plain_precede Fields (class_of m) held [] own fit.1)
-        (λ at. string_of _ (class_of m) held (plain_class (limit.FieldsAt (depth_through 0 done)) (class_of m) held [] own fit.0) at))
-
-ends_mode : (limit : Limit) (done : List Piece) (m : FieldMode) (held read : List ℕ) → IsFieldSound limit (field_state [] done [] m held) read → may_end m ≡ true → EndsField limit (field_closed m done held) read
-ends_mode limit done (plain m) held read sound may = ends_plain limit done m held read sound may
-ends_mode limit done (opened host) held read sound may = absurd (both_ways _ refl may)
-ends_mode limit done (empty host) held read sound may =
-    let own = sound.mode in
-    ends_piece limit done (empty host) held read sound sound.spell string (λ at. absurd (cc)) refl (inr (empty_string Fields host held own.0 own.1 own.2)) (empty_end host held own.0 own.1)
-    (λ at. inr (empty_string (limit.FieldsAt (depth_through 0 done)) host held own.0 own.1 own.2))
-ends_mode limit done (body host place named at) held read sound may = absurd (both_ways _ refl may)
-
+-- where the text may end, the pieces do
 ends_sound : (limit : Limit) (s : FieldScanned) (read : List ℕ) → IsFieldSound limit s read → IsFieldFinal s → EndsField limit (field_pieces s) read
-ends_sound limit s read sound final =
-    ends_mode limit s.done s.mode s.held read
-    (subst (λ (os : List ℕ). IsFieldSound limit (field_state [] s.done os s.mode s.held) read) final.closed_all
-    (subst (λ (l : List Level). IsFieldSound limit (field_state l s.done s.openers s.mode s.held) read) final.outside sound)) final.ends
+ends_sound limit s read sound final = go s.outer s.openers sound final.outside final.closed_all
+  where
+    go : (outer : List Level) (openers : List ℕ) → IsFieldSound limit (field_state outer s.done openers s.mode s.held) read → outer ≡ [] → openers ≡ [] → EndsField limit (field_pieces s) read
+    go [] openers own outside none =
+        let list = list_ends limit [] s.done openers s.mode s.held read own final.ends in
+        record {
+          reads = record { spell = list.spell ∙ sym (ap (λ p. before p [] ++ (spelled s.done ++ s.held)) (code_at_end s.mode final.ends)) ∙ own.spell; fit = list.fit };
+          balanced = balanced_at openers (field_pieces s) none list.opens;
+          passes = list.passes;
+        }
+    go (l ∷ ls) openers own outside none = absurd (cc)
 
 -- the machine with fields is sound: where it may end, its pieces read the text, with brackets in pairs
 pub final_reads : (characters : List ℕ) (s : FieldScanned) → field_steps_from (Some field_text_start) characters ≡ Some s → IsFieldFinal s → ReadsIn fielded (field_pieces s) characters × IsBalanced (field_pieces s)

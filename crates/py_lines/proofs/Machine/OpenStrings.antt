@@ -61,14 +61,14 @@ long_opening q held holds = subst IsLongPrefix (append-nil held) (long_open q he
 long_escaped : (q : ℕ) (before : List ℕ) (slash : ℕ) → HoldsPrefix q before → is_backslash slash ≡ true → IsLongPrefix (before ++ slash ∷ [])
 long_escaped q before slash holds slashes = long_open q before (slash ∷ []) holds (inr (slash, refl, slashes))
 
-short_held : (m : Mode) (done : List Piece) (held : List ℕ) → Holds m done held → in_short m ≡ true → IsShortPrefix held
+pub short_held : (m : Mode) (done : List Piece) (held : List ℕ) → Holds m done held → in_short m ≡ true → IsShortPrefix held
 short_held (modes.Opened q) done held holds is = short_opening q held (opened_items q held holds)
 short_held (modes.Inside q) done held holds is = short_opening q held holds.all
 short_held (modes.Escape q) done held holds is = subst IsShortPrefix (sym holds.2) (short_escaped q holds.0 holds.1 holds.3 holds.4)
 short_held (modes.EscapeReturn q) done held holds is = short_opening q held (returned_items q done held holds).all
 short_held m done held holds is = absurd (both_ways _ refl is)
 
-long_held : (m : Mode) (done : List Piece) (held : List ℕ) → Holds m done held → in_long m ≡ true → IsLongPrefix held
+pub long_held : (m : Mode) (done : List Piece) (held : List ℕ) → Holds m done held → in_long m ≡ true → IsLongPrefix held
 long_held (modes.Long q) done held holds is = long_opening q held (opening_none q held holds)
 long_held (modes.LongOne q) done held holds is = long_opening q held (subst (HoldsPrefix q) (sym holds.1) (opening_one q holds.0 holds.2))
 long_held (modes.LongTwo q) done held holds is = long_opening q held (subst (HoldsPrefix q) (sym holds.1) (opening_two q holds.0 holds.2))
@@ -82,7 +82,7 @@ in_short_string s read sound is = record { pieces = s.done; rest = s.held; spell
 pub in_long_string : (s : Scanned) (read : List ℕ) → IsSound s read → in_long s.mode ≡ true → InLongString read (spelled s.done)
 in_long_string s read sound is = record { pieces = s.done; rest = s.held; spell = sound.spell; before = refl; fit = fit_held s read sound; inside = long_held s.mode s.done s.held sound.holds is }
 
-slash_held : (m : Mode) (done : List Piece) (held : List ℕ) → Holds m done held → is_after_backslash m ≡ true → (slash : ℕ) × (held ≡ slash ∷ []) × (is_backslash slash ≡ true)
+pub slash_held : (m : Mode) (done : List Piece) (held : List ℕ) → Holds m done held → is_after_backslash m ≡ true → (slash : ℕ) × (held ≡ slash ∷ []) × (is_backslash slash ≡ true)
 slash_held modes.Backslash done held holds is = holds
 slash_held m done held holds is = absurd (both_ways _ refl is)
 
