@@ -2,3 +2,6 @@
 pub mod WorkedRows
 pub mod Runs
 pub mod StringParts
+pub mod PlainSteps
+pub mod ListBrackets
+pub mod PieceRuns
