@@ -5,3 +5,4 @@ pub mod StringParts
 pub mod PlainSteps
 pub mod ListBrackets
 pub mod PieceRuns
+pub mod StringRuns

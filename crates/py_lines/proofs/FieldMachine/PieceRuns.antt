@@ -2,7 +2,7 @@
 use Rattle.std.proofs.Common.{◌≡◌, ℕ, ◌≤◌, ◌<◌, Bool, true, false, ◌&&◌, ◌||◌, ◌==◌, Option, Some, List, [], ◌∷◌, ◌++◌, length, refl, sym, ap, ◌∙◌, subst, inl, inr, append_assoc, length-append, arith}
 use Rattle.std.specs.List.{list_all, list_any}
 use Rattle.std.proofs.lemmas.Bool.{and_parts, or_from, both_ways, cond_both, eqb-true, false_from_ne_true}
-use Rattle.py_lines.specs.Character.{is_space, is_word_character, is_quote, is_operator, is_line_feed, is_return}
+use Rattle.py_lines.specs.Character.{is_space, is_word_character, is_word_start, is_quote, is_operator, is_line_feed, is_return}
 use Rattle.py_lines.specs.Piece.{Class, mark, space, word, string, operator, comment, join, line_end, Piece, begins, is_mark_class}
 use Rattle.py_lines.specs.PieceGrammar.{feed, return_feed, return, is_prefix, IsNoneOr, IsPrefix, InClass, MayPrecede, MayPrecedeIn}
 use Rattle.py_lines.specs.Balance.{is_opening, is_closing}
@@ -238,6 +238,19 @@ module _ (Room : ℕ → Type 0) where
       (find (fresh (field_pieces from)) class text rest (plain_unmarked class plain_class) is (plain_before F class text rest before) (stops-free (text ++ rest)))
       stops (ends_no_prefix F class text rest before)
 
+  -- the characters of a word
+  pub word_goes : (from : FieldScanned) (a : ℕ) (bs after : List ℕ) → is_word_start a ≡ true → list_all is_word_character bs ≡ true → StopsAt from.mode from.held (a ∷ bs ++ after) → Goes Room from (a ∷ bs) (lifted from.outer from.openers (scanned (field_pieces from) (modes.Word (spelling_on (first_spelling a) bs)) (a ∷ bs)))
+  word_goes from a bs after starts_so run stops =
+      let done = field_pieces from in
+      let start : Start = starts.Open (modes.Word (first_spelling a)) in
+      let quiet : IsQuiet (modes.Word (first_spelling a)) bs = inr (no_quotes bs run) in
+      let begun_at : Scanned = scanned done (modes.Word (first_spelling a)) (a ∷ []) in
+      let named_at : Scanned = scanned done (modes.Word (spelling_on (first_spelling a) bs)) (a ∷ bs) in
+      let first : Begun from.outer done from.openers a start bs = record { state = begun_at; plain_is = refl; field_is = refl; quiet = quiet } in
+      let lift : Scanned → FieldScanned = lifted from.outer from.openers in
+      goes-append Room from (lift begun_at) (lift named_at) (a ∷ []) bs (one_begun from a bs (bs ++ after) start first stops (start-word a starts_so) quiet)
+      (follows Room from.outer from.openers bs begun_at named_at quiet (steps_word done (first_spelling a) (a ∷ []) bs run) (omega arith))
+
   -- a string without fields
   pub string_found : (F : Host → List ℕ → Type 0) (from : FieldScanned) (text prefix : List ℕ) (q : ℕ) (body rest : List ℕ) → text ≡ prefix ++ q ∷ body → IsPrefix prefix → is_field_prefix prefix ≡ false → is_quote q ≡ true → InClass string text → MayPrecedeIn (with_fields F) string text rest → StopsAt from.mode from.held (text ++ rest) → FieldFinds Room from text (piece string text ∷ []) from.openers rest
   string_found F from text [] q body rest is begins_so no_field quotes is_string before stops =
@@ -248,23 +261,16 @@ module _ (Room : ℕ → Type 0) where
   string_found F from text (a ∷ bs) q body rest is (inr is_prefix_so) no_field quotes is_string before stops =
       let done = field_pieces from in
       let letters = prefix_word a bs is_prefix_so in
-      let start : Start = starts.Open (modes.Word (first_spelling a)) in
-      let starts_as : start_of a ≡ start = start-word a letters.0 in
-      let quiet : IsQuiet (modes.Word (first_spelling a)) bs = inr (no_quotes bs letters.1) in
-      let begun_at : Scanned = scanned done (modes.Word (first_spelling a)) (a ∷ []) in
       let named_at : Scanned = scanned done (modes.Word (spelling_on (first_spelling a) bs)) (a ∷ bs) in
       let opened_at : Scanned = scanned done (modes.Opened q) ((a ∷ bs) ++ q ∷ []) in
       let old = find (fresh done) string text rest refl is_string (plain_before F string text rest before) (stops-free (text ++ rest)) in
-      let first : Begun from.outer done from.openers a start bs = record { state = begun_at; plain_is = refl; field_is = refl; quiet = quiet } in
-      let one = one_begun from a bs ((bs ++ q ∷ body) ++ rest) start first
-      (subst (λ t. StopsAt from.mode from.held (t ++ rest)) is stops) starts_as quiet in
-      let word_goes = follows Room from.outer from.openers bs begun_at named_at quiet (steps_word done (first_spelling a) (a ∷ []) bs letters.1) (omega arith) in
+      let at_word : StopsAt from.mode from.held (a ∷ bs ++ (q ∷ body) ++ rest) =
+      subst (StopsAt from.mode from.held) (append_assoc (a ∷ bs) (q ∷ body) rest) (subst (λ t. StopsAt from.mode from.held (t ++ rest)) is stops) in
       let quote_moves : field_move (plain named_at.mode) (a ∷ bs) q ≡ grows (plain (modes.Opened q)) =
       plain_moves named_at.mode (a ∷ bs) q (ap (λ b. b && is_quote q) no_field) ∙ ap plain_move (opens_at (spelling_on (first_spelling a) bs) q (sym (prefix_spelling a bs) ∙ is_prefix_so) quotes) in
       let lift : Scanned → FieldScanned = lifted from.outer from.openers in
-      let goes = goes-append Room from (lift begun_at) (lift opened_at) (a ∷ []) (bs ++ q ∷ []) one
-      (goes-append Room (lift begun_at) (lift named_at) (lift opened_at) bs (q ∷ []) word_goes
-      (goes-grows Room (lift named_at) (lift opened_at) (plain (modes.Opened q)) q [] quote_moves refl)) in
+      let goes = goes-append Room from (lift named_at) (lift opened_at) (a ∷ bs) (q ∷ []) (word_goes from a bs ((q ∷ body) ++ rest) letters.0 letters.1 at_word)
+      (goes-grows Room (lift named_at) (lift opened_at) (plain (modes.Opened q)) q [] quote_moves refl) in
       rest_found from string text ((a ∷ bs) ++ q ∷ []) body rest opened_at (append_assoc (a ∷ bs) (q ∷ []) body ∙ sym is) old
       (sym (opened_steps (fresh done) (a ∷ bs) q body (inr is_prefix_so) quotes (stops-free ((a ∷ bs) ++ q ∷ body))) ∙ ap (steps_from (Some (fresh done))) (sym is) ∙ old.steps)
       (omega arith) (inl refl) goes (ends_no_prefix F string text rest before)

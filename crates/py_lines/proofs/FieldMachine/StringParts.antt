@@ -38,7 +38,7 @@ unfolding body_move
 goes_on host place named [] = tt
 goes_on host place named (c ∷ cs) = refl
 
-goes_on-quotes : (host : Host) (place : Place) (named : Bool) (at : At) (rest : List ℕ) → MayGoOn host place named (with_quote at) rest
+pub goes_on-quotes : (host : Host) (place : Place) (named : Bool) (at : At) (rest : List ℕ) → MayGoOn host place named (with_quote at) rest
 unfolding body_move
 goes_on-quotes host place named at [] = tt
 goes_on-quotes host place named between (c ∷ cs) = refl
@@ -70,7 +70,7 @@ unfolding field_move
 body_moves host place named at held c cs on = on
 
 -- a quote of its own in a long string
-quote_grows : (host : Host) (place : Place) (named : Bool) (at : At) → host.is_long ≡ true → is_after_two at ≡ false → between_move host place named at host.quote ≡ grows (body host place named (with_quote at))
+pub quote_grows : (host : Host) (place : Place) (named : Bool) (at : At) → host.is_long ≡ true → is_after_two at ≡ false → between_move host place named at host.quote ≡ grows (body host place named (with_quote at))
 unfolding between_move
 quote_grows host place named at long two = rw (eq-eqb host.quote host.quote refl, long, two)
 
@@ -112,7 +112,7 @@ seen_later q after_return part tail h = triple_later q part tail h
 seen_later q after_name part tail h = triple_later q part tail h
 seen_later q after_brace part tail h = triple_later q part tail h
 
-three_quotes : (q : ℕ) (tail : List (List ℕ)) → begins_triple q ((q ∷ []) ∷ (q ∷ []) ∷ (q ∷ []) ∷ tail) ≡ true
+pub three_quotes : (q : ℕ) (tail : List (List ℕ)) → begins_triple q ((q ∷ []) ∷ (q ∷ []) ∷ (q ∷ []) ∷ tail) ≡ true
 three_quotes q tail = rw (eq-eqb q q refl)
 
 -- after one quote more
