@@ -6,3 +6,7 @@ pub mod PlainSteps
 pub mod ListBrackets
 pub mod PieceRuns
 pub mod StringRuns
+pub mod CodeRuns
+pub mod FieldRuns
+pub mod Nesting
+pub mod Completeness
