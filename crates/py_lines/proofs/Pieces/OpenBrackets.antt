@@ -114,7 +114,7 @@ pub other_keeps : (st : List Bracket) (place : ℕ) (p : Piece) → is_opener p 
 unfolding brackets_after
 other_keeps st place p h k = rw (h, k)
 
-pair_kind : (a b : Piece) → ArePair a b → first_or_zero b.text == closing_of (first_or_zero a.text) ≡ true
+pub pair_kind : (a b : Piece) → ArePair a b → first_or_zero b.text == closing_of (first_or_zero a.text) ≡ true
 pair_kind a b both =
     begins_first is_closing (λ d. d == closing_of (first_or_zero a.text)) b.text (operator_begins is_closing b.class b.text both.closes)
     (begins_first is_opening (λ c. begins (λ d. d == closing_of c) b.text) a.text (operator_begins is_opening a.class a.text both.opens) both.kind)
