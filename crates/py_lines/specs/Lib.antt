@@ -12,6 +12,7 @@ pub mod Faults
 pub mod Lexed
 pub mod Fields
 pub mod OpenFields
+pub mod FieldFaults
 pub mod Neighbours
 pub mod Words
 pub mod Settled

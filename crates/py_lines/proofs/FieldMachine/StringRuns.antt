@@ -13,7 +13,7 @@ use Rattle.py_lines.specs.Private.FieldMachine.{At, between, after_one, after_tw
 use Rattle.py_lines.proofs.Pieces.PieceLists.{piece}
 use Rattle.py_lines.proofs.Fields.Prefixes.{field_letters}
 use Rattle.py_lines.proofs.Fields.Parts.{BeginOpen}
-use Rattle.py_lines.proofs.Fields.Elsewhere.{none_false}
+use Rattle.py_lines.proofs.Fields.Elsewhere.{none_false, quotes_begin}
 use Rattle.py_lines.proofs.Fields.Ends.{short_part}
 use Rattle.py_lines.proofs.FieldMachine.Runs.{Goes, HasRoomFor, StopsAt, goes-append, goes-to, goes-grows, goes-closes, stops-fresh}
 use Rattle.py_lines.proofs.FieldMachine.PieceRuns.{FieldFinds, word_goes}
@@ -65,6 +65,25 @@ part_begins F begin host place named part rest (field is a b) =
     let head = begin host part is in
     (123, head.0 ∷ head.1, head.2)
 
+or_second : (x y : Bool) → y ≡ true → x || y ≡ true
+or_second true y h = refl
+or_second false y h = h
+
+three_more : (xs : List ℕ) (q : ℕ) → ((xs ++ q ∷ []) ++ q ∷ []) ++ q ∷ [] ≡ xs ++ (q ∷ q ∷ q ∷ [])
+three_more xs q = append_assoc (xs ++ q ∷ []) (q ∷ []) (q ∷ []) ∙ append_assoc xs (q ∷ []) (q ∷ q ∷ [])
+
+-- the string with this prefix and this quote
+abbrev host_in : ℕ → Bool → List ℕ → Host
+host_in q long prefix = record { quote = q; is_long = long; is_raw = list_any is_r prefix }
+
+-- The mode of a string whose literal part is open up to the end of this text, before the rest: in its body; or after its
+-- first quote, if it is short and holds nothing yet. No three quotes in a row stand in what is read and `tail`.
+pub data IsInLiteral (host : Host) (named : Bool) (mode : FieldMode) (text rest : List ℕ) (tail : List (List ℕ)) : Type 0 where
+  in_body : (at : At) → mode ≡ body host literal named at → MayGoOn host literal named at rest → has_triple host.quote (quotes_seen host.quote at ++ tail) ≡ false
+      → IsInLiteral host named mode text rest tail
+  at_quote : (prefix : List ℕ) → mode ≡ opened host → text ≡ prefix ++ host.quote ∷ [] → is_field_prefix prefix ≡ true → host.is_long ≡ false → named ≡ false
+      → IsInLiteral host named mode text rest tail
+
 module _ (Room : ℕ → Type 0) (from : FieldScanned) where
   -- the string is open after the pieces before
   abbrev inside : FieldMode → List ℕ → FieldScanned
@@ -98,7 +117,7 @@ module _ (Room : ℕ → Type 0) (from : FieldScanned) where
   unfolding field_move
   opened_moves host held c other = rw other
 
-  opened_goes : (host : Host) (held : List ℕ) (c : ℕ) (cs : List ℕ) (t : FieldScanned) → eqb c host.quote ≡ false → Goes Room (inside (body host literal false between) held) (c ∷ cs) t → Goes Room (inside (opened host) held) (c ∷ cs) t
+  pub opened_goes : (host : Host) (held : List ℕ) (c : ℕ) (cs : List ℕ) (t : FieldScanned) → eqb c host.quote ≡ false → Goes Room (inside (body host literal false between) held) (c ∷ cs) t → Goes Room (inside (opened host) held) (c ∷ cs) t
   opened_goes host held c cs t other (next, step, room, others) = (
     next,
     ap (field_moved (inside (opened host) held) c) (opened_moves host held c other) ∙ moved_same host held c (field_move (body host literal false between) held c) ∙ step,
@@ -107,40 +126,81 @@ module _ (Room : ℕ → Type 0) (from : FieldScanned) where
   )
 
   -- the string is closed
-  finished : (text rest : List ℕ) → Goes Room from text (field_fresh from.outer (field_pieces from ++ piece string text ∷ []) from.openers) → FieldFinds Room from text (piece string text ∷ []) from.openers rest
+  abbrev closed_at : List ℕ → FieldScanned
+  closed_at text = field_fresh from.outer (field_pieces from ++ piece string text ∷ []) from.openers
+
+  finished : (text rest : List ℕ) → Goes Room from text (closed_at text) → FieldFinds Room from text (piece string text ∷ []) from.openers rest
   finished text rest goes = record { done = field_pieces from ++ piece string text ∷ []; mode = plain modes.Free; held = []; goes = goes; pieces_are = refl; stops = stops-fresh rest }
 
   module _ (F : Host → List ℕ → Type 0) (begin : BeginOpen F) (go : FieldsGo Room from.outer (field_pieces from) from.openers F) where
-    abbrev host_in : ℕ → Bool → List ℕ → Host
-    host_in q long prefix = record { quote = q; is_long = long; is_raw = list_any is_r prefix }
+    -- the machine goes from the string's start through this text of it, into its literal part
+    pub record LiteralGoes (host : Host) (named : Bool) (text rest : List ℕ) (tail : List (List ℕ)) : Type 0 where
+      pub mode : FieldMode
+      pub goes : Goes Room from text (inside mode text)
+      pub stands : IsInLiteral host named mode text rest tail
 
-    -- parts of a short string, if there are some, and its last quote
-    short_goes : (q : ℕ) (prefix held : List ℕ) (p : List ℕ) (ps : List (List ℕ)) → is_quote q ≡ true → AreParts F (host_in q false prefix) literal false (p ∷ ps) (q ∷ []) → has_triple q ((p ∷ ps) ++ (q ∷ []) ∷ (q ∷ []) ∷ []) ≡ false → Goes Room (inside (opened (host_in q false prefix)) held) (joined (p ∷ ps) ++ q ∷ []) (field_fresh from.outer (field_pieces from ++ piece string (held ++ (joined (p ∷ ps) ++ q ∷ [])) ∷ []) from.openers)
-    short_goes q prefix held p ps quotes each none =
+    -- after one quote, a part of a short string is read as between parts
+    opened_part : (q : ℕ) (prefix held part more rest : List ℕ) (t : FieldScanned) → is_quote q ≡ true → IsPart F (host_in q false prefix) literal false part rest → Goes Room (inside (body (host_in q false prefix) literal false between) held) (part ++ more) t → Goes Room (inside (opened (host_in q false prefix)) held) (part ++ more) t
+    opened_part q prefix held part more rest t quotes is_part goes =
         let host : Host = host_in q false prefix in
-        let head = part_begins F begin host literal false p (joined ps ++ q ∷ []) each.0 in
+        let head = part_begins F begin host literal false part rest is_part in
+        let c = head.0 in
+        let cs = head.1 in
+        let other : eqb c q ≡ false =
+        false_from_ne_true _ (λ same. short_part F begin q (list_any is_r prefix) false part rest [] cs quotes is_part (append-nil part ∙ head.2 ∙ ap (λ x. x ∷ cs) (eqb-true c q same))) in
+        subst (λ x. Goes Room (inside (opened host) held) (x ++ more) t) (sym head.2)
+        (opened_goes host held c (cs ++ more) t other (subst (λ x. Goes Room (inside (body host literal false between) held) (x ++ more) t) head.2 goes))
+
+    by_length : (long : Bool) (q : ℕ) (prefix : List ℕ) (parts : List (List ℕ)) (rest after : List ℕ) (tail : List (List ℕ)) → is_field_prefix prefix ≡ true → is_quote q ≡ true → AreParts F (host_in q long prefix) literal false parts rest → has_triple q (parts ++ tail) ≡ false → StopsAt from.mode from.held (prefix ++ q ∷ after) → LiteralGoes (host_in q long prefix) (named_through false parts) (prefix ++ (quotes_of (host_in q long prefix) ++ joined parts)) rest tail
+    by_length true q prefix parts rest after tail is quotes each none stops =
+        let host : Host = host_in q true prefix in
+        let begun : List ℕ = prefix ++ q ∷ [] in
+        let held : List ℕ = (begun ++ q ∷ []) ++ q ∷ [] in
+        let run = parts_go Room from.outer (field_pieces from) from.openers F begin go host literal false between held parts rest tail quotes each (goes_on host literal false (joined parts ++ rest)) none in
+        let mode : FieldMode = body host literal (named_through false parts) run.to in
+        let opened_at : FieldScanned = inside (opened (host_of prefix q)) begun in
+        let body_at : FieldScanned = inside (body host literal false between) held in
+        let last : FieldScanned = inside mode (held ++ joined parts) in
+        let quotes_go : Goes Room opened_at (q ∷ q ∷ []) body_at =
+        goes-grows Room opened_at body_at (empty (host_of prefix q)) q (q ∷ []) (second_quote (host_of prefix q) begun)
+        (goes-grows Room (inside (empty (host_of prefix q)) (begun ++ q ∷ [])) body_at (body host literal false between) q [] (third_quote (host_of prefix q) (begun ++ q ∷ [])) refl) in
+        let all = goes-append Room from opened_at last begun (q ∷ q ∷ joined parts) (prefix_goes prefix q after is quotes stops)
+        (goes-append Room opened_at body_at last (q ∷ q ∷ []) (joined parts) quotes_go run.goes) in
+        record {
+          mode = mode;
+          goes = goes-to Room from last _ (prefix ++ (q ∷ q ∷ q ∷ joined parts)) (subst (λ t. Goes Room from t last) (append_assoc prefix (q ∷ []) (q ∷ q ∷ joined parts)) all)
+              (ap (inside mode) (ap (λ t. t ++ joined parts) (three_more prefix q) ∙ append_assoc prefix (q ∷ q ∷ q ∷ []) (joined parts)));
+          stands = in_body run.to refl run.on run.open_yet;
+        }
+    by_length false q prefix [] rest after tail is quotes each none stops =
+        record { mode = opened (host_of prefix q); goes = prefix_goes prefix q after is quotes stops; stands = at_quote prefix refl refl is refl refl }
+    by_length false q prefix (p ∷ ps) rest after tail is quotes each none stops =
+        let host : Host = host_in q false prefix in
+        let begun : List ℕ = prefix ++ q ∷ [] in
         let parts : List (List ℕ) = p ∷ ps in
-        let run = parts_go Room from.outer (field_pieces from) from.openers F begin go host literal false between held parts (q ∷ []) ((q ∷ []) ∷ (q ∷ []) ∷ []) quotes each (goes_on host literal false (joined parts ++ q ∷ [])) none in
-        let end : FieldScanned = inside (body host literal (named_through false parts) run.to) (held ++ joined parts) in
-        let last : FieldScanned = field_fresh from.outer (field_pieces from ++ piece string ((held ++ joined parts) ++ q ∷ []) ∷ []) from.openers in
-        let all = goes-append Room (inside (body host literal false between) held) end last (joined parts) (q ∷ []) run.goes
-        (goes-closes Room end q (body_moves host literal (named_through false parts) run.to (held ++ joined parts) q [] run.on ∙ quote_closes host _ (settled run.to) refl)) in
-        goes-to Room (inside (opened host) held) last _ (joined parts ++ q ∷ [])
-        (first head.0 head.1 p head.2 each.0 last all)
-        (ap (λ t. field_fresh from.outer (field_pieces from ++ piece string t ∷ []) from.openers) (append_assoc held (joined parts) (q ∷ [])))
-      where
-        first : (c : ℕ) (cs part : List ℕ) → part ≡ c ∷ cs → IsPart F (host_in q false prefix) literal false part (joined ps ++ q ∷ []) → (last : FieldScanned) → Goes Room (inside (body (host_in q false prefix) literal false between) held) ((part ++ joined ps) ++ q ∷ []) last → Goes Room (inside (opened (host_in q false prefix)) held) ((part ++ joined ps) ++ q ∷ []) last
-        first c cs part is is_part last goes =
-            let host : Host = host_in q false prefix in
-            let other : eqb c q ≡ false = false_from_ne_true _ (λ same. short_part F begin q (list_any is_r prefix) false part (joined ps ++ q ∷ []) [] cs quotes is_part (append-nil part ∙ is ∙ ap (λ x. x ∷ cs) (eqb-true c q same))) in
-            let P : List ℕ → Type 0 = λ t. Goes Room (inside (opened host) held) ((t ++ joined ps) ++ q ∷ []) last in
-            subst P (sym is) (opened_goes host held c ((cs ++ joined ps) ++ q ∷ []) last other (subst (λ t. Goes Room (inside (body host literal false between) held) ((t ++ joined ps) ++ q ∷ []) last) is goes))
+        let run = parts_go Room from.outer (field_pieces from) from.openers F begin go host literal false between begun parts rest tail quotes each (goes_on host literal false (joined parts ++ rest)) none in
+        let mode : FieldMode = body host literal (named_through false parts) run.to in
+        let last : FieldScanned = inside mode (begun ++ joined parts) in
+        let all = goes-append Room from (inside (opened (host_of prefix q)) begun) last begun (joined parts) (prefix_goes prefix q after is quotes stops)
+        (opened_part q prefix begun p (joined ps) (joined ps ++ rest) last quotes each.0 run.goes) in
+        let same : begun ++ joined parts ≡ prefix ++ (q ∷ joined parts) = append_assoc prefix (q ∷ []) (joined parts) in
+        record {
+          mode = mode;
+          goes = goes-to Room from last _ (prefix ++ (q ∷ joined parts)) (subst (λ t. Goes Room from t last) same all) (ap (inside mode) same);
+          stands = in_body run.to refl run.on run.open_yet;
+        }
+
+    pub literal_goes : (host : Host) (prefix : List ℕ) (parts : List (List ℕ)) (rest after : List ℕ) (tail : List (List ℕ)) → is_field_prefix prefix ≡ true → host.is_raw ≡ list_any is_r prefix → is_quote host.quote ≡ true → AreParts F host literal false parts rest → has_triple host.quote (parts ++ tail) ≡ false → StopsAt from.mode from.held (prefix ++ host.quote ∷ after) → LiteralGoes host (named_through false parts) (prefix ++ (quotes_of host ++ joined parts)) rest tail
+    literal_goes host prefix parts rest after tail is raw quotes each none stops =
+        let at : Bool → Host = λ r. record { quote = host.quote; is_long = host.is_long; is_raw = r } in
+        let P : Bool → Type 0 = λ r. AreParts F (at r) literal false parts rest → LiteralGoes (at r) (named_through false parts) (prefix ++ (quotes_of (at r) ++ joined parts)) rest tail in
+        subst P (sym raw) (λ e. by_length host.is_long host.quote prefix parts rest after tail is quotes e none stops) each
 
     -- the last three quotes of a long string
-    long_closes : (host : Host) (named : Bool) (at : At) (held : List ℕ) → host.is_long ≡ true → MayGoOn host literal named at (host.quote ∷ []) → settled at ≡ between → Goes Room (inside (body host literal named at) held) (host.quote ∷ host.quote ∷ host.quote ∷ []) (field_fresh from.outer (field_pieces from ++ piece string (((held ++ host.quote ∷ []) ++ host.quote ∷ []) ++ host.quote ∷ []) ∷ []) from.openers)
+    long_closes : (host : Host) (named : Bool) (at : At) (held : List ℕ) → host.is_long ≡ true → MayGoOn host literal named at (host.quote ∷ []) → settled at ≡ between → Goes Room (inside (body host literal named at) held) (host.quote ∷ host.quote ∷ host.quote ∷ []) (closed_at (((held ++ host.quote ∷ []) ++ host.quote ∷ []) ++ host.quote ∷ []))
     long_closes host named at held long on none =
         let q = host.quote in
-        let end : FieldScanned = field_fresh from.outer (field_pieces from ++ piece string (((held ++ q ∷ []) ++ q ∷ []) ++ q ∷ []) ∷ []) from.openers in
+        let end : FieldScanned = closed_at (((held ++ q ∷ []) ++ q ∷ []) ++ q ∷ []) in
         goes-grows Room (inside (body host literal named at) held) end (body host literal named after_one) q (q ∷ q ∷ [])
         (body_moves host literal named at held q [] on ∙ ap (λ x. between_move host literal named x q) none ∙ quote_grows host literal named between long refl)
         (goes-grows Room (inside (body host literal named after_one) (held ++ q ∷ [])) end (body host literal named after_two) q (q ∷ [])
@@ -148,92 +208,46 @@ module _ (Room : ℕ → Type 0) (from : FieldScanned) where
         (goes-closes Room (inside (body host literal named after_two) ((held ++ q ∷ []) ++ q ∷ [])) q
         (body_moves host literal named after_two ((held ++ q ∷ []) ++ q ∷ []) q [] (goes_on-quotes host literal named after_one (q ∷ [])) ∙ quote_closes host named after_two (none_false host.is_long))))
 
-    -- a string whose text is told by its parts
-    abbrev Closed : List ℕ → Type 0
-    Closed text = Goes Room from text (field_fresh from.outer (field_pieces from ++ piece string text ∷ []) from.openers)
-
-    three_more : (xs : List ℕ) (q : ℕ) → ((xs ++ q ∷ []) ++ q ∷ []) ++ q ∷ [] ≡ xs ++ (q ∷ q ∷ q ∷ [])
-    three_more xs q = append_assoc (xs ++ q ∷ []) (q ∷ []) (q ∷ []) ∙ append_assoc xs (q ∷ []) (q ∷ q ∷ [])
-
-    long_goes : (q : ℕ) (prefix : List ℕ) (parts : List (List ℕ)) (after : List ℕ) → is_field_prefix prefix ≡ true → is_quote q ≡ true → AreParts F (host_in q true prefix) literal false parts (q ∷ q ∷ q ∷ []) → has_triple q (parts ++ (q ∷ []) ∷ (q ∷ []) ∷ []) ≡ false → StopsAt from.mode from.held (prefix ++ q ∷ after) → Closed (prefix ++ (q ∷ q ∷ q ∷ (joined parts ++ (q ∷ q ∷ q ∷ []))))
-    long_goes q prefix parts after is quotes each none stops =
-        let host : Host = host_in q true prefix in
-        let named = named_through false parts in
-        let begun : List ℕ = prefix ++ q ∷ [] in
-        let held : List ℕ = (begun ++ q ∷ []) ++ q ∷ [] in
-        let run = parts_go Room from.outer (field_pieces from) from.openers F begin go host literal false between held parts (q ∷ q ∷ q ∷ []) ((q ∷ []) ∷ (q ∷ []) ∷ []) quotes each
-        (goes_on host literal false (joined parts ++ (q ∷ q ∷ q ∷ []))) none in
-        let full : List ℕ = held ++ joined parts in
-        let text : List ℕ = prefix ++ (q ∷ q ∷ q ∷ (joined parts ++ (q ∷ q ∷ q ∷ []))) in
-        let opened_at : FieldScanned = inside (opened (host_of prefix q)) begun in
-        let body_at : FieldScanned = inside (body host literal false between) held in
-        let ended_at : FieldScanned = inside (body host literal named run.to) full in
-        let last : FieldScanned = field_fresh from.outer (field_pieces from ++ piece string (((full ++ q ∷ []) ++ q ∷ []) ++ q ∷ []) ∷ []) from.openers in
-        let quotes_go : Goes Room opened_at (q ∷ q ∷ []) body_at =
-        goes-grows Room opened_at body_at (empty (host_of prefix q)) q (q ∷ []) (second_quote (host_of prefix q) begun)
-        (goes-grows Room (inside (empty (host_of prefix q)) (begun ++ q ∷ [])) body_at (body host literal false between) q [] (third_quote (host_of prefix q) (begun ++ q ∷ [])) refl) in
-        let rest_goes = goes-append Room body_at ended_at last (joined parts) (q ∷ q ∷ q ∷ []) run.goes
-        (long_closes host named run.to full refl run.on (none_before q run.to run.open_yet)) in
-        let all = goes-append Room from opened_at last begun (q ∷ q ∷ (joined parts ++ (q ∷ q ∷ q ∷ []))) (prefix_goes prefix q after is quotes stops)
-        (goes-append Room opened_at body_at last (q ∷ q ∷ []) (joined parts ++ (q ∷ q ∷ q ∷ [])) quotes_go rest_goes) in
-        let same : ((full ++ q ∷ []) ++ q ∷ []) ++ q ∷ [] ≡ text =
-        three_more full q ∙ append_assoc held (joined parts) (q ∷ q ∷ q ∷ []) ∙ ap (λ t. t ++ (joined parts ++ (q ∷ q ∷ q ∷ []))) (three_more prefix q)
-        ∙ append_assoc prefix (q ∷ q ∷ q ∷ []) (joined parts ++ (q ∷ q ∷ q ∷ [])) in
-        goes-to Room from last _ text (subst (λ t. Goes Room from t last) (append_assoc prefix (q ∷ []) (q ∷ q ∷ (joined parts ++ (q ∷ q ∷ q ∷ [])))) all)
-        (ap (λ t. field_fresh from.outer (field_pieces from ++ piece string t ∷ []) from.openers) same)
-
-    short_closed : (q : ℕ) (prefix p : List ℕ) (ps : List (List ℕ)) (after : List ℕ) → is_field_prefix prefix ≡ true → is_quote q ≡ true → AreParts F (host_in q false prefix) literal false (p ∷ ps) (q ∷ []) → has_triple q ((p ∷ ps) ++ (q ∷ []) ∷ (q ∷ []) ∷ []) ≡ false → StopsAt from.mode from.held (prefix ++ q ∷ after) → Closed (prefix ++ (q ∷ (joined (p ∷ ps) ++ q ∷ [])))
-    short_closed q prefix p ps after is quotes each none stops =
-        let begun : List ℕ = prefix ++ q ∷ [] in
-        let body_text : List ℕ = joined (p ∷ ps) ++ q ∷ [] in
-        let last : FieldScanned = field_fresh from.outer (field_pieces from ++ piece string (begun ++ body_text) ∷ []) from.openers in
-        subst Closed (append_assoc prefix (q ∷ []) body_text)
-        (goes-append Room from (inside (opened (host_of prefix q)) begun) last begun body_text (prefix_goes prefix q after is quotes stops) (short_goes q prefix begun p ps quotes each none))
-
-    -- f"", before what is no third quote
-    empty_found : (q : ℕ) (prefix text after rest : List ℕ) → text ≡ prefix ++ q ∷ q ∷ [] → is_field_prefix prefix ≡ true → is_quote q ≡ true → begins (λ c. c == q) rest ≡ false → StopsAt from.mode from.held (prefix ++ q ∷ after) → FieldFinds Room from text (piece string text ∷ []) from.openers rest
-    empty_found q prefix text after rest is is_prefix_so quotes ends stops =
-        let begun : List ℕ = prefix ++ q ∷ [] in
-        let same : begun ++ q ∷ [] ≡ text = append_assoc prefix (q ∷ []) (q ∷ []) ∙ sym is in
-        let opened_at : FieldScanned = inside (opened (host_of prefix q)) begun in
-        let empty_at : FieldScanned = inside (empty (host_of prefix q)) (begun ++ q ∷ []) in
+    -- the end of a string, from its literal part
+    ends_found : (G : Host → List ℕ → Type 0) (long : Bool) (q : ℕ) (raw named : Bool) (mode : FieldMode) (text rest : List ℕ) → Goes Room from text (inside mode text) → IsInLiteral (record { quote = q; is_long = long; is_raw = raw }) named mode text (quotes_of (record { quote = q; is_long = long; is_raw = raw })) ((q ∷ []) ∷ (q ∷ []) ∷ []) → is_quote q ≡ true → MayPrecedeIn (with_fields G) string (text ++ quotes_of (record { quote = q; is_long = long; is_raw = raw })) rest → FieldFinds Room from (text ++ quotes_of (record { quote = q; is_long = long; is_raw = raw })) (piece string (text ++ quotes_of (record { quote = q; is_long = long; is_raw = raw })) ∷ []) from.openers rest
+    ends_found G true q raw named mode text rest goes (in_body at is on open_yet) quotes before =
+        let host : Host = record { quote = q; is_long = true; is_raw = raw } in
+        let three : List ℕ = q ∷ q ∷ q ∷ [] in
+        let last : FieldScanned = closed_at (((text ++ q ∷ []) ++ q ∷ []) ++ q ∷ []) in
+        let closing = subst (λ (m : FieldMode). Goes Room (inside m text) three last) (sym is) (long_closes host named at text refl on (none_before q at open_yet)) in
+        finished (text ++ three) rest (goes-to Room from last _ (text ++ three) (goes-append Room from (inside mode text) last text three goes closing) (ap closed_at (three_more text q)))
+    ends_found G true q raw named mode text rest goes (at_quote prefix is spell begun short unnamed) quotes before = absurd (both_ways _ short refl)
+    ends_found G false q raw named mode text rest goes (in_body at is on open_yet) quotes before =
+        let host : Host = record { quote = q; is_long = false; is_raw = raw } in
+        let move = body_moves host literal named at text q [] on ∙ quote_closes host named (settled at) refl in
+        let closing = subst (λ (m : FieldMode). Goes Room (inside m text) (q ∷ []) (closed_at (text ++ q ∷ []))) (sym is) (goes-closes Room (inside (body host literal named at) text) q move) in
+        finished (text ++ q ∷ []) rest (goes-append Room from (inside mode text) (closed_at (text ++ q ∷ [])) text (q ∷ []) goes closing)
+    ends_found G false q raw named mode text rest goes (at_quote prefix is spell begun short unnamed) quotes before =
+        let host : Host = record { quote = q; is_long = false; is_raw = raw } in
+        let held : List ℕ = text ++ q ∷ [] in
+        let last : FieldScanned = inside (empty host) held in
+        let whole : held ≡ prefix ++ q ∷ q ∷ [] = ap (λ t. t ++ q ∷ []) spell ∙ append_assoc prefix (q ∷ []) (q ∷ []) in
+        let closing = subst (λ (m : FieldMode). Goes Room (inside m text) (q ∷ []) last) (sym is) (goes-grows Room (inside (opened host) text) last (empty host) q [] (second_quote host text) refl) in
         record {
           done = field_pieces from;
-          mode = empty (host_of prefix q);
-          held = begun ++ q ∷ [];
-          goes = subst (λ t. Goes Room from t empty_at) same
-              (goes-append Room from opened_at empty_at begun (q ∷ []) (prefix_goes prefix q after is_prefix_so quotes stops)
-              (goes-grows Room opened_at empty_at (empty (host_of prefix q)) q [] (second_quote (host_of prefix q) begun) refl));
-          pieces_are = ap (λ t. field_pieces from ++ piece string t ∷ []) same;
-          stops = stops_empty (host_of prefix q) (begun ++ q ∷ []) rest ends;
+          mode = empty host;
+          held = held;
+          goes = goes-append Room from (inside mode text) last text (q ∷ []) goes closing;
+          pieces_are = refl;
+          stops = stops_empty host held rest (before prefix q whole (inr (or_second (is_prefix prefix) (is_field_prefix prefix) begun)) quotes);
         }
-
-    -- a string with fields, by its host
-    hosted_found : (G : Host → List ℕ → Type 0) (long : Bool) (q : ℕ) (prefix : List ℕ) (parts : List (List ℕ)) (text rest : List ℕ) → text ≡ prefix ++ (quotes_of (host_in q long prefix) ++ (joined parts ++ quotes_of (host_in q long prefix))) → is_field_prefix prefix ≡ true → is_quote q ≡ true → AreParts F (host_in q long prefix) literal false parts (quotes_of (host_in q long prefix)) → has_triple q (parts ++ (q ∷ []) ∷ (q ∷ []) ∷ []) ≡ false → MayPrecedeIn (with_fields G) string text rest → StopsAt from.mode from.held (text ++ rest) → FieldFinds Room from text (piece string text ∷ []) from.openers rest
-    hosted_found G true q prefix parts text rest is is_prefix_so quotes each none before stops =
-        finished text rest (subst Closed (sym is) (long_goes q prefix parts _ is_prefix_so quotes each none (stops_at (q ∷ q ∷ (joined parts ++ (q ∷ q ∷ q ∷ []))) is stops)))
-      where
-        stops_at : (others : List ℕ) → text ≡ prefix ++ q ∷ others → StopsAt from.mode from.held (text ++ rest) → StopsAt from.mode from.held (prefix ++ q ∷ (others ++ rest))
-        stops_at others so h = subst (StopsAt from.mode from.held) (append_assoc prefix (q ∷ others) rest) (subst (λ t. StopsAt from.mode from.held (t ++ rest)) so h)
-    hosted_found G false q prefix [] text rest is is_prefix_so quotes each none before stops =
-        empty_found q prefix text (q ∷ rest) rest is is_prefix_so quotes
-        (before prefix q is (inr (or_second (is_prefix prefix) (is_field_prefix prefix) is_prefix_so)) quotes)
-        (subst (StopsAt from.mode from.held) (append_assoc prefix (q ∷ q ∷ []) rest) (subst (λ t. StopsAt from.mode from.held (t ++ rest)) is stops))
-      where
-        or_second : (x y : Bool) → y ≡ true → x || y ≡ true
-        or_second true y h = refl
-        or_second false y h = h
-    hosted_found G false q prefix (p ∷ ps) text rest is is_prefix_so quotes each none before stops =
-        finished text rest (subst Closed (sym is) (short_closed q prefix p ps ((joined (p ∷ ps) ++ q ∷ []) ++ rest) is_prefix_so quotes each none
-        (subst (StopsAt from.mode from.held) (append_assoc prefix (q ∷ (joined (p ∷ ps) ++ q ∷ [])) rest) (subst (λ t. StopsAt from.mode from.held (t ++ rest)) is stops))))
 
     pub field_string_found : (G : Host → List ℕ → Type 0) (text rest : List ℕ) → IsFieldString F text → MayPrecedeIn (with_fields G) string text rest → StopsAt from.mode from.held (text ++ rest) → FieldFinds Room from text (piece string text ∷ []) from.openers rest
     field_string_found G text rest is before stops =
-        let q = is.host.quote in
-        let long = is.host.is_long in
-        let P : Bool → Type 0 = λ raw.
-        text ≡ is.prefix ++ (quotes_of (record { quote = q; is_long = long; is_raw = raw }) ++ (joined is.parts ++ quotes_of (record { quote = q; is_long = long; is_raw = raw })))
-        × AreParts F (record { quote = q; is_long = long; is_raw = raw }) literal false is.parts (quotes_of (record { quote = q; is_long = long; is_raw = raw })) in
-        let told : P is.host.is_raw = (is.spell, is.each) in
-        let so : P (list_any is_r is.prefix) = subst P is.raw told in
-        hosted_found G long q is.prefix is.parts text rest so.0 is.begun is.opens so.1 is.first before stops
+        let host = is.host in
+        let quotes = quotes_of host in
+        let q = host.quote in
+        let front : List ℕ = is.prefix ++ (quotes ++ joined is.parts) in
+        let whole : front ++ quotes ≡ text =
+        append_assoc is.prefix (quotes ++ joined is.parts) quotes ∙ ap (λ t. is.prefix ++ t) (append_assoc quotes (joined is.parts) quotes) ∙ sym is.spell in
+        let begin_quotes = quotes_begin host in
+        let first : text ++ rest ≡ is.prefix ++ q ∷ ((begin_quotes.0 ++ (joined is.parts ++ quotes)) ++ rest) =
+        ap (λ t. t ++ rest) (is.spell ∙ ap (λ t. is.prefix ++ (t ++ (joined is.parts ++ quotes))) begin_quotes.1) ∙ append_assoc is.prefix (q ∷ (begin_quotes.0 ++ (joined is.parts ++ quotes))) rest in
+        let run = literal_goes host is.prefix is.parts quotes _ ((q ∷ []) ∷ (q ∷ []) ∷ []) is.begun is.raw is.opens is.each is.first (subst (StopsAt from.mode from.held) first stops) in
+        subst (λ t. FieldFinds Room from t (piece string t ∷ []) from.openers rest) whole
+        (ends_found G host.is_long q host.is_raw (named_through false is.parts) run.mode front rest run.goes run.stands is.opens (subst (λ t. MayPrecedeIn (with_fields G) string t rest) (sym whole) before))
