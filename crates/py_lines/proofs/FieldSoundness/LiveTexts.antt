@@ -7,7 +7,7 @@ use Rattle.py_lines.specs.Character.{is_quote}
 use Rattle.py_lines.specs.Piece.{comment, line_end, Piece}
 use Rattle.py_lines.specs.Balance.{is_opening, is_closing}
 use Rattle.py_lines.specs.FieldStrings.{Host, Place, literal}
-use Rattle.py_lines.specs.Fields.{IsFieldReading}
+use Rattle.py_lines.specs.FieldFaults.{IsFieldLive}
 use Rattle.py_lines.specs.declared.mode.Mode.{Mode}
 use Rattle.py_lines.specs.declared.mode.Mode.TheVariants as modes
 use Rattle.py_lines.specs.declared.mode.Move.TheVariants as moves
@@ -132,13 +132,6 @@ state_finishes limit Room outer done openers (empty host) held read sound =
     then_finishes Room outer done openers (empty host) held (at_once Room (field_state outer done openers (empty host) held) (ready_empty host held sound.mode.1)) (levels_close limit literal outer _ sound.levels)
 state_finishes limit Room outer done openers (body host place named at) held read sound =
     body_finishes Room place outer done openers host named at held (quotes_at limit outer _ host place named at held sound.mode) (levels_close limit place outer _ sound.levels)
-
--- some text that begins with these characters is read with fields
-pub record IsFieldLive (characters : List ℕ) : Type 0 where
-  pub more : List ℕ
-  pub pieces : List Piece
-  pub scalars : all_scalars more ≡ true
-  pub reading : IsFieldReading pieces (characters ++ more)
 
 -- runs over two texts, one after the other
 steps-append : (o : Option FieldScanned) (a b : List ℕ) → field_steps_from o (a ++ b) ≡ field_steps_from (field_steps_from o a) b
