@@ -11,3 +11,4 @@ pub mod FieldRuns
 pub mod Nesting
 pub mod Completeness
 pub mod OpenStrings
+pub mod OpenLists

@@ -2,10 +2,10 @@
 use Rattle.std.proofs.Common.{◌≡◌, ℕ, ◌+◌, ◌==◌, Bool, true, false, List, [], ◌∷◌, ◌++◌, ◌⊎◌, inl, inr, length, refl, sym, ap, ◌∙◌, subst, append_assoc, append-nil, arith}
 use Rattle.py_lines.specs.Character.{is_mark, is_quote, is_backslash}
 use Rattle.py_lines.specs.Piece.{Piece, begins, spelled}
-use Rattle.py_lines.specs.PieceGrammar.{joined, has_triple, AreReadIn}
-use Rattle.py_lines.specs.FieldStrings.{is_field_prefix, Host, Place, literal, specification, quotes_of, begins_open, begins_double, named_through, AreParts}
-use Rattle.py_lines.specs.Fields.{AnyPieces, AreInside, Fields, fielded}
-use Rattle.py_lines.specs.OpenFields.{Spot, literal_after, specification_after, MayOpen, IsOpenString, in_literal, in_specification, IsOpenUpTo}
+use Rattle.py_lines.specs.PieceGrammar.{joined, has_triple}
+use Rattle.py_lines.specs.FieldStrings.{is_field_prefix, Host, Place, literal, specification, quotes_of, begins_open, named_through}
+use Rattle.py_lines.specs.Fields.{Fields}
+use Rattle.py_lines.specs.OpenFields.{Spot, literal_after, specification_after, IsOpenString, in_literal, in_specification, IsOpenUpTo}
 use Rattle.py_lines.specs.Faults.{IsUnescaped}
 use Rattle.py_lines.specs.Private.FieldMachine.{At, between, after_slash, FieldMode, opened, body, Level, FieldScanned, field_state, field_fresh, field_pieces, levels_open}
 use Rattle.py_lines.proofs.Text.CharacterTests.{not_quote, slash-not-quote}
@@ -16,9 +16,8 @@ use Rattle.py_lines.proofs.Fields.Parts.{begins_same}
 use Rattle.py_lines.proofs.Fields.OneReading.{some_head, fields_begin}
 use Rattle.py_lines.proofs.FieldSoundness.Holds.{before}
 use Rattle.py_lines.proofs.FieldMachine.Runs.{NoLimit, Goes, StopsAt, goes-append, goes-to, goes-grows}
-use Rattle.py_lines.proofs.FieldMachine.CodeRuns.{ArePassed}
-use Rattle.py_lines.proofs.FieldMachine.StringParts.{settled, MayGoOn, goes_on, body_moves, slash_grows, PartGoes, parts_go, open_no_quote}
-use Rattle.py_lines.proofs.FieldMachine.StringRuns.{opened_goes, IsInLiteral, in_body, at_quote, LiteralGoes, literal_goes}
+use Rattle.py_lines.proofs.FieldMachine.StringParts.{settled, MayGoOn, goes_on, body_moves, slash_grows, parts_go, open_no_quote}
+use Rattle.py_lines.proofs.FieldMachine.StringRuns.{opened_goes, IsInLiteral, in_body, at_quote, literal_goes}
 use Rattle.py_lines.proofs.FieldMachine.FieldRuns.{opens_text, code_goes, colon_starts, colon_opens_none, colon_opens}
 use Rattle.py_lines.proofs.FieldMachine.Nesting.{fields_run, passed_any}
 
