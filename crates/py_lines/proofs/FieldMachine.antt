@@ -10,3 +10,5 @@ pub mod CodeRuns
 pub mod FieldRuns
 pub mod Nesting
 pub mod Completeness
+pub mod OpenStrings
+pub mod OpenLists

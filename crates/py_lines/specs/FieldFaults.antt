@@ -5,7 +5,7 @@ use Rattle.std.specs.Str.{byte, all_scalars}
 use Rattle.py_lines.specs.Character.{is_break}
 use Rattle.py_lines.specs.Piece.{Piece, spelled}
 use Rattle.py_lines.specs.Balance.{is_opening, is_opener, IsBalanced, depth_through}
-use Rattle.py_lines.specs.LogicalLine.{byte_len, line_ends}
+use Rattle.py_lines.specs.LogicalLine.{byte_len}
 use Rattle.py_lines.specs.declared.fault.FaultKind.{FaultKind}
 use Rattle.py_lines.specs.declared.fault.FaultKind.TheVariants.{BadUtf8, BadChar, OpenString, OpenTriple, WrongClose, OpenBracket, BadJoin, TooDeep}
 use Rattle.py_lines.specs.Faults.{ClosesWrong}

@@ -38,7 +38,7 @@ brace_ends : (level : Level) (outer : List Level) (done : List Piece) → code_o
 unfolding code_operator
 brace_ends level outer done = refl
 
-colon_opens : (level : Level) (outer : List Level) (done : List Piece) → code_operator level outer done 58 ≡ Some (field_state (level ∷ outer) [] [] (body level.host specification false between) (level.front ++ (spelled done ++ 58 ∷ [])))
+pub colon_opens : (level : Level) (outer : List Level) (done : List Piece) → code_operator level outer done 58 ≡ Some (field_state (level ∷ outer) [] [] (body level.host specification false between) (level.front ++ (spelled done ++ 58 ∷ [])))
 unfolding code_operator
 colon_opens level outer done = refl
 
@@ -46,7 +46,7 @@ brace_starts : start_of 125 ≡ starts.Operator
 unfolding is_operator
 brace_starts = start-operator 125 refl
 
-colon_starts : start_of 58 ≡ starts.Operator
+pub colon_starts : start_of 58 ≡ starts.Operator
 unfolding is_operator
 colon_starts = start-operator 58 refl
 
@@ -54,7 +54,7 @@ brace_opens_none : is_opening 125 ≡ false
 unfolding is_opening
 brace_opens_none = refl
 
-colon_opens_none : is_opening 58 ≡ false
+pub colon_opens_none : is_opening 58 ≡ false
 unfolding is_opening
 colon_opens_none = refl
 
@@ -91,7 +91,7 @@ module _ (Room : ℕ → Type 0) (outer : List Level) (done : List Piece) (opene
         others,
       )
 
-  opens_text : (place : Place) (at : At) (held code : List ℕ) (c : ℕ) (cs : List ℕ) (t : FieldScanned) → code ≡ c ∷ cs → is_quote host.quote ≡ true → Room depth → (place ≡ literal → begins_double (123 ∷ code) ≡ false) → MayGoOn host place false at (123 ∷ code) → Goes Room (in_field place held) code t → Goes Room (in_string place at held) (123 ∷ code) t
+  pub opens_text : (place : Place) (at : At) (held code : List ℕ) (c : ℕ) (cs : List ℕ) (t : FieldScanned) → code ≡ c ∷ cs → is_quote host.quote ≡ true → Room depth → (place ≡ literal → begins_double (123 ∷ code) ≡ false) → MayGoOn host place false at (123 ∷ code) → Goes Room (in_field place held) code t → Goes Room (in_string place at held) (123 ∷ code) t
   opens_text place at held code c cs t is quotes room single here goes =
       let P : List ℕ → Type 0 = λ x. (place ≡ literal → begins_double (123 ∷ x) ≡ false) → MayGoOn host place false at (123 ∷ x) → Goes Room (in_field place held) x t → Goes Room (in_string place at held) (123 ∷ x) t in
       subst P (sym is) (λ s h g. opens place at held c cs t quotes room s h g) single here goes
@@ -104,7 +104,7 @@ module _ (Room : ℕ → Type 0) (outer : List Level) (done : List Piece) (opene
         (balanced_openers inside is.balanced []) is.colon (stops-fresh (spelled inside ++ e ∷ []))
 
     -- and that character
-    code_goes : (place : Place) (held : List ℕ) (inside : List Piece) (e : ℕ) (t : List Piece → FieldScanned) → AreInside (with_fields G) inside (e ∷ []) → ArePassed Room F (depth + 1) inside → start_of e ≡ starts.Operator → is_opening e ≡ false → ((ps : List Piece) → code_operator (level_at place held) outer ps e ≡ Some (t ps)) → Goes Room (in_field place held) (spelled inside ++ e ∷ []) (t inside)
+    pub code_goes : (place : Place) (held : List ℕ) (inside : List Piece) (e : ℕ) (t : List Piece → FieldScanned) → AreInside (with_fields G) inside (e ∷ []) → ArePassed Room F (depth + 1) inside → start_of e ≡ starts.Operator → is_opening e ≡ false → ((ps : List Piece) → code_operator (level_at place held) outer ps e ≡ Some (t ps)) → Goes Room (in_field place held) (spelled inside ++ e ∷ []) (t inside)
     code_goes place held inside e t is passed starts_as no_bracket ends =
         let found = code_found place held inside e is passed in
         let level : Level = level_at place held in

@@ -74,7 +74,7 @@ pub quote_grows : (host : Host) (place : Place) (named : Bool) (at : At) → hos
 unfolding between_move
 quote_grows host place named at long two = rw (eq-eqb host.quote host.quote refl, long, two)
 
-slash_grows : (host : Host) (place : Place) (named : Bool) (at : At) (s : ℕ) → is_quote host.quote ≡ true → is_backslash s ≡ true → between_move host place named at s ≡ grows (body host place named after_slash)
+pub slash_grows : (host : Host) (place : Place) (named : Bool) (at : At) (s : ℕ) → is_quote host.quote ≡ true → is_backslash s ≡ true → between_move host place named at s ≡ grows (body host place named after_slash)
 unfolding between_move
 slash_grows host place named at s quotes slashes = rw (not_quote s host.quote quotes (slash-not-quote s slashes), slashes)
 
@@ -177,7 +177,7 @@ second_brace : (host : Host) (place : Place) (named : Bool) (held : List ℕ) �
 unfolding field_move body_move
 second_brace host place named held = refl
 
-open_no_quote : is_quote 123 ≡ false
+pub open_no_quote : is_quote 123 ≡ false
 unfolding is_quote
 open_no_quote = refl
 

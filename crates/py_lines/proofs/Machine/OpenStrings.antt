@@ -90,7 +90,7 @@ pub after_backslash : (s : Scanned) (read : List ℕ) → IsSound s read → is_
 after_backslash s read sound is = record { pieces = s.done; rest = s.held; spell = sound.spell; before = refl; fit = fit_held s read sound; inside = slash_held s.mode s.done s.held sound.holds is }
 
 -- a string and a backslash don't begin with a mark
-start-not-mark : (c : ℕ) → is_word_start c ≡ true → is_mark c ≡ false
+pub start-not-mark : (c : ℕ) → is_word_start c ≡ true → is_mark c ≡ false
 unfolding unicode_ident is_word_start is_digit is_mark
 start-not-mark c h = false_from_ne_true _ (λ marks. both_ways _ (none_of is_word_start (65279 ∷ []) c refl marks) h)
 
