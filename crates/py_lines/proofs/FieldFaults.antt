@@ -1,0 +1,2 @@
+-- The faults of texts with fields.
+pub mod EndFaults
