@@ -146,7 +146,7 @@ braces : (outer : List Level) (done : List Piece) (openers : List ℕ) (host : H
 braces outer done openers host place mode held rest (in_part at is on) quotes =
     let P : FieldMode → Type 0 = λ m. (t : FieldScanned) × Goes NoLimit (field_state outer done openers m held) (123 ∷ []) t × IsBraced (level_of done openers host place held ∷ outer) t in
     subst P (sym is) (part_braces outer done openers host place at held rest on quotes)
-braces outer done openers host place mode held rest (at_first is place_is unnamed) quotes =
+braces outer done openers host place mode held rest (at_first is place_is unnamed short) quotes =
     let P : Place → FieldMode → Type 0 = λ p m. (t : FieldScanned) × Goes NoLimit (field_state outer done openers m held) (123 ∷ []) t × IsBraced (level_of done openers host p held ∷ outer) t in
     let run = part_braces outer done openers host literal between held rest (goes_on host literal false (123 ∷ rest)) quotes in
     let first : P literal (opened host) = (run.0, opened_goes NoLimit (field_fresh outer done openers) host held 123 [] run.0 (not_quote 123 host.quote quotes open_no_quote) run.1, run.2) in

@@ -7,7 +7,7 @@ use Rattle.py_lines.specs.FieldStrings.{is_field_prefix, Host, Place, literal, s
 use Rattle.py_lines.specs.Fields.{Fields}
 use Rattle.py_lines.specs.OpenFields.{Spot, literal_after, specification_after, IsOpenString, in_literal, in_specification, IsOpenUpTo}
 use Rattle.py_lines.specs.Faults.{IsUnescaped}
-use Rattle.py_lines.specs.Private.FieldMachine.{At, between, after_slash, FieldMode, opened, body, Level, FieldScanned, field_state, field_fresh, field_pieces, levels_open}
+use Rattle.py_lines.specs.Private.FieldMachine.{At, between, after_slash, FieldMode, opened, body, Level, FieldScanned, field_state, field_fresh, field_pieces, is_after_brace, levels_open}
 use Rattle.py_lines.proofs.Text.CharacterTests.{not_quote, slash-not-quote}
 use Rattle.py_lines.proofs.Machine.OpenStrings.{start-not-mark}
 use Rattle.py_lines.proofs.Fields.Elsewhere.{quotes_begin}
@@ -25,11 +25,11 @@ use Rattle.py_lines.proofs.FieldMachine.Nesting.{fields_run, passed_any}
 -- holds nothing yet.
 pub data IsInString (host : Host) (place : Place) (named : Bool) (mode : FieldMode) (rest : List ℕ) : Type 0 where
   in_part : (at : At) → mode ≡ body host place named at → MayGoOn host place named at rest → IsInString host place named mode rest
-  at_first : mode ≡ opened host → place ≡ literal → named ≡ false → IsInString host place named mode rest
+  at_first : mode ≡ opened host → place ≡ literal → named ≡ false → host.is_long ≡ false → IsInString host place named mode rest
 
 from_literal : (host : Host) (named : Bool) (mode : FieldMode) (text rest : List ℕ) (tail : List (List ℕ)) → IsInLiteral host named mode text rest tail → IsInString host literal named mode rest
 from_literal host named mode text rest tail (in_body at is on open_yet) = in_part at is on
-from_literal host named mode text rest tail (at_quote prefix is spell begun short unnamed) = at_first is refl unnamed
+from_literal host named mode text rest tail (at_quote prefix is spell begun short unnamed) = at_first is refl unnamed short
 
 -- its quote, and its first character
 pub open_quotes : (host : Host) (spot : Spot) (front rest : List ℕ) → IsOpenString host spot front rest → is_quote host.quote ≡ true
@@ -52,7 +52,7 @@ pub open_code : (outer : List Level) (done : List Piece) (openers : List ℕ) (h
 open_code outer done openers host place mode held code after c cs t (in_part at is on) quotes full single goes =
     subst (λ (m : FieldMode). Goes NoLimit (field_state outer done openers m held) (123 ∷ code) t) (sym is)
     (opens_text NoLimit outer done openers host place at held code c cs t full quotes tt single on goes)
-open_code outer done openers host place mode held code after c cs t (at_first is place_is unnamed) quotes full single goes =
+open_code outer done openers host place mode held code after c cs t (at_first is place_is unnamed short) quotes full single goes =
     subst (λ (m : FieldMode). Goes NoLimit (field_state outer done openers m held) (123 ∷ code) t) (sym is)
     (opened_goes NoLimit (field_fresh outer done openers) host held 123 code t (not_quote 123 host.quote quotes open_no_quote)
     (subst (λ p. Goes NoLimit (field_state outer done openers (body host p false between) held) (123 ∷ code) t) place_is
@@ -60,7 +60,8 @@ open_code outer done openers host place mode held code after c cs t (at_first is
 
 -- the mode of a string that is open at this place
 abbrev pub IsHostMode : Host → Place → FieldMode → Type 0
-IsHostMode host place mode = ((named : Bool) × (at : At) × (mode ≡ body host place named at)) ⊎ ((mode ≡ opened host) × (place ≡ literal))
+IsHostMode host place mode =
+    ((named : Bool) × (at : At) × (mode ≡ body host place named at) × (is_after_brace at ≡ false)) ⊎ ((mode ≡ opened host) × (place ≡ literal) × (host.is_long ≡ false))
 
 -- in a specification, the field whose specification it is opened after this text of the string
 abbrev pub HasOpened : Place → List Level → List ℕ → Type 0
@@ -154,9 +155,9 @@ pub record UpToRun (from : FieldScanned) (host : Host) (spot : Spot) (front : Li
   pub start_is : before spot.place outer ++ spelled done ≡ before literal from.outer ++ spelled (field_pieces from)
   pub field_is : HasOpened spot.place outer spot.field
 
-string_mode : (host : Host) (place : Place) (named : Bool) (mode : FieldMode) (rest : List ℕ) → IsInString host place named mode rest → IsHostMode host place mode
-string_mode host place named mode rest (in_part at is on) = inl (named, at, is)
-string_mode host place named mode rest (at_first is place_is unnamed) = inr (is, place_is)
+string_mode : (host : Host) (place : Place) (named : Bool) (mode : FieldMode) → IsInString host place named mode [] → IsHostMode host place mode
+string_mode host place named mode (in_part at is on) = inl (named, at, is, on)
+string_mode host place named mode (at_first is place_is unnamed short) = inr (is, place_is, short)
 
 -- one backslash more
 slash_run : (outer : List Level) (done : List Piece) (openers : List ℕ) (host : Host) (place : Place) (named : Bool) (mode : FieldMode) (held : List ℕ) (s : ℕ) → IsInString host place named mode (s ∷ []) → is_quote host.quote ≡ true → is_backslash s ≡ true → Goes NoLimit (field_state outer done openers mode held) (s ∷ []) (field_state outer done openers (body host place named after_slash) (held ++ s ∷ []))
@@ -164,7 +165,7 @@ slash_run outer done openers host place named mode held s (in_part at is on) quo
     subst (λ (m : FieldMode). Goes NoLimit (field_state outer done openers m held) (s ∷ []) (field_state outer done openers (body host place named after_slash) (held ++ s ∷ []))) (sym is)
     (goes-grows NoLimit (field_state outer done openers (body host place named at) held) _ (body host place named after_slash) s []
     (body_moves host place named at held s [] on ∙ slash_grows host place named (settled at) s quotes slashes) refl)
-slash_run outer done openers host place named mode held s (at_first is place_is unnamed) quotes slashes =
+slash_run outer done openers host place named mode held s (at_first is place_is unnamed short) quotes slashes =
     let to : FieldScanned = field_state outer done openers (body host literal false after_slash) (held ++ s ∷ []) in
     subst (λ (m : FieldMode). Goes NoLimit (field_state outer done openers m held) (s ∷ []) (field_state outer done openers (body host place named after_slash) (held ++ s ∷ []))) (sym is)
     (goes-to NoLimit (field_state outer done openers (opened host) held) to _ (s ∷ [])
@@ -188,7 +189,7 @@ up_to_runs from host spot front is stops = go is.escapes
           openers = run.openers;
           mode = run.mode;
           goes = run.goes;
-          mode_is = string_mode host spot.place spot.named run.mode is.last run.stands;
+          mode_is = string_mode host spot.place spot.named run.mode (subst (IsInString host spot.place spot.named run.mode) none run.stands);
           start_is = run.start_is;
           field_is = run.field_is;
         })
@@ -202,7 +203,7 @@ up_to_runs from host spot front is stops = go is.escapes
           openers = run.openers;
           mode = body host spot.place spot.named after_slash;
           goes = goes-append NoLimit from (field_state run.outer run.done run.openers run.mode is.body) _ is.body (s ∷ []) run.goes slashed;
-          mode_is = inl (spot.named, after_slash, refl);
+          mode_is = inl (spot.named, after_slash, refl, refl);
           start_is = run.start_is;
           field_is = run.field_is;
         })

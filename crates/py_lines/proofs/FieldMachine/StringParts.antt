@@ -6,7 +6,7 @@ use Rattle.py_lines.specs.Character.{is_one_of, is_quote, is_line_feed, is_retur
 use Rattle.py_lines.specs.Piece.{Piece, begins}
 use Rattle.py_lines.specs.PieceGrammar.{joined, begins_triple, has_triple}
 use Rattle.py_lines.specs.FieldStrings.{Host, Place, literal, specification, is_ordinary, may_stand, may_be_escaped, names, begins_open, begins_double, IsPart, bare, slash, escape, escaped_end, name, double, field, named_after, named_through, AreParts}
-use Rattle.py_lines.specs.Private.FieldMachine.{At, between, after_one, after_two, after_slash, after_return, after_name, after_brace, FieldMode, body, grows, Level, FieldScanned, field_state, is_after_two, with_quote, opening_move, ending_move, between_move, is_barred_escape, escape_move, body_move, field_move}
+use Rattle.py_lines.specs.Private.FieldMachine.{At, between, after_one, after_two, after_slash, after_return, after_name, after_brace, FieldMode, body, grows, Level, FieldScanned, field_state, is_after_brace, is_after_two, with_quote, opening_move, ending_move, between_move, is_barred_escape, escape_move, body_move, field_move}
 use Rattle.py_lines.proofs.Text.CharacterTests.{none_of, not_quote, slash-not-quote}
 use Rattle.py_lines.proofs.Fields.Elsewhere.{none_false}
 use Rattle.py_lines.proofs.Fields.Parts.{BeginOpen, ordinary, names_is}
@@ -28,19 +28,23 @@ quotes_seen quote after_one = (quote ∷ []) ∷ []
 quotes_seen quote after_two = (quote ∷ []) ∷ (quote ∷ []) ∷ []
 quotes_seen quote other = []
 
--- a part may begin with this text: what stands before doesn't change its meaning
+-- A part may begin with this text: what stands before doesn't change its meaning. At the text's end no field is about to open.
 abbrev pub MayGoOn : Host → Place → Bool → At → List ℕ → Type 0
-MayGoOn host place named at [] = Unit {0}
+MayGoOn host place named at [] = is_after_brace at ≡ false
 MayGoOn host place named at (c ∷ cs) = body_move host place named at c ≡ between_move host place named (settled at) c
 
 pub goes_on : (host : Host) (place : Place) (named : Bool) (rest : List ℕ) → MayGoOn host place named between rest
 unfolding body_move
-goes_on host place named [] = tt
+goes_on host place named [] = refl
 goes_on host place named (c ∷ cs) = refl
+
+no_brace : (at : At) → is_after_brace (with_quote at) ≡ false
+no_brace after_one = refl
+no_brace at = refl
 
 pub goes_on-quotes : (host : Host) (place : Place) (named : Bool) (at : At) (rest : List ℕ) → MayGoOn host place named (with_quote at) rest
 unfolding body_move
-goes_on-quotes host place named at [] = tt
+goes_on-quotes host place named at [] = no_brace at
 goes_on-quotes host place named between (c ∷ cs) = refl
 goes_on-quotes host place named after_one (c ∷ cs) = refl
 goes_on-quotes host place named after_two (c ∷ cs) = refl
@@ -52,17 +56,17 @@ goes_on-quotes host place named after_brace (c ∷ cs) = refl
 -- after a backslash, before a brace
 goes_on-slash : (host : Host) (place : Place) (named : Bool) (rest : List ℕ) → begins is_brace rest ≡ true → MayGoOn host place named after_slash rest
 unfolding body_move escape_move
-goes_on-slash host place named [] h = tt
+goes_on-slash host place named [] h = refl
 goes_on-slash host place named (c ∷ cs) h = rw h
 
 goes_on-return : (host : Host) (place : Place) (named : Bool) (rest : List ℕ) → begins is_line_feed rest ≡ false → MayGoOn host place named after_return rest
 unfolding body_move
-goes_on-return host place named [] h = tt
+goes_on-return host place named [] h = refl
 goes_on-return host place named (c ∷ cs) h = rw h
 
 goes_on-name : (host : Host) (place : Place) (named : Bool) (rest : List ℕ) → begins_open rest ≡ false → MayGoOn host place named after_name rest
 unfolding body_move
-goes_on-name host place named [] h = tt
+goes_on-name host place named [] h = refl
 goes_on-name host place named (c ∷ cs) h = rw h
 
 pub body_moves : (host : Host) (place : Place) (named : Bool) (at : At) (held : List ℕ) (c : ℕ) (cs : List ℕ) → MayGoOn host place named at (c ∷ cs) → field_move (body host place named at) held c ≡ between_move host place named (settled at) c

@@ -14,7 +14,7 @@ use Rattle.py_lines.specs.declared.mode.Move.{Move}
 use Rattle.py_lines.specs.declared.mode.Move.TheVariants as moves
 use Rattle.py_lines.specs.declared.mode.Start.{Start}
 use Rattle.py_lines.specs.declared.mode.Start.TheVariants as starts
-use Rattle.py_lines.specs.Private.Machine.{class_of, closed, move_of, start_of, is_final}
+use Rattle.py_lines.specs.Private.Machine.{class_of, closed, move_of, start_of, is_final, in_short, in_long, is_after_backslash}
 
 -- How far a string with fields has come: between two parts; after one quote of its own in a long string, or after two; after
 -- a backslash; after a backslash and CR, to which LF may belong; after `\N`, to which `{` belongs; or after a `{` of the literal
@@ -280,6 +280,34 @@ abbrev pub may_end : FieldMode → Bool
 may_end (plain m) = is_final m
 may_end (empty host) = true
 may_end other = false
+
+-- whether a `{` of the literal part stands directly before, which may open a field
+abbrev pub is_after_brace : At → Bool
+is_after_brace after_brace = true
+is_after_brace other = false
+
+-- whether a short string is open, not in a field of its own
+abbrev pub in_open_short : FieldMode → Bool
+in_open_short (plain m) = in_short m
+in_open_short (opened host) = true
+in_open_short (body host literal named at) = not (is_after_brace at) && not host.is_long
+in_open_short other = false
+
+-- whether a long one is
+abbrev pub in_open_long : FieldMode → Bool
+in_open_long (plain m) = in_long m
+in_open_long (body host literal named at) = not (is_after_brace at) && host.is_long
+in_open_long other = false
+
+-- whether a backslash stands directly before, outside strings and comments
+abbrev pub after_open_backslash : FieldMode → Bool
+after_open_backslash (plain m) = is_after_backslash m
+after_open_backslash other = false
+
+-- whether the specification of a field of this string is open
+abbrev pub InSpecificationOf : Host → FieldMode → Type 0
+InSpecificationOf host (body own specification named at) = (own ≡ host) × (is_after_brace at ≡ false)
+InSpecificationOf host other = ⊥
 
 -- the text may end there
 pub record IsFieldFinal (s : FieldScanned) : Type 0 where
