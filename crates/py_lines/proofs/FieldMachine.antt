@@ -12,3 +12,4 @@ pub mod Nesting
 pub mod Completeness
 pub mod OpenStrings
 pub mod OpenLists
+pub mod WhatIsOpen

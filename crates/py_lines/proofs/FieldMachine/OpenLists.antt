@@ -3,7 +3,7 @@ use Rattle.std.proofs.Common.{◌≡◌, ℕ, ◌+◌, true, false, Option, None
 use Rattle.py_lines.specs.Character.{is_mark, is_quote}
 use Rattle.py_lines.specs.Piece.{Piece, begins, spelled}
 use Rattle.py_lines.specs.Balance.{IsBalanced, depth_through}
-use Rattle.py_lines.specs.FieldStrings.{Host, Place, literal, specification}
+use Rattle.py_lines.specs.FieldStrings.{Host, Place, literal, specification, begins_open}
 use Rattle.py_lines.specs.OpenFields.{AreBegun, BeginsList, at_start, in_field}
 use Rattle.py_lines.specs.Private.FieldMachine.{At, between, after_brace, FieldMode, opened, body, opens_field, Level, FieldScanned, field_state, field_fresh, field_text_start, field_closed, field_pieces, field_move, field_moved, frames, openers_by, openers_through, levels_open}
 use Rattle.py_lines.proofs.Text.CharacterTests.{not_quote}
@@ -79,14 +79,30 @@ IsBraced (l ∷ ls) t =
     ((l.place ≡ literal) × (t ≡ field_state ls l.done l.openers (body l.host literal false after_brace) l.front))
     ⊎ ((l.place ≡ specification) × (t ≡ field_fresh (l ∷ ls) [] []))
 
--- The machine goes from the text's start to the list: what goes through the rest from the list's start goes through all. Where
--- there is no rest, it stands directly after the `{`.
+-- two texts that begin with the same character
+pub record BeginAlike (one two : List ℕ) : Type 0 where
+  pub first : ℕ
+  pub others : List ℕ
+  pub more : List ℕ
+  pub one_is : one ≡ first ∷ others
+  pub two_is : two ≡ first ∷ more
+
+pub alike : (c : ℕ) (xs ys : List ℕ) → BeginAlike (c ∷ xs) (c ∷ ys)
+alike c xs ys = record { first = c; others = xs; more = ys; one_is = refl; two_is = refl }
+
+-- so do texts that go on with them
+pub alike_after : (xs one two : List ℕ) → BeginAlike one two → BeginAlike (xs ++ one) (xs ++ two)
+alike_after [] one two h = h
+alike_after (x ∷ xs) one two h = alike x (xs ++ one) (xs ++ two)
+
+-- The machine goes from the text's start to the list: what goes from the list's start through a text that begins as the rest goes
+-- through all. Where the list begins, it stands directly after the `{`.
 pub record ListRun (outside rest : List ℕ) (depth : ℕ) : Type 0 where
   pub outer : List Level
   pub deep : levels_open outer ≡ depth
   pub start_is : before literal outer ≡ outside
-  pub goes : (t : FieldScanned) (c : ℕ) (cs : List ℕ) → rest ≡ c ∷ cs → Goes NoLimit (list_start outer) rest t → Goes NoLimit field_text_start (outside ++ rest) t
-  pub ends : rest ≡ [] → (t : FieldScanned) × Goes NoLimit field_text_start outside t × IsBraced outer t
+  pub goes : (t : FieldScanned) (text : List ℕ) → BeginAlike rest text → Goes NoLimit (list_start outer) text t → Goes NoLimit field_text_start (outside ++ text) t
+  pub begins_at : (t : FieldScanned) × Goes NoLimit field_text_start outside t × IsBraced outer t
 
 -- from the text's start to what is open after the first pieces of a list
 pub record AfterPieces (outside : List ℕ) (depth : ℕ) (pieces : List Piece) (front : List ℕ) : Type 0 where
@@ -97,7 +113,7 @@ pub record AfterPieces (outside : List ℕ) (depth : ℕ) (pieces : List Piece) 
   pub outer_is : levels_open from.outer ≡ depth
   pub start_is : before literal from.outer ≡ outside
   pub pieces_are : field_pieces from ≡ pieces
-  pub goes : (t : FieldScanned) (c : ℕ) (cs : List ℕ) → front ≡ c ∷ cs → Goes NoLimit from front t → Goes NoLimit field_text_start (outside ++ (spelled pieces ++ front)) t
+  pub goes : (t : FieldScanned) (text : List ℕ) → BeginAlike front text → Goes NoLimit from text t → Goes NoLimit field_text_start (outside ++ (spelled pieces ++ text)) t
 
 pub after_pieces : (outside : List ℕ) (depth : ℕ) (pieces : List Piece) (front : List ℕ) → ListRun outside (spelled pieces ++ front) depth → AreBegun depth pieces front → MayBegin pieces front → AfterPieces outside depth pieces front
 after_pieces outside depth pieces front list begun may =
@@ -114,14 +130,9 @@ after_pieces outside depth pieces front list begun may =
       outer_is = list.deep;
       start_is = list.start_is;
       pieces_are = run.pieces_are;
-      goes = λ t c cs is goes.
-          let full = some_front (spelled pieces) front c cs is in
-          list.goes t full.0 full.1 full.2 (goes-append NoLimit (list_start list.outer) from t (spelled pieces) front run.goes goes);
+      goes = λ t text alike_so goes.
+          list.goes t (spelled pieces ++ text) (alike_after (spelled pieces) front text alike_so) (goes-append NoLimit (list_start list.outer) from t (spelled pieces) text run.goes goes);
     }
-  where
-    some_front : (xs ys : List ℕ) (c : ℕ) (cs : List ℕ) → ys ≡ c ∷ cs → (d : ℕ) × (ds : List ℕ) × (xs ++ ys ≡ d ∷ ds)
-    some_front [] ys c cs is = (c, cs, is)
-    some_front (x ∷ xs) ys c cs is = (x, xs ++ ys, refl)
 
 -- the start of a string is no mark
 pub string_begins : (pieces : List Piece) (front : List ℕ) → begins is_mark front ≡ false → MayBegin pieces front
@@ -129,7 +140,7 @@ string_begins [] front h = h
 string_begins (p ∷ ps) front h = tt
 
 -- the `{` of a field, where the text ends
-abbrev level_of : List Piece → List ℕ → Host → Place → List ℕ → Level
+abbrev pub level_of : List Piece → List ℕ → Host → Place → List ℕ → Level
 level_of done openers host place held = record { done = done; openers = openers; host = host; place = place; front = held ++ 123 ∷ [] }
 
 part_braces : (outer : List Level) (done : List Piece) (openers : List ℕ) (host : Host) (place : Place) (at : At) (held rest : List ℕ) → MayGoOn host place false at (123 ∷ rest) → is_quote host.quote ≡ true → (t : FieldScanned) × Goes NoLimit (field_state outer done openers (body host place false at) held) (123 ∷ []) t × IsBraced (level_of done openers host place held ∷ outer) t
@@ -142,7 +153,7 @@ part_braces outer done openers host specification at held rest on quotes =
     let move : field_move (body host specification false at) held 123 ≡ opens_field host = body_moves host specification false at held 123 [] on ∙ open_moves host specification (settled at) quotes in
     (t, (t, ap (field_moved s 123) move, subst (HasRoomFor NoLimit (frames s) 123) (sym move) tt, refl), inr (refl, refl))
 
-braces : (outer : List Level) (done : List Piece) (openers : List ℕ) (host : Host) (place : Place) (mode : FieldMode) (held rest : List ℕ) → IsInString host place false mode (123 ∷ rest) → is_quote host.quote ≡ true → (t : FieldScanned) × Goes NoLimit (field_state outer done openers mode held) (123 ∷ []) t × IsBraced (level_of done openers host place held ∷ outer) t
+pub braces : (outer : List Level) (done : List Piece) (openers : List ℕ) (host : Host) (place : Place) (mode : FieldMode) (held rest : List ℕ) → IsInString host place false mode (123 ∷ rest) → is_quote host.quote ≡ true → (t : FieldScanned) × Goes NoLimit (field_state outer done openers mode held) (123 ∷ []) t × IsBraced (level_of done openers host place held ∷ outer) t
 braces outer done openers host place mode held rest (in_part at is on) quotes =
     let P : FieldMode → Type 0 = λ m. (t : FieldScanned) × Goes NoLimit (field_state outer done openers m held) (123 ∷ []) t × IsBraced (level_of done openers host place held ∷ outer) t in
     subst P (sym is) (part_braces outer done openers host place at held rest on quotes)
@@ -157,12 +168,12 @@ list_runs outside rest depth (at_start _ _ _ none zero) = record {
   outer = [];
   deep = sym zero;
   start_is = sym none;
-  goes = λ t c cs is goes. subst (λ x. Goes NoLimit field_text_start (x ++ rest) t) (sym none) goes;
-  ends = λ is. (field_text_start, sym_goes none, refl);
+  goes = λ t text alike_so goes. subst (λ x. Goes NoLimit field_text_start (x ++ text) t) (sym none) goes;
+  begins_at = (field_text_start, at_once none, refl);
 }
   where
-    sym_goes : outside ≡ [] → Goes NoLimit field_text_start outside field_text_start
-    sym_goes h = subst (λ x. Goes NoLimit field_text_start x field_text_start) (sym h) refl
+    at_once : outside ≡ [] → Goes NoLimit field_text_start outside field_text_start
+    at_once h = subst (λ x. Goes NoLimit field_text_start x field_text_start) (sym h) refl
 list_runs all rest depth (in_field _ _ _ outside base pieces front host spot spell list begun string may deep) =
     let later : List ℕ = front ++ 123 ∷ rest in
     let pieces_at = after_pieces outside base pieces later (list_runs outside (spelled pieces ++ later) base list) begun (string_begins pieces later (open_unmarked host spot front (123 ∷ rest) (123 ∷ rest) string)) in
@@ -171,24 +182,31 @@ list_runs all rest depth (in_field _ _ _ outside base pieces front host spot spe
     let stands = subst (λ n. IsInString host spot.place n run.mode (123 ∷ rest)) may.unnamed run.stands in
     let level : Level = level_of run.done run.openers host spot.place front in
     let s : FieldScanned = field_state run.outer run.done run.openers run.mode front in
-    let full = some_head front 123 rest in
-    let whole : (r : List ℕ) → outside ++ (spelled pieces ++ (front ++ 123 ∷ r)) ≡ all ++ r = λ r.
-    ap (λ t. outside ++ (spelled pieces ++ t)) (sym (append_assoc front (123 ∷ []) r)) ∙ ap (λ t. outside ++ t) (sym (append_assoc (spelled pieces) (front ++ 123 ∷ []) r))
-    ∙ sym (append_assoc outside (spelled pieces ++ (front ++ 123 ∷ [])) r) ∙ ap (λ t. t ++ r) (sym spell) in
+    let braced = braces run.outer run.done run.openers host spot.place run.mode front rest stands quotes in
+    let whole : (r : List ℕ) → outside ++ (spelled pieces ++ (front ++ 123 ∷ r)) ≡ all ++ r = λ r. whole_text all outside (spelled pieces) front r spell in
     record {
       outer = level ∷ run.outer;
       deep =
           let own = run.depth_is in
           let up = pieces_at.deep in
           omega (arith, own, up, deep);
-      start_is = sym (append_assoc (before spot.place run.outer) (spelled run.done) (front ++ 123 ∷ [])) ∙ ap (λ t. t ++ (front ++ 123 ∷ [])) (run.start_is ∙ ap (λ t. t ++ spelled (field_pieces pieces_at.from)) pieces_at.start_is ∙ ap (λ p. outside ++ spelled p) pieces_at.pieces_are)
+      start_is = sym (append_assoc (before spot.place run.outer) (spelled run.done) (front ++ 123 ∷ []))
+          ∙ ap (λ t. t ++ (front ++ 123 ∷ [])) (run.start_is ∙ ap (λ t. t ++ spelled (field_pieces pieces_at.from)) pieces_at.start_is ∙ ap (λ p. outside ++ spelled p) pieces_at.pieces_are)
           ∙ append_assoc outside (spelled pieces) (front ++ 123 ∷ []) ∙ sym spell;
-      goes = λ t c cs is goes.
-          let code = open_code run.outer run.done run.openers host spot.place run.mode front rest rest c cs t stands quotes is may.single goes in
-          subst (λ x. Goes NoLimit field_text_start x t) (whole rest) (pieces_at.goes t full.0 full.1 full.2 (goes-append NoLimit pieces_at.from s t front (123 ∷ rest) run.goes code));
-      ends = λ is.
-          let braced = braces run.outer run.done run.openers host spot.place run.mode front rest stands quotes in
-          let whole_run = goes-append NoLimit pieces_at.from s braced.0 front (123 ∷ []) run.goes braced.1 in
-          let at_rest = pieces_at.goes braced.0 full.0 full.1 full.2 (subst (λ r. Goes NoLimit pieces_at.from (front ++ 123 ∷ r) braced.0) (sym is) whole_run) in
-          (braced.0, subst (λ x. Goes NoLimit field_text_start x braced.0) (whole rest ∙ ap (λ r. all ++ r) is ∙ append-nil all) at_rest, braced.2);
+      goes = λ t text alike_so goes.
+          let single : spot.place ≡ literal → begins_open text ≡ false = λ at. ap begins_open alike_so.two_is ∙ sym (ap begins_open alike_so.one_is) ∙ may.single at in
+          let code = open_code run.outer run.done run.openers host spot.place run.mode front text rest alike_so.first alike_so.more t stands quotes alike_so.two_is single goes in
+          subst (λ x. Goes NoLimit field_text_start x t) (whole text)
+          (pieces_at.goes t (front ++ 123 ∷ text) (alike_after front (123 ∷ rest) (123 ∷ text) (alike 123 rest text)) (goes-append NoLimit pieces_at.from s t front (123 ∷ text) run.goes code));
+      begins_at = (
+        braced.0,
+        subst (λ x. Goes NoLimit field_text_start x braced.0) (whole [] ∙ append-nil all)
+            (pieces_at.goes braced.0 (front ++ 123 ∷ []) (alike_after front (123 ∷ rest) (123 ∷ []) (alike 123 rest [])) (goes-append NoLimit pieces_at.from s braced.0 front (123 ∷ []) run.goes braced.1)),
+        braced.2,
+      );
     }
+  where
+    whole_text : (all outside code front r : List ℕ) → all ≡ outside ++ (code ++ (front ++ 123 ∷ [])) → outside ++ (code ++ (front ++ 123 ∷ r)) ≡ all ++ r
+    whole_text all outside code front r spell =
+        ap (λ t. outside ++ (code ++ t)) (sym (append_assoc front (123 ∷ []) r)) ∙ ap (λ t. outside ++ t) (sym (append_assoc code (front ++ 123 ∷ []) r))
+        ∙ sym (append_assoc outside (code ++ (front ++ 123 ∷ [])) r) ∙ ap (λ t. t ++ r) (sym spell)

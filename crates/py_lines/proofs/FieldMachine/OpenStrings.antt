@@ -47,6 +47,14 @@ open_unmarked host spot front rest more (in_literal _ _ _ prefix parts is spell 
 open_unmarked host spot front rest more (in_specification _ round _ _ opening inside parts is spell string may are_inside each open_yet) =
     subst (λ t. begins is_mark (t ++ more) ≡ false) (sym spell) (subst (λ t. begins is_mark t ≡ false) (sym (append_assoc opening _ more)) (open_unmarked host round opening _ _ string))
 
+pub open_begins : (host : Host) (spot : Spot) (front rest more : List ℕ) → IsOpenString host spot front rest → (c : ℕ) × (cs : List ℕ) × (front ++ more ≡ c ∷ cs)
+open_begins host spot front rest more (in_literal _ _ _ prefix parts is spell begun raw quotes each open_yet) =
+    let letters = field_letters prefix begun in
+    (letters.first, _, ap (λ t. t ++ more) (spell ∙ ap (λ t. t ++ (quotes_of host ++ joined parts)) letters.is))
+open_begins host spot front rest more (in_specification _ round _ _ opening inside parts is spell string may are_inside each open_yet) =
+    let inner = open_begins host round opening _ ((123 ∷ spelled inside ++ (58 ∷ joined parts)) ++ more) string in
+    (inner.0, inner.1, ap (λ t. t ++ more) spell ∙ append_assoc opening (123 ∷ spelled inside ++ (58 ∷ joined parts)) more ∙ inner.2)
+
 -- the `{` of a field, and its code
 pub open_code : (outer : List Level) (done : List Piece) (openers : List ℕ) (host : Host) (place : Place) (mode : FieldMode) (held code after : List ℕ) (c : ℕ) (cs : List ℕ) (t : FieldScanned) → IsInString host place false mode (123 ∷ after) → is_quote host.quote ≡ true → code ≡ c ∷ cs → (place ≡ literal → begins_open code ≡ false) → Goes NoLimit (field_fresh (record { done = done; openers = openers; host = host; place = place; front = held ++ 123 ∷ [] } ∷ outer) [] []) code t → Goes NoLimit (field_state outer done openers mode held) (123 ∷ code) t
 open_code outer done openers host place mode held code after c cs t (in_part at is on) quotes full single goes =

@@ -251,29 +251,32 @@ module _ (Room : ℕ → Type 0) where
       goes-append Room from (lift begun_at) (lift named_at) (a ∷ []) bs (one_begun from a bs (bs ++ after) start first stops (start-word a starts_so) quiet)
       (follows Room from.outer from.openers bs begun_at named_at quiet (steps_word done (first_spelling a) (a ∷ []) bs run) (omega arith))
 
+  -- a prefix without `f` and `t`, and the quote after it
+  pub plain_opens : (from : FieldScanned) (prefix : List ℕ) (q : ℕ) (after : List ℕ) → IsPrefix prefix → is_field_prefix prefix ≡ false → is_quote q ≡ true → StopsAt from.mode from.held (prefix ++ q ∷ after) → Goes Room from (prefix ++ q ∷ []) (lifted from.outer from.openers (scanned (field_pieces from) (modes.Opened q) (prefix ++ q ∷ [])))
+  plain_opens from [] q after is no_field quotes stops =
+      one_begun from q [] after (starts.Open (modes.Opened q)) (record { state = scanned (field_pieces from) (modes.Opened q) (q ∷ []); plain_is = refl; field_is = refl; quiet = inl refl }) stops (start-quote q quotes) (inl refl)
+  plain_opens from (a ∷ bs) q after (inl none) no_field quotes stops = absurd (cc)
+  plain_opens from (a ∷ bs) q after (inr is) no_field quotes stops =
+      let done = field_pieces from in
+      let letters = prefix_word a bs is in
+      let named_at : Scanned = scanned done (modes.Word (spelling_on (first_spelling a) bs)) (a ∷ bs) in
+      let quote_moves : field_move (plain named_at.mode) (a ∷ bs) q ≡ grows (plain (modes.Opened q)) =
+      plain_moves named_at.mode (a ∷ bs) q (ap (λ b. b && is_quote q) no_field) ∙ ap plain_move (opens_at (spelling_on (first_spelling a) bs) q (sym (prefix_spelling a bs) ∙ is) quotes) in
+      let lift : Scanned → FieldScanned = lifted from.outer from.openers in
+      goes-append Room from (lift named_at) (lift (scanned done (modes.Opened q) ((a ∷ bs) ++ q ∷ []))) (a ∷ bs) (q ∷ []) (word_goes from a bs (q ∷ after) letters.0 letters.1 stops)
+      (goes-grows Room (lift named_at) (lift (scanned done (modes.Opened q) ((a ∷ bs) ++ q ∷ []))) (plain (modes.Opened q)) q [] quote_moves refl)
+
   -- a string without fields
   pub string_found : (F : Host → List ℕ → Type 0) (from : FieldScanned) (text prefix : List ℕ) (q : ℕ) (body rest : List ℕ) → text ≡ prefix ++ q ∷ body → IsPrefix prefix → is_field_prefix prefix ≡ false → is_quote q ≡ true → InClass string text → MayPrecedeIn (with_fields F) string text rest → StopsAt from.mode from.held (text ++ rest) → FieldFinds Room from text (piece string text ∷ []) from.openers rest
-  string_found F from text [] q body rest is begins_so no_field quotes is_string before stops =
-      piece_found from string text rest (record { first = q; others = body; is = is; start = _; starts = start-quote q quotes; quiet = inl refl })
-      (find (fresh (field_pieces from)) string text rest refl is_string (plain_before F string text rest before) (stops-free (text ++ rest)))
-      stops (ends_no_prefix F string text rest before)
-  string_found F from text (a ∷ bs) q body rest is (inl none) no_field quotes is_string before stops = absurd (cc)
-  string_found F from text (a ∷ bs) q body rest is (inr is_prefix_so) no_field quotes is_string before stops =
+  string_found F from text prefix q body rest is begins_so no_field quotes is_string before stops =
       let done = field_pieces from in
-      let letters = prefix_word a bs is_prefix_so in
-      let named_at : Scanned = scanned done (modes.Word (spelling_on (first_spelling a) bs)) (a ∷ bs) in
-      let opened_at : Scanned = scanned done (modes.Opened q) ((a ∷ bs) ++ q ∷ []) in
+      let opened_at : Scanned = scanned done (modes.Opened q) (prefix ++ q ∷ []) in
       let old = find (fresh done) string text rest refl is_string (plain_before F string text rest before) (stops-free (text ++ rest)) in
-      let at_word : StopsAt from.mode from.held (a ∷ bs ++ (q ∷ body) ++ rest) =
-      subst (StopsAt from.mode from.held) (append_assoc (a ∷ bs) (q ∷ body) rest) (subst (λ t. StopsAt from.mode from.held (t ++ rest)) is stops) in
-      let quote_moves : field_move (plain named_at.mode) (a ∷ bs) q ≡ grows (plain (modes.Opened q)) =
-      plain_moves named_at.mode (a ∷ bs) q (ap (λ b. b && is_quote q) no_field) ∙ ap plain_move (opens_at (spelling_on (first_spelling a) bs) q (sym (prefix_spelling a bs) ∙ is_prefix_so) quotes) in
-      let lift : Scanned → FieldScanned = lifted from.outer from.openers in
-      let goes = goes-append Room from (lift named_at) (lift opened_at) (a ∷ bs) (q ∷ []) (word_goes from a bs ((q ∷ body) ++ rest) letters.0 letters.1 at_word)
-      (goes-grows Room (lift named_at) (lift opened_at) (plain (modes.Opened q)) q [] quote_moves refl) in
-      rest_found from string text ((a ∷ bs) ++ q ∷ []) body rest opened_at (append_assoc (a ∷ bs) (q ∷ []) body ∙ sym is) old
-      (sym (opened_steps (fresh done) (a ∷ bs) q body (inr is_prefix_so) quotes (stops-free ((a ∷ bs) ++ q ∷ body))) ∙ ap (steps_from (Some (fresh done))) (sym is) ∙ old.steps)
-      (omega arith) (inl refl) goes (ends_no_prefix F string text rest before)
+      let at_quote : StopsAt from.mode from.held (prefix ++ q ∷ (body ++ rest)) =
+      subst (StopsAt from.mode from.held) (append_assoc prefix (q ∷ body) rest) (subst (λ t. StopsAt from.mode from.held (t ++ rest)) is stops) in
+      rest_found from string text (prefix ++ q ∷ []) body rest opened_at (append_assoc prefix (q ∷ []) body ∙ sym is) old
+      (sym (opened_steps (fresh done) prefix q body begins_so quotes (stops-free (prefix ++ q ∷ body))) ∙ ap (steps_from (Some (fresh done))) (sym is) ∙ old.steps)
+      (omega arith) (inl refl) (plain_opens from prefix q (body ++ rest) begins_so no_field quotes at_quote) (ends_no_prefix F string text rest before)
 
   -- an operator in its list
   pub operator_found : (from : FieldScanned) (c : ℕ) (after rest : List ℕ) → is_operator c ≡ true → openers_with from.openers c ≡ Some after → IsNoColon from.outer from.openers c → (is_opening c ≡ true → Room (frames from)) → StopsAt from.mode from.held (c ∷ rest) → FieldFinds Room from (c ∷ []) (piece operator (c ∷ []) ∷ []) after rest

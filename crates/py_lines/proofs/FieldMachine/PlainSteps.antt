@@ -39,7 +39,7 @@ size_is modes.Start done held = omega arith
 size_is modes.Free done held = omega arith
 size_is m done held = length-append done _
 
-one_at_most : (m : Mode) → one_open m ≤ 1
+pub one_at_most : (m : Mode) → one_open m ≤ 1
 one_at_most modes.Start = omega arith
 one_at_most modes.Free = omega arith
 one_at_most m = omega arith

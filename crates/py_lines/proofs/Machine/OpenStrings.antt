@@ -141,10 +141,10 @@ is_long_mode q Seen.one = refl
 is_long_mode q Seen.two = refl
 
 -- a run into a short string
-record ShortEnd (done : List Piece) (from : Mode) (held body : List ℕ) : Type 0 where
-  to : Mode
-  short : in_short to ≡ true
-  steps : steps_from (Some (scanned done from held)) body ≡ Some (scanned done to (held ++ body))
+pub record ShortEnd (done : List Piece) (from : Mode) (held body : List ℕ) : Type 0 where
+  pub to : Mode
+  pub short : in_short to ≡ true
+  pub steps : steps_from (Some (scanned done from held)) body ≡ Some (scanned done to (held ++ body))
 
 short_last : (done : List Piece) (q : ℕ) (m : Mode) (held last : List ℕ) → IsShortMode q m → is_quote q ≡ true → IsUnescaped last → ShortEnd done m held last
 short_last done q m held last short quotes (inl empty) =
@@ -152,7 +152,7 @@ short_last done q m held last short quotes (inl empty) =
 short_last done q m held last short quotes (inr (slash, is, slashes)) =
     subst (ShortEnd done m held) (sym is) (record { to = modes.Escape q; short = refl; steps = grown done m (modes.Escape q) held slash [] (short_escapes q slash m short quotes slashes) })
 
-short_end : (done : List Piece) (q : ℕ) (held : List ℕ) (items : List (List ℕ)) (last : List ℕ) → is_quote q ≡ true → list_all (is_short_item q) items ≡ true → IsUnescaped last → ShortEnd done (modes.Opened q) held (joined items ++ last)
+pub short_end : (done : List Piece) (q : ℕ) (held : List ℕ) (items : List (List ℕ)) (last : List ℕ) → is_quote q ≡ true → list_all (is_short_item q) items ≡ true → IsUnescaped last → ShortEnd done (modes.Opened q) held (joined items ++ last)
 short_end done q held [] last quotes each escapes = short_last done q (modes.Opened q) held last (inl refl) quotes escapes
 short_end done q held (i ∷ is) last quotes each escapes =
     let body = short_body done q held i is quotes each in
@@ -177,10 +177,10 @@ stands_in_short characters start short =
     (ap (steps_from (Some reached.to)) rest.spell ∙ opened_steps reached.to rest.prefix rest.quote body rest.begun rest.opens stops ∙ inner.steps)
 
 -- a run into a long string
-record LongEnd (done : List Piece) (from : Mode) (held body : List ℕ) : Type 0 where
-  to : Mode
-  long : in_long to ≡ true
-  steps : steps_from (Some (scanned done from held)) body ≡ Some (scanned done to (held ++ body))
+pub record LongEnd (done : List Piece) (from : Mode) (held body : List ℕ) : Type 0 where
+  pub to : Mode
+  pub long : in_long to ≡ true
+  pub steps : steps_from (Some (scanned done from held)) body ≡ Some (scanned done to (held ++ body))
 
 long_last : (done : List Piece) (q : ℕ) (seen : Seen) (held last : List ℕ) → is_quote q ≡ true → IsUnescaped last → LongEnd done (mode_at q seen) held last
 long_last done q seen held last quotes (inl empty) =
@@ -188,7 +188,7 @@ long_last done q seen held last quotes (inl empty) =
 long_last done q seen held last quotes (inr (slash, is, slashes)) =
     subst (LongEnd done (mode_at q seen) held) (sym is) (record { to = modes.LongEscape q; long = refl; steps = grown done (mode_at q seen) (modes.LongEscape q) held slash [] (long_escapes q slash seen quotes slashes) })
 
-long_end : (done : List Piece) (q : ℕ) (held : List ℕ) (items : List (List ℕ)) (last : List ℕ) → is_quote q ≡ true → list_all is_item items ≡ true → has_triple q items ≡ false → IsUnescaped last → LongEnd done (modes.Long q) held (joined items ++ last)
+pub long_end : (done : List Piece) (q : ℕ) (held : List ℕ) (items : List (List ℕ)) (last : List ℕ) → is_quote q ≡ true → list_all is_item items ≡ true → has_triple q items ≡ false → IsUnescaped last → LongEnd done (modes.Long q) held (joined items ++ last)
 long_end done q held items last quotes each triple escapes =
     let later = long_last done q (seen_after q Seen.none items) (held ++ joined items) last quotes escapes in
     record {
