@@ -66,6 +66,7 @@ pub mod Machine
 pub mod FieldMachine
 pub mod FieldSoundness
 pub mod FieldFaults
+pub mod FieldLexings
 pub mod Faults
 pub mod LogicalLines
 pub mod Lexings

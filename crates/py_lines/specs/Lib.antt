@@ -16,6 +16,7 @@ pub mod FieldFaults
 pub mod Neighbours
 pub mod Words
 pub mod Settled
+pub mod FieldLexed
 pub mod Given
 pub mod ScannerState
 pub mod Reader

@@ -182,7 +182,7 @@ bracket_back characters start s is steps =
     let text = opener_text is.opener is.opens in
     let head = some_head (spelled is.outer) text.0 (text.1 ++ spelled is.inner) in
     let full : spelled pieces ≡ head.0 ∷ head.1 = spelled-append is.outer (is.opener ∷ is.inner) ∙ ap (λ x. spelled is.outer ++ (x ++ spelled is.inner)) text.2 ∙ head.2 in
-    let goes : Goes NoLimit field_text_start characters t = subst (λ x. Goes NoLimit field_text_start x t) is.spell (list.goes t head.0 head.1 full run.goes) in
+    let goes : Goes NoLimit field_text_start characters t = subst (λ x. Goes NoLimit field_text_start x t) is.spell (list.goes t (spelled pieces) (record { first = head.0; others = head.1; more = head.1; one_is = full; two_is = full }) run.goes) in
     let same : t ≡ s = same_state characters t s (steps_of NoLimit field_text_start t characters goes) steps in
     let some = some_after is.outer is.inner is.opener run.after is.opens is.balanced run.opens in
     let here : (unfinished_at t ≡ Some open_bracket) × IsPlaced open_bracket t characters (byte_len start) = (

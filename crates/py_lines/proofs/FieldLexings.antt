@@ -1,0 +1,2 @@
+-- The logical lines of texts with fields.
+pub mod Prefixes
