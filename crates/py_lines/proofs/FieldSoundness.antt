@@ -12,3 +12,5 @@ pub mod ListEnds
 pub mod WholeTexts
 pub mod OpenTexts
 pub mod OpenEnds
+pub mod Closing
+pub mod LiveTexts

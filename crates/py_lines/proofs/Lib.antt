@@ -65,6 +65,7 @@ pub mod OpenFields
 pub mod Machine
 pub mod FieldMachine
 pub mod FieldSoundness
+pub mod FieldFaults
 pub mod Faults
 pub mod LogicalLines
 pub mod Lexings

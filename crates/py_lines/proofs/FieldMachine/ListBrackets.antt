@@ -33,7 +33,7 @@ no_character : (os : List ℕ) → openers_with os 0 ≡ Some os
 unfolding is_opening is_closing
 no_character os = others_keep os 0 refl refl
 
-opener_pushes : (os : List ℕ) (class : Class) (text : List ℕ) → is_operator_that is_opening class text ≡ true → openers_by os class text ≡ Some (first_or_zero text ∷ os)
+pub opener_pushes : (os : List ℕ) (class : Class) (text : List ℕ) → is_operator_that is_opening class text ≡ true → openers_by os class text ≡ Some (first_or_zero text ∷ os)
 opener_pushes os operator [] h = absurd (both_ways _ refl h)
 opener_pushes os operator (c ∷ cs) h = opening_pushes os c h
 opener_pushes os other text h = absurd (both_ways _ refl h)

@@ -21,9 +21,9 @@ use Rattle.py_lines.proofs.FieldSoundness.Holds.{Limit, place_of, before, HoldsP
 use Rattle.py_lines.proofs.FieldSoundness.Bodies.{parts-push, named-push, return-not-brace, letter-not-brace, names_letter, one_quote, two_quotes}
 use Rattle.py_lines.proofs.FieldSoundness.HostSteps.{no_parts, short_opens}
 use Rattle.py_lines.proofs.FieldSoundness.ListEnds.{code_at_end, list_ends}
-use Rattle.py_lines.proofs.FieldSoundness.OpenTexts.{closers_of, opens-close, are_begun, begins_in, PartsAt, parts_at, stands_open, list_begins}
+use Rattle.py_lines.proofs.FieldSoundness.OpenTexts.{begun_before, are_begun, begins_in, PartsAt, parts_at, stands_open, list_begins}
 
-stands_map : (A B : List ℕ → Type 0) (characters start : List ℕ) → ((front : List ℕ) → A front → B front) → StandsIn A characters start → StandsIn B characters start
+pub stands_map : (A B : List ℕ → Type 0) (characters start : List ℕ) → ((front : List ℕ) → A front → B front) → StandsIn A characters start → StandsIn B characters start
 stands_map A B characters start f at = record {
   outside = at.outside;
   depth = at.depth;
@@ -207,7 +207,7 @@ code_is_open limit l ls done m held read sound may =
         pieces = pieces;
         list = subst (λ t. BeginsList (start ++ 123 ∷ []) t (levels_open (l ∷ ls))) (append-nil (spelled done ++ held) ∙ sym ends.spell)
             (subst (λ t. BeginsList t ((spelled done ++ held) ++ []) (levels_open (l ∷ ls))) brace (list_begins limit (l ∷ ls) (spelled done ++ held) [] levels));
-        begun = record { fit = ends.fit; others = closers_of []; balanced = opens-close [] pieces ends.opens; inside = λ deep. ends.in_field l ls refl };
+        begun = begun_before (l ∷ ls) pieces [] [] ends.fit ends.opens ends.in_field;
         deep = omega arith;
         balanced = balanced_at [] pieces refl ends.opens;
         spell = sym (append_assoc start (123 ∷ []) (spelled pieces))

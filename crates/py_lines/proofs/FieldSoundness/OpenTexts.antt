@@ -4,10 +4,10 @@ use Rattle.std.specs.Str.{byte}
 use Rattle.std.proofs.lemmas.Bool.{eq-eqb}
 use Rattle.py_lines.specs.Character.{is_quote}
 use Rattle.py_lines.specs.Piece.{operator, Piece, begins_marked, spelled}
-use Rattle.py_lines.specs.PieceGrammar.{joined, has_triple}
+use Rattle.py_lines.specs.PieceGrammar.{joined, has_triple, AreReadIn}
 use Rattle.py_lines.specs.Balance.{closing_of, IsBalanced, depth_through}
 use Rattle.py_lines.specs.FieldStrings.{Host, Place, literal, specification, begins_open, named_through, AreParts}
-use Rattle.py_lines.specs.Fields.{HasNoColon, Fields}
+use Rattle.py_lines.specs.Fields.{HasNoColon, Fields, fielded}
 use Rattle.py_lines.specs.OpenFields.{Spot, literal_after, specification_after, IsOpenString, in_literal, in_specification, AreBegun, BeginsList, at_start, in_field}
 use Rattle.py_lines.specs.Private.FieldMachine.{Level, levels_open}
 use Rattle.py_lines.proofs.Pieces.PieceLists.{piece}
@@ -18,24 +18,27 @@ use Rattle.py_lines.proofs.FieldSoundness.Holds.{Limit, before, OpensPlace, Hold
 use Rattle.py_lines.proofs.FieldSoundness.Code.{single_at}
 
 -- brackets that are open can be closed
-pub closers_of : List ℕ → List Piece
+closers_of : List ℕ → List Piece
 closers_of [] = []
 closers_of (o ∷ os) = piece operator (closing_of o ∷ []) ∷ closers_of os
 
-pub opens-close : (os : List ℕ) (ps : List Piece) → Opens os ps → IsBalanced (ps ++ closers_of os)
+opens-close : (os : List ℕ) (ps : List Piece) → Opens os ps → IsBalanced (ps ++ closers_of os)
 unfolding closers_of
 opens-close [] ps opens = subst IsBalanced (sym (append-nil ps)) (balanced_at [] ps refl opens)
 opens-close (o ∷ os) ps opens =
     let p : Piece = piece operator (closing_of o ∷ []) in
     subst IsBalanced (append_assoc ps (p ∷ []) (closers_of os)) (opens-close os (ps ++ p ∷ []) (opens-closes o (closing_of o) os ps opens (closing_of-closing o) (eq-eqb (closing_of o) (closing_of o) refl)))
 
--- so the finished pieces of a list are begun
-pub are_begun : (limit : Limit) (outer : List Level) (place : Place) (done : List Piece) (openers held more : List ℕ) → HoldsList limit outer place done openers held → AreBegun (levels_open outer) done (held ++ more)
-are_begun limit outer place done openers held more h = record { fit = h.fit more; others = closers_of openers; balanced = opens-close openers done h.opens; inside = inside outer h.in_field }
+-- so the pieces of a list are begun before a rest
+pub begun_before : (outer : List Level) (pieces : List Piece) (openers rest : List ℕ) → AreReadIn fielded pieces rest → Opens openers pieces → ((l : Level) (ls : List Level) → outer ≡ l ∷ ls → (begins_marked pieces ≡ false) × HasNoColon 0 pieces) → AreBegun (levels_open outer) pieces rest
+begun_before outer pieces openers rest fit opens field_so = record { fit = fit; others = closers_of openers; balanced = opens-close openers pieces opens; inside = inside outer field_so }
   where
-    inside : (ls : List Level) → ((l : Level) (others : List Level) → ls ≡ l ∷ others → (begins_marked done ≡ false) × HasNoColon 0 done) → 0 < levels_open ls → (begins_marked done ≡ false) × HasNoColon 0 done
+    inside : (ls : List Level) → ((l : Level) (others : List Level) → ls ≡ l ∷ others → (begins_marked pieces ≡ false) × HasNoColon 0 pieces) → 0 < levels_open ls → (begins_marked pieces ≡ false) × HasNoColon 0 pieces
     inside [] own deep = absurd (omega arith)
     inside (l ∷ ls) own deep = own l ls refl
+
+pub are_begun : (limit : Limit) (outer : List Level) (place : Place) (done : List Piece) (openers held more : List ℕ) → HoldsList limit outer place done openers held → AreBegun (levels_open outer) done (held ++ more)
+are_begun limit outer place done openers held more h = begun_before outer done openers (held ++ more) (h.fit more) h.opens h.in_field
 
 -- A string that is open up to `text`, before the rest: the list in which it stands, and the spot up to which it is open. `done`
 -- and `openers` are of the innermost list, in which a string stands whose literal part is open.

@@ -1,0 +1,3 @@
+-- The faults of texts with fields.
+pub mod EndFaults
+pub mod EndPlaces
