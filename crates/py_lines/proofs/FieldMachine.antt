@@ -13,3 +13,4 @@ pub mod Completeness
 pub mod OpenStrings
 pub mod OpenLists
 pub mod WhatIsOpen
+pub mod OpenCode

@@ -98,11 +98,11 @@ quote-not-mark : (c : ℕ) → is_quote c ≡ true → is_mark c ≡ false
 unfolding is_quote is_mark
 quote-not-mark c h = none_of is_mark (39 ∷ 34 ∷ []) c refl h
 
-slash-not-mark : (c : ℕ) → is_backslash c ≡ true → is_mark c ≡ false
+pub slash-not-mark : (c : ℕ) → is_backslash c ≡ true → is_mark c ≡ false
 unfolding is_backslash is_mark
 slash-not-mark c h = none_of is_mark (92 ∷ []) c refl h
 
-prefix-unmarked : (prefix : List ℕ) (q : ℕ) (body : List ℕ) → IsPrefix prefix → is_quote q ≡ true → begins is_mark (prefix ++ q ∷ body) ≡ false
+pub prefix-unmarked : (prefix : List ℕ) (q : ℕ) (body : List ℕ) → IsPrefix prefix → is_quote q ≡ true → begins is_mark (prefix ++ q ∷ body) ≡ false
 prefix-unmarked [] q body is quotes = quote-not-mark q quotes
 prefix-unmarked (a ∷ bs) q body (inl empty) quotes = absurd (cc)
 prefix-unmarked (a ∷ bs) q body (inr is) quotes = start-not-mark a (prefix_word a bs is).0
