@@ -1,2 +1,3 @@
 -- The logical lines of texts with fields.
 pub mod Prefixes
+pub mod SettledLines
