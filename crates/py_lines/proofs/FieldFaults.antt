@@ -1,3 +1,4 @@
 -- The faults of texts with fields.
 pub mod EndFaults
 pub mod EndPlaces
+pub mod CharacterPlaces
