@@ -1,4 +1,5 @@
 -- The faults of texts with fields.
 pub mod EndFaults
 pub mod EndPlaces
+pub mod Ends
 pub mod CharacterPlaces

@@ -119,7 +119,7 @@ bracket_is_open limit outer done o os m held read sound may = go ends.opens
         )
 
 -- a field that would open at depth 200, with its `{` at the end
-brace_is_due : (limit : Limit) (outer : List Level) (done : List Piece) (openers : List ℕ) (host : Host) (named : Bool) (held read : List ℕ) → IsFieldSound limit (field_state outer done openers (body host literal named after_brace) held) read → length openers + levels_open outer ≡ 200 → (offset : ℕ) × OpensBraceTooDeep read [] offset
+pub brace_is_due : (limit : Limit) (outer : List Level) (done : List Piece) (openers : List ℕ) (host : Host) (named : Bool) (held read : List ℕ) → IsFieldSound limit (field_state outer done openers (body host literal named after_brace) held) read → length openers + levels_open outer ≡ 200 → (offset : ℕ) × OpensBraceTooDeep read [] offset
 brace_is_due limit outer done openers host named held read sound full = go sound.mode
   where
     depth : ℕ
@@ -260,7 +260,7 @@ specification_at outer done openers host named at held read sound deep =
     not_literal : IsDeepBrace outer openers (body host specification named at) → ⊥
     not_literal (h, same, full) = cc
 
-open_in : (outer : List Level) (done : List Piece) (openers : List ℕ) (m : FieldMode) (held read : List ℕ) (sound : IsFieldSound two_hundred (field_state outer done openers m held) read) → ((place : ℕ) → OpensBraceTooDeep read [] place → IsDeepBrace outer openers m) → (what : FieldUnfinished) → unfinished_in outer openers m ≡ Some what → (offset : ℕ) × IsOpenAtFieldEnd what read offset
+pub open_in : (outer : List Level) (done : List Piece) (openers : List ℕ) (m : FieldMode) (held read : List ℕ) (sound : IsFieldSound two_hundred (field_state outer done openers m held) read) → ((place : ℕ) → OpensBraceTooDeep read [] place → IsDeepBrace outer openers m) → (what : FieldUnfinished) → unfinished_in outer openers m ≡ Some what → (offset : ℕ) × IsOpenAtFieldEnd what read offset
 open_in outer done openers (plain m) held read sound deep what same = plain_open outer done openers m held read sound deep what same
 open_in outer done openers (opened host) held read sound deep what same =
     let start = before literal outer ++ spelled done in
@@ -284,7 +284,7 @@ ends_if_none (l ∷ ls) [] is = absurd (cc)
 ends_if_none [] (o ∷ os) is = absurd (cc)
 ends_if_none (l ∷ ls) (o ∷ os) is = absurd (cc)
 
-final_in : (outer : List Level) (done : List Piece) (openers : List ℕ) (m : FieldMode) (held : List ℕ) → unfinished_in outer openers m ≡ None → IsFieldFinal (field_state outer done openers m held)
+pub final_in : (outer : List Level) (done : List Piece) (openers : List ℕ) (m : FieldMode) (held : List ℕ) → unfinished_in outer openers m ≡ None → IsFieldFinal (field_state outer done openers m held)
 final_in outer done openers (plain m) held is =
     let P : Option FieldUnfinished → Type 0 = λ o. o ≡ None → IsFieldFinal (field_state outer done openers (plain m) held) in
     cond_both (in_short m) _ _ P (λ h same. absurd (some_none same))

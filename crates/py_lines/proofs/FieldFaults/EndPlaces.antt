@@ -140,7 +140,7 @@ specification_unfinished outer openers host (plain m) is = absurd is
 specification_unfinished outer openers host (opened own) is = absurd is
 specification_unfinished outer openers host (empty own) is = absurd is
 
-same_state : (characters : List ℕ) (s t : FieldScanned) → field_steps_from (Some field_text_start) characters ≡ Some s → field_steps_from (Some field_text_start) characters ≡ Some t → s ≡ t
+pub same_state : (characters : List ℕ) (s t : FieldScanned) → field_steps_from (Some field_text_start) characters ≡ Some s → field_steps_from (Some field_text_start) characters ≡ Some t → s ≡ t
 same_state characters s t one two = cc
 
 -- a bracket of a list is open at its end
