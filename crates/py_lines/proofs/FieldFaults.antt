@@ -2,3 +2,4 @@
 pub mod EndFaults
 pub mod EndPlaces
 pub mod Ends
+pub mod CharacterPlaces

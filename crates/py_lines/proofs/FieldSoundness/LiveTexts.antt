@@ -178,3 +178,10 @@ goes_live characters s steps room =
           (steps-append (Some field_text_start) characters later.more ∙ ap (λ o. field_steps_from o later.more) steps ∙ steps_of BelowLimit s later.to later.more later.goes)
           (room-append (Some field_text_start) characters later.more s steps room (room_of s later.to later.more later.goes)) later.final;
     }
+
+-- what a live text begins with is live
+pub live_before : (xs ys : List ℕ) → IsFieldLive (xs ++ ys) → IsFieldLive xs
+live_before xs ys live =
+    let whole = live_goes (xs ++ ys) live in
+    let first = steps_before (field_steps_from (Some field_text_start) xs) ys whole.0 (sym (steps-append (Some field_text_start) xs ys) ∙ whole.1) in
+    goes_live xs first.0 first.1 (room_before (Some field_text_start) xs ys whole.2)
