@@ -3,3 +3,5 @@ pub mod EndFaults
 pub mod EndPlaces
 pub mod Ends
 pub mod CharacterPlaces
+pub mod FaultPrefixes
+pub mod Verdict
