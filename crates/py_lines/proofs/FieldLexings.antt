@@ -2,3 +2,4 @@
 pub mod Prefixes
 pub mod SettledLines
 pub mod Uniqueness
+pub mod Existence
