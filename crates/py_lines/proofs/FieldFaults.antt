@@ -3,3 +3,4 @@ pub mod EndFaults
 pub mod EndPlaces
 pub mod Ends
 pub mod CharacterPlaces
+pub mod CharacterFaults

@@ -1,20 +1,18 @@
 -- A text with fields has at most one fault at a character: the first place that can't be passed is one, so is the first cause that
 -- fits there, and so is the byte where its fault stands.
-use Rattle.std.proofs.Common.{◌≡◌, ℕ, Bool, true, false, Some, List, [], ◌∷◌, ◌++◌, ◌⊎◌, inl, inr, refl, sym, ap, ◌∙◌, subst, append_assoc}
-use Rattle.std.specs.Str.{byte}
+use Rattle.std.proofs.Common.{◌≡◌, ℕ, true, Some, List, [], ◌∷◌, ◌++◌, ◌⊎◌, inl, inr, refl, sym, ap, ◌∙◌, subst}
 use Rattle.std.proofs.lemmas.Bool.{both_ways}
 use Rattle.std.proofs.lemmas.List.{append_cancel_right}
-use Rattle.py_lines.specs.Piece.{spelled}
 use Rattle.py_lines.specs.LogicalLine.{byte_len}
 use Rattle.py_lines.specs.FieldStrings.{Host, literal, specification}
 use Rattle.py_lines.specs.OpenFields.{InOpenShort}
-use Rattle.py_lines.specs.FieldFaults.{FieldFaultKind, IsFieldLive, FieldDiesAt, InShortSpecification, FieldCause, brace_too_deep, breaks_string, breaks_join, closes_wrong, opens_too_deep, ends_specification, begins_nothing, kind_of_cause, ExplainsField, field_causes_before, NoneExplainsField, IsFieldCharacterFault}
-use Rattle.py_lines.specs.Private.FieldMachine.{FieldMode, plain, opened, empty, body, Level, FieldScanned, field_text_start, field_steps_from, in_open_short, InSpecificationOf}
+use Rattle.py_lines.specs.FieldFaults.{FieldFaultKind, IsFieldLive, InShortSpecification, FieldCause, brace_too_deep, breaks_string, breaks_join, closes_wrong, opens_too_deep, ends_specification, begins_nothing, kind_of_cause, ExplainsField, field_causes_before, NoneExplainsField, IsFieldCharacterFault}
+use Rattle.py_lines.specs.Private.FieldMachine.{FieldMode, body, Level, FieldScanned, field_text_start, field_steps_from, in_open_short, InSpecificationOf}
 use Rattle.py_lines.proofs.Faults.Uniqueness.{same_dying}
 use Rattle.py_lines.proofs.FieldSoundness.Holds.{before}
 use Rattle.py_lines.proofs.FieldSoundness.LiveTexts.{live_goes, live_before}
 use Rattle.py_lines.proofs.FieldMachine.OpenStrings.{HasOpened}
-use Rattle.py_lines.proofs.FieldMachine.WhatIsOpen.{Comes, comes_to, StartsAfter, short_open_comes, backslash_comes, SpecificationAt, specification_comes}
+use Rattle.py_lines.proofs.FieldMachine.WhatIsOpen.{comes_to, StartsAfter, short_open_comes, backslash_comes, SpecificationAt, specification_comes}
 
 -- a short string is not open where a specification is
 short_apart : (m : FieldMode) (host : Host) → in_open_short m ≡ true → InSpecificationOf host m → ⊥
