@@ -3,5 +3,6 @@ pub mod EndFaults
 pub mod EndPlaces
 pub mod Ends
 pub mod CharacterPlaces
+pub mod CharacterFaults
 pub mod FaultPrefixes
 pub mod Verdict

@@ -21,7 +21,7 @@ use Rattle.py_lines.proofs.FieldMachine.StringParts.{settled, MayGoOn, goes_on, 
 use Rattle.py_lines.proofs.FieldMachine.CodeRuns.{ArePassed, FieldsRun, all_found}
 
 -- after `{` in a literal part, what isn't another
-code_moves : (host : Host) (named : Bool) (held : List ℕ) (c : ℕ) → c == 123 ≡ false → field_move (body host literal named after_brace) held c ≡ begins_code host
+pub code_moves : (host : Host) (named : Bool) (held : List ℕ) (c : ℕ) → c == 123 ≡ false → field_move (body host literal named after_brace) held c ≡ begins_code host
 unfolding field_move body_move
 code_moves host named held c other = rw other
 

@@ -15,7 +15,7 @@ openers_through-append None ps qs = refl
 openers_through-append (Some os) [] qs = refl
 openers_through-append (Some os) (p ∷ ps) qs = openers_through-append (openers_by os p.class p.text) ps qs
 
-opening_pushes : (os : List ℕ) (c : ℕ) → is_opening c ≡ true → openers_with os c ≡ Some (c ∷ os)
+pub opening_pushes : (os : List ℕ) (c : ℕ) → is_opening c ≡ true → openers_with os c ≡ Some (c ∷ os)
 unfolding openers_with
 opening_pushes [] c h = rw h
 opening_pushes (o ∷ os) c h = rw h

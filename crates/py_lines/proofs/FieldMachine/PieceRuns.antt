@@ -62,7 +62,7 @@ record StartsPlain (text : List ℕ) : Type 0 where
   pub starts : start_of first ≡ start
   pub quiet : IsPlainStart start others
 
-opening_operator : (c : ℕ) → is_opening c ≡ true → is_operator c ≡ true
+pub opening_operator : (c : ℕ) → is_opening c ≡ true → is_operator c ≡ true
 unfolding is_opening is_operator
 opening_operator c h = each_of (λ x. is_operator x ≡ true) (40 ∷ 91 ∷ 123 ∷ []) c (refl, (refl, (refl, tt))) h
 
@@ -184,7 +184,7 @@ abbrev pub IsNoColon : List Level → List ℕ → ℕ → Type 0
 IsNoColon [] openers c = Unit {0}
 IsNoColon (level ∷ outer) openers c = (c == 58) && (length openers == 0) ≡ false
 
-operator_stays : (outer : List Level) (done : List Piece) (openers after : List ℕ) (c : ℕ) → openers_with openers c ≡ Some after → IsNoColon outer openers c → field_operator outer done openers c ≡ Some (field_fresh outer (done ++ piece operator (c ∷ []) ∷ []) after)
+pub operator_stays : (outer : List Level) (done : List Piece) (openers after : List ℕ) (c : ℕ) → openers_with openers c ≡ Some after → IsNoColon outer openers c → field_operator outer done openers c ≡ Some (field_fresh outer (done ++ piece operator (c ∷ []) ∷ []) after)
 unfolding code_operator
 operator_stays [] done openers after c h none = ap (after_operator [] done c) h
 operator_stays (level ∷ outer) done (o ∷ os) after c h none = ap (after_operator (level ∷ outer) done c) h

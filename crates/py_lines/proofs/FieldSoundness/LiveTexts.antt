@@ -134,12 +134,12 @@ state_finishes limit Room outer done openers (body host place named at) held rea
     body_finishes Room place outer done openers host named at held (quotes_at limit outer _ host place named at held sound.mode) (levels_close limit place outer _ sound.levels)
 
 -- runs over two texts, one after the other
-steps-append : (o : Option FieldScanned) (a b : List ℕ) → field_steps_from o (a ++ b) ≡ field_steps_from (field_steps_from o a) b
+pub steps-append : (o : Option FieldScanned) (a b : List ℕ) → field_steps_from o (a ++ b) ≡ field_steps_from (field_steps_from o a) b
 steps-append None a b = refl
 steps-append (Some s) [] b = refl
 steps-append (Some s) (c ∷ a) b = steps-append (field_step s c) a b
 
-room-append : (o : Option FieldScanned) (a b : List ℕ) (s : FieldScanned) → field_steps_from o a ≡ Some s → have_room o a ≡ true → have_room (Some s) b ≡ true → have_room o (a ++ b) ≡ true
+pub room-append : (o : Option FieldScanned) (a b : List ℕ) (s : FieldScanned) → field_steps_from o a ≡ Some s → have_room o a ≡ true → have_room (Some s) b ≡ true → have_room o (a ++ b) ≡ true
 room-append None a b s steps first second = refl
 room-append (Some t) [] b s steps first second = ap (λ o. have_room o b) steps ∙ second
 room-append (Some t) (c ∷ a) b s steps first second =

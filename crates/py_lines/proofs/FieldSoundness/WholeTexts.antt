@@ -53,7 +53,7 @@ any_room depth c closes = tt
 any_room depth c ends_field = tt
 any_room depth c refused = tt
 
-any_rooms : (o : Option FieldScanned) (cs : List ℕ) → HaveRoom no_limit o cs
+pub any_rooms : (o : Option FieldScanned) (cs : List ℕ) → HaveRoom no_limit o cs
 any_rooms None cs = tt
 any_rooms (Some s) [] = tt
 any_rooms (Some s) (c ∷ cs) = (any_room (frames s) c (field_move s.mode s.held c), any_rooms (field_step s c) cs)
