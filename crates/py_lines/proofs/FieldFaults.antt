@@ -4,3 +4,5 @@ pub mod EndPlaces
 pub mod Ends
 pub mod CharacterPlaces
 pub mod CharacterFaults
+pub mod FaultPrefixes
+pub mod Verdict

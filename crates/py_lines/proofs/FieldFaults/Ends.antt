@@ -7,7 +7,8 @@ use Rattle.py_lines.specs.LogicalLine.{byte_len}
 use Rattle.py_lines.specs.FieldStrings.{Host, literal, specification}
 use Rattle.py_lines.specs.Fields.{IsFieldReading}
 use Rattle.py_lines.specs.FieldFaults.{FieldFaultKind, OpensBraceTooDeep, FieldUnfinished, open_brace, open_short, open_long, open_join, open_bracket, open_inside, kind_of_unfinished, IsOpenAtFieldEnd, IsFieldEndFault}
-use Rattle.py_lines.specs.Private.FieldMachine.{after_brace, FieldMode, plain, opened, empty, body, Level, FieldScanned, field_state, field_text_start, field_steps_from, field_pieces, have_room, in_open_short, in_open_long, after_open_backslash, InSpecificationOf, levels_open, may_end, frames}
+use Rattle.py_lines.specs.Private.FieldMachine.{after_brace, FieldMode, plain, opened, empty, body, Level, FieldScanned, field_state, field_text_start, field_steps_from, field_pieces, have_room, IsFieldFinal, in_open_short, in_open_long, after_open_backslash, InSpecificationOf, levels_open, may_end, frames}
+use Rattle.py_lines.proofs.FieldMachine.Completeness.{reading_reached}
 use Rattle.py_lines.proofs.FieldMachine.WhatIsOpen.{Comes, comes_to, short_open_comes, long_open_comes, backslash_comes, SpecificationAt, specification_comes}
 use Rattle.py_lines.proofs.FieldMachine.OpenCode.{CodeAt, in_code, at_brace, code_comes, brace_comes}
 use Rattle.py_lines.proofs.FieldMachine.OpenStrings.{HasOpened}
@@ -16,7 +17,7 @@ use Rattle.py_lines.proofs.FieldSoundness.HostSteps.{sound_at}
 use Rattle.py_lines.proofs.FieldSoundness.WholeTexts.{two_hundred, rooms_at, final_is_reading}
 use Rattle.py_lines.proofs.FieldSoundness.LiveTexts.{live_goes, goes_live}
 use Rattle.py_lines.proofs.FieldFaults.EndFaults.{unfinished_code, unfinished_in, unfinished_at, IsDeepBrace, few_frames, brace_is_due, open_in, final_in}
-use Rattle.py_lines.proofs.FieldFaults.EndPlaces.{opened_text, IsPlaced, one_place, short_unfinished, long_unfinished, join_unfinished, code_unfinished, specification_unfinished, bracket_back}
+use Rattle.py_lines.proofs.FieldFaults.EndPlaces.{same_state, opened_text, IsPlaced, one_place, short_unfinished, long_unfinished, join_unfinished, code_unfinished, specification_unfinished, bracket_back}
 
 -- directly after a `{` at depth 200 the machine stands there
 deep_state : (characters : List ℕ) (s : FieldScanned) (place : ℕ) → field_steps_from (Some field_text_start) characters ≡ Some s → OpensBraceTooDeep characters [] place → IsDeepBrace s.outer s.openers s.mode
@@ -159,3 +160,22 @@ one_end characters tail kind other offset place first second =
       first.is ∙ ap kind_of_unfinished same ∙ sym second.is,
       one_place second.unfinished run.0 characters offset place (subst (λ (w : FieldUnfinished). IsPlaced w run.0 characters offset) same one.1) two.1,
     )
+
+-- and then the text has no reading
+pub end_unread : (characters tail : List ℕ) (kind : FieldFaultKind) (offset : ℕ) → IsFieldEndFault kind characters tail offset → (pieces : List Piece) → ¬ (IsFieldReading pieces characters)
+end_unread characters tail kind offset fault pieces reading =
+    let run = live_goes characters fault.live in
+    let whole = reading_reached pieces characters reading in
+    let same = same_state characters whole.to run.0 whole.steps run.1 in
+    let final : IsFieldFinal run.0 = subst IsFieldFinal same whole.final in
+    let open_yet = named characters run.0 run.1 run.2 fault.unfinished offset fault.ends_in in
+    let none : unfinished_at run.0 ≡ None = code_unfinished run.0.outer run.0.openers run.0.mode final.ends ∙ closed run.0.outer run.0.openers final.outside final.closed_all in
+    none_open fault.unfinished (sym none ∙ open_yet.0)
+  where
+    closed : (outer : List Level) (openers : List ℕ) → outer ≡ [] → openers ≡ [] → unfinished_code outer openers ≡ None
+    closed [] [] outside all = refl
+    closed [] (o ∷ os) outside all = absurd (cc)
+    closed (l ∷ ls) openers outside all = absurd (cc)
+
+    none_open : (what : FieldUnfinished) → None ≡ Some what → ⊥
+    none_open what h = cc

@@ -83,7 +83,7 @@ precede_before grammar comment text x c r s (inr breaks) = inr (sym (begins_same
 precede_before grammar join text x c r s before = ap (λ b. ends is_return text && b) (sym (begins_same is_line_feed x c r s)) ∙ before
 precede_before grammar line_end text x c r s before = ap (λ b. ends is_return text && b) (sym (begins_same is_line_feed x c r s)) ∙ before
 
-read_before : (grammar : Grammar) (ps : List Piece) (c : ℕ) (r s : List ℕ) → AreReadIn grammar ps (c ∷ r) → AreReadIn grammar ps (c ∷ s)
+pub read_before : (grammar : Grammar) (ps : List Piece) (c : ℕ) (r s : List ℕ) → AreReadIn grammar ps (c ∷ r) → AreReadIn grammar ps (c ∷ s)
 read_before grammar [] c r s fit = tt
 read_before grammar (p ∷ ps) c r s fit = (fit.0, precede_before grammar p.class p.text (spelled ps) c r s fit.1, fit.2, read_before grammar ps c r s fit.3)
 
@@ -235,7 +235,7 @@ first_empty : (x y : List ℕ) → x ++ y ≡ [] → x ≡ []
 first_empty [] y h = refl
 first_empty (c ∷ x) y h = absurd (not_nothing [] c (x ++ y) h)
 
-ends_there : (ps qs zs : List Piece) (y : Piece) → AreReadIn fielded ps [] → ps ≡ qs ++ y ∷ zs → spelled ps ≡ spelled qs → ⊥
+pub ends_there : (ps qs zs : List Piece) (y : Piece) → AreReadIn fielded ps [] → ps ≡ qs ++ y ∷ zs → spelled ps ≡ spelled qs → ⊥
 ends_there ps qs zs y fit is at =
     let own = AreReadIn-second fielded qs (y ∷ zs) [] (subst (λ l. AreReadIn fielded l []) is fit) in
     let none : y.text ++ spelled zs ≡ [] = append_cancel_left (spelled qs) _ _ (sym (spelled-append qs (y ∷ zs)) ∙ ap spelled (sym is) ∙ at ∙ sym (append-nil (spelled qs))) in
