@@ -59,11 +59,13 @@
 --
 -- It is sound (proofs/FieldSoundness). What it holds, in each mode and of each field that is open, is stated for any limit on
 -- what may stand at a depth, so one proof gives two theorems: where it may end, its pieces read the text; and they are shallow
--- if each character had room. So a text is live exactly if the machine goes through it with room.
+-- if each character had room. What it holds says which lists of pieces and which strings are open, and what is open can be
+-- closed, so a text is live exactly if the machine goes through it with room.
 --
--- Faults of texts with fields (proofs/FieldFaults, over specs/FieldFaults.antt): of the causes at a character each is decided by
--- the state, and the first that fits is the fault's; the state says the same of the text's end. So a fault is one, and their
--- lexing (proofs/FieldLexings, over specs/FieldLexed.antt) is one.
+-- Faults with fields (proofs/FieldFaults): where the machine stops, a first cause fits; where a live text isn't read, its state
+-- says what is open at the end. What is open is told by the state alone, so the fault is one. Lexing with fields
+-- (proofs/FieldLexings): the machine decides of each prefix whether it is read, so there is a longest one that ends a line.
+-- Settled pieces begin all pieces that read more, so their lines are final.
 --
 -- proofs/Text has characters, the bytes that spell them, and vectors of bytes (Lanes). Files named WorkedRows and
 -- DepthRows are rows worked out by hand, on the definitions alone.

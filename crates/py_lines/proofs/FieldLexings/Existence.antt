@@ -1,6 +1,6 @@
 -- Every text is read with fields, or has a lexical fault; so every text has some logical lines, and then its end or its fault.
 use Rattle.std.proofs.Common.{◌≡◌, ℕ, ◌+◌, true, false, Option, None, Some, List, [], ◌∷◌, ◌++◌, ◌⊎◌, inl, inr, refl, sym, ap, ◌∙◌, subst, append_assoc, append-nil}
-use Rattle.std.proofs.lemmas.Bool.{both_ways, cases_Bool}
+use Rattle.std.proofs.lemmas.Bool.{both_ways, cases_Bool, and_from}
 use Rattle.py_lines.specs.Piece.{Piece}
 use Rattle.py_lines.specs.LogicalLine.{LogicalLine, lines_of, byte_len, line_ends}
 use Rattle.py_lines.specs.Reading.{Decodes}
@@ -8,11 +8,12 @@ use Rattle.py_lines.specs.Fields.{IsFieldReading}
 use Rattle.py_lines.specs.declared.fault.FaultKind.TheVariants as faults
 use Rattle.py_lines.specs.FieldFaults.{FieldFaultKind, usual, IsFieldLive, FieldDiesAt, IsFieldCharacterFault, IsFieldEndFault, IsFieldFaultAt, at_character, at_bytes, at_end}
 use Rattle.py_lines.specs.FieldLexed.{FieldFault, IsFieldLexicalFault, IsLexedWithFields, IsSettledWithFields}
-use Rattle.py_lines.specs.Private.FieldMachine.{FieldScanned, field_text_start, field_steps_from, field_pieces, have_room}
+use Rattle.py_lines.specs.Private.FieldMachine.{FieldScanned, field_text_start, field_steps_from, field_step, field_pieces, has_room, have_room}
 use Rattle.py_lines.proofs.Text.Decoding.{decoding}
 use Rattle.py_lines.proofs.Lexings.Answers.{same_place}
-use Rattle.py_lines.proofs.FieldSoundness.LiveTexts.{live_goes, goes_live}
+use Rattle.py_lines.proofs.FieldSoundness.LiveTexts.{steps-append, room-append, live_goes, goes_live}
 use Rattle.py_lines.proofs.FieldFaults.Ends.{read_or_open, end_unread}
+use Rattle.py_lines.proofs.FieldFaults.CharacterFaults.{IsStuck, character_fault}
 use Rattle.py_lines.proofs.FieldFaults.FaultPrefixes.{field_fault_prefix}
 use Rattle.py_lines.proofs.FieldFaults.Verdict.{not_live}
 use Rattle.py_lines.proofs.FieldLexings.Prefixes.{read_prefix_exists, settled_prefix_exists}
@@ -70,33 +71,55 @@ live_end characters [] live = go (live_goes characters live).0 (read_or_open cha
 live_end characters (d ∷ ds) live =
     inr (with_line characters (d ∷ ds) (usual faults.BadUtf8) (byte_len characters) (λ none. absurd (cc)) (at_bytes (record { is = refl; bad = λ (h : d ∷ ds ≡ []). cc; live = live; place = refl })))
 
--- Where every character at which a text dies has a fault, every text is read or has one.
-module _ (dead_fault : (characters before : List ℕ) (c : ℕ) → FieldDiesAt characters before c → (kind : FieldFaultKind) × (offset : ℕ) × IsFieldCharacterFault kind characters offset) where
-  pub read_or_faulty : (characters tail : List ℕ) → IsReadOrFaulty characters tail
-  read_or_faulty characters tail = go (lives_or_dies characters)
-    where
-      go : IsFieldLive characters ⊎ ((before : List ℕ) × (c : ℕ) × FieldDiesAt characters before c) → IsReadOrFaulty characters tail
-      go (inl live) = live_end characters tail live
-      go (inr (before, c, dies)) =
-          let found = dead_fault characters before c dies in
-          inr (with_line characters tail found.0 found.1 (λ none pieces reading. not_live characters found.0 found.1 found.2 (reading_live pieces characters reading)) (at_character found.2))
+-- where a text dies at a character, the machine stops there
+is_stuck : (before : List ℕ) (c : ℕ) (s : FieldScanned) → field_steps_from (Some field_text_start) before ≡ Some s → have_room (Some field_text_start) before ≡ true → ¬ (IsFieldLive (before ++ c ∷ [])) → IsStuck s c
+is_stuck before c s steps room dead = go (field_step s c) refl (cases_Bool (has_room s c))
+  where
+    nothing_more : (o : Option FieldScanned) → have_room o [] ≡ true
+    nothing_more None = refl
+    nothing_more (Some t) = refl
 
-  -- so it has logical lines, and then its end or its fault
-  pub some_fielded_lexing : (text : List ℕ) → (lines : List LogicalLine) × (end : Option FieldFault) × IsLexedWithFields text lines end
-  some_fielded_lexing text = go (read_or_faulty (decoding text).characters (decoding text).tail)
-    where
-      characters : List ℕ
-      characters = (decoding text).characters
+    go : (o : Option FieldScanned) → field_step s c ≡ o → (has_room s c ≡ true) ⊎ (has_room s c ≡ false) → IsStuck s c
+    go o step (inr full) = inr full
+    go None step (inl free) = inl step
+    go (Some t) step (inl free) =
+        let goes = steps-append (Some field_text_start) before (c ∷ []) ∙ ap (λ o. field_steps_from o (c ∷ [])) steps ∙ ap (λ o. field_steps_from o []) step in
+        let roomy = room-append (Some field_text_start) before (c ∷ []) s steps room (and_from _ _ free (nothing_more (field_step s c))) in
+        absurd (dead (goes_live (before ++ c ∷ []) t goes roomy))
 
-      tail : List ℕ
-      tail = (decoding text).tail
+-- so a fault stands there
+pub dead_fault : (characters before : List ℕ) (c : ℕ) → FieldDiesAt characters before c → (kind : FieldFaultKind) × (offset : ℕ) × IsFieldCharacterFault kind characters offset
+dead_fault characters before c dies =
+    let run = live_goes before dies.live in
+    let found = character_fault before c dies.after run.0 run.1 run.2 (is_stuck before c run.0 run.1 run.2 dies.dead) in
+    (found.0, found.1, subst (λ t. IsFieldCharacterFault found.0 t found.1) dies.spell found.2)
 
-      go : IsReadOrFaulty characters tail → (lines : List LogicalLine) × (end : Option FieldFault) × IsLexedWithFields text lines end
-      go (inl (whole, (pieces, reading))) =
-          (lines_of pieces, None, record { characters = characters; pieces = pieces; decodes = subst (Decodes text characters) whole (decoding text).decodes; reading = reading; cut = refl })
-      go (inr (fault, is)) =
-          let prefix = read_prefix_exists characters in
-          (lines_of prefix.0, Some fault, record { characters = characters; tail = tail; pieces = prefix.0; decodes = (decoding text).decodes; prefix = prefix.1; refused = is; cut = refl })
+-- every text is read or has a fault
+pub read_or_faulty : (characters tail : List ℕ) → IsReadOrFaulty characters tail
+read_or_faulty characters tail = go (lives_or_dies characters)
+  where
+    go : IsFieldLive characters ⊎ ((before : List ℕ) × (c : ℕ) × FieldDiesAt characters before c) → IsReadOrFaulty characters tail
+    go (inl live) = live_end characters tail live
+    go (inr (before, c, dies)) =
+        let found = dead_fault characters before c dies in
+        inr (with_line characters tail found.0 found.1 (λ none pieces reading. not_live characters found.0 found.1 found.2 (reading_live pieces characters reading)) (at_character found.2))
+
+-- so it has logical lines, and then its end or its fault
+pub some_fielded_lexing : (text : List ℕ) → (lines : List LogicalLine) × (end : Option FieldFault) × IsLexedWithFields text lines end
+some_fielded_lexing text = go (read_or_faulty (decoding text).characters (decoding text).tail)
+  where
+    characters : List ℕ
+    characters = (decoding text).characters
+
+    tail : List ℕ
+    tail = (decoding text).tail
+
+    go : IsReadOrFaulty characters tail → (lines : List LogicalLine) × (end : Option FieldFault) × IsLexedWithFields text lines end
+    go (inl (whole, (pieces, reading))) =
+        (lines_of pieces, None, record { characters = characters; pieces = pieces; decodes = subst (Decodes text characters) whole (decoding text).decodes; reading = reading; cut = refl })
+    go (inr (fault, is)) =
+        let prefix = read_prefix_exists characters in
+        (lines_of prefix.0, Some fault, record { characters = characters; tail = tail; pieces = prefix.0; decodes = (decoding text).decodes; prefix = prefix.1; refused = is; cut = refl })
 
 -- the known bytes of every text settle some lines
 pub some_settled_with_fields : (text : List ℕ) → (lines : List LogicalLine) × IsSettledWithFields text lines

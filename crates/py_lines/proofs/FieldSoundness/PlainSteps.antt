@@ -16,10 +16,11 @@ use Rattle.py_lines.specs.declared.mode.Move.TheVariants as moves
 use Rattle.py_lines.specs.declared.mode.Start.{Start}
 use Rattle.py_lines.specs.declared.mode.Start.TheVariants as starts
 use Rattle.py_lines.specs.Private.Machine.{Holds, closed, class_of, move_of, start_of, is_prefix_spelling}
-use Rattle.py_lines.specs.Private.FieldMachine.{FieldMode, plain, opened, FieldMove, closes, breaks, begins_code, opens_field, Level, field_state, host_of, begins_host, plain_move, field_started, field_moved, levels_open}
+use Rattle.py_lines.specs.Private.FieldMachine.{FieldMode, plain, opened, FieldMove, closes, breaks, Level, field_state, host_of, begins_host, plain_move, field_started, field_moved, levels_open}
 use Rattle.py_lines.proofs.Pieces.PieceLists.{piece, spelled-push}
 use Rattle.py_lines.proofs.Text.CharacterTests.{quote-not-start}
 use Rattle.py_lines.proofs.Fields.Prefixes.{word_quotes}
+use Rattle.py_lines.proofs.FieldMachine.Runs.{HasRoomFor}
 use Rattle.py_lines.proofs.FieldSoundness.PlainPieces.{BeginsPlain, begins_plain-more, IsPlainText, plain_class, plain_precede, BreaksBefore, MoveHolds, move_holds}
 use Rattle.py_lines.proofs.FieldSoundness.Holds.{Limit, place_of, before, HoldsMode, HoldsList, HoldsLevels, AtStart, IsFieldSound}
 use Rattle.py_lines.proofs.FieldSoundness.Lists.{FieldSoundIf, list_more, levels_more, adds_neutral, list_push, levels_push, fresh_sound}
@@ -27,10 +28,7 @@ use Rattle.py_lines.proofs.FieldSoundness.Code.{Ready, start_sound}
 
 -- what may open at a character that does this, where so many brackets and fields are open before it
 abbrev pub HasRoom : Limit → ℕ → ℕ → FieldMove → Type 0
-HasRoom limit depth c breaks = is_opening c ≡ true → limit.Room depth
-HasRoom limit depth c (begins_code host) = limit.Room depth × (is_opening c ≡ true → limit.Room (depth + 1))
-HasRoom limit depth c (opens_field host) = limit.Room depth
-HasRoom limit depth c other = Unit {0}
+HasRoom limit depth c move = HasRoomFor limit.Room depth c move
 
 -- the open piece grows
 pub grew : (limit : Limit) (outer : List Level) (done : List Piece) (openers : List ℕ) (m n : FieldMode) (held read : List ℕ) (c : ℕ) → IsFieldSound limit (field_state outer done openers m held) read → place_of n ≡ place_of m → HoldsMode limit outer (length openers + levels_open outer) n (held ++ c ∷ []) → AtStart n outer done → IsFieldSound limit (field_state outer done openers n (held ++ c ∷ [])) (read ++ c ∷ [])
