@@ -6,6 +6,7 @@ pub mod Uniqueness
 pub mod Existence
 pub mod GivenLines
 pub mod FirstLines
+pub mod SettledFits
 pub mod SettledLines
 pub mod DecidedFaults
 pub mod SettledPrefixes

@@ -47,6 +47,26 @@
 -- or parts ends, so does the other. Fields are the same if those in them are, so this goes by how many stand one in another.
 -- What is open in a text with fields (proofs/OpenFields) is defined, and shown by rows alone.
 --
+-- A machine with fields (specs/Private/FieldMachine.antt, proofs/FieldMachine) stands beside the other until the code reads
+-- fields. Its state keeps the fields that are open as levels, and in each of them the pieces and brackets before.
+--
+-- It is complete (proofs/FieldMachine). It goes through the parts of a string wherever it goes through the fields among them, and
+-- through a list of pieces wherever it goes through the strings among them; so it goes through fields, by how many stand one in
+-- another. Each run says what its characters open, so one proof gives two theorems: the machine goes through every list that is
+-- read, however deep; and where a text has a reading, each character has room. The other way round, the state tells what is open
+-- at a place (WhatIsOpen, OpenCode): the machine comes from the text's start to each string, list and spot that the definitions
+-- call open.
+--
+-- It is sound (proofs/FieldSoundness). What it holds, in each mode and of each field that is open, is stated for any limit on
+-- what may stand at a depth, so one proof gives two theorems: where it may end, its pieces read the text; and they are shallow
+-- if each character had room. What it holds says which lists of pieces and which strings are open, and what is open can be
+-- closed, so a text is live exactly if the machine goes through it with room.
+--
+-- Faults with fields (proofs/FieldFaults): where the machine stops, a first cause fits; where a live text isn't read, its state
+-- says what is open at the end. What is open is told by the state alone, so the fault is one. Lexing with fields
+-- (proofs/FieldLexings): the machine decides of each prefix whether it is read, so there is a longest one that ends a line.
+-- Settled pieces begin all pieces that read more, so their lines are final.
+--
 -- proofs/Text has characters, the bytes that spell them, and vectors of bytes (Lanes). Files named WorkedRows and
 -- DepthRows are rows worked out by hand, on the definitions alone.
 pub mod Text
@@ -57,6 +77,10 @@ pub mod WordBreaks
 pub mod Fields
 pub mod OpenFields
 pub mod Machine
+pub mod FieldMachine
+pub mod FieldSoundness
+pub mod FieldFaults
+pub mod FieldLexings
 pub mod Faults
 pub mod LogicalLines
 pub mod Lexings

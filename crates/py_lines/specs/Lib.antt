@@ -12,9 +12,11 @@ pub mod Faults
 pub mod Lexed
 pub mod Fields
 pub mod OpenFields
+pub mod FieldFaults
 pub mod Neighbours
 pub mod Words
 pub mod Settled
+pub mod FieldLexed
 pub mod Given
 pub mod ScannerState
 pub mod Reader

@@ -1,6 +1,7 @@
 -- What contracts of private functions alone cite: the machine that goes through a text, the scan of one logical line,
 -- and the reader of lines. No public contract names a word of these files.
 pub mod Machine
+pub mod FieldMachine
 pub mod Scan
 pub mod LineState
 pub mod Source

@@ -8,6 +8,7 @@ ghost use Rattle.py_lines.specs.Piece.{Piece, spelled};
 ghost use Rattle.py_lines.specs.PieceGrammar.{AreReadBefore, IsWord, Reads, ReadsIn, ReadsText};
 ghost use Rattle.py_lines.specs.FieldStrings.{Host, may_have_fields};
 ghost use Rattle.py_lines.specs.Fields.{IsField, AnyPieces, Fields, fielded, IsShallowFielded, ShallowFields, IsFieldReading, IsFieldLexed};
+ghost use Rattle.py_lines.specs.FieldLexed.{FieldFault, IsLexedWithFields, IsSettledWithFields};
 ghost use Rattle.py_lines.specs.LogicalLine.{LogicalLine, cut, line_of};
 ghost use Rattle.py_lines.specs.Reading.{Decodes, IsBalancedReading, EndsLine};
 ghost use Rattle.py_lines.specs.Faults.{IsFaultAt, IsReadOrFaulty};
@@ -32,6 +33,21 @@ pub fn one_reading()
 pub fn one_reading_with_fields()
     ensures of_characters { (pieces others : List Piece) (characters : List ℕ) → ReadsIn fielded pieces characters → ReadsIn fielded others characters → pieces ≡ others }
     ensures of_lines { (text : List ℕ) (lines others : List LogicalLine) → IsFieldLexed text lines → IsFieldLexed text others → lines ≡ others }
+{}
+
+/// Read with fields in strings, a text has one list of logical lines, and after it its end or one fault.
+pub fn one_lexing_with_fields()
+    ensures some { (text : List ℕ) → (lines : List LogicalLine) × (end : Option FieldFault) × IsLexedWithFields text lines end }
+    ensures one { (text : List ℕ) (lines others : List LogicalLine) (end other : Option FieldFault) → IsLexedWithFields text lines end → IsLexedWithFields text others other → (lines ≡ others) × (end ≡ other) }
+{}
+
+/// What the known bytes of a text settle with fields in strings stays, whatever follows them. Any bytes settle one list of
+/// lines, which begins the lines of each text that begins with them, and more bytes settle no fewer lines.
+pub fn settled_with_fields_is_final()
+    ensures some { (text : List ℕ) → (lines : List LogicalLine) × IsSettledWithFields text lines }
+    ensures one { (text : List ℕ) (lines others : List LogicalLine) → IsSettledWithFields text lines → IsSettledWithFields text others → lines ≡ others }
+    ensures lines { (text more : List ℕ) (lines others : List LogicalLine) (end : Option FieldFault) → IsSettledWithFields text lines → IsLexedWithFields (text ++ more) others end → (rest : List LogicalLine) × (others ≡ lines ++ rest) }
+    ensures grow { (text more : List ℕ) (lines others : List LogicalLine) → IsSettledWithFields text lines → IsSettledWithFields (text ++ more) others → (rest : List LogicalLine) × (others ≡ lines ++ rest) }
 {}
 
 /// Fields are defined by how many of them stand one in another, and this says no less than the plain words: a field holds

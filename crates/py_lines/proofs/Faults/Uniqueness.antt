@@ -99,9 +99,9 @@ module _ (before : List ℕ) (c : ℕ) (s : Scanned) (st : List Bracket) (steps 
       let slash = slash_false none.1.0 in
       (kind_char s.mode c short slash (closing_false none.1.1.0) (opening_false short slash none.1.1.1.0), fits ∙ sym (late s before short slash))
 
--- the first character through which the text isn't live is one place
-same_place : (b d : List ℕ) (x y : ℕ) (more es : List ℕ) → b ++ x ∷ more ≡ d ++ y ∷ es → IsLive b → IsLive d → ¬ (IsLive (b ++ x ∷ [])) → ¬ (IsLive (d ++ y ∷ [])) → (b ≡ d) × (x ≡ y)
-same_place b d x y more es same live_b live_d dead_b dead_d = go (either b (x ∷ more) d (y ∷ es) same)
+-- the first character through which a text isn't live is one place, where each beginning of a live text is live
+pub same_dying : (Live : List ℕ → Type 0) → ((xs ys : List ℕ) → Live (xs ++ ys) → Live xs) → (b d : List ℕ) (x y : ℕ) (more es : List ℕ) → b ++ x ∷ more ≡ d ++ y ∷ es → Live b → Live d → ¬ (Live (b ++ x ∷ [])) → ¬ (Live (d ++ y ∷ [])) → (b ≡ d) × (x ≡ y)
+same_dying Live shorter_lives b d x y more es same live_b live_d dead_b dead_d = go (either b (x ∷ more) d (y ∷ es) same)
   where
     go : Either b d (y ∷ es) → (b ≡ d) × (x ≡ y)
     go (Either.shorter [] one) =
@@ -112,10 +112,13 @@ same_place b d x y more es same live_b live_d dead_b dead_d = go (either b (x �
     go (Either.shorter (k ∷ ks) one) =
         let rest : x ∷ more ≡ k ∷ (ks ++ y ∷ es) = append_cancel_left b (x ∷ more) (k ∷ (ks ++ y ∷ es)) (same ∙ ap (λ t. t ++ y ∷ es) one ∙ append_assoc b (k ∷ ks) (y ∷ es)) in
         let first : k ≡ x = cc in
-        absurd (dead_b (subst (λ (n : ℕ). IsLive (b ++ n ∷ [])) first (live_prefix (b ++ k ∷ []) ks (subst IsLive (one ∙ sym (append_assoc b (k ∷ []) ks)) live_d))))
+        absurd (dead_b (subst (λ (n : ℕ). Live (b ++ n ∷ [])) first (shorter_lives (b ++ k ∷ []) ks (subst Live (one ∙ sym (append_assoc b (k ∷ []) ks)) live_d))))
     go (Either.longer k ks after one two) =
         let first : k ≡ y = cc in
-        absurd (dead_d (subst (λ (n : ℕ). IsLive (d ++ n ∷ [])) first (live_prefix (d ++ k ∷ []) ks (subst IsLive (one ∙ sym (append_assoc d (k ∷ []) ks)) live_b))))
+        absurd (dead_d (subst (λ (n : ℕ). Live (d ++ n ∷ [])) first (shorter_lives (d ++ k ∷ []) ks (subst Live (one ∙ sym (append_assoc d (k ∷ []) ks)) live_b))))
+
+same_place : (b d : List ℕ) (x y : ℕ) (more es : List ℕ) → b ++ x ∷ more ≡ d ++ y ∷ es → IsLive b → IsLive d → ¬ (IsLive (b ++ x ∷ [])) → ¬ (IsLive (d ++ y ∷ [])) → (b ≡ d) × (x ≡ y)
+same_place b d x y more es same live_b live_d dead_b dead_d = same_dying IsLive live_prefix b d x y more es same live_b live_d dead_b dead_d
 
 abbrev AreSame : FaultKind → ℕ → FaultKind → ℕ → Type 0
 AreSame kind offset other place = (kind ≡ other) × (offset ≡ place)

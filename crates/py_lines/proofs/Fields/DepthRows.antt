@@ -8,13 +8,13 @@ use Rattle.py_lines.specs.Piece.{string, spelled}
 use Rattle.py_lines.specs.PieceGrammar.{has_triple, joined, InClassIn, MayPrecedeIn}
 use Rattle.py_lines.specs.Balance as balance
 use Rattle.py_lines.specs.FieldStrings.{Host, literal, quotes_of, IsPart, bare, slash, escape, escaped_end, name, double, field, begins_double, AreParts, IsFieldString, with_fields}
-use Rattle.py_lines.specs.Fields.{AreInside, IsField, simple, specified, AnyPieces, FieldsWithin, Fields, fielded, ShallowWithin, ShallowFields, IsShallowFielded}
+use Rattle.py_lines.specs.Fields.{AreInside, IsField, simple, specified, FieldsWithin, Fields, fielded, ShallowWithin, ShallowFields, IsShallowFielded}
 use Rattle.py_lines.proofs.Text.CharacterTests.{not_quote}
 use Rattle.py_lines.proofs.Fields.Parts.{BeginOpen, Agree}
 use Rattle.py_lines.proofs.Fields.SameStrings.{alike_strings}
 use Rattle.py_lines.proofs.Fields.SamePieces.{fielded_alone}
 use Rattle.py_lines.proofs.Fields.OneReading.{same_inside, no_colon, fields_begin, fields_agree, brace, colon}
-use Rattle.py_lines.proofs.Fields.Nesting.{string_map, field_map, field_is, shallow_of}
+use Rattle.py_lines.proofs.Fields.Nesting.{string_map, shallow_of, any_shallow}
 use Rattle.py_lines.proofs.Fields.WorkedRows.{tested, piece, short}
 
 -- strings with so many fields one in another: f"", f"{f""}", f"{f"{f""}"}" and so on
@@ -90,13 +90,6 @@ shallow (suc n) depth room =
     )
 
 -- and no deeper: the string has the one field, which has the one string
-shallow_fields : (n depth : ℕ) (host : Host) (text : List ℕ) → ShallowWithin n depth host text → Fields host text
-shallow_fields zero depth host text is = absurd is
-shallow_fields (suc n) depth host text is = field_is host text (field_map Fields Fields (ShallowWithin n (depth + 1)) Fields _ AnyPieces (λ h t one. one) (shallow_fields n (depth + 1)) (λ ps passes. tt) host text is.1)
-
-any_shallow : (depth : ℕ) (host : Host) (text : List ℕ) → ShallowFields depth host text → Fields host text
-any_shallow depth host text (n, is) = shallow_fields n depth host text is
-
 own_field : (F : Host → List ℕ → Type 0) (host : Host) (n : ℕ) (rest : List ℕ) → IsPart F host literal false (around (nested n)) rest → F host (around (nested n))
 unfolding tested
 own_field F host n rest is = go (begun_nested n) is

@@ -162,7 +162,7 @@ shallow_with Shallow (p ∷ ps) rest depth h fit shallow =
       shallow_with Shallow ps rest (depth_after depth p) (later p.text (spelled ps ++ rest) here) fit.3 shallow.1,
     )
 
-shallow_without : (Shallow : ℕ → Host → List ℕ → Type 0) (ps : List Piece) (depth : ℕ) → IsShallowWith Shallow depth ps → IsShallow depth ps
+pub shallow_without : (Shallow : ℕ → Host → List ℕ → Type 0) (ps : List Piece) (depth : ℕ) → IsShallowWith Shallow depth ps → IsShallow depth ps
 shallow_without Shallow [] depth shallow = tt
 shallow_without Shallow (p ∷ ps) depth shallow = (shallow.0, shallow_without Shallow ps (depth_after depth p) shallow.2)
 

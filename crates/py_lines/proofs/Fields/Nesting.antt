@@ -19,7 +19,7 @@ part_map F G f host place named part rest (name s c d a b e g) = name s c d a b 
 part_map F G f host place named part rest (double c d a b e g h) = double c d a b e g h
 part_map F G f host place named part rest (field is a b) = field (f host part is) a b
 
-parts_map : (F G : Host → List ℕ → Type 0) → Within F G → (host : Host) (place : Place) (named : Bool) (parts : List (List ℕ)) (rest : List ℕ) → AreParts F host place named parts rest → AreParts G host place named parts rest
+pub parts_map : (F G : Host → List ℕ → Type 0) → Within F G → (host : Host) (place : Place) (named : Bool) (parts : List (List ℕ)) (rest : List ℕ) → AreParts F host place named parts rest → AreParts G host place named parts rest
 parts_map F G f host place named [] rest each = tt
 parts_map F G f host place named (p ∷ ps) rest each = (part_map F G f host place named p _ each.0, parts_map F G f host place (named_after named p) ps rest each.1)
 
@@ -217,3 +217,11 @@ shallow_of depth host text (zero, is) = absurd is
 shallow_of depth host text (suc n, is) =
     let f : (d : ℕ) → Within (ShallowWithin n d) (ShallowFields d) = λ d h t one. (n, one) in
     (is.0, field_map Fields Fields (ShallowWithin n (depth + 1)) (ShallowFields (depth + 1)) _ _ (λ h t one. one) (f (depth + 1)) (shallow_map (ShallowWithin n) ShallowFields f (depth + 1)) host text is.1)
+
+-- shallow fields are fields
+shallow_fields : (n depth : ℕ) (host : Host) (text : List ℕ) → ShallowWithin n depth host text → Fields host text
+shallow_fields zero depth host text is = absurd is
+shallow_fields (suc n) depth host text is = field_is host text (field_map Fields Fields (ShallowWithin n (depth + 1)) Fields _ AnyPieces (λ h t one. one) (shallow_fields n (depth + 1)) (λ ps passes. tt) host text is.1)
+
+pub any_shallow : (depth : ℕ) (host : Host) (text : List ℕ) → ShallowFields depth host text → Fields host text
+any_shallow depth host text (n, is) = shallow_fields n depth host text is

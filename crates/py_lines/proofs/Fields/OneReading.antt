@@ -83,7 +83,7 @@ precede_before grammar comment text x c r s (inr breaks) = inr (sym (begins_same
 precede_before grammar join text x c r s before = ap (λ b. ends is_return text && b) (sym (begins_same is_line_feed x c r s)) ∙ before
 precede_before grammar line_end text x c r s before = ap (λ b. ends is_return text && b) (sym (begins_same is_line_feed x c r s)) ∙ before
 
-read_before : (grammar : Grammar) (ps : List Piece) (c : ℕ) (r s : List ℕ) → AreReadIn grammar ps (c ∷ r) → AreReadIn grammar ps (c ∷ s)
+pub read_before : (grammar : Grammar) (ps : List Piece) (c : ℕ) (r s : List ℕ) → AreReadIn grammar ps (c ∷ r) → AreReadIn grammar ps (c ∷ s)
 read_before grammar [] c r s fit = tt
 read_before grammar (p ∷ ps) c r s fit = (fit.0, precede_before grammar p.class p.text (spelled ps) c r s fit.1, fit.2, read_before grammar ps c r s fit.3)
 
@@ -187,21 +187,21 @@ same_field F G P Q begin_f begin_g agree host s t r u (specified ps parts one_is
     one_is ∙ ap (λ l. with_specification l parts []) is.0 ∙ ap (λ l. with_specification qs l []) specifications ∙ sym two_is
 
 -- every field begins with `{` and holds more
-some_head : (x : List ℕ) (d : ℕ) (y : List ℕ) → (c : ℕ) × (cs : List ℕ) × (x ++ d ∷ y ≡ c ∷ cs)
+pub some_head : (x : List ℕ) (d : ℕ) (y : List ℕ) → (c : ℕ) × (cs : List ℕ) × (x ++ d ∷ y ≡ c ∷ cs)
 some_head [] d y = (d, y, refl)
 some_head (c ∷ x) d y = (c, x ++ d ∷ y, refl)
 
-field_begins : (F : Host → List ℕ → Type 0) (P : List Piece → Type 0) (host : Host) (text : List ℕ) → IsField (with_fields F) P F host text → (c : ℕ) × (cs : List ℕ) × (text ≡ 123 ∷ c ∷ cs)
-field_begins F P host text (simple inside is fit passes) =
+pub field_begins : (grammar : Grammar) (P : List Piece → Type 0) (D : Host → List ℕ → Type 0) (host : Host) (text : List ℕ) → IsField grammar P D host text → (c : ℕ) × (cs : List ℕ) × (text ≡ 123 ∷ c ∷ cs)
+field_begins grammar P D host text (simple inside is fit passes) =
     let head = some_head (spelled inside) 125 [] in
     (head.0, head.1, is ∙ ap (λ t. 123 ∷ t) head.2)
-field_begins F P host text (specified inside parts is fit passes specification) =
+field_begins grammar P D host text (specified inside parts is fit passes specification) =
     let head = some_head (spelled inside) 58 (joined parts ++ 125 ∷ []) in
     (head.0, head.1, is ∙ ap (λ t. 123 ∷ t) head.2)
 
-within_begin : (n : ℕ) → BeginOpen (FieldsWithin n)
+pub within_begin : (n : ℕ) → BeginOpen (FieldsWithin n)
 within_begin zero host text is = absurd is
-within_begin (suc n) host text is = field_begins (FieldsWithin n) _ host text is
+within_begin (suc n) host text is = field_begins _ _ _ host text is
 
 within_agree : (n m : ℕ) → Agree (FieldsWithin n) (FieldsWithin m)
 within_agree zero m host s t r u one two at = absurd one
@@ -235,7 +235,7 @@ first_empty : (x y : List ℕ) → x ++ y ≡ [] → x ≡ []
 first_empty [] y h = refl
 first_empty (c ∷ x) y h = absurd (not_nothing [] c (x ++ y) h)
 
-ends_there : (ps qs zs : List Piece) (y : Piece) → AreReadIn fielded ps [] → ps ≡ qs ++ y ∷ zs → spelled ps ≡ spelled qs → ⊥
+pub ends_there : (ps qs zs : List Piece) (y : Piece) → AreReadIn fielded ps [] → ps ≡ qs ++ y ∷ zs → spelled ps ≡ spelled qs → ⊥
 ends_there ps qs zs y fit is at =
     let own = AreReadIn-second fielded qs (y ∷ zs) [] (subst (λ l. AreReadIn fielded l []) is fit) in
     let none : y.text ++ spelled zs ≡ [] = append_cancel_left (spelled qs) _ _ (sym (spelled-append qs (y ∷ zs)) ∙ ap spelled (sym is) ∙ at ∙ sym (append-nil (spelled qs))) in

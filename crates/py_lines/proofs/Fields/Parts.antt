@@ -41,7 +41,7 @@ brace_open : (c : ℕ) → is_brace c ≡ false → (c == 123) ≡ false
 unfolding is_brace
 brace_open c h = (or_parts _ _ h).0
 
-ordinary : (place : Place) (named : Bool) (c : ℕ) → is_ordinary place named c ≡ true → (c == 123) && not named ≡ false
+pub ordinary : (place : Place) (named : Bool) (c : ℕ) → is_ordinary place named c ≡ true → (c == 123) && not named ≡ false
 ordinary place true c h = none_false (c == 123)
 ordinary literal false c h = rw (not-true (c == 123) h)
 ordinary specification false c h = rw (brace_open c (not-true (is_brace c) h))
@@ -66,7 +66,7 @@ escaped_one host c rest brace named ended = rw (brace, named) (go (is_return c) 
     go true [] h = refl
     go true (d ∷ ds) h = rw h
 
-names_is : (host : Host) (c : ℕ) → names host c ≡ true → c ≡ 78
+pub names_is : (host : Host) (c : ℕ) → names host c ≡ true → c ≡ 78
 names_is host c h = eqb-true c 78 (go (c == 78) (not host.is_raw) h)
   where
     go : (a b : Bool) → a && b ≡ true → a ≡ true

@@ -78,7 +78,7 @@ field_letters (a ∷ b ∷ c ∷ cs) h = absurd (both_ways _ refl h)
 character_no_quote : (c : ℕ) → is_word_character c ≡ true → is_quote c ≡ false
 character_no_quote c h = false_from_ne_true _ (λ k. both_ways _ (quote-not-word c k) h)
 
-word_quotes : (cs : List ℕ) → list_all is_word_character cs ≡ true → list_any is_quote cs ≡ false
+pub word_quotes : (cs : List ℕ) → list_all is_word_character cs ≡ true → list_any is_quote cs ≡ false
 word_quotes [] h = refl
 word_quotes (c ∷ cs) h =
     let parts = and_parts _ _ h in

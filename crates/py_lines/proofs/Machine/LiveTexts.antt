@@ -91,19 +91,19 @@ pub record IsReady (m : Mode) : Type 0 where
   pub ends : is_final m ≡ true
   pub breaks : (c : ℕ) → is_closing c ≡ true → move_of m c ≡ moves.Breaks
 
-ready-start : IsReady modes.Start
+pub ready-start : IsReady modes.Start
 unfolding move_of is_closing is_mark
 ready-start = record { ends = refl; breaks = λ c h. each_of (λ x. move_of modes.Start x ≡ moves.Breaks) (41 ∷ 93 ∷ 125 ∷ []) c (refl, (refl, (refl, tt))) h }
 
-ready-free : IsReady modes.Free
+pub ready-free : IsReady modes.Free
 unfolding move_of
 ready-free = record { ends = refl; breaks = λ c h. refl }
 
-ready-space : IsReady modes.Space
+pub ready-space : IsReady modes.Space
 unfolding move_of is_closing is_space
 ready-space = record { ends = refl; breaks = λ c h. each_of (λ x. move_of modes.Space x ≡ moves.Breaks) (41 ∷ 93 ∷ 125 ∷ []) c (refl, (refl, (refl, tt))) h }
 
-closing-not-quote : (c : ℕ) → is_closing c ≡ true → is_quote c ≡ false
+pub closing-not-quote : (c : ℕ) → is_closing c ≡ true → is_quote c ≡ false
 unfolding is_closing is_quote
 closing-not-quote c h = none_of is_quote (41 ∷ 93 ∷ 125 ∷ []) c refl h
 
@@ -119,19 +119,19 @@ pub closing-operator : (c : ℕ) → is_closing c ≡ true → is_operator c ≡
 unfolding is_closing is_operator
 closing-operator c h = each_of (λ x. is_operator x ≡ true) (41 ∷ 93 ∷ 125 ∷ []) c (refl, (refl, (refl, tt))) h
 
-ready-word : (s : Spelling) → IsReady (modes.Word s)
+pub ready-word : (s : Spelling) → IsReady (modes.Word s)
 unfolding move_of
 ready-word s = record { ends = refl; breaks = λ c h. rw (closing-not-word c h, and_right (is_prefix_spelling s) (is_quote c) (closing-not-quote c h)) }
 
-ready-empty : (q : ℕ) → is_quote q ≡ true → IsReady (modes.Empty q)
+pub ready-empty : (q : ℕ) → is_quote q ≡ true → IsReady (modes.Empty q)
 unfolding move_of
 ready-empty q quotes = record { ends = refl; breaks = λ c h. rw (not_quote c q quotes (closing-not-quote c h)) }
 
-ready-join : IsReady modes.JoinReturn
+pub ready-join : IsReady modes.JoinReturn
 unfolding move_of
 ready-join = record { ends = refl; breaks = λ c h. rw (closing-not-feed c h) }
 
-ready-return : IsReady modes.Return
+pub ready-return : IsReady modes.Return
 unfolding move_of
 ready-return = record { ends = refl; breaks = λ c h. rw (closing-not-feed c h) }
 
@@ -146,7 +146,7 @@ pub record Completes (s : Scanned) (st : List Bracket) : Type 0 where
 at_once : (done : List Piece) (m : Mode) (held : List ℕ) (st : List Bracket) → IsReady m → brackets_of done ≡ Some st → Completes (scanned done m held) st
 at_once done m held st ready stack = record { more = []; to = scanned done m held; scalars = refl; goes = record { run = refl; stack = stack }; ready = ready }
 
-quote-scalar : (q : ℕ) → is_quote q ≡ true → IsScalar q
+pub quote-scalar : (q : ℕ) → is_quote q ≡ true → IsScalar q
 unfolding is_quote
 quote-scalar q h = each_of (λ x. IsScalar x) (39 ∷ 34 ∷ []) q (refl, (refl, tt)) h
 
@@ -173,11 +173,11 @@ closing_one done m held st c scalar closing opener closer stack = record {
 same-quote : (q : ℕ) → eqb q q ≡ true
 same-quote q = eq-eqb q q refl
 
-inside-closes : (q : ℕ) → move_of (modes.Inside q) q ≡ moves.Closes
+pub inside-closes : (q : ℕ) → move_of (modes.Inside q) q ≡ moves.Closes
 unfolding move_of
 inside-closes q = rw (same-quote q)
 
-opened-grows : (q : ℕ) → move_of (modes.Opened q) q ≡ moves.Grows (modes.Empty q)
+pub opened-grows : (q : ℕ) → move_of (modes.Opened q) q ≡ moves.Grows (modes.Empty q)
 unfolding move_of
 opened-grows q = rw (same-quote q)
 
@@ -185,39 +185,39 @@ quote-not-return : (q : ℕ) → is_quote q ≡ true → is_return q ≡ false
 unfolding is_quote is_return
 quote-not-return q h = none_of is_return (39 ∷ 34 ∷ []) q refl h
 
-escape-grows : (q : ℕ) → is_quote q ≡ true → move_of (modes.Escape q) q ≡ moves.Grows (modes.Inside q)
+pub escape-grows : (q : ℕ) → is_quote q ≡ true → move_of (modes.Escape q) q ≡ moves.Grows (modes.Inside q)
 unfolding move_of
 escape-grows q quotes = rw (quote-not-return q quotes)
 
-returned-closes : (q : ℕ) → is_quote q ≡ true → move_of (modes.EscapeReturn q) q ≡ moves.Closes
+pub returned-closes : (q : ℕ) → is_quote q ≡ true → move_of (modes.EscapeReturn q) q ≡ moves.Closes
 unfolding move_of
 returned-closes q quotes = rw (quote-not-feed q quotes, same-quote q)
 
-long-grows : (q : ℕ) → move_of (modes.Long q) q ≡ moves.Grows (modes.LongOne q)
+pub long-grows : (q : ℕ) → move_of (modes.Long q) q ≡ moves.Grows (modes.LongOne q)
 unfolding move_of
 long-grows q = rw (same-quote q)
 
-long-one-grows : (q : ℕ) → move_of (modes.LongOne q) q ≡ moves.Grows (modes.LongTwo q)
+pub long-one-grows : (q : ℕ) → move_of (modes.LongOne q) q ≡ moves.Grows (modes.LongTwo q)
 unfolding move_of
 long-one-grows q = rw (same-quote q)
 
-long-two-closes : (q : ℕ) → move_of (modes.LongTwo q) q ≡ moves.Closes
+pub long-two-closes : (q : ℕ) → move_of (modes.LongTwo q) q ≡ moves.Closes
 unfolding move_of
 long-two-closes q = rw (same-quote q)
 
-long-escape-grows : (q c : ℕ) → move_of (modes.LongEscape q) c ≡ moves.Grows (modes.Long q)
+pub long-escape-grows : (q c : ℕ) → move_of (modes.LongEscape q) c ≡ moves.Grows (modes.Long q)
 unfolding move_of
 long-escape-grows q c = refl
 
-slash-closes : move_of modes.Backslash 10 ≡ moves.Closes
+pub slash-closes : move_of modes.Backslash 10 ≡ moves.Closes
 unfolding move_of is_line_feed
 slash-closes = refl
 
-comment-breaks : move_of modes.Comment 10 ≡ moves.Breaks
+pub comment-breaks : move_of modes.Comment 10 ≡ moves.Breaks
 unfolding move_of is_break
 comment-breaks = refl
 
-feed-starts : start_of 10 ≡ starts.LineEnd
+pub feed-starts : start_of 10 ≡ starts.LineEnd
 unfolding is_line_feed
 feed-starts = start-feed 10 refl
 
@@ -268,11 +268,11 @@ abbrev pub closers : List Bracket → List ℕ
 closers [] = []
 closers (b ∷ bs) = closing_of b.opener ∷ closers bs
 
-closing_of-closing : (c : ℕ) → is_closing (closing_of c) ≡ true
+pub closing_of-closing : (c : ℕ) → is_closing (closing_of c) ≡ true
 unfolding is_closing
 closing_of-closing c = cond_both (c == 40) _ _ (λ x. is_closing x ≡ true) (λ h. refl) (λ h. cond_both (c == 91) _ _ (λ x. is_closing x ≡ true) (λ k. refl) (λ k. refl))
 
-closing-scalar : (c : ℕ) → is_closing c ≡ true → IsScalar c
+pub closing-scalar : (c : ℕ) → is_closing c ≡ true → IsScalar c
 unfolding is_closing
 closing-scalar c h = each_of (λ x. IsScalar x) (41 ∷ 93 ∷ 125 ∷ []) c (refl, (refl, (refl, tt))) h
 

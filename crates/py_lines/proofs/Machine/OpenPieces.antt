@@ -24,7 +24,7 @@ list_any-push p cs c none one = list_any-append p cs (c ∷ []) ∙ or_from _ _ 
 pub push : {x : ℕ} {xs : List ℕ} (held : List ℕ) (c : ℕ) → held ≡ x ∷ xs → held ++ c ∷ [] ≡ x ∷ (xs ++ c ∷ [])
 push held c is = ap (λ t. t ++ c ∷ []) is
 
-joined-push : (items : List (List ℕ)) (i : List ℕ) → joined (items ++ i ∷ []) ≡ joined items ++ i
+pub joined-push : (items : List (List ℕ)) (i : List ℕ) → joined (items ++ i ∷ []) ≡ joined items ++ i
 joined-push items i = joined-append items (i ∷ []) ∙ ap (λ t. joined items ++ t) (append-nil i)
 
 -- the quote that a string begins with, and what follows it
@@ -57,7 +57,7 @@ past_prefix (a ∷ bs) q body (inr is) quotes =
 pub same_quotes : (prefix other : List ℕ) (q r : ℕ) (body rest : List ℕ) → prefix ++ q ∷ body ≡ other ++ r ∷ rest → IsPrefix prefix → IsPrefix other → is_quote q ≡ true → is_quote r ≡ true → q ∷ body ≡ r ∷ rest
 same_quotes prefix other q r body rest same one two quotes also = sym (past_prefix prefix q body one quotes) ∙ ap from_quote same ∙ past_prefix other r rest two also
 
-not_one : (b : ℕ) (bs : List ℕ) (q r : ℕ) → b ∷ (bs ++ q ∷ []) ≡ r ∷ [] → ⊥
+pub not_one : (b : ℕ) (bs : List ℕ) (q r : ℕ) → b ∷ (bs ++ q ∷ []) ≡ r ∷ [] → ⊥
 not_one b [] q r h = cc
 not_one b (c ∷ cs) q r h = cc
 

@@ -61,14 +61,14 @@ long_opening q held holds = subst IsLongPrefix (append-nil held) (long_open q he
 long_escaped : (q : ℕ) (before : List ℕ) (slash : ℕ) → HoldsPrefix q before → is_backslash slash ≡ true → IsLongPrefix (before ++ slash ∷ [])
 long_escaped q before slash holds slashes = long_open q before (slash ∷ []) holds (inr (slash, refl, slashes))
 
-short_held : (m : Mode) (done : List Piece) (held : List ℕ) → Holds m done held → in_short m ≡ true → IsShortPrefix held
+pub short_held : (m : Mode) (done : List Piece) (held : List ℕ) → Holds m done held → in_short m ≡ true → IsShortPrefix held
 short_held (modes.Opened q) done held holds is = short_opening q held (opened_items q held holds)
 short_held (modes.Inside q) done held holds is = short_opening q held holds.all
 short_held (modes.Escape q) done held holds is = subst IsShortPrefix (sym holds.2) (short_escaped q holds.0 holds.1 holds.3 holds.4)
 short_held (modes.EscapeReturn q) done held holds is = short_opening q held (returned_items q done held holds).all
 short_held m done held holds is = absurd (both_ways _ refl is)
 
-long_held : (m : Mode) (done : List Piece) (held : List ℕ) → Holds m done held → in_long m ≡ true → IsLongPrefix held
+pub long_held : (m : Mode) (done : List Piece) (held : List ℕ) → Holds m done held → in_long m ≡ true → IsLongPrefix held
 long_held (modes.Long q) done held holds is = long_opening q held (opening_none q held holds)
 long_held (modes.LongOne q) done held holds is = long_opening q held (subst (HoldsPrefix q) (sym holds.1) (opening_one q holds.0 holds.2))
 long_held (modes.LongTwo q) done held holds is = long_opening q held (subst (HoldsPrefix q) (sym holds.1) (opening_two q holds.0 holds.2))
@@ -82,7 +82,7 @@ in_short_string s read sound is = record { pieces = s.done; rest = s.held; spell
 pub in_long_string : (s : Scanned) (read : List ℕ) → IsSound s read → in_long s.mode ≡ true → InLongString read (spelled s.done)
 in_long_string s read sound is = record { pieces = s.done; rest = s.held; spell = sound.spell; before = refl; fit = fit_held s read sound; inside = long_held s.mode s.done s.held sound.holds is }
 
-slash_held : (m : Mode) (done : List Piece) (held : List ℕ) → Holds m done held → is_after_backslash m ≡ true → (slash : ℕ) × (held ≡ slash ∷ []) × (is_backslash slash ≡ true)
+pub slash_held : (m : Mode) (done : List Piece) (held : List ℕ) → Holds m done held → is_after_backslash m ≡ true → (slash : ℕ) × (held ≡ slash ∷ []) × (is_backslash slash ≡ true)
 slash_held modes.Backslash done held holds is = holds
 slash_held m done held holds is = absurd (both_ways _ refl is)
 
@@ -90,7 +90,7 @@ pub after_backslash : (s : Scanned) (read : List ℕ) → IsSound s read → is_
 after_backslash s read sound is = record { pieces = s.done; rest = s.held; spell = sound.spell; before = refl; fit = fit_held s read sound; inside = slash_held s.mode s.done s.held sound.holds is }
 
 -- a string and a backslash don't begin with a mark
-start-not-mark : (c : ℕ) → is_word_start c ≡ true → is_mark c ≡ false
+pub start-not-mark : (c : ℕ) → is_word_start c ≡ true → is_mark c ≡ false
 unfolding unicode_ident is_word_start is_digit is_mark
 start-not-mark c h = false_from_ne_true _ (λ marks. both_ways _ (none_of is_word_start (65279 ∷ []) c refl marks) h)
 
@@ -98,11 +98,11 @@ quote-not-mark : (c : ℕ) → is_quote c ≡ true → is_mark c ≡ false
 unfolding is_quote is_mark
 quote-not-mark c h = none_of is_mark (39 ∷ 34 ∷ []) c refl h
 
-slash-not-mark : (c : ℕ) → is_backslash c ≡ true → is_mark c ≡ false
+pub slash-not-mark : (c : ℕ) → is_backslash c ≡ true → is_mark c ≡ false
 unfolding is_backslash is_mark
 slash-not-mark c h = none_of is_mark (92 ∷ []) c refl h
 
-prefix-unmarked : (prefix : List ℕ) (q : ℕ) (body : List ℕ) → IsPrefix prefix → is_quote q ≡ true → begins is_mark (prefix ++ q ∷ body) ≡ false
+pub prefix-unmarked : (prefix : List ℕ) (q : ℕ) (body : List ℕ) → IsPrefix prefix → is_quote q ≡ true → begins is_mark (prefix ++ q ∷ body) ≡ false
 prefix-unmarked [] q body is quotes = quote-not-mark q quotes
 prefix-unmarked (a ∷ bs) q body (inl empty) quotes = absurd (cc)
 prefix-unmarked (a ∷ bs) q body (inr is) quotes = start-not-mark a (prefix_word a bs is).0
@@ -141,10 +141,10 @@ is_long_mode q Seen.one = refl
 is_long_mode q Seen.two = refl
 
 -- a run into a short string
-record ShortEnd (done : List Piece) (from : Mode) (held body : List ℕ) : Type 0 where
-  to : Mode
-  short : in_short to ≡ true
-  steps : steps_from (Some (scanned done from held)) body ≡ Some (scanned done to (held ++ body))
+pub record ShortEnd (done : List Piece) (from : Mode) (held body : List ℕ) : Type 0 where
+  pub to : Mode
+  pub short : in_short to ≡ true
+  pub steps : steps_from (Some (scanned done from held)) body ≡ Some (scanned done to (held ++ body))
 
 short_last : (done : List Piece) (q : ℕ) (m : Mode) (held last : List ℕ) → IsShortMode q m → is_quote q ≡ true → IsUnescaped last → ShortEnd done m held last
 short_last done q m held last short quotes (inl empty) =
@@ -152,7 +152,7 @@ short_last done q m held last short quotes (inl empty) =
 short_last done q m held last short quotes (inr (slash, is, slashes)) =
     subst (ShortEnd done m held) (sym is) (record { to = modes.Escape q; short = refl; steps = grown done m (modes.Escape q) held slash [] (short_escapes q slash m short quotes slashes) })
 
-short_end : (done : List Piece) (q : ℕ) (held : List ℕ) (items : List (List ℕ)) (last : List ℕ) → is_quote q ≡ true → list_all (is_short_item q) items ≡ true → IsUnescaped last → ShortEnd done (modes.Opened q) held (joined items ++ last)
+pub short_end : (done : List Piece) (q : ℕ) (held : List ℕ) (items : List (List ℕ)) (last : List ℕ) → is_quote q ≡ true → list_all (is_short_item q) items ≡ true → IsUnescaped last → ShortEnd done (modes.Opened q) held (joined items ++ last)
 short_end done q held [] last quotes each escapes = short_last done q (modes.Opened q) held last (inl refl) quotes escapes
 short_end done q held (i ∷ is) last quotes each escapes =
     let body = short_body done q held i is quotes each in
@@ -177,10 +177,10 @@ stands_in_short characters start short =
     (ap (steps_from (Some reached.to)) rest.spell ∙ opened_steps reached.to rest.prefix rest.quote body rest.begun rest.opens stops ∙ inner.steps)
 
 -- a run into a long string
-record LongEnd (done : List Piece) (from : Mode) (held body : List ℕ) : Type 0 where
-  to : Mode
-  long : in_long to ≡ true
-  steps : steps_from (Some (scanned done from held)) body ≡ Some (scanned done to (held ++ body))
+pub record LongEnd (done : List Piece) (from : Mode) (held body : List ℕ) : Type 0 where
+  pub to : Mode
+  pub long : in_long to ≡ true
+  pub steps : steps_from (Some (scanned done from held)) body ≡ Some (scanned done to (held ++ body))
 
 long_last : (done : List Piece) (q : ℕ) (seen : Seen) (held last : List ℕ) → is_quote q ≡ true → IsUnescaped last → LongEnd done (mode_at q seen) held last
 long_last done q seen held last quotes (inl empty) =
@@ -188,7 +188,7 @@ long_last done q seen held last quotes (inl empty) =
 long_last done q seen held last quotes (inr (slash, is, slashes)) =
     subst (LongEnd done (mode_at q seen) held) (sym is) (record { to = modes.LongEscape q; long = refl; steps = grown done (mode_at q seen) (modes.LongEscape q) held slash [] (long_escapes q slash seen quotes slashes) })
 
-long_end : (done : List Piece) (q : ℕ) (held : List ℕ) (items : List (List ℕ)) (last : List ℕ) → is_quote q ≡ true → list_all is_item items ≡ true → has_triple q items ≡ false → IsUnescaped last → LongEnd done (modes.Long q) held (joined items ++ last)
+pub long_end : (done : List Piece) (q : ℕ) (held : List ℕ) (items : List (List ℕ)) (last : List ℕ) → is_quote q ≡ true → list_all is_item items ≡ true → has_triple q items ≡ false → IsUnescaped last → LongEnd done (modes.Long q) held (joined items ++ last)
 long_end done q held items last quotes each triple escapes =
     let later = long_last done q (seen_after q Seen.none items) (held ++ joined items) last quotes escapes in
     record {

@@ -46,7 +46,7 @@ closed_by_one done m held read c class sound is before follows =
     (λ more. subst (AreReadBefore done) (sym (append_assoc held (c ∷ []) more)) (sound.fit (c ∷ more))) is before follows
 
 -- a character begins a piece after finished ones
-start_sound : (done : List Piece) (read : List ℕ) (c : ℕ) (s : Start) → StartsSo c s → spelled done ≡ read → ((more : List ℕ) → AreReadBefore done (c ∷ more)) → SoundIf (started done c s) (read ++ c ∷ [])
+pub start_sound : (done : List Piece) (read : List ℕ) (c : ℕ) (s : Start) → StartsSo c s → spelled done ≡ read → ((more : List ℕ) → AreReadBefore done (c ∷ more)) → SoundIf (started done c s) (read ++ c ∷ [])
 start_sound done read c (starts.Open modes.Space) so spell fit = record { spell = ap (λ t. t ++ c ∷ []) spell; holds = (c, [], refl, and_from _ _ so refl); fit = fit }
 start_sound done read c (starts.Open (modes.Word s)) so spell fit = record { spell = ap (λ t. t ++ c ∷ []) spell; holds = (c, [], refl, so.0, refl, so.1); fit = fit }
 start_sound done read c (starts.Open modes.Comment) so spell fit = record { spell = ap (λ t. t ++ c ∷ []) spell; holds = (c, [], refl, so, refl); fit = fit }
@@ -348,7 +348,7 @@ end_with done m class held read sound unmarked is before = (spelled-push done cl
 end_none : (done : List Piece) (m : Mode) (held read : List ℕ) → IsSound (scanned done m held) read → held ≡ [] → (spelled done ≡ read) × AreReadBefore done []
 end_none done m held read sound empty = (sym (append-nil (spelled done)) ∙ ap (λ t. spelled done ++ t) (sym empty) ∙ sound.spell, subst (λ t. AreReadBefore done (t ++ [])) empty (sound.fit []))
 
-end_sound : (done : List Piece) (m : Mode) (held read : List ℕ) → IsSound (scanned done m held) read → is_final m ≡ true → (spelled (closed m done held) ≡ read) × AreReadBefore (closed m done held) []
+pub end_sound : (done : List Piece) (m : Mode) (held read : List ℕ) → IsSound (scanned done m held) read → is_final m ≡ true → (spelled (closed m done held) ≡ read) × AreReadBefore (closed m done held) []
 end_sound done modes.Start held read sound may = end_none done modes.Start held read sound sound.holds.1
 end_sound done modes.Free held read sound may = end_none done modes.Free held read sound sound.holds
 end_sound done modes.Space held read sound may = end_with done modes.Space space held read sound refl sound.holds refl

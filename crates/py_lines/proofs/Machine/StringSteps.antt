@@ -19,7 +19,7 @@ use Rattle.py_lines.proofs.Machine.Starts.{start-word, start-quote}
 use Rattle.py_lines.proofs.Machine.PieceSteps.{scanned, pieces_at, StopsBefore, Finds, steps_from-append, begun, grown, closes, all_held, stops-free, steps_word}
 
 -- a prefix, and the quote after it
-opens_at : (s : Spelling) (q : ℕ) → is_prefix_spelling s ≡ true → is_quote q ≡ true → move_of (modes.Word s) q ≡ moves.Grows (modes.Opened q)
+pub opens_at : (s : Spelling) (q : ℕ) → is_prefix_spelling s ≡ true → is_quote q ≡ true → move_of (modes.Word s) q ≡ moves.Grows (modes.Opened q)
 unfolding move_of
 opens_at s q prefix quotes = rw (quote-not-word q quotes, prefix, quotes)
 

@@ -9,7 +9,7 @@ use Rattle.py_lines.specs.Private.Machine.{Bracket, closed_by, opened_by, bracke
 use Rattle.py_lines.proofs.Text.CharacterTests.{none_of}
 
 -- a closing bracket is no opening one
-closing-not-opening : (c : ℕ) → is_closing c ≡ true → is_opening c ≡ false
+pub closing-not-opening : (c : ℕ) → is_closing c ≡ true → is_opening c ≡ false
 unfolding is_closing is_opening
 closing-not-opening c h = none_of is_opening (41 ∷ 93 ∷ 125 ∷ []) c refl h
 
@@ -53,10 +53,10 @@ operator_begins p line_end text h = absurd (both_ways _ refl h)
 pub depth-opener : (d : ℕ) (p : Piece) → is_opener p ≡ true → depth_after d p ≡ suc d
 depth-opener d p h = rw (h, add-one)
 
-depth-closer : (d : ℕ) (p : Piece) → is_closer p ≡ true → depth_after (suc d) p ≡ d
+pub depth-closer : (d : ℕ) (p : Piece) → is_closer p ≡ true → depth_after (suc d) p ≡ d
 depth-closer d p h = rw (closer-not-opener p h, h) (omega arith)
 
-depth-other : (d : ℕ) (p : Piece) → is_opener p ≡ false → is_closer p ≡ false → depth_after d p ≡ d
+pub depth-other : (d : ℕ) (p : Piece) → is_opener p ≡ false → is_closer p ≡ false → depth_after d p ≡ d
 depth-other d p h k = rw (h, k)
 
 pub depth_through-append : (d : ℕ) (ps qs : List Piece) → depth_through d (ps ++ qs) ≡ depth_through (depth_through d ps) qs
@@ -114,7 +114,7 @@ pub other_keeps : (st : List Bracket) (place : ℕ) (p : Piece) → is_opener p 
 unfolding brackets_after
 other_keeps st place p h k = rw (h, k)
 
-pair_kind : (a b : Piece) → ArePair a b → first_or_zero b.text == closing_of (first_or_zero a.text) ≡ true
+pub pair_kind : (a b : Piece) → ArePair a b → first_or_zero b.text == closing_of (first_or_zero a.text) ≡ true
 pair_kind a b both =
     begins_first is_closing (λ d. d == closing_of (first_or_zero a.text)) b.text (operator_begins is_closing b.class b.text both.closes)
     (begins_first is_opening (λ c. begins (λ d. d == closing_of c) b.text) a.text (operator_begins is_opening a.class a.text both.opens) both.kind)

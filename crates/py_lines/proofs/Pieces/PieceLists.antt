@@ -1,7 +1,7 @@
 -- Lists of pieces one after another.
 use Rattle.std.proofs.Common.{◌≡◌, ℕ, false, List, [], ◌∷◌, ◌++◌, refl, sym, ap, ◌∙◌, subst, append_assoc, append-nil}
 use Rattle.py_lines.specs.Piece.{Class, Piece, is_mark_class, begins_marked, spelled}
-use Rattle.py_lines.specs.PieceGrammar.{Grammar, without_fields, InClass, MayPrecede, AreReadIn, AreReadBefore, joined}
+use Rattle.py_lines.specs.PieceGrammar.{Grammar, without_fields, InClass, InClassIn, MayPrecede, MayPrecedeIn, AreReadIn, AreReadBefore, joined}
 
 abbrev pub piece : Class → List ℕ → Piece
 piece class text = record { class = class; text = text }
@@ -19,19 +19,22 @@ begins_marked-append : (ps qs : List Piece) → begins_marked ps ≡ false → b
 begins_marked-append [] qs first second = second
 begins_marked-append (p ∷ ps) qs first second = first
 
--- pieces that are read before others, and these before the rest
-pub AreReadBefore-append : (ps qs : List Piece) (rest : List ℕ) → AreReadBefore ps (spelled qs ++ rest) → AreReadBefore qs rest → MayFollow ps qs → AreReadBefore (ps ++ qs) rest
-AreReadBefore-append [] qs rest first second follows = second
-AreReadBefore-append (p ∷ ps) qs rest first second follows = (
+-- pieces that are read before others, and these before the rest, by any grammar of strings
+pub AreReadIn-append : (grammar : Grammar) (ps qs : List Piece) (rest : List ℕ) → AreReadIn grammar ps (spelled qs ++ rest) → AreReadIn grammar qs rest → MayFollow ps qs → AreReadIn grammar (ps ++ qs) rest
+AreReadIn-append grammar [] qs rest first second follows = second
+AreReadIn-append grammar (p ∷ ps) qs rest first second follows = (
   first.0,
-  subst (MayPrecede p.class p.text) (sym (append_assoc (spelled ps) (spelled qs) rest) ∙ ap (λ t. t ++ rest) (sym (spelled-append ps qs))) first.1,
+  subst (MayPrecedeIn grammar p.class p.text) (sym (append_assoc (spelled ps) (spelled qs) rest) ∙ ap (λ t. t ++ rest) (sym (spelled-append ps qs))) first.1,
   begins_marked-append ps qs first.2 follows,
-  AreReadBefore-append ps qs rest first.3 second (later ps follows),
+  AreReadIn-append grammar ps qs rest first.3 second (later ps follows),
 )
   where
     later : (os : List Piece) → begins_marked qs ≡ false → MayFollow os qs
     later [] h = tt
     later (o ∷ os) h = h
+
+pub AreReadBefore-append : (ps qs : List Piece) (rest : List ℕ) → AreReadBefore ps (spelled qs ++ rest) → AreReadBefore qs rest → MayFollow ps qs → AreReadBefore (ps ++ qs) rest
+AreReadBefore-append ps qs rest first second follows = AreReadIn-append without_fields ps qs rest first second follows
 
 -- the second part of pieces that are read, by any grammar of strings
 pub AreReadIn-second : (grammar : Grammar) (ps qs : List Piece) (rest : List ℕ) → AreReadIn grammar (ps ++ qs) rest → AreReadIn grammar qs rest
@@ -42,9 +45,12 @@ pub AreReadBefore-second : (ps qs : List Piece) (rest : List ℕ) → AreReadBef
 AreReadBefore-second ps qs rest fit = AreReadIn-second without_fields ps qs rest fit
 
 -- one more piece
+pub AreReadIn-push : (grammar : Grammar) (ps : List Piece) (class : Class) (text rest : List ℕ) → AreReadIn grammar ps (text ++ rest) → InClassIn grammar class text → MayPrecedeIn grammar class text rest → MayFollow ps (piece class text ∷ []) → AreReadIn grammar (ps ++ piece class text ∷ []) rest
+AreReadIn-push grammar ps class text rest fit is before follows =
+    AreReadIn-append grammar ps (piece class text ∷ []) rest (subst (AreReadIn grammar ps) (ap (λ t. t ++ rest) (sym (append-nil text))) fit) (is, before, refl, tt) follows
+
 pub AreReadBefore-push : (ps : List Piece) (class : Class) (text rest : List ℕ) → AreReadBefore ps (text ++ rest) → InClass class text → MayPrecede class text rest → MayFollow ps (piece class text ∷ []) → AreReadBefore (ps ++ piece class text ∷ []) rest
-AreReadBefore-push ps class text rest fit is before follows =
-    AreReadBefore-append ps (piece class text ∷ []) rest (subst (AreReadBefore ps) (ap (λ t. t ++ rest) (sym (append-nil text))) fit) (is, before, refl, tt) follows
+AreReadBefore-push ps class text rest fit is before follows = AreReadIn-push without_fields ps class text rest fit is before follows
 
 pub spelled-push : (ps : List Piece) (class : Class) (text : List ℕ) → spelled (ps ++ piece class text ∷ []) ≡ spelled ps ++ text
 spelled-push ps class text = spelled-append ps (piece class text ∷ []) ∙ ap (λ t. spelled ps ++ t) (append-nil text)
@@ -59,15 +65,18 @@ joined-append [] ys = refl
 joined-append (x ∷ xs) ys = ap (λ t. x ++ t) (joined-append xs ys) ∙ sym (append_assoc x (joined xs) (joined ys))
 
 -- the first part of pieces that are read
-pub AreReadBefore-first : (ps qs : List Piece) (rest : List ℕ) → AreReadBefore (ps ++ qs) rest → AreReadBefore ps (spelled qs ++ rest)
-AreReadBefore-first [] qs rest fit = tt
-AreReadBefore-first (p ∷ ps) qs rest fit = (
+pub AreReadIn-first : (grammar : Grammar) (ps qs : List Piece) (rest : List ℕ) → AreReadIn grammar (ps ++ qs) rest → AreReadIn grammar ps (spelled qs ++ rest)
+AreReadIn-first grammar [] qs rest fit = tt
+AreReadIn-first grammar (p ∷ ps) qs rest fit = (
   fit.0,
-  subst (MayPrecede p.class p.text) (ap (λ t. t ++ rest) (spelled-append ps qs) ∙ append_assoc (spelled ps) (spelled qs) rest) fit.1,
+  subst (MayPrecedeIn grammar p.class p.text) (ap (λ t. t ++ rest) (spelled-append ps qs) ∙ append_assoc (spelled ps) (spelled qs) rest) fit.1,
   marked-first ps qs fit.2,
-  AreReadBefore-first ps qs rest fit.3,
+  AreReadIn-first grammar ps qs rest fit.3,
 )
   where
     marked-first : (os rs : List Piece) → begins_marked (os ++ rs) ≡ false → begins_marked os ≡ false
     marked-first [] rs h = refl
     marked-first (o ∷ os) rs h = h
+
+pub AreReadBefore-first : (ps qs : List Piece) (rest : List ℕ) → AreReadBefore (ps ++ qs) rest → AreReadBefore ps (spelled qs ++ rest)
+AreReadBefore-first ps qs rest fit = AreReadIn-first without_fields ps qs rest fit

@@ -1,0 +1,5 @@
+-- The logical lines of texts with fields.
+pub mod Prefixes
+pub mod SettledLines
+pub mod Uniqueness
+pub mod Existence

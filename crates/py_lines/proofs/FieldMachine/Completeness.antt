@@ -1,0 +1,138 @@
+-- The machine with fields goes through every text that is read with fields, and finds its pieces.
+use Rattle.std.proofs.Common.{◌≡◌, ℕ, true, false, None, Some, List, [], ◌∷◌, ◌++◌, refl, sym, ap, ◌∙◌, subst, ⊎_elim}
+use Rattle.std.proofs.lemmas.Bool.{cases_Bool}
+use Rattle.py_lines.specs.Character.{is_mark}
+use Rattle.py_lines.specs.Piece.{Class, mark, space, word, string, operator, comment, join, line_end, Piece, begins, is_mark_class, spelled}
+use Rattle.py_lines.specs.PieceGrammar.{AreReadIn}
+use Rattle.py_lines.specs.FieldStrings.{Host, with_fields}
+use Rattle.py_lines.specs.Fields.{Fields, fielded, ShallowFields, IsFieldReading}
+use Rattle.py_lines.specs.declared.mode.Mode.TheVariants as modes
+use Rattle.py_lines.specs.Private.Machine.{move_of}
+use Rattle.py_lines.specs.Private.FieldMachine.{FieldMode, plain, closes, breaks, FieldScanned, field_state, field_fresh, field_text_start, field_closed, field_pieces, field_move, field_moved, field_started, field_step, field_steps_from, openers_through, have_room, IsFieldFinal}
+use Rattle.py_lines.proofs.Pieces.PieceLists.{piece}
+use Rattle.py_lines.proofs.Machine.Starts.{start-mark}
+use Rattle.py_lines.proofs.Machine.ReadingSteps.{MayBegin}
+use Rattle.py_lines.proofs.Fields.Parts.{BeginOpen}
+use Rattle.py_lines.proofs.Fields.OneReading.{fields_begin}
+use Rattle.py_lines.proofs.FieldMachine.Runs.{NoLimit, BelowLimit, HasRoomFor, Goes, StopsAt, goes-append, goes-closes, stops-fresh, steps_of, room_of}
+use Rattle.py_lines.proofs.FieldMachine.ListBrackets.{none_some, balanced_openers}
+use Rattle.py_lines.proofs.FieldMachine.CodeRuns.{ArePassed, FieldsRun, all_found}
+use Rattle.py_lines.proofs.FieldMachine.Nesting.{fields_run, passed_any, begin_shallow, shallow_run, passed_shallow}
+
+-- the machine goes through a text from its start, finds these pieces, with these brackets open after them, and may stop before
+-- the rest
+pub record FieldReaches (Room : ℕ → Type 0) (text : List ℕ) (pieces : List Piece) (after rest : List ℕ) : Type 0 where
+  pub done : List Piece
+  pub mode : FieldMode
+  pub held : List ℕ
+  pub goes : Goes Room field_text_start text (field_state [] done after mode held)
+  pub pieces_are : field_closed mode done held ≡ pieces
+  pub stops : MayBegin pieces rest → StopsAt mode held rest
+
+start_breaks : (c : ℕ) → is_mark c ≡ false → field_move (plain modes.Start) [] c ≡ breaks
+unfolding field_move move_of
+start_breaks c h = rw h
+
+start_closes : (c : ℕ) → is_mark c ≡ true → field_move (plain modes.Start) [] c ≡ closes
+unfolding field_move move_of
+start_closes c h = rw h
+
+stops_start : (rest : List ℕ) → begins is_mark rest ≡ false → StopsAt (plain modes.Start) [] rest
+stops_start [] h = refl
+stops_start (c ∷ cs) h = start_breaks c h
+
+no_mark : (c : ℕ) (next : FieldScanned) → field_step (field_fresh [] [] []) c ≡ Some next → is_mark c ≡ false
+no_mark c next step = ⊎_elim (λ is. absurd (none_some (stuck is))) (λ h. h) (cases_Bool (is_mark c))
+  where
+    stuck : is_mark c ≡ true → None ≡ Some next
+    stuck is = sym (ap (field_started [] [] [] c) (start-mark c is)) ∙ sym (ap (field_moved (field_fresh [] [] []) c) (stops-fresh (c ∷ []))) ∙ step
+
+-- without a mark, the start is like any other place
+start_goes : (Room : ℕ → Type 0) (text : List ℕ) (t : FieldScanned) (p : Piece) (ps : List Piece) → Goes Room (field_fresh [] [] []) text t → field_pieces t ≡ p ∷ ps → Goes Room field_text_start text t
+start_goes Room [] t p ps goes found =
+    let none : [] ≡ p ∷ ps = ap field_pieces goes ∙ found in
+    absurd (cc)
+start_goes Room (c ∷ cs) t p ps (next, step, room, others) found =
+    let fresh_at : FieldScanned = field_fresh [] [] [] in
+    let unmarked = no_mark c next step in
+    let move = start_breaks c unmarked in (
+      next,
+      ap (field_moved field_text_start c) move ∙ sym (ap (field_moved fresh_at c) (stops-fresh (c ∷ []))) ∙ step,
+      subst (HasRoomFor Room 0 c) (stops-fresh (c ∷ []) ∙ sym move) room,
+      others,
+    )
+
+module _ (Room : ℕ → Type 0) (F : ℕ → Host → List ℕ → Type 0) (begin : (depth : ℕ) → BeginOpen (F depth)) (run : FieldsRun Room F) (G : Host → List ℕ → Type 0) where
+  others_reached : (p : Piece) (ps : List Piece) (after rest : List ℕ) → AreReadIn (with_fields G) (p ∷ ps) rest → ArePassed Room F 0 (p ∷ ps) → openers_through (Some []) (p ∷ ps) ≡ Some after → is_mark_class p.class ≡ false → FieldReaches Room (spelled (p ∷ ps)) (p ∷ ps) after rest
+  others_reached p ps after rest fit passed opens unmarked =
+      let found = all_found Room F begin run G (field_fresh [] [] []) (p ∷ ps) after rest fit unmarked passed opens tt (stops-fresh _) in
+      record {
+        done = found.done;
+        mode = found.mode;
+        held = found.held;
+        goes = start_goes Room (spelled (p ∷ ps)) (field_state [] found.done after found.mode found.held) p ps found.goes found.pieces_are;
+        pieces_are = found.pieces_are;
+        stops = λ h. found.stops;
+      }
+
+  marked_reached : (text : List ℕ) (ps : List Piece) (after rest : List ℕ) → AreReadIn (with_fields G) (piece mark text ∷ ps) rest → ArePassed Room F 0 (piece mark text ∷ ps) → openers_through (Some []) (piece mark text ∷ ps) ≡ Some after → FieldReaches Room (spelled (piece mark text ∷ ps)) (piece mark text ∷ ps) after rest
+  marked_reached text ps after rest fit passed opens =
+      let c = fit.0.0 in
+      let P : List ℕ → Type 0 = λ t. FieldReaches Room (t ++ spelled ps) (piece mark t ∷ ps) after rest in
+      let marked : FieldScanned = field_fresh [] (piece mark (c ∷ []) ∷ []) [] in
+      let found = all_found Room F begin run G marked ps after rest fit.3 fit.2 passed.2 opens tt (stops-fresh _) in
+      let last : FieldScanned = field_state [] found.done after found.mode found.held in
+      subst P (sym fit.0.1) (record {
+        done = found.done;
+        mode = found.mode;
+        held = found.held;
+        goes = goes-append Room field_text_start marked last (c ∷ []) (spelled ps) (goes-closes Room field_text_start c (start_closes c fit.0.2)) found.goes;
+        pieces_are = found.pieces_are;
+        stops = λ h. found.stops;
+      })
+
+  pub reached : (ps : List Piece) (after rest : List ℕ) → AreReadIn (with_fields G) ps rest → ArePassed Room F 0 ps → openers_through (Some []) ps ≡ Some after → FieldReaches Room (spelled ps) ps after rest
+  reached [] after rest fit passed opens = nothing (cc)
+    where
+      nothing : [] ≡ after → FieldReaches Room [] [] after rest
+      nothing same = record { done = []; mode = plain modes.Start; held = []; goes = ap (λ os. field_state [] [] os (plain modes.Start) []) same; pieces_are = refl; stops = stops_start rest }
+  reached (p ∷ ps) after rest fit passed opens = go p.class p.text fit passed opens
+    where
+      go : (class : Class) (text : List ℕ) → AreReadIn (with_fields G) (piece class text ∷ ps) rest → ArePassed Room F 0 (piece class text ∷ ps) → openers_through (Some []) (piece class text ∷ ps) ≡ Some after → FieldReaches Room (spelled (piece class text ∷ ps)) (piece class text ∷ ps) after rest
+      go mark text h k l = marked_reached text ps after rest h k l
+      go space text h k l = others_reached (piece space text) ps after rest h k l refl
+      go word text h k l = others_reached (piece word text) ps after rest h k l refl
+      go string text h k l = others_reached (piece string text) ps after rest h k l refl
+      go operator text h k l = others_reached (piece operator text) ps after rest h k l refl
+      go comment text h k l = others_reached (piece comment text) ps after rest h k l refl
+      go join text h k l = others_reached (piece join text) ps after rest h k l refl
+      go line_end text h k l = others_reached (piece line_end text) ps after rest h k l refl
+
+-- The machine goes through pieces that are read before the rest, however deep they are.
+pub fields_reached : (ps : List Piece) (after rest : List ℕ) → AreReadIn fielded ps rest → openers_through (Some []) ps ≡ Some after → FieldReaches NoLimit (spelled ps) ps after rest
+fields_reached ps after rest fit opens = reached NoLimit (λ d. Fields) (λ d. fields_begin) fields_run Fields ps after rest fit (passed_any Fields 0 ps rest fit) opens
+
+-- The machine reads a text: it goes through it within the limit, to a state where it may end, and finds these pieces.
+pub record FieldReads (pieces : List Piece) (characters : List ℕ) : Type 0 where
+  pub to : FieldScanned
+  pub steps : field_steps_from (Some field_text_start) characters ≡ Some to
+  pub room : have_room (Some field_text_start) characters ≡ true
+  pub final : IsFieldFinal to
+  pub pieces_are : field_pieces to ≡ pieces
+
+-- So every text that has a reading is read.
+pub reading_reached : (pieces : List Piece) (characters : List ℕ) → IsFieldReading pieces characters → FieldReads pieces characters
+reading_reached pieces characters is =
+    let found = reached BelowLimit ShallowFields begin_shallow shallow_run Fields pieces [] [] is.reads.fit (passed_shallow ShallowFields 0 pieces is.shallow) (balanced_openers pieces is.balanced []) in
+    let to : FieldScanned = field_state [] found.done [] found.mode found.held in
+    record {
+      to = to;
+      steps = ap (field_steps_from (Some field_text_start)) (sym is.reads.spell) ∙ steps_of BelowLimit field_text_start to (spelled pieces) found.goes;
+      room = ap (have_room (Some field_text_start)) (sym is.reads.spell) ∙ room_of field_text_start to (spelled pieces) found.goes;
+      final = record { outside = refl; closed_all = refl; ends = found.stops (may_begin pieces) };
+      pieces_are = found.pieces_are;
+    }
+  where
+    may_begin : (ps : List Piece) → MayBegin ps []
+    may_begin [] = refl
+    may_begin (p ∷ ps) = tt

@@ -1,0 +1,176 @@
+-- The machine with fields goes through a field, where it goes through those in it: so through all.
+use Rattle.std.proofs.Common.{◌≡◌, ℕ, ◌+◌, Bool, true, false, ◌==◌, Some, List, [], ◌∷◌, ◌++◌, length, refl, sym, ap, ◌∙◌, subst, append_assoc, append-nil, arith}
+use Rattle.std.proofs.lemmas.Bool.{both_ways}
+use Rattle.py_lines.specs.Character.{is_quote, is_operator, is_backslash, is_break}
+use Rattle.py_lines.specs.Piece.{Piece, spelled}
+use Rattle.py_lines.specs.PieceGrammar.{joined, has_triple, AreReadIn}
+use Rattle.py_lines.specs.Balance.{is_opening}
+use Rattle.py_lines.specs.FieldStrings.{Host, Place, literal, specification, begins_double, named_through, with_fields}
+use Rattle.py_lines.specs.Fields.{AreInside, IsSpecification, IsField, simple, specified}
+use Rattle.py_lines.specs.declared.mode.Start.TheVariants as starts
+use Rattle.py_lines.specs.Private.Machine.{start_of}
+use Rattle.py_lines.specs.Private.FieldMachine.{At, between, after_brace, body, begins_code, opens_field, ends_field, Level, FieldScanned, field_state, field_fresh, field_ended, field_pieces, between_move, body_move, field_move, field_moved, field_started, code_operator, levels_open, frames}
+use Rattle.py_lines.proofs.Text.CharacterTests.{not_quote}
+use Rattle.py_lines.proofs.Machine.Starts.{start-operator}
+use Rattle.py_lines.proofs.Fields.Parts.{BeginOpen}
+use Rattle.py_lines.proofs.Fields.OneReading.{some_head}
+use Rattle.py_lines.proofs.FieldMachine.Runs.{Goes, HasRoomFor, goes-append, goes-to, goes-grows, goes-begins, stops-fresh}
+use Rattle.py_lines.proofs.FieldMachine.ListBrackets.{balanced_openers}
+use Rattle.py_lines.proofs.FieldMachine.PieceRuns.{FieldFinds}
+use Rattle.py_lines.proofs.FieldMachine.StringParts.{settled, MayGoOn, goes_on, body_moves, open_moves, parts_go}
+use Rattle.py_lines.proofs.FieldMachine.CodeRuns.{ArePassed, FieldsRun, all_found}
+
+-- after `{` in a literal part, what isn't another
+pub code_moves : (host : Host) (named : Bool) (held : List ℕ) (c : ℕ) → c == 123 ≡ false → field_move (body host literal named after_brace) held c ≡ begins_code host
+unfolding field_move body_move
+code_moves host named held c other = rw other
+
+end_no_quote : is_quote 125 ≡ false
+unfolding is_quote
+end_no_quote = refl
+
+-- the `}` of a specification
+end_moves : (host : Host) (at : At) → is_quote host.quote ≡ true → between_move host specification false at 125 ≡ ends_field
+unfolding between_move is_backslash is_break
+end_moves host at quotes = rw (not_quote 125 host.quote quotes end_no_quote)
+
+brace_ends : (level : Level) (outer : List Level) (done : List Piece) → code_operator level outer done 125 ≡ Some (field_ended level outer (level.front ++ (spelled done ++ 125 ∷ [])))
+unfolding code_operator
+brace_ends level outer done = refl
+
+pub colon_opens : (level : Level) (outer : List Level) (done : List Piece) → code_operator level outer done 58 ≡ Some (field_state (level ∷ outer) [] [] (body level.host specification false between) (level.front ++ (spelled done ++ 58 ∷ [])))
+unfolding code_operator
+colon_opens level outer done = refl
+
+brace_starts : start_of 125 ≡ starts.Operator
+unfolding is_operator
+brace_starts = start-operator 125 refl
+
+pub colon_starts : start_of 58 ≡ starts.Operator
+unfolding is_operator
+colon_starts = start-operator 58 refl
+
+brace_opens_none : is_opening 125 ≡ false
+unfolding is_opening
+brace_opens_none = refl
+
+pub colon_opens_none : is_opening 58 ≡ false
+unfolding is_opening
+colon_opens_none = refl
+
+module _ (Room : ℕ → Type 0) (outer : List Level) (done : List Piece) (openers : List ℕ) (host : Host) where
+  abbrev depth : ℕ
+  depth = length openers + levels_open outer
+
+  -- the field that opens after this text of the string, with its `{`
+  abbrev level_at : Place → List ℕ → Level
+  level_at place held = record { done = done; openers = openers; host = host; place = place; front = held ++ 123 ∷ [] }
+
+  abbrev in_string : Place → At → List ℕ → FieldScanned
+  in_string place at held = field_state outer done openers (body host place false at) held
+
+  -- in the field, before its code
+  abbrev in_field : Place → List ℕ → FieldScanned
+  in_field place held = field_fresh (level_at place held ∷ outer) [] []
+
+  deeper : (place : Place) (held : List ℕ) → frames (in_field place held) ≡ depth + 1
+  deeper place held = omega arith
+
+  -- the `{` and the first character of the code
+  opens : (place : Place) (at : At) (held : List ℕ) (c : ℕ) (cs : List ℕ) (t : FieldScanned) → is_quote host.quote ≡ true → Room depth → (place ≡ literal → (c == 123) ≡ false) → MayGoOn host place false at (123 ∷ c ∷ cs) → Goes Room (in_field place held) (c ∷ cs) t → Goes Room (in_string place at held) (123 ∷ c ∷ cs) t
+  opens specification at held c cs t quotes room single here goes =
+      let move : field_move (body host specification false at) held 123 ≡ opens_field host = body_moves host specification false at held 123 (c ∷ cs) here ∙ open_moves host specification (settled at) quotes in
+      (in_field specification held, ap (field_moved (in_string specification at held) 123) move, subst (HasRoomFor Room (frames (in_string specification at held)) 123) (sym move) room, goes)
+  opens literal at held c cs t quotes room single here (next, step, has_room, others) =
+      let braced : FieldScanned = in_string literal after_brace (held ++ 123 ∷ []) in
+      let move : field_move (body host literal false after_brace) (held ++ 123 ∷ []) c ≡ begins_code host = code_moves host false (held ++ 123 ∷ []) c (single refl) in
+      goes-grows Room (in_string literal at held) t (body host literal false after_brace) 123 (c ∷ cs) (body_moves host literal false at held 123 (c ∷ cs) here ∙ open_moves host literal (settled at) quotes) (
+        next,
+        ap (field_moved braced c) move ∙ sym (ap (field_moved (in_field literal held) c) (stops-fresh (c ∷ []))) ∙ step,
+        subst (HasRoomFor Room (frames braced) c) (sym move) (room, λ is. subst Room (deeper literal held) (subst (HasRoomFor Room (frames (in_field literal held)) c) (stops-fresh (c ∷ [])) has_room is)),
+        others,
+      )
+
+  pub opens_text : (place : Place) (at : At) (held code : List ℕ) (c : ℕ) (cs : List ℕ) (t : FieldScanned) → code ≡ c ∷ cs → is_quote host.quote ≡ true → Room depth → (place ≡ literal → begins_double (123 ∷ code) ≡ false) → MayGoOn host place false at (123 ∷ code) → Goes Room (in_field place held) code t → Goes Room (in_string place at held) (123 ∷ code) t
+  opens_text place at held code c cs t is quotes room single here goes =
+      let P : List ℕ → Type 0 = λ x. (place ≡ literal → begins_double (123 ∷ x) ≡ false) → MayGoOn host place false at (123 ∷ x) → Goes Room (in_field place held) x t → Goes Room (in_string place at held) (123 ∷ x) t in
+      subst P (sym is) (λ s h g. opens place at held c cs t quotes room s h g) single here goes
+
+  module _ (F : ℕ → Host → List ℕ → Type 0) (begin : (depth : ℕ) → BeginOpen (F depth)) (run : FieldsRun Room F) (G : Host → List ℕ → Type 0) where
+    -- the field's code, before the character that ends it
+    code_found : (place : Place) (held : List ℕ) (inside : List Piece) (e : ℕ) → AreInside (with_fields G) inside (e ∷ []) → ArePassed Room F (depth + 1) inside → FieldFinds Room (in_field place held) (spelled inside) inside [] (e ∷ [])
+    code_found place held inside e is passed =
+        all_found Room F begin run G (in_field place held) inside [] (e ∷ []) is.fit is.unmarked (subst (λ n. ArePassed Room F n inside) (sym (deeper place held)) passed)
+        (balanced_openers inside is.balanced []) is.colon (stops-fresh (spelled inside ++ e ∷ []))
+
+    -- and that character
+    pub code_goes : (place : Place) (held : List ℕ) (inside : List Piece) (e : ℕ) (t : List Piece → FieldScanned) → AreInside (with_fields G) inside (e ∷ []) → ArePassed Room F (depth + 1) inside → start_of e ≡ starts.Operator → is_opening e ≡ false → ((ps : List Piece) → code_operator (level_at place held) outer ps e ≡ Some (t ps)) → Goes Room (in_field place held) (spelled inside ++ e ∷ []) (t inside)
+    code_goes place held inside e t is passed starts_as no_bracket ends =
+        let found = code_found place held inside e is passed in
+        let level : Level = level_at place held in
+        let s : FieldScanned = field_state (level ∷ outer) found.done [] found.mode found.held in
+        let last : Goes Room s (e ∷ []) (t (field_pieces s)) =
+        goes-begins Room s (t (field_pieces s)) (t (field_pieces s)) e [] found.stops
+        (ap (field_started (level ∷ outer) (field_pieces s) [] e) starts_as ∙ ends (field_pieces s)) (λ is_one. absurd (both_ways _ no_bracket is_one)) refl in
+        goes-to Room (in_field place held) (t (field_pieces s)) (t inside) (spelled inside ++ e ∷ [])
+        (goes-append Room (in_field place held) s (t (field_pieces s)) (spelled inside) (e ∷ []) found.goes last) (ap t found.pieces_are)
+
+    -- a field without a specification
+    simple_goes : (place : Place) (at : At) (held : List ℕ) (inside : List Piece) → is_quote host.quote ≡ true → Room depth → AreInside (with_fields G) inside (125 ∷ []) → ArePassed Room F (depth + 1) inside → (place ≡ literal → begins_double (123 ∷ spelled inside ++ 125 ∷ []) ≡ false) → MayGoOn host place false at (123 ∷ spelled inside ++ 125 ∷ []) → Goes Room (in_string place at held) (123 ∷ spelled inside ++ 125 ∷ []) (in_string place between (held ++ (123 ∷ spelled inside ++ 125 ∷ [])))
+    simple_goes place at held inside quotes room is passed single here =
+        let code : List ℕ = spelled inside ++ 125 ∷ [] in
+        let level : Level = level_at place held in
+        let ended : List Piece → FieldScanned = λ ps. field_ended level outer (level.front ++ (spelled ps ++ 125 ∷ [])) in
+        let full = some_head (spelled inside) 125 [] in
+        goes-to Room (in_string place at held) (ended inside) _ (123 ∷ code)
+        (opens_text place at held code full.0 full.1 (ended inside) full.2 quotes room single here (code_goes place held inside 125 ended is passed brace_starts brace_opens_none (λ ps. brace_ends level outer ps)))
+        (ap (in_string place between) (append_assoc held (123 ∷ []) code))
+
+    -- a specification, up to the field's `}`
+    specification_goes : (place : Place) (held text : List ℕ) (parts : List (List ℕ)) → is_quote host.quote ≡ true → IsSpecification (F (depth + 1)) host parts → Goes Room (field_state (level_at place held ∷ outer) [] [] (body host specification false between) text) (joined parts ++ 125 ∷ []) (in_string place between (text ++ (joined parts ++ 125 ∷ [])))
+    specification_goes place held text parts quotes is =
+        let inner : List Level = level_at place held ∷ outer in
+        let same : depth + 1 ≡ length {A = ℕ} [] + levels_open inner = sym (deeper place held) in
+        let each = subst (λ n. IsSpecification (F n) host parts) same is in
+        let d = length {A = ℕ} [] + levels_open inner in
+        let parts_run = parts_go Room inner [] [] (F d) (begin d) (run inner [] []) host specification false between text parts (125 ∷ []) [] quotes each.each
+        (goes_on host specification false (joined parts ++ 125 ∷ [])) (subst (λ l. has_triple host.quote l ≡ false) (sym (append-nil parts)) each.open_yet) in
+        let to = parts_run.to in
+        let held_then : List ℕ = text ++ joined parts in
+        let s : FieldScanned = field_state inner [] [] (body host specification (named_through false parts) to) held_then in
+        let on : MayGoOn host specification false to (125 ∷ []) = subst (λ n. MayGoOn host specification n to (125 ∷ [])) each.ended parts_run.on in
+        let move : field_move (body host specification (named_through false parts) to) held_then 125 ≡ ends_field =
+        ap (λ n. field_move (body host specification n to) held_then 125) each.ended ∙ body_moves host specification false to held_then 125 [] on ∙ end_moves host (settled to) quotes in
+        let t : FieldScanned = in_string place between (held_then ++ 125 ∷ []) in
+        let last : Goes Room s (125 ∷ []) t = (t, ap (field_moved s 125) move, subst (HasRoomFor Room (frames s) 125) (sym move) tt, refl) in
+        goes-to Room (field_state inner [] [] (body host specification false between) text) t _ (joined parts ++ 125 ∷ [])
+        (goes-append Room (field_state inner [] [] (body host specification false between) text) s t (joined parts) (125 ∷ []) parts_run.goes last)
+        (ap (in_string place between) (append_assoc text (joined parts) (125 ∷ [])))
+
+    -- a field with one
+    specified_goes : (place : Place) (at : At) (held : List ℕ) (inside : List Piece) (parts : List (List ℕ)) → is_quote host.quote ≡ true → Room depth → AreInside (with_fields G) inside (58 ∷ []) → ArePassed Room F (depth + 1) inside → IsSpecification (F (depth + 1)) host parts → (place ≡ literal → begins_double (123 ∷ spelled inside ++ (58 ∷ joined parts ++ 125 ∷ [])) ≡ false) → MayGoOn host place false at (123 ∷ spelled inside ++ (58 ∷ joined parts ++ 125 ∷ [])) → Goes Room (in_string place at held) (123 ∷ spelled inside ++ (58 ∷ joined parts ++ 125 ∷ [])) (in_string place between (held ++ (123 ∷ spelled inside ++ (58 ∷ joined parts ++ 125 ∷ []))))
+    specified_goes place at held inside parts quotes room is passed own single here =
+        let later : List ℕ = joined parts ++ 125 ∷ [] in
+        let code : List ℕ = spelled inside ++ 58 ∷ later in
+        let level : Level = level_at place held in
+        let begun : List Piece → FieldScanned = λ ps. field_state (level ∷ outer) [] [] (body host specification false between) (level.front ++ (spelled ps ++ 58 ∷ [])) in
+        let text : List ℕ = level.front ++ (spelled inside ++ 58 ∷ []) in
+        let ended : FieldScanned = in_string place between (text ++ later) in
+        let full = some_head (spelled inside) 58 later in
+        let all : Goes Room (in_field place held) code ended =
+        subst (λ x. Goes Room (in_field place held) x ended) (append_assoc (spelled inside) (58 ∷ []) later)
+        (goes-append Room (in_field place held) (begun inside) ended (spelled inside ++ 58 ∷ []) later
+        (code_goes place held inside 58 begun is passed colon_starts colon_opens_none (λ ps. colon_opens level outer ps))
+        (specification_goes place held text parts quotes own)) in
+        goes-to Room (in_string place at held) ended _ (123 ∷ code) (opens_text place at held code full.0 full.1 ended full.2 quotes room single here all)
+        (ap (in_string place between)
+        (append_assoc level.front (spelled inside ++ 58 ∷ []) later ∙ ap (λ x. level.front ++ x) (append_assoc (spelled inside) (58 ∷ []) later) ∙ append_assoc held (123 ∷ []) code))
+
+    -- a field, whose pieces meet a condition by which what opens in them may open there
+    pub field_goes : (Passes : List Piece → Type 0) → ((ps : List Piece) (rest : List ℕ) → AreReadIn (with_fields G) ps rest → Passes ps → ArePassed Room F (depth + 1) ps) → (place : Place) (at : At) (held text : List ℕ) → is_quote host.quote ≡ true → Room depth → IsField (with_fields G) Passes (F (depth + 1)) host text → (place ≡ literal → begins_double text ≡ false) → MayGoOn host place false at text → Goes Room (in_string place at held) text (in_string place between (held ++ text))
+    field_goes Passes passed place at held text quotes room (simple inside spell is passes) single here =
+        let P : List ℕ → Type 0 = λ t. (place ≡ literal → begins_double t ≡ false) → MayGoOn host place false at t → Goes Room (in_string place at held) t (in_string place between (held ++ t)) in
+        subst P (sym spell) (λ s h. simple_goes place at held inside quotes room is (passed inside (125 ∷ []) is.fit passes) s h) single here
+    field_goes Passes passed place at held text quotes room (specified inside parts spell is passes own) single here =
+        let P : List ℕ → Type 0 = λ t. (place ≡ literal → begins_double t ≡ false) → MayGoOn host place false at t → Goes Room (in_string place at held) t (in_string place between (held ++ t)) in
+        subst P (sym spell) (λ s h. specified_goes place at held inside parts quotes room is (passed inside (58 ∷ []) is.fit passes) own s h) single here

@@ -1,0 +1,211 @@
+-- The machine with fields goes from the text's start to a list of pieces that begins in fields, and through its first pieces.
+use Rattle.std.proofs.Common.{◌≡◌, ℕ, ◌+◌, true, false, Option, None, Some, List, [], ◌∷◌, ◌++◌, ◌⊎◌, inl, inr, length, refl, sym, ap, ◌∙◌, subst, append_assoc, append-nil, add-zero, arith}
+use Rattle.py_lines.specs.Character.{is_mark, is_quote}
+use Rattle.py_lines.specs.Piece.{Piece, begins, spelled}
+use Rattle.py_lines.specs.Balance.{IsBalanced, depth_through}
+use Rattle.py_lines.specs.FieldStrings.{Host, Place, literal, specification, begins_open}
+use Rattle.py_lines.specs.OpenFields.{AreBegun, BeginsList, at_start, in_field}
+use Rattle.py_lines.specs.Private.FieldMachine.{At, between, after_brace, FieldMode, opened, body, opens_field, Level, FieldScanned, field_state, field_fresh, field_text_start, field_closed, field_pieces, field_move, field_moved, frames, openers_by, openers_through, levels_open}
+use Rattle.py_lines.proofs.Text.CharacterTests.{not_quote}
+use Rattle.py_lines.proofs.Machine.ReadingSteps.{MayBegin}
+use Rattle.py_lines.proofs.FieldSoundness.Holds.{before}
+use Rattle.py_lines.proofs.FieldMachine.Runs.{NoLimit, Goes, StopsAt, HasRoomFor, goes-append, goes-grows, stops-fresh}
+use Rattle.py_lines.proofs.FieldMachine.ListBrackets.{none_some, openers_through-append, balanced_openers, depth_is}
+use Rattle.py_lines.proofs.FieldMachine.StringParts.{settled, MayGoOn, goes_on, body_moves, open_moves, open_no_quote}
+use Rattle.py_lines.proofs.FieldMachine.StringRuns.{opened_goes}
+use Rattle.py_lines.proofs.FieldMachine.Nesting.{fields_found}
+use Rattle.py_lines.proofs.FieldMachine.Completeness.{fields_reached}
+use Rattle.py_lines.proofs.FieldMachine.OpenStrings.{IsInString, in_part, at_first, open_quotes, open_unmarked, open_code, string_runs}
+
+-- where a list of pieces begins: at the text's start, or in a field
+abbrev pub list_start : List Level → FieldScanned
+list_start [] = field_text_start
+list_start (level ∷ outer) = field_fresh (level ∷ outer) [] []
+
+-- the brackets that are open after the first pieces of a balanced list
+some_open : (ps others : List Piece) → IsBalanced (ps ++ others) → (after : List ℕ) × (openers_through (Some []) ps ≡ Some after)
+some_open ps others balanced = go (openers_through (Some []) ps) refl (sym (openers_through-append (Some []) ps others) ∙ balanced_openers (ps ++ others) balanced [])
+  where
+    go : (o : Option (List ℕ)) → openers_through (Some []) ps ≡ o → openers_through o others ≡ Some [] → (after : List ℕ) × (openers_through (Some []) ps ≡ Some after)
+    go None is all = absurd (none_some all)
+    go (Some after) is all = (after, is)
+
+-- and how many there are
+depth_of : (ps : List Piece) (os after : List ℕ) (k : ℕ) → openers_through (Some os) ps ≡ Some after → depth_through (length os + k) ps ≡ length after + k
+depth_of [] os after k is =
+    let same : os ≡ after = cc in
+    ap (λ l. length l + k) same
+depth_of (p ∷ ps) os after k is = go (λ mid so. depth_of ps mid after k so) (openers_by os p.class p.text) refl is
+  where
+    go : ((mid : List ℕ) → openers_through (Some mid) ps ≡ Some after → depth_through (length mid + k) ps ≡ length after + k) → (o : Option (List ℕ)) → openers_by os p.class p.text ≡ o → openers_through o ps ≡ Some after → depth_through (length os + k) (p ∷ ps) ≡ length after + k
+    go others None at so = absurd (none_some so)
+    go others (Some mid) at so = ap (λ n. depth_through n ps) (depth_is os mid p.class p.text k at) ∙ others mid so
+
+-- the first pieces of a list
+pub record PiecesRun (outer : List Level) (pieces : List Piece) (rest : List ℕ) : Type 0 where
+  pub done : List Piece
+  pub after : List ℕ
+  pub mode : FieldMode
+  pub held : List ℕ
+  pub goes : Goes NoLimit (list_start outer) (spelled pieces) (field_state outer done after mode held)
+  pub pieces_are : field_closed mode done held ≡ pieces
+  pub stops : StopsAt mode held rest
+  pub opens : openers_through (Some []) pieces ≡ Some after
+  pub deep : depth_through 0 pieces ≡ length after
+
+pub pieces_run : (outer : List Level) (depth : ℕ) (pieces : List Piece) (rest : List ℕ) → levels_open outer ≡ depth → AreBegun depth pieces rest → MayBegin pieces rest → PiecesRun outer pieces rest
+pieces_run outer depth pieces rest deep begun may = go outer deep
+  where
+    open_after : (after : List ℕ) × (openers_through (Some []) pieces ≡ Some after)
+    open_after = some_open pieces begun.others begun.balanced
+
+    many : depth_through 0 pieces ≡ length open_after.0
+    many = depth_of pieces [] open_after.0 0 open_after.1 ∙ add-zero (length open_after.0)
+
+    go : (ls : List Level) → levels_open ls ≡ depth → PiecesRun ls pieces rest
+    go [] is =
+        let found = fields_reached pieces open_after.0 rest begun.fit open_after.1 in
+        record { done = found.done; after = open_after.0; mode = found.mode; held = found.held; goes = found.goes; pieces_are = found.pieces_are; stops = found.stops may; opens = open_after.1; deep = many }
+    go (l ∷ ls) is =
+        let inside = begun.inside (omega (arith, is)) in
+        let found = fields_found (field_fresh (l ∷ ls) [] []) pieces open_after.0 rest begun.fit inside.0 open_after.1 inside.1 (stops-fresh (spelled pieces ++ rest)) in
+        record { done = found.done; after = open_after.0; mode = found.mode; held = found.held; goes = found.goes; pieces_are = found.pieces_are; stops = found.stops; opens = open_after.1; deep = many }
+
+-- directly after the `{` of a field, where the text ends
+abbrev pub IsBraced : List Level → FieldScanned → Type 0
+IsBraced [] t = t ≡ field_text_start
+IsBraced (l ∷ ls) t =
+    ((l.place ≡ literal) × (t ≡ field_state ls l.done l.openers (body l.host literal false after_brace) l.front))
+    ⊎ ((l.place ≡ specification) × (t ≡ field_fresh (l ∷ ls) [] []))
+
+-- two texts that begin with the same character
+pub record BeginAlike (one two : List ℕ) : Type 0 where
+  pub first : ℕ
+  pub others : List ℕ
+  pub more : List ℕ
+  pub one_is : one ≡ first ∷ others
+  pub two_is : two ≡ first ∷ more
+
+pub alike : (c : ℕ) (xs ys : List ℕ) → BeginAlike (c ∷ xs) (c ∷ ys)
+alike c xs ys = record { first = c; others = xs; more = ys; one_is = refl; two_is = refl }
+
+-- so do texts that go on with them
+pub alike_after : (xs one two : List ℕ) → BeginAlike one two → BeginAlike (xs ++ one) (xs ++ two)
+alike_after [] one two h = h
+alike_after (x ∷ xs) one two h = alike x (xs ++ one) (xs ++ two)
+
+-- The machine goes from the text's start to the list: what goes from the list's start through a text that begins as the rest goes
+-- through all. Where the list begins, it stands directly after the `{`.
+pub record ListRun (outside rest : List ℕ) (depth : ℕ) : Type 0 where
+  pub outer : List Level
+  pub deep : levels_open outer ≡ depth
+  pub start_is : before literal outer ≡ outside
+  pub goes : (t : FieldScanned) (text : List ℕ) → BeginAlike rest text → Goes NoLimit (list_start outer) text t → Goes NoLimit field_text_start (outside ++ text) t
+  pub begins_at : (t : FieldScanned) × Goes NoLimit field_text_start outside t × IsBraced outer t
+
+-- from the text's start to what is open after the first pieces of a list
+pub record AfterPieces (outside : List ℕ) (depth : ℕ) (pieces : List Piece) (front : List ℕ) : Type 0 where
+  pub from : FieldScanned
+  pub stops : StopsAt from.mode from.held front
+  pub opens : openers_through (Some []) pieces ≡ Some from.openers
+  pub deep : length from.openers + levels_open from.outer ≡ depth + depth_through 0 pieces
+  pub outer_is : levels_open from.outer ≡ depth
+  pub start_is : before literal from.outer ≡ outside
+  pub pieces_are : field_pieces from ≡ pieces
+  pub goes : (t : FieldScanned) (text : List ℕ) → BeginAlike front text → Goes NoLimit from text t → Goes NoLimit field_text_start (outside ++ (spelled pieces ++ text)) t
+
+pub after_pieces : (outside : List ℕ) (depth : ℕ) (pieces : List Piece) (front : List ℕ) → ListRun outside (spelled pieces ++ front) depth → AreBegun depth pieces front → MayBegin pieces front → AfterPieces outside depth pieces front
+after_pieces outside depth pieces front list begun may =
+    let run = pieces_run list.outer depth pieces front list.deep begun may in
+    let from : FieldScanned = field_state list.outer run.done run.after run.mode run.held in
+    record {
+      from = from;
+      stops = run.stops;
+      opens = run.opens;
+      deep =
+          let own = list.deep in
+          let many = run.deep in
+          omega (arith, own, many);
+      outer_is = list.deep;
+      start_is = list.start_is;
+      pieces_are = run.pieces_are;
+      goes = λ t text alike_so goes.
+          list.goes t (spelled pieces ++ text) (alike_after (spelled pieces) front text alike_so) (goes-append NoLimit (list_start list.outer) from t (spelled pieces) text run.goes goes);
+    }
+
+-- the start of a string is no mark
+pub string_begins : (pieces : List Piece) (front : List ℕ) → begins is_mark front ≡ false → MayBegin pieces front
+string_begins [] front h = h
+string_begins (p ∷ ps) front h = tt
+
+-- the `{` of a field, where the text ends
+abbrev pub level_of : List Piece → List ℕ → Host → Place → List ℕ → Level
+level_of done openers host place held = record { done = done; openers = openers; host = host; place = place; front = held ++ 123 ∷ [] }
+
+part_braces : (outer : List Level) (done : List Piece) (openers : List ℕ) (host : Host) (place : Place) (at : At) (held rest : List ℕ) → MayGoOn host place false at (123 ∷ rest) → is_quote host.quote ≡ true → (t : FieldScanned) × Goes NoLimit (field_state outer done openers (body host place false at) held) (123 ∷ []) t × IsBraced (level_of done openers host place held ∷ outer) t
+part_braces outer done openers host literal at held rest on quotes =
+    let t : FieldScanned = field_state outer done openers (body host literal false after_brace) (held ++ 123 ∷ []) in
+    (t, goes-grows NoLimit (field_state outer done openers (body host literal false at) held) t (body host literal false after_brace) 123 [] (body_moves host literal false at held 123 [] on ∙ open_moves host literal (settled at) quotes) refl, inl (refl, refl))
+part_braces outer done openers host specification at held rest on quotes =
+    let s : FieldScanned = field_state outer done openers (body host specification false at) held in
+    let t : FieldScanned = field_fresh (level_of done openers host specification held ∷ outer) [] [] in
+    let move : field_move (body host specification false at) held 123 ≡ opens_field host = body_moves host specification false at held 123 [] on ∙ open_moves host specification (settled at) quotes in
+    (t, (t, ap (field_moved s 123) move, subst (HasRoomFor NoLimit (frames s) 123) (sym move) tt, refl), inr (refl, refl))
+
+pub braces : (outer : List Level) (done : List Piece) (openers : List ℕ) (host : Host) (place : Place) (mode : FieldMode) (held rest : List ℕ) → IsInString host place false mode (123 ∷ rest) → is_quote host.quote ≡ true → (t : FieldScanned) × Goes NoLimit (field_state outer done openers mode held) (123 ∷ []) t × IsBraced (level_of done openers host place held ∷ outer) t
+braces outer done openers host place mode held rest (in_part at is on) quotes =
+    let P : FieldMode → Type 0 = λ m. (t : FieldScanned) × Goes NoLimit (field_state outer done openers m held) (123 ∷ []) t × IsBraced (level_of done openers host place held ∷ outer) t in
+    subst P (sym is) (part_braces outer done openers host place at held rest on quotes)
+braces outer done openers host place mode held rest (at_first is place_is unnamed short) quotes =
+    let P : Place → FieldMode → Type 0 = λ p m. (t : FieldScanned) × Goes NoLimit (field_state outer done openers m held) (123 ∷ []) t × IsBraced (level_of done openers host p held ∷ outer) t in
+    let run = part_braces outer done openers host literal between held rest (goes_on host literal false (123 ∷ rest)) quotes in
+    let first : P literal (opened host) = (run.0, opened_goes NoLimit (field_fresh outer done openers) host held 123 [] run.0 (not_quote 123 host.quote quotes open_no_quote) run.1, run.2) in
+    subst (λ p. P p mode) (sym place_is) (subst (P literal) (sym is) first)
+
+pub list_runs : (outside rest : List ℕ) (depth : ℕ) → BeginsList outside rest depth → ListRun outside rest depth
+list_runs outside rest depth (at_start _ _ _ none zero) = record {
+  outer = [];
+  deep = sym zero;
+  start_is = sym none;
+  goes = λ t text alike_so goes. subst (λ x. Goes NoLimit field_text_start (x ++ text) t) (sym none) goes;
+  begins_at = (field_text_start, at_once none, refl);
+}
+  where
+    at_once : outside ≡ [] → Goes NoLimit field_text_start outside field_text_start
+    at_once h = subst (λ x. Goes NoLimit field_text_start x field_text_start) (sym h) refl
+list_runs all rest depth (in_field _ _ _ outside base pieces front host spot spell list begun string may deep) =
+    let later : List ℕ = front ++ 123 ∷ rest in
+    let pieces_at = after_pieces outside base pieces later (list_runs outside (spelled pieces ++ later) base list) begun (string_begins pieces later (open_unmarked host spot front (123 ∷ rest) (123 ∷ rest) string)) in
+    let run = string_runs pieces_at.from host spot front (123 ∷ rest) string pieces_at.stops in
+    let quotes = open_quotes host spot front (123 ∷ rest) string in
+    let stands = subst (λ n. IsInString host spot.place n run.mode (123 ∷ rest)) may.unnamed run.stands in
+    let level : Level = level_of run.done run.openers host spot.place front in
+    let s : FieldScanned = field_state run.outer run.done run.openers run.mode front in
+    let braced = braces run.outer run.done run.openers host spot.place run.mode front rest stands quotes in
+    let whole : (r : List ℕ) → outside ++ (spelled pieces ++ (front ++ 123 ∷ r)) ≡ all ++ r = λ r. whole_text all outside (spelled pieces) front r spell in
+    record {
+      outer = level ∷ run.outer;
+      deep =
+          let own = run.depth_is in
+          let up = pieces_at.deep in
+          omega (arith, own, up, deep);
+      start_is = sym (append_assoc (before spot.place run.outer) (spelled run.done) (front ++ 123 ∷ []))
+          ∙ ap (λ t. t ++ (front ++ 123 ∷ [])) (run.start_is ∙ ap (λ t. t ++ spelled (field_pieces pieces_at.from)) pieces_at.start_is ∙ ap (λ p. outside ++ spelled p) pieces_at.pieces_are)
+          ∙ append_assoc outside (spelled pieces) (front ++ 123 ∷ []) ∙ sym spell;
+      goes = λ t text alike_so goes.
+          let single : spot.place ≡ literal → begins_open text ≡ false = λ at. ap begins_open alike_so.two_is ∙ sym (ap begins_open alike_so.one_is) ∙ may.single at in
+          let code = open_code run.outer run.done run.openers host spot.place run.mode front text rest alike_so.first alike_so.more t stands quotes alike_so.two_is single goes in
+          subst (λ x. Goes NoLimit field_text_start x t) (whole text)
+          (pieces_at.goes t (front ++ 123 ∷ text) (alike_after front (123 ∷ rest) (123 ∷ text) (alike 123 rest text)) (goes-append NoLimit pieces_at.from s t front (123 ∷ text) run.goes code));
+      begins_at = (
+        braced.0,
+        subst (λ x. Goes NoLimit field_text_start x braced.0) (whole [] ∙ append-nil all)
+            (pieces_at.goes braced.0 (front ++ 123 ∷ []) (alike_after front (123 ∷ rest) (123 ∷ []) (alike 123 rest [])) (goes-append NoLimit pieces_at.from s braced.0 front (123 ∷ []) run.goes braced.1)),
+        braced.2,
+      );
+    }
+  where
+    whole_text : (all outside code front r : List ℕ) → all ≡ outside ++ (code ++ (front ++ 123 ∷ [])) → outside ++ (code ++ (front ++ 123 ∷ r)) ≡ all ++ r
+    whole_text all outside code front r spell =
+        ap (λ t. outside ++ (code ++ t)) (sym (append_assoc front (123 ∷ []) r)) ∙ ap (λ t. outside ++ t) (sym (append_assoc code (front ++ 123 ∷ []) r))
+        ∙ sym (append_assoc outside (code ++ (front ++ 123 ∷ [])) r) ∙ ap (λ t. t ++ r) (sym spell)

@@ -1,0 +1,101 @@
+-- The machine with fields goes through a text: from one state to another, with room for what each character opens.
+use Rattle.std.proofs.Common.{◌≡◌, ℕ, ◌+◌, ◌<◌, Bool, true, false, not, ◌||◌, Some, List, [], ◌∷◌, ◌++◌, nat_lt, refl, sym, ap, ◌∙◌, subst}
+use Rattle.std.specs.Prelude.{if◌then◌else◌}
+use Rattle.std.proofs.lemmas.Bool.{and_from, lt-ltb}
+use Rattle.py_lines.specs.Balance.{is_opening}
+use Rattle.py_lines.specs.declared.mode.Mode.TheVariants as modes
+use Rattle.py_lines.specs.Private.Machine.{move_of, start_of}
+use Rattle.py_lines.specs.Private.FieldMachine.{FieldMode, plain, FieldMove, grows, closes, breaks, begins_code, opens_field, ends_field, refused, FieldScanned, field_state, field_fresh, field_class_of, field_pieces, field_move, field_moved, field_started, field_step, field_steps_from, frames, has_room_at, has_room, have_room, may_end}
+use Rattle.py_lines.proofs.Pieces.PieceLists.{piece}
+
+-- a bracket or field may open at a depth that is no limit
+abbrev pub NoLimit : ℕ → Type 0
+NoLimit depth = Unit {0}
+
+-- a bracket or field may open at a depth below 200
+abbrev pub BelowLimit : ℕ → Type 0
+BelowLimit depth = depth < 200
+
+-- what a character opens at this depth may open there
+abbrev pub HasRoomFor : (ℕ → Type 0) → ℕ → ℕ → FieldMove → Type 0
+HasRoomFor Room depth c breaks = is_opening c ≡ true → Room depth
+HasRoomFor Room depth c (begins_code host) = Room depth × (is_opening c ≡ true → Room (depth + 1))
+HasRoomFor Room depth c (opens_field host) = Room depth
+HasRoomFor Room depth c other = Unit {0}
+
+-- the machine goes from one state through a text to another, and what its characters open may open there
+abbrev pub Goes : (ℕ → Type 0) → FieldScanned → List ℕ → FieldScanned → Type 0
+Goes Room s [] t = s ≡ t
+Goes Room s (c ∷ cs) t =
+    (next : FieldScanned) × (field_step s c ≡ Some next) × HasRoomFor Room (frames s) c (field_move s.mode s.held c) × Goes Room next cs t
+
+-- the open piece may end before this text
+abbrev pub StopsAt : FieldMode → List ℕ → List ℕ → Type 0
+StopsAt mode held [] = may_end mode ≡ true
+StopsAt mode held (c ∷ cs) = field_move mode held c ≡ breaks
+
+-- over two texts, one after the other
+pub goes-append : (Room : ℕ → Type 0) (s t u : FieldScanned) (a b : List ℕ) → Goes Room s a t → Goes Room t b u → Goes Room s (a ++ b) u
+goes-append Room s t u [] b first second = subst (λ x. Goes Room x b u) (sym first) second
+goes-append Room s t u (c ∷ a) b (next, step, room, others) second = (next, step, room, goes-append Room next t u a b others second)
+
+-- the end may be told in another way
+pub goes-to : (Room : ℕ → Type 0) (s t u : FieldScanned) (a : List ℕ) → Goes Room s a t → t ≡ u → Goes Room s a u
+goes-to Room s t u a goes same = subst (λ x. Goes Room s a x) same goes
+
+-- the steps alone
+pub steps_of : (Room : ℕ → Type 0) (s t : FieldScanned) (text : List ℕ) → Goes Room s text t → field_steps_from (Some s) text ≡ Some t
+steps_of Room s t [] goes = ap Some goes
+steps_of Room s t (c ∷ cs) (next, step, room, others) = ap (λ o. field_steps_from o cs) step ∙ steps_of Room next t cs others
+
+-- and the room within 200
+room_at : (depth c : ℕ) (move : FieldMove) → HasRoomFor BelowLimit depth c move → has_room_at depth c move ≡ true
+unfolding has_room_at
+room_at depth c breaks room = go (is_opening c) room
+  where
+    go : (b : Bool) → (b ≡ true → depth < 200) → not b || nat_lt depth 200 ≡ true
+    go true h = lt-ltb depth 200 (h refl)
+    go false h = refl
+room_at depth c (begins_code host) room = go (is_opening c) room.0 room.1
+  where
+    go : (b : Bool) → depth < 200 → (b ≡ true → depth + 1 < 200) → nat_lt (if b then depth + 1 else depth) 200 ≡ true
+    go true h k = lt-ltb (depth + 1) 200 (k refl)
+    go false h k = lt-ltb depth 200 h
+room_at depth c (opens_field host) room = lt-ltb depth 200 room
+room_at depth c (grows m) room = refl
+room_at depth c closes room = refl
+room_at depth c ends_field room = refl
+room_at depth c refused room = refl
+
+pub room_of : (s t : FieldScanned) (text : List ℕ) → Goes BelowLimit s text t → have_room (Some s) text ≡ true
+room_of s t [] goes = refl
+room_of s t (c ∷ cs) (next, step, room, others) =
+    and_from (has_room s c) (have_room (field_step s c) cs) (room_at (frames s) c _ room) (ap (λ o. have_room o cs) step ∙ room_of next t cs others)
+
+-- one more character in the open piece
+pub goes-grows : (Room : ℕ → Type 0) (s t : FieldScanned) (m : FieldMode) (c : ℕ) (cs : List ℕ) → field_move s.mode s.held c ≡ grows m → Goes Room (field_state s.outer s.done s.openers m (s.held ++ c ∷ [])) cs t → Goes Room s (c ∷ cs) t
+goes-grows Room s t m c cs move others = (
+  field_state s.outer s.done s.openers m (s.held ++ c ∷ []),
+  ap (field_moved s c) move,
+  subst (HasRoomFor Room (frames s) c) (sym move) tt,
+  others,
+)
+
+-- the last character of the open piece
+pub goes-closes : (Room : ℕ → Type 0) (s : FieldScanned) (c : ℕ) → field_move s.mode s.held c ≡ closes → Goes Room s (c ∷ []) (field_fresh s.outer (s.done ++ piece (field_class_of s.mode) (s.held ++ c ∷ []) ∷ []) s.openers)
+goes-closes Room s c move = (
+  field_fresh s.outer (s.done ++ piece (field_class_of s.mode) (s.held ++ c ∷ []) ∷ []) s.openers,
+  ap (field_moved s c) move,
+  subst (HasRoomFor Room (frames s) c) (sym move) tt,
+  refl,
+)
+
+-- a character that begins a piece
+pub goes-begins : (Room : ℕ → Type 0) (s next t : FieldScanned) (c : ℕ) (cs : List ℕ) → field_move s.mode s.held c ≡ breaks → field_started s.outer (field_pieces s) s.openers c (start_of c) ≡ Some next → (is_opening c ≡ true → Room (frames s)) → Goes Room next cs t → Goes Room s (c ∷ cs) t
+goes-begins Room s next t c cs move starts room others = (next, ap (field_moved s c) move ∙ starts, subst (HasRoomFor Room (frames s) c) (sym move) room, others)
+
+-- no piece is open: any character may follow
+pub stops-fresh : (rest : List ℕ) → StopsAt (plain modes.Free) [] rest
+unfolding field_move move_of
+stops-fresh [] = refl
+stops-fresh (c ∷ cs) = refl

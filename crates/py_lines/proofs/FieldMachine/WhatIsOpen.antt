@@ -1,0 +1,231 @@
+-- What is open at a place is told by the state of the machine with fields there, so nothing else is.
+use Rattle.std.proofs.Common.{◌≡◌, ℕ, Bool, true, false, Some, List, [], ◌∷◌, ◌++◌, ◌⊎◌, inl, inr, refl, sym, ap, ◌∙◌, subst, append_assoc, arith}
+use Rattle.std.proofs.lemmas.Bool.{both_ways}
+use Rattle.py_lines.specs.Character.{is_mark, is_quote}
+use Rattle.py_lines.specs.Piece.{begins, spelled}
+use Rattle.py_lines.specs.PieceGrammar.{joined}
+use Rattle.py_lines.specs.Faults.{IsSlash}
+use Rattle.py_lines.specs.FieldStrings.{is_field_prefix, Host, Place, literal, specification}
+use Rattle.py_lines.specs.OpenFields.{Spot, StandsIn, IsOpenUpTo, IsOpenLiteral, IsPlainShortPrefix, IsPlainLongPrefix, InOpenShort, InOpenLong, AfterOpenBackslash, InSpecification}
+use Rattle.py_lines.specs.declared.mode.Mode.{Mode}
+use Rattle.py_lines.specs.declared.mode.Mode.TheVariants as modes
+use Rattle.py_lines.specs.Private.Machine.{Scanned}
+use Rattle.py_lines.specs.Private.FieldMachine.{FieldMode, plain, opened, body, FieldScanned, field_state, field_text_start, field_pieces, field_started, field_steps_from, in_open_short, in_open_long, after_open_backslash, InSpecificationOf}
+use Rattle.py_lines.specs.PieceGrammar.{IsPrefix}
+use Rattle.py_lines.specs.Private.Machine.{fresh, steps_from}
+use Rattle.py_lines.proofs.Fields.OneReading.{some_head}
+use Rattle.py_lines.proofs.Machine.Starts.{start-slash}
+use Rattle.py_lines.proofs.Machine.PieceSteps.{scanned, stops-free}
+use Rattle.py_lines.proofs.Machine.StringSteps.{opened_steps, long_opened}
+use Rattle.py_lines.proofs.Machine.OpenStrings.{prefix-unmarked, slash-not-mark, short_end, long_end}
+use Rattle.py_lines.proofs.FieldMachine.PlainSteps.{lifted, one_at_most, follows}
+use Rattle.py_lines.proofs.FieldMachine.PieceRuns.{plain_opens}
+use Rattle.py_lines.proofs.FieldSoundness.Holds.{before}
+use Rattle.py_lines.proofs.FieldMachine.Runs.{NoLimit, Goes, StopsAt, goes-append, goes-begins, steps_of}
+use Rattle.py_lines.proofs.FieldMachine.OpenStrings.{IsHostMode, HasOpened, open_unmarked, open_begins, up_to_runs}
+use Rattle.py_lines.proofs.FieldMachine.OpenLists.{list_runs, after_pieces, string_begins}
+
+-- the machine comes from the text's start through these characters to such a state
+pub record Comes (characters : List ℕ) (IsSuch : FieldScanned → Type 0) : Type 0 where
+  pub to : FieldScanned
+  pub goes : Goes NoLimit field_text_start characters to
+  pub such : IsSuch to
+
+-- such a state is the one to which it comes
+pub comes_to : (characters : List ℕ) (IsSuch : FieldScanned → Type 0) (s : FieldScanned) → Comes characters IsSuch → field_steps_from (Some field_text_start) characters ≡ Some s → IsSuch s
+comes_to characters IsSuch s comes steps =
+    let same : Some comes.to ≡ Some s = sym (steps_of NoLimit field_text_start comes.to characters comes.goes) ∙ steps in
+    let is : comes.to ≡ s = cc in
+    subst IsSuch is comes.such
+
+-- the characters before the open piece, where a string, its specification with it, or a backslash is open
+abbrev pub StartsAfter : Place → List ℕ → FieldScanned → Type 0
+StartsAfter place start s = before place s.outer ++ spelled s.done ≡ start
+
+-- something is open after pieces of a list that end at `start`
+pub record FrontAt (characters start front : List ℕ) : Type 0 where
+  pub from : FieldScanned
+  pub stops : StopsAt from.mode from.held front
+  pub start_is : before literal from.outer ++ spelled (field_pieces from) ≡ start
+  pub goes : (t : FieldScanned) (c : ℕ) (cs : List ℕ) → front ≡ c ∷ cs → Goes NoLimit from front t → Goes NoLimit field_text_start characters t
+
+front_at : (IsOpen : List ℕ → Type 0) (characters start : List ℕ) (at : StandsIn IsOpen characters start) → begins is_mark at.front ≡ false → FrontAt characters start at.front
+front_at IsOpen characters start at unmarked =
+    let pieces_at = after_pieces at.outside at.depth at.pieces at.front (list_runs at.outside (spelled at.pieces ++ at.front) at.depth at.list) at.begun (string_begins at.pieces at.front unmarked) in
+    record {
+      from = pieces_at.from;
+      stops = pieces_at.stops;
+      start_is = ap (λ t. t ++ spelled (field_pieces pieces_at.from)) pieces_at.start_is ∙ ap (λ p. at.outside ++ spelled p) pieces_at.pieces_are ∙ at.before;
+      goes = λ t c cs is goes.
+          subst (λ x. Goes NoLimit field_text_start x t) (sym (append_assoc at.outside (spelled at.pieces) at.front) ∙ ap (λ x. x ++ at.front) at.before ∙ at.spell)
+          (pieces_at.goes t at.front (record { first = c; others = cs; more = cs; one_is = is; two_is = is }) goes);
+    }
+
+-- the open piece of another machine's state, in the list where the string starts
+plain_goes : (from : FieldScanned) (prefix : List ℕ) (q : ℕ) (inner : List ℕ) (m : Mode) → IsPrefix prefix → is_field_prefix prefix ≡ false → is_quote q ≡ true → StopsAt from.mode from.held (prefix ++ q ∷ inner) → steps_from (Some (scanned (field_pieces from) (modes.Opened q) (prefix ++ q ∷ []))) inner ≡ Some (scanned (field_pieces from) m ((prefix ++ q ∷ []) ++ inner)) → Goes NoLimit from (prefix ++ q ∷ inner) (lifted from.outer from.openers (scanned (field_pieces from) m ((prefix ++ q ∷ []) ++ inner)))
+plain_goes from prefix q inner m is no_field quotes stops steps =
+    let done = field_pieces from in
+    let opened_at : Scanned = scanned done (modes.Opened q) (prefix ++ q ∷ []) in
+    let to : Scanned = scanned done m ((prefix ++ q ∷ []) ++ inner) in
+    let lift : Scanned → FieldScanned = lifted from.outer from.openers in
+    subst (λ t. Goes NoLimit from t (lift to)) (append_assoc prefix (q ∷ []) inner)
+    (goes-append NoLimit from (lift opened_at) (lift to) (prefix ++ q ∷ []) inner (plain_opens NoLimit from prefix q inner is no_field quotes stops)
+    (follows NoLimit from.outer from.openers inner opened_at to (inl refl) steps (omega (arith, one_at_most m))))
+
+-- a short string without fields
+short_comes : (characters start front : List ℕ) → FrontAt characters start front → IsPlainShortPrefix front → Comes characters (λ s. (in_open_short s.mode ≡ true) × StartsAfter literal start s)
+short_comes characters start front at (short, no_field) =
+    let q = short.quote in
+    let inner : List ℕ = joined short.items ++ short.last in
+    let from = at.from in
+    let done = field_pieces from in
+    let end = short_end done q (short.prefix ++ q ∷ []) short.items short.last short.opens short.each short.escapes in
+    let to : FieldScanned = lifted from.outer from.openers (scanned done end.to ((short.prefix ++ q ∷ []) ++ inner)) in
+    let run = plain_goes from short.prefix q inner end.to short.begun no_field short.opens (subst (StopsAt from.mode from.held) short.spell at.stops) end.steps in
+    let full = some_head short.prefix q inner in
+    record {
+      to = to;
+      goes = at.goes to full.0 full.1 (short.spell ∙ full.2) (subst (λ t. Goes NoLimit from t to) (sym short.spell) run);
+      such = (end.short, at.start_is);
+    }
+
+-- a long one
+long_comes : (characters start front : List ℕ) → FrontAt characters start front → IsPlainLongPrefix front → Comes characters (λ s. (in_open_long s.mode ≡ true) × StartsAfter literal start s)
+long_comes characters start front at (long, no_field) =
+    let q = long.quote in
+    let prefix = long.prefix in
+    let inner : List ℕ = joined long.items ++ long.last in
+    let from = at.from in
+    let done = field_pieces from in
+    let held : List ℕ = prefix ++ (q ∷ q ∷ q ∷ []) in
+    let end = long_end done q held long.items long.last long.opens long.each long.open_yet long.escapes in
+    let steps : steps_from (Some (scanned done (modes.Opened q) (prefix ++ q ∷ []))) (q ∷ q ∷ inner) ≡ Some (scanned done end.to ((prefix ++ q ∷ []) ++ (q ∷ q ∷ inner))) =
+    sym (opened_steps (fresh done) prefix q (q ∷ q ∷ inner) long.begun long.opens (stops-free (prefix ++ q ∷ q ∷ q ∷ inner)))
+    ∙ long_opened (fresh done) prefix q inner long.begun long.opens (stops-free (prefix ++ q ∷ q ∷ q ∷ inner)) ∙ end.steps
+    ∙ ap (λ t. Some (scanned done end.to t)) (append_assoc prefix (q ∷ q ∷ q ∷ []) inner ∙ sym (append_assoc prefix (q ∷ []) (q ∷ q ∷ inner))) in
+    let to : FieldScanned = lifted from.outer from.openers (scanned done end.to ((prefix ++ q ∷ []) ++ (q ∷ q ∷ inner))) in
+    let run = plain_goes from prefix q (q ∷ q ∷ inner) end.to long.begun no_field long.opens (subst (StopsAt from.mode from.held) long.spell at.stops) steps in
+    let full = some_head prefix q (q ∷ q ∷ inner) in
+    record {
+      to = to;
+      goes = at.goes to full.0 full.1 (long.spell ∙ full.2) (subst (λ t. Goes NoLimit from t to) (sym long.spell) run);
+      such = (end.long, at.start_is);
+    }
+
+-- the literal part of a string with fields
+abbrev pub InLiteral : Bool → FieldMode → Type 0
+InLiteral false mode = in_open_short mode ≡ true
+InLiteral true mode = in_open_long mode ≡ true
+
+literal_mode : (host : Host) (place : Place) (is_long : Bool) (mode : FieldMode) → IsHostMode host place mode → place ≡ literal → host.is_long ≡ is_long → InLiteral is_long mode
+literal_mode host place is_long mode (inl (named, at, is, apart)) at_literal long =
+    subst (InLiteral is_long) (sym (is ∙ ap (λ p. body host p named at) at_literal)) (go is_long long)
+  where
+    go : (b : Bool) → host.is_long ≡ b → InLiteral b (body host literal named at)
+    go true h = rw (apart, h)
+    go false h = rw (apart, h)
+literal_mode host place is_long mode (inr (is, place_is, short)) at_literal long = subst (InLiteral is_long) (sym is) (go is_long (sym long ∙ short))
+  where
+    go : (b : Bool) → b ≡ false → InLiteral b (opened host)
+    go true h = absurd (both_ways _ h refl)
+    go false h = refl
+
+-- the state of a string with fields that is open
+pub record HostAt (characters start front : List ℕ) (host : Host) (spot : Spot) : Type 0 where
+  pub to : FieldScanned
+  pub goes : Goes NoLimit field_text_start characters to
+  pub mode_is : IsHostMode host spot.place to.mode
+  pub start_is : StartsAfter spot.place start to
+  pub field_is : HasOpened spot.place to.outer spot.field
+
+host_at : (characters start front : List ℕ) (host : Host) (spot : Spot) → FrontAt characters start front → IsOpenUpTo host spot front → HostAt characters start front host spot
+host_at characters start front host spot at is =
+    let run = up_to_runs at.from host spot front is at.stops in
+    let full = open_begins host spot is.body is.last is.last is.string in
+    record {
+      to = field_state run.outer run.done run.openers run.mode front;
+      goes = at.goes (field_state run.outer run.done run.openers run.mode front) full.0 full.1 (is.spell ∙ full.2) run.goes;
+      mode_is = run.mode_is;
+      start_is = run.start_is ∙ at.start_is;
+      field_is = run.field_is;
+    }
+
+literal_comes : (characters start front : List ℕ) (is_long : Bool) → FrontAt characters start front → IsOpenLiteral is_long front → Comes characters (λ s. InLiteral is_long s.mode × StartsAfter literal start s)
+literal_comes characters start front is_long at (host, spot, is, at_literal, long) =
+    let own = host_at characters start front host spot at is in
+    record {
+      to = own.to;
+      goes = own.goes;
+      such = (literal_mode host spot.place is_long own.to.mode own.mode_is at_literal long, subst (λ p. StartsAfter p start own.to) at_literal own.start_is);
+    }
+
+-- what is open is no mark
+literal_unmarked : (is_long : Bool) (front : List ℕ) → IsOpenLiteral is_long front → begins is_mark front ≡ false
+literal_unmarked is_long front (host, spot, is, at_literal, long) = subst (λ t. begins is_mark t ≡ false) (sym is.spell) (open_unmarked host spot is.body is.last is.last is.string)
+
+pub short_open_comes : (characters start : List ℕ) → InOpenShort characters start → Comes characters (λ s. (in_open_short s.mode ≡ true) × StartsAfter literal start s)
+short_open_comes characters start at = go at.open_yet
+  where
+    go : IsPlainShortPrefix at.front ⊎ IsOpenLiteral false at.front → Comes characters (λ s. (in_open_short s.mode ≡ true) × StartsAfter literal start s)
+    go (inl short) =
+        short_comes characters start at.front
+        (front_at _ characters start at (subst (λ t. begins is_mark t ≡ false) (sym short.0.spell) (prefix-unmarked short.0.prefix short.0.quote (joined short.0.items ++ short.0.last) short.0.begun short.0.opens))) short
+    go (inr is) = literal_comes characters start at.front false (front_at _ characters start at (literal_unmarked false at.front is)) is
+
+pub long_open_comes : (characters start : List ℕ) → InOpenLong characters start → Comes characters (λ s. (in_open_long s.mode ≡ true) × StartsAfter literal start s)
+long_open_comes characters start at = go at.open_yet
+  where
+    go : IsPlainLongPrefix at.front ⊎ IsOpenLiteral true at.front → Comes characters (λ s. (in_open_long s.mode ≡ true) × StartsAfter literal start s)
+    go (inl long) =
+        long_comes characters start at.front
+        (front_at _ characters start at (subst (λ t. begins is_mark t ≡ false) (sym long.0.spell) (prefix-unmarked long.0.prefix long.0.quote (long.0.quote ∷ long.0.quote ∷ (joined long.0.items ++ long.0.last)) long.0.begun long.0.opens))) long
+    go (inr is) = literal_comes characters start at.front true (front_at _ characters start at (literal_unmarked true at.front is)) is
+
+-- a backslash outside strings and comments
+pub backslash_comes : (characters start : List ℕ) → AfterOpenBackslash characters start → Comes characters (λ s. (after_open_backslash s.mode ≡ true) × StartsAfter literal start s)
+backslash_comes characters start at = go at.open_yet
+  where
+    go : IsSlash at.front → Comes characters (λ s. (after_open_backslash s.mode ≡ true) × StartsAfter literal start s)
+    go (s, is, slashes) =
+        let front = front_at _ characters start at (subst (λ t. begins is_mark t ≡ false) (sym is) (slash-not-mark s slashes)) in
+        let from = front.from in
+        let to : FieldScanned = field_state from.outer (field_pieces from) from.openers (plain modes.Backslash) (s ∷ []) in
+        let run : Goes NoLimit from (s ∷ []) to =
+        goes-begins NoLimit from to to s [] (subst (StopsAt from.mode from.held) is front.stops) (ap (field_started from.outer (field_pieces from) from.openers s) (start-slash s slashes)) (λ opens. tt) refl in
+        record { to = to; goes = front.goes to s [] is (subst (λ t. Goes NoLimit from t to) (sym is) run); such = (refl, front.start_is) }
+
+-- a specification, whose field opened after `field` in the string after `string`
+pub record SpecificationAt (host : Host) (start : List ℕ) (s : FieldScanned) : Type 0 where
+  pub string : List ℕ
+  pub field : List ℕ
+  pub mode_is : InSpecificationOf host s.mode
+  pub string_is : StartsAfter specification string s
+  pub field_is : HasOpened specification s.outer field
+  pub before : string ++ field ≡ start
+
+specification_mode : (host : Host) (place : Place) (mode : FieldMode) → IsHostMode host place mode → place ≡ specification → InSpecificationOf host mode
+specification_mode host place mode (inl (named, at, is, apart)) at_place = subst (InSpecificationOf host) (sym (is ∙ ap (λ p. body host p named at) at_place)) (refl, apart)
+specification_mode host place mode (inr (is, place_is, short)) at_place =
+    let none : literal ≡ specification = sym place_is ∙ at_place in
+    absurd (cc)
+
+pub specification_comes : (host : Host) (characters start : List ℕ) (at : InSpecification host characters start) → Comes characters (λ s. (own : SpecificationAt host start s) × (own.string ≡ at.string))
+specification_comes host characters start at =
+    let up = at.stands.open_yet in
+    let unmarked = subst (λ t. begins is_mark t ≡ false) (sym up.spell) (open_unmarked host at.spot up.body up.last up.last up.string) in
+    let own = host_at characters at.string at.stands.front host at.spot (front_at _ characters at.string at.stands unmarked) up in
+    record {
+      to = own.to;
+      goes = own.goes;
+      such = (
+        record {
+          string = at.string;
+          field = at.spot.field;
+          mode_is = specification_mode host at.spot.place own.to.mode own.mode_is at.place;
+          string_is = subst (λ p. StartsAfter p at.string own.to) at.place own.start_is;
+          field_is = subst (λ p. HasOpened p own.to.outer at.spot.field) at.place own.field_is;
+          before = at.before;
+        },
+        refl,
+      );
+    }

@@ -1,0 +1,362 @@
+-- How a string with fields grows, in its literal part and in specifications, and how it ends.
+use Rattle.std.proofs.Common.{◌≡◌, ◌==◌, ℕ, Bool, true, false, not, ◌||◌, ◌&&◌, List, [], ◌∷◌, ◌++◌, refl, sym, ap, ◌∙◌, subst, inl, inr, ⊎_elim, append_assoc}
+use Rattle.std.specs.Prelude.{if◌then◌else◌}
+use Rattle.std.specs.Str.{byte}
+use Rattle.std.specs.List.{list_any}
+use Rattle.std.proofs.lemmas.Bool.{cond_both, and_parts, and_from, or_cases, eqb-true, both_ways, not_from_false, and_left, and_right}
+use Rattle.py_lines.specs.Character.{is_quote, is_return, is_break, is_backslash, is_brace, is_barred}
+use Rattle.py_lines.specs.Piece.{string}
+use Rattle.py_lines.specs.PieceGrammar.{is_prefix, IsNoneOr, is_bare, joined, has_triple, InClassIn, MayPrecedeIn}
+use Rattle.py_lines.specs.FieldStrings.{is_field_prefix, Host, Place, literal, specification, quotes_of, is_ordinary, names, IsPart, bare, named_after, named_through, AreParts, IsFieldString, with_fields}
+use Rattle.py_lines.specs.Fields.{fielded}
+use Rattle.py_lines.specs.Private.Machine.{IsFull}
+use Rattle.py_lines.specs.Private.FieldMachine.{At, between, after_one, after_two, FieldMode, body, FieldMove, grows, closes, breaks, begins_code, opens_field, ends_field, refused, Level, is_after_two, with_quote, closing_move, opening_move, ending_move, between_move}
+use Rattle.py_lines.proofs.Pieces.TripleQuotes.{triple-left, triple-other}
+use Rattle.py_lines.proofs.Text.CharacterTests.{none_of, barred}
+use Rattle.py_lines.proofs.Machine.OpenPieces.{full-append, joined-push, not_one}
+use Rattle.py_lines.proofs.Fields.Prefixes.{plain_quotes, field_letters}
+use Rattle.py_lines.proofs.Fields.SameStrings.{first_quote}
+use Rattle.py_lines.proofs.FieldSoundness.Holds.{Limit, HoldsParts, HoldsBetween, HoldsAt, HoldsMode}
+
+-- parts, one more after others
+pub parts-push : (F : Host → List ℕ → Type 0) (host : Host) (place : Place) (named : Bool) (parts : List (List ℕ)) (part rest : List ℕ) → AreParts F host place named parts (part ++ rest) → IsPart F host place (named_through named parts) part rest → AreParts F host place named (parts ++ part ∷ []) rest
+parts-push F host place named [] part rest each one = (one, tt)
+parts-push F host place named (p ∷ ps) part rest each one = (
+  subst (IsPart F host place named p) (sym (ap (λ t. t ++ rest) (joined-push ps part) ∙ append_assoc (joined ps) part rest)) each.0,
+  parts-push F host place (named_after named p) ps part rest each.1 one,
+)
+
+pub named-push : (named : Bool) (parts : List (List ℕ)) (part : List ℕ) → named_through named (parts ++ part ∷ []) ≡ named_after (named_through named parts) part
+named-push named [] part = refl
+named-push named (p ∷ ps) part = named-push (named_after named p) ps part
+
+-- Booleans
+pub kept_named : (a b : Bool) → b ≡ false → a && not b ≡ a
+kept_named true b h = rw h
+kept_named false b h = refl
+
+ended_named : (a b : Bool) → b ≡ true → a && not b ≡ false
+ended_named true b h = rw h
+ended_named false b h = refl
+
+open_brace : (a b : Bool) → a && not b ≡ true → (a ≡ true) × (b ≡ false)
+open_brace true false h = (refl, refl)
+open_brace true true h = absurd (both_ways _ refl h)
+open_brace false b h = absurd (both_ways _ refl h)
+
+or_true : (a : Bool) → a || true ≡ true
+or_true true = refl
+or_true false = refl
+
+-- characters
+quote-not-brace : (q : ℕ) → is_quote q ≡ true → q == 125 ≡ false
+unfolding is_quote
+quote-not-brace q h = none_of (λ c. c == 125) (39 ∷ 34 ∷ []) q refl h
+
+quote-not-open : (q : ℕ) → is_quote q ≡ true → q == 123 ≡ false
+unfolding is_quote
+quote-not-open q h = none_of (λ c. c == 123) (39 ∷ 34 ∷ []) q refl h
+
+quote-not-slash : (q : ℕ) → is_quote q ≡ true → is_backslash q ≡ false
+unfolding is_quote is_backslash
+quote-not-slash q h = none_of is_backslash (39 ∷ 34 ∷ []) q refl h
+
+pub brace-not-quote : (c : ℕ) → is_brace c ≡ true → is_quote c ≡ false
+unfolding is_quote is_brace
+brace-not-quote c h = none_of is_quote (123 ∷ 125 ∷ []) c refl h
+
+pub slash-not-closing : (c : ℕ) → is_backslash c ≡ true → c == 125 ≡ false
+unfolding is_backslash
+slash-not-closing c h = none_of (λ d. d == 125) (92 ∷ []) c refl h
+
+pub return-not-brace : (c : ℕ) → is_return c ≡ true → is_brace c ≡ false
+unfolding is_return is_brace
+return-not-brace c h = none_of is_brace (13 ∷ []) c refl h
+
+pub return-not-letter : (c : ℕ) → is_return c ≡ true → c == 78 ≡ false
+unfolding is_return
+return-not-letter c h = none_of (λ d. d == 78) (13 ∷ []) c refl h
+
+pub letter-not-return : is_return 78 ≡ false
+unfolding is_return
+letter-not-return = refl
+
+pub letter-not-brace : is_brace 78 ≡ false
+unfolding is_brace
+letter-not-brace = refl
+
+pub names_letter : (host : Host) (c : ℕ) → names host c ≡ true → c == 78 ≡ true
+names_letter host c h = (and_parts (c == 78) (not host.is_raw) h).0
+
+no_brace : (c : ℕ) → c == 123 ≡ false → c == 125 ≡ false → is_brace c ≡ false
+unfolding is_brace
+no_brace c one two = rw (one, two)
+
+ordinary_character : (place : Place) (named : Bool) (c : ℕ) → (c == 123) && not named ≡ false → c == 125 ≡ false → is_ordinary place named c ≡ true
+ordinary_character place true c h k = go place
+  where
+    go : (p : Place) → is_ordinary p true c ≡ true
+    go literal = refl
+    go specification = refl
+ordinary_character literal false c h k = not_from_false _ (plain_one (c == 123) h)
+  where
+    plain_one : (b : Bool) → b && true ≡ false → b ≡ false
+    plain_one true e = e
+    plain_one false e = refl
+ordinary_character specification false c h k = not_from_false _ (no_brace c (plain_one (c == 123) h) k)
+  where
+    plain_one : (b : Bool) → b && true ≡ false → b ≡ false
+    plain_one true e = e
+    plain_one false e = refl
+
+stands : (long : Bool) (q c : ℕ) → is_break c && not long ≡ false → c == q ≡ false → long || not (is_barred q c) ≡ true
+stands true q c h other = refl
+stands false q c h other = not_from_false _ (barred q c other (plain_one (is_break c) h))
+  where
+    plain_one : (b : Bool) → b && true ≡ false → b ≡ false
+    plain_one true e = e
+    plain_one false e = refl
+
+-- a string that holds something is no empty one
+pub quoted_prefix : (prefix : List ℕ) → IsNoneOr (λ p. is_prefix p || is_field_prefix p) prefix → list_any is_quote prefix ≡ false
+quoted_prefix prefix (inl none) = ap (list_any is_quote) none
+quoted_prefix prefix (inr some) = ⊎_elim (λ is. plain_quotes prefix (inr is)) (λ is. (field_letters prefix is).quotes) (or_cases (is_prefix prefix) (is_field_prefix prefix) some)
+
+full_string : (prefix inner text rest : List ℕ) (q : ℕ) → text ≡ prefix ++ (q ∷ inner) → is_field_prefix prefix ≡ true → is_quote q ≡ true → ((r : ℕ) → inner ≡ r ∷ [] → ⊥) → MayPrecedeIn fielded string text rest
+full_string prefix inner text rest q is begun quotes more other r spell also same =
+    let cut = first_quote prefix other inner (r ∷ []) q r (field_letters prefix begun).quotes (quoted_prefix other also) quotes same (sym is ∙ spell) in
+    let all : q ∷ inner ≡ r ∷ r ∷ [] = cut.1 in
+    let own : inner ≡ r ∷ [] = cc in
+    absurd (more r own)
+
+more_than_one : (xs : List ℕ) (q r : ℕ) → IsFull xs → xs ++ q ∷ [] ≡ r ∷ [] → ⊥
+more_than_one [] q r full same = full
+more_than_one (x ∷ xs) q r full same = not_one x xs q r same
+
+pub short_quotes : (host : Host) → host.is_long ≡ false → quotes_of host ≡ host.quote ∷ []
+short_quotes host h = rw h
+
+long_quotes : (host : Host) → host.is_long ≡ true → quotes_of host ≡ host.quote ∷ host.quote ∷ host.quote ∷ []
+long_quotes host h = rw h
+
+module _ (limit : Limit) (outer : List Level) (depth : ℕ) (host : Host) where
+  -- before texts that begin with more
+  pub longer_next : (place : Place) (named : Bool) (held next more : List ℕ) → HoldsParts limit outer depth host place named held next → HoldsParts limit outer depth host place named held (next ++ more)
+  longer_next place named held next more h = record {
+    begin = h.begin;
+    parts = h.parts;
+    spell = h.spell;
+    opens_with = h.opens_with;
+    quotes = h.quotes;
+    fit = λ rest. subst (AreParts (limit.FieldsAt depth) host place false h.parts) (sym (append_assoc next more rest)) (h.fit (more ++ rest));
+    named_is = h.named_is;
+    open_yet = h.open_yet;
+  }
+
+  pub between_next : (place : Place) (named : Bool) (held next more : List ℕ) → HoldsBetween limit outer depth host place named held next → HoldsBetween limit outer depth host place named held (next ++ more)
+  unfolding longer_next
+  between_next place named held next more h = record { all = longer_next place named held next more h.all; apart = h.apart; full = h.full }
+
+  -- one more part
+  push : (place : Place) (named : Bool) (held part next : List ℕ) (h : HoldsParts limit outer depth host place named held part) → ((more : List ℕ) → IsPart (limit.FieldsAt depth) host place named part (next ++ more)) → has_triple host.quote (h.parts ++ part ∷ []) ≡ false → HoldsParts limit outer depth host place (named_after named part) (held ++ part) next
+  push place named held part next h each open_yet = record {
+    begin = h.begin;
+    parts = h.parts ++ part ∷ [];
+    spell = ap (λ t. t ++ part) h.spell ∙ append_assoc h.begin (joined h.parts) part ∙ ap (λ t. h.begin ++ t) (sym (joined-push h.parts part));
+    opens_with = h.opens_with;
+    quotes = h.quotes;
+    fit = λ more. parts-push (limit.FieldsAt depth) host place false h.parts part (next ++ more) (h.fit (next ++ more)) (subst (λ n. IsPart (limit.FieldsAt depth) host place n part (next ++ more)) (sym h.named_is) (each more));
+    named_is = named-push false h.parts part ∙ ap (λ n. named_after n part) h.named_is;
+    open_yet = open_yet;
+  }
+
+  -- one that is no quote
+  pub push_between : (place : Place) (named after : Bool) (held part next : List ℕ) → HoldsParts limit outer depth host place named held part → ((more : List ℕ) → IsPart (limit.FieldsAt depth) host place named part (next ++ more)) → is_bare (λ d. d == host.quote) part ≡ false → IsFull part → named_after named part ≡ after → HoldsBetween limit outer depth host place after (held ++ part) next
+  unfolding push
+  push_between place named after held part next h each other full is =
+      subst (λ n. HoldsBetween limit outer depth host place n (held ++ part) next) is (record {
+        all = push place named held part next h each (triple-other host.quote h.parts part [] other h.open_yet refl);
+        apart = ap (has_triple host.quote) (append_assoc h.parts (part ∷ []) ((host.quote ∷ []) ∷ (host.quote ∷ []) ∷ [])) ∙ triple-other host.quote h.parts part ((host.quote ∷ []) ∷ (host.quote ∷ []) ∷ []) other h.open_yet refl;
+        full = λ at short. subst IsFull (sym (joined-push h.parts part)) (full-append (joined h.parts) part full);
+      })
+
+  -- what a character does in a string with fields
+  abbrev pub IsIn : Place → FieldMode → Type 0
+  IsIn place (body h p named at) = p ≡ place
+  IsIn place other = ⊥
+
+  abbrev pub Moved : Place → List ℕ → ℕ → FieldMove → Type 0
+  Moved place held c (grows m) = IsIn place m × HoldsMode limit outer depth m (held ++ c ∷ [])
+  Moved place held c closes = (place ≡ literal) × InClassIn (with_fields (limit.FieldsAt depth)) string (held ++ c ∷ []) × ((more : List ℕ) → MayPrecedeIn fielded string (held ++ c ∷ []) more)
+  Moved place held c (begins_code h) = (h ≡ host) × (place ≡ literal) × (c == byte "{" ≡ false) × (text : List ℕ) × (held ≡ text ++ byte "{" ∷ []) × HoldsParts limit outer depth host place false text (byte "{" ∷ [])
+  Moved place held c (opens_field h) = (h ≡ host) × (place ≡ specification) × (c ≡ byte "{") × HoldsParts limit outer depth host place false held (byte "{" ∷ [])
+  Moved place held c ends_field = (place ≡ specification) × (c ≡ byte "}") × HoldsParts limit outer depth host place false held (byte "}" ∷ [])
+  Moved place held c refused = Unit {0}
+  Moved place held c breaks = ⊥
+
+  -- a character that stands for itself
+  pub bare_one : (place : Place) (named after : Bool) (held : List ℕ) (c : ℕ) → HoldsParts limit outer depth host place named held (c ∷ []) → c == host.quote ≡ false → is_backslash c ≡ false → is_break c && not host.is_long ≡ false → is_ordinary place named c ≡ true → named && not (c == 125) ≡ after → HoldsBetween limit outer depth host place after (held ++ c ∷ []) []
+  bare_one place named after held c h other no_slash stays itself is =
+      push_between place named after held (c ∷ []) [] h (λ more. bare c refl no_slash (stands host.is_long host.quote c stays other) itself) other tt is
+
+  opening : (place : Place) (held : List ℕ) (c : ℕ) → HoldsParts limit outer depth host place false held (c ∷ []) → c ≡ 123 → Moved place held c (opening_move host place)
+  opening literal held c h is = (refl, (held, ap (λ (d : ℕ). held ++ d ∷ []) is, refl, refl, subst (λ (d : ℕ). HoldsParts limit outer depth host literal false held (d ∷ [])) is h))
+  opening specification held c h is = (refl, refl, is, subst (λ (d : ℕ). HoldsParts limit outer depth host specification false held (d ∷ [])) is h)
+
+  ending : (place : Place) (named : Bool) (held : List ℕ) (c : ℕ) → HoldsParts limit outer depth host place named held (c ∷ []) → c == 125 ≡ true → c == host.quote ≡ false → is_backslash c ≡ false → is_break c && not host.is_long ≡ false → Moved place held c (ending_move host place named)
+  ending literal named held c h is other no_slash stays =
+      let itself : is_ordinary literal named c ≡ true = subst (λ (d : ℕ). named || not (d == 123) ≡ true) (sym (eqb-true c 125 is)) (or_true named) in
+      (refl, bare_one literal named false held c h other no_slash stays itself (ended_named named (c == 125) is))
+  ending specification true held c h is other no_slash stays = (refl, bare_one specification true false held c h other no_slash stays refl (ended_named true (c == 125) is))
+  ending specification false held c h is other no_slash stays = (refl, eqb-true c 125 is, subst (λ (d : ℕ). HoldsParts limit outer depth host specification false held (d ∷ [])) (eqb-true c 125 is) h)
+
+  -- what a quote of the string does
+  abbrev pub quote_move : Place → Bool → At → FieldMove
+  quote_move place named at = if host.is_long && not (is_after_two at) then grows (body host place named (with_quote at)) else closing_move place
+
+  -- a character between two parts, or after a quote of the string
+  pub between_moves : (place : Place) (named : Bool) (at : At) (held : List ℕ) (c : ℕ) → HoldsParts limit outer depth host place named held (c ∷ []) → (c == host.quote ≡ true → Moved place held c (quote_move place named at)) → Moved place held c (between_move host place named at c)
+  unfolding between_move
+  between_moves place named at held c h quoted =
+      let P : FieldMove → Type 0 = λ v. Moved place held c v in
+      cond_both (c == host.quote) _ _ P quoted
+      (λ other. cond_both (is_backslash c) _ _ P (λ slashes. (refl, (held, c, refl, slashes, h)))
+      (λ no_slash. cond_both (is_break c && not host.is_long) _ _ P (λ ended. tt)
+      (λ stays. cond_both ((c == 123) && not named) _ _ P
+      (λ opens.
+      let parts = open_brace (c == 123) named opens in
+      opening place held c (subst (λ n. HoldsParts limit outer depth host place n held (c ∷ [])) parts.1 h) (eqb-true c 123 parts.0))
+      (λ no_open. cond_both (c == 125) _ _ P
+      (λ is. ending place named held c h is other no_slash stays)
+      (λ no_close. (refl, bare_one place named named held c h other no_slash stays (ordinary_character place named c no_open no_close) (kept_named named (c == 125) no_close)))))))
+
+  -- a character after a quote that is a part of its own, of a long string
+  quote_part : (place : Place) (named : Bool) (rest : List ℕ) → is_quote host.quote ≡ true → host.is_long ≡ true → IsPart (limit.FieldsAt depth) host place named (host.quote ∷ []) rest
+  quote_part place named rest quotes long =
+      bare host.quote refl (quote-not-slash host.quote quotes) (ap (λ b. b || not (is_barred host.quote host.quote)) long)
+      (ordinary_character place named host.quote (and_left _ _ (quote-not-open host.quote quotes)) (quote-not-brace host.quote quotes))
+
+  quote_named : (named : Bool) → is_quote host.quote ≡ true → named_after named (host.quote ∷ []) ≡ named
+  quote_named named quotes = kept_named named (host.quote == 125) (quote-not-brace host.quote quotes)
+
+  -- after one quote of a long string, and after two
+  pub one_quote : (place : Place) (named : Bool) (text next : List ℕ) → host.is_long ≡ true → HoldsBetween limit outer depth host place named text (host.quote ∷ []) → HoldsParts limit outer depth host place named (text ++ host.quote ∷ []) next
+  one_quote place named text next long h =
+      subst (λ n. HoldsParts limit outer depth host place n (text ++ host.quote ∷ []) next) (quote_named named h.all.quotes)
+      (push place named text (host.quote ∷ []) next h.all (λ more. quote_part place named (next ++ more) h.all.quotes long)
+      (triple-left host.quote (h.all.parts ++ (host.quote ∷ []) ∷ []) ((host.quote ∷ []) ∷ []) (ap (has_triple host.quote) (append_assoc h.all.parts ((host.quote ∷ []) ∷ []) ((host.quote ∷ []) ∷ [])) ∙ h.apart)))
+
+  pub two_quotes : (place : Place) (named : Bool) (text next : List ℕ) → host.is_long ≡ true → HoldsBetween limit outer depth host place named text (host.quote ∷ []) → HoldsParts limit outer depth host place named (text ++ host.quote ∷ host.quote ∷ []) next
+  unfolding push
+  two_quotes place named text next long h =
+      let after : Bool = named_after named (host.quote ∷ []) in
+      let first : HoldsParts limit outer depth host place after (text ++ host.quote ∷ []) (host.quote ∷ []) =
+      push place named text (host.quote ∷ []) (host.quote ∷ []) h.all (λ more. quote_part place named (host.quote ∷ more) h.all.quotes long)
+      (triple-left host.quote (h.all.parts ++ (host.quote ∷ []) ∷ []) ((host.quote ∷ []) ∷ []) (ap (has_triple host.quote) (append_assoc h.all.parts ((host.quote ∷ []) ∷ []) ((host.quote ∷ []) ∷ [])) ∙ h.apart)) in
+      let same : named_after after (host.quote ∷ []) ≡ named = ap (λ n. named_after n (host.quote ∷ [])) (quote_named named h.all.quotes) ∙ quote_named named h.all.quotes in
+      subst (λ t. HoldsParts limit outer depth host place named t next) (append_assoc text (host.quote ∷ []) (host.quote ∷ []))
+      (subst (λ n. HoldsParts limit outer depth host place n ((text ++ host.quote ∷ []) ++ host.quote ∷ []) next) same
+      (push place after (text ++ host.quote ∷ []) (host.quote ∷ []) next first (λ more. quote_part place after (next ++ more) h.all.quotes long)
+      (ap (has_triple host.quote) (append_assoc h.all.parts ((host.quote ∷ []) ∷ []) ((host.quote ∷ []) ∷ [])) ∙ h.apart)))
+
+  -- the quotes that close the string
+  pub short_string : (named : Bool) (held : List ℕ) → host.is_long ≡ false → HoldsBetween limit outer depth host literal named held (host.quote ∷ []) → IsFieldString (limit.FieldsAt depth) (held ++ host.quote ∷ [])
+  short_string named held short h =
+      let own = h.all in
+      let quotes : quotes_of host ≡ host.quote ∷ [] = short_quotes host short in
+      record {
+        prefix = own.opens_with.prefix;
+        host = host;
+        parts = own.parts;
+        spell = ap (λ t. t ++ host.quote ∷ []) (own.spell ∙ ap (λ t. t ++ joined own.parts) own.opens_with.spell)
+            ∙ append_assoc (own.opens_with.prefix ++ quotes_of host) (joined own.parts) (host.quote ∷ [])
+            ∙ append_assoc own.opens_with.prefix (quotes_of host) (joined own.parts ++ host.quote ∷ [])
+            ∙ ap (λ t. own.opens_with.prefix ++ (quotes_of host ++ (joined own.parts ++ t))) (sym quotes);
+        begun = own.opens_with.begun;
+        raw = own.opens_with.raw;
+        opens = own.quotes;
+        each = subst (AreParts (limit.FieldsAt depth) host literal false own.parts) (sym quotes) (own.fit []);
+        first = h.apart;
+      }
+
+  pub long_string : (named : Bool) (text : List ℕ) → host.is_long ≡ true → HoldsBetween limit outer depth host literal named text (host.quote ∷ []) → IsFieldString (limit.FieldsAt depth) (text ++ host.quote ∷ host.quote ∷ host.quote ∷ [])
+  long_string named text long h =
+      let own = h.all in
+      let three = host.quote ∷ host.quote ∷ host.quote ∷ [] in
+      let quotes : quotes_of host ≡ three = long_quotes host long in
+      record {
+        prefix = own.opens_with.prefix;
+        host = host;
+        parts = own.parts;
+        spell = ap (λ t. t ++ three) (own.spell ∙ ap (λ t. t ++ joined own.parts) own.opens_with.spell)
+            ∙ append_assoc (own.opens_with.prefix ++ quotes_of host) (joined own.parts) three
+            ∙ append_assoc own.opens_with.prefix (quotes_of host) (joined own.parts ++ three)
+            ∙ ap (λ t. own.opens_with.prefix ++ (quotes_of host ++ (joined own.parts ++ t))) (sym quotes);
+        begun = own.opens_with.begun;
+        raw = own.opens_with.raw;
+        opens = own.quotes;
+        each = subst (AreParts (limit.FieldsAt depth) host literal false own.parts) (sym quotes) (own.fit (host.quote ∷ host.quote ∷ []));
+        first = h.apart;
+      }
+
+  pub short_closes : (named : Bool) (held : List ℕ) (c : ℕ) → c == host.quote ≡ true → host.is_long ≡ false → HoldsBetween limit outer depth host literal named held (host.quote ∷ []) → Moved literal held c closes
+  unfolding short_string
+  short_closes named held c same short h =
+      let is : c ≡ host.quote = eqb-true c host.quote same in
+      let own = short_string named held short h in
+      let text : held ++ c ∷ [] ≡ held ++ host.quote ∷ [] = ap (λ (d : ℕ). held ++ d ∷ []) is in
+      let spell : held ++ c ∷ [] ≡ own.prefix ++ (host.quote ∷ joined own.parts ++ host.quote ∷ []) =
+      text ∙ own.spell ∙ ap (λ t. own.prefix ++ (t ++ (joined own.parts ++ t))) (short_quotes host short) in (
+        refl,
+        subst (InClassIn (with_fields (limit.FieldsAt depth)) string) (sym text) (inr own),
+        λ more. full_string own.prefix (joined own.parts ++ host.quote ∷ []) (held ++ c ∷ []) more host.quote spell own.begun h.all.quotes (λ r one. more_than_one (joined own.parts) host.quote r (h.full refl short) one),
+      )
+
+  pub long_closes : (named : Bool) (held text : List ℕ) (c : ℕ) → held ≡ text ++ host.quote ∷ host.quote ∷ [] → c == host.quote ≡ true → host.is_long ≡ true → HoldsBetween limit outer depth host literal named text (host.quote ∷ []) → Moved literal held c closes
+  unfolding long_string
+  long_closes named held text c is_held same long h =
+      let is : c ≡ host.quote = eqb-true c host.quote same in
+      let own = long_string named text long h in
+      let whole : held ++ c ∷ [] ≡ text ++ host.quote ∷ host.quote ∷ host.quote ∷ [] =
+      ap (λ t. t ++ c ∷ []) is_held ∙ append_assoc text (host.quote ∷ host.quote ∷ []) (c ∷ []) ∙ ap (λ (d : ℕ). text ++ host.quote ∷ host.quote ∷ d ∷ []) is in
+      let spell : held ++ c ∷ [] ≡ own.prefix ++ (host.quote ∷ host.quote ∷ host.quote ∷ (joined own.parts ++ host.quote ∷ host.quote ∷ host.quote ∷ [])) =
+      whole ∙ own.spell ∙ ap (λ t. own.prefix ++ (t ++ (joined own.parts ++ t))) (long_quotes host long) in (
+        refl,
+        subst (InClassIn (with_fields (limit.FieldsAt depth)) string) (sym whole) (inr own),
+        λ more. full_string own.prefix (host.quote ∷ host.quote ∷ (joined own.parts ++ host.quote ∷ host.quote ∷ host.quote ∷ [])) (held ++ c ∷ []) more host.quote spell own.begun h.all.quotes (λ r one. absurd (cc)),
+      )
+
+  -- a quote of the string: the first one, the second one of a long string, and the third
+  pub first_quotes : (place : Place) (named : Bool) (held : List ℕ) (c : ℕ) → HoldsBetween limit outer depth host place named held (c ∷ []) → c == host.quote ≡ true → Moved place held c (quote_move place named between)
+  first_quotes place named held c h same =
+      let is : c ≡ host.quote = eqb-true c host.quote same in
+      let own : HoldsBetween limit outer depth host place named held (host.quote ∷ []) = subst (λ (d : ℕ). HoldsBetween limit outer depth host place named held (d ∷ [])) is h in
+      cond_both (host.is_long && true) _ _ (λ (v : FieldMove). Moved place held c v)
+      (λ long. (refl, (held, ap (λ (d : ℕ). held ++ d ∷ []) is, (and_parts _ _ long).0, own)))
+      (λ short. close place own (plain_one host.is_long short))
+    where
+      plain_one : (b : Bool) → b && true ≡ false → b ≡ false
+      plain_one true e = e
+      plain_one false e = refl
+
+      close : (p : Place) → HoldsBetween limit outer depth host p named held (host.quote ∷ []) → host.is_long ≡ false → Moved p held c (closing_move p)
+      close literal own short = short_closes named held c same short own
+      close specification own short = tt
+
+  pub second_quote : (place : Place) (named : Bool) (held : List ℕ) (c : ℕ) → HoldsAt limit outer depth host place named after_one held → c == host.quote ≡ true → Moved place held c (quote_move place named after_one)
+  second_quote place named held c h same =
+      let is : c ≡ host.quote = eqb-true c host.quote same in
+      let text = h.0 in
+      cond_both (host.is_long && true) _ _ (λ (v : FieldMove). Moved place held c v)
+      (λ long. (refl, (text, ap (λ t. t ++ c ∷ []) h.1 ∙ append_assoc text (host.quote ∷ []) (c ∷ []) ∙ ap (λ (d : ℕ). text ++ host.quote ∷ d ∷ []) is, h.2, h.3)))
+      (λ short. absurd (both_ways _ short (and_from _ _ h.2 refl)))
+
+  pub third_quote : (place : Place) (named : Bool) (held : List ℕ) (c : ℕ) → HoldsAt limit outer depth host place named after_two held → c == host.quote ≡ true → Moved place held c (quote_move place named after_two)
+  third_quote place named held c h same =
+      cond_both (host.is_long && false) _ _ (λ (v : FieldMove). Moved place held c v)
+      (λ long. absurd (both_ways _ (and_right host.is_long false refl) long))
+      (λ short. close place h.3)
+    where
+      close : (p : Place) → HoldsBetween limit outer depth host p named h.0 (host.quote ∷ []) → Moved p held c (closing_move p)
+      close literal own = long_closes named held h.0 c h.1 same h.2 own
+      close specification own = tt

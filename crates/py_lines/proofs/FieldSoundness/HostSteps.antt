@@ -1,0 +1,243 @@
+-- What each character does in strings with fields, and so what any text does.
+use Rattle.std.proofs.Common.{◌≡◌, ◌==◌, ℕ, ◌+◌, true, false, Option, None, Some, List, [], ◌∷◌, ◌++◌, length, refl, sym, ap, ◌∙◌, subst, inl, inr, append_assoc, append-nil, arith}
+use Rattle.std.specs.Str.{byte}
+use Rattle.std.proofs.lemmas.Bool.{cond_both, both_ways, eqb-true}
+use Rattle.py_lines.specs.Character.{is_quote}
+use Rattle.py_lines.specs.Piece.{Class, string, spelled, Piece}
+use Rattle.py_lines.specs.PieceGrammar.{InClassIn, MayPrecedeIn}
+use Rattle.py_lines.specs.Balance.{is_opening}
+use Rattle.py_lines.specs.FieldStrings.{Host, Place, literal, specification, quotes_of, IsFieldString, with_fields}
+use Rattle.py_lines.specs.Fields.{Fields, fielded}
+use Rattle.py_lines.specs.declared.mode.Mode.TheVariants as modes
+use Rattle.py_lines.specs.Private.FieldMachine.{between, FieldMode, plain, opened, empty, body, FieldMove, grows, closes, breaks, begins_code, opens_field, ends_field, refused, Level, FieldScanned, field_state, field_text_start, begins_host, long_host, field_move, body_move, field_moved, field_step, field_steps_from, field_class_of, levels_open, frames}
+use Rattle.py_lines.proofs.Pieces.PieceLists.{piece, spelled-push}
+use Rattle.py_lines.proofs.Fields.Nesting.{string_map}
+use Rattle.py_lines.proofs.Fields.Prefixes.{field_letters}
+use Rattle.py_lines.proofs.Fields.SameStrings.{first_quote}
+use Rattle.py_lines.proofs.FieldSoundness.OpenLists.{opens-none, opens-depth}
+use Rattle.py_lines.proofs.FieldSoundness.Holds.{Limit, place_of, before, OpensHost, HoldsParts, HoldsBetween, HoldsList, HoldsLevel, HoldsLevels, AtStart, IsFieldSound}
+use Rattle.py_lines.proofs.FieldSoundness.Bodies.{quoted_prefix, short_quotes, IsIn, Moved, between_moves}
+use Rattle.py_lines.proofs.FieldSoundness.BodyMoves.{body_moves}
+use Rattle.py_lines.proofs.FieldSoundness.Lists.{FieldSoundIf, not_specification, list_more, levels_more, adds_neutral, list_push, levels_push, fresh_sound}
+use Rattle.py_lines.proofs.FieldSoundness.Code.{Ready, start_sound, specification_ends}
+use Rattle.py_lines.proofs.FieldSoundness.PlainSteps.{HasRoom, grew, plain_sound, begins_sound}
+
+-- one more quote of an opening
+more_quotes : (host : Host) (quotes held : List ℕ) (c : ℕ) → c == host.quote ≡ true → OpensHost host quotes held → OpensHost host (quotes ++ host.quote ∷ []) (held ++ c ∷ [])
+more_quotes host quotes held c same h = record {
+  prefix = h.prefix;
+  spell = ap (λ t. t ++ c ∷ []) h.spell ∙ append_assoc h.prefix quotes (c ∷ []) ∙ ap (λ (d : ℕ). h.prefix ++ (quotes ++ d ∷ [])) (eqb-true c host.quote same);
+  begun = h.begun;
+  raw = h.raw;
+}
+
+-- after the opening of a string, no part of it
+pub no_parts : (limit : Limit) (outer : List Level) (depth : ℕ) (host : Host) (held next : List ℕ) → OpensHost host (quotes_of host) held → is_quote host.quote ≡ true → HoldsParts limit outer depth host literal false held next
+no_parts limit outer depth host held next opens quotes = record {
+  begin = held;
+  parts = [];
+  spell = sym (append-nil held);
+  opens_with = opens;
+  quotes = quotes;
+  fit = λ more. tt;
+  named_is = refl;
+  open_yet = refl;
+}
+
+long_begins : (limit : Limit) (outer : List Level) (depth : ℕ) (host : Host) (held : List ℕ) → OpensHost host (quotes_of host) held → is_quote host.quote ≡ true → host.is_long ≡ true → HoldsBetween limit outer depth host literal false held []
+unfolding no_parts
+long_begins limit outer depth host held opens quotes long = record { all = no_parts limit outer depth host held [] opens quotes; apart = refl; full = λ at short. absurd (both_ways _ short long) }
+
+pub short_opens : (host : Host) (held : List ℕ) → host.is_long ≡ false → OpensHost host (host.quote ∷ []) held → OpensHost host (quotes_of host) held
+short_opens host held short h = subst (λ t. OpensHost host t held) (sym (short_quotes host short)) h
+
+-- two quotes are an empty string, unless a third one follows
+pub empty_string : (F : Host → List ℕ → Type 0) (host : Host) (held : List ℕ) → OpensHost host (host.quote ∷ host.quote ∷ []) held → is_quote host.quote ≡ true → host.is_long ≡ false → IsFieldString F held
+empty_string F host held h quotes short = record {
+  prefix = h.prefix;
+  host = host;
+  parts = [];
+  spell = h.spell ∙ ap (λ t. h.prefix ++ (t ++ t)) (sym (short_quotes host short));
+  begun = h.begun;
+  raw = h.raw;
+  opens = quotes;
+  each = tt;
+  first = refl;
+}
+
+pub empty_end : (host : Host) (held : List ℕ) → OpensHost host (host.quote ∷ host.quote ∷ []) held → is_quote host.quote ≡ true → MayPrecedeIn fielded string held []
+empty_end host held h quotes prefix r spell begun also = refl
+
+empty_before : (host : Host) (held : List ℕ) (c : ℕ) (more : List ℕ) → OpensHost host (host.quote ∷ host.quote ∷ []) held → is_quote host.quote ≡ true → c == host.quote ≡ false → MayPrecedeIn fielded string held (c ∷ more)
+empty_before host held c more h quotes other prefix r spell begun also =
+    let cut = first_quote h.prefix prefix (host.quote ∷ []) (r ∷ []) host.quote r (field_letters h.prefix h.begun).quotes (quoted_prefix prefix begun) quotes also (sym h.spell ∙ spell) in
+    let both : host.quote ∷ host.quote ∷ [] ≡ r ∷ r ∷ [] = cut.1 in
+    let one : host.quote ≡ r = cc in
+    subst (λ (d : ℕ). c == d ≡ false) one other
+
+module _ (limit : Limit) (outer : List Level) (done : List Piece) (openers : List ℕ) (m : FieldMode) (held read : List ℕ) (c : ℕ) (sound : IsFieldSound limit (field_state outer done openers m held) read) where
+  abbrev depth : ℕ
+  depth = length openers + levels_open outer
+
+  abbrev State : FieldScanned
+  State = field_state outer done openers m held
+
+  -- the text of a string with fields, as pieces before it need it
+  longer_text : spelled done ++ (held ++ c ∷ []) ≡ (spelled done ++ held) ++ c ∷ []
+  longer_text = sym (append_assoc (spelled done) held (c ∷ []))
+
+  -- the string ends with the character
+  string_closes : (at : place_of m ≡ literal) → InClassIn (with_fields (limit.FieldsAt depth)) string (held ++ c ∷ []) → ((more : List ℕ) → MayPrecedeIn fielded string (held ++ c ∷ []) more) → IsFieldSound limit (field_state outer (done ++ piece string (held ++ c ∷ []) ∷ []) openers (plain modes.Free) []) (read ++ c ∷ [])
+  string_closes at own precedes =
+      let text = held ++ c ∷ [] in
+      let list = list_more limit outer literal done openers held (c ∷ []) (subst (λ p. HoldsList limit outer p done openers held) at sound.list) in
+      fresh_sound limit outer done openers openers string text (read ++ c ∷ [])
+      (ap (λ t. before literal outer ++ t) longer_text ∙ sym (append_assoc (before literal outer) (spelled done ++ held) (c ∷ [])) ∙ ap (λ t. t ++ c ∷ []) (ap (λ p. before p outer ++ (spelled done ++ held)) (sym at) ∙ sound.spell)) list
+      (subst (HoldsLevels limit literal outer) (sym longer_text) (levels_more limit literal outer (spelled done ++ held) (c ∷ []) (subst (λ p. HoldsLevels limit p outer (spelled done ++ held)) at sound.levels)))
+      (adds_neutral limit outer done openers text string text [] list (λ h. absurd (cc)) (string_map (limit.FieldsAt depth) Fields (limit.are_fields depth) text own) precedes (inl refl)
+      (λ h. subst (λ (d : ℕ). InClassIn (with_fields (limit.FieldsAt d)) string text) (sym (opens-depth openers done (levels_open outer) sound.list.opens)) own))
+
+  -- it ends before the character
+  string_ready : (at : place_of m ≡ literal) → InClassIn (with_fields (limit.FieldsAt depth)) string held → ((more : List ℕ) → MayPrecedeIn fielded string held (c ∷ more)) → (is_opening c ≡ true → limit.Room depth) → Ready limit outer (done ++ piece string held ∷ []) openers read c
+  string_ready at own precedes room =
+      let list = subst (λ p. HoldsList limit outer p done openers held) at sound.list in
+      record {
+        spell = ap (λ t. before literal outer ++ t) (spelled-push done string held) ∙ ap (λ p. before p outer ++ (spelled done ++ held)) (sym at) ∙ sound.spell;
+        list = list_push limit outer done openers openers string held (c ∷ []) list
+            (adds_neutral limit outer done openers held string held (c ∷ []) list (λ h. absurd (cc)) (string_map (limit.FieldsAt depth) Fields (limit.are_fields depth) held own) precedes (inl refl)
+            (λ h. subst (λ (d : ℕ). InClassIn (with_fields (limit.FieldsAt d)) string held) (sym (opens-depth openers done (levels_open outer) sound.list.opens)) own));
+        levels = levels_push limit outer done string held (c ∷ []) (subst (λ p. HoldsLevels limit p outer (spelled done ++ held)) at sound.levels);
+        room = room;
+      }
+
+  -- a field opens before the character, in a literal part
+  code_begins : (host : Host) (text : List ℕ) → place_of m ≡ literal → c == byte "{" ≡ false → held ≡ text ++ byte "{" ∷ [] → HoldsParts limit outer depth host literal false text (byte "{" ∷ []) → HasRoom limit depth c (begins_code host) → FieldSoundIf limit (field_moved State c (begins_code host)) (read ++ c ∷ [])
+  code_begins host text at single spell parts room =
+      let level : Level = record { done = done; openers = openers; host = host; place = literal; front = held } in
+      let own : HoldsLevel limit level outer = record { text = text; spell = spell; list = subst (λ p. HoldsList limit outer p done openers held) at sound.list; parts = parts; room = room.0 } in
+      start_sound limit (level ∷ outer) [] [] read c (record {
+        spell = append-nil (before literal outer ++ (spelled done ++ held)) ∙ ap (λ p. before p outer ++ (spelled done ++ held)) (sym at) ∙ sound.spell;
+        list = record { fit = λ more. tt; opens = opens-none; passes = limit.none_at (levels_open (level ∷ outer)); in_field = λ l ls is. (refl, tt); no_list = λ is. not_specification is };
+        levels = (λ more. single, own, subst (λ p. HoldsLevels limit p outer (spelled done ++ held)) at sound.levels);
+        room = λ opens. subst limit.Room (omega arith) (room.1 opens);
+      })
+
+  -- a field opens at the character, in a specification
+  field_opens : (host : Host) → place_of m ≡ specification → c ≡ byte "{" → HoldsParts limit outer depth host specification false held (byte "{" ∷ []) → limit.Room depth → FieldSoundIf limit (field_moved State c (opens_field host)) (read ++ c ∷ [])
+  field_opens host at is parts room =
+      let front = held ++ c ∷ [] in
+      let level : Level = record { done = done; openers = openers; host = host; place = specification; front = front } in
+      let own : HoldsLevel limit level outer = record {
+        text = held;
+        spell = ap (λ (d : ℕ). held ++ d ∷ []) is;
+        list = list_more limit outer specification done openers held (c ∷ []) (subst (λ p. HoldsList limit outer p done openers held) at sound.list);
+        parts = parts;
+        room = room;
+      } in
+      record {
+        spell = append-nil (before specification outer ++ (spelled done ++ front))
+            ∙ ap (λ t. before specification outer ++ t) longer_text
+            ∙ sym (append_assoc (before specification outer) (spelled done ++ held) (c ∷ []))
+            ∙ ap (λ t. t ++ c ∷ []) (ap (λ p. before p outer ++ (spelled done ++ held)) (sym at) ∙ sound.spell);
+        mode = (refl, λ h. absurd (cc));
+        list = record { fit = λ more. tt; opens = opens-none; passes = limit.none_at (levels_open (level ∷ outer)); in_field = λ l ls h. (refl, tt); no_list = λ h. not_specification h };
+        levels = (tt, own, subst (HoldsLevels limit specification outer) (sym longer_text) (levels_more limit specification outer (spelled done ++ held) (c ∷ []) (subst (λ p. HoldsLevels limit p outer (spelled done ++ held)) at sound.levels)));
+        start = tt;
+      }
+
+  -- the field ends whose specification is open
+  field_ends : (host : Host) → place_of m ≡ specification → c ≡ byte "}" → HoldsParts limit outer depth host specification false held (byte "}" ∷ []) → FieldSoundIf limit (field_moved State c ends_field) (read ++ c ∷ [])
+  field_ends host at is parts =
+      let none = sound.list.no_list at in
+      let text : spelled done ++ held ≡ held = ap (λ (l : List Piece). spelled l ++ held) none.0 in
+      specification_ends limit outer openers host held read c none.1 is parts
+      (subst (HoldsLevels limit specification outer) text (subst (λ p. HoldsLevels limit p outer (spelled done ++ held)) at sound.levels))
+      (ap (λ t. before specification outer ++ t) (sym text) ∙ ap (λ p. before p outer ++ (spelled done ++ held)) (sym at) ∙ sound.spell)
+
+  -- so whatever a character does in the body of a string
+  body_in : (place : Place) (n : FieldMode) (host : Host) → IsIn limit outer depth host place n → place_of m ≡ place → (place_of n ≡ place_of m) × AtStart n outer done
+  body_in place (plain n) host is at = absurd is
+  body_in place (opened h) host is at = absurd is
+  body_in place (empty h) host is at = absurd is
+  body_in place (body h p named q) host is at = (is ∙ sym at, tt)
+
+  moved_sound : (host : Host) (place : Place) (v : FieldMove) → place_of m ≡ place → field_class_of m ≡ string → Moved limit outer depth host place held c v → HasRoom limit depth c v → FieldSoundIf limit (field_moved State c v) (read ++ c ∷ [])
+  moved_sound host place (grows n) at class holds room =
+      let own = body_in place n host holds.0 at in
+      grew limit outer done openers m n held read c sound own.0 holds.1 own.1
+  moved_sound host place closes at class holds room =
+      subst (λ (x : Class). IsFieldSound limit (field_state outer (done ++ piece x (held ++ c ∷ []) ∷ []) openers (plain modes.Free) []) (read ++ c ∷ [])) (sym class) (string_closes (at ∙ holds.0) holds.1 holds.2)
+  moved_sound host place breaks at class holds room = absurd holds
+  moved_sound host place (begins_code h) at class holds room =
+      subst (λ (x : Host). FieldSoundIf limit (field_moved State c (begins_code x)) (read ++ c ∷ [])) (sym holds.0)
+      (code_begins host holds.3 (at ∙ holds.1) holds.2 holds.4 (subst (λ p. HoldsParts limit outer depth host p false holds.3 (123 ∷ [])) holds.1 holds.5) room)
+  moved_sound host place (opens_field h) at class holds room =
+      subst (λ (x : Host). FieldSoundIf limit (field_moved State c (opens_field x)) (read ++ c ∷ [])) (sym holds.0)
+      (field_opens host (at ∙ holds.1) holds.2 (subst (λ p. HoldsParts limit outer depth host p false held (123 ∷ [])) holds.1 holds.3) room)
+  moved_sound host place ends_field at class holds room = field_ends host (at ∙ holds.0) holds.1 (subst (λ p. HoldsParts limit outer depth host p false held (125 ∷ [])) holds.0 holds.2)
+  moved_sound host place refused at class holds room = tt
+
+-- one character
+pub step_sound : (limit : Limit) (outer : List Level) (done : List Piece) (openers : List ℕ) (m : FieldMode) (held read : List ℕ) (c : ℕ) → IsFieldSound limit (field_state outer done openers m held) read → HasRoom limit (length openers + levels_open outer) c (field_move m held c) → FieldSoundIf limit (field_step (field_state outer done openers m held) c) (read ++ c ∷ [])
+unfolding field_move body_move
+step_sound limit outer done openers (plain m) held read c sound room =
+    let depth = length openers + levels_open outer in
+    let P : FieldMove → Type 0 = λ v. HasRoom limit depth c v → FieldSoundIf limit (field_moved (field_state outer done openers (plain m) held) c v) (read ++ c ∷ []) in
+    cond_both (begins_host m held c) _ _ P (λ is room. begins_sound limit outer done openers m held read c sound is) (λ other room. plain_sound limit outer done openers m held read c sound other room) room
+step_sound limit outer done openers (opened host) held read c sound room =
+    let depth = length openers + levels_open outer in
+    let P : FieldMove → Type 0 = λ v. HasRoom limit depth c v → FieldSoundIf limit (field_moved (field_state outer done openers (opened host) held) c v) (read ++ c ∷ []) in
+    let opens = sound.mode.0 in
+    let quotes = sound.mode.1 in
+    let short = sound.mode.2 in
+    cond_both (c == host.quote) _ _ P
+    (λ same room. grew limit outer done openers (opened host) (empty host) held read c sound refl (more_quotes host (host.quote ∷ []) held c same opens, quotes, short) tt)
+    (λ other room.
+    moved_sound limit outer done openers (opened host) held read c sound host literal (body_move host literal false between c) refl refl
+    (between_moves limit outer depth host literal false between held c (no_parts limit outer depth host held (c ∷ []) (short_opens host held short opens) quotes) (λ same. absurd (both_ways _ other same))) room) room
+step_sound limit outer done openers (empty host) held read c sound room =
+    let depth = length openers + levels_open outer in
+    let P : FieldMove → Type 0 = λ v. HasRoom limit depth c v → FieldSoundIf limit (field_moved (field_state outer done openers (empty host) held) c v) (read ++ c ∷ []) in
+    let opens = sound.mode.0 in
+    let quotes = sound.mode.1 in
+    let short = sound.mode.2 in
+    cond_both (c == host.quote) _ _ P
+    (λ same room.
+    let three = more_quotes host (host.quote ∷ host.quote ∷ []) held c same opens in
+    let long : OpensHost (long_host host) (quotes_of (long_host host)) (held ++ c ∷ []) = record { prefix = three.prefix; spell = three.spell; begun = three.begun; raw = three.raw } in
+    grew limit outer done openers (empty host) (body (long_host host) literal false between) held read c sound refl
+    (long_begins limit outer depth (long_host host) (held ++ c ∷ []) long quotes refl) tt)
+    (λ other room.
+    start_sound limit outer (done ++ piece string held ∷ []) openers read c
+    (string_ready limit outer done openers (empty host) held read c sound refl (inr (empty_string (limit.FieldsAt depth) host held opens quotes short)) (λ more. empty_before host held c more opens quotes other) room)) room
+step_sound limit outer done openers (body host place named at) held read c sound room =
+    let depth = length openers + levels_open outer in
+    moved_sound limit outer done openers (body host place named at) held read c sound host place (body_move host place named at c) refl refl (body_moves limit outer depth host place named at held c sound.mode) room
+
+-- characters, one after another
+abbrev pub HaveRoom : Limit → Option FieldScanned → List ℕ → Type 0
+HaveRoom limit None cs = Unit {0}
+HaveRoom limit (Some s) [] = Unit {0}
+HaveRoom limit (Some s) (c ∷ cs) = HasRoom limit (frames s) c (field_move s.mode s.held c) × HaveRoom limit (field_step s c) cs
+
+pub run_sound : (limit : Limit) (s : FieldScanned) (read cs : List ℕ) → IsFieldSound limit s read → HaveRoom limit (Some s) cs → FieldSoundIf limit (field_steps_from (Some s) cs) (read ++ cs)
+run_sound limit s read [] sound room = subst (IsFieldSound limit s) (sym (append-nil read)) sound
+run_sound limit s read (c ∷ cs) sound room =
+    go (field_step s c) (step_sound limit s.outer s.done s.openers s.mode s.held read c sound room.0) room.1 (λ t next later. run_sound limit t (read ++ c ∷ []) cs next later)
+  where
+    go : (o : Option FieldScanned) → FieldSoundIf limit o (read ++ c ∷ []) → HaveRoom limit o cs → ((t : FieldScanned) → IsFieldSound limit t (read ++ c ∷ []) → HaveRoom limit (Some t) cs → FieldSoundIf limit (field_steps_from (Some t) cs) ((read ++ c ∷ []) ++ cs)) → FieldSoundIf limit (field_steps_from o cs) (read ++ c ∷ cs)
+    go None next room later = tt
+    go (Some t) next room later = subst (FieldSoundIf limit (field_steps_from (Some t) cs)) (append_assoc read (c ∷ []) cs) (later t next room)
+
+pub start_is_sound : (limit : Limit) → IsFieldSound limit field_text_start []
+start_is_sound limit = record {
+  spell = refl;
+  mode = ((refl, refl), λ at. absurd (cc));
+  list = record { fit = λ more. tt; opens = opens-none; passes = limit.none_at 0; in_field = λ l ls at. absurd (cc); no_list = λ at. not_specification at };
+  levels = tt;
+  start = (refl, refl);
+}
+
+-- where the machine goes to from the start is sound
+pub sound_at : (limit : Limit) (cs : List ℕ) (s : FieldScanned) → HaveRoom limit (Some field_text_start) cs → field_steps_from (Some field_text_start) cs ≡ Some s → IsFieldSound limit s cs
+sound_at limit cs s room steps = subst (λ o. FieldSoundIf limit o cs) steps (run_sound limit field_text_start [] cs (start_is_sound limit) room)

@@ -1,0 +1,187 @@
+-- Some text that begins with these characters is read with fields exactly where the machine with fields goes through them, and
+-- each of them has room: what is open can be closed.
+use Rattle.std.proofs.Common.{◌≡◌, ℕ, Bool, true, false, Option, None, Some, List, [], ◌∷◌, ◌++◌, refl, sym, ap, ◌∙◌}
+use Rattle.std.specs.Str.{all_scalars}
+use Rattle.std.proofs.lemmas.Bool.{and_parts, and_from, and_right, both_ways, eq-eqb}
+use Rattle.py_lines.specs.Character.{is_quote}
+use Rattle.py_lines.specs.Piece.{comment, line_end, Piece}
+use Rattle.py_lines.specs.Balance.{is_opening, is_closing}
+use Rattle.py_lines.specs.FieldStrings.{Host, Place, literal}
+use Rattle.py_lines.specs.FieldFaults.{IsFieldLive}
+use Rattle.py_lines.specs.declared.mode.Mode.{Mode}
+use Rattle.py_lines.specs.declared.mode.Mode.TheVariants as modes
+use Rattle.py_lines.specs.declared.mode.Move.TheVariants as moves
+use Rattle.py_lines.specs.Private.Machine.{Holds, move_of}
+use Rattle.py_lines.specs.Private.FieldMachine.{At, between, after_one, after_two, after_slash, after_return, after_name, after_brace, FieldMode, plain, opened, empty, body, grows, Level, FieldScanned, field_state, field_fresh, field_text_start, begins_host, plain_move, field_move, field_started, field_step, field_steps_from, field_pieces, have_room, has_room}
+use Rattle.py_lines.proofs.Pieces.PieceLists.{piece}
+use Rattle.py_lines.proofs.Text.CharacterTests.{not_quote}
+use Rattle.py_lines.proofs.Machine.LiveTexts.{IsReady, ready-start, ready-free, ready-space, ready-word, ready-empty, ready-join, ready-return, closing-not-quote, quote-scalar, inside-closes, opened-grows, escape-grows, returned-closes, long-grows, long-one-grows, long-two-closes, long-escape-grows, slash-closes, comment-breaks, feed-starts}
+use Rattle.py_lines.proofs.FieldMachine.Runs.{BelowLimit, steps_of, room_of, goes-begins}
+use Rattle.py_lines.proofs.FieldMachine.PlainSteps.{plain_moves}
+use Rattle.py_lines.proofs.FieldMachine.Completeness.{reading_reached}
+use Rattle.py_lines.proofs.FieldSoundness.Holds.{Limit, HoldsAt, IsFieldSound}
+use Rattle.py_lines.proofs.FieldSoundness.Closing.{IsReadyField, ready-fresh, Finishes, Readies, at_once, grows_first, closes_last, finishes_after, ClosesLevels, levels_close, list_finishes, body_finishes}
+use Rattle.py_lines.proofs.FieldSoundness.HostSteps.{sound_at}
+use Rattle.py_lines.proofs.FieldSoundness.WholeTexts.{two_hundred, rooms_at, final_is_reading}
+
+-- a mode without fields that is ready is so in a list
+no_host : (m : Mode) (held : List ℕ) (c : ℕ) → is_closing c ≡ true → begins_host m held c ≡ false
+no_host (modes.Word s) held c h = and_right _ _ (closing-not-quote c h)
+no_host m held c h = refl
+
+ready_plain : (m : Mode) (held : List ℕ) → IsReady m → IsReadyField (plain m) held
+ready_plain m held ready = record { ends = ready.ends; closing = λ c h. plain_moves m held c (no_host m held c h) ∙ ap plain_move (ready.breaks c h) }
+
+ready_empty : (host : Host) (held : List ℕ) → is_quote host.quote ≡ true → IsReadyField (empty host) held
+unfolding field_move
+ready_empty host held quotes = record { ends = refl; closing = λ c h. rw (not_quote c host.quote quotes (closing-not-quote c h)) }
+
+opened_grows : (host : Host) (held : List ℕ) → field_move (opened host) held host.quote ≡ grows (empty host)
+unfolding field_move
+opened_grows host held = rw (eq-eqb host.quote host.quote refl)
+
+feed_opens : is_opening 10 ≡ false
+unfolding is_opening
+feed_opens = refl
+
+module _ (Room : ℕ → Type 0) (outer : List Level) (done : List Piece) (openers : List ℕ) where
+  abbrev State : Mode → List ℕ → FieldScanned
+  State m held = field_state outer done openers (plain m) held
+
+  -- one character more in a string without fields
+  on : (m n : Mode) (held : List ℕ) (c : ℕ) → all_scalars (c ∷ []) ≡ true → begins_host m held c ≡ false → move_of m c ≡ moves.Grows n → Readies Room (State n (held ++ c ∷ [])) → Readies Room (State m held)
+  on m n held c scalar other move later = grows_first Room (State m held) (plain n) c scalar (plain_moves m held c other ∙ ap plain_move move) later
+
+  last : (m : Mode) (held : List ℕ) (c : ℕ) → all_scalars (c ∷ []) ≡ true → begins_host m held c ≡ false → move_of m c ≡ moves.Closes → Readies Room (State m held)
+  last m held c scalar other move = closes_last Room (State m held) c scalar (plain_moves m held c other ∙ ap plain_move move)
+
+  once : (m : Mode) (held : List ℕ) → IsReady m → Readies Room (State m held)
+  once m held ready = at_once Room (State m held) (ready_plain m held ready)
+
+  one : (q : ℕ) → is_quote q ≡ true → all_scalars (q ∷ []) ≡ true
+  one q quotes = and_from _ _ (quote-scalar q quotes) refl
+
+  comment_ends : (held : List ℕ) → Readies Room (State modes.Comment held)
+  comment_ends held =
+      let pieces = done ++ piece comment held ∷ [] in
+      let next = field_fresh outer (pieces ++ piece line_end (10 ∷ []) ∷ []) openers in
+      record {
+        more = 10 ∷ [];
+        done = pieces ++ piece line_end (10 ∷ []) ∷ [];
+        mode = plain modes.Free;
+        held = [];
+        scalars = refl;
+        goes = goes-begins Room (State modes.Comment held) next next 10 [] (plain_moves modes.Comment held 10 refl ∙ ap plain_move comment-breaks) (ap (field_started outer pieces openers 10) feed-starts)
+            (λ opens. absurd (both_ways _ feed_opens opens)) refl;
+        ready = ready-fresh;
+      }
+
+  long_two : (q : ℕ) (held : List ℕ) → is_quote q ≡ true → Readies Room (State (modes.LongTwo q) held)
+  long_two q held quotes = last (modes.LongTwo q) held q (one q quotes) refl (long-two-closes q)
+
+  long_one : (q : ℕ) (held : List ℕ) → is_quote q ≡ true → Readies Room (State (modes.LongOne q) held)
+  long_one q held quotes = on (modes.LongOne q) (modes.LongTwo q) held q (one q quotes) refl (long-one-grows q) (long_two q (held ++ q ∷ []) quotes)
+
+  long_none : (q : ℕ) (held : List ℕ) → is_quote q ≡ true → Readies Room (State (modes.Long q) held)
+  long_none q held quotes = on (modes.Long q) (modes.LongOne q) held q (one q quotes) refl (long-grows q) (long_one q (held ++ q ∷ []) quotes)
+
+  -- the open piece can be finished
+  plain_readies : (m : Mode) (held : List ℕ) → Holds m [] held → Readies Room (State m held)
+  plain_readies modes.Start held holds = once modes.Start held ready-start
+  plain_readies modes.Free held holds = once modes.Free held ready-free
+  plain_readies modes.Space held holds = once modes.Space held ready-space
+  plain_readies (modes.Word s) held holds = once (modes.Word s) held (ready-word s)
+  plain_readies modes.Comment held holds = comment_ends held
+  plain_readies (modes.Opened q) held holds = on (modes.Opened q) (modes.Empty q) held q (one q holds.opens) refl (opened-grows q) (once (modes.Empty q) (held ++ q ∷ []) (ready-empty q holds.opens))
+  plain_readies (modes.Inside q) held holds = last (modes.Inside q) held q (one q holds.all.opens) refl (inside-closes q)
+  plain_readies (modes.Escape q) held holds =
+      on (modes.Escape q) (modes.Inside q) held q (one q holds.3.opens) refl (escape-grows q holds.3.opens) (last (modes.Inside q) (held ++ q ∷ []) q (one q holds.3.opens) refl (inside-closes q))
+  plain_readies (modes.EscapeReturn q) held holds = last (modes.EscapeReturn q) held q (one q holds.4.opens) refl (returned-closes q holds.4.opens)
+  plain_readies (modes.Empty q) held holds = once (modes.Empty q) held (ready-empty q holds.opens)
+  plain_readies (modes.Long q) held holds = long_none q held holds.opens
+  plain_readies (modes.LongOne q) held holds = long_one q held holds.2.opens
+  plain_readies (modes.LongTwo q) held holds = long_two q held holds.2.opens
+  plain_readies (modes.LongEscape q) held holds = on (modes.LongEscape q) (modes.Long q) held q (one q holds.3.opens) refl (long-escape-grows q q) (long_none q (held ++ q ∷ []) holds.3.opens)
+  plain_readies modes.Backslash held holds = last modes.Backslash held 10 refl refl slash-closes
+  plain_readies modes.JoinReturn held holds = once modes.JoinReturn held ready-join
+  plain_readies modes.Return held holds = once modes.Return held ready-return
+
+  -- and then what stands round it
+  then_finishes : (m : FieldMode) (held : List ℕ) → Readies Room (field_state outer done openers m held) → ClosesLevels literal outer → Finishes Room (field_state outer done openers m held)
+  then_finishes m held first levels = finishes_after Room _ _ first.more first.scalars first.goes (list_finishes Room outer first.done openers first.mode first.held first.ready levels)
+
+-- the quote of a string that is open
+quotes_at : (limit : Limit) (outer : List Level) (depth : ℕ) (host : Host) (place : Place) (named : Bool) (at : At) (held : List ℕ) → HoldsAt limit outer depth host place named at held → is_quote host.quote ≡ true
+quotes_at limit outer depth host place named between held h = h.all.quotes
+quotes_at limit outer depth host place named after_one held h = h.3.all.quotes
+quotes_at limit outer depth host place named after_two held h = h.3.all.quotes
+quotes_at limit outer depth host place named after_slash held h = h.4.quotes
+quotes_at limit outer depth host place named after_return held h = h.7.quotes
+quotes_at limit outer depth host place named after_name held h = h.7.quotes
+quotes_at limit outer depth host place named after_brace held h = h.4.quotes
+
+-- so from every state
+pub state_finishes : (limit : Limit) (Room : ℕ → Type 0) (outer : List Level) (done : List Piece) (openers : List ℕ) (m : FieldMode) (held read : List ℕ) → IsFieldSound limit (field_state outer done openers m held) read → Finishes Room (field_state outer done openers m held)
+state_finishes limit Room outer done openers (plain m) held read sound = then_finishes Room outer done openers (plain m) held (plain_readies Room outer done openers m held sound.mode.0) (levels_close limit literal outer _ sound.levels)
+state_finishes limit Room outer done openers (opened host) held read sound =
+    let quotes = sound.mode.1 in
+    then_finishes Room outer done openers (opened host) held
+    (grows_first Room (field_state outer done openers (opened host) held) (empty host) host.quote (and_from _ _ (quote-scalar host.quote quotes) refl) (opened_grows host held)
+    (at_once Room (field_state outer done openers (empty host) (held ++ host.quote ∷ [])) (ready_empty host (held ++ host.quote ∷ []) quotes))) (levels_close limit literal outer _ sound.levels)
+state_finishes limit Room outer done openers (empty host) held read sound =
+    then_finishes Room outer done openers (empty host) held (at_once Room (field_state outer done openers (empty host) held) (ready_empty host held sound.mode.1)) (levels_close limit literal outer _ sound.levels)
+state_finishes limit Room outer done openers (body host place named at) held read sound =
+    body_finishes Room place outer done openers host named at held (quotes_at limit outer _ host place named at held sound.mode) (levels_close limit place outer _ sound.levels)
+
+-- runs over two texts, one after the other
+pub steps-append : (o : Option FieldScanned) (a b : List ℕ) → field_steps_from o (a ++ b) ≡ field_steps_from (field_steps_from o a) b
+steps-append None a b = refl
+steps-append (Some s) [] b = refl
+steps-append (Some s) (c ∷ a) b = steps-append (field_step s c) a b
+
+pub room-append : (o : Option FieldScanned) (a b : List ℕ) (s : FieldScanned) → field_steps_from o a ≡ Some s → have_room o a ≡ true → have_room (Some s) b ≡ true → have_room o (a ++ b) ≡ true
+room-append None a b s steps first second = refl
+room-append (Some t) [] b s steps first second = ap (λ o. have_room o b) steps ∙ second
+room-append (Some t) (c ∷ a) b s steps first second =
+    let parts = and_parts (has_room t c) (have_room (field_step t c) a) first in
+    and_from _ _ parts.0 (room-append (field_step t c) a b s steps parts.1 second)
+
+steps_before : (o : Option FieldScanned) (b : List ℕ) (s : FieldScanned) → field_steps_from o b ≡ Some s → (t : FieldScanned) × (o ≡ Some t)
+steps_before None b s steps =
+    let stuck : None ≡ Some s = steps in
+    absurd (cc)
+steps_before (Some t) b s steps = (t, refl)
+
+room_before : (o : Option FieldScanned) (a b : List ℕ) → have_room o (a ++ b) ≡ true → have_room o a ≡ true
+room_before None a b h = refl
+room_before (Some s) [] b h = refl
+room_before (Some s) (c ∷ a) b h =
+    let parts = and_parts (has_room s c) (have_room (field_step s c) (a ++ b)) h in
+    and_from _ _ parts.0 (room_before (field_step s c) a b parts.1)
+
+-- the machine goes through a live text, and each character has room
+pub live_goes : (characters : List ℕ) → IsFieldLive characters → (s : FieldScanned) × (field_steps_from (Some field_text_start) characters ≡ Some s) × (have_room (Some field_text_start) characters ≡ true)
+live_goes characters live =
+    let whole = reading_reached live.pieces (characters ++ live.more) live.reading in
+    let first = steps_before (field_steps_from (Some field_text_start) characters) live.more whole.to (sym (steps-append (Some field_text_start) characters live.more) ∙ whole.steps) in
+    (first.0, first.1, room_before (Some field_text_start) characters live.more whole.room)
+
+-- and a text that it goes through so is live
+pub goes_live : (characters : List ℕ) (s : FieldScanned) → field_steps_from (Some field_text_start) characters ≡ Some s → have_room (Some field_text_start) characters ≡ true → IsFieldLive characters
+goes_live characters s steps room =
+    let later = state_finishes two_hundred BelowLimit s.outer s.done s.openers s.mode s.held characters (sound_at two_hundred characters s (rooms_at (Some field_text_start) characters room) steps) in
+    record {
+      more = later.more;
+      pieces = field_pieces later.to;
+      scalars = later.scalars;
+      reading = final_is_reading (characters ++ later.more) later.to
+          (steps-append (Some field_text_start) characters later.more ∙ ap (λ o. field_steps_from o later.more) steps ∙ steps_of BelowLimit s later.to later.more later.goes)
+          (room-append (Some field_text_start) characters later.more s steps room (room_of s later.to later.more later.goes)) later.final;
+    }
+
+-- what a live text begins with is live
+pub live_before : (xs ys : List ℕ) → IsFieldLive (xs ++ ys) → IsFieldLive xs
+live_before xs ys live =
+    let whole = live_goes (xs ++ ys) live in
+    let first = steps_before (field_steps_from (Some field_text_start) xs) ys whole.0 (sym (steps-append (Some field_text_start) xs ys) ∙ whole.1) in
+    goes_live xs first.0 first.1 (room_before (Some field_text_start) xs ys whole.2)

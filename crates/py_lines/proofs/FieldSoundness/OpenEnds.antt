@@ -1,0 +1,246 @@
+-- What is open where a text ends, by the mode in which the machine with fields stands.
+use Rattle.std.proofs.Common.{◌≡◌, ℕ, ◌+◌, Bool, true, false, List, [], ◌∷◌, ◌++◌, length, refl, sym, ap, ◌∙◌, subst, inl, inr, ◌⊎◌, append_assoc, append-nil, arith}
+use Rattle.std.proofs.lemmas.Bool.{both_ways, and_right, eqb-true}
+use Rattle.py_lines.specs.Character.{is_backslash, is_brace}
+use Rattle.py_lines.specs.Piece.{string, Piece, spelled}
+use Rattle.py_lines.specs.Balance as balance
+use Rattle.py_lines.specs.Faults.{IsUnescaped, IsShortPrefix, IsLongPrefix, IsSlash}
+use Rattle.py_lines.specs.FieldStrings.{Host, Place, literal, specification, may_be_escaped, escape}
+use Rattle.py_lines.specs.OpenFields.{Spot, AreBegun, BeginsList, StandsIn, IsOpenUpTo, IsPlainShortPrefix, IsPlainLongPrefix, IsOpenLiteral, InOpenShort, InOpenLong, AfterOpenBackslash, InSpecification, InFieldCode}
+use Rattle.py_lines.specs.declared.mode.Mode.{Mode}
+use Rattle.py_lines.specs.declared.mode.Mode.TheVariants as modes
+use Rattle.py_lines.specs.Private.Machine.{class_of, in_short, in_long, is_after_backslash}
+use Rattle.py_lines.specs.Private.FieldMachine.{At, between, after_one, after_two, after_slash, after_return, after_name, after_brace, FieldMode, plain, opened, body, Level, field_state, field_closed, levels_open, may_end}
+use Rattle.py_lines.proofs.Pieces.TripleQuotes.{triple-other}
+use Rattle.py_lines.proofs.Machine.OpenPieces.{joined-push}
+use Rattle.py_lines.proofs.Machine.OpenStrings.{short_held, long_held, slash_held}
+use Rattle.py_lines.proofs.Fields.Prefixes.{plain_quotes}
+use Rattle.py_lines.proofs.FieldSoundness.PlainPieces.{BeginsPlain, other_prefix}
+use Rattle.py_lines.proofs.FieldSoundness.OpenLists.{balanced_at}
+use Rattle.py_lines.proofs.FieldSoundness.Holds.{Limit, place_of, before, HoldsParts, HoldsAt, HoldsList, HoldsLevels, IsFieldSound}
+use Rattle.py_lines.proofs.FieldSoundness.Bodies.{parts-push, named-push, return-not-brace, letter-not-brace, names_letter, one_quote, two_quotes}
+use Rattle.py_lines.proofs.FieldSoundness.HostSteps.{no_parts, short_opens}
+use Rattle.py_lines.proofs.FieldSoundness.ListEnds.{code_at_end, list_ends}
+use Rattle.py_lines.proofs.FieldSoundness.OpenTexts.{begun_before, are_begun, begins_in, PartsAt, parts_at, stands_open, list_begins}
+
+pub stands_map : (A B : List ℕ → Type 0) (characters start : List ℕ) → ((front : List ℕ) → A front → B front) → StandsIn A characters start → StandsIn B characters start
+stands_map A B characters start f at = record {
+  outside = at.outside;
+  depth = at.depth;
+  pieces = at.pieces;
+  front = at.front;
+  list = at.list;
+  begun = at.begun;
+  before = at.before;
+  spell = at.spell;
+  open_yet = f at.front at.open_yet;
+}
+
+-- parts of a string up to a text's end, where the last backslash may have nothing to escape yet
+record OpenUpTo (limit : Limit) (outer : List Level) (depth : ℕ) (host : Host) (place : Place) (named : Bool) (held : List ℕ) : Type 0 where
+  text : List ℕ
+  last : List ℕ
+  spell : held ≡ text ++ last
+  escapes : IsUnescaped last
+  parts : PartsAt limit outer depth host place named text last
+
+whole_open : (limit : Limit) (outer : List Level) (depth : ℕ) (host : Host) (place : Place) (named : Bool) (held : List ℕ) → HoldsParts limit outer depth host place named held [] → OpenUpTo limit outer depth host place named held
+whole_open limit outer depth host place named held h = record { text = held; last = []; spell = sym (append-nil held); escapes = inl refl; parts = parts_at limit outer depth host place named held [] [] h }
+
+-- a backslash and a character, to which no more belongs at the end
+escape_open : (limit : Limit) (outer : List Level) (depth : ℕ) (host : Host) (place : Place) (named : Bool) (text : List ℕ) (s c : ℕ) → is_backslash s ≡ true → is_brace c ≡ false → may_be_escaped host place c ≡ true → HoldsParts limit outer depth host place named text (s ∷ []) → OpenUpTo limit outer depth host place named (text ++ s ∷ c ∷ [])
+escape_open limit outer depth host place named text s c slashes brace may h = record {
+  text = text ++ s ∷ c ∷ [];
+  last = [];
+  spell = sym (append-nil (text ++ s ∷ c ∷ []));
+  escapes = inl refl;
+  parts = record {
+    begin = h.begin;
+    parts = h.parts ++ (s ∷ c ∷ []) ∷ [];
+    spell = ap (λ t. t ++ s ∷ c ∷ []) h.spell ∙ append_assoc h.begin _ (s ∷ c ∷ []) ∙ ap (λ t. h.begin ++ t) (sym (joined-push h.parts (s ∷ c ∷ [])));
+    opens_with = h.opens_with;
+    quotes = h.quotes;
+    each = parts-push (limit.FieldsAt depth) host place false h.parts (s ∷ c ∷ []) [] (h.fit (c ∷ [])) (escape s c refl slashes brace may (and_right _ _ refl) (and_right _ _ refl));
+    named_is = named-push false h.parts (s ∷ c ∷ []) ∙ h.named_is;
+    open_yet = triple-other host.quote h.parts (s ∷ c ∷ []) [] refl h.open_yet refl;
+  };
+}
+
+at_open : (limit : Limit) (outer : List Level) (depth : ℕ) (host : Host) (place : Place) (named : Bool) (at : At) (held : List ℕ) → (at ≡ after_brace → ⊥) → HoldsAt limit outer depth host place named at held → OpenUpTo limit outer depth host place named held
+at_open limit outer depth host place named between held other h = whole_open limit outer depth host place named held h.all
+at_open limit outer depth host place named after_one held other h =
+    subst (OpenUpTo limit outer depth host place named) (sym h.1) (whole_open limit outer depth host place named _ (one_quote limit outer depth host place named h.0 [] h.2 h.3))
+at_open limit outer depth host place named after_two held other h =
+    subst (OpenUpTo limit outer depth host place named) (sym h.1) (whole_open limit outer depth host place named _ (two_quotes limit outer depth host place named h.0 [] h.2 h.3))
+at_open limit outer depth host place named after_slash held other (text, s, is, slashes, h) = record {
+  text = text;
+  last = s ∷ [];
+  spell = is;
+  escapes = inr (s, refl, slashes);
+  parts = parts_at limit outer depth host place named text (s ∷ []) [] h;
+}
+at_open limit outer depth host place named after_return held other (text, s, r, is, slashes, returns, may, h) =
+    subst (OpenUpTo limit outer depth host place named) (sym is) (escape_open limit outer depth host place named text s r slashes (return-not-brace r returns) may h)
+at_open limit outer depth host place named after_name held other (text, s, n, is, slashes, is_name, may, h) =
+    let letter : is_brace n ≡ false = ap is_brace (eqb-true n 78 (names_letter host n is_name)) ∙ letter-not-brace in
+    subst (OpenUpTo limit outer depth host place named) (sym is) (escape_open limit outer depth host place named text s n slashes letter may h)
+at_open limit outer depth host place named after_brace held other h = absurd (other refl)
+
+-- a string with fields that is open up to a spot
+pub record BodyOpen (host : Host) (place : Place) (named : Bool) (characters start : List ℕ) : Type 0 where
+  pub spot : Spot
+  pub stands : StandsIn (IsOpenUpTo host spot) characters start
+  pub place_is : spot.place ≡ place
+  pub named_is : spot.named ≡ named
+
+module _ (limit : Limit) (outer : List Level) (done : List Piece) (openers : List ℕ) (m : FieldMode) (held read : List ℕ) (sound : IsFieldSound limit (field_state outer done openers m held) read) where
+  body_open : (host : Host) (place : Place) (named : Bool) → place_of m ≡ place → OpenUpTo limit outer (length openers + levels_open outer) host place named held → BodyOpen host place named read (before place outer ++ spelled done)
+  body_open host place named at up =
+      let list = subst (λ p. HoldsList limit outer p done openers held) at sound.list in
+      let levels = subst (λ p. HoldsLevels limit p outer (spelled done ++ held)) at sound.levels in
+      let so = stands_open limit place outer done openers host named up.text up.last held [] (sym up.spell ∙ sym (append-nil held)) list up.parts levels in
+      record {
+        spot = so.spot;
+        stands = record {
+          outside = so.outside;
+          depth = so.base;
+          pieces = so.pieces;
+          front = held;
+          list = subst (λ t. BeginsList so.outside (spelled so.pieces ++ t) so.base) (sym up.spell) so.list;
+          begun = subst (AreBegun so.base so.pieces) (sym up.spell) so.begun;
+          before = sym so.before_is;
+          spell = append_assoc (before place outer) (spelled done) held ∙ ap (λ p. before p outer ++ (spelled done ++ held)) (sym at) ∙ sound.spell;
+          open_yet = record { body = up.text; last = up.last; spell = up.spell; escapes = up.escapes; string = so.string };
+        };
+        place_is = so.place_is;
+        named_is = so.named_is;
+      }
+
+  -- a piece of the innermost list that is open
+  piece_open : (IsOpen : List ℕ → Type 0) → place_of m ≡ literal → IsOpen held → StandsIn IsOpen read (before literal outer ++ spelled done)
+  piece_open IsOpen at is =
+      let list = subst (λ p. HoldsList limit outer p done openers held) at sound.list in
+      let levels = subst (λ p. HoldsLevels limit p outer (spelled done ++ held)) at sound.levels in
+      record {
+        outside = before literal outer;
+        depth = levels_open outer;
+        pieces = done;
+        front = held;
+        list = subst (λ t. BeginsList (before literal outer) t (levels_open outer)) (append-nil (spelled done ++ held)) (list_begins limit outer (spelled done ++ held) [] levels);
+        begun = subst (AreBegun (levels_open outer) done) (append-nil held) (are_begun limit outer literal done openers held [] list);
+        before = refl;
+        spell = append_assoc (before literal outer) (spelled done) held ∙ ap (λ p. before p outer ++ (spelled done ++ held)) (sym at) ∙ sound.spell;
+        open_yet = is;
+      }
+
+-- the literal part of a string, a short or a long one
+open_literal : (host : Host) (named : Bool) (characters start : List ℕ) (is_long : Bool) → host.is_long ≡ is_long → BodyOpen host literal named characters start → StandsIn (IsOpenLiteral is_long) characters start
+open_literal host named characters start is_long long own = stands_map (IsOpenUpTo host own.spot) (IsOpenLiteral is_long) characters start (λ front up. (host, own.spot, up, own.place_is, long)) own.stands
+
+pub body_is_open : (limit : Limit) (outer : List Level) (done : List Piece) (openers : List ℕ) (host : Host) (place : Place) (named : Bool) (at : At) (held read : List ℕ) → IsFieldSound limit (field_state outer done openers (body host place named at) held) read → (at ≡ after_brace → ⊥) → BodyOpen host place named read (before place outer ++ spelled done)
+body_is_open limit outer done openers host place named at held read sound other =
+    body_open limit outer done openers (body host place named at) held read sound host place named refl (at_open limit outer (length openers + levels_open outer) host place named at held other sound.mode)
+
+pub literal_is_open : (limit : Limit) (outer : List Level) (done : List Piece) (openers : List ℕ) (host : Host) (named : Bool) (at : At) (held read : List ℕ) → IsFieldSound limit (field_state outer done openers (body host literal named at) held) read → (at ≡ after_brace → ⊥) → StandsIn (IsOpenLiteral host.is_long) read (before literal outer ++ spelled done)
+literal_is_open limit outer done openers host named at held read sound other = open_literal host named read (before literal outer ++ spelled done) host.is_long refl (body_is_open limit outer done openers host literal named at held read sound other)
+
+pub opened_is_open : (limit : Limit) (outer : List Level) (done : List Piece) (openers : List ℕ) (host : Host) (held read : List ℕ) → IsFieldSound limit (field_state outer done openers (opened host) held) read → StandsIn (IsOpenLiteral false) read (before literal outer ++ spelled done)
+opened_is_open limit outer done openers host held read sound =
+    let depth = length openers + levels_open outer in
+    let parts = no_parts limit outer depth host held [] (short_opens host held sound.mode.2 sound.mode.0) sound.mode.1 in
+    open_literal host false read (before literal outer ++ spelled done) false sound.mode.2 (body_open limit outer done openers (opened host) held read sound host literal false refl (whole_open limit outer depth host literal false held parts))
+
+-- a specification
+pub specification_is_open : (limit : Limit) (outer : List Level) (done : List Piece) (openers : List ℕ) (host : Host) (named : Bool) (at : At) (held read : List ℕ) → IsFieldSound limit (field_state outer done openers (body host specification named at) held) read → (at ≡ after_brace → ⊥) → (start : List ℕ) × InSpecification host read start
+specification_is_open limit outer done openers host named at held read sound other =
+    let own = body_is_open limit outer done openers host specification named at held read sound other in
+    ((before specification outer ++ spelled done) ++ own.spot.field, record { string = before specification outer ++ spelled done; spot = own.spot; stands = own.stands; place = own.place_is; before = refl })
+
+-- a string without fields, or a backslash
+short_class : (m : Mode) → in_short m ≡ true → class_of m ≡ string
+short_class (modes.Opened q) is = refl
+short_class (modes.Inside q) is = refl
+short_class (modes.Escape q) is = refl
+short_class (modes.EscapeReturn q) is = refl
+short_class m is = absurd (both_ways _ refl is)
+
+long_class : (m : Mode) → in_long m ≡ true → class_of m ≡ string
+long_class (modes.Long q) is = refl
+long_class (modes.LongOne q) is = refl
+long_class (modes.LongTwo q) is = refl
+long_class (modes.LongEscape q) is = refl
+long_class m is = absurd (both_ways _ refl is)
+
+plain_short : (held : List ℕ) → BeginsPlain held → IsShortPrefix held → IsPlainShortPrefix held
+plain_short held is short = (short, other_prefix held short.prefix _ short.quote is short.spell (plain_quotes short.prefix short.begun) short.opens)
+
+plain_long : (held : List ℕ) → BeginsPlain held → IsLongPrefix held → IsPlainLongPrefix held
+plain_long held is long = (long, other_prefix held long.prefix _ long.quote is long.spell (plain_quotes long.prefix long.begun) long.opens)
+
+pub short_is_open : (limit : Limit) (outer : List Level) (done : List Piece) (openers : List ℕ) (m : Mode) (held read : List ℕ) → IsFieldSound limit (field_state outer done openers (plain m) held) read → in_short m ≡ true → InOpenShort read (before literal outer ++ spelled done)
+short_is_open limit outer done openers m held read sound is =
+    piece_open limit outer done openers (plain m) held read sound (λ front. IsPlainShortPrefix front ⊎ IsOpenLiteral false front) refl (inl (plain_short held (sound.mode.1 (short_class m is)) (short_held m [] held sound.mode.0 is)))
+
+pub long_is_open : (limit : Limit) (outer : List Level) (done : List Piece) (openers : List ℕ) (m : Mode) (held read : List ℕ) → IsFieldSound limit (field_state outer done openers (plain m) held) read → in_long m ≡ true → InOpenLong read (before literal outer ++ spelled done)
+long_is_open limit outer done openers m held read sound is =
+    piece_open limit outer done openers (plain m) held read sound (λ front. IsPlainLongPrefix front ⊎ IsOpenLiteral true front) refl (inl (plain_long held (sound.mode.1 (long_class m is)) (long_held m [] held sound.mode.0 is)))
+
+pub slash_is_open : (limit : Limit) (outer : List Level) (done : List Piece) (openers : List ℕ) (m : Mode) (held read : List ℕ) → IsFieldSound limit (field_state outer done openers (plain m) held) read → is_after_backslash m ≡ true → AfterOpenBackslash read (before literal outer ++ spelled done)
+slash_is_open limit outer done openers m held read sound is = piece_open limit outer done openers (plain m) held read sound IsSlash refl (slash_held m [] held sound.mode.0 is)
+
+-- the code of a field, whose brackets are closed
+pub code_is_open : (limit : Limit) (l : Level) (ls : List Level) (done : List Piece) (m : FieldMode) (held read : List ℕ) → IsFieldSound limit (field_state (l ∷ ls) done [] m held) read → may_end m ≡ true → (start : List ℕ) × InFieldCode read start
+code_is_open limit l ls done m held read sound may =
+    let at = code_at_end m may in
+    let own = (subst (λ p. HoldsLevels limit p (l ∷ ls) (spelled done ++ held)) at sound.levels).1 in
+    let levels = subst (λ p. HoldsLevels limit p (l ∷ ls) (spelled done ++ held)) at sound.levels in
+    let pieces = field_closed m done held in
+    let ends = list_ends limit (l ∷ ls) done [] m held read sound may in
+    let start = before l.place ls ++ (spelled l.done ++ own.text) in
+    let brace : before literal (l ∷ ls) ≡ start ++ 123 ∷ [] =
+    ap (λ t. before l.place ls ++ (spelled l.done ++ t)) own.spell
+    ∙ ap (λ t. before l.place ls ++ t) (sym (append_assoc (spelled l.done) own.text (123 ∷ [])))
+    ∙ sym (append_assoc (before l.place ls) (spelled l.done ++ own.text) (123 ∷ [])) in (
+      start,
+      record {
+        depth = levels_open (l ∷ ls);
+        pieces = pieces;
+        list = subst (λ t. BeginsList (start ++ 123 ∷ []) t (levels_open (l ∷ ls))) (append-nil (spelled done ++ held) ∙ sym ends.spell)
+            (subst (λ t. BeginsList t ((spelled done ++ held) ++ []) (levels_open (l ∷ ls))) brace (list_begins limit (l ∷ ls) (spelled done ++ held) [] levels));
+        begun = begun_before (l ∷ ls) pieces [] [] ends.fit ends.opens ends.in_field;
+        deep = omega arith;
+        balanced = balanced_at [] pieces refl ends.opens;
+        spell = sym (append_assoc start (123 ∷ []) (spelled pieces))
+            ∙ ap (λ t. t ++ spelled pieces) (sym brace)
+            ∙ ap (λ t. before literal (l ∷ ls) ++ t) ends.spell
+            ∙ ap (λ p. before p (l ∷ ls) ++ (spelled done ++ held)) (sym at)
+            ∙ sound.spell;
+      },
+    )
+
+-- and directly after its `{`
+pub brace_is_open : (limit : Limit) (outer : List Level) (done : List Piece) (openers : List ℕ) (host : Host) (named : Bool) (held read : List ℕ) → IsFieldSound limit (field_state outer done openers (body host literal named after_brace) held) read → (start : List ℕ) × InFieldCode read start
+brace_is_open limit outer done openers host named held read sound = go sound.mode
+  where
+    go : HoldsAt limit outer (length openers + levels_open outer) host literal named after_brace held → (start : List ℕ) × InFieldCode read start
+    go (text, is, at, unnamed, h) =
+        let depth = length openers + levels_open outer in
+        let level : Level = record { done = done; openers = openers; host = host; place = literal; front = held } in
+        let parts = subst (λ n. PartsAt limit outer depth host literal n text (123 ∷ [])) unnamed (parts_at limit outer depth host literal named text (123 ∷ []) [] h) in
+        let so = stands_open limit literal outer done openers host false text (123 ∷ []) held [] (sym is ∙ sym (append-nil held)) sound.list parts sound.levels in
+        let start = before literal outer ++ (spelled done ++ text) in
+        let brace : before literal outer ++ (spelled done ++ held) ≡ start ++ 123 ∷ [] =
+        ap (λ t. before literal outer ++ (spelled done ++ t)) is
+        ∙ ap (λ t. before literal outer ++ t) (sym (append_assoc (spelled done) text (123 ∷ [])))
+        ∙ sym (append_assoc (before literal outer) (spelled done ++ text) (123 ∷ [])) in (
+          start,
+          record {
+            depth = levels_open (level ∷ outer);
+            pieces = [];
+            list = subst (λ t. BeginsList t [] (levels_open (level ∷ outer))) brace (begins_in level outer text [] is (λ same. refl) so);
+            begun = record { fit = tt; others = []; balanced = balance.none [] refl; inside = λ deep. (refl, tt) };
+            deep = omega arith;
+            balanced = balance.none [] refl;
+            spell = sym brace ∙ sound.spell;
+          },
+        )

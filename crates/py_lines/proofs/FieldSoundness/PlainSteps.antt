@@ -1,0 +1,215 @@
+-- What each character does outside strings with fields.
+use Rattle.std.proofs.Common.{◌≡◌, ℕ, ◌+◌, Bool, true, false, ◌&&◌, List, [], ◌∷◌, ◌++◌, length, refl, sym, ap, ◌∙◌, subst, inl, inr, ◌⊎◌, append_assoc, append-nil}
+use Rattle.std.specs.List.{list_any}
+use Rattle.std.proofs.lemmas.Bool.{cond_both, and_parts, both_ways, or_from, false_from_ne_true}
+use Rattle.py_lines.specs.Character.{is_mark, is_space, is_word_character, is_quote, is_line_feed, is_return, is_break}
+use Rattle.py_lines.specs.Piece.{Class, word, string, operator, Piece, begins, is_mark_class, spelled}
+use Rattle.py_lines.specs.PieceGrammar.{InClass, InClassIn, MayPrecede, AreReadBefore}
+use Rattle.py_lines.specs.Balance.{is_opening, depth_through}
+use Rattle.py_lines.specs.FieldStrings.{is_field_prefix, Host, literal, with_fields}
+use Rattle.py_lines.specs.Fields.{Fields}
+use Rattle.py_lines.specs.declared.mode.Spelling.{Spelling}
+use Rattle.py_lines.specs.declared.mode.Mode.{Mode}
+use Rattle.py_lines.specs.declared.mode.Mode.TheVariants as modes
+use Rattle.py_lines.specs.declared.mode.Move.{Move}
+use Rattle.py_lines.specs.declared.mode.Move.TheVariants as moves
+use Rattle.py_lines.specs.declared.mode.Start.{Start}
+use Rattle.py_lines.specs.declared.mode.Start.TheVariants as starts
+use Rattle.py_lines.specs.Private.Machine.{Holds, closed, class_of, move_of, start_of, is_prefix_spelling}
+use Rattle.py_lines.specs.Private.FieldMachine.{FieldMode, plain, opened, FieldMove, closes, breaks, Level, field_state, host_of, begins_host, plain_move, field_started, field_moved, levels_open}
+use Rattle.py_lines.proofs.Pieces.PieceLists.{piece, spelled-push}
+use Rattle.py_lines.proofs.Text.CharacterTests.{quote-not-start}
+use Rattle.py_lines.proofs.Fields.Prefixes.{word_quotes}
+use Rattle.py_lines.proofs.FieldMachine.Runs.{HasRoomFor}
+use Rattle.py_lines.proofs.FieldSoundness.PlainPieces.{BeginsPlain, begins_plain-more, IsPlainText, plain_class, plain_precede, BreaksBefore, MoveHolds, move_holds}
+use Rattle.py_lines.proofs.FieldSoundness.Holds.{Limit, place_of, before, HoldsMode, HoldsList, HoldsLevels, AtStart, IsFieldSound}
+use Rattle.py_lines.proofs.FieldSoundness.Lists.{FieldSoundIf, list_more, levels_more, adds_neutral, list_push, levels_push, fresh_sound}
+use Rattle.py_lines.proofs.FieldSoundness.Code.{Ready, start_sound}
+
+-- what may open at a character that does this, where so many brackets and fields are open before it
+abbrev pub HasRoom : Limit → ℕ → ℕ → FieldMove → Type 0
+HasRoom limit depth c move = HasRoomFor limit.Room depth c move
+
+-- the open piece grows
+pub grew : (limit : Limit) (outer : List Level) (done : List Piece) (openers : List ℕ) (m n : FieldMode) (held read : List ℕ) (c : ℕ) → IsFieldSound limit (field_state outer done openers m held) read → place_of n ≡ place_of m → HoldsMode limit outer (length openers + levels_open outer) n (held ++ c ∷ []) → AtStart n outer done → IsFieldSound limit (field_state outer done openers n (held ++ c ∷ [])) (read ++ c ∷ [])
+grew limit outer done openers m n held read c sound at holds start =
+    let text : spelled done ++ (held ++ c ∷ []) ≡ (spelled done ++ held) ++ c ∷ [] = sym (append_assoc (spelled done) held (c ∷ [])) in
+    record {
+      spell = ap (λ p. before p outer ++ (spelled done ++ (held ++ c ∷ []))) at
+          ∙ ap (λ t. before (place_of m) outer ++ t) text
+          ∙ sym (append_assoc (before (place_of m) outer) (spelled done ++ held) (c ∷ []))
+          ∙ ap (λ t. t ++ c ∷ []) sound.spell;
+      mode = holds;
+      list = subst (λ p. HoldsList limit outer p done openers (held ++ c ∷ [])) (sym at) (list_more limit outer (place_of m) done openers held (c ∷ []) sound.list);
+      levels = subst (λ p. HoldsLevels limit p outer (spelled done ++ (held ++ c ∷ []))) (sym at) (subst (HoldsLevels limit (place_of m) outer) (sym text) (levels_more limit (place_of m) outer (spelled done ++ held) (c ∷ []) sound.levels));
+      start = start;
+    }
+
+-- a word holds no quote
+word_no_quote : (s : Spelling) (held : List ℕ) → Holds (modes.Word s) [] held → list_any is_quote held ≡ false
+word_no_quote s held (first, others, is, opens, all, so) =
+    ap (list_any is_quote) is ∙ or_from _ _ (false_from_ne_true _ (λ quotes. both_ways _ (quote-not-start first quotes) opens)) (word_quotes others all)
+
+-- a string that the machine without fields begins is none with fields
+abbrev QuotedSo : List ℕ → ℕ → Move → Type 0
+QuotedSo held c (moves.Grows n) = class_of n ≡ string → BeginsPlain (held ++ c ∷ [])
+QuotedSo held c other = Unit {0}
+
+goes_on : (held : List ℕ) (c : ℕ) (v : Move) → BeginsPlain held → QuotedSo held c v
+goes_on held c (moves.Grows n) is = λ at. begins_plain-more held c is
+goes_on held c moves.Closes is = tt
+goes_on held c moves.Breaks is = tt
+goes_on held c moves.Refused is = tt
+
+quoted_so : (m : Mode) (held : List ℕ) (c : ℕ) → Holds m [] held → (class_of m ≡ string → BeginsPlain held) → begins_host m held c ≡ false → QuotedSo held c (move_of m c)
+unfolding move_of
+quoted_so modes.Start held c holds own other = cond_both (is_mark c) _ _ (λ (v : Move). QuotedSo held c v) (λ h. tt) (λ h. tt)
+quoted_so modes.Free held c holds own other = tt
+quoted_so modes.Space held c holds own other = cond_both (is_space c) _ _ (λ (v : Move). QuotedSo held c v) (λ h at. absurd (cc)) (λ h. tt)
+quoted_so (modes.Word s) held c holds own other =
+    let P : Move → Type 0 = λ v. QuotedSo held c v in
+    cond_both (is_word_character c) _ _ P (λ h at. absurd (cc))
+    (λ h. cond_both (is_prefix_spelling s && is_quote c) _ _ P
+    (λ k at. record { prefix = held; quote = c; body = []; spell = refl; none = word_no_quote s held holds; opens = (and_parts _ _ k).1; plain = first_false (is_field_prefix held) (is_quote c) other (and_parts _ _ k).1 })
+    (λ k. tt))
+  where
+    first_false : (a b : Bool) → a && b ≡ false → b ≡ true → a ≡ false
+    first_false true b h k = absurd (both_ways _ h k)
+    first_false false b h k = refl
+quoted_so modes.Comment held c holds own other = cond_both (is_break c) _ _ (λ (v : Move). QuotedSo held c v) (λ h. tt) (λ h at. absurd (cc))
+quoted_so modes.Backslash held c holds own other =
+    let P : Move → Type 0 = λ v. QuotedSo held c v in
+    cond_both (is_line_feed c) _ _ P (λ h. tt) (λ h. cond_both (is_return c) _ _ P (λ k at. absurd (cc)) (λ k. tt))
+quoted_so modes.JoinReturn held c holds own other = cond_both (is_line_feed c) _ _ (λ (v : Move). QuotedSo held c v) (λ h. tt) (λ h. tt)
+quoted_so modes.Return held c holds own other = cond_both (is_line_feed c) _ _ (λ (v : Move). QuotedSo held c v) (λ h. tt) (λ h. tt)
+quoted_so m held c holds own other = goes_on held c (move_of m c) (own refl)
+
+-- no character closes a word, nor what stands after no piece
+abbrev ClosesSo : Mode → Move → Type 0
+ClosesSo modes.Free moves.Closes = ⊥
+ClosesSo (modes.Word s) moves.Closes = ⊥
+ClosesSo m v = Unit {0}
+
+closes_so : (m : Mode) (c : ℕ) → ClosesSo m (move_of m c)
+unfolding move_of
+closes_so modes.Free c = tt
+closes_so (modes.Word s) c =
+    let P : Move → Type 0 = λ v. ClosesSo (modes.Word s) v in
+    cond_both (is_word_character c) _ _ P (λ h. tt) (λ h. cond_both (is_prefix_spelling s && is_quote c) _ _ P (λ k. tt) (λ k. tt))
+closes_so m c = tt
+
+closes_class : (m : Mode) → ClosesSo m moves.Closes → (class_of m ≡ operator → ⊥) × (class_of m ≡ word → ⊥)
+closes_class modes.Free so = absurd so
+closes_class (modes.Word s) so = absurd so
+closes_class m so = (λ h. absurd (cc), λ h. absurd (cc))
+
+-- what keeps an open piece from being part of a string with fields
+pub plain_text : (class : Class) (text rest : List ℕ) → (class ≡ string → BeginsPlain text) → (class ≡ word → is_field_prefix text && begins is_quote rest ≡ false) → IsPlainText class text rest
+plain_text word text rest one two = two refl
+plain_text string text rest one two = one refl
+plain_text other text rest one two = tt
+
+word_host : (m : Mode) (held : List ℕ) (c : ℕ) → begins_host m held c ≡ false → class_of m ≡ word → is_field_prefix held && is_quote c ≡ false
+word_host (modes.Word s) held c h at = h
+word_host m held c h at = absurd (cc)
+
+unmarked : (m : Mode) (outer : List Level) (done : List Piece) → AtStart (plain m) outer done → (is_mark_class (class_of m) ≡ false) ⊎ ((outer ≡ []) × (done ≡ []))
+unmarked modes.Start outer done start = inr start
+unmarked m outer done start = inl refl
+
+-- the class of a piece
+pub string_of : (F : Host → List ℕ → Type 0) (class : Class) (text : List ℕ) → InClassIn (with_fields F) class text → class ≡ string → InClassIn (with_fields F) string text
+string_of F class text is at = subst (λ (x : Class). InClassIn (with_fields F) x text) at is
+
+-- the open piece, which is none of nothing or a piece that ends
+pub data Ends (m : Mode) : Type 0 where
+  nothing : ((done : List Piece) (held : List ℕ) → closed m done held ≡ done) → ((held : List ℕ) → Holds m [] held → held ≡ []) → Ends m
+  something : ((done : List Piece) (held : List ℕ) → closed m done held ≡ done ++ piece (class_of m) held ∷ []) → (class_of m ≡ operator → ⊥) → is_mark_class (class_of m) ≡ false → Ends m
+
+pub ends_of : (m : Mode) → Ends m
+ends_of modes.Start = nothing (λ done held. refl) (λ held holds. holds.1)
+ends_of modes.Free = nothing (λ done held. refl) (λ held holds. holds)
+ends_of m = something (λ done held. refl) (λ h. absurd (cc)) refl
+
+module _ (limit : Limit) (outer : List Level) (done : List Piece) (openers : List ℕ) (m : Mode) (held read : List ℕ) (c : ℕ) (sound : IsFieldSound limit (field_state outer done openers (plain m) held) read) (other : begins_host m held c ≡ false) where
+  -- the piece ends with the character
+  closes_sound : InClass (class_of m) (held ++ c ∷ []) × ((more : List ℕ) → MayPrecede (class_of m) (held ++ c ∷ []) more) → ClosesSo m moves.Closes → FieldSoundIf limit (field_moved (field_state outer done openers (plain m) held) c closes) (read ++ c ∷ [])
+  closes_sound own so =
+      let text = held ++ c ∷ [] in
+      let class = closes_class m so in
+      let is_plain : (rest : List ℕ) → IsPlainText (class_of m) text rest = λ rest. plain_text (class_of m) text rest (λ at. begins_plain-more held c (sound.mode.1 at)) (λ at. absurd (class.1 at)) in
+      let joined : spelled done ++ text ≡ (spelled done ++ held) ++ c ∷ [] = sym (append_assoc (spelled done) held (c ∷ [])) in
+      let list = list_more limit outer literal done openers held (c ∷ []) sound.list in
+      fresh_sound limit outer done openers openers (class_of m) text (read ++ c ∷ [])
+      (ap (λ t. before literal outer ++ t) joined ∙ sym (append_assoc (before literal outer) (spelled done ++ held) (c ∷ [])) ∙ ap (λ t. t ++ c ∷ []) sound.spell) list
+      (subst (HoldsLevels limit literal outer) (sym joined) (levels_more limit literal outer (spelled done ++ held) (c ∷ []) sound.levels))
+      (adds_neutral limit outer done openers text (class_of m) text [] list class.0 (plain_class Fields (class_of m) text [] (is_plain []) own.0)
+      (λ more. plain_precede Fields (class_of m) text more (is_plain more) (own.1 more)) (unmarked m outer done sound.start)
+      (λ at. string_of _ (class_of m) text (plain_class (limit.FieldsAt (depth_through (levels_open outer) done)) (class_of m) text [] (is_plain []) own.0) at))
+
+  -- the piece ends before it
+  ready : ((more : List ℕ) → AreReadBefore (closed m [] held) (c ∷ more)) → (is_opening c ≡ true → limit.Room (length openers + levels_open outer)) → Ready limit outer (closed m done held) openers read c
+  ready own room = go (ends_of m)
+    where
+      go : Ends m → Ready limit outer (closed m done held) openers read c
+      go (nothing is empty) =
+          let none : held ≡ [] = empty held sound.mode.0 in
+          let text : spelled done ++ held ≡ spelled done = ap (λ t. spelled done ++ t) none ∙ append-nil (spelled done) in
+          subst (λ (l : List Piece). Ready limit outer l openers read c) (sym (is done held)) (record {
+            spell = ap (λ t. before literal outer ++ t) (sym text) ∙ sound.spell;
+            list = subst (λ t. HoldsList limit outer literal done openers (t ++ c ∷ [])) none (list_more limit outer literal done openers held (c ∷ []) sound.list);
+            levels = subst (λ t. HoldsLevels limit literal outer (t ++ c ∷ [])) text (levels_more limit literal outer (spelled done ++ held) (c ∷ []) sound.levels);
+            room = room;
+          })
+      go (something is class marked) =
+          let fit : (more : List ℕ) → AreReadBefore (piece (class_of m) held ∷ []) (c ∷ more) = λ more. subst (λ (l : List Piece). AreReadBefore l (c ∷ more)) (is [] held) (own more) in
+          let is_plain : (more : List ℕ) → IsPlainText (class_of m) held (c ∷ more) = λ more. plain_text (class_of m) held (c ∷ more) sound.mode.1 (word_host m held c other) in
+          subst (λ (l : List Piece). Ready limit outer l openers read c) (sym (is done held)) (record {
+            spell = ap (λ t. before literal outer ++ t) (spelled-push done (class_of m) held) ∙ sound.spell;
+            list = list_push limit outer done openers openers (class_of m) held (c ∷ []) sound.list
+                (adds_neutral limit outer done openers held (class_of m) held (c ∷ []) sound.list class (plain_class Fields (class_of m) held (c ∷ []) (is_plain []) (fit []).0)
+                (λ more. plain_precede Fields (class_of m) held (c ∷ more) (is_plain more) (fit more).1) (inl marked)
+                (λ at. string_of _ (class_of m) held (plain_class (limit.FieldsAt (depth_through (levels_open outer) done)) (class_of m) held (c ∷ []) (is_plain []) (fit []).0) at));
+            levels = levels_push limit outer done (class_of m) held (c ∷ []) sound.levels;
+            room = room;
+          })
+
+  breaks_sound : BreaksBefore m held c (start_of c) → (is_opening c ≡ true → limit.Room (length openers + levels_open outer)) → FieldSoundIf limit (field_moved (field_state outer done openers (plain m) held) c breaks) (read ++ c ∷ [])
+  breaks_sound own room = go (start_of c) refl own
+    where
+      started : (s : Start) → start_of c ≡ s → ((more : List ℕ) → AreReadBefore (closed m [] held) (c ∷ more)) → FieldSoundIf limit (field_started outer (closed m done held) openers c s) (read ++ c ∷ [])
+      started s at fit = subst (λ (x : Start). FieldSoundIf limit (field_started outer (closed m done held) openers c x) (read ++ c ∷ [])) at (start_sound limit outer (closed m done held) openers read c (ready fit room))
+
+      go : (s : Start) → start_of c ≡ s → BreaksBefore m held c s → FieldSoundIf limit (field_started outer (closed m done held) openers c s) (read ++ c ∷ [])
+      go (starts.Open n) at fit = started (starts.Open n) at fit
+      go starts.Operator at fit = started starts.Operator at fit
+      go starts.LineEnd at fit = started starts.LineEnd at fit
+      go starts.Nothing at fit = tt
+
+  -- so whatever it does
+  pub plain_sound : HasRoom limit (length openers + levels_open outer) c (plain_move (move_of m c)) → FieldSoundIf limit (field_moved (field_state outer done openers (plain m) held) c (plain_move (move_of m c))) (read ++ c ∷ [])
+  plain_sound room = go (move_of m c) (move_holds m held c sound.mode.0) (quoted_so m held c sound.mode.0 sound.mode.1 other) (closes_so m c) room
+    where
+      no_start : (n : Mode) → Holds n [] (held ++ c ∷ []) → AtStart (plain n) outer done
+      no_start modes.Start (one, none) = absurd (not_nothing held none)
+        where
+          not_nothing : (xs : List ℕ) → xs ++ c ∷ [] ≡ [] → ⊥
+          not_nothing [] h = cc
+          not_nothing (x ∷ xs) h = cc
+      no_start n holds = tt
+
+      go : (v : Move) → MoveHolds m held c v → QuotedSo held c v → ClosesSo m v → HasRoom limit (length openers + levels_open outer) c (plain_move v) → FieldSoundIf limit (field_moved (field_state outer done openers (plain m) held) c (plain_move v)) (read ++ c ∷ [])
+      go (moves.Grows n) holds quoted so room = grew limit outer done openers (plain m) (plain n) held read c sound refl (holds, quoted) (no_start n holds)
+      go moves.Closes holds quoted so room = closes_sound holds so
+      go moves.Breaks holds quoted so room = breaks_sound holds room
+      go moves.Refused holds quoted so room = tt
+
+-- a word that is the prefix of a string with fields, before a quote
+pub begins_sound : (limit : Limit) (outer : List Level) (done : List Piece) (openers : List ℕ) (m : Mode) (held read : List ℕ) (c : ℕ) → IsFieldSound limit (field_state outer done openers (plain m) held) read → begins_host m held c ≡ true → IsFieldSound limit (field_state outer done openers (opened (host_of held c)) (held ++ c ∷ [])) (read ++ c ∷ [])
+begins_sound limit outer done openers m held read c sound is =
+    let both = go m is in
+    grew limit outer done openers (plain m) (opened (host_of held c)) held read c sound refl (record { prefix = held; spell = refl; begun = both.0; raw = refl }, both.1, refl) tt
+  where
+    go : (n : Mode) → begins_host n held c ≡ true → (is_field_prefix held ≡ true) × (is_quote c ≡ true)
+    go (modes.Word s) h = and_parts (is_field_prefix held) (is_quote c) h
+    go n h = absurd (both_ways _ refl h)

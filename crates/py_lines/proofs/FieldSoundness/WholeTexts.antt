@@ -1,0 +1,119 @@
+-- Where the machine with fields may end, its pieces read the text. They are shallow if each character had room.
+use Rattle.std.proofs.Common.{◌≡◌, ℕ, ◌+◌, ◌<◌, Bool, true, false, not, ◌||◌, Option, None, Some, List, [], ◌∷◌, ◌++◌, nat_lt, refl, sym, ap, ◌∙◌, arith}
+use Rattle.std.specs.Prelude.{if◌then◌else◌}
+use Rattle.std.proofs.lemmas.Bool.{and_parts, both_ways, ltb-true}
+use Rattle.py_lines.specs.Piece.{string, Piece, spelled}
+use Rattle.py_lines.specs.PieceGrammar.{InClassIn, ReadsIn}
+use Rattle.py_lines.specs.Balance.{is_opening, is_opener, IsBalanced, depth_after, depth_through}
+use Rattle.py_lines.specs.FieldStrings.{with_fields}
+use Rattle.py_lines.specs.Fields.{AnyPieces, Fields, fielded, ShallowFields, IsShallowFielded, IsFieldReading}
+use Rattle.py_lines.specs.Private.FieldMachine.{FieldMove, grows, closes, breaks, begins_code, opens_field, ends_field, refused, Level, FieldScanned, field_state, field_text_start, field_move, field_step, field_steps_from, field_pieces, frames, has_room, has_room_at, have_room, IsFieldFinal}
+use Rattle.py_lines.proofs.Fields.Nesting.{field_is, shallow_is, any_shallow}
+use Rattle.py_lines.proofs.FieldSoundness.OpenLists.{balanced_at}
+use Rattle.py_lines.proofs.FieldSoundness.Holds.{Limit, before, IsFieldSound}
+use Rattle.py_lines.proofs.FieldSoundness.PlainSteps.{HasRoom}
+use Rattle.py_lines.proofs.FieldSoundness.HostSteps.{HaveRoom, sound_at}
+use Rattle.py_lines.proofs.FieldSoundness.ListEnds.{code_at_end, list_ends}
+
+-- no limit on the depth of brackets and fields
+abbrev pub no_limit : Limit
+no_limit = record {
+  FieldsAt = λ depth. Fields;
+  PiecesAt = λ depth. AnyPieces;
+  Room = λ depth. Unit {0};
+  are_fields = λ depth host text is. is;
+  makes_field = λ depth host text room is. field_is host text is;
+  none_at = λ depth. tt;
+  one_more = λ depth ps p passes room holds. tt;
+}
+
+-- at most 200 brackets and fields
+pub shallow-push : (depth : ℕ) (ps : List Piece) (p : Piece) → IsShallowFielded depth ps → (is_opener p ≡ true → depth_through depth ps < 200) → (p.class ≡ string → InClassIn (with_fields (ShallowFields (depth_through depth ps))) string p.text) → IsShallowFielded depth (ps ++ p ∷ [])
+shallow-push depth [] p passes room holds = (room, holds, tt)
+shallow-push depth (q ∷ ps) p passes room holds = (passes.0, passes.1, shallow-push (depth_after depth q) ps p passes.2 room holds)
+
+abbrev pub two_hundred : Limit
+two_hundred = record {
+  FieldsAt = ShallowFields;
+  PiecesAt = IsShallowFielded;
+  Room = λ depth. depth < 200;
+  are_fields = any_shallow;
+  makes_field = shallow_is;
+  none_at = λ depth. tt;
+  one_more = shallow-push;
+}
+
+-- each character has room where there is no limit
+any_room : (depth c : ℕ) (v : FieldMove) → HasRoom no_limit depth c v
+any_room depth c breaks = λ opens. tt
+any_room depth c (begins_code host) = (tt, λ opens. tt)
+any_room depth c (opens_field host) = tt
+any_room depth c (grows m) = tt
+any_room depth c closes = tt
+any_room depth c ends_field = tt
+any_room depth c refused = tt
+
+pub any_rooms : (o : Option FieldScanned) (cs : List ℕ) → HaveRoom no_limit o cs
+any_rooms None cs = tt
+any_rooms (Some s) [] = tt
+any_rooms (Some s) (c ∷ cs) = (any_room (frames s) c (field_move s.mode s.held c), any_rooms (field_step s c) cs)
+
+-- and where the machine says so
+code_room : (opens : Bool) (depth : ℕ) → nat_lt (if opens then depth + 1 else depth) 200 ≡ true → (depth < 200) × (opens ≡ true → depth + 1 < 200)
+code_room true depth h =
+    let less : depth + 1 < 200 = ltb-true (depth + 1) 200 h in
+    (omega arith, λ is. less)
+code_room false depth h = (ltb-true depth 200 h, λ is. absurd (both_ways _ refl is))
+
+room_at : (depth c : ℕ) (v : FieldMove) → has_room_at depth c v ≡ true → HasRoom two_hundred depth c v
+unfolding has_room_at
+room_at depth c breaks h = λ opens. ltb-true depth 200 (second (is_opening c) (nat_lt depth 200) h opens)
+  where
+    second : (a b : Bool) → not a || b ≡ true → a ≡ true → b ≡ true
+    second true b h is = h
+    second false b h is = absurd (both_ways _ refl is)
+room_at depth c (begins_code host) h = code_room (is_opening c) depth h
+room_at depth c (opens_field host) h = ltb-true depth 200 h
+room_at depth c (grows m) h = tt
+room_at depth c closes h = tt
+room_at depth c ends_field h = tt
+room_at depth c refused h = tt
+
+pub rooms_at : (o : Option FieldScanned) (cs : List ℕ) → have_room o cs ≡ true → HaveRoom two_hundred o cs
+rooms_at None cs h = tt
+rooms_at (Some s) [] h = tt
+rooms_at (Some s) (c ∷ cs) h =
+    let parts = and_parts (has_room s c) (have_room (field_step s c) cs) h in
+    (room_at (frames s) c (field_move s.mode s.held c) parts.0, rooms_at (field_step s c) cs parts.1)
+
+-- what the pieces are where the text ends
+pub record EndsField (limit : Limit) (pieces : List Piece) (read : List ℕ) : Type 0 where
+  pub reads : ReadsIn fielded pieces read
+  pub balanced : IsBalanced pieces
+  pub passes : limit.PiecesAt 0 pieces
+
+-- where the text may end, the pieces do
+ends_sound : (limit : Limit) (s : FieldScanned) (read : List ℕ) → IsFieldSound limit s read → IsFieldFinal s → EndsField limit (field_pieces s) read
+ends_sound limit s read sound final = go s.outer s.openers sound final.outside final.closed_all
+  where
+    go : (outer : List Level) (openers : List ℕ) → IsFieldSound limit (field_state outer s.done openers s.mode s.held) read → outer ≡ [] → openers ≡ [] → EndsField limit (field_pieces s) read
+    go [] openers own outside none =
+        let list = list_ends limit [] s.done openers s.mode s.held read own final.ends in
+        record {
+          reads = record { spell = list.spell ∙ sym (ap (λ p. before p [] ++ (spelled s.done ++ s.held)) (code_at_end s.mode final.ends)) ∙ own.spell; fit = list.fit };
+          balanced = balanced_at openers (field_pieces s) none list.opens;
+          passes = list.passes;
+        }
+    go (l ∷ ls) openers own outside none = absurd (cc)
+
+-- the machine with fields is sound: where it may end, its pieces read the text, with brackets in pairs
+pub final_reads : (characters : List ℕ) (s : FieldScanned) → field_steps_from (Some field_text_start) characters ≡ Some s → IsFieldFinal s → ReadsIn fielded (field_pieces s) characters × IsBalanced (field_pieces s)
+final_reads characters s steps final =
+    let at_end = ends_sound no_limit s characters (sound_at no_limit characters s (any_rooms (Some field_text_start) characters) steps) final in
+    (at_end.reads, at_end.balanced)
+
+-- and at most 200 brackets and fields are open, if each character had room
+pub final_is_reading : (characters : List ℕ) (s : FieldScanned) → field_steps_from (Some field_text_start) characters ≡ Some s → have_room (Some field_text_start) characters ≡ true → IsFieldFinal s → IsFieldReading (field_pieces s) characters
+final_is_reading characters s steps room final =
+    let at_end = ends_sound two_hundred s characters (sound_at two_hundred characters s (rooms_at (Some field_text_start) characters room) steps) final in
+    record { reads = at_end.reads; balanced = at_end.balanced; shallow = at_end.passes }
