@@ -6,3 +6,4 @@ pub mod CharacterPlaces
 pub mod CharacterFaults
 pub mod FaultPrefixes
 pub mod Verdict
+pub mod WorkedRows

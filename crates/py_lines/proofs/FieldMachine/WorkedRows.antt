@@ -10,7 +10,7 @@ use Rattle.py_lines.specs.Private.Machine.{first_spelling, spelling_with, short_
 use Rattle.py_lines.specs.Private.FieldMachine.{after_brace, body, Level, FieldScanned, field_state, field_text_start, between_move, escape_move, body_move, field_move, openers_with, code_operator, field_steps_from, has_room_at, has_room, may_end, field_pieces}
 
 -- what the rows compute with
-unfoldable tested : Unit {0}
+unfoldable pub tested : Unit {0}
 unfolding unicode_ident is_mark is_space is_word_character is_word_start is_digit is_quote is_operator is_line_feed is_return is_break is_hash is_backslash is_barred is_brace is_r is_b is_f is_t is_u is_opening is_closing first_spelling spelling_with short_move long_move move_of start_of between_move escape_move body_move field_move openers_with code_operator has_room_at
 tested = tt
 
