@@ -45,7 +45,7 @@
 -- Two readings of a text are compared from left to right. The first pieces are the same: two strings with fields by their
 -- parts, where each part is told by the characters that follow, and all other pieces by the machine. Where a list of pieces
 -- or parts ends, so does the other. Fields are the same if those in them are, so this goes by how many stand one in another.
--- What is open in a text with fields (proofs/OpenFields) is defined, and shown by rows alone.
+-- What is open in a text with fields is defined (specs/OpenFields.antt); proofs/OpenFields shows it by rows.
 --
 -- A machine with fields (specs/Private/FieldMachine.antt, proofs/FieldMachine) stands beside the other until the code reads
 -- fields. Its state keeps the fields that are open as levels, and in each of them the pieces and brackets before.

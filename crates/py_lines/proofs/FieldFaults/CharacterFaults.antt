@@ -7,7 +7,7 @@ use Rattle.py_lines.specs.Character.{is_break, is_backslash, is_mark, is_quote}
 use Rattle.py_lines.specs.Piece.{operator, Piece, begins_marked, spelled}
 use Rattle.py_lines.specs.Balance.{IsBalanced, is_opening, is_closing, depth_after, depth_through}
 use Rattle.py_lines.specs.LogicalLine.{byte_len}
-use Rattle.py_lines.specs.FieldStrings.{Host, Place, literal, specification, begins_open}
+use Rattle.py_lines.specs.FieldStrings.{Host, Place, literal, specification}
 use Rattle.py_lines.specs.Fields.{HasNoColon, fielded}
 use Rattle.py_lines.specs.OpenFields.{BeginsList, StandsIn, IsPlainShortPrefix, IsOpenLiteral, InOpenShort, AfterOpenBackslash, InSpecification}
 use Rattle.py_lines.specs.FieldFaults.{IsFieldLive, FieldDiesAt, IsFieldDue, IsAtFieldDepth, OpensBraceTooDeep, InShortSpecification, OpensAtLimit, FieldCause, brace_too_deep, breaks_string, breaks_join, closes_wrong, opens_too_deep, ends_specification, begins_nothing, kind_of_cause, FieldFaultKind, ExplainsField, field_causes_before, NoneExplainsField, IsFieldCharacterFault}
@@ -16,13 +16,13 @@ use Rattle.py_lines.specs.declared.mode.Move.TheVariants as moves
 use Rattle.py_lines.specs.Private.Machine.{move_of, start_of}
 use Rattle.py_lines.specs.Private.FieldMachine.{At, after_brace, FieldMode, plain, opened, empty, body, FieldMove, grows, closes, breaks, begins_code, opens_field, ends_field, refused, Level, FieldScanned, field_state, field_fresh, field_text_start, field_pieces, field_move, field_moved, field_started, field_step, opened_level, field_steps_from, levels_open, frames, has_room, has_room_at, have_room, plain_move, begins_host, between, between_move, body_move, is_after_brace, in_open_short, after_open_backslash, InSpecificationOf}
 use Rattle.py_lines.proofs.Pieces.PieceLists.{piece, spelled-push, AreReadIn-first}
-use Rattle.py_lines.proofs.FieldSoundness.Holds.{Limit, place_of, before, HoldsParts, HoldsLevels, HoldsList, HoldsAt, HoldsMode, IsFieldSound}
+use Rattle.py_lines.proofs.FieldSoundness.Holds.{Limit, place_of, before, HoldsParts, HoldsAt, HoldsMode, IsFieldSound}
 use Rattle.py_lines.proofs.FieldSoundness.Bodies.{Moved}
 use Rattle.py_lines.proofs.FieldSoundness.BodyMoves.{body_moves}
 use Rattle.py_lines.proofs.FieldSoundness.Lists.{not_specification}
 use Rattle.py_lines.proofs.FieldSoundness.HostSteps.{sound_at}
 use Rattle.py_lines.proofs.FieldSoundness.WholeTexts.{no_limit, any_rooms, two_hundred, rooms_at}
-use Rattle.py_lines.proofs.FieldSoundness.OpenTexts.{are_begun, list_begins, parts_at, stands_open}
+use Rattle.py_lines.proofs.FieldSoundness.OpenTexts.{are_begun, list_begins}
 use Rattle.py_lines.proofs.FieldSoundness.OpenEnds.{stands_map, literal_is_open, opened_is_open, specification_is_open, short_is_open, slash_is_open}
 use Rattle.py_lines.proofs.FieldSoundness.LiveTexts.{live_goes, goes_live, steps-append}
 use Rattle.py_lines.proofs.Text.CharacterTests.{none_of}
@@ -35,6 +35,7 @@ use Rattle.py_lines.proofs.FieldMachine.PieceRuns.{IsNoColon, opening_operator, 
 use Rattle.py_lines.proofs.FieldMachine.StringParts.{settled, open_moves, body_moves as string_moves}
 use Rattle.py_lines.proofs.FieldMachine.OpenStrings.{IsInString, in_part, at_first}
 use Rattle.py_lines.proofs.FieldMachine.FieldRuns.{code_moves}
+use Rattle.py_lines.proofs.FieldFaults.EndFaults.{due_at}
 use Rattle.py_lines.proofs.FieldMachine.WhatIsOpen.{Comes, comes_to, short_open_comes, backslash_comes, specification_comes}
 use Rattle.py_lines.proofs.FieldMachine.OpenCode.{depth_comes, due_comes, brace_comes}
 
@@ -137,29 +138,6 @@ opens_held limit outer depth (opened host) held c holds =
     cond_both (c == host.quote) _ _ (OpensHeld limit outer depth (opened host) held c) (λ h. tt) (λ h. none_held limit outer depth (opened host) held c (between_move host literal false between c) (literal_none host c))
 opens_held limit outer depth (empty host) held c holds = cond_both (c == host.quote) _ breaks (OpensHeld limit outer depth (empty host) held c) (λ h. tt) (λ h. tt)
 opens_held limit outer depth (body host place named at) held c holds = moved_held limit outer depth (body host place named at) host place held c (body_move host place named at c) refl (body_moves limit outer depth host place named at held c holds)
-
--- a field may open here, in a string that is open up to this text
-due_at : (limit : Limit) (outer : List Level) (done : List Piece) (openers : List ℕ) (m : FieldMode) (held read : List ℕ) → IsFieldSound limit (field_state outer done openers m held) read → (host : Host) (place : Place) (text after more : List ℕ) → place_of m ≡ place → text ++ (123 ∷ after) ≡ held ++ more → (place ≡ literal → begins_open after ≡ false) → HoldsParts limit outer (length openers + levels_open outer) host place false text (123 ∷ []) → IsFieldDue place (length openers + levels_open outer) (before place outer ++ (spelled done ++ text)) after
-due_at limit outer done openers m held read sound host place text after more at same single h =
-    let depth = length openers + levels_open outer in
-    let list = subst (λ p. HoldsList limit outer p done openers held) at sound.list in
-    let levels = subst (λ p. HoldsLevels limit p outer (spelled done ++ held)) at sound.levels in
-    let so = stands_open limit place outer done openers host false text (123 ∷ after) held more same list (parts_at limit outer depth host place false text (123 ∷ []) after h) levels in
-    record {
-      outside = so.outside;
-      base = so.base;
-      pieces = so.pieces;
-      front = text;
-      host = host;
-      spot = so.spot;
-      list = so.list;
-      begun = so.begun;
-      string = so.string;
-      may = record { unnamed = so.named_is; single = λ is. single (sym so.place_is ∙ is) };
-      spell = sym (append_assoc so.outside (spelled so.pieces) text) ∙ ap (λ t. t ++ text) (sym so.before_is) ∙ append_assoc (before place outer) (spelled done) text;
-      place_is = so.place_is;
-      deep = so.depth_is;
-    }
 
 opening_no_colon : (c : ℕ) → is_opening c ≡ true → c == 58 ≡ false
 unfolding is_opening

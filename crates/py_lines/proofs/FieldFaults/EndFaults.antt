@@ -5,21 +5,21 @@ use Rattle.std.proofs.lemmas.Bool.{both_ways, cond_both, ltb-true, ltb-false}
 use Rattle.py_lines.specs.Piece.{operator, Piece, spelled}
 use Rattle.py_lines.specs.Balance.{is_opener, depth_after, depth_through}
 use Rattle.py_lines.specs.LogicalLine.{byte_len}
-use Rattle.py_lines.specs.FieldStrings.{Host, Place, literal, specification}
+use Rattle.py_lines.specs.FieldStrings.{Host, Place, literal, specification, begins_open}
 use Rattle.py_lines.specs.Fields.{IsShallowFielded}
 use Rattle.py_lines.specs.OpenFields.{AreBegun, BeginsList, StandsIn, IsPlainShortPrefix, IsPlainLongPrefix, IsOpenLiteral}
-use Rattle.py_lines.specs.FieldFaults.{OpensBraceTooDeep, InOpenBracket, FieldUnfinished, open_brace, open_short, open_long, open_join, open_bracket, open_inside, IsOpenAtFieldEnd}
+use Rattle.py_lines.specs.FieldFaults.{IsFieldDue, OpensBraceTooDeep, InOpenBracket, FieldUnfinished, open_brace, open_short, open_long, open_join, open_bracket, open_inside, IsOpenAtFieldEnd}
 use Rattle.py_lines.specs.declared.mode.Mode.{Mode}
 use Rattle.py_lines.specs.declared.mode.Mode.TheVariants as modes
 use Rattle.py_lines.specs.Private.Machine.{is_final, in_short, in_long, is_after_backslash}
 use Rattle.py_lines.specs.Private.FieldMachine.{At, after_brace, FieldMode, plain, opened, empty, body, Level, FieldScanned, field_state, field_closed, levels_open, may_end, IsFieldFinal}
 use Rattle.py_lines.proofs.Pieces.PieceLists.{piece}
 use Rattle.py_lines.proofs.FieldSoundness.OpenLists.{Opens, level, inside, opens-depth}
-use Rattle.py_lines.proofs.FieldSoundness.Holds.{Limit, place_of, before, HoldsAt, HoldsLevels, IsFieldSound}
+use Rattle.py_lines.proofs.FieldSoundness.Holds.{Limit, place_of, before, HoldsAt, HoldsParts, HoldsList, HoldsLevels, IsFieldSound}
 use Rattle.py_lines.proofs.FieldSoundness.Lists.{not_specification}
 use Rattle.py_lines.proofs.FieldSoundness.ListEnds.{EndsList, code_at_end, list_ends}
 use Rattle.py_lines.proofs.FieldSoundness.WholeTexts.{two_hundred}
-use Rattle.py_lines.proofs.FieldSoundness.OpenTexts.{begun_before, PartsAt, parts_at, stands_open, list_begins}
+use Rattle.py_lines.proofs.FieldSoundness.OpenTexts.{begun_before, parts_at, stands_open, list_begins}
 use Rattle.py_lines.proofs.FieldSoundness.OpenEnds.{stands_map, literal_is_open, opened_is_open, specification_is_open, short_is_open, long_is_open, slash_is_open, code_is_open, brace_is_open}
 
 -- what is open at the end of code: a bracket of the innermost list, or the field whose code it is
@@ -118,6 +118,29 @@ bracket_is_open limit outer done o os m held read sound may = go ends.opens
           },
         )
 
+-- a field may open here, in a string that is open up to this text
+pub due_at : (limit : Limit) (outer : List Level) (done : List Piece) (openers : List ℕ) (m : FieldMode) (held read : List ℕ) → IsFieldSound limit (field_state outer done openers m held) read → (host : Host) (place : Place) (text after more : List ℕ) → place_of m ≡ place → text ++ (123 ∷ after) ≡ held ++ more → (place ≡ literal → begins_open after ≡ false) → HoldsParts limit outer (length openers + levels_open outer) host place false text (123 ∷ []) → IsFieldDue place (length openers + levels_open outer) (before place outer ++ (spelled done ++ text)) after
+due_at limit outer done openers m held read sound host place text after more at same single h =
+    let depth = length openers + levels_open outer in
+    let list = subst (λ p. HoldsList limit outer p done openers held) at sound.list in
+    let levels = subst (λ p. HoldsLevels limit p outer (spelled done ++ held)) at sound.levels in
+    let so = stands_open limit place outer done openers host false text (123 ∷ after) held more same list (parts_at limit outer depth host place false text (123 ∷ []) after h) levels in
+    record {
+      outside = so.outside;
+      base = so.base;
+      pieces = so.pieces;
+      front = text;
+      host = host;
+      spot = so.spot;
+      list = so.list;
+      begun = so.begun;
+      string = so.string;
+      may = record { unnamed = so.named_is; single = λ is. single (sym so.place_is ∙ is) };
+      spell = sym (append_assoc so.outside (spelled so.pieces) text) ∙ ap (λ t. t ++ text) (sym so.before_is) ∙ append_assoc (before place outer) (spelled done) text;
+      place_is = so.place_is;
+      deep = so.depth_is;
+    }
+
 -- a field that would open at depth 200, with its `{` at the end
 pub brace_is_due : (limit : Limit) (outer : List Level) (done : List Piece) (openers : List ℕ) (host : Host) (named : Bool) (held read : List ℕ) → IsFieldSound limit (field_state outer done openers (body host literal named after_brace) held) read → length openers + levels_open outer ≡ 200 → (offset : ℕ) × OpensBraceTooDeep read [] offset
 brace_is_due limit outer done openers host named held read sound full = go sound.mode
@@ -127,36 +150,15 @@ brace_is_due limit outer done openers host named held read sound full = go sound
 
     go : HoldsAt limit outer depth host literal named after_brace held → (offset : ℕ) × OpensBraceTooDeep read [] offset
     go (text, is, at, unnamed, h) =
-        let parts = subst (λ n. PartsAt limit outer depth host literal n text (123 ∷ [])) unnamed (parts_at limit outer depth host literal named text (123 ∷ []) [] h) in
-        let so = stands_open limit literal outer done openers host false text (123 ∷ []) held [] (sym is ∙ sym (append-nil held)) sound.list parts sound.levels in
-        let start = so.outside ++ (spelled so.pieces ++ text) in
-        let first : start ≡ before literal outer ++ (spelled done ++ text) =
-        sym (append_assoc so.outside (spelled so.pieces) text) ∙ ap (λ t. t ++ text) (sym so.before_is) ∙ append_assoc (before literal outer) (spelled done) text in
-        let spell : start ++ 123 ∷ [] ≡ read =
-        ap (λ t. t ++ 123 ∷ []) first
-        ∙ append_assoc (before literal outer) (spelled done ++ text) (123 ∷ [])
-        ∙ ap (λ t. before literal outer ++ t) (append_assoc (spelled done) text (123 ∷ []) ∙ ap (λ t. spelled done ++ t) (sym is))
-        ∙ sound.spell in
-        let deep = so.depth_is in (
+        let start : List ℕ = before literal outer ++ (spelled done ++ text) in
+        let parts = subst (λ n. HoldsParts limit outer depth host literal n text (123 ∷ [])) unnamed h in
+        let due = due_at limit outer done openers (body host literal named after_brace) held read sound host literal text [] [] refl (sym is ∙ sym (append-nil held)) (λ same. refl) parts in (
           byte_len start,
           record {
             start = start;
-            spell = spell;
-            due = record {
-              outside = so.outside;
-              base = so.base;
-              pieces = so.pieces;
-              front = text;
-              host = host;
-              spot = so.spot;
-              list = so.list;
-              begun = so.begun;
-              string = so.string;
-              may = record { unnamed = so.named_is; single = λ same. refl };
-              spell = refl;
-              place_is = so.place_is;
-              deep = omega (arith, deep, full);
-            };
+            spell = append_assoc (before literal outer) (spelled done ++ text) (123 ∷ [])
+                ∙ ap (λ t. before literal outer ++ t) (append_assoc (spelled done) text (123 ∷ []) ∙ ap (λ t. spelled done ++ t) (sym is)) ∙ sound.spell;
+            due = subst (λ n. IsFieldDue literal n start []) full due;
             place = refl;
           },
         )
