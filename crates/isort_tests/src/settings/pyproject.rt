@@ -237,6 +237,13 @@ const STANDS: &[Stands] = &[
         Known::Plain,
         &[],
     ),
+    // The order that is usual.
+    Stands(
+        b"[tool.isort]\nsections = [\"FUTURE\", \"STDLIB\", \"THIRDPARTY\", \"FIRSTPARTY\", \"LOCALFOLDER\"]",
+        None,
+        Known::Plain,
+        &[],
+    ),
     Stands(
         b"[tool.isort]\ncolour = 1\nFirst = 1\n[tool.isort.sub]\nline_length = 0",
         None,
