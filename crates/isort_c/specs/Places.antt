@@ -23,7 +23,8 @@ TellsSection v s answer old new =
 
 -- the section under what the settings stand for, or that memory ran out
 abbrev pub PlacedBy : List ℕ → Result (Values × List (List ℕ)) Answer → Answer → List ℕ → List ℕ → Type 0
-PlacedBy name (Ok (v, unknown)) answer old new = TellsSection v (section_in v name) answer old new ⊎ ((answer ≡ plain_answer MEMORY) × (new ≡ old))
+PlacedBy name (Ok (v, unknown)) answer old new =
+    TellsSection v (section_in v name) answer old new ⊎ ((answer ≡ plain_answer MEMORY) × (new ≡ old))
 PlacedBy name (Err refused) answer old new = IsUnlessMemory refused answer × (new ≡ old)
 
 -- a module that is a text has its section, and every other means nothing

@@ -49,5 +49,6 @@ TellsOf (Err e) answer old new = (answer ≡ record (refused_answer e) { size = 
 
 -- what the text of settings says with this profile, or that memory ran out
 abbrev pub AnswersSettings : List ℕ → Result (Option Profile) Answer → Answer → List ℕ → List ℕ → Type 0
-AnswersSettings text (Ok profile) answer old new = TellsOf (settings_of text profile) answer old new ⊎ ((answer ≡ plain_answer MEMORY) × (new ≡ old))
+AnswersSettings text (Ok profile) answer old new =
+    TellsOf (settings_of text profile) answer old new ⊎ ((answer ≡ plain_answer MEMORY) × (new ≡ old))
 AnswersSettings text (Err refused) answer old new = (answer ≡ refused) × (new ≡ old)

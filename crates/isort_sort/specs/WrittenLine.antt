@@ -83,11 +83,13 @@ pub record IsWritten (indentation end : List ℕ) (s : Laid) (lines : List (List
   pub deep : depth_through 0 pieces ≡ 0
   pub whole : cut 0 pieces ≡ pieces ∷ []
   pub cut : (more : List Piece) → cut 0 (pieces ++ (end_pieces true end ++ more)) ≡ (pieces ++ end_pieces true end) ∷ cut 0 more
-  pub line : (marked ended : Bool) (offset line : ℕ) → IsWrittenLine indentation s marked ended (line_of offset line (mark_pieces marked ++ (pieces ++ end_pieces ended end)))
+  pub line : (marked ended : Bool) (offset line : ℕ)
+      → IsWrittenLine indentation s marked ended (line_of offset line (mark_pieces marked ++ (pieces ++ end_pieces ended end)))
 
 -- each statement of a block is written so
 abbrev pub EachIsWritten : Values → List ℕ → List ℕ → List Laid → Type 0
 EachIsWritten v indentation end [] = Unit {0}
 EachIsWritten v indentation end (s ∷ ss) =
-    ((pieces : List Piece) × IsWritten indentation end s (statement_lines v indentation s.statement (remark s.comments) s.items s.cut) pieces)
+    ((pieces : List Piece)
+    × IsWritten indentation end s (statement_lines v indentation s.statement (remark s.comments) s.items s.cut) pieces)
     × EachIsWritten v indentation end ss

@@ -108,7 +108,8 @@ pub record IsFieldString (Fields : Host → List ℕ → Type 0) (text : List �
 -- a short or long string that has neither `f` nor `t` in its prefix
 abbrev pub IsPlainString : List ℕ → Type 0
 IsPlainString text =
-    ((short : IsShortString text) × (is_field_prefix short.prefix ≡ false)) ⊎ ((long : IsLongString text) × (is_field_prefix long.prefix ≡ false))
+    ((short : IsShortString text) × (is_field_prefix short.prefix ≡ false))
+    ⊎ ((long : IsLongString text) × (is_field_prefix long.prefix ≡ false))
 
 -- strings as Python 3.12 and later read them, with these fields in those that have `f` or `t` in their prefix
 abbrev pub with_fields : (Host → List ℕ → Type 0) → Grammar

@@ -35,7 +35,8 @@ pub record IsSpecification (Fields : Host → List ℕ → Type 0) (host : Host)
 
 -- A field of this string: pieces between `{` and `}`, or pieces and after `:` a specification. The pieces meet one more
 -- condition, `Passes`.
-pub data IsField (grammar : Grammar) (Passes : List Piece → Type 0) (Parts : Host → List ℕ → Type 0) (host : Host) (text : List ℕ) : Type 0 where
+pub data IsField (grammar : Grammar) (Passes : List Piece → Type 0) (Parts : Host → List ℕ → Type 0) (host : Host)
+    (text : List ℕ) : Type 0 where
   simple : (inside : List Piece) → text ≡ byte "{" ∷ spelled inside ++ byte "}" ∷ []
       → AreInside grammar inside (byte "}" ∷ []) → Passes inside → IsField grammar Passes Parts host text
   specified : (inside : List Piece) (parts : List (List ℕ)) → text ≡ byte "{" ∷ spelled inside ++ (byte ":" ∷ joined parts ++ byte "}" ∷ [])

@@ -61,7 +61,8 @@ pub record AreBegun (depth : ℕ) (pieces : List Piece) (rest : List ℕ) : Type
 -- or directly after the `{` of a field that opens in a string, which stands after pieces of such a list.
 pub data BeginsList : List ℕ → List ℕ → ℕ → Type 0 where
   at_start : (before rest : List ℕ) (depth : ℕ) → before ≡ [] → depth ≡ 0 → BeginsList before rest depth
-  in_field : (before rest : List ℕ) (depth : ℕ) (outside : List ℕ) (base : ℕ) (pieces : List Piece) (front : List ℕ) (host : Host) (spot : Spot)
+  in_field : (before rest : List ℕ) (depth : ℕ) (outside : List ℕ) (base : ℕ) (pieces : List Piece) (front : List ℕ)
+      (host : Host) (spot : Spot)
       → before ≡ outside ++ (spelled pieces ++ (front ++ byte "{" ∷ []))
       → BeginsList outside (spelled pieces ++ (front ++ byte "{" ∷ rest)) base → AreBegun base pieces (front ++ byte "{" ∷ rest)
       → IsOpenString host spot front (byte "{" ∷ rest) → MayOpen spot rest

@@ -433,8 +433,8 @@ impl Scan {
         self.take_token(bytes)
     }
 
-    /// Takes the piece that the bytes begin with, after closed pieces, or several words and operators: a word, space, an operator, a string, a comment or
-    /// a line end.
+    /// Takes the piece that the bytes begin with, after closed pieces: a word, space, an operator, a string, a comment or a
+    /// line end; or several words and operators.
     #[inline(always)]
     fn take_piece(&mut self, bytes: &[u8]) -> Result<Taken, AllocError>
         requires free { is_free self.old.piece.mode ≡ true }

@@ -126,7 +126,8 @@ ending_move host place named = grows (body host place false between)
 -- what a character does between two parts of a string, or after a quote of its own
 unfoldable pub between_move : Host → Place → Bool → At → ℕ → FieldMove
 between_move host place named at c =
-    if c == host.quote then (if host.is_long && not (is_after_two at) then grows (body host place named (with_quote at)) else closing_move place)
+    if c == host.quote
+    then (if host.is_long && not (is_after_two at) then grows (body host place named (with_quote at)) else closing_move place)
     else (if is_backslash c then grows (body host place named after_slash)
     else (if is_break c && not host.is_long then refused
     else (if (c == byte "{") && not named then opening_move host place
@@ -152,7 +153,8 @@ unfoldable pub body_move : Host → Place → Bool → At → ℕ → FieldMove
 body_move host place named after_slash c = escape_move host place named c
 body_move host place named after_return c =
     if is_line_feed c then grows (body host place named between) else between_move host place named between c
-body_move host place named after_name c = if c == byte "{" then grows (body host place true between) else between_move host place named between c
+body_move host place named after_name c =
+    if c == byte "{" then grows (body host place true between) else between_move host place named between c
 body_move host place named after_brace c = if c == byte "{" then grows (body host place named between) else begins_code host
 body_move host place named at c = between_move host place named at c
 
@@ -205,7 +207,8 @@ field_ended level outer held = field_state outer level.done level.openers (body 
 unfoldable pub code_operator : Level → List Level → List Piece → ℕ → Option FieldScanned
 code_operator level outer done c =
     if c == byte "}" then Some (field_ended level outer (level.front ++ (spelled done ++ c ∷ [])))
-    else (if c == byte ":" then Some (field_state (level ∷ outer) [] [] (body level.host specification false between) (level.front ++ (spelled done ++ c ∷ [])))
+    else (if c == byte ":"
+    then Some (field_state (level ∷ outer) [] [] (body level.host specification false between) (level.front ++ (spelled done ++ c ∷ [])))
     else after_operator (level ∷ outer) done c (openers_with [] c))
 
 -- an operator after finished pieces
@@ -218,7 +221,8 @@ field_operator (level ∷ outer) done (o ∷ os) c = after_operator (level ∷ o
 abbrev pub field_started : List Level → List Piece → List ℕ → ℕ → Start → Option FieldScanned
 field_started outer done openers c (starts.Open m) = Some (field_state outer done openers (plain m) (c ∷ []))
 field_started outer done openers c starts.Operator = field_operator outer done openers c
-field_started outer done openers c starts.LineEnd = Some (field_fresh outer (done ++ record { class = line_end; text = c ∷ [] } ∷ []) openers)
+field_started outer done openers c starts.LineEnd =
+    Some (field_fresh outer (done ++ record { class = line_end; text = c ∷ [] } ∷ []) openers)
 field_started outer done openers c starts.Nothing = None
 
 -- the field that opens in a string in this state, where the string's text goes so far
@@ -233,7 +237,8 @@ specification_ended (level ∷ outer) held = Some (field_ended level outer held)
 -- the state after a character that does this
 abbrev pub field_moved : FieldScanned → ℕ → FieldMove → Option FieldScanned
 field_moved s c (grows m) = Some (field_state s.outer s.done s.openers m (s.held ++ c ∷ []))
-field_moved s c closes = Some (field_fresh s.outer (s.done ++ record { class = field_class_of s.mode; text = s.held ++ c ∷ [] } ∷ []) s.openers)
+field_moved s c closes =
+    Some (field_fresh s.outer (s.done ++ record { class = field_class_of s.mode; text = s.held ++ c ∷ [] } ∷ []) s.openers)
 field_moved s c breaks = field_started s.outer (field_closed s.mode s.done s.held) s.openers c (start_of c)
 field_moved s c (begins_code host) = field_started (opened_level s host literal s.held ∷ s.outer) [] [] c (start_of c)
 field_moved s c (opens_field host) = Some (field_fresh (opened_level s host specification (s.held ++ c ∷ []) ∷ s.outer) [] [])

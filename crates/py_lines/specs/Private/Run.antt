@@ -346,7 +346,8 @@ coded_if false scan len = scan
 -- the scan goes on from these bytes to those, in each line and each text
 abbrev pub LeadsTo : Scan → List ℕ → Scan → List ℕ → Type 0
 LeadsTo old bytes new rest =
-    (m : Mode) (line : ℕ) (whole : List ℕ) → IsSound (line_start m) [] → ReachedShut m line whole old bytes → ReachedShut m line whole new rest
+    (m : Mode) (line : ℕ) (whole : List ℕ) → IsSound (line_start m) [] → ReachedShut m line whole old bytes
+    → ReachedShut m line whole new rest
 
 -- tokens were added, and the scan has still to pass so many bytes
 pub record HasAdded (old : Scan) (bytes : List ℕ) (len : ℕ) (new : Scan) : Type 0 where
