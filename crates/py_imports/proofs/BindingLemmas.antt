@@ -4,7 +4,7 @@ use Rattle.std.proofs.lemmas.Option.{slice_get-get_or}
 use Rattle.std.proofs.lemmas.List.{append-nil, drop_all, map-append}
 use Rattle.py_lines.specs.LogicalLine.{LogicalLine}
 use Rattle.py_lines.specs.declared.token.Token.{Token}
-use Rattle.py_imports.specs.Statement.{is_comment, significant, is_divider, depth_past, depth_after_tokens, ends_in_divider, may_start_after, Place, places_from, starts}
+use Rattle.py_imports.specs.Statement.{is_comment, significant, is_divider, depth_past, depth_after_tokens, ends_in_divider, may_start_after, TokenPlace, places_from, starts}
 use Rattle.py_imports.specs.Bound.{Bound, bound_at, bound_of}
 use Rattle.py_imports.specs.Grammar.{Imported}
 use Rattle.py_imports.specs.Binds.{BindsAt, BindEach, Binds, Refuses}
@@ -27,13 +27,13 @@ may_start_behind-snoc [] t = refl
 may_start_behind-snoc (u ∷ ts) t = ends_in_divider-snoc 0 (u ∷ ts) t
 
 -- the places among these at which statements start
-abbrev starts_among : List Place → List Place
+abbrev starts_among : List TokenPlace → List TokenPlace
 starts_among ps = filter (λ p. may_start_after p.before) ps
 
 -- the statements were bound that start before token `i`, whose depth this is; whether one may start there
 pub record BindsSoFar (line : LogicalLine) (i depth : ℕ) (here : Bool) (bindings : List Binding) : Type 0 where
   pub before : List Token
-  pub done : List Place
+  pub done : List TokenPlace
   pub split : starts (significant line.tokens) ≡ done ++ starts_among (places_from before (significant (drop i line.tokens)))
   pub level : depth ≡ depth_after_tokens 0 before
   pub start : here ≡ may_start_after before
@@ -42,7 +42,7 @@ pub record BindsSoFar (line : LogicalLine) (i depth : ℕ) (here : Bool) (bindin
 pub binds_nothing : (line : LogicalLine) → BindsSoFar line 0 0 true []
 binds_nothing line = record { before = []; done = []; split = refl; level = refl; start = refl; binds = refl }
 
-BindEach-snoc : (line : LogicalLine) (ps : List Place) (p : Place) (bs more : List Bound) → BindEach line ps bs → BindsAt line p more → BindEach line (ps ++ p ∷ []) (bs ++ more)
+BindEach-snoc : (line : LogicalLine) (ps : List TokenPlace) (p : TokenPlace) (bs more : List Bound) → BindEach line ps bs → BindsAt line p more → BindEach line (ps ++ p ∷ []) (bs ++ more)
 BindEach-snoc line [] p bs more e b = (more, [], ap (λ x. x ++ more) e ∙ sym (append-nil more), b, refl)
 BindEach-snoc line (q ∷ ps) p bs more (first, others, e, b, rest) c = (first, others ++ more, ap (λ x. x ++ more) e ∙ append_assoc first others more, b, BindEach-snoc line ps p others more rest c)
 
@@ -54,17 +54,17 @@ pub from_significant : (tokens : List Token) (i : ℕ) (t : Token) → i < lengt
 from_significant tokens i t within code = ap significant (from_token tokens i t within) ∙ significant-cons (get_or tokens i t) (drop (i + 1) tokens) code
 
 -- the place of a token that is no comment
-abbrev place_at : LogicalLine → List Token → ℕ → Token → Place
+abbrev place_at : LogicalLine → List Token → ℕ → Token → TokenPlace
 place_at line before i t = record { before = before; token = get_or line.tokens i t; after = significant (drop (i + 1) line.tokens) }
 
 is_place_at : (line : LogicalLine) (before : List Token) (i : ℕ) (t : Token) → i < length line.tokens → IsPlaceAt line.tokens i (place_at line before i t)
 is_place_at line before i t within = (slice_get-get_or line.tokens i t within, refl)
 
 -- the starts from a place on, where a statement starts there and where none does
-starts_here : (p : Place) (ps : List Place) → may_start_after p.before ≡ true → starts_among (p ∷ ps) ≡ p ∷ starts_among ps
+starts_here : (p : TokenPlace) (ps : List TokenPlace) → may_start_after p.before ≡ true → starts_among (p ∷ ps) ≡ p ∷ starts_among ps
 starts_here p ps e = rw e
 
-starts_later : (p : Place) (ps : List Place) → may_start_after p.before ≡ false → starts_among (p ∷ ps) ≡ starts_among ps
+starts_later : (p : TokenPlace) (ps : List TokenPlace) → may_start_after p.before ≡ false → starts_among (p ∷ ps) ≡ starts_among ps
 starts_later p ps e = rw e
 
 level_behind : (before : List Token) (depth : ℕ) (t : Token) → depth ≡ depth_after_tokens 0 before → depth_past depth t.kind ≡ depth_after_tokens 0 (before ++ t ∷ [])
@@ -108,11 +108,11 @@ passes_comment line i depth here bindings t s within comment =
 pub binds_all : (line : LogicalLine) (i depth : ℕ) (here : Bool) (bindings : List Binding) → BindsSoFar line i depth here bindings → length line.tokens ≤ i → Binds line (map bound_of bindings)
 binds_all line i depth here bindings s end =
     let all = s.split ∙ ap (λ ts. s.done ++ starts_among (places_from s.before (significant ts))) (drop_all i line.tokens end) ∙ append-nil s.done in
-    let Each : List Place → Type 0 = λ ps. BindEach line ps (map bound_of bindings) in
+    let Each : List TokenPlace → Type 0 = λ ps. BindEach line ps (map bound_of bindings) in
     subst Each (sym all) s.binds
 
 -- a statement starts at a token, and was bound
-pub passes_start : (line : LogicalLine) (i depth : ℕ) (old new : List Binding) (t : Token) → BindsSoFar line i depth true old → i < length line.tokens → is_comment (get_or line.tokens i t).kind ≡ false → ((p : Place) → IsPlaceAt line.tokens i p → BindsMore line p old new) → BindsSoFar line (i + 1) (depth_past depth (get_or line.tokens i t).kind) (is_divider (get_or line.tokens i t).kind && (depth == 0)) new
+pub passes_start : (line : LogicalLine) (i depth : ℕ) (old new : List Binding) (t : Token) → BindsSoFar line i depth true old → i < length line.tokens → is_comment (get_or line.tokens i t).kind ≡ false → ((p : TokenPlace) → IsPlaceAt line.tokens i p → BindsMore line p old new) → BindsSoFar line (i + 1) (depth_past depth (get_or line.tokens i t).kind) (is_divider (get_or line.tokens i t).kind && (depth == 0)) new
 passes_start line i depth old new t s within code bound =
     let u = get_or line.tokens i t in
     let p = place_at line s.before i t in
@@ -127,12 +127,12 @@ passes_start line i depth old new t s within code bound =
       binds = subst (BindEach line (s.done ++ p ∷ [])) (sym more.adds) (BindEach-snoc line s.done p (map bound_of old) more.bounds s.binds more.binds);
     }
 
-refused_by : (line : LogicalLine) (p : Place) (done later : List Place) (bounds : List Bound) (e : ImportError) → starts (significant line.tokens) ≡ done ++ p ∷ later → BindEach line done bounds → RefusesAt line p e → Refuses line e
+refused_by : (line : LogicalLine) (p : TokenPlace) (done later : List TokenPlace) (bounds : List Bound) (e : ImportError) → starts (significant line.tokens) ≡ done ++ p ∷ later → BindEach line done bounds → RefusesAt line p e → Refuses line e
 refused_by line p done later bounds error.Memory split good r = tt
 refused_by line p done later bounds (error.Fault f) split good r = record { before = done; start = p; after = later; bounds = bounds; split = split; good = good; bad = r.0; place = r.1 }
 
 -- a statement starts at a token, and was refused
-pub refuses_start : (line : LogicalLine) (i depth : ℕ) (old : List Binding) (t : Token) (e : ImportError) → BindsSoFar line i depth true old → i < length line.tokens → is_comment (get_or line.tokens i t).kind ≡ false → ((p : Place) → IsPlaceAt line.tokens i p → RefusesAt line p e) → Refuses line e
+pub refuses_start : (line : LogicalLine) (i depth : ℕ) (old : List Binding) (t : Token) (e : ImportError) → BindsSoFar line i depth true old → i < length line.tokens → is_comment (get_or line.tokens i t).kind ≡ false → ((p : TokenPlace) → IsPlaceAt line.tokens i p → RefusesAt line p e) → Refuses line e
 refuses_start line i depth old t e s within code refused =
     let p = place_at line s.before i t in
     let rest = places_from (s.before ++ get_or line.tokens i t ∷ []) (significant (drop (i + 1) line.tokens)) in
@@ -156,11 +156,11 @@ pub record BoundSoFar (Before Now : List Imported → Type 0) (head : Head) (old
   pub adds : map bound_of new ≡ map bound_of old ++ map (bound_at head.line head.indented) done
 
 -- one binding more
-pub bound_one : (Before Now After : List Imported → Type 0) (head : Head) (old mid new : List Binding) (i : Imported) (b : Binding) → BoundSoFar Before Now head old mid → StartWith Now i After → new ≡ mid ++ b ∷ [] → bound_of b ≡ bound_at head.line head.indented i → BoundSoFar Before After head old new
-bound_one Before Now After head old mid new i b s first e f =
+pub bound_one : (Before Now After : List Imported → Type 0) (head : Head) (old mid new : List Binding) (i : Imported) → BoundSoFar Before Now head old mid → StartWith Now i After → map bound_of new ≡ map bound_of mid ++ bound_at head.line head.indented i ∷ [] → BoundSoFar Before After head old new
+bound_one Before Now After head old mid new i s first e =
     let at = bound_at head.line head.indented in
     record {
       done = s.done ++ i ∷ [];
       read = one_more_read Before Now After s.done i s.read first;
-      adds = ap (map bound_of) e ∙ map-append bound_of mid (b ∷ []) ∙ ap (λ x. map bound_of mid ++ x ∷ []) f ∙ ap (λ x. x ++ at i ∷ []) s.adds ∙ append_assoc (map bound_of old) (map at s.done) (at i ∷ []) ∙ ap (λ x. map bound_of old ++ x) (sym (map-append at s.done (i ∷ [])));
+      adds = e ∙ ap (λ x. x ++ at i ∷ []) s.adds ∙ append_assoc (map bound_of old) (map at s.done) (at i ∷ []) ∙ ap (λ x. map bound_of old ++ x) (sym (map-append at s.done (i ∷ [])));
     }

@@ -5,7 +5,7 @@ use Rattle.py_lines.specs.declared.fault.FaultKind.TheVariants.{BadImport}
 use Rattle.py_imports.specs.Grammar.{Terminal, import_word, from_word, as_word, name, dot, comma, star, opening, closing, other, begins_import, spelling, NameKind, modules, identifiers, Item, AreItems, AreBracketed, AreNames, plain_names, bracketed, all_names, whole_module, attribute_of, IsImport, import_statement, from_statement}
 use Rattle.py_imports.specs.Private.Items.{begins_closing}
 use Rattle.py_imports.specs.Private.Parsing.{ReadText, at_relative, ItemRead, at_item}
-use Rattle.py_imports.specs.Statement.{significant, Place, starts}
+use Rattle.py_imports.specs.Statement.{significant, TokenPlace, starts}
 use Rattle.py_imports.specs.Bound.{Bound}
 use Rattle.py_imports.specs.Binds.{terminals_at, bounds_at, BindsAt, nothing, imports, IsBadStart, BindEach, BindsOrIsBad}
 use Rattle.py_imports.proofs.ModuleLemmas.{at_relative-sound}
@@ -154,36 +154,36 @@ import_statement_or_none (opening ∷ ts) = none (λ is i. import_reads (opening
 import_statement_or_none (closing ∷ ts) = none (λ is i. import_reads (closing ∷ ts) is i)
 import_statement_or_none (other ∷ ts) = none (λ is i. import_reads (other ∷ ts) is i)
 
-start_by : (line : LogicalLine) (p : Place) (b : Bool) → begins_import (terminals_at line p) ≡ b → SomeOrNone (IsImport (terminals_at line p)) → ((bounds : List Bound) × BindsAt line p bounds) ⊎ IsBadStart line p
+start_by : (line : LogicalLine) (p : TokenPlace) (b : Bool) → begins_import (terminals_at line p) ≡ b → SomeOrNone (IsImport (terminals_at line p)) → ((bounds : List Bound) × BindsAt line p bounds) ⊎ IsBadStart line p
 start_by line p false e known = inl ([], nothing line p [] e refl)
 start_by line p true e (some is i) = inl (bounds_at line p is, imports line p (bounds_at line p is) is e i refl)
 start_by line p true e (none bad) = inr (record { begins = e; bad = bad })
 
 -- a statement binds a list, or is bad
-start_binds_or_bad : (line : LogicalLine) (p : Place) → ((bounds : List Bound) × BindsAt line p bounds) ⊎ IsBadStart line p
+start_binds_or_bad : (line : LogicalLine) (p : TokenPlace) → ((bounds : List Bound) × BindsAt line p bounds) ⊎ IsBadStart line p
 start_binds_or_bad line p = start_by line p (begins_import (terminals_at line p)) refl (import_statement_or_none (terminals_at line p))
 
 -- the first bad statement among those that start at these places
-record FirstBad (line : LogicalLine) (ps : List Place) : Type 0 where
-  pub before : List Place
-  pub start : Place
-  pub after : List Place
+record FirstBadStatement (line : LogicalLine) (ps : List TokenPlace) : Type 0 where
+  pub before : List TokenPlace
+  pub start : TokenPlace
+  pub after : List TokenPlace
   pub bounds : List Bound
   pub split : ps ≡ before ++ start ∷ after
   pub good : BindEach line before bounds
   pub bad : IsBadStart line start
 
-each_by : (line : LogicalLine) (p : Place) (ps : List Place) → ((bounds : List Bound) × BindsAt line p bounds) ⊎ IsBadStart line p → ((bounds : List Bound) × BindEach line ps bounds) ⊎ FirstBad line ps → ((bounds : List Bound) × BindEach line (p ∷ ps) bounds) ⊎ FirstBad line (p ∷ ps)
+each_by : (line : LogicalLine) (p : TokenPlace) (ps : List TokenPlace) → ((bounds : List Bound) × BindsAt line p bounds) ⊎ IsBadStart line p → ((bounds : List Bound) × BindEach line ps bounds) ⊎ FirstBadStatement line ps → ((bounds : List Bound) × BindEach line (p ∷ ps) bounds) ⊎ FirstBadStatement line (p ∷ ps)
 each_by line p ps (inr bad) known = inr (record { before = []; start = p; after = ps; bounds = []; split = refl; good = refl; bad = bad })
 each_by line p ps (inl (first, b)) (inl (others, each)) = inl (first ++ others, (first, others, refl, b, each))
 each_by line p ps (inl (first, b)) (inr f) = inr (record { before = p ∷ f.before; start = f.start; after = f.after; bounds = first ++ f.bounds; split = ap (λ x. p ∷ x) f.split; good = (first, f.bounds, refl, b, f.good); bad = f.bad })
 
 -- the statements that start at these places all bind a list, or there is a first one that is bad
-each_or_first_bad : (line : LogicalLine) (ps : List Place) → ((bounds : List Bound) × BindEach line ps bounds) ⊎ FirstBad line ps
+each_or_first_bad : (line : LogicalLine) (ps : List TokenPlace) → ((bounds : List Bound) × BindEach line ps bounds) ⊎ FirstBadStatement line ps
 each_or_first_bad line [] = inl ([], refl)
 each_or_first_bad line (p ∷ ps) = each_by line p ps (start_binds_or_bad line p) (each_or_first_bad line ps)
 
-line_by : (line : LogicalLine) → ((bounds : List Bound) × BindEach line (starts (significant line.tokens)) bounds) ⊎ FirstBad line (starts (significant line.tokens)) → BindsOrIsBad line
+line_by : (line : LogicalLine) → ((bounds : List Bound) × BindEach line (starts (significant line.tokens)) bounds) ⊎ FirstBadStatement line (starts (significant line.tokens)) → BindsOrIsBad line
 line_by line (inl b) = inl b
 line_by line (inr f) = inr (record { kind = BadImport; offset = line.offset + f.start.token.start; line = f.start.token.line }, record { before = f.before; start = f.start; after = f.after; bounds = f.bounds; split = f.split; good = f.good; bad = f.bad; place = refl })
 

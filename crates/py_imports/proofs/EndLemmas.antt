@@ -7,7 +7,7 @@ use Rattle.py_lines.specs.Token.{opens_bracket, closes_bracket}
 use Rattle.py_lines.specs.declared.token.Token.{Token}
 use Rattle.py_lines.specs.declared.token.TokKind.{TokKind}
 use Rattle.py_lines.specs.declared.token.TokKind.TheVariants as kind
-use Rattle.py_imports.specs.Statement.{is_comment, significant, is_semicolon, depth_past, depth_after_tokens, Place, places_from, is_end, statement_at}
+use Rattle.py_imports.specs.Statement.{is_comment, significant, is_semicolon, depth_past, depth_after_tokens, TokenPlace, places_from, is_end, statement_at}
 use Rattle.py_imports.specs.Private.Parsing.{up_to_semicolon}
 use Rattle.py_imports.proofs.TokenLemmas.{depth_behind-snoc, window, significant-cons, significant-comment}
 
@@ -17,17 +17,17 @@ before_end before [] = refl
 before_end before (t ∷ ts) =
     ap (map (λ q. q.token)) (take_while-cons (λ q. not (is_end q)) here others) ∙ by_end (before_end (before ++ t ∷ []) ts ∙ ap (λ d. up_to_semicolon d ts) (depth_behind-snoc 0 before t)) (is_end here) refl
   where
-    here : Place
+    here : TokenPlace
     here = record { before = before; token = t; after = ts }
 
-    others : List Place
+    others : List TokenPlace
     others = places_from (before ++ t ∷ []) ts
 
     by_end : map (λ q. q.token) (take_while (λ q. not (is_end q)) others) ≡ up_to_semicolon (depth_past (depth_after_tokens 0 before) t.kind) ts → (b : Bool) → is_end here ≡ b → map (λ q. q.token) (cond (not (is_end here)) (here ∷ take_while (λ q. not (is_end q)) others) []) ≡ up_to_semicolon (depth_after_tokens 0 before) (t ∷ ts)
     by_end rest true e = rw e refl
     by_end rest false e = rw e (ap (λ l. t ∷ l) rest)
 
-pub statement_is : (p : Place) → statement_at p ≡ up_to_semicolon 0 (p.token ∷ p.after)
+pub statement_is : (p : TokenPlace) → statement_at p ≡ up_to_semicolon 0 (p.token ∷ p.after)
 statement_is p = before_end [] (p.token ∷ p.after)
 
 comment_depth : (depth : ℕ) (k : TokKind) → is_comment k ≡ true → depth_past depth k ≡ depth

@@ -7,7 +7,7 @@ use Rattle.py_lines.specs.LogicalLine.{LogicalLine}
 use Rattle.py_lines.specs.declared.token.TokKind.{TokKind}
 use Rattle.py_lines.specs.declared.token.TokKind.TheVariants as kind
 use Rattle.py_lines.specs.declared.token.Token.{Token}
-use Rattle.py_imports.specs.Statement.{is_comment, significant, may_start_after, Place, places_from}
+use Rattle.py_imports.specs.Statement.{is_comment, significant, may_start_after, TokenPlace, places_from}
 use Rattle.py_imports.specs.Grammar.{Terminal, import_word, from_word, as_word, name, dot, comma, star, opening, closing, other, terminal_of, begins_import, is_keyword}
 use Rattle.py_imports.specs.Binds.{terminal_in, nothing, BindEach, Binds}
 use Rattle.py_imports.specs.Private.Bindings.{is_first_word}
@@ -70,7 +70,7 @@ none_from : (line : LogicalLine) (before ts : List Token) → list_any (is_first
 none_from line before [] e = refl
 none_from line before (t ∷ ts) e = by_start (none_from line (before ++ t ∷ []) ts (second_fails (is_first_word line.text t) (list_any (is_first_word line.text) ts) e)) (may_start_after before) refl
   where
-    here : Place
+    here : TokenPlace
     here = record { before = before; token = t; after = ts }
 
     begins_no_import : (us : List Terminal) → begins_import (terminal_in line.text t ∷ us) ≡ false

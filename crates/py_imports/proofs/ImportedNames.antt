@@ -1,7 +1,7 @@
 -- What an import statement imports whose names are words.
 use Rattle.std.proofs.Common.{◌≡◌, ℕ, List, [], ◌∷◌, ◌++◌, map, refl, sym, ap, ◌∙◌, subst, append-nil}
 use Rattle.py_imports.specs.Grammar.{Terminal, import_word, as_word, name, comma, closing, spelling, modules, identifiers, Item, IsItem, plain, renamed, AreItems, last, then, AreBracketed, closed, closed_after_comma, AreNames, plain_names, bracketed, all_names, Imported, whole_module, attribute_of, IsImport, import_statement, from_statement}
-use Rattle.py_imports.specs.Names.{HaveNames, IsName, IsModuleName, IsRelativeName, IsAlias, whole, all, part, AreNamed}
+use Rattle.py_imports.specs.Names.{HaveNames, IsName, IsModuleName, IsRelativeName, IsAlias, IsNameItem, whole, all, part, AreNamed}
 
 parts : (a b : List Terminal) → HaveNames (a ++ b) → HaveNames a × HaveNames b
 parts [] b h = (tt, h)
@@ -19,10 +19,6 @@ module_item ts i (renamed _ _ path w _ cut of is) h =
     subst IsModuleItem (sym is) (record { path = record { path = path; is = of; names = found.0; spell = refl }; alias = found.1.1.0 })
 
 -- an item of a `from` statement
-record IsNameItem (i : Item) : Type 0 where
-  path : IsName i.path
-  alias : IsAlias i.alias
-
 one_name : (ts : List Terminal) (w : List ℕ) → ts ≡ name w ∷ [] → HaveNames ts → IsName (spelling ts)
 one_name ts w is h = subst IsName (sym (ap spelling is ∙ append-nil w)) (subst HaveNames is h).0
 

@@ -3,9 +3,9 @@ use Rattle.std.proofs.Common.{◌≡◌, ℕ, Bool, true, false, not, ◌||◌, 
 use Rattle.std.specs.Prelude.{nat_eq}
 use Rattle.std.specs.List.{list_any, starts_with}
 use Rattle.std.proofs.lemmas.Bool.{and_parts, or_parts, or_cases, both_ways}
-use Rattle.py_imports.specs.Action.{action_word, begins_with_word_byte, begins_with_phrase, begins_with_action, says}
-use Rattle.py_imports.specs.declared.action.Action.{Action}
-use Rattle.py_imports.specs.declared.action.Action.TheVariants as action
+use Rattle.py_imports.specs.ActionComment.{action_word, begins_with_word_byte, begins_with_phrase, begins_with_action, says}
+use Rattle.py_imports.specs.declared.action_comment.ActionComment.{ActionComment}
+use Rattle.py_imports.specs.declared.action_comment.ActionComment.TheVariants as action
 
 -- the text begins with the phrase, byte by byte, and no ASCII letter, digit or `_` follows
 abbrev matches : List ℕ → List ℕ → Bool
@@ -34,7 +34,7 @@ stops (p ∷ ps) (b ∷ bs) rest h k =
     let parts = and_parts (nat_eq p b) (matches ps (bs ++ 59 ∷ rest)) k in
     rw (parts.0, stops ps bs rest (or_parts (nat_eq p 59) (has_byte 59 ps) h).1 parts.1)
 
-no_semicolons : (a : Action) → (has_byte 59 (codes "isort:" ++ action_word a) ≡ false) × (has_byte 59 (codes "isort: " ++ action_word a) ≡ false)
+no_semicolons : (a : ActionComment) → (has_byte 59 (codes "isort:" ++ action_word a) ≡ false) × (has_byte 59 (codes "isort: " ++ action_word a) ≡ false)
 no_semicolons action.SkipFile = (refl, refl)
 no_semicolons action.Skip = (refl, refl)
 no_semicolons action.Off = (refl, refl)
@@ -52,7 +52,7 @@ phrase_before : (phrase text rest : List ℕ) → has_byte 59 phrase ≡ false �
 phrase_before phrase text rest h k = phrase_matches phrase text ∙ stops phrase text rest h (sym (phrase_matches phrase (text ++ 59 ∷ rest)) ∙ k)
 
 -- an action that begins before a semicolon ends before it
-action_before : (a : Action) (text rest : List ℕ) → begins_with_action a (text ++ 59 ∷ rest) ≡ true → begins_with_action a text ≡ true
+action_before : (a : ActionComment) (text rest : List ℕ) → begins_with_action a (text ++ 59 ∷ rest) ≡ true → begins_with_action a text ≡ true
 action_before a text rest h =
     or_both _ _ _ _ (phrase_before (codes "isort:" ++ action_word a) text rest (no_semicolons a).0) (phrase_before (codes "isort: " ++ action_word a) text rest (no_semicolons a).1) h
 
@@ -60,10 +60,10 @@ action_before a text rest h =
 other_phrase : (phrase : List ℕ) (b : ℕ) (rest : List ℕ) → nat_eq 105 b ≡ false → begins_with_phrase (105 ∷ phrase) (b ∷ rest) ≡ true → ⊥
 other_phrase phrase b rest n k = both_ways _ n (and_parts (nat_eq 105 b) (matches phrase rest) (sym (phrase_matches (105 ∷ phrase) (b ∷ rest)) ∙ k)).0
 
-other_byte : (a : Action) (b : ℕ) (rest : List ℕ) → nat_eq 105 b ≡ false → begins_with_action a (b ∷ rest) ≡ true → ⊥
+other_byte : (a : ActionComment) (b : ℕ) (rest : List ℕ) → nat_eq 105 b ≡ false → begins_with_action a (b ∷ rest) ≡ true → ⊥
 other_byte a b rest n k = ⊎_elim (other_phrase (codes "sort:" ++ action_word a) b rest n) (other_phrase (codes "sort: " ++ action_word a) b rest n) (or_cases _ _ k)
 
-pub says_a_part : (a : Action) (text rest : List ℕ) → says a (text ++ (codes "; " ++ rest)) ≡ true → (says a text ≡ true) ⊎ (says a rest ≡ true)
+pub says_a_part : (a : ActionComment) (text rest : List ℕ) → says a (text ++ (codes "; " ++ rest)) ≡ true → (says a text ≡ true) ⊎ (says a rest ≡ true)
 says_a_part a [] rest h =
     ⊎_elim (λ k. absurd (other_byte a 59 (32 ∷ rest) refl k))
     (λ k. ⊎_elim (λ m. absurd (other_byte a 32 rest refl m)) (λ m. inr m) (or_cases (begins_with_action a (32 ∷ rest)) (says a rest) k))

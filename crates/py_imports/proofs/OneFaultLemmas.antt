@@ -4,29 +4,29 @@ use Rattle.py_lines.specs.LogicalLine.{LogicalLine}
 use Rattle.py_lines.specs.declared.fault.Fault.{Fault}
 use Rattle.py_lines.specs.declared.fault.FaultKind.TheVariants.{BadImport}
 use Rattle.py_imports.specs.Grammar.{begins_import, Imported, IsImport}
-use Rattle.py_imports.specs.Statement.{significant, Place, starts}
+use Rattle.py_imports.specs.Statement.{significant, TokenPlace, starts}
 use Rattle.py_imports.specs.Bound.{Bound}
 use Rattle.py_imports.specs.Binds.{terminals_at, bounds_at, BindsAt, nothing, imports, IsBadStart, BindEach, Binds, IsBadAt}
 use Rattle.py_imports.proofs.OneListLemmas.{one_import}
 
 -- a statement begins as an import statement does, or it doesn't
-begins_or_not : (line : LogicalLine) (p : Place) → begins_import (terminals_at line p) ≡ true → begins_import (terminals_at line p) ≡ false → ⊥
+begins_or_not : (line : LogicalLine) (p : TokenPlace) → begins_import (terminals_at line p) ≡ true → begins_import (terminals_at line p) ≡ false → ⊥
 begins_or_not line p e f = let g : true ≡ false = sym e ∙ f in cc
 
-one_where_nothing : (line : LogicalLine) (p : Place) (others : List Bound) → begins_import (terminals_at line p) ≡ false → BindsAt line p others → others ≡ []
+one_where_nothing : (line : LogicalLine) (p : TokenPlace) (others : List Bound) → begins_import (terminals_at line p) ≡ false → BindsAt line p others → others ≡ []
 one_where_nothing line p others n (nothing l q bs e f) = f
 one_where_nothing line p others n (imports l q bs is e i f) = absurd (begins_or_not line p e n)
 
-one_where_imports : (line : LogicalLine) (p : Place) (others : List Bound) (is : List Imported) → begins_import (terminals_at line p) ≡ true → IsImport (terminals_at line p) is → BindsAt line p others → others ≡ bounds_at line p is
+one_where_imports : (line : LogicalLine) (p : TokenPlace) (others : List Bound) (is : List Imported) → begins_import (terminals_at line p) ≡ true → IsImport (terminals_at line p) is → BindsAt line p others → others ≡ bounds_at line p is
 one_where_imports line p others is b i (nothing l q bs e f) = absurd (begins_or_not line p b e)
 one_where_imports line p others is b i (imports l q bs js e j f) = f ∙ ap (bounds_at line p) (one_import (terminals_at line p) js is j i)
 
 -- a statement binds one list
-one_at : (line : LogicalLine) (p : Place) (bounds others : List Bound) → BindsAt line p bounds → BindsAt line p others → bounds ≡ others
+one_at : (line : LogicalLine) (p : TokenPlace) (bounds others : List Bound) → BindsAt line p bounds → BindsAt line p others → bounds ≡ others
 one_at line p bounds others (nothing l q bs e f) b = f ∙ sym (one_where_nothing line p others e b)
 one_at line p bounds others (imports l q bs is e i f) b = f ∙ sym (one_where_imports line p others is e i b)
 
-one_each : (line : LogicalLine) (ps : List Place) (bounds others : List Bound) → BindEach line ps bounds → BindEach line ps others → bounds ≡ others
+one_each : (line : LogicalLine) (ps : List TokenPlace) (bounds others : List Bound) → BindEach line ps bounds → BindEach line ps others → bounds ≡ others
 one_each line [] bounds others e f = e ∙ sym f
 one_each line (p ∷ ps) bounds others (first, rest, e, b, each) (head, tail, f, c, others_each) =
     e ∙ ap (λ x. x ++ rest) (one_at line p first head b c) ∙ ap (λ x. head ++ x) (one_each line ps rest tail each others_each) ∙ sym f
@@ -36,12 +36,12 @@ pub one_list : (line : LogicalLine) (bounds others : List Bound) → Binds line 
 one_list line bounds others b c = one_each line (starts (significant line.tokens)) bounds others b c
 
 -- a statement that binds a list isn't bad
-good_or_bad : (line : LogicalLine) (p : Place) (bounds : List Bound) → BindsAt line p bounds → IsBadStart line p → ⊥
+good_or_bad : (line : LogicalLine) (p : TokenPlace) (bounds : List Bound) → BindsAt line p bounds → IsBadStart line p → ⊥
 good_or_bad line p bounds (nothing l q bs e f) b = begins_or_not line p b.begins e
 good_or_bad line p bounds (imports l q bs is e i f) b = b.bad is i
 
 -- so none of the statements is bad where each binds a list
-all_good : (line : LogicalLine) (before : List Place) (start : Place) (later : List Place) (bounds : List Bound) → BindEach line (before ++ start ∷ later) bounds → IsBadStart line start → ⊥
+all_good : (line : LogicalLine) (before : List TokenPlace) (start : TokenPlace) (later : List TokenPlace) (bounds : List Bound) → BindEach line (before ++ start ∷ later) bounds → IsBadStart line start → ⊥
 all_good line [] start later bounds (first, rest, e, b, each) bad = good_or_bad line start first b bad
 all_good line (p ∷ before) start later bounds (first, rest, e, b, each) bad = all_good line before start later rest each bad
 
@@ -50,7 +50,7 @@ pub not_both : (line : LogicalLine) (bounds : List Bound) (fault : Fault) → Bi
 not_both line bounds fault b f = all_good line f.before f.start f.after bounds (subst (λ ps. BindEach line ps bounds) f.split b) f.bad
 
 -- two places, each the first bad one of the same list, are the same: the other one would stand among those that bind
-one_first : (line : LogicalLine) (before others : List Place) (start other : Place) (later after : List Place) (bounds more : List Bound) → before ++ start ∷ later ≡ others ++ other ∷ after → BindEach line before bounds → IsBadStart line start → BindEach line others more → IsBadStart line other → start ≡ other
+one_first : (line : LogicalLine) (before others : List TokenPlace) (start other : TokenPlace) (later after : List TokenPlace) (bounds more : List Bound) → before ++ start ∷ later ≡ others ++ other ∷ after → BindEach line before bounds → IsBadStart line start → BindEach line others more → IsBadStart line other → start ≡ other
 one_first line [] [] start other later after bounds more e good bad fine worse = let f : start ∷ later ≡ other ∷ after = e in cc
 one_first line [] (q ∷ others) start other later after bounds more e good bad (first, rest, g, b, each) worse =
     let f : start ∷ later ≡ q ∷ others ++ other ∷ after = e in

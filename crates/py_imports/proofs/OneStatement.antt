@@ -9,7 +9,7 @@ use Rattle.py_imports.specs.Bound.{bound_at}
 use Rattle.py_imports.specs.Binds.{Binds, BindEach, BindsAt, imports, bounds_at, terminals_at, terminal_in}
 use Rattle.py_imports.specs.Grammar.{Terminal, Imported, IsImport, begins_import}
 use Rattle.py_imports.specs.Shape.{terminals_of}
-use Rattle.py_imports.specs.Statement.{is_semicolon, is_colon_token, is_divider, depth_past, ends_in_divider, may_start_after, Place, places_from, starts, is_end, statement_at, significant}
+use Rattle.py_imports.specs.Statement.{is_semicolon, is_colon_token, is_divider, depth_past, ends_in_divider, may_start_after, TokenPlace, places_from, starts, is_end, statement_at, significant}
 
 no_divider_last : (d : ℕ) (t : Token) (ts : List Token) → list_any (λ u. is_divider u.kind) (t ∷ ts) ≡ false → ends_in_divider d (t ∷ ts) ≡ false
 no_divider_last d t [] h = ap (λ b. b && (d == 0)) (or_parts (is_divider t.kind) false h).0
@@ -41,7 +41,7 @@ no_end_in before (t ∷ ts) h =
     let parts = or_parts (is_divider t.kind) (list_any (λ u. is_divider u.kind) ts) h in
     rw ((or_parts (is_semicolon t.kind) (is_colon_token t.kind) parts.0).0, no_end_in (before ++ t ∷ []) ts parts.1)
 
-all_taken : (ps : List Place) → list_any is_end ps ≡ false → take_while (λ q. not (is_end q)) ps ≡ ps
+all_taken : (ps : List TokenPlace) → list_any is_end ps ≡ false → take_while (λ q. not (is_end q)) ps ≡ ps
 all_taken [] h = refl
 all_taken (p ∷ ps) h =
     let parts = or_parts (is_end p) (list_any is_end ps) h in
@@ -54,8 +54,8 @@ whole_statement t ts h = ap (map (λ p. p.token)) (all_taken (places_from [] (t 
 -- what the one statement of a line imports, the line binds
 pub binds_its_imports : (line : LogicalLine) (t : Token) (ts : List Token) (is : List Imported) → significant line.tokens ≡ t ∷ ts → list_any (λ u. is_divider u.kind) (t ∷ ts) ≡ false → begins_import (terminals_of line) ≡ true → IsImport (terminals_of line) is → Binds line (map (bound_at t.line (nat_lt 0 line.indent)) is)
 binds_its_imports line t ts is tokens dividers begins imported =
-    let p : Place = record { before = []; token = t; after = ts } in
+    let p : TokenPlace = record { before = []; token = t; after = ts } in
     let same : terminals_of line ≡ terminals_at line p = ap (map (terminal_in line.text)) (tokens ∙ sym (whole_statement t ts dividers)) in
     let at : BindsAt line p (bounds_at line p is) = imports line p (bounds_at line p is) is (sym (ap begins_import same) ∙ begins) (subst (λ (x : List Terminal). IsImport x is) same imported) refl in
-    subst (λ (ps : List Place). BindEach line ps (bounds_at line p is)) (sym (ap starts tokens ∙ one_start t ts dividers))
+    subst (λ (ps : List TokenPlace). BindEach line ps (bounds_at line p is)) (sym (ap starts tokens ∙ one_start t ts dividers))
     (bounds_at line p is, [], sym (append-nil (bounds_at line p is)), at, refl)

@@ -8,7 +8,7 @@ use Rattle.std.specs.List.{list_any, list_all, position, position_or_len}
 use Rattle.py_lines.specs.declared.token.Token.{Token}
 use Rattle.py_lines.specs.declared.token.TokKind.{TokKind}
 use Rattle.py_lines.specs.declared.token.TokKind.TheVariants as kind
-use Rattle.py_imports.specs.Statement.{is_comment, significant, is_semicolon, depth_past, depth_after_tokens, Place, places_from, is_end}
+use Rattle.py_imports.specs.Statement.{is_comment, significant, is_semicolon, depth_past, depth_after_tokens, TokenPlace, places_from, is_end}
 use Rattle.py_imports.specs.Private.Parsing.{up_to_semicolon}
 use Rattle.py_imports.specs.Shape.{terminals_of, begins_so, is_parenthesis, ends_with_opening, is_nothing, stands_well}
 use Rattle.py_lines.specs.LogicalLine.{LogicalLine}
@@ -97,7 +97,7 @@ ends_among : (before ts : List Token) → list_any is_end (places_from before ts
 ends_among before [] = refl
 ends_among before (t ∷ ts) = by_end (ends_among (before ++ t ∷ []) ts ∙ ap (λ d. nat_lt (length (up_to_semicolon d ts)) (length ts)) (depth_behind-snoc 0 before t)) (is_end here) refl
   where
-    here : Place
+    here : TokenPlace
     here = record { before = before; token = t; after = ts }
 
     by_end : list_any is_end (places_from (before ++ t ∷ []) ts) ≡ nat_lt (length (up_to_semicolon (depth_past (depth_after_tokens 0 before) t.kind) ts)) (length ts) → (b : Bool) → is_end here ≡ b → is_end here || list_any is_end (places_from (before ++ t ∷ []) ts) ≡ nat_lt (length (up_to_semicolon (depth_after_tokens 0 before) (t ∷ ts))) (length (t ∷ ts))

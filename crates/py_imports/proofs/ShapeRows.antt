@@ -7,16 +7,16 @@ use Rattle.py_lines.specs.declared.token.TokKind.TheVariants as kind
 use Rattle.py_lines.specs.declared.unit.UnitKind.TheVariants as unit_kind
 use Rattle.py_imports.specs.Statement.{places_from}
 use Rattle.py_imports.specs.Shape.{stands_first, stands_well}
-use Rattle.py_imports.specs.Action.{says}
-use Rattle.py_imports.specs.declared.action.Action.{Action}
-use Rattle.py_imports.specs.declared.action.Action.TheVariants as action
+use Rattle.py_imports.specs.ActionComment.{says}
+use Rattle.py_imports.specs.declared.action_comment.ActionComment.{ActionComment}
+use Rattle.py_imports.specs.declared.action_comment.ActionComment.TheVariants as action
 
 -- a comment, and what it is asked for
-record Row : Type 0 where
-  action : Action
+record CommentRow : Type 0 where
+  action : ActionComment
   text : List ℕ
 
-abbrev row : Action → List ℕ → Row
+abbrev row : ActionComment → List ℕ → CommentRow
 row action text = record { action = action; text = text }
 
 comments_say : list_all (λ r. says r.action r.text) (

@@ -8,7 +8,7 @@ use Rattle.py_lines.specs.declared.fault.FaultKind.TheVariants.{BadImport}
 use Rattle.py_lines.specs.declared.token.Token.{Token}
 use Rattle.py_lines.specs.declared.token.TokKind.TheVariants as kind
 use Rattle.py_imports.specs.Grammar.{Terminal, terminal_of, import_word, from_word, begins_import, modules, spelling, IsRelativeModule, Item, AreItems, AreNames, whole_module, attribute_of, Imported, IsImport, import_statement, from_statement}
-use Rattle.py_imports.specs.Statement.{significant, is_semicolon, depth_past, Place}
+use Rattle.py_imports.specs.Statement.{significant, is_semicolon, depth_past, TokenPlace}
 use Rattle.py_imports.specs.Private.Parsing.{up_to_semicolon}
 use Rattle.py_imports.proofs.EndLemmas.{statement_is}
 use Rattle.py_imports.specs.Bound.{bound_of, bound_at}
@@ -70,7 +70,7 @@ up_to_semicolon-name : (t : Token) (ts : List Token) → is_semicolon t.kind ≡
 up_to_semicolon-name t ts e d = rw (e, d) refl
 
 -- no import statement starts with this token
-pub no_import : (line : LogicalLine) (p : Place) → ((ts : List Terminal) → begins_import (terminal_in line.text p.token ∷ ts) ≡ false) → begins_import (terminals_at line p) ≡ false
+pub no_import : (line : LogicalLine) (p : TokenPlace) → ((ts : List Terminal) → begins_import (terminal_in line.text p.token ∷ ts) ≡ false) → begins_import (terminals_at line p) ≡ false
 no_import line p h = ap (λ ts. begins_import (map (terminal_in line.text) ts)) (statement_is p) ∙ by_end (is_semicolon p.token.kind && (0 == 0)) refl
   where
     by_end : (b : Bool) → (is_semicolon p.token.kind && (0 == 0)) ≡ b → begins_import (map (terminal_in line.text) (up_to_semicolon 0 (p.token ∷ p.after))) ≡ false
@@ -78,11 +78,11 @@ no_import line p h = ap (λ ts. begins_import (map (terminal_in line.text) ts)) 
     by_end false e = rw e (h (map (terminal_in line.text) (up_to_semicolon (depth_past 0 p.token.kind) p.after)))
 
 -- a token that begins no import statement binds nothing
-pub binds_none : (line : LogicalLine) (p : Place) (old : List Binding) → ((ts : List Terminal) → begins_import (terminal_in line.text p.token ∷ ts) ≡ false) → BindsMore line p old old
+pub binds_none : (line : LogicalLine) (p : TokenPlace) (old : List Binding) → ((ts : List Terminal) → begins_import (terminal_in line.text p.token ∷ ts) ≡ false) → BindsMore line p old old
 binds_none line p old h = record { bounds = []; binds = nothing line p [] (no_import line p h) refl; adds = sym (append-nil (map bound_of old)) }
 
 -- the statement that starts with a word
-pub started_by_word : (line : LogicalLine) (p : Place) (f : Form) (rest : List Terminal) → p.token.kind ≡ kind.Name → ((ts : List Terminal) → terminal_in line.text p.token ∷ ts ≡ with_first_word f ts) → rest ≡ map (terminal_in line.text) (up_to_semicolon 0 p.after) → terminals_at line p ≡ with_first_word f rest
+pub started_by_word : (line : LogicalLine) (p : TokenPlace) (f : Form) (rest : List Terminal) → p.token.kind ≡ kind.Name → ((ts : List Terminal) → terminal_in line.text p.token ∷ ts ≡ with_first_word f ts) → rest ≡ map (terminal_in line.text) (up_to_semicolon 0 p.after) → terminals_at line p ≡ with_first_word f rest
 started_by_word line p f rest k h e =
     ap (map (terminal_in line.text)) (statement_is p ∙ up_to_semicolon-name p.token p.after (ap is_semicolon k) (ap (depth_past 0) k)) ∙ ap (λ x. terminal_in line.text p.token ∷ x) (sym e) ∙ h rest
 
@@ -91,7 +91,7 @@ begins_begun form.Import ts = refl
 begins_begun form.From ts = refl
 
 -- an import statement that was read binds what it says
-pub binds_import : (line : LogicalLine) (p : Place) (f : Form) (rest : List Terminal) (head : Head) (old new : List Binding) → terminals_at line p ≡ with_first_word f rest → head.line ≡ p.token.line → head.indented ≡ nat_lt 0 line.indent → BindsOne (IsImport (with_first_word f rest)) head old new → BindsMore line p old new
+pub binds_import : (line : LogicalLine) (p : TokenPlace) (f : Form) (rest : List Terminal) (head : Head) (old new : List Binding) → terminals_at line p ≡ with_first_word f rest → head.line ≡ p.token.line → head.indented ≡ nat_lt 0 line.indent → BindsOne (IsImport (with_first_word f rest)) head old new → BindsMore line p old new
 binds_import line p f rest head old new e l i r = record {
   bounds = map (bound_at p.token.line (nat_lt 0 line.indent)) r.imported;
   binds = imports line p _ r.imported (ap begins_import e ∙ begins_begun f rest) (subst (λ x. IsImport x r.imported) (sym e) r.are) refl;
@@ -99,7 +99,7 @@ binds_import line p f rest head old new e l i r = record {
 }
 
 -- and one that is outside the grammar is bad
-pub bad_import : (line : LogicalLine) (p : Place) (f : Form) (rest : List Terminal) → terminals_at line p ≡ with_first_word f rest → ((is : List Imported) → ¬ (IsImport (with_first_word f rest) is)) → IsBadStart line p
+pub bad_import : (line : LogicalLine) (p : TokenPlace) (f : Form) (rest : List Terminal) → terminals_at line p ≡ with_first_word f rest → ((is : List Imported) → ¬ (IsImport (with_first_word f rest) is)) → IsBadStart line p
 bad_import line p f rest e bad = record { begins = ap begins_import e ∙ begins_begun f rest; bad = λ is i. bad is (subst (λ x. IsImport x is) e i) }
 
 -- the token at a place
@@ -107,12 +107,12 @@ pub token_at_place : (tokens : List Token) (i : ℕ) (t u : Token) → i < lengt
 token_at_place tokens i t u within e = let f : Some (get_or tokens i t) ≡ Some u = sym (slice_get-get_or tokens i t within) ∙ e in cc
 
 -- the statement that starts at the token of a place, where its word begins an import statement
-pub begun_word : (line : LogicalLine) (place end : ℕ) (p : Place) (f : Form) (word : List ℕ) (none : Token) → place < length line.tokens → IsPlaceAt line.tokens place p → word ≡ slice_range line.text p.token.start p.token.stop → ((ts : List Terminal) → terminal_of (get_or line.tokens place none).kind word ∷ ts ≡ with_first_word f ts) → (get_or line.tokens place none).kind ≡ kind.Name → significant (take (end - (place + 1)) (drop (place + 1) line.tokens)) ≡ up_to_semicolon 0 (significant (drop (place + 1) line.tokens)) → terminals_at line p ≡ with_first_word f (map (terminal_in line.text) (significant (take (end - (place + 1)) (drop (place + 1) line.tokens))))
+pub begun_word : (line : LogicalLine) (place end : ℕ) (p : TokenPlace) (f : Form) (word : List ℕ) (none : Token) → place < length line.tokens → IsPlaceAt line.tokens place p → word ≡ slice_range line.text p.token.start p.token.stop → ((ts : List Terminal) → terminal_of (get_or line.tokens place none).kind word ∷ ts ≡ with_first_word f ts) → (get_or line.tokens place none).kind ≡ kind.Name → significant (take (end - (place + 1)) (drop (place + 1) line.tokens)) ≡ up_to_semicolon 0 (significant (drop (place + 1) line.tokens)) → terminals_at line p ≡ with_first_word f (map (terminal_in line.text) (significant (take (end - (place + 1)) (drop (place + 1) line.tokens))))
 begun_word line place end p f word none within h w begins name upto =
     let e : get_or line.tokens place none ≡ p.token = token_at_place line.tokens place none p.token within h.0 in
     started_by_word line p f _ (ap (λ (x : Token). x.kind) (sym e) ∙ name) (λ ts. ap (λ (x : Token). terminal_of x.kind (slice_range line.text p.token.start p.token.stop) ∷ ts) (sym e) ∙ ap (λ v. terminal_of (get_or line.tokens place none).kind v ∷ ts) (sym w) ∙ begins ts) (ap (map (terminal_in line.text)) (upto ∙ ap (up_to_semicolon 0) (sym h.1)))
 
 -- why the items of a statement weren't bound, the statement wasn't
-pub refuses_import : (line : LogicalLine) (p : Place) (f : Form) (rest : List Terminal) (Are : List Imported → Type 0) (fault : Fault) (e : ImportError) → terminals_at line p ≡ with_first_word f rest → AreSameLists (IsImport (with_first_word f rest)) Are → fault ≡ record { kind = BadImport; offset = line.offset + p.token.start; line = p.token.line } → RefusesItems Are fault e → RefusesAt line p e
+pub refuses_import : (line : LogicalLine) (p : TokenPlace) (f : Form) (rest : List Terminal) (Are : List Imported → Type 0) (fault : Fault) (e : ImportError) → terminals_at line p ≡ with_first_word f rest → AreSameLists (IsImport (with_first_word f rest)) Are → fault ≡ record { kind = BadImport; offset = line.offset + p.token.start; line = p.token.line } → RefusesItems Are fault e → RefusesAt line p e
 refuses_import line p f rest Are fault error.Memory at same place r = tt
 refuses_import line p f rest Are fault (error.Fault other) at same place r = (bad_import line p f rest at (λ is i. r.1 is (same.to is i)), r.0 ∙ place)

@@ -5,7 +5,7 @@ use Rattle.py_lines.specs.declared.token.Token.{Token}
 use Rattle.py_lines.specs.declared.fault.Fault.{Fault}
 use Rattle.py_lines.specs.declared.fault.FaultKind.TheVariants.{BadImport}
 use Rattle.py_imports.specs.Grammar.{Terminal, terminal_of, begins_import, Imported, IsImport}
-use Rattle.py_imports.specs.Statement.{significant, Place, starts, statement_at}
+use Rattle.py_imports.specs.Statement.{significant, TokenPlace, starts, statement_at}
 use Rattle.py_imports.specs.Bound.{Bound, bound_at}
 use Rattle.py_imports.specs.declared.error.ImportError.{ImportError}
 use Rattle.py_imports.specs.declared.error.ImportError.TheVariants as import
@@ -15,28 +15,28 @@ abbrev pub terminal_in : List ℕ → Token → Terminal
 terminal_in text t = terminal_of t.kind (slice_range text t.start t.stop)
 
 -- the statement that starts here, as the import grammar sees it
-abbrev pub terminals_at : LogicalLine → Place → List Terminal
+abbrev pub terminals_at : LogicalLine → TokenPlace → List Terminal
 terminals_at line p = map (terminal_in line.text) (statement_at p)
 
 -- what the import grammar binds by the statement that starts here
-abbrev pub bounds_at : LogicalLine → Place → List Imported → List Bound
+abbrev pub bounds_at : LogicalLine → TokenPlace → List Imported → List Bound
 bounds_at line p is = map (bound_at p.token.line (nat_lt 0 line.indent)) is
 
 -- what the statement that starts here binds: nothing if it's no import statement, else what the grammar says
-pub data BindsAt : LogicalLine → Place → List Bound → Type 0 where
-  nothing : (line : LogicalLine) (p : Place) (bounds : List Bound) → begins_import (terminals_at line p) ≡ false
+pub data BindsAt : LogicalLine → TokenPlace → List Bound → Type 0 where
+  nothing : (line : LogicalLine) (p : TokenPlace) (bounds : List Bound) → begins_import (terminals_at line p) ≡ false
       → bounds ≡ [] → BindsAt line p bounds
-  imports : (line : LogicalLine) (p : Place) (bounds : List Bound) (is : List Imported)
+  imports : (line : LogicalLine) (p : TokenPlace) (bounds : List Bound) (is : List Imported)
       → begins_import (terminals_at line p) ≡ true → IsImport (terminals_at line p) is → bounds ≡ bounds_at line p is
       → BindsAt line p bounds
 
 -- an import statement outside the grammar starts here
-pub record IsBadStart (line : LogicalLine) (p : Place) : Type 0 where
+pub record IsBadStart (line : LogicalLine) (p : TokenPlace) : Type 0 where
   pub begins : begins_import (terminals_at line p) ≡ true
   pub bad : (is : List Imported) → ¬ (IsImport (terminals_at line p) is)
 
 -- what the statements bind that start at these places, none of them bad, in order
-abbrev pub BindEach : LogicalLine → List Place → List Bound → Type 0
+abbrev pub BindEach : LogicalLine → List TokenPlace → List Bound → Type 0
 BindEach line [] bounds = bounds ≡ []
 BindEach line (p ∷ ps) bounds =
     (first : List Bound) × (others : List Bound) × (bounds ≡ first ++ others) × BindsAt line p first × BindEach line ps others
@@ -47,9 +47,9 @@ Binds line bounds = BindEach line (starts (significant line.tokens)) bounds
 
 -- the fault of a logical line: its first bad statement
 pub record IsBadAt (line : LogicalLine) (fault : Fault) : Type 0 where
-  pub before : List Place
-  pub start : Place
-  pub after : List Place
+  pub before : List TokenPlace
+  pub start : TokenPlace
+  pub after : List TokenPlace
   pub bounds : List Bound
   pub split : starts (significant line.tokens) ≡ before ++ start ∷ after
   pub good : BindEach line before bounds

@@ -1,5 +1,5 @@
 -- The definitions that contracts cite.
-pub mod Action
+pub mod ActionComment
 pub mod Binds
 pub mod Bound
 pub mod Declaration

@@ -6,7 +6,7 @@ use Rattle.py_lines.specs.Character.{is_digit}
 use Rattle.py_lines.specs.Piece.{begins}
 use Rattle.py_lines.specs.PieceGrammar.{IsWord}
 use Rattle.py_lines.specs.Words.{Word}
-use Rattle.py_imports.specs.Grammar.{Terminal, name, terminal_of, is_keyword, IsModule, IsRelativeModule, spelling, Imported}
+use Rattle.py_imports.specs.Grammar.{Terminal, name, terminal_of, is_keyword, IsModule, IsRelativeModule, spelling, Item, Imported}
 use Rattle.py_imports.specs.Statement.{is_comment}
 
 -- words without the comments among them, as the import grammar sees them
@@ -50,6 +50,11 @@ pub record IsRelativeName (text : List ℕ) : Type 0 where
 abbrev pub IsAlias : Option (List ℕ) → Type 0
 IsAlias None = Unit {0}
 IsAlias (Some alias) = IsName alias
+
+-- an item of a `from` statement whose names are words
+pub record IsNameItem (i : Item) : Type 0 where
+  pub path : IsName i.path
+  pub alias : IsAlias i.alias
 
 -- what an import statement imports whose names are words: a module, all names of one, or one of its names
 pub data IsNamed (i : Imported) : Type 0 where

@@ -1,4 +1,4 @@
--- Whether a logical line can be sorted: its shape. Python Language Reference, 7.11; isort documentation, "Action
+-- Whether a logical line can be sorted: its shape. Python Language Reference, 7.11; isort documentation, "ActionComment
 -- Comments".
 use Rattle.std.specs.Prelude.{◌≡◌, ℕ, nat_eq, ◌+◌, ◌==◌, Bool, true, false, not, ◌&&◌, ◌||◌, Option, None, Some, List, [], ◌∷◌, map, slice_get, slice_range, if◌then◌else◌}
 use Rattle.std.specs.List.{list_any, list_all, starts_with}
@@ -8,12 +8,12 @@ use Rattle.py_lines.specs.Token.{is_operator_where}
 use Rattle.py_lines.specs.declared.token.TokKind.{TokKind}
 use Rattle.py_lines.specs.declared.token.Token.{Token}
 use Rattle.py_lines.specs.declared.unit.UnitKind.TheVariants as unit_kind
-use Rattle.py_imports.specs.Action.{says}
+use Rattle.py_imports.specs.ActionComment.{says}
 use Rattle.py_imports.specs.Binds.{terminal_in}
 use Rattle.py_imports.specs.Declaration.{is_code}
 use Rattle.py_imports.specs.Grammar.{Terminal, begins_import, Imported, IsImport}
-use Rattle.py_imports.specs.Statement.{is_comment, significant, Place, places_from, is_end}
-use Rattle.py_imports.specs.declared.action.Action.TheVariants as action
+use Rattle.py_imports.specs.Statement.{is_comment, significant, TokenPlace, places_from, is_end}
+use Rattle.py_imports.specs.declared.action_comment.ActionComment.TheVariants as action
 use Rattle.py_imports.specs.declared.shape.Shape.{Shape}
 use Rattle.py_imports.specs.declared.shape.Shape.TheVariants as shape
 
@@ -54,7 +54,7 @@ is_nothing [] = true
 is_nothing (t ∷ ts) = false
 
 -- a comment is the last token, or stands directly after `(`
-abbrev pub stands_well : Place → Bool
+abbrev pub stands_well : TokenPlace → Bool
 stands_well p = not (is_comment p.token.kind) || is_nothing p.after || ends_with_opening p.before
 
 -- the token is a comment of this text that says `skip`

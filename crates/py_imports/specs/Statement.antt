@@ -41,24 +41,24 @@ may_start_after [] = true
 may_start_after (t ∷ ts) = ends_in_divider 0 (t ∷ ts)
 
 -- a place in a list of tokens: a token, with what stands before and after it
-pub record Place : Type 0 where
+pub record TokenPlace : Type 0 where
   pub before : List Token
   pub token : Token
   pub after : List Token
 
 -- the places of tokens that stand after these
-abbrev pub places_from : List Token → List Token → List Place
+abbrev pub places_from : List Token → List Token → List TokenPlace
 places_from before [] = []
 places_from before (t ∷ ts) = record { before = before; token = t; after = ts } ∷ places_from (before ++ t ∷ []) ts
 
 -- the places at which statements start, in order
-abbrev pub starts : List Token → List Place
+abbrev pub starts : List Token → List TokenPlace
 starts tokens = filter (λ p. may_start_after p.before) (places_from [] tokens)
 
 -- whether a `;` at depth 0 stands at this place
-abbrev pub is_end : Place → Bool
+abbrev pub is_end : TokenPlace → Bool
 is_end p = is_semicolon p.token.kind && (depth_after_tokens 0 p.before == 0)
 
 -- the tokens of the statement that starts here: those before the first `;` at depth 0, or all
-abbrev pub statement_at : Place → List Token
+abbrev pub statement_at : TokenPlace → List Token
 statement_at p = map (λ q. q.token) (take_while (λ q. not (is_end q)) (places_from [] (p.token ∷ p.after)))

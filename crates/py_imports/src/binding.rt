@@ -21,7 +21,7 @@ pub struct Binding {
 }
 
 /// The text in memory of its own, if there is one.
-pub(crate) fn owned(alloc: Global, text: Option<&str>) -> Result<Option<String>, AllocError>
+pub(crate) fn copy_of_text(alloc: Global, text: Option<&str>) -> Result<Option<String>, AllocError>
     ensures { IfOk result (λ copy. option_map string_bytes copy ≡ option_map (λ t. t.now) text.entry) }
 {
     match text {
@@ -64,8 +64,8 @@ impl Binding {
             line: self.line,
             indented: self.indented,
             module_name: self.module_name.clone()?,
-            attribute_name: owned(alloc, self.attribute_name.as_deref())?,
-            alias_name: owned(alloc, self.alias_name.as_deref())?,
+            attribute_name: copy_of_text(alloc, self.attribute_name.as_deref())?,
+            alias_name: copy_of_text(alloc, self.alias_name.as_deref())?,
         })
     }
 }

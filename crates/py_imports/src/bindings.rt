@@ -1,18 +1,18 @@
 //! What the import statements of a logical line bind.
-ghost use Rattle.std.specs.Prelude.{◌≡◌, ◌<◌, ◌+◌, Some, false, [], ◌∷◌, length, map, slice_get, codes, IfOk, OnOk, IfErr, string_bytes};
+ghost use Rattle.std.specs.Prelude.{◌≡◌, ◌<◌, ◌+◌, Some, false, [], ◌∷◌, ◌++◌, length, map, slice_get, codes, IfOk, OnOk, IfErr, string_bytes};
 ghost use Rattle.std.specs.List.{list_any};
 ghost use Rattle.std.specs.Str.{bytes_eq};
 ghost use Rattle.py_lines.specs.Lines.{line_in};
 ghost use Rattle.py_lines.specs.declared.fault.FaultKind.TheVariants.{BadImport};
 ghost use Rattle.py_lines.specs.declared.token.Token.{Token};
 ghost use Rattle.py_imports.specs.Grammar.{begins_import};
-ghost use Rattle.py_imports.specs.Statement.{Place};
+ghost use Rattle.py_imports.specs.Statement.{TokenPlace};
 ghost use Rattle.py_imports.specs.Binds.{terminal_in, Binds, Refuses};
 ghost use Rattle.py_imports.specs.Bound.{bound_of, bound_at};
 ghost use Rattle.py_imports.specs.Private.Items.{item_imported, AreLeft};
 ghost use Rattle.py_imports.specs.Private.Bindings.{is_first_word, statement_fault, BindsOne, RefusesItems, BindsMoreAt, RefusesAt, IsPlaceAt};
 
-use crate::binding::{Binding, owned};
+use crate::binding::{Binding, copy_of_text};
 use crate::error::ImportError;
 use crate::items::{BadStatement, ImportItem, ImportItems, form_of};
 use crate::statement::{depth_past, divides, statement_end};
@@ -28,19 +28,26 @@ struct Head {
     indented: bool,
 }
 
-/// The binding of an item.
-fn binding_of(alloc: Global, head: Head, item: ImportItem<'_>) -> Result<Binding, AllocError>
-    ensures { IfOk result (λ b. bound_of b ≡ bound_at head.line head.indented (item_imported item.entry)) }
+/// Puts the binding of an item after `bindings`.
+fn push_binding(
+    alloc: Global,
+    head: Head,
+    item: ImportItem<'_>,
+    bindings: &mut Vec<Binding>,
+) -> Result<(), AllocError>
+    ensures { OnOk result (map bound_of bindings.new.items
+        ≡ map bound_of bindings.old.items ++ bound_at head.line head.indented (item_imported item.entry) ∷ []) }
 {
     let mut module_name = String::new(alloc);
     item.module.push_onto(&mut module_name)?;
-    Ok(Binding {
+    bindings.push(Binding {
         line: head.line,
         indented: head.indented,
         module_name,
-        attribute_name: owned(alloc, item.attribute)?,
-        alias_name: owned(alloc, item.alias)?,
-    })
+        attribute_name: copy_of_text(alloc, item.attribute)?,
+        alias_name: copy_of_text(alloc, item.alias)?,
+    })?;
+    Ok(())
 }
 
 /// Puts the bindings of a statement's items after `bindings`; or answers the fault, where it isn't in the grammar.
@@ -56,7 +63,7 @@ fn bind_items(
 {
     'items: loop {
         match items.next() {
-            Ok(Some(item)) => bindings.push(binding_of(alloc, head, item)?)?,
+            Ok(Some(item)) => push_binding(alloc, head, item, bindings)?,
             Ok(None) => return Ok(()),
             Err(BadStatement) => return Err(ImportError::Fault(fault)),
         }
@@ -85,7 +92,7 @@ fn bind_statement(
 ) -> Result<(), ImportError>
     requires { place < length unit.now.tokens.now }
     ensures ok { OnOk result (BindsMoreAt (line_in unit.now) place bindings.old.items bindings.new.items) }
-    ensures err { IfErr result (λ e. (p : Place) → IsPlaceAt unit.now.tokens.now place p → RefusesAt (line_in unit.now) p e) }
+    ensures err { IfErr result (λ e. (p : TokenPlace) → IsPlaceAt unit.now.tokens.now place p → RefusesAt (line_in unit.now) p e) }
 {
     let token = unit.tokens[place];
     let Some(form) = form_of(token.kind, unit.word(place)) else {

@@ -3,7 +3,7 @@ ghost use Rattle.std.specs.Prelude.{◌≡◌};
 ghost use Rattle.py_imports.specs.declared.error.ImportError.TheVariants.{Memory};
 
 use py_lines::Fault;
-use std::alloc::{AllocError, AllocFailed};
+use std::alloc::AllocError;
 use thiserror::Error;
 
 /// Why a logical line gave no bindings.
@@ -21,14 +21,6 @@ impl From<AllocError> for ImportError {
     ghost from_gives = { λ _ e. e ≡ Memory };
 
     fn from(_error: AllocError) -> ImportError {
-        ImportError::Memory
-    }
-}
-
-impl<T: Drop> From<AllocFailed<T>> for ImportError {
-    ghost from_gives = { λ _ e. e ≡ Memory };
-
-    fn from(_error: AllocFailed<T>) -> ImportError {
         ImportError::Memory
     }
 }

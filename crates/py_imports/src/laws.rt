@@ -14,9 +14,9 @@ ghost use Rattle.py_imports.specs.Bound.{Bound, bound_at};
 ghost use Rattle.py_imports.specs.Names.{AreNamed, HaveNames, terminals_in};
 ghost use Rattle.py_imports.specs.Shape.{terminals_of};
 ghost use Rattle.py_imports.specs.Statement.{is_divider, significant};
-ghost use Rattle.py_imports.specs.Action.{says};
+ghost use Rattle.py_imports.specs.ActionComment.{says};
 ghost use Rattle.py_imports.specs.Binds.{Binds, IsBadAt, BindsOrIsBad};
-ghost use Rattle.py_imports.specs.declared.action.Action.{Action};
+ghost use Rattle.py_imports.specs.declared.action_comment.ActionComment.{ActionComment};
 
 use py_lines::laws::tokens_are_words;
 
@@ -62,6 +62,6 @@ pub fn one_statement_binds_its_imports()
 /// Two texts with `; ` between them say no action that neither of them says. So what comments say when they are joined, one
 /// of them says.
 pub fn joined_texts_say_no_more()
-    ensures { (a : Action) (text rest : List ℕ)
+    ensures { (a : ActionComment) (text rest : List ℕ)
         → says a (text ++ (codes "; " ++ rest)) ≡ true → (says a text ≡ true) ⊎ (says a rest ≡ true) }
 {}

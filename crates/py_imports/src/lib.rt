@@ -1,7 +1,7 @@
 //! The import statements of Python's logical lines, and what they bind.
 #![tactic(auto)]
 
-mod action;
+mod action_comment;
 mod binding;
 mod bindings;
 mod declaration;
@@ -13,9 +13,9 @@ mod lexemes;
 mod shape;
 mod statement;
 
-pub use action::{Action, says};
+pub use action_comment::{ActionComment, says};
 pub use binding::Binding;
 pub use bindings::{bindings_of, has_first_word};
 pub use declaration::is_declaration;
 pub use error::ImportError;
-pub use shape::{Shape, shape_of};
+pub use shape::{Shape, mark_len, shape_of};

@@ -7,7 +7,7 @@ ghost use Rattle.py_imports.specs.Statement.{is_comment, significant, places_fro
 ghost use Rattle.py_imports.specs.Shape.{mark_len, begins_so, is_parenthesis, stands_well, says_skip, IsSortable, HasShape};
 ghost use Rattle.py_imports.specs.Private.Places.{BeginsAt, begins_line};
 
-use crate::action::{Action, says};
+use crate::action_comment::{ActionComment, says};
 use crate::items::{Form, ImportItems, form_of};
 use crate::statement::statement_end;
 use py_lines::{TokKind, Token, Unit, UnitKind};
@@ -43,8 +43,8 @@ fn started_by_word(unit: &Unit<'_>) -> Option<(usize, Form)>
     Some((place, form))
 }
 
-/// The bytes of the byte order mark that the line begins with.
-fn mark_len(unit: &Unit<'_>) -> usize
+/// How many bytes of a byte order mark the line begins with.
+pub fn mark_len(unit: &Unit<'_>) -> usize
     ensures { result ≡ mark_len (line_in unit.now) }
 {
     if unit.text.as_bytes().starts_with(b"\xef\xbb\xbf") {
@@ -87,7 +87,7 @@ fn is_skip(unit: &Unit<'_>, place: usize) -> bool
     requires { place < length unit.now.tokens.now }
     ensures { (t : Token) → slice_get unit.now.tokens.now place ≡ Some t → result ≡ says_skip unit.now.text.now t }
 {
-    unit.tokens[place].kind.is_comment() && says(unit.word(place), Action::Skip)
+    unit.tokens[place].kind.is_comment() && says(unit.word(place), ActionComment::Skip)
 }
 
 /// Whether a comment says `skip`. It goes by places, since a unit gives the text of the token at a place.

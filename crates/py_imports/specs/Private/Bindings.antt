@@ -1,7 +1,7 @@
 -- What the program has bound of a statement.
 use Rattle.std.specs.Prelude.{◌≡◌, ℕ, ◌+◌, Bool, Some, List, [], ◌∷◌, ◌++◌, map, drop, slice_get}
 use Rattle.py_imports.specs.Grammar.{begins_import, Imported}
-use Rattle.py_imports.specs.Statement.{significant, Place}
+use Rattle.py_imports.specs.Statement.{significant, TokenPlace}
 use Rattle.py_imports.specs.Binds.{terminal_in, BindsAt, IsBadStart}
 use Rattle.py_imports.specs.Bound.{Bound, bound_at, bound_of}
 use Rattle.py_imports.specs.declared.binding.Binding.{Binding}
@@ -29,7 +29,7 @@ RefusesItems Are fault error.Memory = Unit {0}
 RefusesItems Are fault (error.Fault other) = (other ≡ fault) × ((is : List Imported) → ¬ (Are is))
 
 -- the place of a token in a list, up to what stands before it
-abbrev pub IsPlaceAt : List Token → ℕ → Place → Type 0
+abbrev pub IsPlaceAt : List Token → ℕ → TokenPlace → Type 0
 IsPlaceAt tokens i p = (slice_get tokens i ≡ Some p.token) × (p.after ≡ significant (drop (i + 1) tokens))
 
 -- the fault of a bad statement that starts with this token, in a line that begins at this byte of the text
@@ -37,16 +37,16 @@ abbrev pub statement_fault : ℕ → Token → Fault
 statement_fault offset t = record { kind = BadImport; offset = offset + t.start; line = t.line }
 
 -- what the statement that starts here binds was put after others
-pub record BindsMore (line : LogicalLine) (p : Place) (old new : List Binding) : Type 0 where
+pub record BindsMore (line : LogicalLine) (p : TokenPlace) (old new : List Binding) : Type 0 where
   pub bounds : List Bound
   pub binds : BindsAt line p bounds
   pub adds : map bound_of new ≡ map bound_of old ++ bounds
 
 -- the same of the statement that starts with the token at this place
 abbrev pub BindsMoreAt : LogicalLine → ℕ → List Binding → List Binding → Type 0
-BindsMoreAt line i old new = (p : Place) → IsPlaceAt line.tokens i p → BindsMore line p old new
+BindsMoreAt line i old new = (p : TokenPlace) → IsPlaceAt line.tokens i p → BindsMore line p old new
 
 -- why the statement that starts here wasn't bound
-abbrev pub RefusesAt : LogicalLine → Place → ImportError → Type 0
+abbrev pub RefusesAt : LogicalLine → TokenPlace → ImportError → Type 0
 RefusesAt line p error.Memory = Unit {0}
 RefusesAt line p (error.Fault fault) = IsBadStart line p × (fault ≡ statement_fault line.offset p.token)

@@ -5,4 +5,4 @@ use Rattle.py_imports.proofs.bindings.bind_items.Goals as goal
 pub items-preserved : goal.items-preserved
 items-preserved c =
     let first = rw c.in-Ok-Some.field-0-is at c.in-Ok-Some.ensures.item in
-    bound_one _ _ _ c.args.head _ _ _ _ c.in_ok-binding_of-in-Ok-Some.field-0 c.items.invariant first c.in_ok-push-in-Ok-Some.ensures.items c.in_ok-binding_of-in-Ok-Some.ensures
+    bound_one _ _ _ c.args.head _ _ _ _ c.items.invariant first c.in_ok-push_binding-in-Ok-Some.ensures

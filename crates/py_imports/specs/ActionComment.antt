@@ -3,11 +3,11 @@ use Rattle.std.specs.Prelude.{ℕ, nat_eq, ◌==◌, Bool, false, not, ◌&&◌,
 use Rattle.std.specs.Char.{is_ascii_alphanumeric}
 use Rattle.std.specs.List.{list_any, starts_with}
 use Rattle.std.specs.Str.{byte}
-use Rattle.py_imports.specs.declared.action.Action.{Action}
-use Rattle.py_imports.specs.declared.action.Action.TheVariants as action
+use Rattle.py_imports.specs.declared.action_comment.ActionComment.{ActionComment}
+use Rattle.py_imports.specs.declared.action_comment.ActionComment.TheVariants as action
 
 -- how an action is spelled
-abbrev pub action_word : Action → List ℕ
+abbrev pub action_word : ActionComment → List ℕ
 action_word action.SkipFile = codes "skip_file"
 action_word action.Skip = codes "skip"
 action_word action.Off = codes "off"
@@ -28,7 +28,7 @@ abbrev pub begins_with_phrase : List ℕ → List ℕ → Bool
 begins_with_phrase phrase text = starts_with nat_eq text phrase && not (begins_with_word_byte (drop (length phrase) text))
 
 -- the text begins with `isort:`, at most one space, and the action
-abbrev pub begins_with_action : Action → List ℕ → Bool
+abbrev pub begins_with_action : ActionComment → List ℕ → Bool
 begins_with_action a text =
     begins_with_phrase (codes "isort:" ++ action_word a) text || begins_with_phrase (codes "isort: " ++ action_word a) text
 
@@ -38,5 +38,5 @@ tails [] = [] ∷ []
 tails (b ∷ bs) = (b ∷ bs) ∷ tails bs
 
 -- the text says the action: somewhere in it `isort:`, at most one space, and the action begin
-abbrev pub says : Action → List ℕ → Bool
+abbrev pub says : ActionComment → List ℕ → Bool
 says a text = list_any (begins_with_action a) (tails text)

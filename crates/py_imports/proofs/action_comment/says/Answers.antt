@@ -1,6 +1,6 @@
 -- The action begins at no place passed.
 use Rattle.py_imports.proofs.ActionLemmas.{passes_place, says_here, says_nowhere}
-use Rattle.py_imports.proofs.action.says.Goals as goal
+use Rattle.py_imports.proofs.action_comment.says.Goals as goal
 
 pub places-preserved : goal.places-preserved
 places-preserved c = passes_place c.args.action c.as_bytes-bytes.result.now c.places.place c.places-test.true c.places.invariant c.if-begins_with_action.ensures

@@ -1,10 +1,10 @@
 //! What comments ask of isort.
 ghost use Rattle.std.specs.Prelude.{◌≡◌};
-ghost use Rattle.py_imports.specs.Action.{is_word_byte, begins_with_word_byte, begins_with_phrase, begins_with_action, says};
+ghost use Rattle.py_imports.specs.ActionComment.{is_word_byte, begins_with_word_byte, begins_with_phrase, begins_with_action, says};
 
 /// What a comment can ask of isort (isort documentation, "Action Comments").
 #[derive(Clone, Copy, Debug, PartialEq, Eq)]
-pub enum Action {
+pub enum ActionComment {
     /// `skip_file`: leave the whole file as it is.
     SkipFile,
     /// `skip`: leave this import statement where it is.
@@ -17,19 +17,19 @@ pub enum Action {
     Split,
 }
 
-impl Action {
-    ghost use Rattle.py_imports.specs.Action.{action_word};
+impl ActionComment {
+    ghost use Rattle.py_imports.specs.ActionComment.{action_word};
 
     /// The word that asks for the action.
     fn spelling(self) -> &'static str
         ensures { result.now ≡ action_word self }
     {
         match self {
-            Action::SkipFile => "skip_file",
-            Action::Skip => "skip",
-            Action::Off => "off",
-            Action::On => "on",
-            Action::Split => "split",
+            ActionComment::SkipFile => "skip_file",
+            ActionComment::Skip => "skip",
+            ActionComment::Off => "off",
+            ActionComment::On => "on",
+            ActionComment::Split => "split",
         }
     }
 }
@@ -62,7 +62,7 @@ fn begins_with_phrase(text: &[u8], phrase: &str) -> bool
 }
 
 /// Whether the text begins with `isort:`, at most one space, and the action.
-fn begins_with_action(text: &[u8], action: Action) -> bool
+fn begins_with_action(text: &[u8], action: ActionComment) -> bool
     ensures { result ≡ begins_with_action action text.now }
 {
     let Some(rest) = text.strip_prefix(b"isort:") else {
@@ -78,7 +78,7 @@ fn begins_with_action(text: &[u8], action: Action) -> bool
 ///
 /// It does where the text holds, anywhere, `isort:`, then at most one space, then the action's word, and no ASCII
 /// letter, digit or `_` follows. So `isort: skip_file` doesn't say `skip`.
-pub fn says(text: &str, action: Action) -> bool
+pub fn says(text: &str, action: ActionComment) -> bool
     ensures { result ≡ says action text.now }
 {
     let bytes = text.as_bytes();

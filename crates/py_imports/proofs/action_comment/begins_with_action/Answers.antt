@@ -1,8 +1,8 @@
 -- After `isort:` come the action, or a space and the action.
 use Rattle.std.proofs.Common.{ap, ◌∙◌}
-use Rattle.py_imports.specs.Action.{begins_with_phrase}
+use Rattle.py_imports.specs.ActionComment.{begins_with_phrase}
 use Rattle.py_imports.proofs.ActionLemmas.{action_behind_space, action_behind_name}
-use Rattle.py_imports.proofs.action.begins_with_action.Goals as goal
+use Rattle.py_imports.proofs.action_comment.begins_with_action.Goals as goal
 
 pub returns-in-Some-strip_prefix : goal.returns-in-Some-strip_prefix
 returns-in-Some-strip_prefix c =
