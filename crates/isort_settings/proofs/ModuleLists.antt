@@ -1,4 +1,4 @@
--- Lists of modules: when two are the same, when one holds a text, and what a search of a sorted one finds.
+-- Lists of modules: when two are the same, and what a search of a sorted one finds.
 use Rattle.std.proofs.Common.{◌≡◌, ℕ, ◌+◌, ◌<◌, ◌≤◌, zero, suc, Bool, true, false, not, ◌&&◌, ◌||◌, List, [], ◌∷◌, map, length, drop, Option, Some, None, Result, Ok, Err, inl, inr, refl, sym, ◌∙◌, ap, arith, Bor, String, Global, string_bytes, bytes_eq, Equal}
 use Rattle.std.proofs.lemmas.Bool.{and_parts, cases_lt, not-true}
 use Rattle.std.proofs.lemmas.Cmp.{nat_list_cmp_total}
@@ -44,24 +44,19 @@ same_after xs ys i p q differ h k at_xs at_ys is =
 pub same_at_end : (xs ys : List (List ℕ)) (i : ℕ) → length xs ≤ i → length ys ≤ i → pointwise bytes_eq (drop i xs) (drop i ys) ≡ true
 same_at_end xs ys i h k = rw (drop_all i xs h, drop_all i ys k) refl
 
--- a list of texts holds a text just where one of its entries is the text
-pub holds-map : (text : List ℕ) (es : List (String Global)) → list_any (λ e. bytes_eq (string_bytes e) text) es ≡ holds (map string_bytes es) text
-holds-map text [] = refl
-holds-map text (e ∷ es) = ap (λ b. bytes_eq (string_bytes e) text || b) (holds-map text es)
-
 -- whether no text is below the one before it
 abbrev pub never_falls : List (List ℕ) → Bool
 never_falls [] = true
 never_falls (x ∷ []) = true
 never_falls (x ∷ y ∷ more) = not (is_lt (slice_cmp nat_cmp y x)) && never_falls (y ∷ more)
 
-abbrev Names : Type 0
-Names = List (Bor (List ℕ))
+abbrev BorrowedNames : Type 0
+BorrowedNames = List (Bor (List ℕ))
 
-abbrev texts : Names → List (List ℕ)
+abbrev texts : BorrowedNames → List (List ℕ)
 texts names = map (λ n. n.now) names
 
-no_fall : (names : Names) → never_falls (texts names) ≡ true → (k : ℕ) (d : Bor (List ℕ)) → suc k < length names
+no_fall : (names : BorrowedNames) → never_falls (texts names) ≡ true → (k : ℕ) (d : Bor (List ℕ)) → suc k < length names
     → is_lt (slice_cmp nat_cmp (slice_index_or names (suc k) d).now (slice_index_or names k d).now) ≡ false
 no_fall [] up k d h = absurd (omega (arith, h))
 no_fall (x ∷ []) up k d h = absurd (omega (arith, h))
@@ -72,19 +67,19 @@ or_true : (b : Bool) → (b || true) ≡ true
 or_true true = refl
 or_true false = refl
 
-holds_one : (names : Names) (text : List ℕ) (k : ℕ) → k < length names → ((d : Bor (List ℕ)) → slice_cmp nat_cmp (slice_index_or names k d).now text ≡ Equal)
+holds_one : (names : BorrowedNames) (text : List ℕ) (k : ℕ) → k < length names → ((d : Bor (List ℕ)) → slice_cmp nat_cmp (slice_index_or names k d).now text ≡ Equal)
     → holds (texts names) text ≡ true
 holds_one [] text k h equal = absurd (omega (arith, h))
 holds_one (x ∷ xs) text zero h equal = rw (sym (is_eq-slice_cmp x.now text), equal x) refl
 holds_one (x ∷ xs) text (suc k) h equal = rw (holds_one xs text k (omega (arith, h)) equal) (or_true _)
 
-holds_none : (names : Names) (text : List ℕ) → ((k : ℕ) (d : Bor (List ℕ)) → k < length names → is_eq (slice_cmp nat_cmp (slice_index_or names k d).now text) ≡ false)
+holds_none : (names : BorrowedNames) (text : List ℕ) → ((k : ℕ) (d : Bor (List ℕ)) → k < length names → is_eq (slice_cmp nat_cmp (slice_index_or names k d).now text) ≡ false)
     → holds (texts names) text ≡ false
 holds_none [] text other = refl
 holds_none (x ∷ xs) text other = rw (sym (is_eq-slice_cmp x.now text), other 0 x (omega arith)) (holds_none xs text (λ k d h. other (suc k) d (omega (arith, h))))
 
 -- what a binary search answers for a text
-pub search_finds : (names : Names) (text : List ℕ) (r : Result ℕ ℕ) → never_falls (texts names) ≡ true → IsSearchInRange r (length names)
+pub search_finds : (names : BorrowedNames) (text : List ℕ) (r : Result ℕ ℕ) → never_falls (texts names) ≡ true → IsSearchInRange r (length names)
     → IsBinarySearchResult (λ n. slice_cmp nat_cmp n.now text) names r → is_ok r ≡ holds (texts names) text
 search_finds names text (Ok i) up within equal = sym (holds_one names text i within equal)
 search_finds names text (Err i) up within place =

@@ -7,10 +7,10 @@ use Rattle.toml.specs.Data.{Members}
 use Rattle.isort_settings.specs.declared.key.SettingKey.{SettingKey}
 use Rattle.isort_settings.specs.declared.table_sections.Listed.{Listed}
 use Rattle.isort_settings.specs.OwnLists.{modules_of_lists}
-use Rattle.isort_settings.specs.TableSections.{own_list, own_names_in, sections_in, first_of}
+use Rattle.isort_settings.specs.TableSections.{own_list, own_names_in, sections_in, first_refused}
 use Rattle.isort_settings.specs.TableSections.Steps.{listed_value, lists_refused, bad_key, earliest}
 use Rattle.isort_settings.proofs.Names.{bytes_more}
-use Rattle.isort_settings.proofs.Refusals.{first_of-append}
+use Rattle.isort_settings.proofs.Refusals.{first_refused-append}
 
 -- the entries of an own list, none where it is refused
 abbrev list_or_none : Members → List ℕ → List (List ℕ)
@@ -31,17 +31,17 @@ lists_more ms names i name text lists new list within at same read put so_far =
 
 -- the first refused key, with one list more
 pub refused_more : (ms : Members) (names : List (String Global)) (i : ℕ) (name : String Global) (text : List ℕ) (bad one new : Option SettingKey)
-    → i < length names → name ≡ get_or names i name → text ≡ string_bytes name → option_map bad_key one ≡ first_of (lists_refused ms (text ∷ []))
-    → option_map bad_key new ≡ earliest (option_map bad_key bad) (option_map bad_key one) → option_map bad_key bad ≡ first_of (lists_refused ms (map string_bytes (take i names)))
-    → option_map bad_key new ≡ first_of (lists_refused ms (map string_bytes (take (i + 1) names)))
+    → i < length names → name ≡ get_or names i name → text ≡ string_bytes name → option_map bad_key one ≡ first_refused (lists_refused ms (text ∷ []))
+    → option_map bad_key new ≡ earliest (option_map bad_key bad) (option_map bad_key one) → option_map bad_key bad ≡ first_refused (lists_refused ms (map string_bytes (take i names)))
+    → option_map bad_key new ≡ first_refused (lists_refused ms (map string_bytes (take (i + 1) names)))
 refused_more ms names i name text bad one new within at same read chosen so_far =
     let before : List (List ℕ) = map string_bytes (take i names) in
     chosen
     ∙ ap (λ o. earliest o (option_map bad_key one)) so_far
-    ∙ ap (earliest (first_of (lists_refused ms before))) (read ∙ ap (λ t. first_of (lists_refused ms (t ∷ []))) same)
-    ∙ sym (first_of-append (lists_refused ms before) (lists_refused ms (string_bytes name ∷ [])))
-    ∙ ap first_of (sym (filter_map-append _ before (string_bytes name ∷ [])))
-    ∙ ap (λ ns. first_of (lists_refused ms ns)) (sym (bytes_more names i name within at))
+    ∙ ap (earliest (first_refused (lists_refused ms before))) (read ∙ ap (λ t. first_refused (lists_refused ms (t ∷ []))) same)
+    ∙ sym (first_refused-append (lists_refused ms before) (lists_refused ms (string_bytes name ∷ [])))
+    ∙ ap first_refused (sym (filter_map-append _ before (string_bytes name ∷ [])))
+    ∙ ap (λ ns. first_refused (lists_refused ms ns)) (sym (bytes_more names i name within at))
 
 -- one list more, by their number
 pub grown : (lists new : List (Vec (String Global) Global)) (list : Vec (String Global) Global) (i : ℕ) → new ≡ lists ++ list ∷ [] → length lists ≡ i → length new ≡ i + 1

@@ -34,15 +34,15 @@ place-push p i (x ∷ xs) y =
       | false ↦ place-push p (i + 1) xs y ∙ ap (λ n. option_or (position_from p (i + 1) xs) (cond (p y) (Some n) None)) (omega arith)
     ]
 
-abbrev Entry : Type 0
-Entry = Section × List (List ℕ)
+abbrev SectionList : Type 0
+SectionList = Section × List (List ℕ)
 
 -- the own section whose list is the first to hold a text
 own_holding : (i : ℕ) (lists : List (List (List ℕ))) (text : List ℕ)
     → section_holding (map (λ l. (Own l.0, l.1)) (enumerate_from i lists)) text ≡ option_map (λ n. Own n) (position_from (λ l. holds l text) i lists)
 own_holding i [] text = refl
 own_holding i (l ∷ ls) text =
-    elim (holds l text) as (λ b. option_map (λ (s : Entry). s.0) (cond b (Some (Own i, l)) (find (λ (s : Entry). holds s.1 text) (map (λ (k : ℕ × List (List ℕ)). (Own k.0, k.1)) (enumerate_from (i + 1) ls)))) ≡ option_map (λ n. Own n) (cond b (Some i) (position_from (λ k. holds k text) (i + 1) ls))) [
+    elim (holds l text) as (λ b. option_map (λ (s : SectionList). s.0) (cond b (Some (Own i, l)) (find (λ (s : SectionList). holds s.1 text) (map (λ (k : ℕ × List (List ℕ)). (Own k.0, k.1)) (enumerate_from (i + 1) ls)))) ≡ option_map (λ n. Own n) (cond b (Some i) (position_from (λ k. holds k text) (i + 1) ls))) [
       | true ↦ refl
       | false ↦ own_holding (i + 1) ls text
     ]
@@ -55,8 +55,8 @@ or_map f (Some x) p = refl
 pub own_lists_first : (v : Values) (text : List ℕ)
     → section_holding (lists_of v) text ≡ option_or (option_map (λ n. Own n) (position_from (λ l. holds l text) 0 v.own_lists)) (section_holding (five_lists_of v) text)
 own_lists_first v text =
-    ap (option_map (λ (s : Entry). s.0)) (find-append (λ (s : Entry). holds s.1 text) (own_lists_of v) (five_lists_of v))
-    ∙ or_map (λ (s : Entry). s.0) (find (λ (s : Entry). holds s.1 text) (own_lists_of v)) _
+    ap (option_map (λ (s : SectionList). s.0)) (find-append (λ (s : SectionList). holds s.1 text) (own_lists_of v) (five_lists_of v))
+    ∙ or_map (λ (s : SectionList). s.0) (find (λ (s : SectionList). holds s.1 text) (own_lists_of v)) _
     ∙ ap (λ o. option_or o (section_holding (five_lists_of v) text)) (own_holding 0 v.own_lists text)
 
 -- sections are the same by the one test where they are by the other

@@ -10,18 +10,18 @@ use Rattle.isort_settings.specs.Sections.{lists_of, below, holds, section_in}
 use Rattle.isort_settings.specs.Sections.OnePrefix.{section_holding}
 use Rattle.isort_settings.specs.Values.{Values}
 
-abbrev pub Lists : Type 0
-Lists = List (Section × List (List ℕ))
+abbrev pub SectionLists : Type 0
+SectionLists = List (Section × List (List ℕ))
 
 abbrev pub Pair : Type 0
 Pair = List ℕ × (Section × List (List ℕ))
 
 -- the section of the first pair of one of these prefixes and a list that holds it
-abbrev pub section_of_prefixes : Lists → List (List ℕ) → Option Section
+abbrev pub section_of_prefixes : SectionLists → List (List ℕ) → Option Section
 section_of_prefixes lists prefixes = option_map (λ (p : Pair). p.1.0) (find (λ (p : Pair). holds p.1.1 p.0) (flat_map (λ prefix. map (λ l. (prefix, l)) lists) prefixes))
 
 -- the same for the prefixes that end at a dot below n
-abbrev pub section_of_cuts : Lists → List ℕ → ℕ → Option Section
+abbrev pub section_of_cuts : SectionLists → List ℕ → ℕ → Option Section
 section_of_cuts lists name n = section_of_prefixes lists (map (λ i. take i name) (filter (λ i. slice_index name i == byte ".") (below n)))
 
 option_map-or : {A B : Type 0} (f : A → B) (o p : Option A) → option_map f (option_or o p) ≡ option_or (option_map f o) (option_map f p)
@@ -34,23 +34,23 @@ pick true f g x y o p here rest = ap Some here
 pick false f g x y o p here rest = rest
 
 -- the pairs of one prefix
-one_prefix : (prefix : List ℕ) (lists : Lists) → option_map (λ (p : Pair). p.1.0) (find (λ (p : Pair). holds p.1.1 p.0) (map (λ l. (prefix, l)) lists)) ≡ section_holding lists prefix
+one_prefix : (prefix : List ℕ) (lists : SectionLists) → option_map (λ (p : Pair). p.1.0) (find (λ (p : Pair). holds p.1.1 p.0) (map (λ l. (prefix, l)) lists)) ≡ section_holding lists prefix
 one_prefix prefix [] = refl
 one_prefix prefix (l ∷ ls) = pick (holds l.1 prefix) _ _ (prefix, l) l _ _ refl (one_prefix prefix ls)
 
 -- a prefix, then the others
-pub section_of_prefixes-cons : (lists : Lists) (prefix : List ℕ) (more : List (List ℕ)) → section_of_prefixes lists (prefix ∷ more) ≡ option_or (section_holding lists prefix) (section_of_prefixes lists more)
+pub section_of_prefixes-cons : (lists : SectionLists) (prefix : List ℕ) (more : List (List ℕ)) → section_of_prefixes lists (prefix ∷ more) ≡ option_or (section_holding lists prefix) (section_of_prefixes lists more)
 section_of_prefixes-cons lists prefix more =
     ap (option_map (λ (p : Pair). p.1.0)) (find-append _ (map (λ l. (prefix, l)) lists) _)
     ∙ option_map-or _ (find _ (map (λ l. (prefix, l)) lists)) _
     ∙ ap (λ o. option_or o (section_of_prefixes lists more)) (one_prefix prefix lists)
 
 -- no prefix ends at m
-pub section_of_cuts-skip : (lists : Lists) (name : List ℕ) (n m : ℕ) → n ≡ suc m → (slice_index name m ≡ byte "." → ⊥) → section_of_cuts lists name n ≡ section_of_cuts lists name m
+pub section_of_cuts-skip : (lists : SectionLists) (name : List ℕ) (n m : ℕ) → n ≡ suc m → (slice_index name m ≡ byte "." → ⊥) → section_of_cuts lists name n ≡ section_of_cuts lists name m
 section_of_cuts-skip lists name n m next other = rw (next, ne_eqb _ _ other)
 
 -- a prefix that ends at m decides, or the others do
-pub section_of_cuts-at : (lists : Lists) (name : List ℕ) (n m : ℕ) (o : Option Section) → n ≡ suc m → slice_index name m ≡ byte "." → section_holding lists (take m name) ≡ o
+pub section_of_cuts-at : (lists : SectionLists) (name : List ℕ) (n m : ℕ) (o : Option Section) → n ≡ suc m → slice_index name m ≡ byte "." → section_holding lists (take m name) ≡ o
     → section_of_cuts lists name n ≡ option_or o (section_of_cuts lists name m)
 section_of_cuts-at lists name n m o next dot held = rw (next, eq-eqb _ _ dot, ← held) (section_of_prefixes-cons lists (take m name) _)
 

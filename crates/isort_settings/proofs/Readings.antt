@@ -31,8 +31,8 @@ taken own k j d new old x same read put =
     subst P (sym same) (λ r. at_key own j d new old x r put) read
 
 -- a key's value was taken, or refused
-abbrev pub Takes : SettingKey → Data → Result (Unit {0}) SettingsError → Values → Values → Type 0
-Takes k d answer old new = record {
+abbrev pub TakesValue : SettingKey → Data → Result (Unit {0}) SettingsError → Values → Values → Type 0
+TakesValue k d answer old new = record {
   ok : OnOk answer (IsOkAnd (read_value old.own_names (row_of k).kind k d) (λ x. new ≡ with_value k x old));
   refused : IfErr answer (λ e. e ≢ Memory → read_value old.own_names (row_of k).kind k d ≡ Err e);
 }
@@ -79,7 +79,7 @@ Puts read answer before now = MatchResult read (λ x. (answer ≡ Ok tt) × (now
 pub took_shown : {T : Type 0} (k j : SettingKey) (d : Data) (v : Values) (shown : T → Meaning (row_of j).kind) (read : Result T SettingsError)
     (answer : Result (Unit {0}) SettingsError) (before now : T) → k ≡ j
     → IfOk read (λ x. read_value v.own_names (row_of j).kind k d ≡ Ok (shown x)) → IfErr read (λ e. e ≢ Memory → read_value v.own_names (row_of j).kind k d ≡ Err e)
-    → Puts read answer before now → Takes k d answer v (with_value j (shown now) v)
+    → Puts read answer before now → TakesValue k d answer v (with_value j (shown now) v)
 took_shown k j d v shown (Ok x) answer before now same ok err put =
     rw put.0 (record { ok = taken v.own_names k j d _ v (shown x) same ok (ap (λ y. with_value j (shown y) v) put.1); refused = tt })
 took_shown k j d v shown (Err e) answer before now same ok err put =
@@ -96,6 +96,6 @@ err_of (Err e) said same = λ _. sym same
 -- the same where the reader answers with the value itself
 pub took : (k j : SettingKey) (d : Data) (v : Values) (read : Result (Meaning (row_of j).kind) SettingsError)
     (answer : Result (Unit {0}) SettingsError) (before now : Meaning (row_of j).kind) → k ≡ j → read ≡ read_value v.own_names (row_of j).kind k d
-    → Puts read answer before now → Takes k d answer v (with_value j now v)
+    → Puts read answer before now → TakesValue k d answer v (with_value j now v)
 took k j d v read answer before now same said put =
     took_shown k j d v (λ x. x) read answer before now same (ok_of read _ said) (err_of read _ said) put

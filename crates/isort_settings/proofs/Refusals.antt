@@ -7,7 +7,7 @@ use Rattle.std.specs.List.{AllByRecursion}
 use Rattle.std.specs.Option.{option_map_or}
 use Rattle.std.specs.Ordering.{nat_cmp, is_lt, ordering_reverse}
 use Rattle.isort_settings.specs.Keys.{name_of}
-use Rattle.isort_settings.specs.TableSections.{Refused, earlier, first_of}
+use Rattle.isort_settings.specs.TableSections.{Refused, earlier, first_refused}
 use Rattle.isort_settings.specs.TableSections.Steps.{earliest}
 
 -- the name of the one comes before that of the other
@@ -71,30 +71,30 @@ choose true r s P p q = q
 choose false r s P p q = p
 
 -- what holds of each holds of the first
-first_of-all : (P : Refused → Type 0) (rs : List Refused) → AllByRecursion P rs → IfSome (first_of rs) P
-first_of-all P [] h = tt
-first_of-all P (r ∷ rs) h = more (first_of rs) (first_of-all P rs h.1)
+first_refused-all : (P : Refused → Type 0) (rs : List Refused) → AllByRecursion P rs → IfSome (first_refused rs) P
+first_refused-all P [] h = tt
+first_refused-all P (r ∷ rs) h = more (first_refused rs) (first_refused-all P rs h.1)
   where
     more : (o : Option Refused) → IfSome o P → P (option_map_or (earlier r) o r)
     more None k = h.0
     more (Some s) k = choose (before (name_at s) (name_at r)) r s P h.0 k
 
 -- none comes before the head
-pub first_of-head : (x : Refused) (rs : List Refused) → AllByRecursion (λ y. before (name_at y) (name_at x) ≡ false) rs → first_of (x ∷ rs) ≡ Some x
-first_of-head x rs h = ap Some (more (first_of rs) (first_of-all (λ y. before (name_at y) (name_at x) ≡ false) rs h))
+pub first_refused-head : (x : Refused) (rs : List Refused) → AllByRecursion (λ y. before (name_at y) (name_at x) ≡ false) rs → first_refused (x ∷ rs) ≡ Some x
+first_refused-head x rs h = ap Some (more (first_refused rs) (first_refused-all (λ y. before (name_at y) (name_at x) ≡ false) rs h))
   where
     more : (o : Option Refused) → IfSome o (λ y. before (name_at y) (name_at x) ≡ false) → option_map_or (earlier x) o x ≡ x
     more None k = refl
     more (Some s) k = rw k refl
 
 -- those before the others come all after the first of the others
-pub first_of-after : (xs ys : List Refused) (b : Refused) → first_of ys ≡ Some b → AllByRecursion (λ x. before (name_at b) (name_at x) ≡ true) xs → first_of (xs ++ ys) ≡ Some b
-first_of-after [] ys b first h = first
-first_of-after (x ∷ xs) ys b first h = ap (λ o. Some (option_map_or (earlier x) o x)) (first_of-after xs ys b first h.1) ∙ rw h.0 refl
+pub first_refused-after : (xs ys : List Refused) (b : Refused) → first_refused ys ≡ Some b → AllByRecursion (λ x. before (name_at b) (name_at x) ≡ true) xs → first_refused (xs ++ ys) ≡ Some b
+first_refused-after [] ys b first h = first
+first_refused-after (x ∷ xs) ys b first h = ap (λ o. Some (option_map_or (earlier x) o x)) (first_refused-after xs ys b first h.1) ∙ rw h.0 refl
 
-pub first_of-none : (rs : List Refused) → first_of rs ≡ None → rs ≡ []
-first_of-none [] h = refl
-first_of-none (r ∷ rs) h = cc
+pub first_refused-none : (rs : List Refused) → first_refused rs ≡ None → rs ≡ []
+first_refused-none [] h = refl
+first_refused-none (r ∷ rs) h = cc
 
 -- what follows of each
 pub all_more : (P Q : Refused → Type 0) (rs : List Refused) → ((r : Refused) → P r → Q r) → AllByRecursion P rs → AllByRecursion Q rs
@@ -102,9 +102,9 @@ all_more P Q [] f h = tt
 all_more P Q (r ∷ rs) f h = (f r h.0, all_more P Q rs f h.1)
 
 -- none comes before the first
-pub first_of-least : (rs : List Refused) → IfSome (first_of rs) (λ b. AllByRecursion (λ y. before (name_at y) (name_at b) ≡ false) rs)
-first_of-least [] = tt
-first_of-least (r ∷ rs) = more (first_of rs) (first_of-least rs) (λ none. first_of-none rs none)
+pub first_refused-least : (rs : List Refused) → IfSome (first_refused rs) (λ b. AllByRecursion (λ y. before (name_at y) (name_at b) ≡ false) rs)
+first_refused-least [] = tt
+first_refused-least (r ∷ rs) = more (first_refused rs) (first_refused-least rs) (λ none. first_refused-none rs none)
   where
     picked : (s : Refused) (b : Bool) → before (name_at s) (name_at r) ≡ b → AllByRecursion (λ y. before (name_at y) (name_at s) ≡ false) rs
         → AllByRecursion (λ y. before (name_at y) (name_at (if b then s else r)) ≡ false) (r ∷ rs)
@@ -127,13 +127,13 @@ earlier-assoc r s t = assoc (before (name_at t) (name_at s)) (before (name_at s)
     assoc false false p q = rw (q, not_before-trans (name_at t) (name_at s) (name_at r) p q) refl
 
 -- the first of all is the first of some and of the others
-pub first_of-append : (rs ss : List Refused) → first_of (rs ++ ss) ≡ earliest (first_of rs) (first_of ss)
-first_of-append [] ss = none_first (first_of ss)
+pub first_refused-append : (rs ss : List Refused) → first_refused (rs ++ ss) ≡ earliest (first_refused rs) (first_refused ss)
+first_refused-append [] ss = none_first (first_refused ss)
   where
     none_first : (o : Option Refused) → o ≡ earliest None o
     none_first None = refl
     none_first (Some s) = refl
-first_of-append (r ∷ rs) ss = ap (λ o. Some (option_map_or (earlier r) o r)) (first_of-append rs ss) ∙ more (first_of rs) (first_of ss)
+first_refused-append (r ∷ rs) ss = ap (λ o. Some (option_map_or (earlier r) o r)) (first_refused-append rs ss) ∙ more (first_refused rs) (first_refused ss)
   where
     more : (o p : Option Refused) → Some (option_map_or (earlier r) (earliest o p) r) ≡ earliest (Some (option_map_or (earlier r) o r)) p
     more o None = refl

@@ -148,13 +148,13 @@ one_listed f g before s after found same_before same_after wasnt is so_far =
     (IsPermutation-trans _ _ _ (IsPermutation-cons s found _ (subst (λ xs. IsPermutation found xs) old so_far)) (IsPermutation-sym _ _ (IsPermutation-middle (filter f before) s (filter f after))))
 
 -- the sections of the five that names list, with a name more
-abbrev Step : List ℕ → List (List ℕ) → Type 0
-Step name names =
+abbrev OneNameMore : List ℕ → List (List ℕ) → Type 0
+OneNameMore name names =
     list_any (λ other. bytes_eq other name) names ≡ false → IsPermutation (filter_map section_spelled names) (filter (listed names) usual_order)
     → IsPermutation (filter_map section_spelled (name ∷ names)) (filter (listed (name ∷ names)) usual_order)
 
-spells : (names : List (List ℕ)) (text name : List ℕ) → bytes_eq text name ≡ true → Step text names → Step name names
-spells names text name e step = subst (λ t. Step t names) ((bytes_eq-Decides text name).0 e) step
+spells : (names : List (List ℕ)) (text name : List ℕ) → bytes_eq text name ≡ true → OneNameMore text names → OneNameMore name names
+spells names text name e step = subst (λ t. OneNameMore t names) ((bytes_eq-Decides text name).0 e) step
 
 turned : (a b : List ℕ) → bytes_eq a b ≡ false → bytes_eq b a ≡ false
 turned a b h = false_from_ne_true _ (λ t. both (sym h ∙ (bytes_eq-Decides a b).1 (sym ((bytes_eq-Decides b a).0 t))))
@@ -163,10 +163,10 @@ turned a b h = false_from_ne_true _ (λ t. both (sym h ∙ (bytes_eq-Decides a b
     both e = cc
 
 spells_none : (names : List (List ℕ)) (name : List ℕ) → bytes_eq (codes "FUTURE") name ≡ false → bytes_eq (codes "STDLIB") name ≡ false → bytes_eq (codes "THIRDPARTY") name ≡ false
-    → bytes_eq (codes "FIRSTPARTY") name ≡ false → bytes_eq (codes "LOCALFOLDER") name ≡ false → Step name names
+    → bytes_eq (codes "FIRSTPARTY") name ≡ false → bytes_eq (codes "LOCALFOLDER") name ≡ false → OneNameMore name names
 spells_none names name a b c d e fresh so_far = rw (a, b, c, d, e, turned (codes "FUTURE") name a, turned (codes "STDLIB") name b, turned (codes "THIRDPARTY") name c, turned (codes "FIRSTPARTY") name d, turned (codes "LOCALFOLDER") name e) so_far
 
-listed_more : (name : List ℕ) (names : List (List ℕ)) → Step name names
+listed_more : (name : List ℕ) (names : List (List ℕ)) → OneNameMore name names
 listed_more name names =
     elim (cases_Bool (bytes_eq (codes "FUTURE") name)) [
       | inl is ↦ spells names _ name is (λ fresh so_far. one_listed (listed names) (listed (codes "FUTURE" ∷ names)) [] Future (Stdlib ∷ ThirdParty ∷ FirstParty ∷ LocalFolder ∷ []) _ refl refl fresh refl so_far)

@@ -22,12 +22,12 @@ use Rattle.isort_settings.specs.declared.profile.Profile.{Profile}
 use Rattle.isort_settings.specs.Keys.{Meaning, row_of, name_of, keys_in_order, Ascends}
 use Rattle.isort_settings.specs.Pyproject.{refused_at, first_refusal, base_value, value_at, values_in, with_sections, names_of}
 use Rattle.isort_settings.specs.Reading.{read_value}
-use Rattle.isort_settings.specs.TableSections.{own_names_in, Refused, refused_by, first_of, sections_refused}
+use Rattle.isort_settings.specs.TableSections.{own_names_in, Refused, refused_by, first_refused, sections_refused}
 use Rattle.isort_settings.specs.TableSections.Steps.{bad_key}
 use Rattle.isort_settings.specs.Values.{Values, values_from}
 use Rattle.isort_settings.specs.Values.OneKey.{with_value}
 use Rattle.isort_settings.proofs.KeyLaws.{keys-ascend}
-use Rattle.isort_settings.proofs.Refusals.{before, name_at, before-trans, before-not_after, not_before-trans, first_of-head, first_of-after, first_of-none, first_of-least, all_more}
+use Rattle.isort_settings.proofs.Refusals.{before, name_at, before-trans, before-not_after, not_before-trans, first_refused-head, first_refused-after, first_refused-none, first_refused-least, all_more}
 
 -- the value that a key has
 abbrev pub value_of : (k : SettingKey) → Values → Meaning (row_of k).kind
@@ -202,15 +202,15 @@ pub Ascends-names_of : (p : List ℕ → Bool) (es : List (String Global × Valu
 Ascends-names_of p es ordered = rw (names_of-view es) (IsStrictlySortedBy-filter _ _ _ (Ascends-string_bytes (keys_of es) ordered))
 
 -- these keys are left: none before them is refused, their names ascend, and they make the values those of the table
-pub record Left (ms : Members) (start : Values) (ks : List SettingKey) (v : Values) : Type 0 where
+pub record KeysLeft (ms : Members) (start : Values) (ks : List SettingKey) (v : Values) : Type 0 where
   pub unrefused : filter_map (refused_at ms) keys_in_order ≡ filter_map (refused_at ms) ks
   pub ascend : Ascends (map name_of ks)
   pub filled : after_keys ms ks v ≡ after_keys ms keys_in_order start
   pub own_names : v.own_names ≡ own_names_in ms
 
 -- at the start all keys are left
-pub Left-all : (ms : Members) (ks : List SettingKey) (v : Values) → ks ≡ keys_in_order → v.own_names ≡ own_names_in ms → Left ms v ks v
-Left-all ms ks v all own = record { unrefused = rw all refl; ascend = rw all keys-ascend; filled = rw all refl; own_names = own }
+pub KeysLeft-all : (ms : Members) (ks : List SettingKey) (v : Values) → ks ≡ keys_in_order → v.own_names ≡ own_names_in ms → KeysLeft ms v ks v
+KeysLeft-all ms ks v all own = record { unrefused = rw all refl; ascend = rw all keys-ascend; filled = rw all refl; own_names = own }
 
 tail_ascends : (k : SettingKey) (ks : List SettingKey) → Ascends (map name_of (k ∷ ks)) → Ascends (map name_of ks)
 unfolding IsStrictlySortedBy
@@ -220,8 +220,8 @@ pub head_first : (k : SettingKey) (ks : List SettingKey) → Ascends (map name_o
 unfolding IsStrictlySortedBy
 head_first k ks h = h.0
 
-Left-skip : (ms : Members) (start : Values) (k : SettingKey) (ks : List SettingKey) (v new : Values) → refused_at ms k ≡ None → after_key ms k v ≡ new → new.own_names ≡ v.own_names → Left ms start (k ∷ ks) v → Left ms start ks new
-Left-skip ms start k ks v new fine put own left = record {
+KeysLeft-skip : (ms : Members) (start : Values) (k : SettingKey) (ks : List SettingKey) (v new : Values) → refused_at ms k ≡ None → after_key ms k v ≡ new → new.own_names ≡ v.own_names → KeysLeft ms start (k ∷ ks) v → KeysLeft ms start ks new
+KeysLeft-skip ms start k ks v new fine put own left = record {
   unrefused = left.unrefused ∙ rw fine;
   ascend = tail_ascends k ks left.ascend;
   filled = ap (after_keys ms ks) (sym put) ∙ left.filled;
@@ -229,23 +229,23 @@ Left-skip ms start k ks v new fine put own left = record {
 }
 
 -- a key that the table doesn't have
-pub Left-none : (ms : Members) (start : Values) (k : SettingKey) (ks : List SettingKey) (v : Values) (name : List ℕ) → Left ms start (k ∷ ks) v
-    → name ≡ name_of k → None ≡ get_member name ms → Left ms start ks v
-Left-none ms start k ks v name left same found =
+pub KeysLeft-none : (ms : Members) (start : Values) (k : SettingKey) (ks : List SettingKey) (v : Values) (name : List ℕ) → KeysLeft ms start (k ∷ ks) v
+    → name ≡ name_of k → None ≡ get_member name ms → KeysLeft ms start ks v
+KeysLeft-none ms start k ks v name left same found =
     let h : get_member (name_of k) ms ≡ None = rw (← same) (sym found) in
-    Left-skip ms start k ks v v (refused_at-none ms k h) (after_key-none ms k v h) refl left
+    KeysLeft-skip ms start k ks v v (refused_at-none ms k h) (after_key-none ms k v h) refl left
 
 -- a key whose value was taken
-pub Left-some : (ms : Members) (start : Values) (k : SettingKey) (ks : List SettingKey) (v new : Values) (name : List ℕ) (x : Data) → Left ms start (k ∷ ks) v
-    → name ≡ name_of k → Some x ≡ get_member name ms → IsOkAnd (read_value v.own_names (row_of k).kind k x) (λ y. new ≡ with_value k y v) → Left ms start ks new
-Left-some ms start k ks v new name x left same found read =
+pub KeysLeft-some : (ms : Members) (start : Values) (k : SettingKey) (ks : List SettingKey) (v new : Values) (name : List ℕ) (x : Data) → KeysLeft ms start (k ∷ ks) v
+    → name ≡ name_of k → Some x ≡ get_member name ms → IsOkAnd (read_value v.own_names (row_of k).kind k x) (λ y. new ≡ with_value k y v) → KeysLeft ms start ks new
+KeysLeft-some ms start k ks v new name x left same found read =
     let h : get_member (name_of k) ms ≡ Some x = rw (← same) (sym found) in
     let own : IsOkAnd (read_value (own_names_in ms) (row_of k).kind k x) (λ y. new ≡ with_value k y v) = subst (λ names. IsOkAnd (read_value names (row_of k).kind k x) (λ y. new ≡ with_value k y v)) left.own_names read in
-    Left-skip ms start k ks v new (refused_at-ok ms k x _ h own) (after_key-some ms k v new x h own) (own_names_after k v new _ own) left
+    KeysLeft-skip ms start k ks v new (refused_at-ok ms k x _ h own) (after_key-some ms k v new x h own) (own_names_after k v new _ own) left
 
 -- the refusals among `sections` and the lists of own sections, of which this key is the first
 abbrev pub FirstBad : Members → Option SettingKey → Type 0
-FirstBad ms bad = option_map bad_key bad ≡ first_of (sections_refused ms)
+FirstBad ms bad = option_map bad_key bad ≡ first_refused (sections_refused ms)
 
 -- the key is after the one that is refused
 abbrev pub comes_after : SettingKey → Option SettingKey → Bool
@@ -256,8 +256,8 @@ not_after-none k None e after = cc
 not_after-none k (Some b) e after = cc
 
 -- the keys that are left, at the next one
-pub Left-next : (ms : Members) (start : Values) (k : SettingKey) (all ks : List SettingKey) (v : Values) → all ≡ k ∷ ks → Left ms start all v → Left ms start (k ∷ ks) v
-Left-next ms start k all ks v next left = let P : List SettingKey → Type 0 = λ xs. Left ms start xs v in subst P next left
+pub KeysLeft-next : (ms : Members) (start : Values) (k : SettingKey) (all ks : List SettingKey) (v : Values) → all ≡ k ∷ ks → KeysLeft ms start all v → KeysLeft ms start (k ∷ ks) v
+KeysLeft-next ms start k all ks v next left = let P : List SettingKey → Type 0 = λ xs. KeysLeft ms start xs v in subst P next left
 
 pub none_left : (ks : List SettingKey) → length ks ≡ 0 → ks ≡ []
 none_left [] h = refl
@@ -269,25 +269,25 @@ all_after b k [] h more = tt
 all_after b k (n ∷ ns) h more = (before-trans (name_of b) (name_of k) n h (ap is_lt more.0), all_after b k ns h more.1)
 
 -- where a key comes after the one that is refused, that one is the first
-pub first_refusal-bad : (ms : Members) (start : Values) (k : SettingKey) (ks : List SettingKey) (v : Values) (bad : Option SettingKey) → FirstBad ms bad → Left ms start (k ∷ ks) v → comes_after k bad ≡ true
+pub first_refusal-bad : (ms : Members) (start : Values) (k : SettingKey) (ks : List SettingKey) (v : Values) (bad : Option SettingKey) → FirstBad ms bad → KeysLeft ms start (k ∷ ks) v → comes_after k bad ≡ true
     → first_refusal ms ≡ option_map (λ b. BadValue b) bad
 first_refusal-bad ms start k ks v None first left after = cc
 first_refusal-bad ms start k ks v (Some b) first left after =
     ap (option_map (λ r. r.why))
-    (ap (λ rs. first_of (rs ++ sections_refused ms)) left.unrefused
-    ∙ first_of-after (filter_map (refused_at ms) (k ∷ ks)) (sections_refused ms) (bad_key b) (sym first)
+    (ap (λ rs. first_refused (rs ++ sections_refused ms)) left.unrefused
+    ∙ first_refused-after (filter_map (refused_at ms) (k ∷ ks)) (sections_refused ms) (bad_key b) (sym first)
     (refused_keys (λ name. before (name_of b) name ≡ true) ms (k ∷ ks) (after, all_after b k (map name_of ks) after (head_first k ks left.ascend))))
 
 -- at the end no key is left
-pub first_refusal-end : (ms : Members) (start : Values) (ks : List SettingKey) (v : Values) (bad : Option SettingKey) → ks ≡ [] → FirstBad ms bad → Left ms start ks v → first_refusal ms ≡ option_map (λ b. BadValue b) bad
+pub first_refusal-end : (ms : Members) (start : Values) (ks : List SettingKey) (v : Values) (bad : Option SettingKey) → ks ≡ [] → FirstBad ms bad → KeysLeft ms start ks v → first_refusal ms ≡ option_map (λ b. BadValue b) bad
 first_refusal-end ms start ks v bad none first left =
-    ap (λ rs. option_map (λ (r : Refused). r.why) (first_of (rs ++ sections_refused ms))) (left.unrefused ∙ ap (filter_map (refused_at ms)) none) ∙ ap (option_map (λ (r : Refused). r.why)) (sym first) ∙ whys bad
+    ap (λ rs. option_map (λ (r : Refused). r.why) (first_refused (rs ++ sections_refused ms))) (left.unrefused ∙ ap (filter_map (refused_at ms)) none) ∙ ap (option_map (λ (r : Refused). r.why)) (sym first) ∙ whys bad
   where
     whys : (b : Option SettingKey) → option_map (λ (r : Refused). r.why) (option_map bad_key b) ≡ option_map (λ k. BadValue k) b
     whys None = refl
     whys (Some b) = refl
 
-pub values-end : (ms : Members) (start : Values) (ks : List SettingKey) (v : Values) (p : Option Profile) → ks ≡ [] → Left ms start ks v → start ≡ with_sections ms (values_from (base_value p)) → v ≡ values_in ms p
+pub values-end : (ms : Members) (start : Values) (ks : List SettingKey) (v : Values) (p : Option Profile) → ks ≡ [] → KeysLeft ms start ks v → start ≡ with_sections ms (values_from (base_value p)) → v ≡ values_in ms p
 values-end ms start ks v p none left base =
     sym (ap (λ xs. after_keys ms xs v) none) ∙ left.filled ∙ ap (after_keys ms keys_in_order) base ∙ after_keys-in_order ms p
 
@@ -302,20 +302,20 @@ none_before k (n ∷ ns) h = (before-not_after (name_of k) n (ap is_lt h.0), non
 -- no own key that is refused comes before a key that isn't after the first of them
 bad_not_before : (ms : Members) (k : SettingKey) (bad : Option SettingKey) → FirstBad ms bad → comes_after k bad ≡ false → AllByRecursion (λ y. before (name_at y) (name_of k) ≡ false) (sections_refused ms)
 bad_not_before ms k None first after =
-    subst (AllByRecursion (λ y. before (name_at y) (name_of k) ≡ false)) (sym (first_of-none (sections_refused ms) (sym first))) tt
+    subst (AllByRecursion (λ y. before (name_at y) (name_of k) ≡ false)) (sym (first_refused-none (sections_refused ms) (sym first))) tt
 bad_not_before ms k (Some b) first after =
-    let least = rw (sym first) at (first_of-least (sections_refused ms)) in
+    let least = rw (sym first) at (first_refused-least (sections_refused ms)) in
     all_more _ _ (sections_refused ms) (λ y h. not_before-trans (name_at y) (name_of b) (name_of k) h after) least
 
 -- a key whose value is refused, where it isn't after the one that is refused already
 pub first_refusal-at : (ms : Members) (start : Values) (k : SettingKey) (ks : List SettingKey) (v : Values) (bad : Option SettingKey) (name : List ℕ) (x : Data) (e : SettingsError) → FirstBad ms bad
-    → comes_after k bad ≡ false → Left ms start (k ∷ ks) v → name ≡ name_of k → Some x ≡ get_member name ms → read_value v.own_names (row_of k).kind k x ≡ Err e → first_refusal ms ≡ Some e
+    → comes_after k bad ≡ false → KeysLeft ms start (k ∷ ks) v → name ≡ name_of k → Some x ≡ get_member name ms → read_value v.own_names (row_of k).kind k x ≡ Err e → first_refusal ms ≡ Some e
 first_refusal-at ms start k ks v bad name x e first after left same found read =
     let h : get_member (name_of k) ms ≡ Some x = rw (← same) (sym found) in
     let own : read_value (own_names_in ms) (row_of k).kind k x ≡ Err e = subst (λ names. read_value names (row_of k).kind k x ≡ Err e) left.own_names read in
     ap (option_map (λ (r : Refused). r.why))
-    (ap (λ rs. first_of (rs ++ sections_refused ms)) (left.unrefused ∙ ap (λ o. cons_option o (filter_map (refused_at ms) ks)) (refused_at-err ms k x e h own))
-    ∙ first_of-head (refused_as k e) (filter_map (refused_at ms) ks ++ sections_refused ms)
+    (ap (λ rs. first_refused (rs ++ sections_refused ms)) (left.unrefused ∙ ap (λ o. cons_option o (filter_map (refused_at ms) ks)) (refused_at-err ms k x e h own))
+    ∙ first_refused-head (refused_as k e) (filter_map (refused_at ms) ks ++ sections_refused ms)
     (all_append _ (filter_map (refused_at ms) ks) (sections_refused ms)
     (refused_keys (λ n. before n (name_of k) ≡ false) ms ks (none_before k (map name_of ks) (head_first k ks left.ascend)))
     (bad_not_before ms k bad first after)))

@@ -15,7 +15,7 @@ use Rattle.isort_settings.specs.declared.profile.Profile.TheVariants.{Black}
 use Rattle.isort_settings.specs.Keys.{Meaning, row_of, name_of, keys_in_order, is_known}
 use Rattle.isort_settings.specs.Reading.{profile_named, read_value}
 use Rattle.isort_settings.specs.SectionNames.{list_key}
-use Rattle.isort_settings.specs.TableSections.{sections_in, own_names_in, own_list, Refused, refused_by, first_of, sections_refused}
+use Rattle.isort_settings.specs.TableSections.{sections_in, own_names_in, own_list, Refused, refused_by, first_refused, sections_refused}
 use Rattle.isort_settings.specs.Values.{Values, values_from}
 
 -- what follows from an answer that is no refusal
@@ -63,7 +63,7 @@ all_refused ms = filter_map (refused_at ms) keys_in_order ++ sections_refused ms
 
 -- the first refusal by the byte order of the keys
 abbrev pub first_refusal : Members → Option SettingsError
-first_refusal ms = option_map (λ r. r.why) (first_of (all_refused ms))
+first_refusal ms = option_map (λ r. r.why) (first_refused (all_refused ms))
 
 -- a key's value where the table says nothing
 abbrev pub base_value : Option Profile → (k : SettingKey) → Meaning (row_of k).kind

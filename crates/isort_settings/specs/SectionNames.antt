@@ -10,8 +10,8 @@ use Rattle.isort_settings.specs.FiveSections.{usual_order, section_spelling, sec
 use Rattle.isort_settings.specs.Keys.{is_known}
 
 -- ASCII letters, digits and `_`, first a letter
-abbrev pub is_word : List ℕ → Bool
-is_word name = is_ascii_alphabetic (slice_index name 0) && list_all (λ c. is_ascii_alphanumeric c || c == byte "_") name
+abbrev pub is_plain_name : List ℕ → Bool
+is_plain_name name = is_ascii_alphabetic (slice_index name 0) && list_all (λ c. is_ascii_alphanumeric c || c == byte "_") name
 
 -- the name of one of the five when the case of ASCII letters is ignored
 abbrev pub is_one_of_five : List ℕ → Bool
@@ -24,7 +24,7 @@ list_key name = codes "known_" ++ str_to_ascii_lowercase name
 -- a name that an own section may have: a word, none of the five whatever its case, and none whose list would be a key
 -- that is there already
 abbrev pub is_own_name : List ℕ → Bool
-is_own_name name = is_word name && not (is_one_of_five name) && not (is_known (list_key name))
+is_own_name name = is_plain_name name && not (is_one_of_five name) && not (is_known (list_key name))
 
 -- a name that may be listed: one of the five by its exact spelling, or an own one
 abbrev pub is_section_name : List ℕ → Bool

@@ -52,9 +52,9 @@ abbrev pub earlier : Refused → Refused → Refused
 earlier r s = if is_lt (slice_cmp nat_cmp (name_of s.what) (name_of r.what)) then s else r
 
 -- of some refused keys the one whose name comes first by its bytes
-abbrev pub first_of : List Refused → Option Refused
-first_of [] = None
-first_of (r ∷ rs) = Some (option_map_or (earlier r) (first_of rs) r)
+abbrev pub first_refused : List Refused → Option Refused
+first_refused [] = None
+first_refused (r ∷ rs) = Some (option_map_or (earlier r) (first_refused rs) r)
 
 -- the refused keys among `sections` and the lists of the own sections
 abbrev pub sections_refused : Members → List Refused

@@ -3,7 +3,7 @@ ghost use Rattle.std.specs.Prelude.{◌≡◌};
 ghost use Rattle.isort_settings.specs.declared.error.SettingsError.TheVariants.{Memory};
 
 use crate::key::SettingKey;
-use std::alloc::{AllocError, AllocFailed};
+use std::alloc::AllocError;
 use thiserror::Error;
 
 /// Why settings are refused.
@@ -25,14 +25,6 @@ impl From<AllocError> for SettingsError {
     ghost from_gives = { λ _ e. e ≡ Memory };
 
     fn from(_error: AllocError) -> SettingsError {
-        SettingsError::Memory
-    }
-}
-
-impl<T: Drop> From<AllocFailed<T>> for SettingsError {
-    ghost from_gives = { λ _ e. e ≡ Memory };
-
-    fn from(_error: AllocFailed<T>) -> SettingsError {
         SettingsError::Memory
     }
 }

@@ -98,14 +98,14 @@ fn text_at(texts: &'static [&'static str], index: usize) -> Option<&'static str>
 }
 
 /// Whether the entry is the text.
-fn is_text(entry: &String, text: &[u8]) -> bool
+pub(crate) fn is_text(entry: &String, text: &[u8]) -> bool
     ensures { result ≡ bytes_eq (string_bytes entry.now) text.now }
 {
     entry.as_bytes() == text
 }
 
 /// Whether the text is one of the entries.
-fn is_among(entries: &[String], text: &[u8]) -> bool
+pub(crate) fn is_among(entries: &[String], text: &[u8]) -> bool
     ensures { result ≡ holds (map string_bytes entries.now) text.now }
 {
     entries.iter().any(|entry| is_text(entry, text))

@@ -4,9 +4,10 @@ ghost use Rattle.std.specs.Char.{is_ascii_alphabetic, is_ascii_alphanumeric};
 ghost use Rattle.std.specs.List.{list_all, list_any, position};
 ghost use Rattle.std.specs.Str.{byte, bytes_eq, str_eq_ignore_ascii_case};
 ghost use Rattle.isort_settings.specs.FiveSections.{section_spelling, usual_order};
-ghost use Rattle.isort_settings.specs.SectionNames.{is_word, is_one_of_five, is_section_name, are_apart, own_among, are_sections, section_named, order_listed};
+ghost use Rattle.isort_settings.specs.SectionNames.{is_plain_name, is_one_of_five, is_section_name, are_apart, own_among, are_sections, section_named, order_listed};
 
 use crate::key::SettingKey;
+use crate::modules::{is_among, is_text};
 use crate::own_key::OwnKey;
 use crate::section::Section;
 use std::alloc::{AllocError, Global};
@@ -39,8 +40,8 @@ fn has_word_characters(name: &str) -> bool
 }
 
 /// Whether the name has ASCII letters, digits and `_` alone, and first a letter.
-fn is_word(name: &str) -> bool
-    ensures { result ≡ is_word name.now }
+fn is_plain_name(name: &str) -> bool
+    ensures { result ≡ is_plain_name name.now }
 {
     begins_with_letter(name.as_bytes()) && has_word_characters(name)
 }
@@ -61,7 +62,7 @@ fn is_section_name(alloc: Global, name: &str) -> Result<bool, AllocError>
     if Section::spelled(name).is_some() {
         return Ok(true);
     }
-    if !is_word(name) || is_one_of_five(name) {
+    if !is_plain_name(name) || is_one_of_five(name) {
         return Ok(false);
     }
     let key = OwnKey::of_section(alloc, name)?;
@@ -123,19 +124,12 @@ pub fn are_sections(alloc: Global, names: &[String], own: &[String]) -> Result<b
     Ok(are_section_names(alloc, names)? && own.len() <= MOST_OWN && are_apart(names))
 }
 
-/// Whether an entry is the text.
-fn is_text(entry: &String, text: &str) -> bool
-    ensures { result ≡ bytes_eq (string_bytes entry.now) text.now }
-{
-    entry.as_str() == text
-}
-
 /// The place of the name that is the text.
 fn place_of(names: &[String], text: &str) -> Option<usize>
     ensures place { result ≡ position (λ name. bytes_eq name text.now) (map string_bytes names.now) }
     ensures within { IfSome result (λ place. place < length names.now) }
 {
-    names.iter().position(|name| is_text(name, text))
+    names.iter().position(|name| is_text(name, text.as_bytes()))
 }
 
 /// The section that a text names where these are the own names: one of the five, or an own one by its exact spelling.
@@ -176,8 +170,7 @@ pub fn order_listed(
 fn is_listed(section: Section, names: &[String]) -> bool
     ensures { result ≡ list_any (λ name. bytes_eq name (section_spelling section)) (map string_bytes names.now) }
 {
-    let spelling = section.spelling();
-    names.iter().any(|name| is_text(name, spelling))
+    is_among(names, section.spelling().as_bytes())
 }
 
 /// Adds those of the five that no name spells, in their usual order.

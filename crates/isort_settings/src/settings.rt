@@ -100,7 +100,7 @@ impl Settings {
     ghost use Rattle.isort_settings.specs.declared.profile.Profile.{Profile};
     ghost use Rattle.isort_settings.specs.Orders.{module_cmp, name_cmp};
     ghost use Rattle.isort_settings.specs.Pyproject.{settings_of, base_value, first_refusal, values_in, with_sections};
-    ghost use Rattle.isort_settings.specs.TableSections.{own_names_in, first_of, sections_refused};
+    ghost use Rattle.isort_settings.specs.TableSections.{own_names_in, first_refused, sections_refused};
     ghost use Rattle.isort_settings.specs.TableSections.Steps.{bad_key};
     ghost use Rattle.isort_settings.specs.Reading.{read_value};
     ghost use Rattle.isort_settings.specs.Sections.{five_lists_of, lists_of, section_in, section_rank};
@@ -229,7 +229,7 @@ impl Settings {
         refused: &Option<Key>,
     ) -> Result<(), SettingsError>
         requires own_names { (values self.old).own_names ≡ own_names_in (table_view table.now) }
-        requires refused { option_map bad_key refused.now ≡ first_of (sections_refused (table_view table.now)) }
+        requires refused { option_map bad_key refused.now ≡ first_refused (sections_refused (table_view table.now)) }
         ensures first { OnOk result (first_refusal (table_view table.now) ≡ option_map (λ k. SettingsError.BadValue k) refused.now) }
         ensures filled { OnOk result (refused.now ≡ None → (profile : Option Profile)
             → values self.old ≡ with_sections (table_view table.now) (values_from (base_value profile))

@@ -6,7 +6,7 @@ ghost use Rattle.isort_settings.specs.declared.error.SettingsError.TheVariants.{
 ghost use Rattle.isort_settings.specs.declared.key.SettingKey.TheVariants.{Sections};
 ghost use Rattle.isort_settings.specs.OwnLists.{modules_of_lists};
 ghost use Rattle.isort_settings.specs.SectionNames.{five_alone, sections_of};
-ghost use Rattle.isort_settings.specs.TableSections.{section_table, sections_in, own_names_in, entries_under, own_list, first_of, sections_refused};
+ghost use Rattle.isort_settings.specs.TableSections.{section_table, sections_in, own_names_in, entries_under, own_list, first_refused, sections_refused};
 ghost use Rattle.isort_settings.specs.TableSections.Steps.{listed_value, lists_refused, bad_key, earliest};
 
 use crate::key::SettingKey;
@@ -91,7 +91,7 @@ fn own_list(
     ensures list { IfOk result (λ r. map string_bytes r.0.items
         ≡ result_unwrap_or (own_list (table_view table.now) name.now) []) }
     ensures refused { IfOk result (λ r. option_map bad_key r.1
-        ≡ first_of (lists_refused (table_view table.now) (name.now ∷ []))) }
+        ≡ first_refused (lists_refused (table_view table.now) (name.now ∷ []))) }
 {
     let key = OwnKey::of_section(alloc, name)?;
     match entries_under(alloc, table, key.as_str())? {
@@ -123,7 +123,7 @@ fn own_lists(
     ensures lists { IfOk result (λ r. modules_of_lists r.0.items
         ≡ map (λ name. result_unwrap_or (own_list (table_view table.now) name) []) (map string_bytes names.now)) }
     ensures refused { IfOk result (λ r. option_map bad_key r.1
-        ≡ first_of (lists_refused (table_view table.now) (map string_bytes names.now))) }
+        ≡ first_refused (lists_refused (table_view table.now) (map string_bytes names.now))) }
 {
     let mut lists = Vec::new(alloc);
     let mut refused = None;
@@ -153,7 +153,7 @@ impl TableSections {
         ensures few { IfOk result (λ s. length s.listed.own_names.items ≤ 64) }
         ensures own_lists { IfOk result (λ s. s.own_lists
             ≡ map (λ name. result_unwrap_or (own_list (table_view table.now) name) []) (own_names_in (table_view table.now))) }
-        ensures refused { IfOk result (λ s. option_map bad_key s.refused ≡ first_of (sections_refused (table_view table.now))) }
+        ensures refused { IfOk result (λ s. option_map bad_key s.refused ≡ first_refused (sections_refused (table_view table.now))) }
     {
         let Some(listed) = read_sections(alloc, table)? else {
             return Ok(TableSections {

@@ -3,7 +3,7 @@ use Rattle.std.proofs.Common.{◌≡◌, [], length, map, take, option_map, stri
 use Rattle.std.specs.Result.{result_unwrap_or}
 use Rattle.toml.specs.View.{table_view}
 use Rattle.isort_settings.specs.OwnLists.{modules_of_lists}
-use Rattle.isort_settings.specs.TableSections.{own_list, first_of}
+use Rattle.isort_settings.specs.TableSections.{own_list, first_refused}
 use Rattle.isort_settings.specs.TableSections.Steps.{lists_refused, bad_key}
 use Rattle.isort_settings.proofs.table_sections.own_lists.Given as goal
 
@@ -11,5 +11,5 @@ abbrev pub invariant-loop-name : goal.invariant-loop-name
 invariant-loop-name l = record {
   count : length l.lists.items ≡ l.name-index;
   lists : modules_of_lists l.lists.items ≡ map (λ name. result_unwrap_or (own_list (table_view l.table) name) []) (map string_bytes (take l.name-index l.names));
-  refused : option_map bad_key l.refused ≡ first_of (lists_refused (table_view l.table) (map string_bytes (take l.name-index l.names)));
+  refused : option_map bad_key l.refused ≡ first_refused (lists_refused (table_view l.table) (map string_bytes (take l.name-index l.names)));
 }

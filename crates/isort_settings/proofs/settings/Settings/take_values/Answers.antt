@@ -1,24 +1,24 @@
 -- Each key is skipped, taken or refused as the table of keys says.
 use Rattle.std.proofs.Common.{sym, ◌∙◌}
 use Rattle.std.proofs.lemmas.Result.{err_from_is_err_and}
-use Rattle.isort_settings.proofs.Table.{Left-all, Left-next, Left-none, Left-some, first_refusal-bad, first_refusal-at, first_refusal-end, values-end, not_after-none, none_left}
+use Rattle.isort_settings.proofs.Table.{KeysLeft-all, KeysLeft-next, KeysLeft-none, KeysLeft-some, first_refusal-bad, first_refusal-at, first_refusal-end, values-end, not_after-none, none_left}
 use Rattle.isort_settings.proofs.settings.Settings.take_values.Goals as goal
 
 pub loop-key-init : goal.loop-key-init
-loop-key-init c = (tt, tt, Left-all _ _ _ (c.into_iter-key-iterator.ensures.into_iter_gives.0 ∙ c.in_order-key-items.ensures) c.requires.own_names)
+loop-key-init c = (tt, tt, KeysLeft-all _ _ _ (c.into_iter-key-iterator.ensures.into_iter_gives.0 ∙ c.in_order-key-items.ensures) c.requires.own_names)
 
 pub loop-key-preserved-in_default : goal.loop-key-preserved-in_default
-loop-key-preserved-in_default c = (tt, tt, Left-none _ _ c.in-Some.key _ _ _ (Left-next _ _ _ _ _ _ c.in-Some.ensures.steps c.loop-key.invariant.2) c.name.ensures c.in_default.ensures)
+loop-key-preserved-in_default c = (tt, tt, KeysLeft-none _ _ c.in-Some.key _ _ _ (KeysLeft-next _ _ _ _ _ _ c.in-Some.ensures.steps c.loop-key.invariant.2) c.name.ensures c.in_default.ensures)
 
 pub loop-key-preserved : goal.loop-key-preserved
 loop-key-preserved c =
-    (tt, tt, Left-some _ _ c.in-Some.key _ _ _ _ _ (Left-next _ _ _ _ _ _ c.in-Some.ensures.steps c.loop-key.invariant.2) c.name.ensures c.in-Some-member.ensures c.in_ok-take_value.ensures.ok)
+    (tt, tt, KeysLeft-some _ _ c.in-Some.key _ _ _ _ _ (KeysLeft-next _ _ _ _ _ _ c.in-Some.ensures.steps c.loop-key.invariant.2) c.name.ensures c.in-Some-member.ensures c.in_ok-take_value.ensures.ok)
 
 pub returns-then-is_after : goal.returns-then-is_after
 returns-then-is_after c =
     let after = sym c.is_after.ensures ∙ c.if-is_after.true in
     record {
-      first = first_refusal-bad _ _ c.in-Some.key _ _ _ c.requires.refused (Left-next _ _ _ _ _ _ c.in-Some.ensures.steps c.loop-key.invariant.2) after;
+      first = first_refusal-bad _ _ c.in-Some.key _ _ _ c.requires.refused (KeysLeft-next _ _ _ _ _ _ c.in-Some.ensures.steps c.loop-key.invariant.2) after;
       filled = λ none profile base. absurd (not_after-none c.in-Some.key _ none after);
       refused = tt;
     }
@@ -30,7 +30,7 @@ returns-in_err-take_value c =
       first = tt;
       filled = tt;
       refused = λ other. first_refusal-at _ _ c.in-Some.key _ _ _ _ _ _ c.requires.refused (sym c.is_after.ensures ∙ c.if-is_after.false)
-          (Left-next _ _ _ _ _ _ c.in-Some.ensures.steps c.loop-key.invariant.2) c.name.ensures c.in-Some-member.ensures (c.in_err-take_value.ensures.refused other);
+          (KeysLeft-next _ _ _ _ _ _ c.in-Some.ensures.steps c.loop-key.invariant.2) c.name.ensures c.in-Some-member.ensures (c.in_err-take_value.ensures.refused other);
     })
 
 pub returns : goal.returns
