@@ -84,13 +84,17 @@ pub record FindsNext (old : FinderState) (b : Bound) (new : FinderState) : Type 
   pub was_open : phase_in old.stand ≡ phase.Open
   pub is_open : phase_in new.stand ≡ phase.Open
 
+-- from one state to another that has given the same
+pub record KeepsGiven (old new : FinderState) : Type 0 where
+  pub kept : (bounds : List Bound) → HasFound old bounds → HasFound new bounds
+  pub task : SameTask old new
+  pub given : new.cursor.given ≡ old.cursor.given
+
 -- all was given, and the text has no fault that counts: so for good
 pub record FindsEnd (old new : FinderState) : Type 0 where
   pub all : (bounds : List Bound) → HasFound old bounds → IsFound (finder_text old) (options_of old) bounds None
   pub offset : (bounds : List Bound) → HasFound old bounds → MeetsEndAt (finder_text old) (options_of old) new.cursor.offset
-  pub kept : (bounds : List Bound) → HasFound old bounds → HasFound new bounds
-  pub task : SameTask old new
-  pub given : new.cursor.given ≡ old.cursor.given
+  pub keeps : KeepsGiven old new
   pub no_fault : (fault : Fault) → old.stand ≡ stand.Fault fault → ⊥
   pub ended : phase_in new.stand ≡ phase.End
 
@@ -98,9 +102,7 @@ pub record FindsEnd (old new : FinderState) : Type 0 where
 pub record FindsFault (old : FinderState) (fault : Fault) (new : FinderState) : Type 0 where
   pub all : (bounds : List Bound) → HasFound old bounds → IsFound (finder_text old) (options_of old) bounds (Some fault)
   pub offset : (bounds : List Bound) → HasFound old bounds → MeetsFaultAt (finder_text old) new.cursor.offset fault
-  pub kept : (bounds : List Bound) → HasFound old bounds → HasFound new bounds
-  pub task : SameTask old new
-  pub given : new.cursor.given ≡ old.cursor.given
+  pub keeps : KeepsGiven old new
   pub no_end : phase_in old.stand ≡ phase.End → ⊥
   pub again : (first : Fault) → old.stand ≡ stand.Fault first → fault ≡ first
   pub failed : new.stand ≡ stand.Fault fault

@@ -54,15 +54,15 @@ holds_line s at cursor text lines line opened ready first whole known =
     record { lines = lines; line = line; more = more.0; first = first; ready = ready; held = held ∙ more.1; few = more.2; known = λ some. known (subst (λ (bytes : List ℕ). 0 < length bytes) held some) }
 
 -- after these lines one is ready
-line_of : (s : ScannerState) (at : Stand) (cursor : CursorState) (text : List ℕ) (lines : List LogicalLine) (line : LogicalLine) → phase_in at ≡ phase.Open → s.ready ≡ Some line → HasReleased s text lines → HoldsLine (piece_finder_state s at cursor) text
-line_of s at cursor text lines line opened ready (inl h) = holds_line s at cursor text lines line opened ready h.first h.whole (λ some. inl (subst (λ (r : Option LogicalLine). IsSettled (take (fed_of s) text) (lines ++ ready_lines r)) ready (h.settled some)))
-line_of s at cursor text lines line opened ready (inr h) = holds_line s at cursor text lines line opened ready h.first h.whole (λ some. inr (h.ended, subst (λ (r : Option LogicalLine). IsLexed text (lines ++ ready_lines r) None) ready h.lexed))
+line_ready_after : (s : ScannerState) (at : Stand) (cursor : CursorState) (text : List ℕ) (lines : List LogicalLine) (line : LogicalLine) → phase_in at ≡ phase.Open → s.ready ≡ Some line → HasReleased s text lines → HoldsLine (piece_finder_state s at cursor) text
+line_ready_after s at cursor text lines line opened ready (inl h) = holds_line s at cursor text lines line opened ready h.first h.whole (λ some. inl (subst (λ (r : Option LogicalLine). IsSettled (take (fed_of s) text) (lines ++ ready_lines r)) ready (h.settled some)))
+line_ready_after s at cursor text lines line opened ready (inr h) = holds_line s at cursor text lines line opened ready h.first h.whole (λ some. inr (h.ended, subst (λ (r : Option LogicalLine). IsLexed text (lines ++ ready_lines r) None) ready h.lexed))
 
 -- where a line is ready
 pub line_any : (s : ScannerState) (at : Stand) (cursor : CursorState) (text : List ℕ) (bounds : List Bound) (line : LogicalLine) → phase_in at ≡ phase.Open → s.ready ≡ Some line → HasFoundIn (piece_finder_state s at cursor) text bounds → HoldsLine (piece_finder_state s at cursor) text
-line_any s (stand.Between skip) cursor text bounds line opened ready h = line_of s (stand.Between skip) cursor text h.reached.0.after.lines line opened ready h.reached.0.released
-line_any s (stand.Unread start skip) cursor text bounds line opened ready h = line_of s (stand.Unread start skip) cursor text h.reached.after.lines line opened ready h.reached.released
-line_any s (stand.Within p) cursor text bounds line opened ready h = line_of s (stand.Within p) cursor text h.reached.lines line opened ready h.reached.released
+line_any s (stand.Between skip) cursor text bounds line opened ready h = line_ready_after s (stand.Between skip) cursor text h.reached.0.after.lines line opened ready h.reached.0.released
+line_any s (stand.Unread start skip) cursor text bounds line opened ready h = line_ready_after s (stand.Unread start skip) cursor text h.reached.after.lines line opened ready h.reached.released
+line_any s (stand.Within p) cursor text bounds line opened ready h = line_ready_after s (stand.Within p) cursor text h.reached.lines line opened ready h.reached.released
 line_any s (stand.End passed) cursor text bounds line opened ready h = absurd cc
 line_any s (stand.Fault fault) cursor text bounds line opened ready h = absurd cc
 

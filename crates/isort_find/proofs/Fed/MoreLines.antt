@@ -104,11 +104,11 @@ lost_after old mid last piece t start first nothing =
     }
 
 -- what was taken so far within a call: nothing yet, or bytes
-abbrev pub HasTaken : PieceFinderState → List ℕ → ℕ → PieceFinderState → Type 0
-HasTaken old piece t mid = ((t ≡ 0) × (mid ≡ old)) ⊎ TakesLines old piece t mid
+abbrev pub HasTakenBytes : PieceFinderState → List ℕ → ℕ → PieceFinderState → Type 0
+HasTakenBytes old piece t mid = ((t ≡ 0) × (mid ≡ old)) ⊎ TakesLines old piece t mid
 
 -- more bytes were taken
-pub takes_next : (old mid new : PieceFinderState) (piece : List ℕ) (t n : ℕ) → HasTaken old piece t mid → TakesLines mid (drop t piece) n new → TakesLines old piece (t + n) new
+pub takes_next : (old mid new : PieceFinderState) (piece : List ℕ) (t n : ℕ) → HasTakenBytes old piece t mid → TakesLines mid (drop t piece) n new → TakesLines old piece (t + n) new
 takes_next old mid new piece t n (inl line_begun) next =
     let none = line_begun.0 in
     let all : n ≡ t + n = omega (arith, none) in
@@ -116,12 +116,12 @@ takes_next old mid new piece t n (inl line_begun) next =
 takes_next old mid new piece t n (inr first) next = takes_more old mid new piece t n first next
 
 -- a fault was met
-pub fault_next : (old mid new : PieceFinderState) (piece : List ℕ) (t : ℕ) (fault : Fault) → phase_in old.stand ≡ phase.Open → has_ready old ≡ false → phase_in mid.stand ≡ phase.Open → HasTaken old piece t mid → MeetsFaultIn mid (drop t piece) fault new → MeetsFaultIn old piece fault new
+pub fault_next : (old mid new : PieceFinderState) (piece : List ℕ) (t : ℕ) (fault : Fault) → phase_in old.stand ≡ phase.Open → has_ready old ≡ false → phase_in mid.stand ≡ phase.Open → HasTakenBytes old piece t mid → MeetsFaultIn mid (drop t piece) fault new → MeetsFaultIn old piece fault new
 fault_next old mid new piece t fault opened none going (inl line_begun) next = subst (λ (f : PieceFinderState). MeetsFaultIn f piece fault new) line_begun.1 (subst (λ (k : ℕ). MeetsFaultIn mid (drop k piece) fault new) line_begun.0 next)
 fault_next old mid new piece t fault opened none going (inr first) next = fault_after old mid new piece t fault opened none going first next
 
 -- memory ran out after the first byte
-pub lost_next : (old mid last : PieceFinderState) (piece : List ℕ) (t : ℕ) (start : LineStart) → (t ≡ 0 → ⊥) → HasTaken old piece t mid → TakesNothing mid last → TakesLines old piece t (lost last start)
+pub lost_next : (old mid last : PieceFinderState) (piece : List ℕ) (t : ℕ) (start : LineStart) → (t ≡ 0 → ⊥) → HasTakenBytes old piece t mid → TakesNothing mid last → TakesLines old piece t (lost last start)
 lost_next old mid last piece t start some (inl line_begun) nothing = absurd (some line_begun.0)
 lost_next old mid last piece t start some (inr first) nothing = lost_after old mid last piece t start first nothing
 
@@ -142,7 +142,7 @@ keeps_after old mid last piece opened none none_mid first keeps =
     }
 
 -- memory ran out before the first byte
-pub keeps_next : (old mid last : PieceFinderState) (piece : List ℕ) (t : ℕ) → t ≡ 0 → phase_in old.stand ≡ phase.Open → has_ready old ≡ false → has_ready mid ≡ false → HasTaken old piece t mid → TakesNothing mid last → TakesNothing old last
+pub keeps_next : (old mid last : PieceFinderState) (piece : List ℕ) (t : ℕ) → t ≡ 0 → phase_in old.stand ≡ phase.Open → has_ready old ≡ false → has_ready mid ≡ false → HasTakenBytes old piece t mid → TakesNothing mid last → TakesNothing old last
 keeps_next old mid last piece t is opened none none_mid (inl line_begun) nothing = subst (λ (f : PieceFinderState). TakesNothing f last) line_begun.1 nothing
 keeps_next old mid last piece t is opened none none_mid (inr first) nothing =
     let taken = subst (λ (k : ℕ). TakesLines old piece k mid) is first in

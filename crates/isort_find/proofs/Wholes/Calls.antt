@@ -56,9 +56,7 @@ goes_to_end i f goes at =
     record {
       all = λ bounds h. (met bounds h).0;
       offset = λ bounds h. (met bounds h).1;
-      kept = goes.keeps.kept;
-      task = task;
-      given = goes.keeps.given;
+      keeps = goes.keeps;
       no_fault = λ fault e. let both = not_met i f phase.End (phase.Fault fault) goes.start at (ap phase_in e) (λ x. cc) in cc;
       ended = at;
     }
@@ -72,9 +70,7 @@ goes_to_fault i f fault goes at =
     record {
       all = λ bounds h. (met bounds h).0;
       offset = λ bounds h. (met bounds h).1;
-      kept = goes.keeps.kept;
-      task = task;
-      given = goes.keeps.given;
+      keeps = goes.keeps;
       no_end = λ e. let both = not_met i f (phase.Fault fault) phase.End goes.start at e (λ x. cc) in cc;
       again = λ first e. let both = not_met i f (phase.Fault fault) (phase.Fault first) goes.start at (ap phase_in e) (λ x. cc) in cc;
       failed = stands;

@@ -13,9 +13,9 @@ use Rattle.isort_find.specs.Found.{ends_top, IsFound}
 use Rattle.isort_find.specs.Cursor.{CursorState, first_cursor, IsAfter, HasStopped}
 use Rattle.isort_find.specs.Pending.{pending_after}
 use Rattle.isort_find.specs.Stand.{phase_in, skip_in, left_in, is_unread, IsInside, MeetsEndAt, EndsInFaultAt}
-use Rattle.isort_find.specs.Finder.{FinderState, HasFound, IsBeforeLine, FinderRunsOut, finder_state, finder_text, options_of, bytes_to_read, left_of}
+use Rattle.isort_find.specs.Finder.{FinderState, HasFound, IsBeforeLine, FinderRunsOut, finder_state, finder_text, options_of, bytes_to_read, left_of, KeepsGiven}
 use Rattle.isort_find.specs.Private.CursorMoves.{cursor_before}
-use Rattle.isort_find.specs.Private.FinderSteps.{KeepsGiven, GoesBack, FollowsRead, ReadsOn, ReadsNextLine, ended_at_line, with_line, with_line_again}
+use Rattle.isort_find.specs.Private.FinderSteps.{GoesBack, FollowsRead, ReadsOn, ReadsNextLine, ended_at_line, with_line, with_line_again}
 use Rattle.isort_find.specs.Private.LineSteps.{GivesLine, StepsTo}
 use Rattle.isort_find.specs.Private.Walks.{WalkerState, read_again, unread_in, walker_state, with_stand}
 use Rattle.isort_find.specs.declared.error.FindError.{FindError}

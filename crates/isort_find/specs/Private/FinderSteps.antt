@@ -3,7 +3,7 @@ use Rattle.std.specs.Prelude.{◌≡◌, ℕ, ◌<◌, ◌≤◌, ◌⊎◌, Opt
 use Rattle.py_lines.specs.Reader.{GoesOnAt}
 use Rattle.py_imports.specs.Bound.{Bound, bound_of}
 use Rattle.py_imports.specs.declared.binding.Binding.{Binding}
-use Rattle.isort_find.specs.Finder.{FinderState, HasFound, SameTask, FindsNext, FinderRunsOut, finder_state, finder_text, left_of}
+use Rattle.isort_find.specs.Finder.{FinderState, KeepsGiven, FindsNext, FinderRunsOut, finder_state, finder_text, left_of}
 use Rattle.isort_find.specs.Pending.{pending_after}
 use Rattle.isort_find.specs.Stand.{phase_in, left_in, skip_in}
 use Rattle.isort_find.specs.Private.CursorMoves.{cursor_before}
@@ -20,12 +20,6 @@ use Rattle.isort_find.specs.declared.walker.Phase.TheVariants as phase
 -- the walker of a finder
 abbrev pub walker_in : FinderState → WalkerState
 walker_in f = walker_state f.stand f.cursor
-
--- from one state to another that has given the same
-pub record KeepsGiven (old new : FinderState) : Type 0 where
-  pub kept : (bounds : List Bound) → HasFound old bounds → HasFound new bounds
-  pub task : SameTask old new
-  pub given : new.cursor.given ≡ old.cursor.given
 
 -- nothing is left of the line read last
 pub record LooksThrough (old new : FinderState) : Type 0 where

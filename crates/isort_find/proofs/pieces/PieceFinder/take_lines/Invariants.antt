@@ -4,12 +4,12 @@ use Rattle.py_lines.specs.ScannerState.{ready_lines}
 use Rattle.isort_find.specs.Pieces.{fed_by, has_ready}
 use Rattle.isort_find.specs.Stand.{phase_in}
 use Rattle.isort_find.specs.declared.walker.Phase.TheVariants as phase
-use Rattle.isort_find.proofs.Fed.MoreLines.{HasTaken}
+use Rattle.isort_find.proofs.Fed.MoreLines.{HasTakenBytes}
 use Rattle.isort_find.proofs.pieces.PieceFinder.take_lines.Given as goal
 
 abbrev pub invariant-lines : goal.invariant-lines
 invariant-lines l = record {
-  takes : HasTaken l.initial.self l.piece l.taken l.self;
+  takes : HasTakenBytes l.initial.self l.piece l.taken l.self;
   within : l.taken ≤ length l.piece;
   fed : fed_by l.self ≡ fed_by l.initial.self + l.taken;
   is_open : phase_in l.self.stand ≡ phase.Open;
