@@ -8,15 +8,15 @@ use Rattle.py_lines.specs.declared.token.TokKind.TheVariants as kind
 use Rattle.py_lines.specs.declared.token.Token.{Token}
 use Rattle.py_lines.specs.declared.unit.UnitKind.{UnitKind}
 use Rattle.py_lines.specs.declared.unit.UnitKind.TheVariants as unit_kind
-use Rattle.py_imports.specs.Action.{says}
+use Rattle.py_imports.specs.ActionComment.{says}
 use Rattle.py_imports.specs.Binds.{Binds}
 use Rattle.py_imports.specs.Bound.{Bound}
 use Rattle.py_imports.specs.Declaration.{is_declaration}
 use Rattle.py_imports.specs.Grammar.{Imported}
 use Rattle.py_imports.specs.Shape.{mark_len, is_nothing, IsSortable, HasShape}
 use Rattle.py_imports.specs.Statement.{significant}
-use Rattle.py_imports.specs.declared.action.Action.{Action}
-use Rattle.py_imports.specs.declared.action.Action.TheVariants as action
+use Rattle.py_imports.specs.declared.action_comment.ActionComment.{ActionComment}
+use Rattle.py_imports.specs.declared.action_comment.ActionComment.TheVariants as action
 use Rattle.py_imports.specs.declared.shape.Shape.{Shape}
 use Rattle.py_imports.specs.declared.shape.Shape.TheVariants as shape
 use Rattle.isort_sort.specs.Line.{word_of, comment_texts, own_comments, imported_of}
@@ -27,7 +27,7 @@ is_comment_kind unit_kind.Comment = true
 is_comment_kind _ = false
 
 -- a line that holds comments alone, one of which says the action
-abbrev pub says_alone : Action → LogicalLine → Bool
+abbrev pub says_alone : ActionComment → LogicalLine → Bool
 says_alone a line = is_comment_kind line.kind && list_any (says a) (comment_texts line)
 
 -- a line turns sorting off; or on, which `off` beside it overrules

@@ -8,11 +8,11 @@ use Rattle.py_lines.specs.LogicalLine.{LogicalLine, cut, line_of}
 use Rattle.py_lines.specs.Neighbours.{AreSimple, MayTouch}
 use Rattle.py_lines.specs.Piece.{mark, line_end, Piece, begins, spelled}
 use Rattle.py_lines.specs.declared.unit.UnitKind.TheVariants as unit_kind
-use Rattle.py_imports.specs.Action.{says}
+use Rattle.py_imports.specs.ActionComment.{says}
 use Rattle.py_imports.specs.Names.{AreNamed}
 use Rattle.py_imports.specs.Shape.{mark_len}
-use Rattle.py_imports.specs.declared.action.Action.{Action}
-use Rattle.py_imports.specs.declared.action.Action.TheVariants as action
+use Rattle.py_imports.specs.declared.action_comment.ActionComment.{ActionComment}
+use Rattle.py_imports.specs.declared.action_comment.ActionComment.TheVariants as action
 use Rattle.isort_settings.specs.Values.{Values}
 use Rattle.isort_sort.specs.LaidAgain.{import_of, joined_comments}
 use Rattle.isort_sort.specs.Layout.{Laid}
@@ -67,7 +67,7 @@ pub record IsWrittenLine (space : List ℕ) (s : Laid) (marked closed : Bool) (l
   pub mark : mark_len line ≡ mark_bytes marked
   pub ended : nat_lt 0 line.end_len ≡ closed
   pub code : line.kind ≡ unit_kind.Code
-  pub says_no_more : (a : Action) → list_any (says a) s.comments ≡ false → list_any (says a) (comment_texts line) ≡ false
+  pub says_no_more : (a : ActionComment) → list_any (says a) s.comments ≡ false → list_any (says a) (comment_texts line) ≡ false
   pub no_string : (lines : List LogicalLine) → first_string_skips (line ∷ lines) ≡ false
 
 -- The pieces are those of a written statement, whose lines are these, with this line end between them: they are read,

@@ -5,7 +5,7 @@ ghost use Rattle.isort_sort.specs.declared.answer.SortError.TheVariants.{Memory}
 
 use py_imports::ImportError;
 use py_lines::{Fault, LexError};
-use std::alloc::{AllocError, AllocFailed};
+use std::alloc::AllocError;
 use thiserror::Error;
 
 /// A block of a text: import lines that are sorted together.
@@ -59,14 +59,6 @@ impl From<AllocError> for SortError {
     ghost from_gives = { λ _ e. e ≡ Memory };
 
     fn from(_error: AllocError) -> SortError {
-        SortError::Memory
-    }
-}
-
-impl<T: Drop> From<AllocFailed<T>> for SortError {
-    ghost from_gives = { λ _ e. e ≡ Memory };
-
-    fn from(_error: AllocFailed<T>) -> SortError {
         SortError::Memory
     }
 }

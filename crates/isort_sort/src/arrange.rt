@@ -1,12 +1,11 @@
 //! The layout of a block that was found.
-ghost use Rattle.std.specs.Prelude.{◌≡◌, IfOk, IfErr, string_bytes, if◌then◌else◌};
+ghost use Rattle.std.specs.Prelude.{◌≡◌, IfOk, string_bytes, if◌then◌else◌};
 ghost use Rattle.isort_settings.specs.Values.{values};
 ghost use Rattle.isort_sort.specs.Private.Arranged.{IsArranged};
 ghost use Rattle.isort_sort.specs.Private.Found.{blanks_of};
 ghost use Rattle.isort_sort.specs.Private.FoundValues.{found_value};
 ghost use Rattle.isort_sort.specs.Private.LineEnd.{end_bytes};
 
-use crate::answer::SortError;
 use crate::finder::FoundBlock;
 use crate::group::group_members;
 use crate::layout::block_text;
@@ -14,7 +13,7 @@ use crate::line_end::LineEnd;
 use crate::row::BlankLines;
 use crate::texts::push_times;
 use isort_settings::Settings;
-use std::alloc::Global;
+use std::alloc::{AllocError, Global};
 
 /// How many blank lines the settings, or the line after it, ask for after a block (isort documentation,
 /// "lines_after_imports").
@@ -54,9 +53,8 @@ pub(crate) fn arrange(
     settings: &Settings,
     end: LineEnd,
     block: FoundBlock,
-) -> Result<String, SortError>
-    ensures ok { IfOk result (λ text. IsArranged (values settings.now) (end_bytes end) (found_value block) (string_bytes text)) }
-    ensures err { IfErr result (λ e. e ≡ SortError.Memory) }
+) -> Result<String, AllocError>
+    ensures { IfOk result (λ text. IsArranged (values settings.now) (end_bytes end) (found_value block) (string_bytes text)) }
 {
     let blanks = blank_lines(settings, &block);
     let groups = group_members(alloc, settings, block.members)?;

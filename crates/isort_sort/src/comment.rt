@@ -2,13 +2,13 @@
 ghost use Rattle.std.specs.Prelude.{◌≡◌, ◌++◌, IfOk, IsTrue, OnOk, map, string_bytes};
 ghost use Rattle.std.specs.List.{list_any};
 ghost use Rattle.py_lines.specs.Lines.{line_in};
-ghost use Rattle.py_imports.specs.Action.{says};
+ghost use Rattle.py_imports.specs.ActionComment.{says};
 ghost use Rattle.isort_sort.specs.Line.{comment_texts, own_comments, stripped, without_hash};
 ghost use Rattle.isort_sort.specs.Private.Silence.{IsSilent, content_of};
 
 use crate::texts::push_copy;
 use memchr::memmem;
-use py_imports::{Action, says};
+use py_imports::{ActionComment, says};
 use py_lines::Unit;
 use std::alloc::{AllocError, Global};
 
@@ -31,14 +31,14 @@ pub(crate) fn is_silent(text: &[u8]) -> bool
 }
 
 /// Whether a comment or a string with this text says the action.
-pub(crate) fn text_says(text: &str, action: Action) -> bool
+pub(crate) fn text_says(text: &str, action: ActionComment) -> bool
     ensures { result ≡ says action text.now }
 {
     !is_silent(text.as_bytes()) && says(text, action)
 }
 
 /// Whether a comment of the line says the action.
-pub(crate) fn comments_say(unit: &Unit<'_>, action: Action) -> bool
+pub(crate) fn comments_say(unit: &Unit<'_>, action: ActionComment) -> bool
     ensures { result ≡ list_any (says action) (comment_texts (line_in unit.now)) }
 {
     'tokens: for (place, token) in unit.tokens.iter().enumerate() {

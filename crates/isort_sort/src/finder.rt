@@ -1,6 +1,6 @@
 //! Finding the blocks of a text, line by line.
 ghost use Rattle.std.specs.Prelude.{◌≡◌, ◌+◌, ◌<◌, ◌≤◌, ◌^◌, [], None, MatchOption, is_some, map, option_map};
-ghost use Rattle.std.specs.Prelude.{string_bytes, IfOk, OnOk, IfErr};
+ghost use Rattle.std.specs.Prelude.{string_bytes, IfOk, OnOk};
 ghost use Rattle.isort_sort.specs.Private.Finding.{after_blank, after_comments, after_member, after_other};
 ghost use Rattle.isort_sort.specs.Private.Finding.{begun_with, closed_before, closed_found, closed_block};
 ghost use Rattle.isort_sort.specs.Private.Finding.{with_blank, with_comments, with_member};
@@ -8,10 +8,9 @@ ghost use Rattle.isort_sort.specs.Private.FoundValues.{before_value, finding_val
 ghost use Rattle.isort_sort.specs.Private.LineRole.{before_of};
 ghost use Rattle.isort_sort.specs.Private.Values.{member_value};
 
-use crate::answer::SortError;
 use crate::member::Member;
 use crate::row::BlankLines;
-use std::alloc::Global;
+use std::alloc::{AllocError, Global};
 use std::mem;
 
 /// Where a line ends.
@@ -61,9 +60,8 @@ impl OpenBlock {
         line: LineStop,
         indentation: &str,
         member: Member,
-    ) -> Result<OpenBlock, SortError>
-        ensures ok { IfOk result (λ o. open_value o ≡ begun_with start line.stop line.ended indentation.now (member_value member)) }
-        ensures err { IfErr result (λ e. e ≡ SortError.Memory) }
+    ) -> Result<OpenBlock, AllocError>
+        ensures { IfOk result (λ o. open_value o ≡ begun_with start line.stop line.ended indentation.now (member_value member)) }
     {
         let mut members = Vec::new(alloc);
         members.push(member)?;
@@ -88,9 +86,8 @@ impl OpenBlock {
         alloc: Global,
         line: LineStop,
         mut member: Member,
-    ) -> Result<(), SortError>
-        ensures value { OnOk result (open_value self.new ≡ with_member line.stop line.ended (member_value member) (open_value self.old)) }
-        ensures err { IfErr result (λ e. e ≡ SortError.Memory) }
+    ) -> Result<(), AllocError>
+        ensures { OnOk result (open_value self.new ≡ with_member line.stop line.ended (member_value member) (open_value self.old)) }
     {
         member.above = mem::replace(&mut self.above, Vec::new(alloc));
         self.block.members.push(member)?;
@@ -116,9 +113,8 @@ impl OpenBlock {
     }
 
     /// Takes in comments.
-    fn push_comments(&mut self, mut comments: Vec<String>) -> Result<(), SortError>
-        ensures value { OnOk result (open_value self.new ≡ with_comments (map string_bytes comments.items) (open_value self.old)) }
-        ensures err { IfErr result (λ e. e ≡ SortError.Memory) }
+    fn push_comments(&mut self, mut comments: Vec<String>) -> Result<(), AllocError>
+        ensures { OnOk result (open_value self.new ≡ with_comments (map string_bytes comments.items) (open_value self.old)) }
     {
         self.above.append(&mut comments)?;
         self.commented = true;
@@ -204,13 +200,12 @@ impl BlockFinder {
         &mut self,
         line: LineStop,
         comments: Vec<String>,
-    ) -> Result<(), SortError>
+    ) -> Result<(), AllocError>
         requires counted { IsCounted (finding_value self.old) }
         requires further { (finding_value self.old).place ≤ line.stop }
         ensures value { OnOk result (finding_value self.new
             ≡ after_comments line.stop (map string_bytes comments.items) (finding_value self.old)) }
         ensures counted { OnOk result (IsCounted (finding_value self.new)) }
-        ensures err { IfErr result (λ e. e ≡ SortError.Memory) }
     {
         if let Some(open) = &mut self.open {
             open.push_comments(comments)?;
@@ -226,11 +221,10 @@ impl BlockFinder {
         line: LineStop,
         indentation: &str,
         member: Member,
-    ) -> Result<(), SortError>
+    ) -> Result<(), AllocError>
         ensures value { OnOk result (finding_value self.new
             ≡ after_member line.stop line.ended indentation.now (member_value member) (finding_value self.old)) }
         ensures counted { OnOk result (IsCounted (finding_value self.new)) }
-        ensures err { IfErr result (λ e. e ≡ SortError.Memory) }
     {
         let start = mem::replace(&mut self.place, line.stop);
         match &mut self.open {
@@ -246,28 +240,25 @@ impl BlockFinder {
     }
 
     /// Takes in a line that no block takes in.
-    pub(crate) fn push_other(&mut self, line: LineStop, next: BlankLines) -> Result<(), SortError>
+    pub(crate) fn push_other(&mut self, line: LineStop, next: BlankLines) -> Result<(), AllocError>
         ensures value { OnOk result (finding_value self.new ≡ after_other line.stop (before_of next) (finding_value self.old)) }
         ensures counted { OnOk result (IsCounted (finding_value self.new)) }
-        ensures err { IfErr result (λ e. e ≡ SortError.Memory) }
     {
         self.place = line.stop;
         self.close(Some(next))
     }
 
     /// All blocks of the lines.
-    pub(crate) fn finish(mut self) -> Result<Vec<FoundBlock>, SortError>
-        ensures ok { IfOk result (λ found. map found_value found.items ≡ closed_found None (finding_value self)) }
-        ensures err { IfErr result (λ e. e ≡ SortError.Memory) }
+    pub(crate) fn finish(mut self) -> Result<Vec<FoundBlock>, AllocError>
+        ensures { IfOk result (λ found. map found_value found.items ≡ closed_found None (finding_value self)) }
     {
         self.close(None)?;
         Ok(self.found)
     }
 
     /// Puts the block that may go on, if there is one, among those found: it ends before such a line.
-    fn close(&mut self, next: Option<BlankLines>) -> Result<(), SortError>
-        ensures value { OnOk result (finding_value self.new ≡ closed_before (before_value next) (finding_value self.old)) }
-        ensures err { IfErr result (λ e. e ≡ SortError.Memory) }
+    fn close(&mut self, next: Option<BlankLines>) -> Result<(), AllocError>
+        ensures { OnOk result (finding_value self.new ≡ closed_before (before_value next) (finding_value self.old)) }
     {
         if let Some(open) = self.open.take() {
             self.found.push(open.close(next))?;

@@ -1,5 +1,5 @@
 //! The statements of a block with what each takes from the members.
-ghost use Rattle.std.specs.Prelude.{◌≡◌, ◌++◌, IfOk, OnOk, IfErr, [], ◌∷◌, map, option_to_list, string_bytes};
+ghost use Rattle.std.specs.Prelude.{◌≡◌, ◌++◌, IfOk, OnOk, [], ◌∷◌, map, option_to_list, string_bytes};
 ghost use Rattle.std.specs.Option.{option_map};
 ghost use Rattle.isort_settings.specs.Values.{values};
 ghost use Rattle.indexmap.specs.IndexMap.{keys};
@@ -11,9 +11,8 @@ ghost use Rattle.isort_sort.specs.Order.{AreInOrder};
 ghost use Rattle.isort_sort.specs.Statement.{item_cmp};
 ghost use Rattle.isort_sort.specs.Private.Values.{item_value, member_value};
 
-use crate::answer::SortError;
 use crate::member::Member;
-use crate::statement::{Item, Statement, item_cmp};
+use crate::statement::{FromItem, Statement, item_cmp};
 use indexmap::{IndexMap, IndexSet};
 use isort_settings::laws::{modules_are_totally_ordered, names_are_totally_ordered};
 use isort_settings::{Section, Settings};
@@ -31,7 +30,7 @@ pub(crate) struct Group {
     /// The statement.
     pub(crate) statement: Statement,
     /// The items of `Names`, in order; none for the other statements.
-    pub(crate) items: Vec<Item>,
+    pub(crate) items: Vec<FromItem>,
     /// The own comments that it joins, each once, in source order.
     pub(crate) comments: Vec<String>,
     /// The comments that stand above it, in source order.
@@ -42,7 +41,7 @@ pub(crate) struct Group {
 #[derive(Drop)]
 struct Gathered {
     /// The items of `Names`; none for the other statements.
-    items: Vec<Item>,
+    items: Vec<FromItem>,
     /// The own comments of the members that begin with it.
     comments: Vec<String>,
     /// The comments above those members.
@@ -66,7 +65,7 @@ impl Gathered {
     /// Adds what an import brings.
     fn add(
         &mut self,
-        item: Option<Item>,
+        item: Option<FromItem>,
         mut comments: Vec<String>,
         mut above: Vec<String>,
     ) -> Result<(), AllocError>
@@ -90,9 +89,8 @@ impl Gathered {
         alloc: Global,
         settings: &Settings,
         statement: Statement,
-    ) -> Result<Group, SortError>
-        ensures ok { IfOk result (λ group. IsMade (values settings.now) statement self group) }
-        ensures err { IfErr result (λ e. e ≡ SortError.Memory) }
+    ) -> Result<Group, AllocError>
+        ensures { IfOk result (λ group. IsMade (values settings.now) statement self group) }
     {
         let Gathered {
             mut items,
@@ -121,7 +119,7 @@ fn each_once(alloc: Global, texts: Vec<String>) -> Result<Vec<String>, AllocErro
 }
 
 /// Puts items in order, each once.
-fn order_items(settings: &Settings, items: &mut Vec<Item>) -> Result<(), AllocError>
+fn order_items(settings: &Settings, items: &mut Vec<FromItem>) -> Result<(), AllocError>
     ensures { OnOk result (AreInOrder (item_cmp (values settings.now)) (map item_value items.old.items) (map item_value items.new.items)) }
 {
     names_are_totally_ordered();
@@ -148,7 +146,7 @@ struct Import {
     /// The statement that it belongs to.
     statement: Statement,
     /// Its item, if the statement is one of names.
-    item: Option<Item>,
+    item: Option<FromItem>,
     /// The own comments of its line, if it is the line's first import.
     comments: Vec<String>,
     /// The comments above its line, if it is the line's first import.
@@ -156,9 +154,8 @@ struct Import {
 }
 
 /// Adds what an import brings to its statement.
-fn gather(alloc: Global, statements: &mut Statements, import: Import) -> Result<(), SortError>
-    ensures ok { OnOk result (Gathers statements.old.entries (brought_value import ∷ []) statements.new.entries) }
-    ensures err { IfErr result (λ e. e ≡ SortError.Memory) }
+fn gather(alloc: Global, statements: &mut Statements, import: Import) -> Result<(), AllocError>
+    ensures { OnOk result (Gathers statements.old.entries (brought_value import ∷ []) statements.new.entries) }
 {
     let Import {
         statement,
@@ -177,10 +174,9 @@ fn gather_member(
     settings: &Settings,
     statements: &mut Statements,
     member: Member,
-) -> Result<(), SortError>
-    ensures ok { OnOk result (Gathers statements.old.entries (brought_by (values settings.now) (member_value member))
+) -> Result<(), AllocError>
+    ensures { OnOk result (Gathers statements.old.entries (brought_by (values settings.now) (member_value member))
         statements.new.entries) }
-    ensures err { IfErr result (λ e. e ≡ SortError.Memory) }
 {
     let Member {
         bindings,
@@ -205,10 +201,9 @@ fn gather_members(
     alloc: Global,
     settings: &Settings,
     members: Vec<Member>,
-) -> Result<Statements, SortError>
-    ensures ok { IfOk result (λ statements. Gathers [] (brought (values settings.now) (map member_value members.items))
+) -> Result<Statements, AllocError>
+    ensures { IfOk result (λ statements. Gathers [] (brought (values settings.now) (map member_value members.items))
         statements.entries) }
-    ensures err { IfErr result (λ e. e ≡ SortError.Memory) }
 {
     let mut statements = IndexMap::new(alloc);
     for member in members {
@@ -222,10 +217,9 @@ fn groups_of(
     alloc: Global,
     settings: &Settings,
     statements: Statements,
-) -> Result<Vec<Group>, SortError>
+) -> Result<Vec<Group>, AllocError>
     ensures made { IfOk result (λ groups. AreMade (values settings.now) statements.entries groups.items) }
     ensures distinct { OnOk result (AreDistinct (keys statements)) }
-    ensures err { IfErr result (λ e. e ≡ SortError.Memory) }
 {
     let mut groups = Vec::with_capacity(alloc, statements.len())?;
     for (statement, gathered) in statements {
@@ -239,9 +233,8 @@ pub(crate) fn group_members(
     alloc: Global,
     settings: &Settings,
     members: Vec<Member>,
-) -> Result<Vec<Group>, SortError>
-    ensures ok { IfOk result (λ groups. AreGrouped (values settings.now) (map member_value members.items) (map group_value groups.items)) }
-    ensures err { IfErr result (λ e. e ≡ SortError.Memory) }
+) -> Result<Vec<Group>, AllocError>
+    ensures { IfOk result (λ groups. AreGrouped (values settings.now) (map member_value members.items) (map group_value groups.items)) }
 {
     modules_are_totally_ordered();
     names_are_totally_ordered();

@@ -1,5 +1,5 @@
 //! The layout of a block.
-ghost use Rattle.std.specs.Prelude.{◌≡◌, ◌≢◌, ◌++◌, [], IfOk, IfErr, OnOk, codes, map, max, string_bytes};
+ghost use Rattle.std.specs.Prelude.{◌≡◌, ◌≢◌, ◌++◌, [], IfOk, OnOk, codes, map, max, string_bytes};
 ghost use Rattle.std.specs.List.{AllByRecursion, join_by};
 ghost use Rattle.isort_settings.specs.Values.{values};
 ghost use Rattle.isort_sort.specs.Private.Group.{group_value, IsTextOf};
@@ -8,10 +8,9 @@ ghost use Rattle.isort_sort.specs.Private.LineEnd.{end_bytes};
 ghost use Rattle.isort_sort.specs.Private.Packing.{text_with, HasSection};
 ghost use Rattle.isort_sort.specs.Private.Values.{statement_value};
 
-use crate::answer::SortError;
 use crate::group::Group;
 use crate::line_end::LineEnd;
-use crate::statement::{Item, Statement};
+use crate::statement::{FromItem, Statement};
 use crate::texts::push_times;
 use crate::width::width;
 use crate::wrap_mode::WrapMode;
@@ -68,7 +67,7 @@ struct Names<'a> {
     /// The module.
     path: &'a str,
     /// The names, in order; there is one.
-    items: &'a [Item],
+    items: &'a [FromItem],
     /// What its joined comments say.
     comments: &'a [String],
     ghost some: { items.now ≢ [] },
@@ -190,7 +189,7 @@ impl Layout<'_> {
         out: &mut String,
         room: usize,
         between: &'static str,
-        items: &[Item],
+        items: &[FromItem],
     ) -> Result<(), AllocError>
         ensures { OnOk result (string_bytes out.new ≡ string_bytes out.old
             ++ (self.now.indentation.now ++ (four_spaces ++ join_by items_text
@@ -278,7 +277,7 @@ impl Layout<'_> {
     }
 
     /// Whether the settings ask for more lines than one.
-    fn is_forced(&self, items: &[Item]) -> bool
+    fn is_forced(&self, items: &[FromItem]) -> bool
         ensures { result ≡ is_forced (values self.now.settings.now) (map item_value items.now) }
     {
         let least = self.settings.force_grid_wrap as usize;
@@ -286,7 +285,7 @@ impl Layout<'_> {
     }
 
     /// Whether a statement of names is wrapped, which would be this on one line.
-    fn wraps(&self, line: &[u8], items: &[Item]) -> bool
+    fn wraps(&self, line: &[u8], items: &[FromItem]) -> bool
         ensures { result ≡ wraps (values self.now.settings.now) line.now (map item_value items.now) }
     {
         let is_whole = match WrapMode::of(self.settings) {
@@ -436,12 +435,11 @@ pub(crate) fn block_text(
     end: LineEnd,
     ended: bool,
     groups: &[Group],
-) -> Result<String, SortError>
+) -> Result<String, AllocError>
     requires items { AllByRecursion (λ g. (group_value g).items ≢ []) groups.now }
     requires sections { AllByRecursion (HasSection (values settings.now)) groups.now }
-    ensures ok { IfOk result (λ text. IsTextOf (values settings.now) indentation.now (end_bytes end) ended
+    ensures { IfOk result (λ text. IsTextOf (values settings.now) indentation.now (end_bytes end) ended
         (map group_value groups.now) (string_bytes text)) }
-    ensures err { IfErr result (λ e. e ≡ SortError.Memory) }
 {
     let mut text = String::new(alloc);
     let end = end.as_str();

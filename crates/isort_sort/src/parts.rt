@@ -1,23 +1,22 @@
 //! A sorted text, part by part, as it is made.
-ghost use Rattle.std.specs.Prelude.{◌≡◌, ◌++◌, ◌≤◌, ℕ, List, [], length, slice_range, IfOk, IfErr, IfSome};
+ghost use Rattle.std.specs.Prelude.{◌≡◌, ◌++◌, ◌≤◌, ℕ, List, [], length, slice_range, IfOk, IfSome};
 ghost use Rattle.std.specs.Str.{IsUtf8};
 ghost use Rattle.isort_settings.specs.Values.{Values, values};
 ghost use Rattle.isort_sort.specs.Private.Parts.{part_text, parts_left, HasMade, Makes};
 ghost use Rattle.isort_sort.specs.Private.Reading.{IsFoundIn};
 ghost use Rattle.isort_sort.specs.Sorted.{IsLaidOut};
 
-use crate::answer::SortError;
 use crate::arrange::arrange;
 use crate::finder::FoundBlock;
 use crate::line_end::LineEnd;
 use crate::read::FoundText;
 use isort_settings::Settings;
-use std::alloc::Global;
+use std::alloc::{AllocError, Global};
 use std::vec::IntoIter;
 
 /// What a sorted text has up to the end of a block.
 #[derive(Drop)]
-pub(crate) struct Part<'t> {
+pub(crate) struct SortedPart<'t> {
     /// What stays of the text before the block.
     pub(crate) before: &'t [u8],
     /// The layout of the block.
@@ -33,7 +32,7 @@ fn between(text: &[u8], start: usize, stop: usize) -> &[u8]
     &text[start..stop]
 }
 
-impl Part<'_> {
+impl SortedPart<'_> {
     /// What follows the part, where the bytes begin with it.
     pub(crate) fn cut_off<'b>(&self, bytes: &'b [u8]) -> Option<&'b [u8]>
         ensures some { IfSome result (λ rest. bytes.now ≡ part_text self.now ++ rest.now) }
@@ -76,10 +75,9 @@ impl<'t> Parts<'t> {
     }
 
     /// The part up to the end of the next block; none where no block is left.
-    pub(crate) fn next(&mut self, alloc: Global) -> Result<Option<Part<'t>>, SortError>
+    pub(crate) fn next(&mut self, alloc: Global) -> Result<Option<SortedPart<'t>>, AllocError>
         requires { (text : List ℕ) × (v : Values) × (out : List ℕ) × HasMade text v self.old out }
-        ensures ok { IfOk result (λ part. Makes self.old part self.new) }
-        ensures err { IfErr result (λ e. e ≡ SortError.Memory) }
+        ensures { IfOk result (λ part. Makes self.old part self.new) }
     {
         let Some(block) = self.blocks.next() else {
             return Ok(None);
@@ -87,7 +85,7 @@ impl<'t> Parts<'t> {
         let before = between(self.text, self.at, block.start);
         self.at = block.stop;
         let layout = arrange(alloc, self.settings, self.end, block)?;
-        Ok(Some(Part { before, layout }))
+        Ok(Some(SortedPart { before, layout }))
     }
 
     /// What stays of the text after the last block.

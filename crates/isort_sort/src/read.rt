@@ -15,11 +15,11 @@ use crate::answer::SortError;
 use crate::comment::{comment_texts, is_silent, own_comments};
 use crate::finder::{BlockFinder, FoundBlock, LineStop};
 use crate::member::Member;
-use crate::row::{Role, indentation, is_off_after, mark_len, role_of};
+use crate::row::{Role, indentation, is_off_after, role_of};
 use crate::skip::SkipReader;
-use py_imports::{Binding, bindings_of, has_first_word};
+use py_imports::{Binding, bindings_of, has_first_word, mark_len};
 use py_lines::{Lines, Unit};
-use std::alloc::Global;
+use std::alloc::{AllocError, Global};
 
 /// What was found in a text.
 #[derive(Drop)]
@@ -84,7 +84,7 @@ impl LineReader {
         alloc: Global,
         unit: &Unit<'_>,
         bindings: Vec<Binding>,
-    ) -> Result<(), SortError>
+    ) -> Result<(), AllocError>
         requires binds { Binds (line_in unit.now) (map bound_of bindings.items) }
         requires some_text { 0 < length (line_in unit.now).text }
         requires counted { IsCounted (finding_value self.old.blocks) }
@@ -93,7 +93,6 @@ impl LineReader {
         ensures counted { OnOk result (IsCounted (finding_value self.new.blocks)) }
         ensures place { OnOk result ((finding_value self.new.blocks).place
             ≤ (finding_value self.old.blocks).place + length (line_in unit.now).text) }
-        ensures err { IfErr result (λ e. e ≡ SortError.Memory) }
     {
         let mark = self.begin(alloc, unit);
         find_line(&mut self.blocks, alloc, unit, bindings, self.off, mark)?;
@@ -152,9 +151,8 @@ impl LineReader {
     }
 
     /// What was found in the text of the lines.
-    fn finish(self) -> Result<FoundText, SortError>
-        ensures ok { IfOk result (λ found. (text : List ℕ) → IsWholeRead text self → IsFoundIn text found) }
-        ensures err { IfErr result (λ e. e ≡ SortError.Memory) }
+    fn finish(self) -> Result<FoundText, AllocError>
+        ensures { IfOk result (λ found. (text : List ℕ) → IsWholeRead text self → IsFoundIn text found) }
     {
         if self.skip.skips {
             return Ok(FoundText::Skipped);
@@ -171,7 +169,7 @@ fn find_line(
     bindings: Vec<Binding>,
     off: bool,
     mark: usize,
-) -> Result<(), SortError>
+) -> Result<(), AllocError>
     requires binds { Binds (line_in unit.now) (map bound_of bindings.items) }
     requires mark { mark ≤ length (line_in unit.now).text }
     requires counted { IsCounted (finding_value blocks.old) }
@@ -181,7 +179,6 @@ fn find_line(
     ensures counted { OnOk result (IsCounted (finding_value blocks.new)) }
     ensures place { OnOk result ((finding_value blocks.new).place
         ≡ (finding_value blocks.old).place + (length (line_in unit.now).text - mark)) }
-    ensures err { IfErr result (λ e. e ≡ SortError.Memory) }
 {
     let line = LineStop {
         stop: blocks.place() + (unit.text.len() - mark),
@@ -217,5 +214,5 @@ pub(crate) fn find_blocks(alloc: Global, text: &[u8]) -> Result<FoundText, SortE
 {
     let mut reader = LineReader::new(alloc);
     reader.read(alloc, text)?;
-    reader.finish()
+    Ok(reader.finish()?)
 }

@@ -1,12 +1,12 @@
 //! What a logical line is to sorting.
 ghost use Rattle.std.specs.Prelude.{◌≡◌};
 ghost use Rattle.py_lines.specs.Lines.{line_in};
-ghost use Rattle.py_imports.specs.Shape.{IsSortable, mark_len};
+ghost use Rattle.py_imports.specs.Shape.{IsSortable};
 ghost use Rattle.isort_sort.specs.Private.LineRole.{before_of, IsOfRole, turned};
 ghost use Rattle.isort_sort.specs.Row.{before_line, indentation_of, is_comment_kind, parts_blocks, says_alone};
 
 use crate::comment::comments_say;
-use py_imports::{Action, Shape, is_declaration, shape_of};
+use py_imports::{ActionComment, Shape, is_declaration, mark_len, shape_of};
 use py_lines::{Unit, UnitKind};
 
 /// What a line asks of the blank lines between a block and itself.
@@ -33,17 +33,6 @@ pub(crate) enum Role {
     Other(BlankLines),
 }
 
-/// How many bytes of a byte order mark the line begins with.
-pub(crate) fn mark_len(unit: &Unit<'_>) -> usize
-    ensures { result ≡ mark_len (line_in unit.now) }
-{
-    if unit.text.as_bytes().starts_with(b"\xef\xbb\xbf") {
-        3
-    } else {
-        0
-    }
-}
-
 /// The indentation of a line that can be sorted.
 pub(crate) fn indentation<'s>(unit: &Unit<'s>) -> &'s str
     requires { IsSortable (line_in unit.now) }
@@ -61,7 +50,7 @@ fn is_comment_kind(kind: UnitKind) -> bool
 }
 
 /// Whether the line holds comments alone, one of which says the action.
-fn says_alone(unit: &Unit<'_>, action: Action) -> bool
+fn says_alone(unit: &Unit<'_>, action: ActionComment) -> bool
     ensures { result ≡ says_alone action (line_in unit.now) }
 {
     is_comment_kind(unit.kind) && comments_say(unit, action)
@@ -71,14 +60,16 @@ fn says_alone(unit: &Unit<'_>, action: Action) -> bool
 pub(crate) fn is_off_after(unit: &Unit<'_>, off: bool) -> bool
     ensures { result ≡ turned off (line_in unit.now) }
 {
-    says_alone(unit, Action::Off) || (off && !says_alone(unit, Action::On))
+    says_alone(unit, ActionComment::Off) || (off && !says_alone(unit, ActionComment::On))
 }
 
 /// Whether the line parts blocks.
 fn parts_blocks(unit: &Unit<'_>) -> bool
     ensures { result ≡ parts_blocks (line_in unit.now) }
 {
-    says_alone(unit, Action::Off) || says_alone(unit, Action::On) || says_alone(unit, Action::Split)
+    says_alone(unit, ActionComment::Off)
+        || says_alone(unit, ActionComment::On)
+        || says_alone(unit, ActionComment::Split)
 }
 
 /// What a line asks of the blank lines between a block and itself, where it is neither a member nor between members.

@@ -3,15 +3,15 @@ ghost use Rattle.std.specs.Prelude.{◌≡◌, List, [], ◌∷◌, ◌++◌, no
 ghost use Rattle.std.specs.List.{list_any, position};
 ghost use Rattle.py_lines.specs.Lines.{line_in};
 ghost use Rattle.py_lines.specs.LogicalLine.{LogicalLine};
-ghost use Rattle.py_imports.specs.Action.{says};
+ghost use Rattle.py_imports.specs.ActionComment.{says};
 ghost use Rattle.py_imports.specs.Statement.{is_comment, significant};
-ghost use Rattle.py_imports.specs.declared.action.Action.TheVariants as action;
+ghost use Rattle.py_imports.specs.declared.action_comment.ActionComment.TheVariants as action;
 ghost use Rattle.isort_sort.specs.Line.{comment_texts};
 ghost use Rattle.isort_sort.specs.Private.Reading.{has_code, IsSkipSoFar};
 ghost use Rattle.isort_sort.specs.Row.{is_string, string_skips};
 
 use crate::comment::{comments_say, text_says};
-use py_imports::Action;
+use py_imports::ActionComment;
 use py_lines::{TokKind, Token, Unit};
 
 /// The place of the first token that is no comment.
@@ -41,7 +41,8 @@ fn string_skips(unit: &Unit<'_>) -> bool
 {
     match first_code(unit.tokens) {
         Some(place) => {
-            is_string(unit.tokens[place].kind) && text_says(unit.word(place), Action::SkipFile)
+            is_string(unit.tokens[place].kind)
+                && text_says(unit.word(place), ActionComment::SkipFile)
         }
         None => false,
     }
@@ -90,6 +91,8 @@ impl SkipReader {
             || (not self.now.begun && string_skips (line_in unit.now)
             (slice_get (significant (line_in unit.now).tokens) 0)) }
     {
-        self.skips || comments_say(unit, Action::SkipFile) || (!self.begun && string_skips(unit))
+        self.skips
+            || comments_say(unit, ActionComment::SkipFile)
+            || (!self.begun && string_skips(unit))
     }
 }

@@ -1,5 +1,5 @@
 //! Sorting a text, in memory or to a writer.
-ghost use Rattle.std.specs.Prelude.{◌≡◌, ◌≢◌, IfOk, IfErr};
+ghost use Rattle.std.specs.Prelude.{◌≡◌, ◌≢◌, IfOk, IfErr, map};
 ghost use Rattle.isort_settings.specs.Values.{values};
 ghost use Rattle.isort_sort.specs.Answers.{AreBlocksOf, Checks, IsRefused, Sorts, StaysSorted};
 ghost use Rattle.isort_sort.specs.Private.Found.{span_of};
@@ -17,7 +17,7 @@ use crate::sorted_text::SortedText;
 use crate::write::write_whole;
 use isort_settings::Settings;
 use isort_settings::laws::{modules_are_totally_ordered, names_are_totally_ordered};
-use std::alloc::Global;
+use std::alloc::{AllocError, Global};
 use std::io::Write;
 
 /// The span of a block, and how many members it has.
@@ -31,6 +31,17 @@ fn span(block: &FoundBlock) -> Block
     }
 }
 
+/// The spans of the blocks, in order.
+fn spans(alloc: Global, found: &[FoundBlock]) -> Result<Vec<Block>, AllocError>
+    ensures { IfOk result (λ blocks. blocks.items ≡ map (λ b. span_of (found_value b)) found.now) }
+{
+    let mut blocks = Vec::new(alloc);
+    'found: for block in found {
+        blocks.push(span(block))?;
+    }
+    Ok(blocks)
+}
+
 /// The blocks of a text, in order; none where the text asks to be left as it is.
 ///
 /// The errors are the fault of a text that isn't accepted, and `Memory`.
@@ -38,13 +49,10 @@ pub fn blocks(alloc: Global, text: &[u8]) -> Result<Vec<Block>, SortError>
     ensures ok { IfOk result (λ blocks. AreBlocksOf text.now blocks.items) }
     ensures err { IfErr result (λ e. IsRefused text.now e) }
 {
-    let mut blocks = Vec::new(alloc);
-    if let FoundText::Blocks(found) = find_blocks(alloc, text)? {
-        'found: for block in &found {
-            blocks.push(span(block))?;
-        }
+    match find_blocks(alloc, text)? {
+        FoundText::Blocks(found) => Ok(spans(alloc, &found)?),
+        FoundText::Skipped => Ok(Vec::new(alloc)),
     }
-    Ok(blocks)
 }
 
 /// The sorted text: each block replaced by its layout, and no other byte. Sorted again under the same settings, it is `Same`.

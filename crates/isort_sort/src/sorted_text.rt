@@ -12,11 +12,11 @@ ghost use Rattle.isort_sort.specs.Written.{AppendsPrefix};
 use crate::answer::SortError;
 use crate::finder::FoundBlock;
 use crate::metered::{Last, Metered};
-use crate::parts::{Part, Parts};
+use crate::parts::{Parts, SortedPart};
 use crate::read::FoundText;
 use crate::write::write_whole;
 use isort_settings::Settings;
-use std::alloc::Global;
+use std::alloc::{AllocError, Global};
 use std::io::Write;
 use std::str;
 
@@ -24,7 +24,7 @@ use std::str;
 #[derive(Drop)]
 pub(crate) struct SortedText<'t> {
     /// The parts, one after another.
-    parts: Vec<Part<'t>>,
+    parts: Vec<SortedPart<'t>>,
     /// What stays of the text after the last part.
     rest: &'t [u8],
 }
@@ -36,12 +36,11 @@ impl<'t> SortedText<'t> {
         text: &'t [u8],
         settings: &'t Settings,
         blocks: Vec<FoundBlock>,
-    ) -> Result<SortedText<'t>, SortError>
+    ) -> Result<SortedText<'t>, AllocError>
         requires { IsFoundIn text.now (FoundText.Blocks blocks) }
         ensures laid { IfOk result (λ sorted. IsLaidOut text.now (values settings.now) (sorted_bytes sorted)) }
         ensures parts { IfOk result (λ sorted. AreTexts sorted.parts.items) }
         ensures rest { IfOk result (λ sorted. IsUtf8 sorted.rest.now) }
-        ensures err { IfErr result (λ e. e ≡ SortError.Memory) }
     {
         let mut made = Parts::new(text, settings, blocks);
         let mut parts = Vec::new(alloc);
@@ -69,11 +68,10 @@ impl<'t> SortedText<'t> {
     }
 
     /// It as one text.
-    pub(crate) fn joined(&self, alloc: Global) -> Result<String, SortError>
+    pub(crate) fn joined(&self, alloc: Global) -> Result<String, AllocError>
         requires parts { AreTexts self.now.parts.items }
         requires rest { IsUtf8 self.now.rest.now }
-        ensures ok { IfOk result (λ sorted. string_bytes sorted ≡ sorted_bytes self.now) }
-        ensures err { IfErr result (λ e. e ≡ SortError.Memory) }
+        ensures { IfOk result (λ sorted. string_bytes sorted ≡ sorted_bytes self.now) }
     {
         let mut sorted = String::new(alloc);
         'parts: for part in &self.parts {

@@ -17,7 +17,7 @@ use std::cmp::Ordering;
 
 /// An item of `from MODULE import ..`: a name, and its alias.
 #[derive(Drop, PartialEq, Eq, Hash)]
-pub(crate) struct Item {
+pub(crate) struct FromItem {
     /// The name that is imported.
     pub(crate) name: String,
     /// The name that it is bound to, if that is another one.
@@ -43,13 +43,13 @@ pub(crate) enum Statement {
     /// `from MODULE import ..`, with one item that stands alone.
     Single {
         module: String,
-        item: Item,
+        item: FromItem,
     },
 }
 
 impl Statement {
     /// The statement that an import belongs to; and its item, if the statement is one of names.
-    pub(crate) fn of_binding(settings: &Settings, binding: Binding) -> (Statement, Option<Item>)
+    pub(crate) fn of_binding(settings: &Settings, binding: Binding) -> (Statement, Option<FromItem>)
         ensures statement { statement_value result.0 ≡ statement_of (values settings.now) (imported_of (bound_of binding)) }
         ensures item { option_to_list (option_map item_value result.1)
             ≡ listed_item (values settings.now) (imported_of (bound_of binding)) }
@@ -68,7 +68,7 @@ impl Statement {
             return (Statement::Star { module }, None);
         }
         let alone = settings.force_single_line || alias.is_some() && !settings.combine_as_imports;
-        let item = Item { name, alias };
+        let item = FromItem { name, alias };
         if alone {
             (Statement::Single { module, item }, None)
         } else {
@@ -185,7 +185,7 @@ fn alias_cmp(settings: &Settings, a: Option<&str>, b: Option<&str>) -> Ordering
 }
 
 /// The order of two items: by name, and then by alias.
-pub(crate) fn item_cmp(settings: &Settings, a: &Item, b: &Item) -> Ordering
+pub(crate) fn item_cmp(settings: &Settings, a: &FromItem, b: &FromItem) -> Ordering
     ensures { result ≡ item_cmp (values settings.now) (item_value a.now) (item_value b.now) }
 {
     settings

@@ -8,7 +8,7 @@ ghost use Rattle.isort_sort.specs.Private.Values.{item_value};
 ghost use Rattle.isort_sort.specs.Wrapping.{item_text, items_text, head, remark};
 ghost use Rattle.isort_sort.specs.Private.Packing.{packed};
 
-use crate::statement::Item;
+use crate::statement::FromItem;
 use crate::texts::push_times;
 use crate::width::width;
 use std::alloc::AllocError;
@@ -25,7 +25,7 @@ pub(crate) fn push_alias(out: &mut String, alias: &Option<String>) -> Result<(),
 }
 
 /// Puts an item after `out`.
-fn push_item(out: &mut String, item: &Item) -> Result<(), AllocError>
+fn push_item(out: &mut String, item: &FromItem) -> Result<(), AllocError>
     ensures { OnOk result (string_bytes out.new ≡ string_bytes out.old ++ item_text (item_value item.now)) }
 {
     out.push_str(item.name.as_str())?;
@@ -33,7 +33,7 @@ fn push_item(out: &mut String, item: &Item) -> Result<(), AllocError>
 }
 
 /// Puts items after `out`, on one line.
-pub(crate) fn push_items(out: &mut String, items: &[Item]) -> Result<(), AllocError>
+pub(crate) fn push_items(out: &mut String, items: &[FromItem]) -> Result<(), AllocError>
     ensures { OnOk result (string_bytes out.new ≡ string_bytes out.old ++ items_text (map item_value items.now)) }
 {
     let mut before = "";
@@ -75,7 +75,7 @@ pub(crate) fn bracket_width(module: &str) -> usize
 }
 
 /// What is left of so many characters after an item, if it isn't longer.
-fn room_after(room: usize, item: &Item) -> Option<usize>
+fn room_after(room: usize, item: &FromItem) -> Option<usize>
     ensures { SomeIff result (width.width (item_text (item_value item.now)) ≤ room)
         (room - width.width (item_text (item_value item.now))) }
 {
@@ -89,7 +89,7 @@ fn room_after(room: usize, item: &Item) -> Option<usize>
 }
 
 /// What is left of so many characters after `, ` and an item, if they aren't longer.
-fn room_after_next(room: usize, item: &Item) -> Option<usize>
+fn room_after_next(room: usize, item: &FromItem) -> Option<usize>
     ensures { SomeIff result (2 + width.width (item_text (item_value item.now)) ≤ room)
         (room - (2 + width.width (item_text (item_value item.now)))) }
 {
@@ -125,7 +125,7 @@ impl Wrap<'_> {
     }
 
     /// Puts items after `out`, as many on each line as fit.
-    pub(crate) fn push_items(&self, out: &mut String, items: &[Item]) -> Result<(), AllocError>
+    pub(crate) fn push_items(&self, out: &mut String, items: &[FromItem]) -> Result<(), AllocError>
         ensures { OnOk result (string_bytes out.new ≡ string_bytes out.old
             ++ join_by items_text (next_line self.now)
             (packed self.now.room (map item_value items.now))) }

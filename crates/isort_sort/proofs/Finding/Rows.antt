@@ -10,7 +10,7 @@ use Rattle.isort_sort.specs.Private.Finding.{Open, Finding, EndInOpenRun, IsClos
 use Rattle.isort_sort.specs.Member.{Member}
 use Rattle.isort_sort.specs.Row.{Before, one, Row, comments, blank, other}
 use Rattle.isort_sort.specs.Sorted.{texts_of, before_role}
-use Rattle.isort_sort.proofs.Finding.Steps.{texts_len, blank_step, comments_step, member_step, begin_step, Stops, stops_at, no_blank, begins_later, none_between, IsEnded, ended, open_place}
+use Rattle.isort_sort.proofs.Finding.Steps.{texts_len, blank_step, comments_step, member_step, begin_step, Stops, stops_at, no_blank, begins_later, none_between, IsEndedRun, ended, open_place}
 use Rattle.isort_sort.proofs.Finding.RoleTests.{of_member}
 use Rattle.std.proofs.lemmas.Bool.{and_right}
 
@@ -64,7 +64,7 @@ found_comments mark rows f row stop cs passed h r same s = left_pushed mark rows
 -- a block ends before a row
 pub closed_at : (mark : ℕ) (rows left : List Row) (found : List Found) (at : ℕ) (o : Open) (row : Row) (c : IsClosed mark rows left found at) (h : EndInOpenRun at left o) → Stops h.run.first.indentation row → IsClosed mark (rows ++ row ∷ []) (h.later ++ row ∷ []) (found ++ closed_block (Some (before_role row.role)) o ∷ []) o.found.stop
 closed_at mark rows left found at o row c h s =
-    let end : (more : List Row) → IsEnded at left (row ∷ more) o h (Some (before_role row.role)) = λ more. ended at left (row ∷ more) o h (stops_at h.run.first.indentation row more s) (begins_later h.later more row h.ends (no_blank row.role s.between)) in
+    let end : (more : List Row) → IsEndedRun at left (row ∷ more) o h (Some (before_role row.role)) = λ more. ended at left (row ∷ more) o h (stops_at h.run.first.indentation row more s) (begins_later h.later more row h.ends (no_blank row.role s.between)) in
     record {
       wrap = λ cut. c.wrap (block h.before h.run h.blanks cut);
       cuts = λ more cut is.
@@ -178,7 +178,7 @@ all_found mark rows f h = by f.opened refl h.now
         }
     by (Some o) e now =
         let last : IsCutAtBlocks (now.later ++ []) (rest now.later) = record { all = sym (append-nil now.later); blocks = none_between now.later now.between } in
-        let end : IsEnded h.at h.left [] o now None = ended h.at h.left [] o now refl (ap begins_blank (append-nil now.later) ∙ now.ends) in
+        let end : IsEndedRun h.at h.left [] o now None = ended h.at h.left [] o now refl (ap begins_blank (append-nil now.later) ∙ now.ends) in
         let cut : Cut = block now.before now.run now.blanks (rest now.later) in
         let is = end.cuts (rest now.later) last in
         record {

@@ -228,11 +228,11 @@ pub open_place : (at : ℕ) (left : List Row) (o : Open) (h : EndInOpenRun at le
 open_place at left o h = omega (arith, split_len left h.before (run_rows h.run) h.blanks h.later h.split, ap (λ (f : Found). f.stop) h.found)
 
 -- the block of an open run that ends before these rows
-pub record IsEnded (at : ℕ) (left more : List Row) (o : Open) (h : EndInOpenRun at left o) (next : Option Before) : Type 0 where
+pub record IsEndedRun (at : ℕ) (left more : List Row) (o : Open) (h : EndInOpenRun at left o) (next : Option Before) : Type 0 where
   pub cuts : (cut : Cut) → IsCutAtBlocks (h.later ++ more) cut → IsCutAtBlocks (left ++ more) (block h.before h.run h.blanks cut)
   pub spans : (cut : Cut) → IsCutAtBlocks (h.later ++ more) cut → found_from at (block h.before h.run h.blanks cut) ≡ closed_block next o ∷ found_from o.found.stop cut
 
-pub ended : (at : ℕ) (left more : List Row) (o : Open) (h : EndInOpenRun at left o) → leads_to h.run.first.indentation more ≡ false → begins_blank (h.later ++ more) ≡ false → IsEnded at left more o h (next_of more)
+pub ended : (at : ℕ) (left more : List Row) (o : Open) (h : EndInOpenRun at left o) → leads_to h.run.first.indentation more ≡ false → begins_blank (h.later ++ more) ≡ false → IsEndedRun at left more o h (next_of more)
 ended at left more o h stops begins = record {
   cuts = λ cut is. record {
     all = ap (λ (rows : List Row). h.before ++ (run_rows h.run ++ (h.blanks ++ rows))) is.all ∙ sym (ap (λ (rows : List Row). rows ++ more) h.split ∙ regroup h.before (run_rows h.run) h.blanks h.later);

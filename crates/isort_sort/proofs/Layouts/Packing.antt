@@ -11,7 +11,7 @@ use Rattle.isort_sort.specs.Width.{width}
 use Rattle.isort_sort.specs.Private.Values.{item_value}
 use Rattle.isort_sort.specs.Wrapping.{item_text, items_text}
 use Rattle.isort_sort.specs.Private.Packing.{packed, packed_after}
-use Rattle.isort_sort.specs.declared.statement.Item as code
+use Rattle.isort_sort.specs.declared.statement.FromItem as code
 use Rattle.isort_sort.proofs.Layouts.Lengths.{width-append}
 
 abbrev pub item_width : Item → ℕ
@@ -44,7 +44,7 @@ more_items-breaks next room i items left rest h e =
     ∙ ap (λ n. next ++ (item_text i ++ more_items next room items n)) (sym e)
 
 -- one item more
-pub more_items-drop : (next : List ℕ) (room left : ℕ) (others : List code.Item) (k : ℕ) (x : code.Item) → k < length others → x ≡ get_or others k x → more_items next room (map item_value (drop k others)) left ≡ more_items next room (item_value x ∷ map item_value (drop (k + 1) others)) left
+pub more_items-drop : (next : List ℕ) (room left : ℕ) (others : List code.FromItem) (k : ℕ) (x : code.FromItem) → k < length others → x ≡ get_or others k x → more_items next room (map item_value (drop k others)) left ≡ more_items next room (item_value x ∷ map item_value (drop (k + 1) others)) left
 more_items-drop next room left others k x h e =
     at_drop_more (λ xs. more_items next room (map item_value xs) left) others k x h
     ∙ ap (λ y. more_items next room (item_value y ∷ map item_value (drop (k + 1) others)) left) (sym e)
@@ -111,16 +111,16 @@ one_more at sep item rest before more whole mid out a b e f w =
     ap (λ t. t ++ rest) (b ∙ ap (λ t. t ++ item) a) ∙ regroup at sep item rest ∙ ap (λ t. at ++ t) (sym f ∙ sym e) ∙ w
 
 -- one item more, on the same line or on the next one
-pub item_written : (next : List ℕ) (room left rest : ℕ) (others : List code.Item) (k : ℕ) (x : code.Item) (at mid out whole : List ℕ) → k < length others → x ≡ get_or others k x → 2 + item_width (item_value x) ≤ left → rest ≡ left - (2 + item_width (item_value x)) → mid ≡ at ++ codes ", " → out ≡ mid ++ item_text (item_value x) → at ++ more_items next room (map item_value (drop k others)) left ≡ whole → out ++ more_items next room (map item_value (drop (k + 1) others)) rest ≡ whole
+pub item_written : (next : List ℕ) (room left rest : ℕ) (others : List code.FromItem) (k : ℕ) (x : code.FromItem) (at mid out whole : List ℕ) → k < length others → x ≡ get_or others k x → 2 + item_width (item_value x) ≤ left → rest ≡ left - (2 + item_width (item_value x)) → mid ≡ at ++ codes ", " → out ≡ mid ++ item_text (item_value x) → at ++ more_items next room (map item_value (drop k others)) left ≡ whole → out ++ more_items next room (map item_value (drop (k + 1) others)) rest ≡ whole
 item_written next room left rest others k x at mid out whole below is fits less before after so_far =
     one_more at (codes ", ") (item_text (item_value x)) _ _ _ whole mid out before after (more_items-drop next room left others k x below is) (more_items-fits next room (item_value x) (map item_value (drop (k + 1) others)) left rest fits less) so_far
 
-pub item_written_below : (next : List ℕ) (room left rest : ℕ) (others : List code.Item) (k : ℕ) (x : code.Item) (at mid out whole : List ℕ) → k < length others → x ≡ get_or others k x → left < 2 + item_width (item_value x) → rest ≡ room - item_width (item_value x) → mid ≡ at ++ next → out ≡ mid ++ item_text (item_value x) → at ++ more_items next room (map item_value (drop k others)) left ≡ whole → out ++ more_items next room (map item_value (drop (k + 1) others)) rest ≡ whole
+pub item_written_below : (next : List ℕ) (room left rest : ℕ) (others : List code.FromItem) (k : ℕ) (x : code.FromItem) (at mid out whole : List ℕ) → k < length others → x ≡ get_or others k x → left < 2 + item_width (item_value x) → rest ≡ room - item_width (item_value x) → mid ≡ at ++ next → out ≡ mid ++ item_text (item_value x) → at ++ more_items next room (map item_value (drop k others)) left ≡ whole → out ++ more_items next room (map item_value (drop (k + 1) others)) rest ≡ whole
 item_written_below next room left rest others k x at mid out whole below is long less before after so_far =
     one_more at next (item_text (item_value x)) _ _ _ whole mid out before after (more_items-drop next room left others k x below is) (more_items-breaks next room (item_value x) (map item_value (drop (k + 1) others)) left rest long less) so_far
 
 -- all items
-pub items_written : (next : List ℕ) (room left rest : ℕ) (all others : List code.Item) (x : code.Item) (k : ℕ) (old first out : List ℕ) → all ≡ x ∷ others → first ≡ old ++ item_text (item_value x) → left ≡ room - item_width (item_value x) → length others ≤ k → out ++ more_items next room (map item_value (drop k others)) rest ≡ first ++ more_items next room (map item_value others) left → out ≡ old ++ join_by items_text next (packed room (map item_value all))
+pub items_written : (next : List ℕ) (room left rest : ℕ) (all others : List code.FromItem) (x : code.FromItem) (k : ℕ) (old first out : List ℕ) → all ≡ x ∷ others → first ≡ old ++ item_text (item_value x) → left ≡ room - item_width (item_value x) → length others ≤ k → out ++ more_items next room (map item_value (drop k others)) rest ≡ first ++ more_items next room (map item_value others) left → out ≡ old ++ join_by items_text next (packed room (map item_value all))
 items_written next room left rest all others x k old first out is begun less end so_far =
     let i : Item = item_value x in
     let more : List ℕ = more_items next room (map item_value others) left in

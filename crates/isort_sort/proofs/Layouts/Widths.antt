@@ -7,7 +7,7 @@ use Rattle.py_imports.specs.Spelled.{alias_text}
 use Rattle.isort_sort.specs.Private.Values.{item_value}
 use Rattle.isort_sort.specs.Width.{begins_character, width}
 use Rattle.isort_sort.specs.Wrapping.{item_text}
-use Rattle.isort_sort.specs.declared.statement.Item.{Item}
+use Rattle.isort_sort.specs.declared.statement.FromItem.{FromItem}
 use Rattle.isort_sort.proofs.Layouts.Lengths.{width-append}
 
 -- a text has as many characters as bytes that begin one
@@ -16,10 +16,10 @@ count_by-begins [] = refl
 count_by-begins (b ∷ text) = sum_by-cons (λ b. cond (begins_character b) 1 0) b text ∙ ap (λ n. cond (begins_character b) 1 0 + n) (count_by-begins text)
 
 -- an item is as long as its name, and with an alias longer by it and by ` as `
-pub width-item : (i : Item) → width (item_text (item_value i)) ≡ width (string_bytes i.name) + width (alias_text (option_map string_bytes i.alias))
+pub width-item : (i : FromItem) → width (item_text (item_value i)) ≡ width (string_bytes i.name) + width (alias_text (option_map string_bytes i.alias))
 width-item i = width-append (string_bytes i.name) (alias_text (option_map string_bytes i.alias))
 
-pub width-renamed : (i : Item) (alias : String Global) → i.alias ≡ Some alias → width (item_text (item_value i)) ≡ width (string_bytes i.name) + (4 + width (string_bytes alias))
+pub width-renamed : (i : FromItem) (alias : String Global) → i.alias ≡ Some alias → width (item_text (item_value i)) ≡ width (string_bytes i.name) + (4 + width (string_bytes alias))
 width-renamed i alias e =
     let renamed : width (alias_text (option_map string_bytes i.alias)) ≡ width (alias_text (Some (string_bytes alias))) = ap (λ a. width (alias_text (option_map string_bytes a))) e in
     omega (arith, width-item i, renamed)

@@ -14,7 +14,7 @@ use Rattle.py_imports.specs.Grammar as grammar
 use Rattle.isort_settings.specs.Values.{Values}
 use Rattle.isort_sort.specs.Statement.{Statement, straight, form_place, module_of, own_item, item_cmp, same_alias, same_statement}
 use Rattle.isort_sort.specs.Private.Values.{item_value}
-use Rattle.isort_sort.specs.declared.statement.Item as code
+use Rattle.isort_sort.specs.declared.statement.FromItem as code
 use Rattle.isort_sort.proofs.Orders.SortedVectors.{by_value, is_equal}
 use Rattle.isort_sort.proofs.Orders.Statements.{same_parts}
 
@@ -50,7 +50,7 @@ pub itself : (a : Statement) → same_statement a a ≡ true
 itself a = and_all _ _ _ _ (place_itself a) ((bytes_eq-Decides (module_of a) (module_of a)).1 refl) ((bytes_eq-Decides (own_item a).path (own_item a).path).1 refl) (alias_itself (own_item a).alias)
 
 -- what `==` of items says
-abbrev pub item_eq : code.Item → code.Item → Bool
+abbrev pub item_eq : code.FromItem → code.FromItem → Bool
 item_eq x y = string_eq x.name y.name && option_eq string_eq x.alias y.alias
 
 -- two tests that pass at the same values are equal
@@ -65,19 +65,19 @@ aliases None (Some b) = refl
 aliases (Some a) None = refl
 aliases (Some a) (Some b) = refl
 
-same_values_of : (x y : code.Item) → item_eq x y ≡ true → item_value x ≡ item_value y
+same_values_of : (x y : code.FromItem) → item_eq x y ≡ true → item_value x ≡ item_value y
 same_values_of x y h =
     let parts = and_parts (string_eq x.name y.name) (option_eq string_eq x.alias y.alias) h in
     let path : string_bytes x.name ≡ string_bytes y.name = (bytes_eq-Decides (string_bytes x.name) (string_bytes y.name)).0 parts.0 in
     let alias = same_aliases (option_map string_bytes x.alias) (option_map string_bytes y.alias) (sym (aliases x.alias y.alias) ∙ parts.1) in
     λ k. record { path = path k; alias = alias k }
 
-equal_of_values : (x y : code.Item) → item_value x ≡ item_value y → item_eq x y ≡ true
+equal_of_values : (x y : code.FromItem) → item_value x ≡ item_value y → item_eq x y ≡ true
 equal_of_values x y h =
     and_from _ _ ((bytes_eq-Decides (string_bytes x.name) (string_bytes y.name)).1 (ap (λ (i : grammar.Item). i.path) h))
     (aliases x.alias y.alias ∙ ap (same_alias (option_map string_bytes x.alias)) (sym (ap (λ (i : grammar.Item). i.alias) h)) ∙ alias_itself (option_map string_bytes x.alias))
 
-pub ties : (v : Values) → IsTotalOrder (item_cmp v) → CmpEqualImpliesEq (item_cmp v) → (x y : code.Item) → item_eq x y ≡ eq_by_cmp (by_value item_value (item_cmp v)) x y
+pub ties : (v : Values) → IsTotalOrder (item_cmp v) → CmpEqualImpliesEq (item_cmp v) → (x y : code.FromItem) → item_eq x y ≡ eq_by_cmp (by_value item_value (item_cmp v)) x y
 ties v o exact x y =
     same_test _ _
     (λ h. ap (λ i. eq_by_cmp (item_cmp v) (item_value x) i) (sym (same_values_of x y h)) ∙ (eq_by_cmp_equiv o).refl (item_value x))

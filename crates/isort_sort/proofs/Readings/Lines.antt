@@ -4,10 +4,10 @@ use Rattle.std.proofs.lemmas.List.{length-drop}
 use Rattle.std.specs.List.{list_any}
 use Rattle.std.specs.Str.{IsUtf8}
 use Rattle.py_lines.specs.LogicalLine.{LogicalLine}
-use Rattle.py_imports.specs.Action.{says}
+use Rattle.py_imports.specs.ActionComment.{says}
 use Rattle.py_imports.specs.Bound.{Bound}
 use Rattle.py_imports.specs.Binds.{Binds}
-use Rattle.py_imports.specs.declared.action.Action.TheVariants as action
+use Rattle.py_imports.specs.declared.action_comment.ActionComment.TheVariants as action
 use Rattle.isort_sort.specs.Private.Arranging.{AreUtf8}
 use Rattle.isort_sort.specs.Private.Finding.{Finding, IsFinding, after_blank, after_comments, after_member, after_other}
 use Rattle.isort_sort.specs.Line.{comment_texts, own_comments, imported_of}

@@ -8,14 +8,14 @@ use Rattle.py_lines.specs.LogicalLine.{LogicalLine}
 use Rattle.py_lines.specs.declared.unit.UnitKind.{UnitKind}
 use Rattle.py_lines.specs.declared.unit.UnitKind.TheVariants as unit_kind
 use Rattle.py_lines.specs.declared.token.Token.{Token}
-use Rattle.py_imports.specs.Action.{says}
+use Rattle.py_imports.specs.ActionComment.{says}
 use Rattle.py_imports.specs.Binds.{terminal_in}
 use Rattle.py_imports.specs.Declaration.{is_code}
 use Rattle.py_imports.specs.Grammar.{Terminal, import_word, begins_import}
 use Rattle.py_imports.specs.Shape.{is_nothing, begins_so}
 use Rattle.py_imports.specs.Statement.{is_comment, significant}
-use Rattle.py_imports.specs.declared.action.Action.{Action}
-use Rattle.py_imports.specs.declared.action.Action.TheVariants as action
+use Rattle.py_imports.specs.declared.action_comment.ActionComment.{ActionComment}
+use Rattle.py_imports.specs.declared.action_comment.ActionComment.TheVariants as action
 use Rattle.py_imports.specs.declared.shape.Shape.TheVariants as shape
 use Rattle.isort_sort.specs.Private.Finding.{Finding, IsFinding, with_blank, with_comments, closed_block, after_blank, after_comments, after_other}
 use Rattle.isort_sort.specs.Private.FoundValues.{finding_value}
@@ -57,7 +57,7 @@ pub begins_none : (line : LogicalLine) → list_any (λ t. begins_import (termin
 begins_none line none = (λ i. is_code line.kind && none_first line.text line.tokens none i) ∙ and-false (is_code line.kind)
 
 -- a silent line is no action
-pub silent_alone : (line : LogicalLine) → IsSilent line.text → (a : Action) → says_alone a line ≡ false
+pub silent_alone : (line : LogicalLine) → IsSilent line.text → (a : ActionComment) → says_alone a line ≡ false
 silent_alone line silent a = (λ i. is_comment_kind line.kind && silent_comments a line silent i) ∙ and-false (is_comment_kind line.kind)
 
 silent_turned : (line : LogicalLine) → IsSilent line.text → (off : Bool) → turned off line ≡ off

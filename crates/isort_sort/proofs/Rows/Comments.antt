@@ -14,9 +14,9 @@ use Rattle.std.proofs.Math.Seq.{drop-length}
 use Rattle.py_lines.specs.Character.{is_space}
 use Rattle.py_lines.specs.declared.token.TokKind.TheVariants as kind
 use Rattle.py_lines.specs.declared.token.Token.{Token}
-use Rattle.py_imports.specs.Action.{says}
+use Rattle.py_imports.specs.ActionComment.{says}
 use Rattle.py_imports.specs.Statement.{is_comment}
-use Rattle.py_imports.specs.declared.action.Action.{Action}
+use Rattle.py_imports.specs.declared.action_comment.ActionComment.{ActionComment}
 use Rattle.isort_sort.specs.Line.{without_hash, without_start, without_end, stripped, is_text}
 use Rattle.std.proofs.Math.Bool.{and-false}
 use Rattle.isort_sort.proofs.Rows.Spaces.{space_low}
@@ -28,8 +28,8 @@ abbrev pub spaces : List ℕ
 spaces = 32 ∷ 9 ∷ 12 ∷ []
 
 -- a pattern of these characters finds what passes any test that agrees with it
-abbrev pub Finds : ((ℕ → Bool) → List ℕ → Option ℕ → Type 0) → List ℕ → Option ℕ → Type 0
-Finds F text found = (passes : ℕ → Bool) → ((c : ℕ) → char_set_contains spaces c ≡ passes c) → F passes text found
+abbrev pub FindsSpaces : ((ℕ → Bool) → List ℕ → Option ℕ → Type 0) → List ℕ → Option ℕ → Type 0
+FindsSpaces F text found = (passes : ℕ → Bool) → ((c : ℕ) → char_set_contains spaces c ≡ passes c) → F passes text found
 
 is_space_set : (c : ℕ) → char_set_contains spaces c ≡ is_space c
 unfolding is_space
@@ -42,7 +42,7 @@ space_is_scalar c h = rw (lt-ltb c 55296 (omega arith)) refl
 begins_so : (c n : ℕ) (text : List ℕ) → is_space c ≡ true → HasCharAt c text 0 n → text ≡ c ∷ drop n text
 begins_so c n text space here = drop_at_char c text 0 n here (space_low c space)
 
-cut_start : (text : List ℕ) (ns : List ℕ) (rest : List ℕ) → CutsPrefixes (Finds FindsPrefixBy) text ns rest → without_start text ≡ without_start rest
+cut_start : (text : List ℕ) (ns : List ℕ) (rest : List ℕ) → CutsPrefixes (FindsSpaces FindsPrefixBy) text ns rest → without_start text ≡ without_start rest
 cut_start text [] rest e = ap without_start (sym e)
 cut_start text (n ∷ ns) rest h =
     let found = h.2 is_space is_space_set in
@@ -63,7 +63,7 @@ bare_start (b ∷ text) h = by (is_space b) refl
         absurd (cc)
     by false e = rw e refl
 
-trimmed_start : (text : List ℕ) → IsFullyTrimmed (Finds FindsPrefixBy) text → without_start text ≡ text
+trimmed_start : (text : List ℕ) → IsFullyTrimmed (FindsSpaces FindsPrefixBy) text → without_start text ≡ text
 trimmed_start text (None, finds, small) = bare_start text (finds is_space is_space_set)
 trimmed_start text (Some n, finds, small) =
     let found = finds is_space is_space_set in
@@ -71,7 +71,7 @@ trimmed_start text (Some n, finds, small) =
     absurd (omega (arith, ap length whole, length-drop n text))
 
 -- what was cut of the start of a text
-pub start_is : (text rest : List ℕ) → IsTrimStartMatches (Finds FindsPrefixBy) text rest → rest ≡ without_start text
+pub start_is : (text rest : List ℕ) → IsTrimStartMatches (FindsSpaces FindsPrefixBy) text rest → rest ≡ without_start text
 start_is text rest h = sym (cut_start text h.0.0 rest h.0.1 ∙ trimmed_start rest h.1)
 
 -- a text at whose end a space was found
@@ -88,7 +88,7 @@ end_but : (text : List ℕ) (c : ℕ) → is_space c ≡ true → without_end (t
 end_but [] c space = ap (λ b. cond (b && true) [] (c ∷ [])) space
 end_but (b ∷ text) c space = ap (λ x. cond x [] (b ∷ without_end (text ++ c ∷ []))) (all_but (b ∷ text) c space) ∙ ap (λ l. cond (list_all is_space (b ∷ text)) [] (b ∷ l)) (end_but text c space)
 
-cut_end : (text : List ℕ) (ns : List ℕ) (rest : List ℕ) → CutsSuffixes (Finds FindsSuffixBy) text ns rest → without_end text ≡ without_end rest
+cut_end : (text : List ℕ) (ns : List ℕ) (rest : List ℕ) → CutsSuffixes (FindsSpaces FindsSuffixBy) text ns rest → without_end text ≡ without_end rest
 cut_end text [] rest e = ap without_end (sym e)
 cut_end text (n ∷ ns) rest h =
     let found = h.2 is_space is_space_set in
@@ -109,7 +109,7 @@ bare_end : (text : List ℕ) → IsBareEnd text → without_end text ≡ text
 bare_end [] bare = refl
 bare_end (b ∷ text) bare = ap (λ x. cond x [] (b ∷ without_end text)) (none_all b text bare) ∙ ap (λ l. b ∷ l) (bare_end text (λ front c e. bare (b ∷ front) c (ap (λ l. b ∷ l) e)))
 
-trimmed_end : (text : List ℕ) → IsFullyTrimmed (Finds FindsSuffixBy) text → without_end text ≡ text
+trimmed_end : (text : List ℕ) → IsFullyTrimmed (FindsSpaces FindsSuffixBy) text → without_end text ≡ text
 trimmed_end text (None, finds, small) = bare_end text (λ front c e. by front c e (is_space c) refl)
   where
     by : (front : List ℕ) (c : ℕ) → text ≡ front ++ c ∷ [] → (x : Bool) → is_space c ≡ x → is_space c ≡ false
@@ -123,7 +123,7 @@ trimmed_end text (Some n, finds, small) =
     absurd (omega (arith, ap length whole, length-append (take (length text - n) text) (found.0 ∷ []), length-take (length text - n) text))
 
 -- what was cut off the end of a text
-pub end_is : (text rest : List ℕ) → IsTrimEndMatches (Finds FindsSuffixBy) text rest → rest ≡ without_end text
+pub end_is : (text rest : List ℕ) → IsTrimEndMatches (FindsSpaces FindsSuffixBy) text rest → rest ≡ without_end text
 end_is text rest h = sym (cut_end text h.0.0 rest h.0.1 ∙ trimmed_end rest h.1)
 
 -- what was left of a text when the `#` at its start was stripped, if there is one
@@ -149,11 +149,11 @@ word_at text tokens i = slice_range text (token_at tokens i).start (token_at tok
 abbrev pub texts : List ℕ → List Token → List (List ℕ)
 texts text tokens = map (λ t. slice_range text t.start t.stop) (filter (λ t. is_comment t.kind) tokens)
 
-abbrev pub comments_say : Action → List ℕ → List Token → Bool
+abbrev pub comments_say : ActionComment → List ℕ → List Token → Bool
 comments_say a text tokens = list_any (says a) (texts text tokens)
 
 -- one token after the others
-pub says_on : (a : Action) (text : List ℕ) (tokens : List Token) (i : ℕ) → i < length tokens → comments_say a text tokens ≡ comments_say a text (drop i tokens) → comments_say a text tokens ≡ is_comment (token_at tokens i).kind && says a (word_at text tokens i) || comments_say a text (drop (i + 1) tokens)
+pub says_on : (a : ActionComment) (text : List ℕ) (tokens : List Token) (i : ℕ) → i < length tokens → comments_say a text tokens ≡ comments_say a text (drop i tokens) → comments_say a text tokens ≡ is_comment (token_at tokens i).kind && says a (word_at text tokens i) || comments_say a text (drop (i + 1) tokens)
 says_on a text tokens i within e = e ∙ ap (comments_say a text) (drop_more tokens i _ within) ∙ by (is_comment (token_at tokens i).kind)
   where
     others : List Token

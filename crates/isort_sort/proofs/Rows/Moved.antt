@@ -8,19 +8,19 @@ use Rattle.py_lines.specs.declared.token.Token.{Token}
 use Rattle.py_imports.specs.Binds.{Binds, BindEach, BindsAt, nothing, imports, bounds_at, terminals_at, terminal_in}
 use Rattle.py_imports.specs.Bound.{Bound, bound_at}
 use Rattle.py_imports.specs.Grammar.{Terminal, Imported, IsImport, begins_import}
-use Rattle.py_imports.specs.Statement.{is_comment, is_semicolon, is_divider, significant, depth_past, depth_after_tokens, ends_in_divider, may_start_after, Place, places_from, starts, is_end, statement_at}
+use Rattle.py_imports.specs.Statement.{is_comment, is_semicolon, is_divider, significant, depth_past, depth_after_tokens, ends_in_divider, may_start_after, TokenPlace, places_from, starts, is_end, statement_at}
 use Rattle.isort_sort.specs.Line.{imported_of}
 
 -- tokens that differ in their lines alone
-abbrev pub AreAlike : List Token → List Token → Type 0
-AreAlike [] [] = Unit {0}
-AreAlike (t ∷ ts) (u ∷ us) = (extent_of t ≡ extent_of u) × AreAlike ts us
-AreAlike _ _ = ⊥
+abbrev pub DifferInLinesAlone : List Token → List Token → Type 0
+DifferInLinesAlone [] [] = Unit {0}
+DifferInLinesAlone (t ∷ ts) (u ∷ us) = (extent_of t ≡ extent_of u) × DifferInLinesAlone ts us
+DifferInLinesAlone _ _ = ⊥
 
 same_heads : (a b : Extent) (xs ys : List Extent) → a ∷ xs ≡ b ∷ ys → (a ≡ b) × (xs ≡ ys)
 same_heads a b xs ys h = let first : a ≡ b = cc in let others : xs ≡ ys = cc in (first, others)
 
-pub alike : (ts us : List Token) → map extent_of ts ≡ map extent_of us → AreAlike ts us
+pub alike : (ts us : List Token) → map extent_of ts ≡ map extent_of us → DifferInLinesAlone ts us
 alike [] [] h = tt
 alike [] (u ∷ us) h = absurd (cc)
 alike (t ∷ ts) [] h = absurd (cc)
@@ -29,25 +29,25 @@ alike (t ∷ ts) (u ∷ us) h = let both = same_heads (extent_of t) (extent_of u
 pub kind_alike : (t u : Token) → extent_of t ≡ extent_of u → t.kind ≡ u.kind
 kind_alike t u h = ap (λ (e : Extent). e.kind) h
 
-alike-append : (ts us vs ws : List Token) → AreAlike ts us → AreAlike vs ws → AreAlike (ts ++ vs) (us ++ ws)
+alike-append : (ts us vs ws : List Token) → DifferInLinesAlone ts us → DifferInLinesAlone vs ws → DifferInLinesAlone (ts ++ vs) (us ++ ws)
 alike-append [] [] vs ws h k = k
 alike-append [] (u ∷ us) vs ws h k = absurd h
 alike-append (t ∷ ts) [] vs ws h k = absurd h
 alike-append (t ∷ ts) (u ∷ us) vs ws h k = (h.0, alike-append ts us vs ws h.1 k)
 
-pub significant_alike : (ts us : List Token) → AreAlike ts us → AreAlike (significant ts) (significant us)
+pub significant_alike : (ts us : List Token) → DifferInLinesAlone ts us → DifferInLinesAlone (significant ts) (significant us)
 significant_alike [] [] h = tt
 significant_alike [] (u ∷ us) h = absurd h
 significant_alike (t ∷ ts) [] h = absurd h
 significant_alike (t ∷ ts) (u ∷ us) h = by (is_comment t.kind) (is_comment u.kind) (ap is_comment (kind_alike t u h.0)) (significant_alike ts us h.1)
   where
-    by : (a b : Bool) → a ≡ b → AreAlike (significant ts) (significant us) → AreAlike (cond (not a) (t ∷ significant ts) (significant ts)) (cond (not b) (u ∷ significant us) (significant us))
+    by : (a b : Bool) → a ≡ b → DifferInLinesAlone (significant ts) (significant us) → DifferInLinesAlone (cond (not a) (t ∷ significant ts) (significant ts)) (cond (not b) (u ∷ significant us) (significant us))
     by true true e k = k
     by false false e k = (h.0, k)
     by true false e k = absurd (cc)
     by false true e k = absurd (cc)
 
-divider_alike : (d : ℕ) (ts us : List Token) → AreAlike ts us → ends_in_divider d ts ≡ ends_in_divider d us
+divider_alike : (d : ℕ) (ts us : List Token) → DifferInLinesAlone ts us → ends_in_divider d ts ≡ ends_in_divider d us
 divider_alike d [] [] h = refl
 divider_alike d [] (u ∷ us) h = absurd h
 divider_alike d (t ∷ ts) [] h = absurd h
@@ -56,42 +56,42 @@ divider_alike d (t ∷ []) (u ∷ v ∷ us) h = absurd h.1
 divider_alike d (t ∷ s ∷ ts) (u ∷ []) h = absurd h.1
 divider_alike d (t ∷ s ∷ ts) (u ∷ v ∷ us) h = divider_alike (depth_past d t.kind) (s ∷ ts) (v ∷ us) h.1 ∙ ap (λ k. ends_in_divider (depth_past d k) (v ∷ us)) (kind_alike t u h.0)
 
-start_alike : (ts us : List Token) → AreAlike ts us → may_start_after ts ≡ may_start_after us
+start_alike : (ts us : List Token) → DifferInLinesAlone ts us → may_start_after ts ≡ may_start_after us
 start_alike [] [] h = refl
 start_alike [] (u ∷ us) h = absurd h
 start_alike (t ∷ ts) [] h = absurd h
 start_alike (t ∷ ts) (u ∷ us) h = divider_alike 0 (t ∷ ts) (u ∷ us) h
 
-depth_alike : (d : ℕ) (ts us : List Token) → AreAlike ts us → depth_after_tokens d ts ≡ depth_after_tokens d us
+depth_alike : (d : ℕ) (ts us : List Token) → DifferInLinesAlone ts us → depth_after_tokens d ts ≡ depth_after_tokens d us
 depth_alike d [] [] h = refl
 depth_alike d [] (u ∷ us) h = absurd h
 depth_alike d (t ∷ ts) [] h = absurd h
 depth_alike d (t ∷ ts) (u ∷ us) h = depth_alike (depth_past d t.kind) ts us h.1 ∙ ap (λ k. depth_after_tokens (depth_past d k) us) (kind_alike t u h.0)
 
 -- places among such tokens
-pub record PlaceAlike (p q : Place) : Type 0 where
-  pub before : AreAlike p.before q.before
+pub record PlaceAlike (p q : TokenPlace) : Type 0 where
+  pub before : DifferInLinesAlone p.before q.before
   pub token : extent_of p.token ≡ extent_of q.token
-  pub after : AreAlike p.after q.after
+  pub after : DifferInLinesAlone p.after q.after
 
-abbrev pub PlacesAlike : List Place → List Place → Type 0
+abbrev pub PlacesAlike : List TokenPlace → List TokenPlace → Type 0
 PlacesAlike [] [] = Unit {0}
 PlacesAlike (p ∷ ps) (q ∷ qs) = PlaceAlike p q × PlacesAlike ps qs
 PlacesAlike _ _ = ⊥
 
-pub places_alike : (b c ts us : List Token) → AreAlike b c → AreAlike ts us → PlacesAlike (places_from b ts) (places_from c us)
+pub places_alike : (b c ts us : List Token) → DifferInLinesAlone b c → DifferInLinesAlone ts us → PlacesAlike (places_from b ts) (places_from c us)
 places_alike b c [] [] h k = tt
 places_alike b c [] (u ∷ us) h k = absurd k
 places_alike b c (t ∷ ts) [] h k = absurd k
 places_alike b c (t ∷ ts) (u ∷ us) h k = (record { before = h; token = k.0; after = k.1 }, places_alike (b ++ t ∷ []) (c ++ u ∷ []) ts us (alike-append b c (t ∷ []) (u ∷ []) h (k.0, tt)) k.1)
 
-starts_alike : (ps qs : List Place) → PlacesAlike ps qs → PlacesAlike (filter (λ p. may_start_after p.before) ps) (filter (λ p. may_start_after p.before) qs)
+starts_alike : (ps qs : List TokenPlace) → PlacesAlike ps qs → PlacesAlike (filter (λ p. may_start_after p.before) ps) (filter (λ p. may_start_after p.before) qs)
 starts_alike [] [] h = tt
 starts_alike [] (q ∷ qs) h = absurd h
 starts_alike (p ∷ ps) [] h = absurd h
 starts_alike (p ∷ ps) (q ∷ qs) h = by (may_start_after p.before) (may_start_after q.before) (start_alike p.before q.before h.0.before) (starts_alike ps qs h.1)
   where
-    rest : List Place → List Place
+    rest : List TokenPlace → List TokenPlace
     rest l = filter (λ p. may_start_after p.before) l
 
     by : (a b : Bool) → a ≡ b → PlacesAlike (rest ps) (rest qs) → PlacesAlike (cond a (p ∷ rest ps) (rest ps)) (cond b (q ∷ rest qs) (rest qs))
@@ -100,49 +100,49 @@ starts_alike (p ∷ ps) (q ∷ qs) h = by (may_start_after p.before) (may_start_
     by true false e k = absurd (cc)
     by false true e k = absurd (cc)
 
-pub end_alike : (p q : Place) → PlaceAlike p q → is_end p ≡ is_end q
+pub end_alike : (p q : TokenPlace) → PlaceAlike p q → is_end p ≡ is_end q
 end_alike p q h =
     ap (λ k. is_semicolon k && (depth_after_tokens 0 p.before == 0)) (kind_alike p.token q.token h.token)
     ∙ ap (λ (d : ℕ). is_semicolon q.token.kind && (d == 0)) (depth_alike 0 p.before q.before h.before)
 
 -- the tokens up to the end of a statement, one by one
-abbrev till_end : List Place → List Token
+abbrev till_end : List TokenPlace → List Token
 till_end [] = []
 till_end (p ∷ ps) = cond (is_end p) [] (p.token ∷ till_end ps)
 
-by_one : (p : Place) (ps : List Place) → map (λ q. q.token) (take_while (λ q. not (is_end q)) (p ∷ ps)) ≡ cond (is_end p) [] (p.token ∷ map (λ q. q.token) (take_while (λ q. not (is_end q)) ps))
+by_one : (p : TokenPlace) (ps : List TokenPlace) → map (λ q. q.token) (take_while (λ q. not (is_end q)) (p ∷ ps)) ≡ cond (is_end p) [] (p.token ∷ map (λ q. q.token) (take_while (λ q. not (is_end q)) ps))
 by_one p ps = by (is_end p)
   where
     more : 1 + prefix_len (λ q. not (is_end q)) ps ≡ suc (prefix_len (λ q. not (is_end q)) ps)
     more = omega arith
 
-    by : (b : Bool) → map (λ (q : Place). q.token) (take (cond (not b) (1 + prefix_len (λ q. not (is_end q)) ps) 0) (p ∷ ps)) ≡ cond b [] (p.token ∷ map (λ (q : Place). q.token) (take (prefix_len (λ q. not (is_end q)) ps) ps))
+    by : (b : Bool) → map (λ (q : TokenPlace). q.token) (take (cond (not b) (1 + prefix_len (λ q. not (is_end q)) ps) 0) (p ∷ ps)) ≡ cond b [] (p.token ∷ map (λ (q : TokenPlace). q.token) (take (prefix_len (λ q. not (is_end q)) ps) ps))
     by true = refl
-    by false = ap (λ (n : ℕ). map (λ (q : Place). q.token) (take n (p ∷ ps))) more
+    by false = ap (λ (n : ℕ). map (λ (q : TokenPlace). q.token) (take n (p ∷ ps))) more
 
-till : (ps : List Place) → map (λ q. q.token) (take_while (λ q. not (is_end q)) ps) ≡ till_end ps
+till : (ps : List TokenPlace) → map (λ q. q.token) (take_while (λ q. not (is_end q)) ps) ≡ till_end ps
 till [] = refl
 till (p ∷ ps) = by_one p ps ∙ ap (λ l. cond (is_end p) [] (p.token ∷ l)) (till ps)
 
-till_alike : (ps qs : List Place) → PlacesAlike ps qs → AreAlike (till_end ps) (till_end qs)
+till_alike : (ps qs : List TokenPlace) → PlacesAlike ps qs → DifferInLinesAlone (till_end ps) (till_end qs)
 till_alike [] [] h = tt
 till_alike [] (q ∷ qs) h = absurd h
 till_alike (p ∷ ps) [] h = absurd h
 till_alike (p ∷ ps) (q ∷ qs) h = by (is_end p) (is_end q) (end_alike p q h.0) (till_alike ps qs h.1)
   where
-    by : (a b : Bool) → a ≡ b → AreAlike (till_end ps) (till_end qs) → AreAlike (cond a [] (p.token ∷ till_end ps)) (cond b [] (q.token ∷ till_end qs))
+    by : (a b : Bool) → a ≡ b → DifferInLinesAlone (till_end ps) (till_end qs) → DifferInLinesAlone (cond a [] (p.token ∷ till_end ps)) (cond b [] (q.token ∷ till_end qs))
     by true true e k = tt
     by false false e k = (h.0.token, k)
     by true false e k = absurd (cc)
     by false true e k = absurd (cc)
 
-statement_alike : (p q : Place) → PlaceAlike p q → AreAlike (statement_at p) (statement_at q)
+statement_alike : (p q : TokenPlace) → PlaceAlike p q → DifferInLinesAlone (statement_at p) (statement_at q)
 statement_alike p q h =
     let ps = places_from [] (p.token ∷ p.after) in
     let qs = places_from [] (q.token ∷ q.after) in
-    subst (λ (l : List Token). AreAlike l (statement_at q)) (sym (till ps)) (subst (AreAlike (till_end ps)) (sym (till qs)) (till_alike ps qs (places_alike [] [] (p.token ∷ p.after) (q.token ∷ q.after) tt (h.token, h.after))))
+    subst (λ (l : List Token). DifferInLinesAlone l (statement_at q)) (sym (till ps)) (subst (DifferInLinesAlone (till_end ps)) (sym (till qs)) (till_alike ps qs (places_alike [] [] (p.token ∷ p.after) (q.token ∷ q.after) tt (h.token, h.after))))
 
-pub terminal_alike : (text : List ℕ) (ts us : List Token) → AreAlike ts us → map (terminal_in text) ts ≡ map (terminal_in text) us
+pub terminal_alike : (text : List ℕ) (ts us : List Token) → DifferInLinesAlone ts us → map (terminal_in text) ts ≡ map (terminal_in text) us
 terminal_alike text [] [] h = refl
 terminal_alike text [] (u ∷ us) h = absurd h
 terminal_alike text (t ∷ ts) [] h = absurd h
@@ -166,7 +166,7 @@ map-append : {A B : Type 0} (f : A → B) (xs ys : List A) → map f (xs ++ ys) 
 map-append f [] ys = refl
 map-append f (x ∷ xs) ys = ap (λ l. f x ∷ l) (map-append f xs ys)
 
-at_place : (l m : LogicalLine) (p q : Place) (bounds : List Bound) → l.text ≡ m.text → PlaceAlike p q → BindsAt l p bounds → ImportsSame (BindsAt m q) bounds
+at_place : (l m : LogicalLine) (p q : TokenPlace) (bounds : List Bound) → l.text ≡ m.text → PlaceAlike p q → BindsAt l p bounds → ImportsSame (BindsAt m q) bounds
 at_place l m p q bounds text h (nothing _ _ _ begins none) =
     let same : terminals_at l p ≡ terminals_at m q = ap (λ t. map (terminal_in t) (statement_at p)) text ∙ terminal_alike m.text (statement_at p) (statement_at q) (statement_alike p q h) in
     record { others = []; holds = nothing m q [] (sym (ap begins_import same) ∙ begins) refl; same = sym (ap (map imported_of) none) }
@@ -178,7 +178,7 @@ at_place l m p q bounds text h (imports _ _ _ is begins import are) =
       same = imported_again q.token.line (nat_lt 0 m.indent) is ∙ sym (ap (map imported_of) are ∙ imported_again p.token.line (nat_lt 0 l.indent) is);
     }
 
-at_places : (l m : LogicalLine) (ps qs : List Place) (bounds : List Bound) → l.text ≡ m.text → PlacesAlike ps qs → BindEach l ps bounds → ImportsSame (BindEach m qs) bounds
+at_places : (l m : LogicalLine) (ps qs : List TokenPlace) (bounds : List Bound) → l.text ≡ m.text → PlacesAlike ps qs → BindEach l ps bounds → ImportsSame (BindEach m qs) bounds
 at_places l m [] [] bounds text h b = record { others = []; holds = refl; same = sym (ap (map imported_of) b) }
 at_places l m [] (q ∷ qs) bounds text h b = absurd h
 at_places l m (p ∷ ps) [] bounds text h b = absurd h

@@ -6,41 +6,41 @@ use Rattle.py_lines.specs.LogicalLine.{LogicalLine}
 use Rattle.py_lines.specs.Words.{Extent, extent_of}
 use Rattle.py_lines.specs.declared.token.Token.{Token}
 use Rattle.py_lines.specs.declared.unit.UnitKind.TheVariants as unit_kind
-use Rattle.py_imports.specs.Action.{says}
+use Rattle.py_imports.specs.ActionComment.{says}
 use Rattle.py_imports.specs.Binds.{terminal_in}
 use Rattle.py_imports.specs.Declaration.{is_code, is_declaration, begins_declaration, is_word, is_at}
 use Rattle.py_imports.specs.Grammar.{Terminal, Imported, IsImport, begins_import}
 use Rattle.py_imports.specs.Shape.{terminals_of, mark_len, begins_so, begins_at, is_parenthesis, ends_with_opening, is_nothing, stands_well, says_skip, IsSortable, HasShape}
-use Rattle.py_imports.specs.Statement.{is_comment, significant, Place, places_from, is_end}
-use Rattle.py_imports.specs.declared.action.Action.{Action}
-use Rattle.py_imports.specs.declared.action.Action.TheVariants as action
+use Rattle.py_imports.specs.Statement.{is_comment, significant, TokenPlace, places_from, is_end}
+use Rattle.py_imports.specs.declared.action_comment.ActionComment.{ActionComment}
+use Rattle.py_imports.specs.declared.action_comment.ActionComment.TheVariants as action
 use Rattle.py_imports.specs.declared.shape.Shape.{Shape}
 use Rattle.py_imports.specs.declared.shape.Shape.TheVariants as shape
 use Rattle.isort_sort.specs.Line.{word_of, comment_texts, own_comments, without_hash, stripped, is_text}
 use Rattle.isort_sort.specs.LaidAgain.{IsMoved}
 use Rattle.isort_sort.specs.Row.{Role, member, comments, blank, other, two, as_many, is_comment_kind, says_alone, parts_blocks, before_shape, before_line, Imports, HasRole}
-use Rattle.isort_sort.proofs.Rows.Moved.{AreAlike, alike, kind_alike, significant_alike, PlaceAlike, PlacesAlike, places_alike, end_alike, terminal_alike, moved}
+use Rattle.isort_sort.proofs.Rows.Moved.{DifferInLinesAlone, alike, kind_alike, significant_alike, PlaceAlike, PlacesAlike, places_alike, end_alike, terminal_alike, moved}
 
 -- tests of lists
-any_alike : (test : Place → Bool) → ((p q : Place) → PlaceAlike p q → test p ≡ test q) → (ps qs : List Place) → PlacesAlike ps qs → list_any test ps ≡ list_any test qs
+any_alike : (test : TokenPlace → Bool) → ((p q : TokenPlace) → PlaceAlike p q → test p ≡ test q) → (ps qs : List TokenPlace) → PlacesAlike ps qs → list_any test ps ≡ list_any test qs
 any_alike test same [] [] h = refl
 any_alike test same [] (q ∷ qs) h = absurd h
 any_alike test same (p ∷ ps) [] h = absurd h
 any_alike test same (p ∷ ps) (q ∷ qs) h = λ i. same p q h.0 i || any_alike test same ps qs h.1 i
 
-all_alike : (test : Place → Bool) → ((p q : Place) → PlaceAlike p q → test p ≡ test q) → (ps qs : List Place) → PlacesAlike ps qs → list_all test ps ≡ list_all test qs
+all_alike : (test : TokenPlace → Bool) → ((p q : TokenPlace) → PlaceAlike p q → test p ≡ test q) → (ps qs : List TokenPlace) → PlacesAlike ps qs → list_all test ps ≡ list_all test qs
 all_alike test same [] [] h = refl
 all_alike test same [] (q ∷ qs) h = absurd h
 all_alike test same (p ∷ ps) [] h = absurd h
 all_alike test same (p ∷ ps) (q ∷ qs) h = λ i. same p q h.0 i && all_alike test same ps qs h.1 i
 
-nothing_alike : (ts us : List Token) → AreAlike ts us → is_nothing ts ≡ is_nothing us
+nothing_alike : (ts us : List Token) → DifferInLinesAlone ts us → is_nothing ts ≡ is_nothing us
 nothing_alike [] [] h = refl
 nothing_alike [] (u ∷ us) h = absurd h
 nothing_alike (t ∷ ts) [] h = absurd h
 nothing_alike (t ∷ ts) (u ∷ us) h = refl
 
-opening_alike : (ts us : List Token) → AreAlike ts us → ends_with_opening ts ≡ ends_with_opening us
+opening_alike : (ts us : List Token) → DifferInLinesAlone ts us → ends_with_opening ts ≡ ends_with_opening us
 opening_alike [] [] h = refl
 opening_alike [] (u ∷ us) h = absurd h
 opening_alike (t ∷ ts) [] h = absurd h
@@ -49,16 +49,16 @@ opening_alike (t ∷ []) (u ∷ v ∷ us) h = absurd h.1
 opening_alike (t ∷ s ∷ ts) (u ∷ []) h = absurd h.1
 opening_alike (t ∷ s ∷ ts) (u ∷ v ∷ us) h = opening_alike (s ∷ ts) (v ∷ us) h.1
 
-well_alike : (p q : Place) → PlaceAlike p q → stands_well p ≡ stands_well q
+well_alike : (p q : TokenPlace) → PlaceAlike p q → stands_well p ≡ stands_well q
 well_alike p q h = λ i. not (is_comment (kind_alike p.token q.token h.token i)) || nothing_alike p.after q.after h.after i || opening_alike p.before q.before h.before i
 
-first_alike : (n : ℕ) (ts us : List Token) → AreAlike ts us → begins_at n (slice_get ts 0) ≡ begins_at n (slice_get us 0)
+first_alike : (n : ℕ) (ts us : List Token) → DifferInLinesAlone ts us → begins_at n (slice_get ts 0) ≡ begins_at n (slice_get us 0)
 first_alike n [] [] h = refl
 first_alike n [] (u ∷ us) h = absurd h
 first_alike n (t ∷ ts) [] h = absurd h
 first_alike n (t ∷ ts) (u ∷ us) h = ap (λ (e : Extent). e.start == n) h.0
 
-skip_alike : (text : List ℕ) (ts us : List Token) → AreAlike ts us → list_any (says_skip text) ts ≡ list_any (says_skip text) us
+skip_alike : (text : List ℕ) (ts us : List Token) → DifferInLinesAlone ts us → list_any (says_skip text) ts ≡ list_any (says_skip text) us
 skip_alike text [] [] h = refl
 skip_alike text [] (u ∷ us) h = absurd h
 skip_alike text (t ∷ ts) [] h = absurd h
@@ -67,7 +67,7 @@ skip_alike text (t ∷ ts) (u ∷ us) h = λ i. of (h.0 i) || skip_alike text ts
     of : Extent → Bool
     of e = is_comment e.kind && says action.Skip (slice_range text e.start e.stop)
 
-texts_alike : (l m : LogicalLine) → l.text ≡ m.text → (ts us : List Token) → AreAlike ts us → map (word_of l) (filter (λ t. is_comment t.kind) ts) ≡ map (word_of m) (filter (λ t. is_comment t.kind) us)
+texts_alike : (l m : LogicalLine) → l.text ≡ m.text → (ts us : List Token) → DifferInLinesAlone ts us → map (word_of l) (filter (λ t. is_comment t.kind) ts) ≡ map (word_of m) (filter (λ t. is_comment t.kind) us)
 texts_alike l m text [] [] h = refl
 texts_alike l m text [] (u ∷ us) h = absurd h
 texts_alike l m text (t ∷ ts) [] h = absurd h
@@ -92,7 +92,7 @@ word_alike text word t u h = ap (λ (e : Extent). is_word text word (Some (recor
 at_alike : (t u : Token) → extent_of t ≡ extent_of u → is_at (Some t) ≡ is_at (Some u)
 at_alike t u h = ap (λ (e : Extent). is_at (Some (record { kind = e.kind; start = e.start; stop = e.stop; line = 0 }))) h
 
-declaration_alike : (text : List ℕ) (ts us : List Token) → AreAlike ts us → begins_declaration text ts ≡ begins_declaration text us
+declaration_alike : (text : List ℕ) (ts us : List Token) → DifferInLinesAlone ts us → begins_declaration text ts ≡ begins_declaration text us
 declaration_alike text [] [] h = refl
 declaration_alike text [] (u ∷ us) h = absurd h
 declaration_alike text (t ∷ ts) [] h = absurd h
@@ -106,7 +106,7 @@ record SameLine (l m : LogicalLine) : Type 0 where
   kind : l.kind ≡ m.kind
   text : l.text ≡ m.text
   indent : l.indent ≡ m.indent
-  tokens : AreAlike l.tokens m.tokens
+  tokens : DifferInLinesAlone l.tokens m.tokens
 
 same_line : (l m : LogicalLine) → IsMoved l m → SameLine l m
 same_line l m h = record { kind = h.kind; text = h.text; indent = h.indent; tokens = alike l.tokens m.tokens h.tokens }
@@ -140,7 +140,7 @@ sortable_moved l m h s =
 back : (l m : LogicalLine) → SameLine l m → SameLine m l
 back l m h = record { kind = sym h.kind; text = sym h.text; indent = sym h.indent; tokens = turned l.tokens m.tokens h.tokens }
   where
-    turned : (ts us : List Token) → AreAlike ts us → AreAlike us ts
+    turned : (ts us : List Token) → DifferInLinesAlone ts us → DifferInLinesAlone us ts
     turned [] [] k = tt
     turned [] (u ∷ us) k = absurd k
     turned (t ∷ ts) [] k = absurd k
@@ -154,7 +154,7 @@ shape_moved l m shape.Sortable h k = sortable_moved l m h k
 shape_moved l m shape.Pinned h k = (sym (same_begins l m h) ∙ k.0, λ s. k.1 (sortable_moved m l (back l m h) s))
 shape_moved l m shape.Other h k = sym (same_begins l m h) ∙ k
 
-same_alone : (a : Action) (l m : LogicalLine) → SameLine l m → says_alone a l ≡ says_alone a m
+same_alone : (a : ActionComment) (l m : LogicalLine) → SameLine l m → says_alone a l ≡ says_alone a m
 same_alone a l m h = λ i. is_comment_kind (h.kind i) && list_any (says a) (same_comments l m h i)
 
 same_parts : (l m : LogicalLine) → SameLine l m → parts_blocks l ≡ parts_blocks m

@@ -13,9 +13,9 @@ use Rattle.py_lines.specs.Piece.{spelled}
 use Rattle.py_lines.specs.LogicalLine.{cut}
 use Rattle.py_lines.specs.Reader.{Reader, HasGiven}
 use Rattle.py_lines.specs.declared.token.Token.{Token}
-use Rattle.py_imports.specs.Action.{begins_with_phrase, begins_with_action, action_word, says}
+use Rattle.py_imports.specs.ActionComment.{begins_with_phrase, begins_with_action, action_word, says}
 use Rattle.py_imports.specs.Statement.{is_comment}
-use Rattle.py_imports.specs.declared.action.Action.{Action}
+use Rattle.py_imports.specs.declared.action_comment.ActionComment.{ActionComment}
 use Rattle.isort_sort.specs.Line.{comment_texts}
 use Rattle.isort_sort.specs.Private.Silence.{IsSilent}
 use Rattle.isort_sort.proofs.Rows.Comments.{comments_say}
@@ -61,15 +61,15 @@ no_phrase word text silent = by (starts_with nat_eq text phrase) refl
         absurd (silent [] (word ++ drop (length phrase) text) (sym (take-append-drop (length phrase) text) ∙ ap (λ t. t ++ drop (length phrase) text) (sym same)))
     by false begins = rw begins refl
 
-no_action : (a : Action) (text : List ℕ) → IsSilent text → begins_with_action a text ≡ false
+no_action : (a : ActionComment) (text : List ℕ) → IsSilent text → begins_with_action a text ≡ false
 no_action a text silent = λ i. no_phrase (action_word a) text silent i || no_phrase (codes " " ++ action_word a) text silent i
 
 -- a silent text says no action
-pub silent_says : (a : Action) (text : List ℕ) → IsSilent text → says a text ≡ false
+pub silent_says : (a : ActionComment) (text : List ℕ) → IsSilent text → says a text ≡ false
 silent_says a [] silent = λ i. no_action a [] silent i || false
 silent_says a (b ∷ text) silent = λ i. no_action a (b ∷ text) silent i || silent_says a text (λ before after e. silent (b ∷ before) after (ap (λ t. b ∷ t) e)) i
 
-silent_among : (a : Action) (text : List ℕ) → IsSilent text → (tokens : List Token) → comments_say a text tokens ≡ false
+silent_among : (a : ActionComment) (text : List ℕ) → IsSilent text → (tokens : List Token) → comments_say a text tokens ≡ false
 silent_among a text silent [] = refl
 silent_among a text silent (t ∷ ts) = by (is_comment t.kind) (silent_among a text silent ts)
   where
@@ -81,7 +81,7 @@ silent_among a text silent (t ∷ ts) = by (is_comment t.kind) (silent_among a t
     by false later = later
 
 -- no comment of a silent line says an action
-pub silent_comments : (a : Action) (line : LogicalLine) → IsSilent line.text → list_any (says a) (comment_texts line) ≡ false
+pub silent_comments : (a : ActionComment) (line : LogicalLine) → IsSilent line.text → list_any (says a) (comment_texts line) ≡ false
 silent_comments a line silent = silent_among a line.text silent line.tokens
 
 -- a line that was given is a part of the text

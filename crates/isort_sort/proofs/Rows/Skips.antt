@@ -9,10 +9,10 @@ use Rattle.std.proofs.lemmas.Option.{slice_get_past}
 use Rattle.py_lines.specs.LogicalLine.{LogicalLine}
 use Rattle.py_lines.specs.declared.token.TokKind.TheVariants as kind
 use Rattle.py_lines.specs.declared.token.Token.{Token}
-use Rattle.py_imports.specs.Action.{says}
+use Rattle.py_imports.specs.ActionComment.{says}
 use Rattle.py_imports.specs.Shape.{is_nothing}
 use Rattle.py_imports.specs.Statement.{is_comment, significant}
-use Rattle.py_imports.specs.declared.action.Action.TheVariants as action
+use Rattle.py_imports.specs.declared.action_comment.ActionComment.TheVariants as action
 use Rattle.isort_sort.specs.Line.{comment_texts}
 use Rattle.isort_sort.specs.Private.Reading.{has_code, IsSkipSoFar}
 use Rattle.isort_sort.specs.Row.{is_string, string_skips, first_string_skips}

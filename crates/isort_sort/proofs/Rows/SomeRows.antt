@@ -11,7 +11,7 @@ use Rattle.py_imports.specs.Binds.{Binds, BindEach, BindsAt, nothing, imports, B
 use Rattle.py_imports.specs.Bound.{Bound}
 use Rattle.py_imports.specs.Grammar.{Terminal, begins_import, Imported, IsImport}
 use Rattle.py_imports.specs.Shape.{terminals_of, stands_first, stands_well, says_skip, begins_so, IsSortable, HasShape}
-use Rattle.py_imports.specs.Statement.{significant, Place, places_from, starts, is_end, statement_at}
+use Rattle.py_imports.specs.Statement.{significant, TokenPlace, places_from, starts, is_end, statement_at}
 use Rattle.py_imports.specs.declared.shape.Shape.{Shape}
 use Rattle.py_imports.specs.declared.shape.Shape.TheVariants as shape
 use Rattle.isort_sort.specs.Line.{own_comments, comment_texts, imported_of}
@@ -38,7 +38,7 @@ pub tokens_again : (b ts : List Token) → map (λ p. p.token) (places_from b ts
 tokens_again b [] = refl
 tokens_again b (t ∷ ts) = ap (λ l. t ∷ l) (tokens_again (b ++ t ∷ []) ts)
 
-pub all_taken : (ps : List Place) → list_any is_end ps ≡ false → take_while (λ q. not (is_end q)) ps ≡ ps
+pub all_taken : (ps : List TokenPlace) → list_any is_end ps ≡ false → take_while (λ q. not (is_end q)) ps ≡ ps
 all_taken [] h = refl
 all_taken (p ∷ ps) h =
     let parts = or_parts (is_end p) (list_any is_end ps) h in
@@ -46,14 +46,14 @@ all_taken (p ∷ ps) h =
     ap (λ (b : Bool). take (cond (not b) (1 + prefix_len (λ q. not (is_end q)) ps) 0) (p ∷ ps)) parts.0 ∙ ap (λ (n : ℕ). take n (p ∷ ps)) e ∙ ap (λ l. p ∷ l) (all_taken ps parts.1)
 
 -- what the statement imports that a line begins with and that no `;` ends, or that it is none
-first_statement : (line : LogicalLine) (p : Place) (bounds : List Bound) → terminals_of line ≡ terminals_at line p → BindsAt line p bounds → Decided ((is : List Imported) × IsImport (terminals_of line) is)
+first_statement : (line : LogicalLine) (p : TokenPlace) (bounds : List Bound) → terminals_of line ≡ terminals_at line p → BindsAt line p bounds → Decided ((is : List Imported) × IsImport (terminals_of line) is)
 first_statement line p bounds same (nothing l q bs none e) = inr (λ (h : (is : List Imported) × IsImport (terminals_of line) is). both_ways _ (ap begins_import same ∙ none) (import_begins (terminals_of line) h.0 h.1))
 first_statement line p bounds same (imports l q bs is begins import e) = inl (is, subst (λ (ts : List Terminal). IsImport ts is) (sym same) import)
 
 imported : (line : LogicalLine) (tokens : List Token) (bounds : List Bound) → significant line.tokens ≡ tokens → list_any is_end (places_from [] tokens) ≡ false → Binds line bounds → Decided ((is : List Imported) × IsImport (terminals_of line) is)
 imported line [] bounds e alone binds = inr (λ (h : (is : List Imported) × IsImport (terminals_of line) is). both_ways _ (ap (λ ts. begins_import (map (terminal_in line.text) ts)) e) (import_begins (terminals_of line) h.0 h.1))
 imported line (t ∷ ts) bounds e alone binds =
-    let p : Place = record { before = []; token = t; after = ts } in
+    let p : TokenPlace = record { before = []; token = t; after = ts } in
     let b : BindEach line (starts (t ∷ ts)) bounds = subst (λ (tokens : List Token). BindEach line (starts tokens) bounds) e binds in
     let whole : statement_at p ≡ t ∷ ts = ap (map (λ q. q.token)) (all_taken (places_from [] (t ∷ ts)) alone) ∙ tokens_again [] (t ∷ ts) in
     first_statement line p b.0 (ap (map (terminal_in line.text)) (e ∙ sym whole)) b.3

@@ -128,16 +128,16 @@ some_item v indentation members laid t o h =
     (item_of x.0, (is.items.exactly (item_of x.0)).1 (map_in item_of (filter (belongs v t.statement) (imports_of members)) x.0 (filter_in (belongs v t.statement) (imports_of members) x.0 x.1 (subst (λ (w : Statement). same_statement w t.statement ≡ true) (sym x.2) (itself t.statement)))))
 
 -- of statements that strictly ascend, one member begins with each
-abbrev BeginAlike : Values → List Laid → Type 0
-BeginAlike v laid = (t : Laid) → Contains laid t → (s : Statement) → begins_with v s (as_member t).imports ≡ same_statement t.statement s
+abbrev BeginWithOne : Values → List Laid → Type 0
+BeginWithOne v laid = (t : Laid) → Contains laid t → (s : Statement) → begins_with v s (as_member t).imports ≡ same_statement t.statement s
 
-none_owned : (v : Values) (laid : List Laid) (s : Statement) → BeginAlike v laid → ((t : Laid) → Contains laid t → same_statement t.statement s ≡ false) → owned v (map as_member laid) s ≡ []
+none_owned : (v : Values) (laid : List Laid) (s : Statement) → BeginWithOne v laid → ((t : Laid) → Contains laid t → same_statement t.statement s ≡ false) → owned v (map as_member laid) s ≡ []
 none_owned v [] s alike differ = refl
 none_owned v (t ∷ ts) s alike differ =
     ap (λ (b : Bool). cond b (as_member t ∷ owned v (map as_member ts) s) (owned v (map as_member ts) s)) (alike t (head_in t ts) s ∙ differ t (head_in t ts))
     ∙ none_owned v ts s (λ u h. alike u (tail_in t ts u h)) (λ u h. differ u (tail_in t ts u h))
 
-one_owned : (v : Values) → AreOrders v → (laid : List Laid) (s : Laid) → IsStrictlySortedBy (statement_cmp v) (map (λ (l : Laid). l.statement) laid) → BeginAlike v laid → Contains laid s → owned v (map as_member laid) s.statement ≡ as_member s ∷ []
+one_owned : (v : Values) → AreOrders v → (laid : List Laid) (s : Laid) → IsStrictlySortedBy (statement_cmp v) (map (λ (l : Laid). l.statement) laid) → BeginWithOne v laid → Contains laid s → owned v (map as_member laid) s.statement ≡ as_member s ∷ []
 unfolding IsStrictlySortedBy
 one_owned v o [] s ascend alike h = absurd (nothing_in s h)
 one_owned v o (t ∷ ts) s ascend alike h =
@@ -169,7 +169,7 @@ laid_again v o indentation members laid is = record {
     same_names [] = refl
     same_names (l ∷ ls) = ap (λ ss. l.statement ∷ ss) (same_names ls)
 
-    alike : BeginAlike v laid
+    alike : BeginWithOne v laid
     alike t h s = let i = some_item v indentation members laid t is h in begins_itself v members t s (laid_at v indentation members laid t is.each h).items i.0 i.1
 
     one_again : (s : Laid) → Contains laid s → IsLaid v indentation (map as_member laid) (with_joined_comments s)
@@ -267,15 +267,15 @@ quiet_false : (v : Values) (s : Statement) (m : Member) → begins_with v s m.im
 unfolding quiet
 quiet_false v s m h = ap (λ b. if b then record { imports = m.imports; comments = m.comments; above = [] } else m) h
 
-record IsQuiet (m n : Member) : Type 0 where
+record IsQuietMember (m n : Member) : Type 0 where
   imports_same : n.imports ≡ m.imports
   comments_same : n.comments ≡ m.comments
 
-quiet_same : (v : Values) (s : Statement) (m : Member) → IsQuiet m (quiet v s m)
+quiet_same : (v : Values) (s : Statement) (m : Member) → IsQuietMember m (quiet v s m)
 unfolding quiet
 quiet_same v s m = by (begins_with v s m.imports)
   where
-    by : (b : Bool) → IsQuiet m (if b then record { imports = m.imports; comments = m.comments; above = [] } else m)
+    by : (b : Bool) → IsQuietMember m (if b then record { imports = m.imports; comments = m.comments; above = [] } else m)
     by true = record { imports_same = refl; comments_same = refl }
     by false = record { imports_same = refl; comments_same = refl }
 

@@ -13,27 +13,27 @@ use Rattle.isort_sort.specs.Private.Parts.{part_text, AreTexts, HasMade}
 use Rattle.isort_sort.specs.Sorted.{IsSorted}
 use Rattle.isort_sort.specs.Written.{AppendsPrefix}
 use Rattle.isort_sort.specs.declared.answer.SortError.{SortError}
-use Rattle.isort_sort.specs.declared.parts.Part.{Part}
+use Rattle.isort_sort.specs.declared.parts.SortedPart.{SortedPart}
 use Rattle.isort_sort.specs.declared.parts.Parts.{Parts}
 use Rattle.isort_sort.proofs.SortedTexts.Parts.{goes_on_sorted}
 use Rattle.isort_sort.proofs.Orders.Statements.{AreOrders}
 
-pub texts_snoc : (parts : List Part) (part : Part) → AreTexts parts → IsUtf8 part.before.now → AreTexts (parts ++ part ∷ [])
+pub texts_snoc : (parts : List SortedPart) (part : SortedPart) → AreTexts parts → IsUtf8 part.before.now → AreTexts (parts ++ part ∷ [])
 texts_snoc [] part h is = (is, tt)
 texts_snoc (p ∷ parts) part h is = (h.0, texts_snoc parts part h.1 is)
 
-pub bytes_snoc : (parts : List Part) (part : Part) → flat_map part_text (parts ++ part ∷ []) ≡ flat_map part_text parts ++ part_text part
+pub bytes_snoc : (parts : List SortedPart) (part : SortedPart) → flat_map part_text (parts ++ part ∷ []) ≡ flat_map part_text parts ++ part_text part
 bytes_snoc parts part = flat_map-append part_text parts (part ∷ []) ∙ ap (λ (t : List ℕ). flat_map part_text parts ++ t) (append-nil (part_text part))
 
 -- the bytes from a part on
-pub bytes_from : (sorted done rest : List ℕ) (parts : List Part) (i : ℕ) (part : Part) → sorted ≡ done ++ (flat_map part_text (drop i parts) ++ rest) → i < length parts → part ≡ get_or parts i part → sorted ≡ done ++ (part_text part ++ (flat_map part_text (drop (i + 1) parts) ++ rest))
+pub bytes_from : (sorted done rest : List ℕ) (parts : List SortedPart) (i : ℕ) (part : SortedPart) → sorted ≡ done ++ (flat_map part_text (drop i parts) ++ rest) → i < length parts → part ≡ get_or parts i part → sorted ≡ done ++ (part_text part ++ (flat_map part_text (drop (i + 1) parts) ++ rest))
 bytes_from sorted done rest parts i part is within at =
     let next : flat_map part_text (drop i parts) ≡ part_text part ++ flat_map part_text (drop (i + 1) parts) =
-    ap (flat_map part_text) (drop_more parts i part within) ∙ ap (λ (p : Part). part_text p ++ flat_map part_text (drop (i + 1) parts)) (sym at) in
+    ap (flat_map part_text) (drop_more parts i part within) ∙ ap (λ (p : SortedPart). part_text p ++ flat_map part_text (drop (i + 1) parts)) (sym at) in
     is ∙ ap (λ (t : List ℕ). done ++ (t ++ rest)) next ∙ ap (λ (t : List ℕ). done ++ t) (append_assoc (part_text part) (flat_map part_text (drop (i + 1) parts)) rest)
 
-pub bytes_last : (sorted done rest : List ℕ) (parts : List Part) (i : ℕ) → sorted ≡ done ++ (flat_map part_text (drop i parts) ++ rest) → length parts ≤ i → sorted ≡ done ++ rest
-bytes_last sorted done rest parts i is past = is ∙ ap (λ (l : List Part). done ++ (flat_map part_text l ++ rest)) (drop_all i parts past)
+pub bytes_last : (sorted done rest : List ℕ) (parts : List SortedPart) (i : ℕ) → sorted ≡ done ++ (flat_map part_text (drop i parts) ++ rest) → length parts ≤ i → sorted ≡ done ++ rest
+bytes_last sorted done rest parts i is past = is ∙ ap (λ (l : List SortedPart). done ++ (flat_map part_text l ++ rest)) (drop_all i parts past)
 
 pub regrouped : (all done part more : List ℕ) → all ≡ done ++ (part ++ more) → all ≡ (done ++ part) ++ more
 regrouped all done part more is = is ∙ sym (append_assoc done part more)

@@ -21,11 +21,11 @@ use Rattle.isort_sort.specs.Sorted.{last_row, blanks_after, texts_of, IsLayout, 
 use Rattle.isort_sort.specs.WrittenLine.{end_pieces}
 use Rattle.isort_sort.proofs.Orders.Statements.{AreOrders}
 use Rattle.isort_sort.proofs.SortedTexts.LaidAgain.{blanks_again, blanks_kept}
-use Rattle.isort_sort.proofs.Stable.Units.{LineLaws, IsUnit, Follows, AreUnits, units_after, units_before}
+use Rattle.isort_sort.proofs.Stable.Units.{LineLaws, IsUnit, MayFollowUnit, AreUnits, units_after, units_before}
 use Rattle.isort_sort.proofs.Stable.UnitRows.{TokenLaws, unit_line, AreUnitRows, off_through, rows_spelled, rows_apart, rows_together}
 use Rattle.isort_sort.proofs.Stable.LineUnits.{NeighbourLaw, are_some, says_skip_file}
 use Rattle.isort_sort.proofs.Stable.Joined.{AreSome, some_first, some_append, bytes_of, bytes_of-append, none-append}
-use Rattle.isort_sort.proofs.Stable.BlockUnits.{AreReady}
+use Rattle.isort_sort.proofs.Stable.BlockUnits.{AreWritable}
 use Rattle.isort_sort.proofs.Stable.FirstEnds.{AreUnbroken}
 use Rattle.isort_sort.proofs.Stable.OldBlock.{AreSeen, run_in_block, blanks_in_block, through_block, seen_rows, member_off, run_ended}
 use Rattle.isort_sort.proofs.Stable.FirstCharacters.{WordsLaw, first_feed}
@@ -44,7 +44,7 @@ EachIsUnit (u ∷ us) = IsUnit u × EachIsUnit us
 pub record IsReadable (v : Values) (end : List ℕ) (run : Run) (laid : List Laid) : Type 0 where
   pub spaces : list_all is_space run.first.indentation ≡ true
   pub some : AreSome laid
-  pub ready : AreReady v run.first.indentation end laid
+  pub ready : AreWritable v run.first.indentation end laid
   pub unbroken : AreUnbroken (block_lines v run.first.indentation laid)
 
 abbrev pub ReadsBlocks : Values → Type 0
@@ -72,7 +72,7 @@ pub record IsAgain (v : Values) (end : List ℕ) (off : Bool) (us : List (List P
   pub replaced : AreReplaced old cut
   pub sorted : IsSortedCut v end cut body
   pub text : bytes_of units ≡ body
-  pub follow : (u : List Piece) → Follows u us → Follows u units
+  pub follow : (u : List Piece) → MayFollowUnit u us → MayFollowUnit u units
   pub none : are_some us ≡ false → are_some units ≡ false
   pub asked : AskAlike (cut_rows cut) (cut_rows old)
   pub unskipped : list_any says_skip_file units ≡ false
@@ -105,7 +105,7 @@ unmarked_after : (u : List Piece) (us : List (List Piece)) (c : List Piece) (cs 
 unmarked_after u [] c cs are = are.1.1.unmarked
 unmarked_after u (w ∷ us) c cs are = unmarked_after w us c cs are.2
 
-pub can_follow : WordsLaw → (end : List ℕ) (us cs : List (List Piece)) (rows : List Row) → AreSome us → AreUnits (us ++ cs) → AreUnitRows false cs rows → begins_blank rows ≡ false → Follows (end_pieces true end) cs
+pub can_follow : WordsLaw → (end : List ℕ) (us cs : List (List Piece)) (rows : List Row) → AreSome us → AreUnits (us ++ cs) → AreUnitRows false cs rows → begins_blank rows ≡ false → MayFollowUnit (end_pieces true end) cs
 can_follow law end us [] rows some are seen h = tt
 can_follow law end us (c ∷ cs) [] some are seen h = absurd seen
 can_follow law end us (c ∷ cs) (row ∷ rows) some are seen h =
@@ -132,7 +132,7 @@ block_again v laws end is rs bs cs run blanks cut own others run_is unblank are 
     let same = read.some.2 in
     let n : ℕ = blanks_after v run (count_by (λ (row : Row). row.ended) blanks) (cut_rows cut) in
     written_block laws.neighbours laws.tokens v laws.orders end run n s ss own z.units (cut_rows z.cut) is read.spaces
-    (subst (AreReady v run.first.indentation end) same read.ready)
+    (subst (AreWritable v run.first.indentation end) same read.ready)
     (subst (AreLaid v run.first.indentation (members_of run)) same layout.1)
     (layout.2 ∙ ap (λ l. text_of_lines end (last_row run.first run.others).ended n (block_lines v run.first.indentation l)) same)
     (λ new indented ended. kept_again v run new (count_by (λ (row : Row). row.ended) blanks) (cut_rows cut) (cut_rows z.cut) indented z.asked)
@@ -189,14 +189,14 @@ again_block v end off a rs bs cs before run blanks cut own others body run_is ar
     us : List (List Piece)
     us = (w.first ∷ w.later) ++ z.units
 
-    follows_some : (u : List Piece) (l : List (List Piece)) → AreSome l → Follows u (l ++ more) → Follows u us
+    follows_some : (u : List Piece) (l : List (List Piece)) → AreSome l → MayFollowUnit u (l ++ more) → MayFollowUnit u us
     follows_some u [] some h = absurd (let e = some.2 in cc)
     follows_some u (r ∷ l) some h = (h.0, record { unmarked = w.top.unmarked; uncut = ap (λ b. ends is_return (spelled u) && b) w.top.no_feed ∙ and-false (ends is_return (spelled u)) })
 
-    follows : (u : List Piece) → Follows u (rs ++ more) → Follows u us
+    follows : (u : List Piece) → MayFollowUnit u (rs ++ more) → MayFollowUnit u us
     follows u h = follows_some u rs (seen_some rs run seen) h
 
-    first : (l : List (List Piece)) (u : List Piece) → Follows u (l ++ (rs ++ more)) → Follows u (l ++ us)
+    first : (l : List (List Piece)) (u : List Piece) → MayFollowUnit u (l ++ (rs ++ more)) → MayFollowUnit u (l ++ us)
     first [] u h = follows u h
     first (x ∷ l) u h = h
 

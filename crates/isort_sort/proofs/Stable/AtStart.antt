@@ -15,9 +15,9 @@ use Rattle.py_lines.specs.Reading.{EndsLine}
 use Rattle.py_lines.specs.LogicalLine.{LogicalLine, put_first, lines_from}
 use Rattle.py_lines.specs.Piece.{mark, Piece, begins, ends, begins_marked, spelled}
 use Rattle.py_lines.specs.PieceGrammar.{IsLineEnd}
-use Rattle.py_imports.specs.Action.{says}
+use Rattle.py_imports.specs.ActionComment.{says}
 use Rattle.py_imports.specs.Shape.{mark_len}
-use Rattle.py_imports.specs.declared.action.Action.TheVariants as action
+use Rattle.py_imports.specs.declared.action_comment.ActionComment.TheVariants as action
 use Rattle.isort_settings.specs.Values.{Values}
 use Rattle.isort_sort.specs.Blocks.{is_blank, is_member, Run, run_rows, further_rows, is_run, Cut, rest, block, cut_rows, begins_blank, AreBlocks}
 use Rattle.isort_sort.specs.BlocksReplaced.{one_more}
@@ -27,11 +27,11 @@ use Rattle.isort_sort.specs.Sorted.{HasBlocks, first_end, last_row, blanks_after
 use Rattle.isort_sort.specs.WrittenLine.{mark_pieces, mark_bytes, end_pieces}
 use Rattle.isort_sort.proofs.Finding.Replaced.{blocks_again}
 use Rattle.isort_sort.proofs.Rows.Texts.{text_of_rows}
-use Rattle.isort_sort.proofs.Stable.Units.{IsUnit, Follows, AreUnits, first_character, units_after}
+use Rattle.isort_sort.proofs.Stable.Units.{IsUnit, MayFollowUnit, AreUnits, first_character, units_after}
 use Rattle.isort_sort.proofs.Stable.UnitRows.{TokenLaws, unit_line, comments_of_unit, off_past, AreUnitRows, off_through, rows_apart, silent}
 use Rattle.isort_sort.proofs.Stable.LineUnits.{are_some, says_skip_file}
 use Rattle.isort_sort.proofs.Stable.Joined.{AreSome, some_first, some_append, bytes_of, bytes_of-cons, bytes_of-append, none-append}
-use Rattle.isort_sort.proofs.Stable.BlockUnits.{lines_of_statement, IsReady, AreReady, statement_some}
+use Rattle.isort_sort.proofs.Stable.BlockUnits.{lines_of_statement, IsWritable, AreWritable, statement_some}
 use Rattle.isort_sort.proofs.Stable.UnitBinds.{EachBinds, binds_append, binds_first, role_binds}
 use Rattle.isort_sort.proofs.Stable.OldBlock.{AreSeen, in_block, run_in_block, blanks_in_block, through_block, seen_rows, run_ended}
 use Rattle.isort_sort.proofs.Stable.FirstEnds.{is_end_byte, is_feed_byte, first_is_end, first_lines, follows_blank}
@@ -65,7 +65,7 @@ marked_last (p ∷ ps) is =
     let c = first_character p.class p.text is.reading.fit.0 in
     ap (λ (t : List ℕ). ends is_return (0xFEFF ∷ (t ++ spelled ps))) c.2 ∙ sym (ap (λ (t : List ℕ). ends is_return (t ++ spelled ps)) c.2)
 
-marked_follows : (marked : Bool) (u : List Piece) (us : List (List Piece)) → IsUnit u → Follows u us → Follows (mark_pieces marked ++ u) us
+marked_follows : (marked : Bool) (u : List Piece) (us : List (List Piece)) → IsUnit u → MayFollowUnit u us → MayFollowUnit (mark_pieces marked ++ u) us
 marked_follows false u us is h = h
 marked_follows true u [] is h = tt
 marked_follows true u (w ∷ us) is h =
@@ -222,7 +222,7 @@ last_run v laws us run blanks later f open_yet = by (are_some f.split.cs) refl
     by true e = absurd (both_ways _ open_yet (run_ended f.split.rs (f.split.bs ++ f.split.cs) run (some_append f.split.bs f.split.cs (some_from f.split.cs e)) f.are f.split.seen))
     by false e = no_lists f.split.cs e
 
-lines_some : (v : Values) (laws : SortLaws v) (space end : List ℕ) (s : Laid) (ss : List Laid) → IsReady v space end s → AreSome (block_lines v space (s ∷ ss))
+lines_some : (v : Values) (laws : SortLaws v) (space end : List ℕ) (s : Laid) (ss : List Laid) → IsWritable v space end s → AreSome (block_lines v space (s ∷ ss))
 lines_some v laws space end s ss r =
     some_first (map (λ c. space ++ c) s.above ++ lines_of_statement v space s) (lines_after v space s ss)
     (some_append (map (λ c. space ++ c) s.above) (lines_of_statement v space s) (statement_some laws.neighbours space end s (lines_of_statement v space s) r.pieces r.written))
@@ -258,7 +258,7 @@ at_start v laws sorted us run blanks later f marked end own others is layout lay
     some : AreSome lines
     some =
         subst (λ (l : List Laid). AreSome (block_lines v run.first.indentation l)) (sym read.some.2)
-        (lines_some v laws run.first.indentation end read.some.0 read.some.1 (subst (AreReady v run.first.indentation end) read.some.2 read.ready).0)
+        (lines_some v laws run.first.indentation end read.some.0 read.some.1 (subst (AreWritable v run.first.indentation end) read.some.2 read.ready).0)
 
     follows : end ≡ 13 ∷ [] → begins is_feed_byte others ≡ false
     follows e =

@@ -12,9 +12,9 @@ use Rattle.py_lines.specs.LogicalLine.{LogicalLine, line_of}
 use Rattle.py_lines.specs.Neighbours.{is_simple, AreSimple, MayTouch}
 use Rattle.py_lines.specs.Piece.{Class, mark, line_end, Piece, begins, ends, is_mark_class, begins_marked, spelled}
 use Rattle.py_lines.specs.PieceGrammar.{IsLineEnd}
-use Rattle.py_imports.specs.Action.{says}
+use Rattle.py_imports.specs.ActionComment.{says}
 use Rattle.py_imports.specs.Shape.{mark_len}
-use Rattle.py_imports.specs.declared.action.Action.TheVariants as action
+use Rattle.py_imports.specs.declared.action_comment.ActionComment.TheVariants as action
 use Rattle.isort_settings.specs.Values.{Values}
 use Rattle.isort_sort.specs.Blocks.{role_imports, role_own, is_member, stands_between, is_blank, Further, further_rows, goes_on, member_of}
 use Rattle.isort_sort.specs.LaidAgain.{import_of, joined_comments, as_member}
@@ -25,7 +25,7 @@ use Rattle.isort_sort.specs.Wrapping.{remark, statement_lines}
 use Rattle.isort_sort.specs.WrittenLine.{mark_pieces, mark_bytes, end_pieces, IsWritten}
 use Rattle.isort_sort.proofs.Stable.Units.{IsUnit, begins-first, first_character}
 use Rattle.isort_sort.proofs.Stable.UnitRows.{TokenLaws, IsUnitRow}
-use Rattle.isort_sort.proofs.Stable.LineUnits.{NeighbourLaw, are_some, line_anyway, blank_row, by_end, IsEnded, IsLine, AreLines, lines_append, AreInner, inner_append, says_skip_file, row_of, end_encoded, blank_units, blank_rows, blank_is_ended, blank_lines, blank_inner, blank_text, blank_between, blank_blank, blank_no_comments, blank_unskipped, AreAbove, above_units, above_rows, above_lines, above_inner, above_text, above_comments, above_between, above_unskipped}
+use Rattle.isort_sort.proofs.Stable.LineUnits.{NeighbourLaw, are_some, line_anyway, blank_row, by_end, IsEndedUnit, IsLine, AreLines, lines_append, AreInner, inner_append, says_skip_file, row_of, end_encoded, blank_units, blank_rows, blank_is_ended, blank_lines, blank_inner, blank_text, blank_between, blank_blank, blank_no_comments, blank_unskipped, AreAbove, above_units, above_rows, above_lines, above_inner, above_text, above_comments, above_between, above_unskipped}
 use Rattle.isort_sort.proofs.Stable.Joined.{joined_lines, ended_lines, AreSome, joined_ended, joined_parts, bytes_of, bytes_of-cons, bytes_of-append, none-append, all-append, count-replicate, regroup}
 use Rattle.isort_sort.proofs.Stable.Marked.{after_mark}
 use Rattle.std.proofs.Math.Bool.{and-false}
@@ -36,15 +36,15 @@ abbrev pub lines_of_statement : Values → List ℕ → Laid → List (List ℕ)
 lines_of_statement v indentation s = statement_lines v indentation s.statement (remark s.comments) s.items s.cut
 
 -- a statement that can be written: its pieces, and that neither its comments nor those above say that the file is skipped
-pub record IsReady (v : Values) (indentation end : List ℕ) (s : Laid) : Type 0 where
+pub record IsWritable (v : Values) (indentation end : List ℕ) (s : Laid) : Type 0 where
   pub pieces : List Piece
   pub written : IsWritten indentation end s (lines_of_statement v indentation s) pieces
   pub above : AreAbove s.above
   pub unskipped : list_any (says action.SkipFile) s.comments ≡ false
 
-abbrev pub AreReady : Values → List ℕ → List ℕ → List Laid → Type 0
-AreReady v indentation end [] = Unit {0}
-AreReady v indentation end (s ∷ ss) = IsReady v indentation end s × AreReady v indentation end ss
+abbrev pub AreWritable : Values → List ℕ → List ℕ → List Laid → Type 0
+AreWritable v indentation end [] = Unit {0}
+AreWritable v indentation end (s ∷ ss) = IsWritable v indentation end s × AreWritable v indentation end ss
 
 -- pieces before a line end
 simple_end : (ps : List Piece) (end : List ℕ) → AreSimple ps → IsLineEnd end → AreSimple (ps ++ end_pieces true end)
@@ -106,7 +106,7 @@ statement_line law indentation end s lines pieces ended is w =
     unit true = statement_ended law indentation end s lines pieces is w
     unit false = subst IsUnit (sym (append-nil pieces)) alone
 
-    closed : (b : Bool) → b ≡ true → IsEnded end (pieces ++ end_pieces b end)
+    closed : (b : Bool) → b ≡ true → IsEndedUnit end (pieces ++ end_pieces b end)
     closed true e = record { body = pieces; is = refl; deep = w.deep }
     closed false e = absurd (cc)
 
@@ -119,13 +119,13 @@ abbrev pub blanks_of : Bool → ℕ → ℕ
 blanks_of true n = n
 blanks_of false n = 0
 
-pub statement_text : (indentation end : List ℕ) (s : Laid) (lines : List (List ℕ)) (pieces : List Piece) (ended : Bool) (n : ℕ) → IsLineEnd end → IsWritten indentation end s lines pieces → bytes_of ((pieces ++ end_pieces ended end) ∷ blank_units (blanks_of ended n) end) ≡ joined_lines end lines ++ tail_of end ended n
-statement_text indentation end s lines pieces true n is w =
+pub statement_bytes : (indentation end : List ℕ) (s : Laid) (lines : List (List ℕ)) (pieces : List Piece) (ended : Bool) (n : ℕ) → IsLineEnd end → IsWritten indentation end s lines pieces → bytes_of ((pieces ++ end_pieces ended end) ∷ blank_units (blanks_of ended n) end) ≡ joined_lines end lines ++ tail_of end ended n
+statement_bytes indentation end s lines pieces true n is w =
     bytes_of-cons (pieces ++ end_pieces true end) (blank_units n end)
     ∙ (λ i. (ap encode_utf8_all (spelled-append pieces (end_pieces true end)) ∙ encodes-append (spelled pieces) (end ++ [])) i ++ blank_text n end is i)
     ∙ append_assoc (encode_utf8_all (spelled pieces)) (encode_utf8_all (end ++ [])) (ended_lines end (replicate n []))
     ∙ (λ i. w.spell i ++ (end_encoded end is i ++ ended_lines end (replicate n [])))
-statement_text indentation end s lines pieces false n is w =
+statement_bytes indentation end s lines pieces false n is w =
     bytes_of-cons (pieces ++ []) [] ∙ append-nil (encode_utf8_all (spelled (pieces ++ []))) ∙ ap (λ l. encode_utf8_all (spelled l)) (append-nil pieces) ∙ w.spell ∙ sym (append-nil (joined_lines end lines))
 
 -- it has a line
@@ -170,10 +170,10 @@ abbrev statement_row : Laid → List Piece → Row
 statement_row s u = row_of u (member (map (import_of s.statement) s.items) (joined_comments s.comments))
 
 -- what it is as a line of a text, and after a byte order mark
-unit_row : (v : Values) (indentation end : List ℕ) (ended : Bool) (a : Laid) (r : IsReady v indentation end a) → IsUnitRow false (r.pieces ++ end_pieces ended end) (statement_row a (r.pieces ++ end_pieces ended end))
+unit_row : (v : Values) (indentation end : List ℕ) (ended : Bool) (a : Laid) (r : IsWritable v indentation end a) → IsUnitRow false (r.pieces ++ end_pieces ended end) (statement_row a (r.pieces ++ end_pieces ended end))
 unit_row v indentation end ended a r = record { role = (r.written.line false ended 0 1).role; text = refl; indentation = refl; ended = refl }
 
-first_row : (v : Values) (indentation end : List ℕ) (ended marked : Bool) (a : Laid) (r : IsReady v indentation end a) → IsRow [] (line_of 0 1 (mark_pieces marked ++ (r.pieces ++ end_pieces ended end))) (statement_row a (r.pieces ++ end_pieces ended end))
+first_row : (v : Values) (indentation end : List ℕ) (ended marked : Bool) (a : Laid) (r : IsWritable v indentation end a) → IsRow [] (line_of 0 1 (mark_pieces marked ++ (r.pieces ++ end_pieces ended end))) (statement_row a (r.pieces ++ end_pieces ended end))
 first_row v indentation end ended marked a r =
     let u : List Piece = r.pieces ++ end_pieces ended end in
     let plain = r.written.line false ended 0 1 in
@@ -189,7 +189,7 @@ last_lines : NeighbourLaw → (indentation end : List ℕ) (s : Laid) (lines : L
 last_lines law indentation end s lines pieces true n is w = (statement_line law indentation end s lines pieces true is w, blank_lines n end is)
 last_lines law indentation end s lines pieces false n is w = (statement_line law indentation end s lines pieces false is w, tt)
 
-last_built : NeighbourLaw → (v : Values) (indentation end : List ℕ) (ended : Bool) (n : ℕ) (a : Laid) → IsLineEnd end → IsReady v indentation end a → IsBuilt v indentation end ended n a []
+last_built : NeighbourLaw → (v : Values) (indentation end : List ℕ) (ended : Bool) (n : ℕ) (a : Laid) → IsLineEnd end → IsWritable v indentation end a → IsBuilt v indentation end ended n a []
 last_built law v indentation end ended n a is r =
     let u : List Piece = r.pieces ++ end_pieces ended end in
     let lines : List (List ℕ) = lines_of_statement v indentation a in
@@ -214,7 +214,7 @@ last_built law v indentation end ended n a is r =
       members = refl;
       unmarked = unmarked_end r.pieces ended end r.written.simple;
       no_feed = statement_starts law indentation end a lines r.pieces ended r.written;
-      text = statement_text indentation end a lines r.pieces ended n is r.written ∙ ap (λ l. joined_lines end l ++ tail_of end ended n) (sym (append-nil lines));
+      text = statement_bytes indentation end a lines r.pieces ended n is r.written ∙ ap (λ l. joined_lines end l ++ tail_of end ended n) (sym (append-nil lines));
       unskipped = λ i. plain.says_no_more action.SkipFile r.unskipped i || blank_unskipped m end i;
       no_string = λ marked offset row lines. (r.written.line marked ended offset row).no_string lines;
       starts = λ marked. first_row v indentation end ended marked a r;
@@ -228,21 +228,21 @@ gap_of v a b = max (gap_by_kind v a.statement b.statement) (gap_by_comment v b.a
 same_bytes : (xs ys : List ℕ) → xs ≡ ys → bytes_eq xs ys ≡ true
 same_bytes xs ys = (bytes_eq-Decides xs ys).1
 
-one_more_text : NeighbourLaw → (v : Values) (indentation end : List ℕ) (ended : Bool) (n : ℕ) (a b : Laid) (ss : List Laid) → list_all is_space indentation ≡ true → IsLineEnd end → (r : IsReady v indentation end a) (q : IsReady v indentation end b) (k : IsBuilt v indentation end ended n b ss) → bytes_of ((r.pieces ++ end_pieces true end) ∷ (blank_units (gap_of v a b) end ++ (above_units indentation end b.above q.above ++ (k.first ∷ k.later)))) ≡ joined_lines end (lines_of_statement v indentation a ++ lines_after v indentation a (b ∷ ss)) ++ tail_of end ended n
+one_more_text : NeighbourLaw → (v : Values) (indentation end : List ℕ) (ended : Bool) (n : ℕ) (a b : Laid) (ss : List Laid) → list_all is_space indentation ≡ true → IsLineEnd end → (r : IsWritable v indentation end a) (q : IsWritable v indentation end b) (k : IsBuilt v indentation end ended n b ss) → bytes_of ((r.pieces ++ end_pieces true end) ∷ (blank_units (gap_of v a b) end ++ (above_units indentation end b.above q.above ++ (k.first ∷ k.later)))) ≡ joined_lines end (lines_of_statement v indentation a ++ lines_after v indentation a (b ∷ ss)) ++ tail_of end ended n
 one_more_text law v indentation end ended n a b ss spaces is r q k =
     let u : List Piece = r.pieces ++ end_pieces true end in
     let mine : List (List ℕ) = lines_of_statement v indentation a in
     let gaps : List (List Piece) = blank_units (gap_of v a b) end in
     let above : List (List Piece) = above_units indentation end b.above q.above in
     let some = statement_some law indentation end a mine r.pieces r.written in
-    let first : bytes_of (u ∷ []) ≡ ended_lines end mine = statement_text indentation end a mine r.pieces true 0 is r.written ∙ ap (λ (t : List ℕ). joined_lines end mine ++ t) (append-nil end) ∙ sym (joined_ended end mine some) in
+    let first : bytes_of (u ∷ []) ≡ ended_lines end mine = statement_bytes indentation end a mine r.pieces true 0 is r.written ∙ ap (λ (t : List ℕ). joined_lines end mine ++ t) (append-nil end) ∙ sym (joined_ended end mine some) in
     bytes_of-append (u ∷ []) (gaps ++ (above ++ (k.first ∷ k.later)))
     ∙ (λ i. first i ++ bytes_of-append gaps (above ++ (k.first ∷ k.later)) i)
     ∙ (λ i. ended_lines end mine ++ (blank_text (gap_of v a b) end is i ++ bytes_of-append above (k.first ∷ k.later) i))
     ∙ (λ i. ended_lines end mine ++ (ended_lines end (replicate (gap_of v a b) []) ++ (above_text indentation end b.above q.above spaces is i ++ k.text i)))
     ∙ sym (joined_parts end mine (replicate (gap_of v a b) []) (map (λ c. indentation ++ c) b.above) (lines_of_statement v indentation b) (lines_after v indentation b ss) (tail_of end ended n) (statement_some law indentation end b (lines_of_statement v indentation b) q.pieces q.written))
 
-more_built : NeighbourLaw → TokenLaws → (v : Values) (indentation end : List ℕ) (ended : Bool) (n : ℕ) (a b : Laid) (ss : List Laid) → list_all is_space indentation ≡ true → IsLineEnd end → IsReady v indentation end a → IsReady v indentation end b → IsBuilt v indentation end ended n b ss → IsBuilt v indentation end ended n a (b ∷ ss)
+more_built : NeighbourLaw → TokenLaws → (v : Values) (indentation end : List ℕ) (ended : Bool) (n : ℕ) (a b : Laid) (ss : List Laid) → list_all is_space indentation ≡ true → IsLineEnd end → IsWritable v indentation end a → IsWritable v indentation end b → IsBuilt v indentation end ended n b ss → IsBuilt v indentation end ended n a (b ∷ ss)
 more_built law tokens v indentation end ended n a b ss spaces is r q k =
     let u : List Piece = r.pieces ++ end_pieces true end in
     let lines : List (List ℕ) = lines_of_statement v indentation a in
@@ -287,7 +287,7 @@ more_built law tokens v indentation end ended n a b ss spaces is r q k =
     }
 
 -- statements that can be written, one after another
-pub built : NeighbourLaw → TokenLaws → (v : Values) (indentation end : List ℕ) (ended : Bool) (n : ℕ) (a : Laid) (ss : List Laid) → list_all is_space indentation ≡ true → IsLineEnd end → IsReady v indentation end a → AreReady v indentation end ss → IsBuilt v indentation end ended n a ss
+pub built : NeighbourLaw → TokenLaws → (v : Values) (indentation end : List ℕ) (ended : Bool) (n : ℕ) (a : Laid) (ss : List Laid) → list_all is_space indentation ≡ true → IsLineEnd end → IsWritable v indentation end a → AreWritable v indentation end ss → IsBuilt v indentation end ended n a ss
 built law tokens v indentation end ended n a [] spaces is r rs = last_built law v indentation end ended n a is r
 built law tokens v indentation end ended n a (b ∷ ss) spaces is r rs =
     more_built law tokens v indentation end ended n a b ss spaces is r rs.0 (built law tokens v indentation end ended n b ss spaces is rs.0 rs.1)

@@ -9,11 +9,12 @@ use Rattle.py_lines.specs.Character.{is_space, is_line_feed, is_return, is_opera
 use Rattle.py_lines.specs.Piece.{space, word, operator, join, Piece, begins, ends}
 use Rattle.py_lines.specs.PieceGrammar.{IsLineEnd}
 use Rattle.py_imports.specs.Grammar.{Terminal, comma, star, opening, closing, Item}
+use Rattle.py_imports.specs.Names.{IsNameItem}
 use Rattle.isort_sort.specs.WrittenLine.{AreRemarks}
 use Rattle.isort_sort.specs.Wrapping.{item_text, items_text, remark}
-use Rattle.isort_sort.proofs.Stable.Items.{a_space, part-a_space, alias_pieces, item_pieces, item_terminals, IsNameItem, item-joinable, IsJoinable, IsGlue, all-joinable, HasItem, line_terminals}
-use Rattle.isort_sort.proofs.Stable.OneLine.{is_bracket, is_end, plain-line, line-append, opening_piece, closing_piece}
-use Rattle.isort_sort.proofs.Stable.Parts.{piece, IsPart, part-append, part-space, part-operator, part-end, part-join, LettersAreWords}
+use Rattle.isort_sort.proofs.Stable.Items.{a_space, part-a_space, alias_pieces, item_pieces, item_terminals, item-joinable, IsJoinable, IsGlue, all-joinable, HasItem, line_terminals}
+use Rattle.isort_sort.proofs.Stable.OneLine.{is_bracket, is_line_end_piece, plain-line, line-append, opening_piece, closing_piece}
+use Rattle.isort_sort.proofs.Stable.Parts.{piece, IsStatementPart, part-append, part-space, part-operator, part-end, part-join, LettersAreWords}
 use Rattle.isort_sort.proofs.Stable.Phrases.{end_piece, IsPhrase, remark_pieces, remark_said, part-remark, touch-remark, well-remark, line-remark}
 use Rattle.isort_sort.proofs.Stable.Touching.{touch-space, touch-operator, word_after_space}
 use Rattle.isort_sort.proofs.Rows.Spaces.{space_no_feed}
@@ -22,19 +23,19 @@ use Rattle.std.proofs.Math.Bool.{and-false}
 abbrev pub comma_piece : Piece
 comma_piece = piece operator (44 ∷ [])
 
-pub part-comma : IsPart (comma_piece ∷ []) (codes ",") (comma ∷ []) []
+pub part-comma : IsStatementPart (comma_piece ∷ []) (codes ",") (comma ∷ []) []
 unfolding is_operator
 part-comma = part-operator 44 refl refl refl
 
-pub part-opening : IsPart (opening_piece ∷ []) (codes "(") (opening ∷ []) []
+pub part-opening : IsStatementPart (opening_piece ∷ []) (codes "(") (opening ∷ []) []
 unfolding is_operator
 part-opening = part-operator 40 refl refl refl
 
-pub part-closing : IsPart (closing_piece ∷ []) (codes ")") (closing ∷ []) []
+pub part-closing : IsStatementPart (closing_piece ∷ []) (codes ")") (closing ∷ []) []
 unfolding is_operator
 part-closing = part-operator 41 refl refl refl
 
-part-star : IsPart (piece operator (42 ∷ []) ∷ []) (codes "*") (star ∷ []) []
+part-star : IsStatementPart (piece operator (42 ∷ []) ∷ []) (codes "*") (star ∷ []) []
 unfolding is_operator
 part-star = part-operator 42 refl refl refl
 
@@ -56,8 +57,8 @@ pub record IsPad (pad : List ℕ) : Type 0 where
   pub is : pad ≡ first ∷ others
   pub spaces : list_all is_space pad ≡ true
 
-pub part-pad : (pad : List ℕ) → IsPad pad → IsPart (piece space pad ∷ []) pad [] []
-part-pad pad p = subst (λ (t : List ℕ). IsPart (piece space t ∷ []) t [] []) (sym p.is) (part-space (p.first ∷ p.others) (ap (list_all is_space) (sym p.is) ∙ p.spaces))
+pub part-pad : (pad : List ℕ) → IsPad pad → IsStatementPart (piece space pad ∷ []) pad [] []
+part-pad pad p = subst (λ (t : List ℕ). IsStatementPart (piece space t ∷ []) t [] []) (sym p.is) (part-space (p.first ∷ p.others) (ap (list_all is_space) (sym p.is) ∙ p.spaces))
 
 pub pad_no_feed : (b : Bool) (pad : List ℕ) → IsPad pad → not (b && begins is_line_feed pad) ≡ true
 pad_no_feed b pad p =
@@ -163,5 +164,5 @@ pub no_bracket : Passes is_bracket
 unfolding is_opening is_closing
 no_bracket = record { no_word = λ t. refl; no_space = λ t. refl; no_comma = refl }
 
-pub no_end : Passes is_end
+pub no_end : Passes is_line_end_piece
 no_end = record { no_word = λ t. refl; no_space = λ t. refl; no_comma = refl }

@@ -8,10 +8,10 @@ use Rattle.py_lines.specs.LogicalLine.{is_line_end_class, put_first, cut, kind_o
 use Rattle.py_lines.specs.Piece.{Class, mark, space, word, string, operator, comment, join, line_end, Piece, begins, spelled}
 use Rattle.py_lines.specs.PieceGrammar.{InClass, IsWord, IsPrefix, is_prefix, joined}
 use Rattle.py_lines.specs.declared.unit.UnitKind.TheVariants as unit_kind
-use Rattle.py_imports.specs.Action.{says}
+use Rattle.py_imports.specs.ActionComment.{says}
 use Rattle.py_imports.specs.Shape.{IsSortable}
-use Rattle.py_imports.specs.declared.action.Action.{Action}
-use Rattle.py_imports.specs.declared.action.Action.TheVariants as action
+use Rattle.py_imports.specs.declared.action_comment.ActionComment.{ActionComment}
+use Rattle.py_imports.specs.declared.action_comment.ActionComment.TheVariants as action
 use Rattle.isort_sort.specs.Blocks.{role_is_blank}
 use Rattle.isort_sort.specs.Line.{comment_texts}
 use Rattle.isort_sort.specs.Row.{is_comment_kind, says_alone, parts_blocks, Role, member, comments, blank, other, HasRole}
@@ -98,7 +98,7 @@ blank_role off u (other b) e (s, shaped, is, why) =
     (λ (code : ((unit_line u).kind ≡ unit_kind.Code) × ((off ≡ true) ⊎ ¬ (IsSortable (unit_line u)))). absurd (let wrong = sym e ∙ code.0 in cc))
     (λ (parts : parts_blocks (unit_line u) ≡ true). absurd (both_ways _ (λ i. (alone action.Off i || alone action.On i) || alone action.Split i) parts)) why
   where
-    alone : (a : Action) → says_alone a (unit_line u) ≡ false
+    alone : (a : ActionComment) → says_alone a (unit_line u) ≡ false
     alone a = ap (λ x. x && list_any (says a) (comment_texts (unit_line u))) (ap is_comment_kind e)
 
 pub first_feed : WordsLaw → (u : List Piece) → IsUnit u → (off : Bool) (role : Role) → HasRole off (unit_line u) role → role_is_blank role ≡ false → begins is_line_feed (spelled u) ≡ false

@@ -12,7 +12,7 @@ use Rattle.py_lines.specs.PieceGrammar.{InClass, AreReadBefore, IsLineEnd, feed,
 use Rattle.isort_sort.specs.Layout.{text_of_lines}
 use Rattle.isort_sort.specs.Sorted.{first_end}
 use Rattle.isort_sort.specs.WrittenLine.{end_pieces}
-use Rattle.isort_sort.proofs.Stable.Units.{IsUnit, Follows, AreUnits, flat, begins-first, ends-last}
+use Rattle.isort_sort.proofs.Stable.Units.{IsUnit, MayFollowUnit, AreUnits, flat, begins-first, ends-last}
 use Rattle.isort_sort.proofs.Stable.LineUnits.{end_encoded, are_some}
 use Rattle.isort_sort.proofs.Stable.Joined.{none-append, joined_lines, ended_lines, AreSome, bytes_of, bytes_of-cons}
 use Rattle.isort_sort.proofs.Stable.Parts.{spelled-append}
@@ -119,16 +119,16 @@ encoded_begins (c ∷ cs) h = by (encode_utf8_all (c ∷ cs)) refl
     by [] e = refl
     by (b ∷ t) e = low b t e (b == 10) refl
 
-pub follows_bytes : (u : List Piece) (us : List (List Piece)) → AreUnits us → Follows u us → ends is_return (spelled u) ≡ true → begins is_feed_byte (bytes_of us) ≡ false
+pub follows_bytes : (u : List Piece) (us : List (List Piece)) → AreUnits us → MayFollowUnit u us → ends is_return (spelled u) ≡ true → begins is_feed_byte (bytes_of us) ≡ false
 follows_bytes u [] are h k = refl
 follows_bytes u (w ∷ us) are h k =
     encoded_begins (spelled (flat (w ∷ us)))
     (begins-first is_line_feed w (flat us) are.0 ∙ (ap (λ b. b && begins is_line_feed (spelled w)) (sym k) ∙ h.1.uncut))
 
-pub follows_end : (u : List Piece) (c : IsClosed u) (us : List (List Piece)) → AreUnits us → Follows u us → c.end ≡ 13 ∷ [] → begins is_feed_byte (bytes_of us) ≡ false
+pub follows_end : (u : List Piece) (c : IsClosed u) (us : List (List Piece)) → AreUnits us → MayFollowUnit u us → c.end ≡ 13 ∷ [] → begins is_feed_byte (bytes_of us) ≡ false
 follows_end u c us are h e = follows_bytes u us are h (c.last ∙ return_ends c.end e)
 
-pub follows_blank : (end : List ℕ) (us : List (List Piece)) → AreUnits us → Follows (end_pieces true end) us → end ≡ 13 ∷ [] → begins is_feed_byte (bytes_of us) ≡ false
+pub follows_blank : (end : List ℕ) (us : List (List Piece)) → AreUnits us → MayFollowUnit (end_pieces true end) us → end ≡ 13 ∷ [] → begins is_feed_byte (bytes_of us) ≡ false
 follows_blank end us are h e = follows_bytes (end_pieces true end) us are h (ap (ends is_return) (append-nil end) ∙ return_ends end e)
 
 -- the first line end of lines, or they are one line without one
@@ -166,7 +166,7 @@ first_lines p end false n (l ∷ m ∷ ms) others none some all is h last =
     inl (ap (λ (t : List ℕ). first_end (p ++ ((l ++ t) ++ others))) (append_assoc end m (flat_map (λ y. end ++ y) ms)) ∙ ap first_end (pushed p l end (joined_lines end (m ∷ ms)) others) ∙ first_end_is (p ++ l) end (joined_lines end (m ∷ ms) ++ others) (none-append is_end_byte p l none all.0) is (begins_last end m ms others all.1.0 (last refl)))
 
 -- a text goes on after its first line
-pub first_end_stays : (u : List Piece) (us vs : List (List Piece)) (text sorted : List ℕ) → IsUnit u → Follows u us → Follows u vs → AreUnits us → AreUnits vs → (are_some us ≡ false → are_some vs ≡ false) → bytes_of (u ∷ us) ≡ text → bytes_of (u ∷ vs) ≡ sorted → first_end sorted ≡ first_end text
+pub first_end_stays : (u : List Piece) (us vs : List (List Piece)) (text sorted : List ℕ) → IsUnit u → MayFollowUnit u us → MayFollowUnit u vs → AreUnits us → AreUnits vs → (are_some us ≡ false → are_some vs ≡ false) → bytes_of (u ∷ us) ≡ text → bytes_of (u ∷ vs) ≡ sorted → first_end sorted ≡ first_end text
 first_end_stays u [] [] text sorted is f g are these none e k = ap first_end (sym k ∙ e)
 first_end_stays u [] (v ∷ vs) text sorted is f g are these none e k = absurd (let wrong = none refl in cc)
 first_end_stays u (w ∷ us) vs text sorted is f g are these none e k =

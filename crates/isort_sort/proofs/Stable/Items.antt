@@ -6,16 +6,16 @@ use Rattle.py_lines.specs.Character.{is_space, is_digit}
 use Rattle.py_lines.specs.Neighbours.{MayTouch}
 use Rattle.py_lines.specs.Piece.{space, word, Piece}
 use Rattle.py_imports.specs.Grammar.{Terminal, as_word, name, comma, Item, IsItem, plain, renamed, AreItems, last, then, NameKind, identifiers}
-use Rattle.py_imports.specs.Names.{IsName, IsAlias}
+use Rattle.py_imports.specs.Names.{IsName, IsAlias, IsNameItem}
 use Rattle.py_imports.specs.Spelled.{alias_text}
 use Rattle.isort_sort.specs.Wrapping.{item_text}
-use Rattle.isort_sort.proofs.Stable.Parts.{piece, IsPart, part-append, part-nil, part-space, LettersAreWords, part-letters, name_piece, part-name}
+use Rattle.isort_sort.proofs.Stable.Parts.{piece, IsStatementPart, part-append, part-nil, part-space, LettersAreWords, part-letters, name_piece, part-name}
 use Rattle.isort_sort.proofs.Stable.Touching.{after_word, begins_word, touch-word}
 
 abbrev pub a_space : Piece
 a_space = piece space (32 ∷ [])
 
-pub part-a_space : IsPart (a_space ∷ []) (32 ∷ []) [] []
+pub part-a_space : IsStatementPart (a_space ∷ []) (32 ∷ []) [] []
 unfolding is_space
 part-a_space = part-space (32 ∷ []) refl
 
@@ -28,7 +28,7 @@ abbrev pub alias_terminals : Option (List ℕ) → List Terminal
 alias_terminals None = []
 alias_terminals (Some a) = as_word ∷ name a ∷ []
 
-pub part-alias : LettersAreWords → (a : Option (List ℕ)) → IsAlias a → IsPart (alias_pieces a) (alias_text a) (alias_terminals a) []
+pub part-alias : LettersAreWords → (a : Option (List ℕ)) → IsAlias a → IsStatementPart (alias_pieces a) (alias_text a) (alias_terminals a) []
 unfolding is_digit
 part-alias law None h = part-nil
 part-alias law (Some a) h =
@@ -45,13 +45,9 @@ item_pieces i = name_piece i.path ∷ alias_pieces i.alias
 abbrev pub item_terminals : Item → List Terminal
 item_terminals i = name i.path ∷ alias_terminals i.alias
 
-pub record IsNameItem (i : Item) : Type 0 where
-  pub path : IsName i.path
-  pub alias : IsAlias i.alias
-
 -- what begins with a word, ends with one, and reads as these terminals
 pub record IsJoinable (pieces : List Piece) (bytes : List ℕ) (terminals : List Terminal) : Type 0 where
-  pub part : IsPart pieces bytes terminals []
+  pub part : IsStatementPart pieces bytes terminals []
   pub touch : (rest : List Piece) → after_word rest ≡ true → MayTouch rest → MayTouch (pieces ++ rest)
   pub begins : (rest : List Piece) → begins_word (pieces ++ rest) ≡ true
 
@@ -64,7 +60,7 @@ item-joinable law i n = record {
 
 -- what may stand between two of them: one comma
 pub record IsGlue (glue : List Piece) (bytes : List ℕ) : Type 0 where
-  pub part : IsPart glue bytes (comma ∷ []) []
+  pub part : IsStatementPart glue bytes (comma ∷ []) []
   pub touch : (rest : List Piece) → begins_word rest ≡ true → MayTouch rest → MayTouch (glue ++ rest)
   pub after : (rest : List Piece) → after_word (glue ++ rest) ≡ true
 

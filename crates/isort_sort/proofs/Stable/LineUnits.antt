@@ -15,16 +15,16 @@ use Rattle.py_lines.specs.Neighbours.{AreSimple, MayTouch}
 use Rattle.py_lines.specs.Piece.{space, comment, line_end, Piece, begins, ends, begins_marked, spelled}
 use Rattle.py_lines.specs.PieceGrammar.{AreReadBefore, IsComment, IsLineEnd, feed, return_feed, return}
 use Rattle.py_lines.specs.Words.{words_of}
-use Rattle.py_imports.specs.Action.{says}
-use Rattle.py_imports.specs.declared.action.Action.{Action}
-use Rattle.py_imports.specs.declared.action.Action.TheVariants as action
+use Rattle.py_imports.specs.ActionComment.{says}
+use Rattle.py_imports.specs.declared.action_comment.ActionComment.{ActionComment}
+use Rattle.py_imports.specs.declared.action_comment.ActionComment.TheVariants as action
 use Rattle.isort_sort.specs.Blocks.{stands_between, is_blank, comments_in}
 use Rattle.isort_sort.specs.BlocksReplaced.{is_comments}
 use Rattle.isort_sort.specs.Line.{comment_texts}
 use Rattle.isort_sort.specs.Row.{is_comment_kind, says_alone, Role, comments, blank, Row, HasRole, indentation_of, first_string_skips}
 use Rattle.isort_sort.specs.Sorted.{texts_of}
 use Rattle.isort_sort.specs.WrittenLine.{mark_pieces, end_pieces}
-use Rattle.isort_sort.proofs.Stable.Units.{IsUnit, Follows, AreUnits, flat, ends-last}
+use Rattle.isort_sort.proofs.Stable.Units.{IsUnit, MayFollowUnit, AreUnits, flat, ends-last}
 use Rattle.isort_sort.proofs.Stable.UnitRows.{TokenLaws, unit_line, remarks, comments_of_unit, IsUnitRow, AreUnitRows, role_in_block, silent}
 use Rattle.isort_sort.proofs.Rows.Spaces.{space_no_feed}
 use Rattle.std.proofs.Math.Bool.{and-false, or-false, or-true}
@@ -40,7 +40,7 @@ are_some [] = false
 are_some (u ∷ us) = true
 
 -- pieces that end with this line end at depth 0
-pub record IsEnded (end : List ℕ) (u : List Piece) : Type 0 where
+pub record IsEndedUnit (end : List ℕ) (u : List Piece) : Type 0 where
   pub body : List Piece
   pub is : u ≡ body ++ end_pieces true end
   pub deep : depth_through 0 body ≡ 0
@@ -50,7 +50,7 @@ pub record IsLine (end : List ℕ) (needed : Bool) (u : List Piece) : Type 0 whe
   pub unit : IsUnit u
   pub unmarked : begins_marked u ≡ false
   pub uncut : ends is_return end && begins is_line_feed (spelled u) ≡ false
-  pub ended : needed ≡ true → IsEnded end u
+  pub ended : needed ≡ true → IsEndedUnit end u
 
 -- such lines, each with a line end, perhaps except the last
 abbrev pub AreLines : List ℕ → Bool → List (List Piece) → Type 0
@@ -64,24 +64,24 @@ by_end P end a b c (return_feed e) = subst P (sym e) b
 by_end P end a b c (return e) = subst P (sym e) c
 
 -- what may follow a line end, may follow a line that ends with it
-ends_line : (end : List ℕ) (u : List Piece) → IsEnded end u → EndsLine u
+ends_line : (end : List ℕ) (u : List Piece) → IsEndedUnit end u → EndsLine u
 ends_line end u h = inr (h.body, record { class = line_end; text = end }, h.is, refl, h.deep)
 
-pub follows_line : (end : List ℕ) (u : List Piece) (us : List (List Piece)) → IsLineEnd end → IsEnded end u → Follows (end_pieces true end) us → Follows u us
+pub follows_line : (end : List ℕ) (u : List Piece) (us : List (List Piece)) → IsLineEnd end → IsEndedUnit end u → MayFollowUnit (end_pieces true end) us → MayFollowUnit u us
 follows_line end u [] is h f = tt
 follows_line end u (w ∷ us) is h f =
     let last : ends is_return (spelled u) ≡ ends is_return end = ap (λ l. ends is_return (spelled l)) h.is ∙ ends-last is_return h.body (record { class = line_end; text = end }) is in
     let alone : ends is_return (spelled (end_pieces true end)) ≡ ends is_return end = ap (ends is_return) (append-nil end) in
     (ends_line end u h, record { unmarked = f.1.unmarked; uncut = ap (λ b. b && begins is_line_feed (spelled w)) (last ∙ sym alone) ∙ f.1.uncut })
 
-pub line_follows : (end : List ℕ) (needed : Bool) (w : List Piece) (us : List (List Piece)) → IsLine end needed w → Follows (end_pieces true end) (w ∷ us)
+pub line_follows : (end : List ℕ) (needed : Bool) (w : List Piece) (us : List (List Piece)) → IsLine end needed w → MayFollowUnit (end_pieces true end) (w ∷ us)
 line_follows end needed w us h = (
   inr ([], record { class = line_end; text = end }, refl, refl, refl),
   record { unmarked = h.unmarked; uncut = ap (λ t. ends is_return t && begins is_line_feed (spelled w)) (append-nil end) ∙ h.uncut },
 )
 
 -- lines before others are logical lines that may follow one another
-pub lines_units : (end : List ℕ) (ended : Bool) (us vs : List (List Piece)) → IsLineEnd end → AreLines end ended us → (are_some vs ≡ true → ended ≡ true) → Follows (end_pieces true end) vs → AreUnits vs → AreUnits (us ++ vs)
+pub lines_units : (end : List ℕ) (ended : Bool) (us vs : List (List Piece)) → IsLineEnd end → AreLines end ended us → (are_some vs ≡ true → ended ≡ true) → MayFollowUnit (end_pieces true end) vs → AreUnits vs → AreUnits (us ++ vs)
 lines_units end ended [] vs is h all f k = k
 lines_units end ended (u ∷ []) [] is h all f k = (h.0.unit, tt, tt)
 lines_units end ended (u ∷ []) (w ∷ vs) is h all f k = (h.0.unit, follows_line end u (w ∷ vs) is (h.0.ended (or-false ended ∙ all refl)) f, k)
@@ -281,7 +281,7 @@ comment_line law indentation text end above spaces is = record {
     unmarked [] = refl
     unmarked (c ∷ cs) = refl
 
-    ended : (i : List ℕ) → IsEnded end (comment_unit i above.characters end)
+    ended : (i : List ℕ) → IsEndedUnit end (comment_unit i above.characters end)
     ended [] = record { body = record { class = comment; text = above.characters } ∷ []; is = refl; deep = refl }
     ended (c ∷ cs) = record { body = record { class = space; text = c ∷ cs } ∷ record { class = comment; text = above.characters } ∷ []; is = refl; deep = refl }
 
@@ -309,7 +309,7 @@ comment_role laws off marked indentation text end above = (
   sym (comment_words laws marked indentation text end above),
 )
   where
-    said : (a : Action) → says a text ≡ false → says_alone a (line_of 0 1 (mark_pieces marked ++ comment_unit indentation above.characters end)) ≡ false
+    said : (a : ActionComment) → says a text ≡ false → says_alone a (line_of 0 1 (mark_pieces marked ++ comment_unit indentation above.characters end)) ≡ false
     said a h =
         (λ i. comment_kind marked indentation text end above i && list_any (says a) (comment_words laws marked indentation text end above i))
         ∙ ap (λ b. b || false) h

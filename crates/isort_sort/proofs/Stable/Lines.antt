@@ -71,14 +71,14 @@ line-mark offset row false (c ∷ cs) from phrase ends h =
     ∙ ap (λ b. cond b 3 0) (space-no_mark c rest both.0)
 
 -- the first token that is no comment
-pub record IsFirst (line : LogicalLine) (place row : ℕ) : Type 0 where
+pub record IsFirstToken (line : LogicalLine) (place row : ℕ) : Type 0 where
   pub token : Token
   pub others : List Token
   pub all : significant line.tokens ≡ token ∷ others
   pub start : token.start ≡ place
   pub kind : token.kind ≡ kind.Name
 
-pub line-first : (offset row : ℕ) (marked : Bool) (indentation : List ℕ) (from : Bool) (phrase ends : List Piece) → IsFirst (written_line offset row marked indentation from phrase ends) (mark_bytes marked + byte_len indentation) row
+pub line-first : (offset row : ℕ) (marked : Bool) (indentation : List ℕ) (from : Bool) (phrase ends : List Piece) → IsFirstToken (written_line offset row marked indentation from phrase ends) (mark_bytes marked + byte_len indentation) row
 unfolding is_digit lib.Utf8.encode
 line-first offset row true [] true phrase ends = record { token = _; others = _; all = refl; start = refl; kind = refl }
 line-first offset row true [] false phrase ends = record { token = _; others = _; all = refl; start = refl; kind = refl }

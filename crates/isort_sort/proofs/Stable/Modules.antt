@@ -6,7 +6,7 @@ use Rattle.py_lines.specs.Character.{is_operator}
 use Rattle.py_lines.specs.Piece.{operator, Piece}
 use Rattle.py_imports.specs.Grammar.{Terminal, name, dot, IsModule, one, more, AreDots, no_dot, one_more, IsRelativeModule, dots, named, spelling}
 use Rattle.py_imports.specs.Names.{HaveNames}
-use Rattle.isort_sort.proofs.Stable.Parts.{piece, IsPart, part-append, part-nil, part-operator, name_piece, part-name}
+use Rattle.isort_sort.proofs.Stable.Parts.{piece, IsStatementPart, part-append, part-nil, part-operator, name_piece, part-name}
 use Rattle.isort_sort.proofs.Stable.Touching.{after_word, after_space, touch-word, touch-operator}
 
 -- names and dots as pieces
@@ -16,16 +16,16 @@ path_pieces (name w ∷ ts) = name_piece w ∷ path_pieces ts
 path_pieces (dot ∷ ts) = piece operator (46 ∷ []) ∷ path_pieces ts
 path_pieces (_ ∷ ts) = path_pieces ts
 
-part-dot : IsPart (piece operator (46 ∷ []) ∷ []) (46 ∷ []) (dot ∷ []) []
+part-dot : IsStatementPart (piece operator (46 ∷ []) ∷ []) (46 ∷ []) (dot ∷ []) []
 unfolding is_operator
 part-dot = part-operator 46 refl refl refl
 
-pub part-module : (ts : List Terminal) → IsModule ts → HaveNames ts → IsPart (path_pieces ts) (spelling ts) ts []
+pub part-module : (ts : List Terminal) → IsModule ts → HaveNames ts → IsStatementPart (path_pieces ts) (spelling ts) ts []
 part-module _ (one w) h = part-append (part-name w h.0) part-nil
 part-module _ (more w rest m) h =
     part-append (part-name w h.0) (part-append part-dot (part-module rest m h.1.1))
 
-part-dots : (ts : List Terminal) → AreDots ts → IsPart (path_pieces ts) (spelling ts) ts []
+part-dots : (ts : List Terminal) → AreDots ts → IsStatementPart (path_pieces ts) (spelling ts) ts []
 part-dots _ no_dot = part-nil
 part-dots _ (one_more rest d) = part-append part-dot (part-dots rest d)
 
@@ -42,12 +42,12 @@ names_after_dots : (ts us : List Terminal) → AreDots ts → HaveNames (ts ++ u
 names_after_dots _ us no_dot h = h
 names_after_dots _ us (one_more rest d) h = names_after_dots rest us d h.1
 
-pub part-relative : (ts : List Terminal) → IsRelativeModule ts → HaveNames ts → IsPart (path_pieces ts) (spelling ts) ts []
+pub part-relative : (ts : List Terminal) → IsRelativeModule ts → HaveNames ts → IsStatementPart (path_pieces ts) (spelling ts) ts []
 part-relative _ (dots rest d) h = part-dots (dot ∷ rest) (one_more rest d)
 part-relative _ (named ts before path cut d m) h =
-    subst (λ (x : List Terminal). IsPart (path_pieces x) (spelling x) x []) (sym cut)
-    (subst (λ (ps : List Piece). IsPart ps (spelling (before ++ path)) (before ++ path) []) (sym (pieces-dots before path d))
-    (subst (λ (b : List ℕ). IsPart (path_pieces before ++ path_pieces path) b (before ++ path) []) (sym (spelling-dots before path d))
+    subst (λ (x : List Terminal). IsStatementPart (path_pieces x) (spelling x) x []) (sym cut)
+    (subst (λ (ps : List Piece). IsStatementPart ps (spelling (before ++ path)) (before ++ path) []) (sym (pieces-dots before path d))
+    (subst (λ (b : List ℕ). IsStatementPart (path_pieces before ++ path_pieces path) b (before ++ path) []) (sym (spelling-dots before path d))
     (part-append (part-dots before d) (part-module path m (names_after_dots before path d (subst HaveNames cut h))))))
 
 -- what a module may touch

@@ -12,15 +12,15 @@ use Rattle.isort_sort.specs.WrittenLine.{AreRemarks}
 use Rattle.isort_sort.specs.Wrapping.{items_text, remark}
 use Rattle.isort_sort.proofs.Stable.Bodies.{comma_piece, part-comma, part-opening, part-closing, IsPad, part-pad, pad_no_feed, comma_line, line-glue, comma_join, join-glue, AreLines, lines_pieces, lines_terminals, lines-joinable, any-append, any-lines, any-items, Passes, no_bracket, no_end, line_pieces, line-joinable, AreNameItems}
 use Rattle.isort_sort.proofs.Stable.Items.{HasItem, line_terminals, IsJoinable}
-use Rattle.isort_sort.proofs.Stable.OneLine.{is_bracket, is_end, plain-line, line-append, opening_piece, closing_piece, bracketed-line}
-use Rattle.isort_sort.proofs.Stable.Parts.{piece, remarks_in, IsPart, words-append, part-append, part-nil, part-space, part-end, part-join, space_pieces, LettersAreWords}
+use Rattle.isort_sort.proofs.Stable.OneLine.{is_bracket, is_line_end_piece, plain-line, line-append, opening_piece, closing_piece, bracketed-line}
+use Rattle.isort_sort.proofs.Stable.Parts.{piece, remarks_in, IsStatementPart, words-append, part-append, part-nil, part-space, part-end, part-join, space_pieces, LettersAreWords}
 use Rattle.isort_sort.proofs.Stable.Phrases.{end_piece, IsPhrase, remark_pieces, remark_said, part-remark, touch-remark, remark_after_word, well-remark, any-remark, line-remark}
 use Rattle.isort_sort.proofs.Stable.Tokens.{are_well, no_words, well-append}
 use Rattle.isort_sort.proofs.Stable.Touching.{after_word, after_space, touch-space, touch-operator, word_after_space}
 use Rattle.std.proofs.Math.Bool.{and-false}
 
 -- names and the comment
-plain-phrase : (end : List ℕ) (ps : List Piece) (bytes : List ℕ) (terminals : List Terminal) → IsJoinable ps bytes terminals → list_any is_bracket ps ≡ false → list_any is_end ps ≡ false → (cs : List (List ℕ)) → AreRemarks cs → IsPhrase end (ps ++ remark_pieces cs) (bytes ++ remark cs) (terminals ++ []) (remark_said cs)
+plain-phrase : (end : List ℕ) (ps : List Piece) (bytes : List ℕ) (terminals : List Terminal) → IsJoinable ps bytes terminals → list_any is_bracket ps ≡ false → list_any is_line_end_piece ps ≡ false → (cs : List (List ℕ)) → AreRemarks cs → IsPhrase end (ps ++ remark_pieces cs) (bytes ++ remark cs) (terminals ++ []) (remark_said cs)
 plain-phrase end ps bytes terminals j bare unended cs h =
     let whole : (ps ++ remark_pieces cs) ++ end_piece end ∷ [] ≡ ps ++ (remark_pieces cs ++ end_piece end ∷ []) = append_assoc ps (remark_pieces cs) (end_piece end ∷ []) in
     record {
@@ -34,7 +34,7 @@ plain-phrase end ps bytes terminals j bare unended cs h =
 -- on one line
 pub flat-phrase : LettersAreWords → (end : List ℕ) (items : List Item) → HasItem items → AreNameItems items → (cs : List (List ℕ)) → AreRemarks cs → IsPhrase end (line_pieces items ++ remark_pieces cs) (items_text items ++ remark cs) (line_terminals items ++ []) (remark_said cs)
 flat-phrase law end items some named cs h =
-    plain-phrase end (line_pieces items) (items_text items) (line_terminals items) (line-joinable law items some named) (one is_bracket no_bracket) (one is_end no_end) cs h
+    plain-phrase end (line_pieces items) (items_text items) (line_terminals items) (line-joinable law items some named) (one is_bracket no_bracket) (one is_line_end_piece no_end) cs h
   where
     one : (p : Piece → Bool) → Passes p → list_any p (line_pieces items) ≡ false
     one p n = any-items p n items
@@ -47,7 +47,7 @@ hanging-phrase law end pad e p line lines named cs h =
     let sep : List ℕ = (codes ", " ++ 92 ∷ []) ++ (end ++ pad) in
     let names = lines_pieces glue (line ∷ lines) in
     let j = lines-joinable law glue sep (join-glue end pad e p) line lines named in
-    let rest = plain-phrase end names (join_by items_text sep (line ∷ lines)) (lines_terminals (line ∷ lines)) j (any-lines is_bracket no_bracket glue refl (line ∷ lines)) (any-lines is_end no_end glue refl (line ∷ lines)) cs h in
+    let rest = plain-phrase end names (join_by items_text sep (line ∷ lines)) (lines_terminals (line ∷ lines)) j (any-lines is_bracket no_bracket glue refl (line ∷ lines)) (any-lines is_line_end_piece no_end glue refl (line ∷ lines)) cs h in
     record {
       part =
           part-append (part-join end e) (part-append (part-pad pad p) rest.part);
@@ -70,7 +70,7 @@ abbrev pub comma_terminals : Bool → List Terminal
 comma_terminals true = comma ∷ []
 comma_terminals false = []
 
-part-trailing : (t : Bool) → IsPart (comma_pieces t) (comma_text t) (comma_terminals t) []
+part-trailing : (t : Bool) → IsStatementPart (comma_pieces t) (comma_text t) (comma_terminals t) []
 part-trailing true = part-comma
 part-trailing false = part-nil
 
@@ -112,7 +112,7 @@ brackets-phrase law end pad e p line lines named t cs h =
     let inner = names ++ comma_pieces t in
     let bare = any-append is_bracket names (comma_pieces t) (any-lines is_bracket no_bracket glue refl (line ∷ lines)) (any-trailing is_bracket no_bracket t) in
     let bracketed = opening_piece ∷ (inner ++ closing_piece ∷ []) in
-    let part : IsPart bracketed (codes "(" ++ ((bytes ++ comma_text t) ++ codes ")")) (opening ∷ ((terminals ++ comma_terminals t) ++ closing ∷ [])) [] =
+    let part : IsStatementPart bracketed (codes "(" ++ ((bytes ++ comma_text t) ++ codes ")")) (opening ∷ ((terminals ++ comma_terminals t) ++ closing ∷ [])) [] =
     part-append part-opening (part-append (part-append j.part (part-trailing t)) part-closing) in
     let ending = remark_pieces cs ++ end_piece end ∷ [] in
     let whole = regroup-brackets opening_piece closing_piece names (comma_pieces t) (remark_pieces cs) (end_piece end ∷ []) in
@@ -172,8 +172,8 @@ hung-phrase law end pad indentation e p spaces line lines named t cs h =
     let j = lines-joinable law glue sep (line-glue end pad e p) line lines named in
     let last = end_piece end ∷ space_pieces indentation in
     let behind = end_piece end ∷ piece space pad ∷ (names ++ (comma_pieces t ++ last)) in
-    let part-last : IsPart last (end ++ indentation) [] [] = part-append (part-end end e) (part-space indentation spaces) in
-    let part-behind : IsPart behind (end ++ (pad ++ (bytes ++ (comma_text t ++ (end ++ indentation))))) (terminals ++ (comma_terminals t ++ [])) [] =
+    let part-last : IsStatementPart last (end ++ indentation) [] [] = part-append (part-end end e) (part-space indentation spaces) in
+    let part-behind : IsStatementPart behind (end ++ (pad ++ (bytes ++ (comma_text t ++ (end ++ indentation))))) (terminals ++ (comma_terminals t ++ [])) [] =
     part-append (part-end end e) (part-append (part-pad pad p) (part-append j.part (part-append (part-trailing t) part-last))) in
     let inner = remark_pieces cs ++ behind in
     let bare-names = any-lines is_bracket no_bracket glue refl (line ∷ lines) in
@@ -196,6 +196,6 @@ hung-phrase law end pad indentation e p spaces line lines named t cs h =
       line = bracketed-line inner bare;
       well = λ o.
           let words : words_of (inner ++ closing_piece ∷ []) ≡ words_of (remark_pieces cs) ++ words_of (behind ++ closing_piece ∷ []) = ap words_of (append_assoc (remark_pieces cs) behind (closing_piece ∷ [])) ∙ words-append (remark_pieces cs) (behind ++ closing_piece ∷ []) in
-          let rest : IsPart (behind ++ closing_piece ∷ []) ((end ++ (pad ++ (bytes ++ (comma_text t ++ (end ++ indentation))))) ++ codes ")") ((terminals ++ (comma_terminals t ++ [])) ++ closing ∷ []) [] = part-append part-behind part-closing in
+          let rest : IsStatementPart (behind ++ closing_piece ∷ []) ((end ++ (pad ++ (bytes ++ (comma_text t ++ (end ++ indentation))))) ++ codes ")") ((terminals ++ (comma_terminals t ++ [])) ++ closing ∷ []) [] = part-append part-behind part-closing in
           ap (are_well true) words ∙ well-opened cs (words_of (behind ++ closing_piece ∷ [])) (well-bare (words_of (behind ++ closing_piece ∷ [])) rest.remarks);
     }

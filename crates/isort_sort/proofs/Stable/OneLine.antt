@@ -11,13 +11,13 @@ use Rattle.std.proofs.Math.Bool.{and-false}
 abbrev pub is_bracket : Piece → Bool
 is_bracket p = is_opener p || is_closer p
 
-abbrev pub is_end : Piece → Bool
-is_end p = is_line_end_class p.class
+abbrev pub is_line_end_piece : Piece → Bool
+is_line_end_piece p = is_line_end_class p.class
 
 -- whether no line end stands at depth 0 among pieces that begin at this depth
 abbrev pub keeps : ℕ → List Piece → Bool
 keeps d [] = true
-keeps d (p ∷ ps) = not (is_end p && (d == 0)) && keeps (depth_after d p) ps
+keeps d (p ∷ ps) = not (is_line_end_piece p && (d == 0)) && keeps (depth_after d p) ps
 
 pub record IsOneLine (pieces : List Piece) : Type 0 where
   pub balanced : IsBalanced pieces
@@ -49,18 +49,18 @@ bare-depth : (d : ℕ) (ps : List Piece) → list_any is_bracket ps ≡ false �
 bare-depth d [] h = refl
 bare-depth d (p ∷ ps) h = let parts = or_parts (is_bracket p) (list_any is_bracket ps) h in bare-depth (depth_after d p) ps parts.1 ∙ same_depth d p parts.0
 
-unended-kept : (d : ℕ) (ps : List Piece) → list_any is_end ps ≡ false → keeps d ps ≡ true
+unended-kept : (d : ℕ) (ps : List Piece) → list_any is_line_end_piece ps ≡ false → keeps d ps ≡ true
 unended-kept d [] h = refl
-unended-kept d (p ∷ ps) h = let parts = or_parts (is_end p) (list_any is_end ps) h in and_from _ _ (ap (λ b. not (b && (d == 0))) parts.0) (unended-kept (depth_after d p) ps parts.1)
+unended-kept d (p ∷ ps) h = let parts = or_parts (is_line_end_piece p) (list_any is_line_end_piece ps) h in and_from _ _ (ap (λ b. not (b && (d == 0))) parts.0) (unended-kept (depth_after d p) ps parts.1)
 
 inside-kept : (ps : List Piece) → list_any is_bracket ps ≡ false → keeps 1 ps ≡ true
 inside-kept [] h = refl
 inside-kept (p ∷ ps) h =
     let parts = or_parts (is_bracket p) (list_any is_bracket ps) h in
-    and_from _ _ (ap not (and-false (is_end p))) (subst (λ (d : ℕ). keeps d ps ≡ true) (sym (same_depth 1 p parts.0)) (inside-kept ps parts.1))
+    and_from _ _ (ap not (and-false (is_line_end_piece p))) (subst (λ (d : ℕ). keeps d ps ≡ true) (sym (same_depth 1 p parts.0)) (inside-kept ps parts.1))
 
 -- no bracket, and no line end
-pub plain-line : (ps : List Piece) → list_any is_bracket ps ≡ false → list_any is_end ps ≡ false → IsOneLine ps
+pub plain-line : (ps : List Piece) → list_any is_bracket ps ≡ false → list_any is_line_end_piece ps ≡ false → IsOneLine ps
 plain-line ps h k = record { balanced = bare-balanced ps h; shallow = bare-shallow 0 ps h; deep = bare-depth 0 ps h; kept = unended-kept 0 ps k }
 
 -- pieces one after another
@@ -104,12 +104,12 @@ bracketed-line inner h =
 
 -- one logical line, alone and before a line end
 cut-alone : (d : ℕ) (p : Piece) (ps : List Piece) → keeps d (p ∷ ps) ≡ true → cut d (p ∷ ps) ≡ (p ∷ ps) ∷ []
-cut-alone d p [] h = by (is_end p && (d == 0)) (and_parts _ _ h).0
+cut-alone d p [] h = by (is_line_end_piece p && (d == 0)) (and_parts _ _ h).0
   where
     by : (b : Bool) → not b ≡ true → cond b ((p ∷ []) ∷ cut d []) (put_first p []) ≡ (p ∷ []) ∷ []
     by true k = absurd (cc)
     by false k = refl
-cut-alone d p (q ∷ qs) h = by (is_end p && (d == 0)) (and_parts _ _ h).0 (cut-alone (depth_after d p) q qs (and_parts _ _ h).1)
+cut-alone d p (q ∷ qs) h = by (is_line_end_piece p && (d == 0)) (and_parts _ _ h).0 (cut-alone (depth_after d p) q qs (and_parts _ _ h).1)
   where
     by : (b : Bool) → not b ≡ true → cut (depth_after d p) (q ∷ qs) ≡ (q ∷ qs) ∷ [] → cond b ((p ∷ []) ∷ cut d (q ∷ qs)) (put_first p (cut (depth_after d p) (q ∷ qs))) ≡ (p ∷ q ∷ qs) ∷ []
     by true k e = absurd (cc)
@@ -120,7 +120,7 @@ one-cut p ps l = cut-alone 0 p ps l.kept
 
 cut-end : (d : ℕ) (ps : List Piece) (end : List ℕ) (more : List Piece) → keeps d ps ≡ true → depth_through d ps ≡ 0 → cut d (ps ++ (piece line_end end ∷ more)) ≡ (ps ++ piece line_end end ∷ []) ∷ cut 0 more
 cut-end d [] end more h k = ap (λ (n : ℕ). cut n (piece line_end end ∷ more)) k
-cut-end d (p ∷ ps) end more h k = by (is_end p && (d == 0)) (and_parts _ _ h).0 (cut-end (depth_after d p) ps end more (and_parts _ _ h).1 k)
+cut-end d (p ∷ ps) end more h k = by (is_line_end_piece p && (d == 0)) (and_parts _ _ h).0 (cut-end (depth_after d p) ps end more (and_parts _ _ h).1 k)
   where
     by : (b : Bool) → not b ≡ true → cut (depth_after d p) (ps ++ (piece line_end end ∷ more)) ≡ (ps ++ piece line_end end ∷ []) ∷ cut 0 more → cond b ((p ∷ []) ∷ cut d (ps ++ (piece line_end end ∷ more))) (put_first p (cut (depth_after d p) (ps ++ (piece line_end end ∷ more)))) ≡ (p ∷ (ps ++ piece line_end end ∷ [])) ∷ cut 0 more
     by true l e = absurd (cc)

@@ -37,7 +37,7 @@ abbrev pub divides : Word → Bool
 divides w = is_divider w.kind
 
 -- simple pieces of scalar characters, with their bytes, what they say to the import grammar, and their comments
-pub record IsPart (pieces : List Piece) (bytes : List ℕ) (terminals : List Terminal) (said : List (List ℕ)) : Type 0 where
+pub record IsStatementPart (pieces : List Piece) (bytes : List ℕ) (terminals : List Terminal) (said : List (List ℕ)) : Type 0 where
   pub simple : AreSimple pieces
   pub scalars : all_scalars (spelled pieces) ≡ true
   pub spell : encode_utf8_all (spelled pieces) ≡ bytes
@@ -72,7 +72,7 @@ remarks-append a b =
     ap (map (λ w. w.bytes)) (filter-append (λ w. is_comment w.kind) a b)
     ∙ map-append (λ w. w.bytes) (filter (λ w. is_comment w.kind) a) (filter (λ w. is_comment w.kind) b)
 
-pub part-append : {ps qs : List Piece} {b c : List ℕ} {t u : List Terminal} {r s : List (List ℕ)} → IsPart ps b t r → IsPart qs c u s → IsPart (ps ++ qs) (b ++ c) (t ++ u) (r ++ s)
+pub part-append : {ps qs : List Piece} {b c : List ℕ} {t u : List Terminal} {r s : List (List ℕ)} → IsStatementPart ps b t r → IsStatementPart qs c u s → IsStatementPart (ps ++ qs) (b ++ c) (t ++ u) (r ++ s)
 part-append {ps = ps} {qs = qs} p q = record {
   simple = simple-append ps qs p.simple q.simple;
   scalars = ap all_scalars (spelled-append ps qs) ∙ scalars-append (spelled ps) (spelled qs) p.scalars q.scalars;
@@ -82,11 +82,11 @@ part-append {ps = ps} {qs = qs} p q = record {
   undivided = ap (list_any divides) (words-append ps qs) ∙ list_any-append divides (words_of ps) (words_of qs) ∙ (λ i. p.undivided i || q.undivided i);
 }
 
-pub part-nil : IsPart [] [] [] []
+pub part-nil : IsStatementPart [] [] [] []
 part-nil = record { simple = tt; scalars = refl; spell = refl; says = refl; remarks = refl; undivided = refl }
 
 -- a part whose terminals and bytes are others by equations
-pub part-as : (ps : List Piece) (b c : List ℕ) (t u : List Terminal) (r s : List (List ℕ)) → b ≡ c → t ≡ u → r ≡ s → IsPart ps b t r → IsPart ps c u s
+pub part-as : (ps : List Piece) (b c : List ℕ) (t u : List Terminal) (r s : List (List ℕ)) → b ≡ c → t ≡ u → r ≡ s → IsStatementPart ps b t r → IsStatementPart ps c u s
 part-as ps b c t u r s e f g p = record { simple = p.simple; scalars = p.scalars; spell = p.spell ∙ e; says = p.says ∙ f; remarks = p.remarks ∙ g; undivided = p.undivided }
 
 -- ASCII is spelled by itself
@@ -107,7 +107,7 @@ pub spaces_low : (cs : List ℕ) → list_all is_space cs ≡ true → list_all 
 spaces_low [] h = refl
 spaces_low (c ∷ cs) h = let both = and_parts _ _ h in and_from _ _ (lt-ltb c 128 (space_low c both.0)) (spaces_low cs both.1)
 
-pub part-space : (t : List ℕ) → list_all is_space t ≡ true → IsPart (space_pieces t) t [] []
+pub part-space : (t : List ℕ) → list_all is_space t ≡ true → IsStatementPart (space_pieces t) t [] []
 part-space [] h = part-nil
 part-space (c ∷ cs) h =
     let low = spaces_low (c ∷ cs) h in
@@ -122,7 +122,7 @@ part-space (c ∷ cs) h =
     }
 
 -- one character of an operator
-pub part-operator : (c : ℕ) → is_operator c ≡ true → nat_lt c 128 ≡ true → is_divider (kind.Op c) ≡ false → IsPart (piece operator (c ∷ []) ∷ []) (c ∷ []) (terminal_of_operator c ∷ []) []
+pub part-operator : (c : ℕ) → is_operator c ≡ true → nat_lt c 128 ≡ true → is_divider (kind.Op c) ≡ false → IsStatementPart (piece operator (c ∷ []) ∷ []) (c ∷ []) (terminal_of_operator c ∷ []) []
 part-operator c o low h =
     let one = and_from _ _ low refl in
     record {
@@ -140,7 +140,7 @@ end_low end (feed e) = ap (list_all (λ c. nat_lt c 128)) e
 end_low end (return_feed e) = ap (list_all (λ c. nat_lt c 128)) e
 end_low end (return e) = ap (list_all (λ c. nat_lt c 128)) e
 
-pub part-end : (end : List ℕ) → IsLineEnd end → IsPart (piece line_end end ∷ []) end [] []
+pub part-end : (end : List ℕ) → IsLineEnd end → IsStatementPart (piece line_end end ∷ []) end [] []
 part-end end e =
     let nil = append-nil end in
     record {
@@ -152,7 +152,7 @@ part-end end e =
       undivided = refl;
     }
 
-pub part-join : (end : List ℕ) → IsLineEnd end → IsPart (piece join (92 ∷ end) ∷ []) (92 ∷ end) [] []
+pub part-join : (end : List ℕ) → IsLineEnd end → IsStatementPart (piece join (92 ∷ end) ∷ []) (92 ∷ end) [] []
 unfolding is_backslash
 part-join end e =
     let nil = append-nil (92 ∷ end) in
@@ -166,7 +166,7 @@ part-join end e =
     }
 
 -- a comment, by its characters after the `#`
-pub part-comment : (body : List ℕ) → all_scalars body ≡ true → list_any is_break body ≡ false → IsPart (piece comment (35 ∷ body) ∷ []) (35 ∷ encode_utf8_all body) [] ((35 ∷ encode_utf8_all body) ∷ [])
+pub part-comment : (body : List ℕ) → all_scalars body ≡ true → list_any is_break body ≡ false → IsStatementPart (piece comment (35 ∷ body) ∷ []) (35 ∷ encode_utf8_all body) [] ((35 ∷ encode_utf8_all body) ∷ [])
 unfolding is_hash
 part-comment body fine unbroken =
     let nil = append-nil (35 ∷ body) in
@@ -184,7 +184,7 @@ part-comment body fine unbroken =
 abbrev pub LettersAreWords : Type 0
 LettersAreWords = (first : ℕ) (others : List ℕ) → list_all is_ascii_alphabetic (first ∷ others) ≡ true → IsWord (first ∷ others)
 
-pub part-letters : LettersAreWords → (c : ℕ) (cs : List ℕ) → list_all is_ascii_alphabetic (c ∷ cs) ≡ true → list_all (λ d. nat_lt d 128) (c ∷ cs) ≡ true → is_digit c ≡ false → IsPart (piece word (c ∷ cs) ∷ []) (c ∷ cs) (terminal_of_word (c ∷ cs) ∷ []) []
+pub part-letters : LettersAreWords → (c : ℕ) (cs : List ℕ) → list_all is_ascii_alphabetic (c ∷ cs) ≡ true → list_all (λ d. nat_lt d 128) (c ∷ cs) ≡ true → is_digit c ≡ false → IsStatementPart (piece word (c ∷ cs) ∷ []) (c ∷ cs) (terminal_of_word (c ∷ cs) ∷ []) []
 part-letters law c cs letters low no_digit =
     let nil = append-nil (c ∷ cs) in
     let bytes = low-spell (c ∷ cs) low in
@@ -227,9 +227,9 @@ name_terminal b h =
 abbrev pub name_piece : List ℕ → Piece
 name_piece bytes = piece word (chars bytes)
 
-pub part-name : (b : List ℕ) → IsName b → IsPart (name_piece b ∷ []) b (name b ∷ []) []
+pub part-name : (b : List ℕ) → IsName b → IsStatementPart (name_piece b ∷ []) b (name b ∷ []) []
 part-name b n =
-    subst (λ (t : List ℕ). IsPart (piece word t ∷ []) b (name b ∷ []) []) (sym (ap chars (sym n.spell) ∙ chars-encodes n.characters n.scalars))
+    subst (λ (t : List ℕ). IsStatementPart (piece word t ∷ []) b (name b ∷ []) []) (sym (ap chars (sym n.spell) ∙ chars-encodes n.characters n.scalars))
     (record {
       simple = (refl, n.word, tt);
       scalars = ap all_scalars (append-nil n.characters) ∙ n.scalars;

@@ -11,18 +11,18 @@ use Rattle.py_lines.specs.PieceGrammar.{InClass, IsComment, AreReadBefore}
 use Rattle.py_lines.specs.Words.{Word, words_of_piece, words_of}
 use Rattle.py_lines.specs.declared.token.TokKind.TheVariants as kind
 use Rattle.py_lines.specs.declared.token.Token.{Token}
-use Rattle.py_imports.specs.Action.{says}
+use Rattle.py_imports.specs.ActionComment.{says}
 use Rattle.py_imports.specs.Shape.{says_skip}
 use Rattle.py_imports.specs.Statement.{is_comment}
-use Rattle.py_imports.specs.declared.action.Action.{Action}
-use Rattle.py_imports.specs.declared.action.Action.TheVariants as action
+use Rattle.py_imports.specs.declared.action_comment.ActionComment.{ActionComment}
+use Rattle.py_imports.specs.declared.action_comment.ActionComment.TheVariants as action
 use Rattle.isort_sort.specs.Line.{word_of, comment_texts, own_comments, is_text, stripped, without_hash, IsOwnComment, AreOwnComments}
 use Rattle.isort_sort.specs.Row.{says_alone, comments, HasRole}
 use Rattle.isort_sort.specs.WrittenLine.{IsRemark, AreRemarks}
 use Rattle.isort_sort.proofs.Stable.Units.{IsUnit, scalars-parts}
 use Rattle.isort_sort.proofs.Stable.UnitRows.{TokenLaws, unit_line, remarks, comments_of_unit}
 use Rattle.isort_sort.proofs.Stable.LineUnits.{says_skip_file, AreAbove}
-use Rattle.isort_sort.proofs.Stable.Stripped.{IsPlainText, stripped_text, bare_comment, stripped_says}
+use Rattle.isort_sort.proofs.Stable.Stripped.{IsUnbrokenText, stripped_text, bare_comment, stripped_says}
 
 -- the bytes of a comment
 pub record IsCommentText (text : List ℕ) : Type 0 where
@@ -72,7 +72,7 @@ comments_above laws off u cs is skip h =
     let more = or_parts (says_alone action.Off line) (says_alone action.On line) parts.0 in
     subst AreAbove (sym h.2) (above_from (comment_texts line) (unit_comments laws u is) (said action.Off more.0) (said action.On more.1) (said action.Split parts.1) skip)
   where
-    said : (a : Action) → says_alone a (unit_line u) ≡ false → list_any (says a) (comment_texts (unit_line u)) ≡ false
+    said : (a : ActionComment) → says_alone a (unit_line u) ≡ false → list_any (says a) (comment_texts (unit_line u)) ≡ false
     said a e = sym (ap (λ b. b && list_any (says a) (comment_texts (unit_line u))) h.0) ∙ e
 
 -- the comments that a statement joins
@@ -91,7 +91,7 @@ one_own : (c : List ℕ) → IsCommentText c → says action.Skip c ≡ false �
 one_own c h skip own =
     let same : without_hash c ≡ encode_utf8_all h.is.1 = ap without_hash (h.spell ∙ ap encode_utf8_all h.is.2) ∙ bare_comment h.is.0 h.is.1 h.is.3 in
     let scalars = (scalars-parts (h.is.0 ∷ []) h.is.1 (ap all_scalars (sym h.is.2) ∙ h.scalars)).1 in
-    let plain = subst (λ (t : List ℕ). IsPlainText (stripped t)) (sym same) (stripped_text h.is.1 scalars h.is.4) in
+    let plain = subst (λ (t : List ℕ). IsUnbrokenText (stripped t)) (sym same) (stripped_text h.is.1 scalars h.is.4) in
     record { characters = plain.characters; spell = plain.spell; scalars = plain.scalars; unbroken = plain.unbroken; own = own; unskipped = stripped_says action.Skip c skip }
 
 own_remarks : (cs : List (List ℕ)) → AreCommentTexts cs → list_any (says action.Skip) cs ≡ false → AreOwnComments (own_of cs) → AreRemarks (own_of cs)
@@ -105,7 +105,7 @@ own_remarks (c ∷ cs) h skip own =
     by true o k later = (one_own c h.0 k o.0, later o.1)
     by false o k later = later o
 
-own_says : (a : Action) (cs : List (List ℕ)) → list_any (says a) cs ≡ false → list_any (says a) (own_of cs) ≡ false
+own_says : (a : ActionComment) (cs : List (List ℕ)) → list_any (says a) cs ≡ false → list_any (says a) (own_of cs) ≡ false
 unfolding own_of
 own_says a [] h = refl
 own_says a (c ∷ cs) h =

@@ -16,7 +16,7 @@ use Rattle.py_imports.specs.Bound.{Bound}
 use Rattle.py_imports.specs.Grammar.{Terminal, begins_import, Imported, Item, IsImport, import_statement, from_statement, NameKind, AreItems, last, then, AreBracketed, closed, closed_after_comma, AreNames, plain_names, bracketed, all_names}
 use Rattle.py_imports.specs.Names.{AreNamed, HaveNames}
 use Rattle.py_imports.specs.Shape.{terminals_of, mark_len}
-use Rattle.py_imports.specs.Statement.{significant, Place, places_from, may_start_after, starts, is_end, statement_at}
+use Rattle.py_imports.specs.Statement.{significant, TokenPlace, places_from, may_start_after, starts, is_end, statement_at}
 use Rattle.isort_sort.specs.Line.{imported_of}
 use Rattle.isort_sort.specs.Row.{Imports, indentation_of}
 use Rattle.isort_sort.proofs.Rows.Moved.{imported_again}
@@ -38,7 +38,7 @@ pub record ImportLaws : Type 0 where
 abbrev TokensNamed : List ℕ → List Token → Type 0
 TokensNamed text ts = HaveNames (map (terminal_in text) ts)
 
-abbrev PlacesNamed : List ℕ → List Place → Type 0
+abbrev PlacesNamed : List ℕ → List TokenPlace → Type 0
 PlacesNamed text [] = Unit {0}
 PlacesNamed text (p ∷ ps) = TokensNamed text (p.token ∷ p.after) × PlacesNamed text ps
 
@@ -46,7 +46,7 @@ places_named : (text : List ℕ) (b ts : List Token) → TokensNamed text ts →
 places_named text b [] h = tt
 places_named text b (t ∷ ts) h = (h, places_named text (b ++ t ∷ []) ts h.1)
 
-filter_named : (text : List ℕ) (test : Place → Bool) (ps : List Place) → PlacesNamed text ps → PlacesNamed text (filter test ps)
+filter_named : (text : List ℕ) (test : TokenPlace → Bool) (ps : List TokenPlace) → PlacesNamed text ps → PlacesNamed text (filter test ps)
 filter_named text test [] h = tt
 filter_named text test (p ∷ ps) h = by (test p) (filter_named text test ps h.1)
   where
@@ -54,12 +54,12 @@ filter_named text test (p ∷ ps) h = by (test p) (filter_named text test ps h.1
     by true k = (h.0, k)
     by false k = k
 
-take_named : (text : List ℕ) (n : ℕ) (ps : List Place) → TokensNamed text (map (λ p. p.token) ps) → TokensNamed text (map (λ p. p.token) (take n ps))
+take_named : (text : List ℕ) (n : ℕ) (ps : List TokenPlace) → TokensNamed text (map (λ p. p.token) ps) → TokensNamed text (map (λ p. p.token) (take n ps))
 take_named text zero ps h = tt
 take_named text (suc n) [] h = tt
 take_named text (suc n) (p ∷ ps) h = (h.0, take_named text n ps h.1)
 
-statement_named : (line : LogicalLine) (p : Place) → TokensNamed line.text (p.token ∷ p.after) → HaveNames (terminals_at line p)
+statement_named : (line : LogicalLine) (p : TokenPlace) → TokensNamed line.text (p.token ∷ p.after) → HaveNames (terminals_at line p)
 statement_named line p h =
     take_named line.text (prefix_len (λ q. not (is_end q)) (places_from [] (p.token ∷ p.after))) (places_from [] (p.token ∷ p.after))
     (subst (TokensNamed line.text) (sym (tokens_again [] (p.token ∷ p.after))) h)
@@ -72,12 +72,12 @@ map_append : {X Y : Type 0} (f : X → Y) (a b : List X) → map f a ++ map f b 
 map_append f [] b = refl
 map_append f (x ∷ xs) b = ap (λ l. f x ∷ l) (map_append f xs b)
 
-bound_named : ImportLaws → (line : LogicalLine) (p : Place) (bounds : List Bound) → TokensNamed line.text (p.token ∷ p.after) → BindsAt line p bounds → AreNamed (map imported_of bounds)
+bound_named : ImportLaws → (line : LogicalLine) (p : TokenPlace) (bounds : List Bound) → TokensNamed line.text (p.token ∷ p.after) → BindsAt line p bounds → AreNamed (map imported_of bounds)
 bound_named laws line p bounds h (nothing l q bs none e) = subst (λ (b : List Bound). AreNamed (map imported_of b)) (sym e) tt
 bound_named laws line p bounds h (imports l q bs is begins import e) =
     subst AreNamed (sym (ap (map imported_of) e ∙ imported_again p.token.line (nat_lt 0 line.indent) is)) (laws.named (terminals_at line p) is import (statement_named line p h))
 
-each_named : ImportLaws → (line : LogicalLine) (ps : List Place) (bounds : List Bound) → PlacesNamed line.text ps → BindEach line ps bounds → AreNamed (map imported_of bounds)
+each_named : ImportLaws → (line : LogicalLine) (ps : List TokenPlace) (bounds : List Bound) → PlacesNamed line.text ps → BindEach line ps bounds → AreNamed (map imported_of bounds)
 each_named laws line [] bounds h b = subst (λ (l : List Bound). AreNamed (map imported_of l)) (sym b) tt
 each_named laws line (p ∷ ps) bounds h b =
     subst AreNamed (map_append imported_of b.0 b.1 ∙ ap (map imported_of) (sym b.2))
@@ -111,15 +111,15 @@ some_imported : (ts : List Terminal) (is : List Imported) → IsImport ts is →
 some_imported _ _ (import_statement rest is are) = some_map _ is (some_items _ rest is are)
 some_imported ts _ (from_statement _ from rest is e relative names) = some_map _ is (some_names rest is names)
 
-first_bound : (line : LogicalLine) (p : Place) (bounds : List Bound) → begins_import (terminals_at line p) ≡ true → BindsAt line p bounds → AreSome bounds
+first_bound : (line : LogicalLine) (p : TokenPlace) (bounds : List Bound) → begins_import (terminals_at line p) ≡ true → BindsAt line p bounds → AreSome bounds
 first_bound line p bounds begins (nothing l q bs none e) = absurd (both_ways _ none begins)
 first_bound line p bounds begins (imports l q bs is more import e) = subst AreSome (sym e) (some_map _ is (some_imported _ is import))
 
 some_bounds : (line : LogicalLine) (tokens : List Token) (bounds : List Bound) (is : List Imported) → list_any is_end (places_from [] tokens) ≡ false → IsImport (map (terminal_in line.text) tokens) is → BindEach line (starts tokens) bounds → AreSome bounds
 some_bounds line [] bounds is alone import binds = absurd (both_ways _ refl (import_begins [] is import))
 some_bounds line (t ∷ ts) bounds is alone import binds =
-    let p : Place = record { before = []; token = t; after = ts } in
-    let whole : statement_at p ≡ t ∷ ts = ap (map (λ (q : Place). q.token)) (all_taken (places_from [] (t ∷ ts)) alone) ∙ tokens_again [] (t ∷ ts) in
+    let p : TokenPlace = record { before = []; token = t; after = ts } in
+    let whole : statement_at p ≡ t ∷ ts = ap (map (λ (q : TokenPlace). q.token)) (all_taken (places_from [] (t ∷ ts)) alone) ∙ tokens_again [] (t ∷ ts) in
     let begins = ap (λ (l : List Token). begins_import (map (terminal_in line.text) l)) whole ∙ import_begins (map (terminal_in line.text) (t ∷ ts)) is import in
     subst AreSome (sym binds.2) (some_first binds.0 binds.1 (first_bound line p binds.0 begins binds.3))
 

@@ -6,9 +6,9 @@ use Rattle.std.proofs.lemmas.Bool.{and_parts, or_parts}
 use Rattle.py_lines.specs.Character.{is_space}
 use Rattle.py_lines.specs.LogicalLine.{LogicalLine}
 use Rattle.py_lines.specs.Piece.{Piece}
-use Rattle.py_imports.specs.Action.{says}
+use Rattle.py_imports.specs.ActionComment.{says}
 use Rattle.py_imports.specs.Grammar.{Imported}
-use Rattle.py_imports.specs.declared.action.Action.TheVariants as action
+use Rattle.py_imports.specs.declared.action_comment.ActionComment.TheVariants as action
 use Rattle.isort_settings.specs.Values.{Values}
 use Rattle.isort_sort.specs.Blocks.{role_is_member, role_stands_between, role_imports, role_own, role_comments, is_member, stands_between, comments_in, Further, further_rows, Run, run_rows, goes_on, is_run, member_of, members_of}
 use Rattle.isort_sort.specs.Layout.{Laid, EachIsLaid, AreLaid}
@@ -23,7 +23,7 @@ use Rattle.isort_sort.proofs.Stable.Units.{IsUnit}
 use Rattle.isort_sort.proofs.Stable.UnitRows.{TokenLaws, unit_line}
 use Rattle.isort_sort.proofs.Stable.LineUnits.{says_skip_file, AreAbove}
 use Rattle.isort_sort.proofs.Stable.Joined.{AreSome, some_first, none-append}
-use Rattle.isort_sort.proofs.Stable.BlockUnits.{AreReady}
+use Rattle.isort_sort.proofs.Stable.BlockUnits.{AreWritable}
 use Rattle.isort_sort.proofs.Stable.OldBlock.{IsSeen, AreSeen}
 use Rattle.isort_sort.proofs.Stable.ReadComments.{comments_above, remarks_of_unit, own_unskipped}
 use Rattle.isort_sort.proofs.Stable.ReadImports.{ImportLaws, imports_named, imports_some, indentation_spaces}
@@ -71,7 +71,7 @@ between_above tokens u blank is skip h k = tt
 between_above tokens u _ is skip h k = absurd (cc)
 
 -- a further member, and what stands after it
-record IsRead (between : List Row) (row : Row) (rows : List Row) : Type 0 where
+record IsReadFurther (between : List Row) (row : Row) (rows : List Row) : Type 0 where
   u : List Piece
   us : List (List Piece)
   above : AreAbove (comments_in between)
@@ -81,7 +81,7 @@ record IsRead (between : List Row) (row : Row) (rows : List Row) : Type 0 where
   lines : AreReadLines us
   later : AreSeen us rows
 
-read_further : TokenLaws → (us : List (List Piece)) (between : List Row) (row : Row) (rows : List Row) → AreReadLines us → AreSeen us ((between ++ row ∷ []) ++ rows) → list_all stands_between between ≡ true → IsRead between row rows
+read_further : TokenLaws → (us : List (List Piece)) (between : List Row) (row : Row) (rows : List Row) → AreReadLines us → AreSeen us ((between ++ row ∷ []) ++ rows) → list_all stands_between between ≡ true → IsReadFurther between row rows
 read_further tokens [] [] row rows h seen all = absurd seen
 read_further tokens [] (b ∷ bs) row rows h seen all = absurd seen
 read_further tokens (u ∷ us) [] row rows h seen all = record { u = u; us = us; above = tt; is = h.0; skip = h.1; seen = seen.0; lines = h.2; later = seen.1 }
@@ -168,7 +168,7 @@ first_silent says_so (t ∷ ts) h =
     let parts = or_parts (says_so t) (list_any says_so ts) h in
     λ i. parts.0 i || filter_silent (λ u. not (bytes_eq t u)) says_so (first_texts ts) (first_silent says_so ts parts.1) i
 
-pub each_ready : (v : Values) (indentation end : List ℕ) (ms : List Member) (laid : List Laid) → AreFine ms → EachIsLaid v indentation ms laid → EachIsWritten v indentation end laid → AreReady v indentation end laid
+pub each_ready : (v : Values) (indentation end : List ℕ) (ms : List Member) (laid : List Laid) → AreFine ms → EachIsLaid v indentation ms laid → EachIsWritten v indentation end laid → AreWritable v indentation end laid
 each_ready v indentation end ms [] h is w = tt
 each_ready v indentation end ms (s ∷ ss) h is w = (
   record {

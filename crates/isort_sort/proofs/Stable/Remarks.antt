@@ -3,9 +3,9 @@ use Rattle.std.proofs.Common.{◌≡◌, ℕ, true, false, ◌||◌, ⊎_elim, L
 use Rattle.std.specs.Prelude.{filter}
 use Rattle.std.specs.List.{list_any, join_by}
 use Rattle.std.proofs.lemmas.Bool.{or_parts, both_ways, false_from_ne_true}
-use Rattle.py_imports.specs.Action.{says}
-use Rattle.py_imports.specs.declared.action.Action.{Action}
-use Rattle.py_imports.specs.declared.action.Action.TheVariants as action
+use Rattle.py_imports.specs.ActionComment.{says}
+use Rattle.py_imports.specs.declared.action_comment.ActionComment.{ActionComment}
+use Rattle.py_imports.specs.declared.action_comment.ActionComment.TheVariants as action
 use Rattle.isort_sort.specs.LaidAgain.{joined_comments}
 use Rattle.isort_sort.specs.Line.{stripped, without_hash, is_text, AreOwnComments}
 use Rattle.isort_sort.specs.WrittenLine.{AreRemarks}
@@ -34,7 +34,7 @@ own-again (c ∷ cs) h =
     by (b ∷ bs) e = refl
 
 -- what joined comments say, one of them says
-joined-silent : Laws → (a : Action) (c : List ℕ) (cs : List (List ℕ)) → list_any (says a) (c ∷ cs) ≡ false → says a (join_by (λ (t : List ℕ). t) (codes "; ") (c ∷ cs)) ≡ false
+joined-silent : Laws → (a : ActionComment) (c : List ℕ) (cs : List (List ℕ)) → list_any (says a) (c ∷ cs) ≡ false → says a (join_by (λ (t : List ℕ). t) (codes "; ") (c ∷ cs)) ≡ false
 joined-silent laws a c [] h = ap (says a) (append-nil c) ∙ (or_parts (says a c) false h).0
 joined-silent laws a c (d ∷ ds) h =
     let both = or_parts (says a c) (list_any (says a) (d ∷ ds)) h in
@@ -43,11 +43,11 @@ joined-silent laws a c (d ∷ ds) h =
     let others = joined-silent laws a d ds both.1 in
     ap (says a) same ∙ false_from_ne_true _ (λ e. ⊎_elim (λ k. both_ways _ both.0 k) (λ k. both_ways _ others k) (laws.joined a c rest e))
 
-says-after : (a : Action) (t : List ℕ) → says a t ≡ false → says a (codes "# " ++ t) ≡ false
+says-after : (a : ActionComment) (t : List ℕ) → says a t ≡ false → says a (codes "# " ++ t) ≡ false
 says-after action.SkipFile t h = h
 says-after _ t h = h
 
-pub said-silent : Laws → (a : Action) (cs : List (List ℕ)) → list_any (says a) cs ≡ false → list_any (says a) (remark_said cs) ≡ false
+pub said-silent : Laws → (a : ActionComment) (cs : List (List ℕ)) → list_any (says a) cs ≡ false → list_any (says a) (remark_said cs) ≡ false
 said-silent laws a [] h = refl
 said-silent laws a (c ∷ cs) h = ap (λ b. b || false) (says-after a (join_by (λ (t : List ℕ). t) (codes "; ") (c ∷ cs)) (joined-silent laws a c cs h))
 

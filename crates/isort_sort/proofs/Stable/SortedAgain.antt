@@ -8,10 +8,10 @@ use Rattle.std.proofs.lemmas.List.{take-append-drop}
 use Rattle.py_lines.specs.Reading.{IsBalancedReading}
 use Rattle.py_lines.specs.LogicalLine.{LogicalLine, cut, byte_len, line_ends, lines_from}
 use Rattle.py_lines.specs.Piece.{Piece, spelled}
-use Rattle.py_imports.specs.Action.{says}
+use Rattle.py_imports.specs.ActionComment.{says}
 use Rattle.py_imports.specs.Binds.{BindAll}
 use Rattle.py_imports.specs.Shape.{mark_len}
-use Rattle.py_imports.specs.declared.action.Action.TheVariants as action
+use Rattle.py_imports.specs.declared.action_comment.ActionComment.TheVariants as action
 use Rattle.isort_settings.specs.Values.{Values}
 use Rattle.isort_sort.specs.Blocks.{Cut, rest, block, cut_rows, AreBlocks}
 use Rattle.isort_sort.specs.BlocksReplaced.{AreReplaced, no_block, one_more}

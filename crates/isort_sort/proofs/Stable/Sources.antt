@@ -4,7 +4,7 @@ use Rattle.std.specs.Prelude.{filter, bytes_eq}
 use Rattle.std.specs.List.{Contains}
 use Rattle.std.specs.List.Sorted.{IsStrictlySortedBy}
 use Rattle.py_imports.specs.Grammar.{Imported, Item}
-use Rattle.py_imports.specs.Names.{IsName, IsAlias, IsModuleName, IsRelativeName, IsNamed, whole, all, part, AreNamed}
+use Rattle.py_imports.specs.Names.{IsName, IsAlias, IsModuleName, IsRelativeName, IsNamed, whole, all, part, AreNamed, IsNameItem}
 use Rattle.isort_settings.specs.Values.{Values}
 use Rattle.isort_sort.specs.LaidAgain.{import_of}
 use Rattle.isort_sort.specs.Layout.{Laid, AreLaid}
@@ -18,7 +18,7 @@ use Rattle.isort_sort.proofs.Orders.InOrder.{nothing_in, in_cons, head_in, tail_
 use Rattle.isort_sort.proofs.Orders.Statements.{AreOrders, item_cmp_total}
 use Rattle.isort_sort.proofs.SortedTexts.LaidAgain.{import_again, in_flat_map, laid_at, item_import, some_item}
 use Rattle.isort_sort.proofs.Stable.Bodies.{AreNameItems, AreLines}
-use Rattle.isort_sort.proofs.Stable.Items.{IsNameItem, HasItem}
+use Rattle.isort_sort.proofs.Stable.Items.{HasItem}
 
 -- each import of the members has names
 named_at : (is : List Imported) (x : Imported) → AreNamed is → Contains is x → IsNamed x

@@ -9,13 +9,13 @@ use Rattle.py_lines.specs.Neighbours.{MayTouch}
 use Rattle.py_lines.specs.Piece.{space, word, Piece, begins, spelled}
 use Rattle.py_lines.specs.PieceGrammar.{IsLineEnd, feed, return_feed, return}
 use Rattle.py_lines.specs.Words.{word_in, words_of}
-use Rattle.py_imports.specs.Action.{says}
+use Rattle.py_imports.specs.ActionComment.{says}
 use Rattle.py_imports.specs.Bound.{bound_at}
 use Rattle.py_imports.specs.Grammar.{Terminal, import_word, from_word, Imported, IsImport, begins_import}
 use Rattle.py_imports.specs.Names.{terminals_in}
 use Rattle.py_imports.specs.Shape.{terminals_of, is_nothing, IsSortable}
 use Rattle.py_imports.specs.Statement.{is_divider, significant}
-use Rattle.py_imports.specs.declared.action.Action.TheVariants as action
+use Rattle.py_imports.specs.declared.action_comment.ActionComment.TheVariants as action
 use Rattle.isort_sort.specs.LaidAgain.{import_of}
 use Rattle.isort_sort.specs.Layout.{Laid}
 use Rattle.isort_sort.specs.Line.{word_of, comment_texts, stripped, without_hash, is_text, imported_of}
@@ -25,7 +25,7 @@ use Rattle.isort_sort.proofs.Stable.Items.{a_space, part-a_space}
 use Rattle.isort_sort.proofs.Stable.Laws.{Laws}
 use Rattle.isort_sort.proofs.Stable.Lines.{first_word, statement_pieces, line_pieces, written_line, line-code, line-mark, line-first, line-indentation, line-stands}
 use Rattle.isort_sort.proofs.Stable.OneLine.{IsOneLine, plain-line, line-append, one-cut, ended-cut, no-end, some-end}
-use Rattle.isort_sort.proofs.Stable.Parts.{piece, remarks_in, divides, IsPart, words-append, part-append, part-space, space_pieces, LettersAreWords, part-letters}
+use Rattle.isort_sort.proofs.Stable.Parts.{piece, remarks_in, divides, IsStatementPart, words-append, part-append, part-space, space_pieces, LettersAreWords, part-letters}
 use Rattle.isort_sort.proofs.Stable.Phrases.{IsPhrase, remark_said}
 use Rattle.isort_sort.proofs.Stable.Remarks.{own-again, said-silent, unskipped}
 use Rattle.isort_sort.proofs.Stable.Tokens.{remarks-of, skips-of, undivided-of, alone-of, are_well, well-of}
@@ -36,7 +36,7 @@ abbrev pub first_terminal : Bool → Terminal
 first_terminal true = from_word
 first_terminal false = import_word
 
-part-first : LettersAreWords → (from : Bool) → IsPart (piece word (first_word from) ∷ []) (first_word from) (first_terminal from ∷ []) []
+part-first : LettersAreWords → (from : Bool) → IsStatementPart (piece word (first_word from) ∷ []) (first_word from) (first_terminal from ∷ []) []
 unfolding is_digit
 part-first law true = part-letters law 102 (114 ∷ 111 ∷ 109 ∷ []) refl refl refl
 part-first law false = part-letters law 105 (109 ∷ 112 ∷ 111 ∷ 114 ∷ 116 ∷ []) refl refl refl
@@ -49,7 +49,7 @@ pub record IsGiven (indentation end : List ℕ) (s : Laid) (from : Bool) (phrase
   pub phrase_is : IsPhrase end phrase bytes terminals (remark_said s.comments)
   pub imported : IsImport (first_terminal from ∷ terminals) (map (import_of s.statement) s.items)
 
-part-statement : Laws → (indentation end : List ℕ) (s : Laid) (from : Bool) (phrase : List Piece) (bytes : List ℕ) (terminals : List Terminal) → IsGiven indentation end s from phrase bytes terminals → IsPart (statement_pieces indentation from phrase) (indentation ++ (first_word from ++ (32 ∷ bytes))) (first_terminal from ∷ terminals) (remark_said s.comments)
+part-statement : Laws → (indentation end : List ℕ) (s : Laid) (from : Bool) (phrase : List Piece) (bytes : List ℕ) (terminals : List Terminal) → IsGiven indentation end s from phrase bytes terminals → IsStatementPart (statement_pieces indentation from phrase) (indentation ++ (first_word from ++ (32 ∷ bytes))) (first_terminal from ∷ terminals) (remark_said s.comments)
 part-statement laws indentation end s from phrase bytes terminals g =
     part-append (part-space indentation g.spaces) (part-append (part-first laws.letters from) (part-append part-a_space g.phrase_is.part))
 

@@ -9,8 +9,8 @@ use Rattle.std.proofs.lemmas.Bool.Decides.{Decides-eqb, nat_tests}
 use Rattle.std.proofs.lemmas.Slice.Eq.{starts_is}
 use Rattle.std.proofs.lemmas.Str.{encode_ascii, inside_one, length-encode, len_utf8_bounds}
 use Rattle.py_lines.specs.Character.{is_space, is_break, is_hash}
-use Rattle.py_imports.specs.Action.{action_word, is_word_byte, begins_with_word_byte, begins_with_phrase, begins_with_action, says}
-use Rattle.py_imports.specs.declared.action.Action.{Action}
+use Rattle.py_imports.specs.ActionComment.{action_word, is_word_byte, begins_with_word_byte, begins_with_phrase, begins_with_action, says}
+use Rattle.py_imports.specs.declared.action_comment.ActionComment.{ActionComment}
 use Rattle.isort_sort.specs.Line.{without_hash, without_start, without_end, stripped}
 use Rattle.isort_sort.proofs.Stable.Units.{scalars-parts}
 use Rattle.isort_sort.proofs.Stable.FirstEnds.{is_end_byte}
@@ -46,7 +46,7 @@ unbroken_bytes (c ∷ cs) h =
     none-append is_end_byte (encode c) (encode_utf8_all cs) (none_inside is_end_byte end_low c (break_byte c parts.0)) (unbroken_bytes cs parts.1)
 
 -- characters of a text without line ends
-pub record IsPlainText (text : List ℕ) : Type 0 where
+pub record IsUnbrokenText (text : List ℕ) : Type 0 where
   pub characters : List ℕ
   pub spell : encode_utf8_all characters ≡ text
   pub scalars : all_scalars characters ≡ true
@@ -65,7 +65,7 @@ bare_end (x ∷ xs) rest h =
     ap (λ b. if b then [] else x ∷ without_end (xs ++ rest)) (bare_all x xs rest h)
     ∙ ap (λ l. x ∷ l) (bare_end xs rest (or_parts (is_space x) (list_any is_space xs) h).1)
 
-start_text : (cs : List ℕ) → all_scalars cs ≡ true → list_any is_break cs ≡ false → IsPlainText (without_start (encode_utf8_all cs))
+start_text : (cs : List ℕ) → all_scalars cs ≡ true → list_any is_break cs ≡ false → IsUnbrokenText (without_start (encode_utf8_all cs))
 start_text [] scalars unbroken = record { characters = []; spell = refl; scalars = refl; unbroken = refl }
 start_text (c ∷ cs) scalars unbroken =
     ⊎_elim
@@ -73,7 +73,7 @@ start_text (c ∷ cs) scalars unbroken =
     let later = start_text cs (scalars-parts (c ∷ []) cs scalars).1 (or_parts (is_break c) (list_any is_break cs) unbroken).1 in
     let same : without_start (encode_utf8_all cs) ≡ without_start (encode_utf8_all (c ∷ cs)) =
     sym (ap (λ (t : List ℕ). without_start (t ++ encode_utf8_all cs)) (encode_ascii c (space_low c h)) ∙ ap (λ b. if b then without_start (encode_utf8_all cs) else c ∷ encode_utf8_all cs) h) in
-    subst IsPlainText same later)
+    subst IsUnbrokenText same later)
     (λ (h : is_space c ≡ false).
     let same = bare_start (encode c) (encode_utf8_all cs) (some_encoded c) (none_inside is_space space_low c h) in
     record { characters = c ∷ cs; spell = sym same; scalars = scalars; unbroken = unbroken })
@@ -83,7 +83,7 @@ start_text (c ∷ cs) scalars unbroken =
     some_encoded d = omega (arith, length-encode d, len_utf8_bounds d)
 
 -- one more character
-one_more_text : (c : ℕ) (t : List ℕ) → all_scalars (c ∷ []) ≡ true → is_break c ≡ false → IsPlainText t → IsPlainText (encode c ++ t)
+one_more_text : (c : ℕ) (t : List ℕ) → all_scalars (c ∷ []) ≡ true → is_break c ≡ false → IsUnbrokenText t → IsUnbrokenText (encode c ++ t)
 one_more_text c t scalar whole p = record {
   characters = c ∷ p.characters;
   spell = ap (λ (x : List ℕ). encode c ++ x) p.spell;
@@ -91,7 +91,7 @@ one_more_text c t scalar whole p = record {
   unbroken = λ i. whole i || p.unbroken i;
 }
 
-end_text : (cs : List ℕ) → all_scalars cs ≡ true → list_any is_break cs ≡ false → IsPlainText (without_end (encode_utf8_all cs))
+end_text : (cs : List ℕ) → all_scalars cs ≡ true → list_any is_break cs ≡ false → IsUnbrokenText (without_end (encode_utf8_all cs))
 end_text [] scalars unbroken = record { characters = []; spell = refl; scalars = refl; unbroken = refl }
 end_text (c ∷ cs) scalars unbroken =
     let parts = scalars-parts (c ∷ []) cs scalars in
@@ -100,17 +100,17 @@ end_text (c ∷ cs) scalars unbroken =
     let more = one_more_text c (without_end (encode_utf8_all cs)) parts.0 breaks.0 later in
     ⊎_elim
     (λ (h : is_space c ≡ true). by h more (list_all is_space (c ∷ encode_utf8_all cs)) refl)
-    (λ (h : is_space c ≡ false). subst IsPlainText (sym (bare_end (encode c) (encode_utf8_all cs) (none_inside is_space space_low c h))) more)
+    (λ (h : is_space c ≡ false). subst IsUnbrokenText (sym (bare_end (encode c) (encode_utf8_all cs) (none_inside is_space space_low c h))) more)
     (cases_Bool (is_space c))
   where
-    by : is_space c ≡ true → IsPlainText (encode c ++ without_end (encode_utf8_all cs)) → (b : Bool) → list_all is_space (c ∷ encode_utf8_all cs) ≡ b → IsPlainText (without_end (encode c ++ encode_utf8_all cs))
-    by h more true e = subst IsPlainText (sym (ap (λ (t : List ℕ). without_end (t ++ encode_utf8_all cs)) (encode_ascii c (space_low c h)) ∙ ap (λ x. if x then [] else c ∷ without_end (encode_utf8_all cs)) e)) (record { characters = []; spell = refl; scalars = refl; unbroken = refl })
-    by h more false e = subst IsPlainText (sym (ap (λ (t : List ℕ). without_end (t ++ encode_utf8_all cs)) (encode_ascii c (space_low c h)) ∙ ap (λ x. if x then [] else c ∷ without_end (encode_utf8_all cs)) e)) (subst (λ (t : List ℕ). IsPlainText (t ++ without_end (encode_utf8_all cs))) (encode_ascii c (space_low c h)) more)
+    by : is_space c ≡ true → IsUnbrokenText (encode c ++ without_end (encode_utf8_all cs)) → (b : Bool) → list_all is_space (c ∷ encode_utf8_all cs) ≡ b → IsUnbrokenText (without_end (encode c ++ encode_utf8_all cs))
+    by h more true e = subst IsUnbrokenText (sym (ap (λ (t : List ℕ). without_end (t ++ encode_utf8_all cs)) (encode_ascii c (space_low c h)) ∙ ap (λ x. if x then [] else c ∷ without_end (encode_utf8_all cs)) e)) (record { characters = []; spell = refl; scalars = refl; unbroken = refl })
+    by h more false e = subst IsUnbrokenText (sym (ap (λ (t : List ℕ). without_end (t ++ encode_utf8_all cs)) (encode_ascii c (space_low c h)) ∙ ap (λ x. if x then [] else c ∷ without_end (encode_utf8_all cs)) e)) (subst (λ (t : List ℕ). IsUnbrokenText (t ++ without_end (encode_utf8_all cs))) (encode_ascii c (space_low c h)) more)
 
-pub stripped_text : (cs : List ℕ) → all_scalars cs ≡ true → list_any is_break cs ≡ false → IsPlainText (stripped (encode_utf8_all cs))
+pub stripped_text : (cs : List ℕ) → all_scalars cs ≡ true → list_any is_break cs ≡ false → IsUnbrokenText (stripped (encode_utf8_all cs))
 stripped_text cs scalars unbroken =
     let start = start_text cs scalars unbroken in
-    subst (λ (t : List ℕ). IsPlainText (without_end t)) start.spell (end_text start.characters start.scalars start.unbroken)
+    subst (λ (t : List ℕ). IsUnbrokenText (without_end t)) start.spell (end_text start.characters start.scalars start.unbroken)
 
 -- a comment without its `#`
 hash_is : (c : ℕ) → is_hash c ≡ true → c ≡ 35
@@ -135,7 +135,7 @@ phrase_more phrase text rest bare h =
     by [] k = ap not bare
     by (x ∷ t) k = k
 
-action_more : (a : Action) (text rest : List ℕ) → begins_with_word_byte rest ≡ false → begins_with_action a text ≡ true → begins_with_action a (text ++ rest) ≡ true
+action_more : (a : ActionComment) (text rest : List ℕ) → begins_with_word_byte rest ≡ false → begins_with_action a text ≡ true → begins_with_action a (text ++ rest) ≡ true
 action_more a text rest bare h =
     let one : List ℕ = codes "isort:" ++ action_word a in
     let two : List ℕ = codes "isort: " ++ action_word a in
@@ -144,11 +144,11 @@ action_more a text rest bare h =
     (λ (k : begins_with_phrase two text ≡ true). ap (λ b. begins_with_phrase one (text ++ rest) || b) (phrase_more two text rest bare k) ∙ or-true (begins_with_phrase one (text ++ rest)))
     (or_cases (begins_with_phrase one text) (begins_with_phrase two text) h)
 
-says_head : (a : Action) (text : List ℕ) → begins_with_action a text ≡ true → says a text ≡ true
+says_head : (a : ActionComment) (text : List ℕ) → begins_with_action a text ≡ true → says a text ≡ true
 says_head a [] h = ap (λ b. b || false) h
 says_head a (b ∷ text) h = ap (λ x. x || says a text) h
 
-says_more : (a : Action) (text rest : List ℕ) → begins_with_word_byte rest ≡ false → says a text ≡ true → says a (text ++ rest) ≡ true
+says_more : (a : ActionComment) (text rest : List ℕ) → begins_with_word_byte rest ≡ false → says a text ≡ true → says a (text ++ rest) ≡ true
 says_more a [] rest bare h =
     ⊎_elim (λ (k : begins_with_action a [] ≡ true). says_head a rest (action_more a [] rest bare k)) (λ (k : false ≡ true). absurd (cc)) (or_cases (begins_with_action a []) false h)
 says_more a (b ∷ text) rest bare h =
@@ -157,7 +157,7 @@ says_more a (b ∷ text) rest bare h =
     (λ (k : says a text ≡ true). ap (λ x. begins_with_action a (b ∷ (text ++ rest)) || x) (says_more a text rest bare k) ∙ or-true (begins_with_action a (b ∷ (text ++ rest))))
     (or_cases (begins_with_action a (b ∷ text)) (says a text) h)
 
-says_after : (a : Action) (b : ℕ) (text : List ℕ) → says a text ≡ true → says a (b ∷ text) ≡ true
+says_after : (a : ActionComment) (b : ℕ) (text : List ℕ) → says a text ≡ true → says a (b ∷ text) ≡ true
 says_after a b text h = ap (λ x. begins_with_action a (b ∷ text) || x) h ∙ or-true (begins_with_action a (b ∷ text))
 
 -- what is stripped off
@@ -173,10 +173,10 @@ end_split (b ∷ t) = by (list_all is_space (b ∷ t)) refl (end_split t)
     by true e later = (b ∷ t, refl, space_no_word b (and_parts (is_space b) (list_all is_space t) e).0)
     by false e later = (later.0, ap (λ l. b ∷ l) later.1, later.2)
 
-says_end : (a : Action) (t : List ℕ) → says a (without_end t) ≡ true → says a t ≡ true
+says_end : (a : ActionComment) (t : List ℕ) → says a (without_end t) ≡ true → says a t ≡ true
 says_end a t h = let s = end_split t in ap (says a) s.1 ∙ says_more a (without_end t) s.0 s.2 h
 
-says_start : (a : Action) (t : List ℕ) → says a (without_start t) ≡ true → says a t ≡ true
+says_start : (a : ActionComment) (t : List ℕ) → says a (without_start t) ≡ true → says a t ≡ true
 says_start a [] h = h
 says_start a (b ∷ t) h = by (is_space b) h (says_start a t)
   where
@@ -184,7 +184,7 @@ says_start a (b ∷ t) h = by (is_space b) h (says_start a t)
     by true k later = says_after a b t (later k)
     by false k later = k
 
-says_hash : (a : Action) (t : List ℕ) → says a (without_hash t) ≡ true → says a t ≡ true
+says_hash : (a : ActionComment) (t : List ℕ) → says a (without_hash t) ≡ true → says a t ≡ true
 says_hash a [] h = h
 says_hash a (b ∷ t) h = by (b == 35) h
   where
@@ -192,5 +192,5 @@ says_hash a (b ∷ t) h = by (b == 35) h
     by true k = says_after a b t k
     by false k = k
 
-pub stripped_says : (a : Action) (t : List ℕ) → says a t ≡ false → says a (stripped (without_hash t)) ≡ false
+pub stripped_says : (a : ActionComment) (t : List ℕ) → says a t ≡ false → says a (stripped (without_hash t)) ≡ false
 stripped_says a t h = false_from_ne_true _ (λ k. both_ways _ h (says_hash a t (says_start a (without_hash t) (says_end a (without_start (without_hash t)) k))))

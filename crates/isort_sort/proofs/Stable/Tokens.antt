@@ -5,10 +5,10 @@ use Rattle.std.specs.List.{list_any, list_all}
 use Rattle.std.proofs.lemmas.Bool.{or_parts}
 use Rattle.py_lines.specs.Words.{Word, word_in}
 use Rattle.py_lines.specs.declared.token.Token.{Token}
-use Rattle.py_imports.specs.Action.{says}
+use Rattle.py_imports.specs.ActionComment.{says}
 use Rattle.py_imports.specs.Shape.{is_parenthesis, is_nothing, ends_with_opening, stands_well, says_skip}
 use Rattle.py_imports.specs.Statement.{is_comment, is_semicolon, is_divider, significant, depth_after_tokens, places_from, is_end}
-use Rattle.py_imports.specs.declared.action.Action.TheVariants as action
+use Rattle.py_imports.specs.declared.action_comment.ActionComment.TheVariants as action
 use Rattle.isort_sort.proofs.Stable.Parts.{remarks_in, divides}
 
 -- the comments among tokens

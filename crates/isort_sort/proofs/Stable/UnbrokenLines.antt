@@ -7,7 +7,7 @@ use Rattle.std.proofs.lemmas.Bool.Decides.{nat_tests}
 use Rattle.std.proofs.Common.{arith}
 use Rattle.py_lines.specs.Character.{is_space, is_break, is_hash}
 use Rattle.py_imports.specs.Grammar.{Terminal, name, Item, spelling}
-use Rattle.py_imports.specs.Names.{IsName, HaveNames, IsModuleName, IsRelativeName, IsAlias}
+use Rattle.py_imports.specs.Names.{IsName, HaveNames, IsModuleName, IsRelativeName, IsAlias, IsNameItem}
 use Rattle.py_imports.specs.Spelled.{alias_text}
 use Rattle.isort_settings.specs.Values.{Values}
 use Rattle.isort_sort.specs.Layout.{Laid, IsLaid, EachIsLaid, AreLaid, gap_by_kind, gap_by_comment, own_lines, lines_after, block_lines}
@@ -20,7 +20,6 @@ use Rattle.isort_sort.specs.WrittenLine.{IsRemark, AreRemarks, AreReadMembers}
 use Rattle.isort_sort.proofs.Orders.InOrder.{head_in, tail_in}
 use Rattle.isort_sort.proofs.Orders.Statements.{AreOrders}
 use Rattle.isort_sort.proofs.Stable.Bodies.{AreNameItems, AreLines}
-use Rattle.isort_sort.proofs.Stable.Items.{IsNameItem}
 use Rattle.isort_sort.proofs.Stable.Joined.{none-append}
 use Rattle.isort_sort.proofs.Stable.LineUnits.{AreAbove}
 use Rattle.isort_sort.proofs.Stable.FirstCharacters.{WordsLaw}
@@ -193,29 +192,29 @@ unbroken_gap zero = tt
 unbroken_gap (suc n) = (refl, unbroken_gap n)
 
 -- what is known of each statement
-record IsKnown (v : Values) (indentation : List ℕ) (members : List Member) (s : Laid) : Type 0 where
+record StatementIsKnown (v : Values) (indentation : List ℕ) (members : List Member) (s : Laid) : Type 0 where
   writable : IsWritable s.statement s.items
   laid : IsLaid v indentation members s
   remarks : AreRemarks s.comments
   above : AreAbove s.above
 
-abbrev AreKnown : Values → List ℕ → List Member → List Laid → Type 0
-AreKnown v indentation members [] = Unit {0}
-AreKnown v indentation members (s ∷ ss) = IsKnown v indentation members s × AreKnown v indentation members ss
+abbrev StatementsAreKnown : Values → List ℕ → List Member → List Laid → Type 0
+StatementsAreKnown v indentation members [] = Unit {0}
+StatementsAreKnown v indentation members (s ∷ ss) = StatementIsKnown v indentation members s × StatementsAreKnown v indentation members ss
 
-unbroken_own : WordsLaw → (v : Values) (indentation : List ℕ) (members : List Member) (s : Laid) → IsUnbroken indentation → IsKnown v indentation members s → AreUnbroken (own_lines v indentation s)
+unbroken_own : WordsLaw → (v : Values) (indentation : List ℕ) (members : List Member) (s : Laid) → IsUnbroken indentation → StatementIsKnown v indentation members s → AreUnbroken (own_lines v indentation s)
 unbroken_own law v indentation members s i k =
     unbroken_append (map (λ c. indentation ++ c) s.above) (statement_lines v indentation s.statement (remark s.comments) s.items s.cut)
     (unbroken_above indentation s.above i k.above) (unbroken_statement law v indentation members s i k.writable k.laid k.remarks)
 
-unbroken_after : WordsLaw → (v : Values) (indentation : List ℕ) (members : List Member) (a : Laid) (ss : List Laid) → IsUnbroken indentation → AreKnown v indentation members ss → AreUnbroken (lines_after v indentation a ss)
+unbroken_after : WordsLaw → (v : Values) (indentation : List ℕ) (members : List Member) (a : Laid) (ss : List Laid) → IsUnbroken indentation → StatementsAreKnown v indentation members ss → AreUnbroken (lines_after v indentation a ss)
 unbroken_after law v indentation members a [] i k = tt
 unbroken_after law v indentation members a (b ∷ ss) i k =
     let gap : ℕ = max (gap_by_kind v a.statement b.statement) (gap_by_comment v b.above) in
     unbroken_append (replicate gap []) (own_lines v indentation b ++ lines_after v indentation b ss) (unbroken_gap gap)
     (unbroken_append (own_lines v indentation b) (lines_after v indentation b ss) (unbroken_own law v indentation members b i k.0) (unbroken_after law v indentation members b ss i k.1))
 
-unbroken_block : WordsLaw → (v : Values) (indentation : List ℕ) (members : List Member) (laid : List Laid) → IsUnbroken indentation → AreKnown v indentation members laid → AreUnbroken (block_lines v indentation laid)
+unbroken_block : WordsLaw → (v : Values) (indentation : List ℕ) (members : List Member) (laid : List Laid) → IsUnbroken indentation → StatementsAreKnown v indentation members laid → AreUnbroken (block_lines v indentation laid)
 unbroken_block law v indentation members [] i k = tt
 unbroken_block law v indentation members (s ∷ ss) i k =
     unbroken_append (own_lines v indentation s) (lines_after v indentation s ss) (unbroken_own law v indentation members s i k.0) (unbroken_after law v indentation members s ss i k.1)
@@ -227,7 +226,7 @@ lines_unbroken law v o indentation members laid spaces fine is =
     read : AreReadMembers members
     read = read_members members fine
 
-    known : (ls : List Laid) → ((s : Laid) → Contains ls s → Contains laid s) → EachIsLaid v indentation members ls → AreKnown v indentation members ls
+    known : (ls : List Laid) → ((s : Laid) → Contains ls s → Contains laid s) → EachIsLaid v indentation members ls → StatementsAreKnown v indentation members ls
     known [] inside each = tt
     known (s ∷ ss) inside each = (
       record {

@@ -8,15 +8,15 @@ use Rattle.py_lines.specs.Piece.{Class, word, string, operator, join, Piece, spe
 use Rattle.py_lines.specs.declared.token.Token.{Token}
 use Rattle.py_lines.specs.declared.unit.UnitKind.{UnitKind}
 use Rattle.py_lines.specs.declared.unit.UnitKind.TheVariants as unit_kind
-use Rattle.py_imports.specs.Action.{says}
+use Rattle.py_imports.specs.ActionComment.{says}
 use Rattle.py_imports.specs.Binds.{Binds, BindEach, BindAll}
 use Rattle.py_imports.specs.Bound.{Bound}
 use Rattle.py_imports.specs.Shape.{is_nothing}
 use Rattle.py_imports.specs.Statement.{significant, starts}
-use Rattle.py_imports.specs.declared.action.Action.TheVariants as action
+use Rattle.py_imports.specs.declared.action_comment.ActionComment.TheVariants as action
 use Rattle.isort_sort.specs.Line.{comment_texts}
 use Rattle.isort_sort.specs.Row.{is_comment_kind, Role, member, comments, blank, other, Row, HasRole, is_string, string_skips, first_string_skips}
-use Rattle.isort_sort.proofs.Rows.Moved.{AreAlike, alike, significant_alike, moved}
+use Rattle.isort_sort.proofs.Rows.Moved.{DifferInLinesAlone, alike, significant_alike, moved}
 use Rattle.isort_sort.proofs.Stable.UnitRows.{TokenLaws, unit_line, comments_of_unit, role_in_block}
 use Rattle.isort_sort.proofs.Stable.LineUnits.{AreInner, says_skip_file}
 
@@ -110,7 +110,7 @@ comments_skip laws offset line (u ∷ us) =
     λ i. list_any (says action.SkipFile) ((comments_of_unit laws offset line u ∙ sym (comments_of_unit laws 0 1 u)) i)
     || comments_skip laws (offset + byte_len (spelled u)) (line + line_ends (spelled u)) us i
 
-first_token : (l m : LogicalLine) (ts us : List Token) → l.text ≡ m.text → AreAlike ts us → (a b : Bool) → a ≡ b → cond (is_nothing ts) a (string_skips l (slice_get ts 0)) ≡ cond (is_nothing us) b (string_skips m (slice_get us 0))
+first_token : (l m : LogicalLine) (ts us : List Token) → l.text ≡ m.text → DifferInLinesAlone ts us → (a b : Bool) → a ≡ b → cond (is_nothing ts) a (string_skips l (slice_get ts 0)) ≡ cond (is_nothing us) b (string_skips m (slice_get us 0))
 first_token l m [] [] text h a b e = e
 first_token l m [] (u ∷ us) text h a b e = absurd h
 first_token l m (t ∷ ts) [] text h a b e = absurd h

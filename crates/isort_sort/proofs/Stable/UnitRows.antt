@@ -8,10 +8,10 @@ use Rattle.py_lines.specs.LogicalLine.{LogicalLine, byte_len, line_ends, end_len
 use Rattle.py_lines.specs.Piece.{Piece, spelled}
 use Rattle.py_lines.specs.Words.{Word, word_in, words_of, extent_of}
 use Rattle.py_lines.specs.declared.token.Token.{Token}
-use Rattle.py_imports.specs.Action.{says}
+use Rattle.py_imports.specs.ActionComment.{says}
 use Rattle.py_imports.specs.Statement.{is_comment}
-use Rattle.py_imports.specs.declared.action.Action.{Action}
-use Rattle.py_imports.specs.declared.action.Action.TheVariants as action
+use Rattle.py_imports.specs.declared.action_comment.ActionComment.{ActionComment}
+use Rattle.py_imports.specs.declared.action_comment.ActionComment.TheVariants as action
 use Rattle.isort_sort.specs.LaidAgain.{IsMoved}
 use Rattle.isort_sort.specs.Line.{word_of, comment_texts}
 use Rattle.isort_sort.specs.Row.{is_comment_kind, says_alone, says_off, says_on, is_off_after, Role, member, comments, blank, other, Row, HasRole, indentation_of, AreRows}
@@ -44,7 +44,7 @@ remarks_of line (t ∷ ts) = by (is_comment t.kind) (remarks_of line ts)
 pub comments_of_unit : TokenLaws → (offset line : ℕ) (u : List Piece) → comment_texts (line_of offset line u) ≡ remarks (words_of u)
 comments_of_unit laws offset line u = remarks_of (line_of offset line u) (line_of offset line u).tokens ∙ ap remarks (laws.words offset line u)
 
-pub alone_anywhere : TokenLaws → (a : Action) (offset line : ℕ) (u : List Piece) → says_alone a (line_of offset line u) ≡ says_alone a (unit_line u)
+pub alone_anywhere : TokenLaws → (a : ActionComment) (offset line : ℕ) (u : List Piece) → says_alone a (line_of offset line u) ≡ says_alone a (unit_line u)
 alone_anywhere laws a offset line u = ap (λ cs. is_comment_kind (unit_line u).kind && list_any (says a) cs) (comments_of_unit laws offset line u ∙ sym (comments_of_unit laws 0 1 u))
 
 pub off_anywhere : TokenLaws → (offset line : ℕ) (u : List Piece) → says_off (line_of offset line u) ≡ says_off (unit_line u)
@@ -177,7 +177,7 @@ role_in_block (other b) = false
 role_in_block _ = true
 
 -- members, comments and blank lines turn sorting neither off nor on
-alone_false : (a : Action) (line : LogicalLine) → is_comment_kind line.kind ≡ false → says_alone a line ≡ false
+alone_false : (a : ActionComment) (line : LogicalLine) → is_comment_kind line.kind ≡ false → says_alone a line ≡ false
 alone_false a line h = ap (λ b. b && list_any (says a) (comment_texts line)) h
 
 silent_past : (off : Bool) (line : LogicalLine) → says_alone action.Off line ≡ false → says_alone action.On line ≡ false → off_past off line ≡ off

@@ -28,14 +28,14 @@ pub record IsUnit (u : List Piece) : Type 0 where
   pub whole : cut 0 u ≡ u ∷ []
 
 -- what may follow pieces: nothing, or others after a line end
-abbrev pub Follows : List Piece → List (List Piece) → Type 0
-Follows u [] = Unit {0}
-Follows u (w ∷ us) = EndsLine u × MayFollowLines u w
+abbrev pub MayFollowUnit : List Piece → List (List Piece) → Type 0
+MayFollowUnit u [] = Unit {0}
+MayFollowUnit u (w ∷ us) = EndsLine u × MayFollowLines u w
 
 -- the logical lines of a text, each as its pieces
 abbrev pub AreUnits : List (List Piece) → Type 0
 AreUnits [] = Unit {0}
-AreUnits (u ∷ us) = IsUnit u × Follows u us × AreUnits us
+AreUnits (u ∷ us) = IsUnit u × MayFollowUnit u us × AreUnits us
 
 -- the characters of two lists
 pub scalars-parts : (xs ys : List ℕ) → all_scalars (xs ++ ys) ≡ true → (all_scalars xs ≡ true) × (all_scalars ys ≡ true)
@@ -197,7 +197,7 @@ last_unit ps ws f later none reading scalars =
       tt,
     )
 
-next_follows : (u : List Piece) (ended : EndsLine u) (rest : List Piece) (ws : List (List Piece)) → flat ws ≡ rest → AreUnits ws → MayFollowLines u rest → Follows u ws
+next_follows : (u : List Piece) (ended : EndsLine u) (rest : List Piece) (ws : List (List Piece)) → flat ws ≡ rest → AreUnits ws → MayFollowLines u rest → MayFollowUnit u ws
 next_follows u ended rest [] e are h = tt
 next_follows u ended rest (w ∷ ws) e are h = (ended, follow-less u w (flat ws) are.0 (subst (MayFollowLines u) (sym e) h))
 
@@ -235,7 +235,7 @@ pub units_after : (us vs : List (List Piece)) → AreUnits (us ++ vs) → AreUni
 units_after [] vs are = are
 units_after (u ∷ us) vs are = units_after us vs are.2
 
-pub units_before : (us vs ws : List (List Piece)) → AreUnits (us ++ vs) → ((u : List Piece) → Follows u vs → Follows u ws) → AreUnits ws → AreUnits (us ++ ws)
+pub units_before : (us vs ws : List (List Piece)) → AreUnits (us ++ vs) → ((u : List Piece) → MayFollowUnit u vs → MayFollowUnit u ws) → AreUnits ws → AreUnits (us ++ ws)
 units_before [] vs ws are follow k = k
 units_before (u ∷ []) vs ws are follow k = (are.0, follow u are.1, k)
 units_before (u ∷ w ∷ us) vs ws are follow k = (are.0, are.1, units_before (w ∷ us) vs ws are.2 follow k)

@@ -74,7 +74,7 @@ many-pad : (indentation : List ℕ) (n : ℕ) → list_all is_space indentation 
 many-pad indentation n h = subst (λ k. IsPad (indentation ++ replicate k 32)) (sym (add-one n)) (pad-of indentation 32 (replicate n 32) h (spaces-many (suc n)))
 
 -- what is given of names from a module
-record AreNamed (s : Laid) (path : List Terminal) : Type 0 where
+record NamesFromModule (s : Laid) (path : List Terminal) : Type 0 where
   is : IsRelativeModule path
   named : HaveNames path
   same : map (attribute_of (spelling path)) s.items ≡ map (import_of s.statement) s.items
@@ -83,25 +83,25 @@ record AreNamed (s : Laid) (path : List Terminal) : Type 0 where
   items : AreNameItems s.items
 
 -- on one line
-flat-written : Laws → (v : Values) (indentation end : List ℕ) → IsPlace indentation end → (path : List Terminal) (s : Laid) → AreNamed s path → Writes indentation end s (flat indentation (spelling path) (remark s.comments) s.items ∷ [])
+flat-written : Laws → (v : Values) (indentation end : List ℕ) → IsPlace indentation end → (path : List Terminal) (s : Laid) → NamesFromModule s path → Writes indentation end s (flat indentation (spelling path) (remark s.comments) s.items ∷ [])
 flat-written laws v indentation end place path s n =
     from-written laws indentation end place path n.is n.named s n.remarks _ _ _ (flat-phrase laws.letters end s.items n.some n.items s.comments n.remarks) s.items (flat-names s.items n.some) n.same
     (flat indentation (spelling path) (remark s.comments) s.items ∷ []) (one-text end indentation (spelling path) (items_text s.items ++ remark s.comments))
 
 -- on many lines
-in_brackets-written : Laws → (v : Values) (indentation end : List ℕ) → IsPlace indentation end → (path : List Terminal) (s : Laid) → AreNamed s path → (line : List Item) (lines : List (List Item)) → AreLines (line ∷ lines) → flat_map (λ (l : List Item). l) (line ∷ lines) ≡ s.items → Writes indentation end s (in_brackets v indentation (spelling path) (remark s.comments) (map items_text (line ∷ lines)))
+in_brackets-written : Laws → (v : Values) (indentation end : List ℕ) → IsPlace indentation end → (path : List Terminal) (s : Laid) → NamesFromModule s path → (line : List Item) (lines : List (List Item)) → AreLines (line ∷ lines) → flat_map (λ (l : List Item). l) (line ∷ lines) ≡ s.items → Writes indentation end s (in_brackets v indentation (spelling path) (remark s.comments) (map items_text (line ∷ lines)))
 in_brackets-written laws v indentation end place path s n line lines each cut =
     from-written laws indentation end place path n.is n.named s n.remarks _ _ _
     (brackets-phrase laws.letters end (indentation ++ replicate (width (head (spelling path)) + 1) 32) place.is_end (many-pad indentation (width (head (spelling path))) place.spaces) line lines each v.include_trailing_comma s.comments n.remarks)
     s.items (brackets-names v.include_trailing_comma line lines s.items each cut) n.same _ (brackets-text v end indentation (spelling path) (remark s.comments) line lines)
 
-hanging-written : Laws → (v : Values) (indentation end : List ℕ) → IsPlace indentation end → (path : List Terminal) (s : Laid) → AreNamed s path → (line : List Item) (lines : List (List Item)) → AreLines (line ∷ lines) → flat_map (λ (l : List Item). l) (line ∷ lines) ≡ s.items → Writes indentation end s (hanging indentation (spelling path) (remark s.comments) (map items_text (line ∷ lines)))
+hanging-written : Laws → (v : Values) (indentation end : List ℕ) → IsPlace indentation end → (path : List Terminal) (s : Laid) → NamesFromModule s path → (line : List Item) (lines : List (List Item)) → AreLines (line ∷ lines) → flat_map (λ (l : List Item). l) (line ∷ lines) ≡ s.items → Writes indentation end s (hanging indentation (spelling path) (remark s.comments) (map items_text (line ∷ lines)))
 hanging-written laws v indentation end place path s n line lines each cut =
     from-written laws indentation end place path n.is n.named s n.remarks _ _ _
     (hanging-phrase laws.letters end (indentation ++ four_spaces) place.is_end (four-pad indentation place.spaces) line lines each s.comments n.remarks)
     s.items (hanging-names line lines s.items each cut) n.same _ (hanging-text end indentation (spelling path) (remark s.comments) line lines)
 
-hung-written : Laws → (v : Values) (indentation end : List ℕ) → IsPlace indentation end → (path : List Terminal) (s : Laid) → AreNamed s path → (line : List Item) (lines : List (List Item)) → AreLines (line ∷ lines) → flat_map (λ (l : List Item). l) (line ∷ lines) ≡ s.items → Writes indentation end s (hanging_in_brackets v indentation (spelling path) (remark s.comments) (map items_text (line ∷ lines)))
+hung-written : Laws → (v : Values) (indentation end : List ℕ) → IsPlace indentation end → (path : List Terminal) (s : Laid) → NamesFromModule s path → (line : List Item) (lines : List (List Item)) → AreLines (line ∷ lines) → flat_map (λ (l : List Item). l) (line ∷ lines) ≡ s.items → Writes indentation end s (hanging_in_brackets v indentation (spelling path) (remark s.comments) (map items_text (line ∷ lines)))
 hung-written laws v indentation end place path s n line lines each cut =
     from-written laws indentation end place path n.is n.named s n.remarks _ _ _
     (subst (IsPhrase end _ _ _) (append-nil (remark_said s.comments ++ []) ∙ append-nil (remark_said s.comments))
@@ -109,7 +109,7 @@ hung-written laws v indentation end place path s n line lines each cut =
     s.items (hung-names v.include_trailing_comma line lines s.items each cut) n.same _ (hung-text v end indentation (spelling path) (remark s.comments) line lines)
 
 -- in the layout that the settings ask for
-wrapped-written : Laws → (v : Values) (indentation end : List ℕ) → IsPlace indentation end → (path : List Terminal) (s : Laid) → AreNamed s path → (line : List Item) (lines : List (List Item)) → AreLines (line ∷ lines) → flat_map (λ (l : List Item). l) (line ∷ lines) ≡ s.items → Writes indentation end s (wrapped v indentation (spelling path) (remark s.comments) (map items_text (line ∷ lines)))
+wrapped-written : Laws → (v : Values) (indentation end : List ℕ) → IsPlace indentation end → (path : List Terminal) (s : Laid) → NamesFromModule s path → (line : List Item) (lines : List (List Item)) → AreLines (line ∷ lines) → flat_map (λ (l : List Item). l) (line ∷ lines) ≡ s.items → Writes indentation end s (wrapped v indentation (spelling path) (remark s.comments) (map items_text (line ∷ lines)))
 wrapped-written laws v indentation end place path s n line lines each cut = by (nat_le v.multi_line_output 1) (v.multi_line_output == 2)
   where
     texts : List (List ℕ)
@@ -123,7 +123,7 @@ wrapped-written laws v indentation end place path s n line lines each cut = by (
     by false true = hanging-written laws v indentation end place path s n line lines each cut
     by false false = hung-written laws v indentation end place path s n line lines each cut
 
-names-written : Laws → (v : Values) (indentation end : List ℕ) → IsPlace indentation end → (path : List Terminal) (s : Laid) → AreNamed s path → (cut : List (List Item)) → AreLines cut → flat_map (λ (l : List Item). l) cut ≡ s.items → Writes indentation end s (names_lines v indentation (spelling path) (remark s.comments) s.items cut)
+names-written : Laws → (v : Values) (indentation end : List ℕ) → IsPlace indentation end → (path : List Terminal) (s : Laid) → NamesFromModule s path → (cut : List (List Item)) → AreLines cut → flat_map (λ (l : List Item). l) cut ≡ s.items → Writes indentation end s (names_lines v indentation (spelling path) (remark s.comments) s.items cut)
 names-written laws v indentation end place path s n [] each cut = absurd (subst HasItem (sym cut) n.some)
 names-written laws v indentation end place path s n (line ∷ lines) each cut = by (is_wrapped v indentation (spelling path) (remark s.comments) s.items)
   where

@@ -20,13 +20,13 @@ use Rattle.isort_sort.specs.Sorted.{last_row, blanks_after, texts_of, IsLayout}
 use Rattle.isort_sort.specs.WrittenLine.{mark_pieces, mark_bytes, end_pieces}
 use Rattle.isort_sort.proofs.Orders.Statements.{AreOrders}
 use Rattle.isort_sort.proofs.SortedTexts.LaidAgain.{first_again, lines_again}
-use Rattle.isort_sort.proofs.Stable.Units.{Follows, AreUnits}
+use Rattle.isort_sort.proofs.Stable.Units.{MayFollowUnit, AreUnits}
 use Rattle.isort_sort.proofs.Stable.UnitRows.{TokenLaws, unit_line, AreUnitRows, role_in_block}
 use Rattle.isort_sort.proofs.Stable.OldBlock.{member_in_block}
 use Rattle.isort_sort.proofs.Stable.UnitBinds.{EachBinds, binds_append, inner_binds}
 use Rattle.isort_sort.proofs.Stable.LineUnits.{NeighbourLaw, are_some, AreLines, row_of, lines_units, lines_append, inner_rows, inner_append, says_skip_file, AreAbove, comment_unit, comment_starts, above_units, above_rows, above_lines, above_inner, above_text, above_rows_text, above_are_comments, above_unskipped, first_above_passes}
 use Rattle.isort_sort.proofs.Stable.Joined.{joined_lines, ended_lines, AreSome, some_first, some_append, joined-append, joined_ended, bytes_of, bytes_of-append, none-append}
-use Rattle.isort_sort.proofs.Stable.BlockUnits.{lines_of_statement, IsReady, AreReady, tail_of, blanks_of, statement_some, IsBuilt, built}
+use Rattle.isort_sort.proofs.Stable.BlockUnits.{lines_of_statement, IsWritable, AreWritable, tail_of, blanks_of, statement_some, IsBuilt, built}
 use Rattle.isort_sort.proofs.Stable.Marked.{comment_mark, comment_first}
 
 -- the first line of a block that is written, with the row that it has, and the rows after it
@@ -79,7 +79,7 @@ tail_again v end true n m h = ap (tail_of end true) (sym (h refl))
 tail_again v end false n m h = refl
 
 -- the layout of the new run is what was written, without the comments above its first statement
-layout_again : NeighbourLaw → (v : Values) → AreOrders v → (space end : List ℕ) (members : List Member) (ended : Bool) (n : ℕ) (s : Laid) (ss : List Laid) (rest : List Row) → AreLaid v space members (s ∷ ss) → (r : IsReady v space end s) (b : IsBuilt v space end ended n s ss)
+layout_again : NeighbourLaw → (v : Values) → AreOrders v → (space end : List ℕ) (members : List Member) (ended : Bool) (n : ℕ) (s : Laid) (ss : List Laid) (rest : List Row) → AreLaid v space members (s ∷ ss) → (r : IsWritable v space end s) (b : IsBuilt v space end ended n s ss)
     → ((new : Run) → new.first.indentation ≡ space → ended ≡ true → blanks_after v new n rest ≡ n)
     → IsLayout v end (record { first = b.row; others = b.others }) b.blanks rest (bytes_of (b.first ∷ b.later))
 layout_again law v o space end members ended n s ss rest laid r b kept = (again, subst (λ (i : List ℕ). AreLaid v i (members_of new) again) (sym b.indentation) mine, text)
@@ -118,7 +118,7 @@ layout_again law v o space end members ended n s ss rest laid r b kept = (again,
         ∙ (λ i. text_of_lines end (sym b.last i) (blanks_after v new (count_by (λ (row : Row). row.ended) b.blanks) rest) (same_lines i))
 
 -- the parts of the text of a layout: the comments above the first statement, and the rest
-layout_parts : NeighbourLaw → (v : Values) (space end : List ℕ) (ended : Bool) (n : ℕ) (s : Laid) (ss : List Laid) → (r : IsReady v space end s) (b : IsBuilt v space end ended n s ss) → text_of_lines end ended n (block_lines v space (s ∷ ss)) ≡ ended_lines end (map (λ c. space ++ c) s.above) ++ bytes_of (b.first ∷ b.later)
+layout_parts : NeighbourLaw → (v : Values) (space end : List ℕ) (ended : Bool) (n : ℕ) (s : Laid) (ss : List Laid) → (r : IsWritable v space end s) (b : IsBuilt v space end ended n s ss) → text_of_lines end ended n (block_lines v space (s ∷ ss)) ≡ ended_lines end (map (λ c. space ++ c) s.above) ++ bytes_of (b.first ∷ b.later)
 layout_parts law v space end ended n s ss r b =
     let above : List (List ℕ) = map (λ c. space ++ c) s.above in
     let mine : List (List ℕ) = lines_of_statement v space s in
@@ -183,10 +183,10 @@ moved x y z w = simp append_assoc
 
 -- the block that is written, before what follows it
 pub written_block : NeighbourLaw → TokenLaws → (v : Values) → AreOrders v → (end : List ℕ) (run : Run) (n : ℕ) (s : Laid) (ss : List Laid) (own : List ℕ) (zs : List (List Piece)) (rest : List Row)
-    → IsLineEnd end → list_all is_space run.first.indentation ≡ true → AreReady v run.first.indentation end (s ∷ ss) → AreLaid v run.first.indentation (members_of run) (s ∷ ss)
+    → IsLineEnd end → list_all is_space run.first.indentation ≡ true → AreWritable v run.first.indentation end (s ∷ ss) → AreLaid v run.first.indentation (members_of run) (s ∷ ss)
     → own ≡ text_of_lines end (last_row run.first run.others).ended n (block_lines v run.first.indentation (s ∷ ss))
     → ((new : Run) → new.first.indentation ≡ run.first.indentation → (last_row run.first run.others).ended ≡ true → blanks_after v new n rest ≡ n)
-    → (are_some zs ≡ true → (last_row run.first run.others).ended ≡ true) → Follows (end_pieces true end) zs → AreUnits zs → AreUnitRows false zs rest
+    → (are_some zs ≡ true → (last_row run.first run.others).ended ≡ true) → MayFollowUnit (end_pieces true end) zs → AreUnits zs → AreUnitRows false zs rest
     → IsWrittenBlock v end run own zs rest
 written_block law laws v o end run n s ss own zs rest is spaces ready laid text kept closed follows are rows =
     record {

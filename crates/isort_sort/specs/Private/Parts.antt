@@ -10,12 +10,12 @@ use Rattle.isort_sort.specs.Private.Found.{Found}
 use Rattle.isort_sort.specs.Private.FoundValues.{found_value}
 use Rattle.isort_sort.specs.Private.LineEnd.{end_bytes}
 use Rattle.isort_sort.specs.Sorted.{first_end, mark_of, HasBlocks}
-use Rattle.isort_sort.specs.declared.parts.Part.{Part}
+use Rattle.isort_sort.specs.declared.parts.SortedPart.{SortedPart}
 use Rattle.isort_sort.specs.declared.parts.Parts.{Parts}
 use Rattle.isort_sort.specs.declared.sorted_text.SortedText.{SortedText}
 
 -- the bytes of a part
-abbrev pub part_text : Part → List ℕ
+abbrev pub part_text : SortedPart → List ℕ
 part_text p = p.before.now ++ string_bytes p.layout
 
 -- the blocks that are left
@@ -27,7 +27,7 @@ abbrev pub sorted_bytes : SortedText → List ℕ
 sorted_bytes s = flat_map part_text s.parts.items ++ s.rest.now
 
 -- what stays of the text is UTF-8
-abbrev pub AreTexts : List Part → Type 0
+abbrev pub AreTexts : List SortedPart → Type 0
 AreTexts [] = Unit {0}
 AreTexts (part ∷ parts) = IsUtf8 part.before.now × AreTexts parts
 
@@ -47,7 +47,7 @@ pub record HasMade (text : List ℕ) (v : Values) (p : Parts) (out : List ℕ) :
   pub arranging : IsArranging text v (first_end text) (mark_of lines) cut (parts_left p) at (out ++ slice_range text p.at at)
 
 -- the next part, after which the parts have made it too, and fewer blocks are left; none where no block is left
-abbrev pub Makes : Parts → Option Part → Parts → Type 0
+abbrev pub Makes : Parts → Option SortedPart → Parts → Type 0
 Makes old None new =
     (parts_left new ≡ [])
     × ((text : List ℕ) (v : Values) (out : List ℕ) → HasMade text v old out → HasMade text v new out)

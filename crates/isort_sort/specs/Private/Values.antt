@@ -7,12 +7,12 @@ use Rattle.isort_sort.specs.Line.{imported_of}
 use Rattle.isort_sort.specs.Member as member
 use Rattle.isort_sort.specs.Statement as statement
 use Rattle.isort_sort.specs.declared.member.Member as code_member
-use Rattle.isort_sort.specs.declared.statement.Item as code_item
+use Rattle.isort_sort.specs.declared.statement.FromItem as code_item
 use Rattle.isort_sort.specs.declared.statement.Statement as code
 use Rattle.isort_sort.specs.declared.statement.Statement.TheVariants as form
 
 -- an item
-abbrev pub item_value : code_item.Item → grammar.Item
+abbrev pub item_value : code_item.FromItem → grammar.Item
 item_value i = record { path = string_bytes i.name; alias = option_map string_bytes i.alias }
 
 -- a statement

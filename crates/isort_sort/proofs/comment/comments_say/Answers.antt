@@ -1,5 +1,5 @@
 use Rattle.std.proofs.Common.{◌||◌, ◌&&◌, ◌+◌, drop, sym, ap, ◌∙◌}
-use Rattle.py_imports.specs.Action.{says}
+use Rattle.py_imports.specs.ActionComment.{says}
 use Rattle.isort_sort.proofs.Rows.Comments.{comments_say, says_on, token_is_at, word_at}
 use Rattle.isort_sort.proofs.comment.comments_say.Goals as goal
 use Rattle.isort_sort.proofs.comment.comments_say.Goals.{else-is_comment-via-then-is_comment+else-text_says, else-is_comment-via-else-is_comment}

@@ -6,8 +6,8 @@ use Rattle.isort_sort.specs.contracts.statement.StatementPartialEq.TheImpl as sa
 use Rattle.isort_sort.proofs.Groups.Gathered.{statement_eq, gathers}
 use Rattle.isort_sort.proofs.group.gather.Goals as goal
 
-pub returns-clause-ok : goal.returns-clause-ok
-returns-clause-ok c =
+pub returns : goal.returns
+returns c =
     let e = c.in_ok-statements.ensures in
     let a = c.in_ok-add.ensures in
     gathers same.eq-value.it statement_eq c.args.statements.now.entries _ c.args.import.statement c.new.result c.or_insert-gathered.result.now c.add.new.self (brought_value c.args.import) (search rules) (c.or_insert-gathered.ensures.value ∙ ap (λ o. unwrap_or o c.new.result) e.value) c.new.ensures refl

@@ -14,7 +14,7 @@ loop-member-preserved c = λ s.
     let m = member_value c.in-Some.member in
     let seen = found s c.loop-member.statements.entries in
     let rest = brought v (map member_value (into_iter_items c.next.new.self)) in
-    ap (λ o. seen_after s o rest) (c.in_ok-gather_member.ensures.ok s)
+    ap (λ o. seen_after s o rest) (c.in_ok-gather_member.ensures s)
     ∙ sym (seen_after-append s seen (brings v m.imports m.comments m.above) rest)
     ∙ ap (λ (ms : List code_member.Member). seen_after s seen (brought v (map member_value ms))) (sym c.in-Some.ensures.steps.0)
     ∙ c.loop-member.invariant s

@@ -18,7 +18,7 @@ loop-statement-preserved c = λ others made.
     let v = values c.args.settings.now in
     let all = c.args.statements.entries in
     let group = c.in_ok-into_group.field-0 in
-    let here = c.loop-statement.invariant (group ∷ others) (subst (λ (es : Entries). AreMade v es (group ∷ others)) (sym c.in-Some.ensures.steps) (group, others, refl, c.in_ok-into_group.ensures.ok, made)) in
+    let here = c.loop-statement.invariant (group ∷ others) (subst (λ (es : Entries). AreMade v es (group ∷ others)) (sym c.in-Some.ensures.steps) (group, others, refl, c.in_ok-into_group.ensures, made)) in
     subst (λ (gs : List code.Group). AreMade v all gs) (sym (ap (λ gs. gs ++ others) c.in_ok-push.ensures.items ∙ append_assoc c.loop-statement.groups.items (group ∷ []) others)) here
 
 pub returns-clause-made : goal.returns-clause-made

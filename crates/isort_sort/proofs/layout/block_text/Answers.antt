@@ -16,8 +16,8 @@ truncate-requires c =
     let written = c.in_ok-push_groups.ensures ∙ ap (λ t. t ++ text_with end lines) c.new-text.ensures.bytes in
     λ _. split_before_end end lines (string_bytes out) c.saturating_sub-len.result c.as_str-end.utf8 written (omega (arith, out.bytes.ok.0))
 
-pub returns-clause-ok : goal.returns-clause-ok
-returns-clause-ok c =
+pub returns : goal.returns
+returns c =
     let v = values c.args.settings.now in
     let out = c.push_groups.new.out in
     let laid = map (laid_of v c.args.indentation.now) (map group_value c.args.groups.now) in

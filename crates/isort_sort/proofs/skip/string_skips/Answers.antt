@@ -1,7 +1,7 @@
 use Rattle.std.proofs.Common.{sym, ap, ◌∙◌, true, false}
 use Rattle.py_lines.specs.Lines.{line_in}
-use Rattle.py_imports.specs.Action.{says}
-use Rattle.py_imports.specs.declared.action.Action.TheVariants as action
+use Rattle.py_imports.specs.ActionComment.{says}
+use Rattle.py_imports.specs.declared.action_comment.ActionComment.TheVariants as action
 use Rattle.isort_sort.proofs.Rows.Skips.{place_within, string_missing, string_at}
 use Rattle.isort_sort.proofs.skip.string_skips.Goals as goal
 use Rattle.isort_sort.proofs.Rows.Comments.{token_is_at}

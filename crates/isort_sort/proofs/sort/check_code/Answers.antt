@@ -10,7 +10,7 @@ returns-in-None c =
     let v = values c.args.settings.now in
     let i = c.parts.invariant in
     let o : AreOrders v = record { modules = c.modules_are_totally_ordered.ensures.total v; exact_modules = c.modules_are_totally_ordered.ensures.equal v; names = c.names_are_totally_ordered.ensures.total v; exact_names = c.names_are_totally_ordered.ensures.equal v } in
-    let makes = subst (λ p. Makes c.parts.parts p c.next.new.self) c.in-Some.is c.in_ok-part.ensures.ok in
+    let makes = subst (λ p. Makes c.parts.parts p c.next.new.self) c.in-Some.is c.in_ok-part.ensures in
     checked_early c.args.text.now v c.next.new.self i.out c.parts.left.now (part_text c.in-Some.part) o i.split (makes.1 c.args.text.now v i.out i.made).1 (c.in-None.ensures.none refl)
 
 pub parts-preserved : goal.parts-preserved
@@ -18,7 +18,7 @@ parts-preserved c =
     let v = values c.args.settings.now in
     let i = c.parts.invariant in
     let part = part_text c.in-Some.part in
-    let makes = subst (λ p. Makes c.parts.parts p c.next.new.self) c.in-Some.is c.in_ok-part.ensures.ok in
+    let makes = subst (λ p. Makes c.parts.parts p c.next.new.self) c.in-Some.is c.in_ok-part.ensures in
     record {
       out = i.out ++ part;
       made = (makes.1 c.args.text.now v i.out i.made).1;
@@ -29,7 +29,7 @@ pub returns : goal.returns
 returns c =
     let v = values c.args.settings.now in
     let i = c.parts.invariant in
-    let makes = subst (λ p. Makes c.parts.parts p c.next.new.self) c.in_default-2.is c.in_ok-part.ensures.ok in
+    let makes = subst (λ p. Makes c.parts.parts p c.next.new.self) c.in_default-2.is c.in_ok-part.ensures in
     let laid = c.rest.ensures.laid c.args.text.now v i.out (makes.1 c.args.text.now v i.out i.made) makes.0 in
     (i.out ++ c.rest.result.now, inr laid, same_or_not c.args.text.now (i.out ++ c.rest.result.now) i.out c.parts.left.now c.rest.result.now c.eq.result i.split refl c.eq.ensures)
 
@@ -37,5 +37,5 @@ pub rest-requires : goal.rest-requires
 rest-requires c =
     let v = values c.args.settings.now in
     let i = c.parts.invariant in
-    let makes = subst (λ p. Makes c.parts.parts p c.next.new.self) c.in_default-2.is c.in_ok-part.ensures.ok in
+    let makes = subst (λ p. Makes c.parts.parts p c.next.new.self) c.in_default-2.is c.in_ok-part.ensures in
     (c.args.text.now, v, i.out, makes.1 c.args.text.now v i.out i.made)

@@ -1,5 +1,5 @@
 use Rattle.isort_sort.proofs.Readings.LinesRead.{found_in}
 use Rattle.isort_sort.proofs.read.LineReader.finish.Goals as goal
 
-pub returns-clause-ok : goal.returns-clause-ok
-returns-clause-ok c = λ text read. found_in text read.lines c.args.self _ c.if-self.false c.in_ok-finish.ensures.ok read.so_far read.accepted
+pub returns : goal.returns
+returns c = λ text read. found_in text read.lines c.args.self _ c.if-self.false c.in_ok-finish.ensures read.so_far read.accepted

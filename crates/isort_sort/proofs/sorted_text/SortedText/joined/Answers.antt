@@ -17,8 +17,8 @@ parts-preserved c =
       joined = one_more before part.before.now (string_bytes part.layout) rest (flat_map part_text (drop k items)) _ (flat_map part_text items) middle (string_bytes c.push_str-in-parts.new.self) (c.in_ok-push_str.ensures.bytes ∙ ap (λ t. before ++ t) c.text_of.ensures) (c.in_ok-push_str-2.ensures.bytes ∙ ap (λ t. middle ++ t) c.as_str.ensures.value) (at_drop_more (flat_map part_text) items k part c.parts-test.true ∙ ap (λ p. flat_map part_text (p ∷ drop (k + 1) items)) (sym c.part-item.is)) (append_assoc part.before.now (string_bytes part.layout) rest) c.parts.invariant.joined;
     }
 
-pub returns-clause-ok : goal.returns-clause-ok
-returns-clause-ok c =
+pub returns : goal.returns
+returns c =
     let items = c.deref-part-items.result.now in
     let sorted = string_bytes c.parts.sorted in
     let all = sym (append-nil sorted) ∙ ap (λ t. sorted ++ t) (sym (at_drop_all (flat_map part_text) items c.parts.part-index c.parts-test.false)) ∙ c.parts.invariant.joined ∙ ap (flat_map part_text) c.deref-part-items.ensures.value in

@@ -1,6 +1,6 @@
 use Rattle.std.proofs.Common.{◌≡◌, ◌++◌, ◌∙◌, IfSome, List, ℕ, None, subst, string_bytes, append_assoc}
 use Rattle.isort_sort.proofs.SortedTexts.OfParts.{unstripped, strips_part, strips_no_part}
-use Rattle.isort_sort.proofs.parts.Part.cut_off.Goals as goal
+use Rattle.isort_sort.proofs.parts.SortedPart.cut_off.Goals as goal
 
 pub returns-in_err-strip_prefix-clause-none : goal.returns-in_err-strip_prefix-clause-none
 returns-in_err-strip_prefix-clause-none c =
