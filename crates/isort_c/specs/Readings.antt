@@ -37,15 +37,15 @@ abbrev pub reading : List ℕ → ℕ → Result (Values × List (List ℕ)) Ans
 reading text n = reading_with text (profile_at n)
 
 -- the name of the key whose value is bad, if that is why settings are refused
-abbrev pub bad_key : SettingsError → List ℕ
-bad_key (refusal.BadValue k) = name_of k
-bad_key other = []
+abbrev pub bad_key_name : SettingsError → List ℕ
+bad_key_name (refusal.BadValue k) = name_of k
+bad_key_name other = []
 
 -- the names of the unknown keys in the buffer; or why settings are refused, and the name of the key whose value is bad
 abbrev pub TellsOf : Result (Values × List (List ℕ)) SettingsError → Answer → List ℕ → List ℕ → Type 0
 TellsOf (Ok (v, unknown)) answer old new =
     (answer ≡ record (plain_answer SAME) { size = length (name_records unknown) }) × (new ≡ filled (name_records unknown) old)
-TellsOf (Err e) answer old new = (answer ≡ record (refused_answer e) { size = length (bad_key e) }) × (new ≡ filled (bad_key e) old)
+TellsOf (Err e) answer old new = (answer ≡ record (refused_answer e) { size = length (bad_key_name e) }) × (new ≡ filled (bad_key_name e) old)
 
 -- what the text of settings says with this profile, or that memory ran out
 abbrev pub AnswersSettings : List ℕ → Result (Option Profile) Answer → Answer → List ℕ → List ℕ → Type 0

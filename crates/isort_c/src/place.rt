@@ -27,7 +27,7 @@ fn number_of(section: Section) -> u32
 }
 
 /// The name of a section, as the settings spell it.
-fn name_of(settings: &Settings, section: Section) -> &str
+fn section_name(settings: &Settings, section: Section) -> &str
     ensures { result.now ≡ section_name (values settings.now) section }
 {
     match section {
@@ -47,7 +47,7 @@ fn name_of(settings: &Settings, section: Section) -> &str
 fn tell(settings: &Settings, section: Section, out: &mut [u8]) -> Answer
     ensures { TellsSection (values settings.now) section result out.old out.new }
 {
-    let name = name_of(settings, section).as_bytes();
+    let name = section_name(settings, section).as_bytes();
     fill(name, out);
     let mut answer = Answer::plain(SAME);
     answer.section = number_of(section);

@@ -2,7 +2,7 @@
 ghost use Rattle.std.specs.Prelude.{◌≡◌, ◌⊎◌, Ok, Err, IfOk, IfErr, length, map, string_bytes};
 ghost use Rattle.isort_settings.specs.Values.{values};
 ghost use Rattle.isort_c.specs.Answers.{plain_answer, filled};
-ghost use Rattle.isort_c.specs.Readings.{bad_key, profile_at, refused_answer, reading, AnswersSettings};
+ghost use Rattle.isort_c.specs.Readings.{bad_key_name, profile_at, refused_answer, reading, AnswersSettings};
 ghost use Rattle.isort_c.specs.Records.{name_records};
 ghost use Rattle.isort_c.specs.declared.answer.TheConstants.{MEMORY};
 
@@ -14,7 +14,7 @@ use isort_settings::{Profile, Settings, SettingsError};
 use std::alloc::{AllocError, Global};
 
 /// The profile of a number, or none for 0.
-fn profile_of(number: u32) -> Result<Option<Profile>, Answer>
+fn profile_at(number: u32) -> Result<Option<Profile>, Answer>
     ensures { result ≡ profile_at number }
 {
     match number {
@@ -48,7 +48,7 @@ pub fn read(alloc: Global, text: &[u8], profile: u32) -> Result<(Settings, Vec<S
     ensures ok { IfOk result (λ r. reading text.now profile ≡ Ok (values r.0, map string_bytes r.1.items)) }
     ensures err { IfErr result (λ a. (reading text.now profile ≡ Err a) ⊎ (a ≡ plain_answer MEMORY)) }
 {
-    let profile = profile_of(profile)?;
+    let profile = profile_at(profile)?;
     match Settings::from_pyproject(alloc, text, profile) {
         Ok(read) => Ok(read),
         Err(error) => Err(refused(&error)),
@@ -68,8 +68,8 @@ fn records_of(alloc: Global, names: &[String]) -> Result<Vec<u8>, AllocError>
 
 /// The answer where settings are refused, with the name of the key whose value is bad.
 fn tell_refusal(error: &SettingsError, out: &mut [u8]) -> Answer
-    ensures answer { result ≡ record (refused_answer error.now) { size = length (bad_key error.now) } }
-    ensures out { out.new ≡ filled (bad_key error.now) out.old }
+    ensures answer { result ≡ record (refused_answer error.now) { size = length (bad_key_name error.now) } }
+    ensures out { out.new ≡ filled (bad_key_name error.now) out.old }
 {
     let mut answer = refused(error);
     if let SettingsError::BadValue(key) = error {
@@ -94,7 +94,7 @@ pub extern "C" fn fihroste_settings(
 ) -> Answer
     ensures { AnswersSettings settings.now (profile_at profile) result out.old out.new }
 {
-    let profile = match profile_of(profile) {
+    let profile = match profile_at(profile) {
         Ok(profile) => profile,
         Err(answer) => return answer,
     };

@@ -4,11 +4,11 @@ use Rattle.isort_c.proofs.settings.read.Goals as goal
 
 pub returns-in_err-profile-clause-err : goal.returns-in_err-profile-clause-err
 returns-in_err-profile-clause-err c =
-    let unread = reading-unprofiled c.args.text.now c.args.profile _ (sym c.profile_of.ensures ∙ c.in_err-profile.was) in search rules
+    let unread = reading-unprofiled c.args.text.now c.args.profile _ (sym c.profile_at.ensures ∙ c.in_err-profile.was) in search rules
 
 pub returns-in-Ok-clause-ok : goal.returns-in-Ok-clause-ok
-returns-in-Ok-clause-ok c = reading-ok c.args.text.now c.args.profile _ _ (sym c.profile_of.ensures ∙ c.in_ok-profile.was) c.in-Ok.ensures.ok
+returns-in-Ok-clause-ok c = reading-ok c.args.text.now c.args.profile _ _ (sym c.profile_at.ensures ∙ c.in_ok-profile.was) c.in-Ok.ensures.ok
 
 pub returns-in-Err-clause-err : goal.returns-in-Err-clause-err
 returns-in-Err-clause-err c =
-    rw c.refused.ensures (reading-refused c.args.text.now c.args.profile _ c.in-Err.error (sym c.profile_of.ensures ∙ c.in_ok-profile.was) c.in-Err.ensures.refused)
+    rw c.refused.ensures (reading-refused c.args.text.now c.args.profile _ c.in-Err.error (sym c.profile_at.ensures ∙ c.in_ok-profile.was) c.in-Err.ensures.refused)
