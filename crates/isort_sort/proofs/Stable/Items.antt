@@ -6,7 +6,7 @@ use Rattle.py_lines.specs.Character.{is_space, is_digit}
 use Rattle.py_lines.specs.Neighbours.{MayTouch}
 use Rattle.py_lines.specs.Piece.{space, word, Piece}
 use Rattle.py_imports.specs.Grammar.{Terminal, as_word, name, comma, Item, IsItem, plain, renamed, AreItems, last, then, NameKind, identifiers}
-use Rattle.py_imports.specs.Names.{IsName, IsAlias, IsNameItem}
+use Rattle.py_imports.specs.Names.{IsAlias, IsNameItem}
 use Rattle.py_imports.specs.Spelled.{alias_text}
 use Rattle.isort_sort.specs.Wrapping.{item_text}
 use Rattle.isort_sort.proofs.Stable.Parts.{piece, IsStatementPart, part-append, part-nil, part-space, LettersAreWords, part-letters, name_piece, part-name}

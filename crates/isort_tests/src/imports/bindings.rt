@@ -2,7 +2,8 @@
 use crate::harness::cases::{Case, each_holds_again};
 use crate::harness::told::tell_binding;
 use py_imports::{
-    Action, Binding, ImportError, Shape, bindings_of, is_declaration, says, shape_of,
+    ActionComment, Binding, ImportError, Shape, bindings_of, is_declaration, mark_len, says,
+    shape_of,
 };
 use py_lines::{Fault, FaultKind, Lines, Unit};
 use std::alloc::Global;
@@ -76,6 +77,8 @@ enum Said {
     Declaration(bool),
     /// It has this shape.
     Shaped(Shape),
+    /// It begins with so many bytes of a byte order mark.
+    Marked(usize),
 }
 
 /// Whether a logical line is refused with F9 at this byte.
@@ -95,6 +98,7 @@ impl Said {
             Said::Refused(offset) => is_refused(alloc, unit, offset),
             Said::Declaration(is_declared) => is_declaration(unit) == is_declared,
             Said::Shaped(shape) => shape_of(unit) == shape,
+            Said::Marked(len) => mark_len(unit) == len,
         }
     }
 
@@ -164,6 +168,8 @@ fn gives_bindings(rt: HostRuntime) -> Result<(), Fail> {
 }
 
 const FIRST: &[First] = &[
+    First("\u{feff}import a", Said::Marked(3)),
+    First("import a", Said::Marked(0)),
     First("from a import ()", Said::Refused(0)),
     First("from a import (*)", Said::Refused(0)),
     First("from a import b,", Said::Refused(0)),
@@ -250,7 +256,7 @@ fn says_of_first_lines(rt: HostRuntime) -> Result<(), Fail> {
 }
 
 /// A comment, an action, and whether the comment says it.
-struct Saying(&'static str, Action, bool);
+struct Saying(&'static str, ActionComment, bool);
 
 impl Case for Saying {
     fn holds(&self, _alloc: Global) -> bool {
@@ -259,18 +265,18 @@ impl Case for Saying {
 }
 
 const ACTIONS: &[Saying] = &[
-    Saying("# isort: skip_file", Action::SkipFile, true),
-    Saying("# isort: skip_file", Action::Skip, false),
-    Saying("# isort:skip", Action::Skip, true),
-    Saying("# isort:  skip", Action::Skip, false),
-    Saying("# isort: skip!", Action::Skip, true),
-    Saying("# isort: skips isort: skip", Action::Skip, true),
-    Saying("# isort: off", Action::Off, true),
-    Saying("# isort: on", Action::On, true),
-    Saying("# isort: one", Action::On, false),
-    Saying("# isort:split\u{e9}", Action::Split, true),
-    Saying("# Isort: on", Action::On, false),
-    Saying("", Action::On, false),
+    Saying("# isort: skip_file", ActionComment::SkipFile, true),
+    Saying("# isort: skip_file", ActionComment::Skip, false),
+    Saying("# isort:skip", ActionComment::Skip, true),
+    Saying("# isort:  skip", ActionComment::Skip, false),
+    Saying("# isort: skip!", ActionComment::Skip, true),
+    Saying("# isort: skips isort: skip", ActionComment::Skip, true),
+    Saying("# isort: off", ActionComment::Off, true),
+    Saying("# isort: on", ActionComment::On, true),
+    Saying("# isort: one", ActionComment::On, false),
+    Saying("# isort:split\u{e9}", ActionComment::Split, true),
+    Saying("# Isort: on", ActionComment::On, false),
+    Saying("", ActionComment::On, false),
 ];
 
 #[test]
