@@ -33,7 +33,7 @@ enum fihroste_status {
     FIHROSTE_SAME = 0,     /* the text is sorted as it is; of a call that sorts nothing: it is done */
     FIHROSTE_CHANGED = 1,  /* the sorted text differs from the text */
     FIHROSTE_SKIPPED = 2,  /* the text asks to be left as it is: isort:skip_file */
-    FIHROSTE_FAULT = 3,    /* the text can't be read to its end: F1 to F9, at `line` and `offset` */
+    FIHROSTE_FAULT = 3,    /* the text can't be read to its end: F1 to F10, at `line` and `offset` */
     FIHROSTE_SETTINGS = 4, /* the settings are refused: S1 to S4 */
     FIHROSTE_MEMORY = 5,   /* memory ran out */
     FIHROSTE_ARGUMENT = 6  /* the name of a module is not UTF-8, or `unique` or `profile` is none of the numbers below */
@@ -49,7 +49,8 @@ enum fihroste_fault {
     FIHROSTE_OPEN_BRACKET = 6, /* F6 bracket not closed */
     FIHROSTE_BAD_JOIN = 7,     /* F7 backslash not before a line end */
     FIHROSTE_TOO_DEEP = 8,     /* F8 more than 200 brackets open */
-    FIHROSTE_BAD_IMPORT = 9    /* F9 import statement not understood */
+    FIHROSTE_BAD_IMPORT = 9,   /* F9 import statement not understood */
+    FIHROSTE_OPEN_FIELD = 10   /* F10 field not closed */
 };
 
 /* `label` at FIHROSTE_SETTINGS. */

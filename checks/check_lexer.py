@@ -5,8 +5,9 @@
 
 PROGRAM is the built isort. The files are all `*.py` below the folders. Each word `import` and `from` of a file is
 spelled otherwise first, with as many letters, so that no import statement is found and the whole file is read. Files
-that are not UTF-8, or that the tokenizer refuses or finds an error token in, are left out. The last line counts the
-files read and those refused. The status is 1 where one is refused."""
+that are not UTF-8, or that the tokenizer refuses or finds an error token in, are left out. The tokenizer of Python 3.11
+doesn't look into the fields of strings, so a file with a bad one counts as refused. The last line counts the files read
+and those refused. The status is 1 where one is refused."""
 
 import io
 import re

@@ -35,7 +35,7 @@ Answer = tuple[int, bytes, bytes]
 def known_faults() -> set[bytes]:
     """The words of each fault, as the page of messages has them."""
     page = (Path(__file__).parent.parent / "docs/MESSAGES.md").read_text()
-    return {words.encode() for words in re.findall(r"`FILE:LINE: (F\d [^`]+)`", page)}
+    return {words.encode() for words in re.findall(r"`FILE:LINE: (F\d+ [^`]+)`", page)}
 
 
 class Runs:
@@ -77,7 +77,7 @@ class Runs:
         status, _, message = answer
         if status == 0:
             return message == b""
-        fault = re.fullmatch(rb"-:\d+: (F\d .+)\n", message)
+        fault = re.fullmatch(rb"-:\d+: (F\d+ .+)\n", message)
         return status == 1 and fault is not None and fault[1] in self.faults
 
     def tell(self, what: str) -> None:

@@ -38,7 +38,7 @@ COMMENTS = "# k|# two words|#|#:|# noqa|# a; b|#!x|#  wide  |# isort:skip|# a co
 CODE = (
     "x = 1", "def f():\n    import b, a\n    return a", "class A:\n    pass", "@d\ndef g(): pass", "if x:\n    import os\n    import a\nelse:\n    from b import c, a",
     "try:\n    import b\nexcept ImportError:\n    b = None", '"""doc\nimport z, a\n"""', "x = (\n    1,\n)", "# isort: off", "# isort: on", "# isort: split",
-    "x = 1; import b", "import b; import a", "import b; x = 1", "async def h(): pass", "\x0c", "if x: import b, a", "    ", "\t",
+    "x = 1; import b", "import b; import a", "import b; x = 1", "async def h(): pass", "\x0c", "if x: import b, a", "    ", "\t", "x = f'{\nimport b, a\n}'", 'f"{d["import"]}"; import b',
 )
 
 

@@ -26,6 +26,7 @@ _WORDS = (
     "backslash not before a line end",
     "more than 200 brackets open",
     "import statement not understood",
+    "field not closed",
 )
 # No file is read beyond this: it is the size at which a text is too long, and one byte.
 _MOST_BYTES = 2**30 + 1

@@ -27,7 +27,7 @@ class InvalidSettingsPath(ISortError):
 
 
 class ExistingSyntaxErrors(ISortError):
-    """The text isn't accepted. `label` is F1 to F9, `offset` a byte of the text in UTF-8 from 0, `lineno` from 1."""
+    """The text isn't accepted. `label` is F1 to F10, `offset` a byte of the text in UTF-8 from 0, `lineno` from 1."""
 
     def __init__(self, label: str, words: str, offset: int, lineno: int, file_path: _Path = None) -> None:
         super().__init__(label, words, offset, lineno, file_path)

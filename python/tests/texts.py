@@ -37,6 +37,7 @@ FAULTS = [
     ("import b,\nimport a\n", "F9", 0, 1, []),
     ("import a; import b,\n", "F9", 10, 1, []),
     ("x = 'a\n", "F3", 4, 1, []),
+    ('import a\nx = f"{y\n', "F10", 15, 2, ["import a"]),
     ("import a\n$\n", "F2", 9, 2, ["import a"]),
     ("import a\n\0\n", "F2", 9, 2, ["import a"]),
     ("import a\nx = '\udc80'\n", "F1", 14, 2, ["import a"]),

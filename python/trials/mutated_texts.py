@@ -25,11 +25,12 @@ TEXTS = [
     "import b;import a\nif x:\n    from m import \\\n        b, a\n    import c\nelse: import d\nimport b  # isort: skip\nimport a\n",
     "\ufeffimport b\r\nimport a\r\nfrom m import *\r\nfrom m import CONST, Klass, func, a1, a10, a9\r\nx = f'{1}' \"\"\"\r\n\"\"\"\r\n",
     "try:\n\timport b\n\timport a\nexcept ImportError:\n\tfrom n import (aaaaaaaaaaaaaaaaaaaaaaaaaaaaaaaa, bbbbbbbbbbbbbbbbbbbbbbbbbbbb, c)\n\n@d\nclass C: pass\n",
+    "import b\nx = f'{\nimport d, c # }'\n:{w}}' + t\"\"\"{f\"{d[\"import\"]}\"!r:\n>{w}}\"\"\"\nimport e\nimport a\n",
     "from a import (b as c, b as d,\n    b, # k\n)\nimport a.b.c as d\nimport a.b.c\nimport \u00e4.\u00f6\nfrom \u00e4 import \u00d6, \u00c4\n",
 ]
 PIECES = (
     "import |from |as |*|,|(|)|[|}|\\\n|\n|\n\n|\r\n|\r|\f|\t|    | |#|# k|# isort: skip\n|# isort: off\n|# isort: on\n"
-    "|# isort: split\n|# isort: skip_file\n|'|\"|'''|\"\"\"|rb'|f\"{|;|:|.|..|...|a|B|c1|CONST|\u00e9|\u4e00|\0|\ufeff|$|1|0x"
+    "|# isort: split\n|# isort: skip_file\n|'|\"|'''|\"\"\"|rb'|f\"{|t'|{{|}|\\N{|;|:|.|..|...|a|B|c1|CONST|\u00e9|\u4e00|\0|\ufeff|$|1|0x"
     "|import a\n|from a import b\n|from .a import (b, c as d)\n|def f():\n|class C:\n|if x: import a\n|x = 1\n"
 ).split("|")
 SETTINGS = [

@@ -21,6 +21,7 @@ fault_number kind.OpenBracket = 6
 fault_number kind.BadJoin = 7
 fault_number kind.TooDeep = 8
 fault_number kind.BadImport = 9
+fault_number kind.OpenField = 10
 
 -- the answer at a fault
 abbrev pub fault_answer : Fault → Answer

@@ -28,7 +28,7 @@ pub const OWN: u32 = 5;
 pub struct Answer {
     /// What the call came to: one of the constants above.
     pub status: u32,
-    /// The number in the label: at `FAULT` 1 to 9 for F1 to F9, at `SETTINGS` 1 to 4 for S1 to S4.
+    /// The number in the label: at `FAULT` 1 to 10 for F1 to F10, at `SETTINGS` 1 to 4 for S1 to S4.
     pub label: u32,
     /// At S2 the number of the key whose value is bad: 26 for the list of an own section.
     pub key: u32,
@@ -85,5 +85,6 @@ fn number_of(kind: FaultKind) -> u32
         FaultKind::BadJoin => 7,
         FaultKind::TooDeep => 8,
         FaultKind::BadImport => 9,
+        FaultKind::OpenField => 10,
     }
 }

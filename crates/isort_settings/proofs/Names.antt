@@ -26,16 +26,6 @@ pub bytes_more : (names : List (String Global)) (i : ℕ) (name : String Global)
 bytes_more names i name within at =
     ap (map string_bytes) (take_more names i name within ∙ ap (λ x. take i names ++ x ∷ []) (sym at)) ∙ map-append string_bytes (take i names) (name ∷ [])
 
--- the bytes of the names that are left, at one of them
-pub bytes_left : (names : List (String Global)) (i : ℕ) (name : String Global) → i < length names → name ≡ get_or names i name
-    → map string_bytes (drop i names) ≡ string_bytes name ∷ map string_bytes (drop (i + 1) names)
-bytes_left names i name within at =
-    ap (map string_bytes) (drop_more names i name within ∙ ap (λ x. x ∷ drop (i + 1) names) (sym at))
-
--- a filter of one text more
-pub filter_one : (p : List ℕ → Bool) (xs : List (List ℕ)) (x : List ℕ) (b : Bool) → p x ≡ b → filter p (xs ++ x ∷ []) ≡ filter p xs ++ cond b (x ∷ []) []
-filter_one p xs x b is = filter-append p xs (x ∷ []) ∙ ap (λ c. filter p xs ++ cond c (x ∷ []) []) is
-
 -- the place of a text is that among the bytes of the entries
 prefix-map : (p : List ℕ → Bool) (names : List (String Global)) → prefix_len p (map string_bytes names) ≡ prefix_len (λ n. p (string_bytes n)) names
 prefix-map p [] = refl

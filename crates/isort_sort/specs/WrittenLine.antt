@@ -2,7 +2,8 @@
 use Rattle.std.specs.Prelude.{◌≡◌, ℕ, Bool, true, false, nat_lt, List, [], ◌∷◌, ◌++◌, map, encode_utf8_all}
 use Rattle.std.specs.List.{join_by, list_any}
 use Rattle.std.specs.Str.{all_scalars}
-use Rattle.py_lines.specs.Balance.{IsBalanced, IsShallow, depth_through}
+use Rattle.py_lines.specs.Balance.{IsBalanced, depth_through}
+use Rattle.py_lines.specs.Fields.{IsShallow}
 use Rattle.py_lines.specs.Character.{is_break, is_line_feed}
 use Rattle.py_lines.specs.LogicalLine.{LogicalLine, cut, line_of}
 use Rattle.py_lines.specs.Neighbours.{AreSimple, MayTouch}

@@ -47,7 +47,7 @@ pub enum SortError {
     /// There was no memory.
     #[error("out of memory")]
     Memory,
-    /// The fault of a text that isn't accepted: F1 to F8, or F9 for an import statement outside the grammar.
+    /// The fault of a text that isn't accepted: F1 to F8 or F10, or F9 for an import statement outside the grammar.
     #[error("{0}")]
     Fault(Fault),
     /// The sorted text can't be written. No call that writes nothing gives this.

@@ -70,6 +70,7 @@ const ERRORS: &[Shown] = &[
         Error::Kind(Kind::BadImport),
         "F9 import statement not understood",
     ),
+    Shown(Error::Kind(Kind::OpenField), "F10 field not closed"),
     Shown(Error::Lexing(LexError::Memory), NO_MEMORY),
     Shown(Error::Lexing(LexError::Fault(FAULT)), FAULT_TEXT),
     Shown(Error::Imports(ImportError::Memory), NO_MEMORY),
@@ -124,6 +125,10 @@ const RUN_ERRORS: &[ErrorLine] = &[
     ErrorLine(
         End::Fault(Kind::BadImport, 9, 2),
         "-:2: F9 import statement not understood\n",
+    ),
+    ErrorLine(
+        End::Fault(Kind::OpenField, 2, 1),
+        "-:1: F10 field not closed\n",
     ),
     ErrorLine(End::Error(RunError::Read), "isort: -: R1 cannot be read\n"),
     ErrorLine(End::Error(RunError::TooLong), "isort: -: R2 is too long\n"),

@@ -28,3 +28,16 @@ pub(crate) fn brackets() -> [u8; 401] {
     }
     text
 }
+
+/// The starts of 201 strings with a field, each in the field of the one before.
+pub(crate) fn fields() -> [u8; 603] {
+    let mut text = [b'{'; 603];
+    for (i, byte) in text.iter_mut().enumerate() {
+        if i % 3 == 0 {
+            *byte = b'f';
+        } else if i % 3 == 1 {
+            *byte = b'"';
+        }
+    }
+    text
+}

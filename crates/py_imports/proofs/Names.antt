@@ -5,7 +5,7 @@ use Rattle.std.specs.Str.{all_scalars}
 use Rattle.std.proofs.lemmas.Bool.{and_parts, and_from}
 use Rattle.py_lines.specs.Character.{is_digit}
 use Rattle.py_lines.specs.Piece.{Class, mark, space, word, string, operator, comment, join, line_end, Piece, begins, spelled}
-use Rattle.py_lines.specs.PieceGrammar.{InClass, AreReadBefore}
+use Rattle.py_lines.specs.Fields.{InClass, AreReadBefore}
 use Rattle.py_lines.specs.LogicalLine.{first_or_zero, line_of, tokens_from}
 use Rattle.py_lines.specs.Words.{Word, word_in, words_of_piece, words_of}
 use Rattle.py_lines.specs.declared.token.TokKind.TheVariants as kind

@@ -5,7 +5,7 @@ ghost use Rattle.std.specs.List.{list_any};
 ghost use Rattle.std.specs.Str.{all_scalars};
 ghost use Rattle.py_lines.specs.LogicalLine.{LogicalLine, line_of};
 ghost use Rattle.py_lines.specs.Piece.{Piece, spelled};
-ghost use Rattle.py_lines.specs.PieceGrammar.{AreReadBefore};
+ghost use Rattle.py_lines.specs.Fields.{AreReadBefore};
 ghost use Rattle.py_lines.specs.Words.{words_of};
 ghost use Rattle.py_lines.specs.declared.fault.Fault.{Fault};
 ghost use Rattle.py_lines.specs.declared.token.Token.{Token};

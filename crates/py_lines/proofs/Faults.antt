@@ -1,7 +1,12 @@
--- The lexical fault of a text.
-pub mod FaultPlaces
-pub mod Verdict
-pub mod Uniqueness
+-- The faults of texts with fields.
+pub mod EndFaults
+pub mod EndPlaces
+pub mod Ends
+pub mod CharacterPlaces
+pub mod CharacterFaults
+pub mod Refusals
+pub mod CauseAt
+pub mod UnfinishedAt
 pub mod FaultPrefixes
+pub mod Verdict
 pub mod WorkedRows
-pub mod DepthRows

@@ -1,14 +1,15 @@
 -- The lines of a whole text, and its end or fault.
+pub mod Prefixes
+pub mod SettledFits
+pub mod LineEnds
 pub mod LinePrefix
-pub mod LinesBefore
-pub mod Answers
 pub mod Uniqueness
 pub mod Existence
-pub mod GivenLines
-pub mod FirstLines
-pub mod SettledFits
 pub mod SettledLines
-pub mod DecidedFaults
-pub mod SettledPrefixes
+pub mod FirstLines
 pub mod SettledOrder
-pub mod SettledExistence
+pub mod LinesBefore
+pub mod Answers
+pub mod GivenLines
+pub mod SettledPrefixes
+pub mod DecidedFaults

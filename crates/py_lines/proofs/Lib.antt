@@ -3,30 +3,41 @@
 -- Definitions look at the whole text. A reading is a list of pieces, each in its class and before a rest that it may
 -- precede, with brackets in pairs. There is no mode and no stack.
 --
--- The machine of specs/Private/Machine.antt goes character by character. It keeps the finished pieces, a mode, and the
--- characters of the open piece. A character grows the open piece, closes it, follows it, or is refused. The code in
--- mode.rt equals these steps.
+-- Three machines go through a text, character by character. Each keeps the finished pieces, a mode, and the characters of the
+-- open piece. A character grows the open piece, closes it, follows it, or is refused.
 --
--- The stack of open brackets is no part of the machine's state: it is a fold over the finished pieces (`brackets_of`).
+-- That of specs/Private/Machine.antt knows no fields. proofs/Machine has its steps through each class of pieces.
+--
+-- That of specs/Private/FieldMachine.antt also reads the fields of strings, and keeps those that are open as levels: in each of
+-- them the pieces and brackets before. It is complete (proofs/FieldMachine). It goes through the parts of a string wherever it
+-- goes through the fields among them, and through a list of pieces wherever it goes through the strings among them; so it goes
+-- through fields, by how many stand one in another. Each run says what its characters open, so one proof gives two theorems: the
+-- machine goes through every list that is read, however deep; and where a text has a reading, each character has room. The other
+-- way round, the state tells what is open at a place (WhatIsOpen, OpenCode): the machine comes from the text's start to each
+-- string, list and spot that the definitions call open. It is sound (proofs/FieldSoundness). What it holds, in each mode and of
+-- each field that is open, is stated for any limit on what may stand at a depth, so one proof gives two theorems: where it may
+-- end, its pieces read the text; and they are shallow if each character had room. What it holds says which lists of pieces and
+-- which strings are open, and what is open can be closed, so a text is live exactly if the machine goes through it with room.
+--
+-- That of specs/Private/ScanMachine.antt is the one that the code goes by, in mode.rt and field_scan.rt. To it a string with
+-- fields is one open piece, and the machine with fields says how far that has come. It goes as that machine does (proofs/ScanMachine),
+-- and so is sound, and reaches the end of what is read.
+--
+-- The stack of open brackets is no part of a machine's state: it is a fold over the finished pieces (`brackets_of`).
 -- An operator is finished with its character, so the stack is in step with the text: one step does both (`advance`,
--- proofs/Machine/Advance), and theorems on whole texts go by it. Brackets are in pairs exactly if the stack is empty
+-- proofs/ScanMachine/Advance), and theorems on whole texts go by it. Brackets are in pairs exactly if the stack is empty
 -- at the end (proofs/Pieces).
 --
--- The machine is right (proofs/Machine). It is sound: the pieces that it has found spell what it read, and are read
--- before whatever follows. It is complete: it goes through every list of pieces that is read before what follows, and
--- finds those pieces. So a text has one reading, with or without pairs of brackets. A text is live exactly if the
--- machine goes through it and the stack takes its brackets, since what is open then can be closed. The mode says which
--- string or backslash is open and where it starts, and no other is. The stack says it of brackets.
---
--- Faults (proofs/Faults): the kind and place that mode and stack give, at the first character that the machine refuses
--- or at the end, are those of `IsFaultAt`, and no other kind and place are. So every text is read or has one fault.
+-- Faults (proofs/Faults): where the machine with fields stops, a first cause fits; where a live text isn't read, its state says
+-- what is open at the end. What is open is told by the state alone, so the fault is one, and the state names it: its kind and
+-- place are those of `IsFaultAt`. So every text is read or has one fault.
 --
 -- The lexing of a text (proofs/Lexings, over LogicalLines): the lines that end before the machine stops are the
 -- longest prefix that ends a line, and with the fault they are `IsLexed`. A text has one reading, and one longest
 -- prefix that ends a line, so its logical lines are one list. Its fault is one too: of one kind, at one byte, which
 -- stands after some characters of the text, and these tell its line. From the end of lines that were given, the
 -- machine goes on to the text's end or to its fault, so the lines of the whole text begin with them. A reader at the
--- start has given none, so every text has some lexing.
+-- start has given none, so every text has some lexing. Settled pieces begin all pieces that read more, so their lines are final.
 --
 -- The scan (proofs/LineScan): the code follows the machine through one logical line, and its counts are the line's
 -- fields. Words, spaces, operators, short strings, comments and line ends are taken whole, by runs of bytes, in one
@@ -35,37 +46,19 @@
 -- until the next piece begins (`ReachedShut`). After a line end the machine goes on as it does alone, so the next line
 -- is scanned from its own start.
 --
+-- The scan of a string with fields (proofs/FieldScans): what it keeps is the mode, the place and the frames of that machine's
+-- state (`Follows`, specs/Private/FieldScan), and each character keeps it so.
+--
 -- The reader (proofs/Readers) puts these together for one call: a line, a fault or the end.
 --
 -- Pieces (proofs/Feeds, over Lexings): from the state of the scan, the theorems over plain lists say which lines the
 -- bytes fed settle, and whether they decide a fault. Of the bytes fed no more are taken than up to the line's end, so
 -- a line is ready as soon as it is settled.
 --
--- Strings with fields (proofs/Fields) are read by no code yet: what is proved of them is proved of the definitions alone.
--- Two readings of a text are compared from left to right. The first pieces are the same: two strings with fields by their
--- parts, where each part is told by the characters that follow, and all other pieces by the machine. Where a list of pieces
--- or parts ends, so does the other. Fields are the same if those in them are, so this goes by how many stand one in another.
--- What is open in a text with fields is defined (specs/OpenFields.antt); proofs/OpenFields shows it by rows.
---
--- A machine with fields (specs/Private/FieldMachine.antt, proofs/FieldMachine) stands beside the other until the code reads
--- fields. Its state keeps the fields that are open as levels, and in each of them the pieces and brackets before.
---
--- It is complete (proofs/FieldMachine). It goes through the parts of a string wherever it goes through the fields among them, and
--- through a list of pieces wherever it goes through the strings among them; so it goes through fields, by how many stand one in
--- another. Each run says what its characters open, so one proof gives two theorems: the machine goes through every list that is
--- read, however deep; and where a text has a reading, each character has room. The other way round, the state tells what is open
--- at a place (WhatIsOpen, OpenCode): the machine comes from the text's start to each string, list and spot that the definitions
--- call open.
---
--- It is sound (proofs/FieldSoundness). What it holds, in each mode and of each field that is open, is stated for any limit on
--- what may stand at a depth, so one proof gives two theorems: where it may end, its pieces read the text; and they are shallow
--- if each character had room. What it holds says which lists of pieces and which strings are open, and what is open can be
--- closed, so a text is live exactly if the machine goes through it with room.
---
--- Faults with fields (proofs/FieldFaults): where the machine stops, a first cause fits; where a live text isn't read, its state
--- says what is open at the end. What is open is told by the state alone, so the fault is one. Lexing with fields
--- (proofs/FieldLexings): the machine decides of each prefix whether it is read, so there is a longest one that ends a line.
--- Settled pieces begin all pieces that read more, so their lines are final.
+-- One reading (proofs/Fields): two readings of a text are compared from left to right. The first pieces are the same: two
+-- strings with fields by their parts, where each part is told by the characters that follow, and all other pieces by the machine
+-- without fields. Where a list of pieces or parts ends, so does the other. Fields are the same if those in them are, so this goes
+-- by how many stand one in another. What is open in a text is defined (specs/OpenFields.antt); proofs/OpenFields shows it by rows.
 --
 -- proofs/Text has characters, the bytes that spell them, and vectors of bytes (Lanes). Files named WorkedRows and
 -- DepthRows are rows worked out by hand, on the definitions alone.
@@ -79,8 +72,8 @@ pub mod OpenFields
 pub mod Machine
 pub mod FieldMachine
 pub mod FieldSoundness
-pub mod FieldFaults
-pub mod FieldLexings
+pub mod ScanMachine
+pub mod FieldScans
 pub mod Faults
 pub mod LogicalLines
 pub mod Lexings

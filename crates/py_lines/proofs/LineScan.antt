@@ -1,7 +1,9 @@
 -- The scan of one logical line follows the machine.
 pub mod BracketStack
+pub mod StringSteps
 pub mod PieceEnd
 pub mod NextCharacter
+pub mod StringOpenings
 pub mod LineSteps
 pub mod TextSteps
 pub mod LineCount

@@ -7,7 +7,7 @@ pub mod StringSteps
 pub mod ReadingSteps
 pub mod OpenPieces
 pub mod Soundness
-pub mod Advance
+pub mod FinishedPieces
 pub mod LiveTexts
 pub mod OpenStrings
 pub mod EarlierPieces

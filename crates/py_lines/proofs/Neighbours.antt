@@ -5,7 +5,8 @@ use Rattle.std.proofs.lemmas.Bool.{and_parts, or_parts, both_ways, false_from_ne
 use Rattle.unicode_ident.proofs.Computing.{unicode_ident}
 use Rattle.py_lines.specs.Character.{is_one_of, is_space, is_word_start, is_word_character, is_digit, is_quote, is_operator, is_line_feed, is_return, is_break, is_hash, is_backslash}
 use Rattle.py_lines.specs.Piece.{Class, mark, space, word, string, operator, comment, join, line_end, Piece, begins, ends, is_mark_class, spelled}
-use Rattle.py_lines.specs.PieceGrammar.{InClass, MayPrecede, feed, return_feed, return, is_prefix, AreReadBefore}
+use Rattle.py_lines.specs.PieceGrammar.{feed, return_feed, return}
+use Rattle.py_lines.specs.Fields.{fielded, InClass, MayPrecede, AreReadBefore}
 use Rattle.py_lines.specs.LogicalLine.{is_line_end_class}
 use Rattle.py_lines.specs.Neighbours.{is_simple, is_space_class, is_word_class, may_touch, AreSimple, MayTouch}
 
@@ -111,7 +112,7 @@ touches mark text nc next rest o h = tt
 touches string text nc next rest o h = absurd (cc)
 touches operator text nc next rest o h = tt
 touches space text nc next rest o h = first_of is_space next rest o ∙ no_space nc o.first h o.passes
-touches word text nc next rest o h = let n = no_word nc o.first h o.passes in (first_of is_word_character next rest o ∙ n.0, ap (λ b. is_prefix text && b) (first_of is_quote next rest o ∙ n.1) ∙ apart (is_prefix text))
+touches word text nc next rest o h = let n = no_word nc o.first h o.passes in (first_of is_word_character next rest o ∙ n.0, ap (λ b. fielded.is_prefix text && b) (first_of is_quote next rest o ∙ n.1) ∙ apart (fielded.is_prefix text))
 touches comment text nc next rest o h = inr (first_of is_break next rest o ∙ end_breaks nc o.first h o.passes)
 touches join text nc next rest o h = ap (λ b. ends is_return text && b) (first_of is_line_feed next rest o ∙ sym (ap (begins is_line_feed) o.is)) ∙ not_true _ h
 touches line_end text nc next rest o h = ap (λ b. ends is_return text && b) (first_of is_line_feed next rest o ∙ sym (ap (begins is_line_feed) o.is)) ∙ not_true _ h
@@ -121,7 +122,7 @@ ends_so mark text s = absurd (cc)
 ends_so string text s = absurd (cc)
 ends_so operator text s = tt
 ends_so space text s = refl
-ends_so word text s = (refl, apart (is_prefix text))
+ends_so word text s = (refl, apart (fielded.is_prefix text))
 ends_so comment text s = inl refl
 ends_so join text s = apart (ends is_return text)
 ends_so line_end text s = apart (ends is_return text)

@@ -2,3 +2,4 @@
 pub mod PieceLists
 pub mod TripleQuotes
 pub mod OpenBrackets
+pub mod ShallowPieces

@@ -1,4 +1,6 @@
 -- What the reader of logical lines answers, from one state to the next.
+pub mod StateFaults
+pub mod LineFaults
 pub mod LineAnswers
 pub mod FaultAnswers
 pub mod EndAnswers

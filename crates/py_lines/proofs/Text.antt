@@ -8,3 +8,4 @@ pub mod Utf8Shapes
 pub mod FirstCharacters
 pub mod Incomplete
 pub mod Lanes
+pub mod Splits

@@ -52,6 +52,6 @@ depth_through depth [] = depth
 depth_through depth (p ∷ ps) = depth_through (depth_after depth p) ps
 
 -- no bracket opens at depth 200
-abbrev pub IsShallow : ℕ → List Piece → Type 0
-IsShallow depth [] = Unit {0}
-IsShallow depth (p ∷ ps) = (is_opener p ≡ true → depth < 200) × IsShallow (depth_after depth p) ps
+abbrev pub IsShallowPlain : ℕ → List Piece → Type 0
+IsShallowPlain depth [] = Unit {0}
+IsShallowPlain depth (p ∷ ps) = (is_opener p ≡ true → depth < 200) × IsShallowPlain (depth_after depth p) ps

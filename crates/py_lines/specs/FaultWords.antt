@@ -1,7 +1,7 @@
 -- The label and the words that tell of each fault.
 use Rattle.std.specs.Prelude.{ℕ, List, codes}
 use Rattle.py_lines.specs.declared.fault.FaultKind.{FaultKind}
-use Rattle.py_lines.specs.declared.fault.FaultKind.TheVariants.{BadUtf8, BadChar, OpenString, OpenTriple, WrongClose, OpenBracket, BadJoin, TooDeep, BadImport}
+use Rattle.py_lines.specs.declared.fault.FaultKind.TheVariants.{BadUtf8, BadChar, OpenString, OpenTriple, WrongClose, OpenBracket, BadJoin, TooDeep, BadImport, OpenField}
 
 -- the label and the words of a fault
 abbrev pub fault_words : FaultKind → List ℕ
@@ -14,3 +14,4 @@ fault_words OpenBracket = codes "F6 bracket not closed"
 fault_words BadJoin = codes "F7 backslash not before a line end"
 fault_words TooDeep = codes "F8 more than 200 brackets open"
 fault_words BadImport = codes "F9 import statement not understood"
+fault_words OpenField = codes "F10 field not closed"

@@ -1,18 +1,18 @@
 -- Where the fault of a text stands, and of what kind it is. A text is live up to a place if some text that begins with what
 -- stands before is read. The fault stands at the first character through which the text isn't live; else at the first
--- bytes that begin no character; else at the text's end (`IsFaultAt`).
+-- bytes that begin no character; else at the text's end (`IsFaultAt`). What is open at a place is said by OpenFields.
 use Rattle.std.specs.Prelude.{◌≡◌, ℕ, ◌+◌, ◌⊎◌, true, false, List, [], ◌∷◌, ◌++◌}
-use Rattle.std.specs.Str.{all_scalars}
-use Rattle.std.specs.List.{list_all}
-use Rattle.py_lines.specs.Character.{is_break, is_quote, is_backslash}
+use Rattle.std.specs.Str.{byte, all_scalars}
+use Rattle.py_lines.specs.Character.{is_break}
 use Rattle.py_lines.specs.Piece.{Piece, spelled}
-use Rattle.py_lines.specs.PieceGrammar.{IsPrefix, is_item, is_short_item, joined, has_triple, AreReadBefore}
 use Rattle.py_lines.specs.Balance.{is_opening, is_closing, is_opener, IsBalanced, depth_through}
+use Rattle.py_lines.specs.Reading.{IsBalancedReading}
+use Rattle.py_lines.specs.OpenFields.{Spot, MayOpen, IsOpenString, AreBegun, BeginsList, InOpenShort, InOpenLong, AfterOpenBackslash, InSpecification, InOpenField}
 use Rattle.py_lines.specs.LogicalLine.{byte_len, line_ends}
 use Rattle.py_lines.specs.declared.fault.FaultKind.{FaultKind}
-use Rattle.py_lines.specs.declared.fault.FaultKind.TheVariants.{BadUtf8, BadChar, OpenString, OpenTriple, WrongClose, OpenBracket, BadJoin, TooDeep}
+use Rattle.py_lines.specs.declared.fault.FaultKind.TheVariants.{BadUtf8, BadChar, OpenString, OpenTriple, WrongClose, OpenBracket, BadJoin, TooDeep, OpenField}
 use Rattle.py_lines.specs.declared.fault.Fault.{Fault}
-use Rattle.py_lines.specs.Reading.{IsBalancedReading}
+use Rattle.py_lines.specs.FieldStrings.{Host, Place, literal, specification}
 
 -- some text that begins with these characters is read
 pub record IsLive (characters : List ℕ) : Type 0 where
@@ -21,79 +21,6 @@ pub record IsLive (characters : List ℕ) : Type 0 where
   pub scalars : all_scalars more ≡ true
   pub reading : IsBalancedReading pieces (characters ++ more)
 
--- the items of an open string may have a backslash after them that has nothing to escape yet
-abbrev pub IsUnescaped : List ℕ → Type 0
-IsUnescaped last = (last ≡ []) ⊎ ((slash : ℕ) × (last ≡ slash ∷ []) × (is_backslash slash ≡ true))
-
--- the beginning of a short string, up to where it is still open (2.4.1)
-pub record IsShortPrefix (text : List ℕ) : Type 0 where
-  pub prefix : List ℕ
-  pub quote : ℕ
-  pub items : List (List ℕ)
-  pub last : List ℕ
-  pub spell : text ≡ prefix ++ (quote ∷ joined items ++ last)
-  pub begun : IsPrefix prefix
-  pub opens : is_quote quote ≡ true
-  pub each : list_all (is_short_item quote) items ≡ true
-  pub escapes : IsUnescaped last
-
--- the beginning of a long string, up to where it is still open (2.4.1)
-pub record IsLongPrefix (text : List ℕ) : Type 0 where
-  pub prefix : List ℕ
-  pub quote : ℕ
-  pub items : List (List ℕ)
-  pub last : List ℕ
-  pub spell : text ≡ prefix ++ (quote ∷ quote ∷ quote ∷ joined items ++ last)
-  pub begun : IsPrefix prefix
-  pub opens : is_quote quote ≡ true
-  pub each : list_all is_item items ≡ true
-  pub open_yet : has_triple quote items ≡ false
-  pub escapes : IsUnescaped last
-
--- pieces that spell `start`, and then something that is still open
-pub record Stands (IsOpen : List ℕ → Type 0) (characters start : List ℕ) : Type 0 where
-  pub pieces : List Piece
-  pub rest : List ℕ
-  pub spell : start ++ rest ≡ characters
-  pub before : spelled pieces ≡ start
-  pub fit : AreReadBefore pieces rest
-  pub inside : IsOpen rest
-
--- one backslash
-abbrev pub IsSlash : List ℕ → Type 0
-IsSlash text = (slash : ℕ) × (text ≡ slash ∷ []) × (is_backslash slash ≡ true)
-
--- a short string that starts after `start` is still open
-abbrev pub InShortString : List ℕ → List ℕ → Type 0
-InShortString characters start = Stands IsShortPrefix characters start
-
--- a long string that starts after `start` is still open
-abbrev pub InLongString : List ℕ → List ℕ → Type 0
-InLongString characters start = Stands IsLongPrefix characters start
-
--- a backslash, which stands in no string and no comment, comes after `start`
-abbrev pub AfterBackslash : List ℕ → List ℕ → Type 0
-AfterBackslash characters start = Stands IsSlash characters start
-
--- pieces that read the characters before `c`, with this many brackets open
-pub record IsAtDepth (characters : List ℕ) (c depth : ℕ) : Type 0 where
-  pub pieces : List Piece
-  pub spell : spelled pieces ≡ characters
-  pub fit : AreReadBefore pieces (c ∷ [])
-  pub deep : depth_through 0 pieces ≡ depth
-
--- pieces that read the characters to their end, with an open bracket after `start`: what follows it is balanced,
--- so it is the innermost one
-pub record InBracket (characters start : List ℕ) : Type 0 where
-  pub outer : List Piece
-  pub opener : Piece
-  pub inner : List Piece
-  pub spell : spelled (outer ++ opener ∷ inner) ≡ characters
-  pub fit : AreReadBefore (outer ++ opener ∷ inner) []
-  pub opens : is_opener opener ≡ true
-  pub balanced : IsBalanced inner
-  pub before : spelled outer ≡ start
-
 -- a character through which the text isn't live, although it is before that character
 pub record DiesAt (characters before : List ℕ) (c : ℕ) : Type 0 where
   pub after : List ℕ
@@ -101,17 +28,60 @@ pub record DiesAt (characters before : List ℕ) (c : ℕ) : Type 0 where
   pub live : IsLive before
   pub dead : ¬ (IsLive (before ++ c ∷ []))
 
--- a bare line end in an open short string, which starts at this byte
+-- A string is open up to a spot at this place, where a field may open before these characters, with so many brackets and fields
+-- open. The string starts after `start`.
+pub record IsFieldDue (place : Place) (depth : ℕ) (characters after : List ℕ) : Type 0 where
+  pub outside : List ℕ
+  pub base : ℕ
+  pub pieces : List Piece
+  pub front : List ℕ
+  pub host : Host
+  pub spot : Spot
+  pub list : BeginsList outside (spelled pieces ++ (front ++ byte "{" ∷ after)) base
+  pub begun : AreBegun base pieces (front ++ byte "{" ∷ after)
+  pub string : IsOpenString host spot front (byte "{" ∷ after)
+  pub may : MayOpen spot after
+  pub spell : outside ++ (spelled pieces ++ front) ≡ characters
+  pub place_is : spot.place ≡ place
+  pub deep : base + depth_through 0 pieces + spot.specifications ≡ depth
+
+-- pieces of a list go up to the characters' end, before `c`, with so many brackets and fields open
+pub record IsAtDepth (characters : List ℕ) (c depth : ℕ) : Type 0 where
+  pub outside : List ℕ
+  pub base : ℕ
+  pub pieces : List Piece
+  pub list : BeginsList outside (spelled pieces ++ c ∷ []) base
+  pub begun : AreBegun base pieces (c ∷ [])
+  pub spell : outside ++ spelled pieces ≡ characters
+  pub deep : base + depth_through 0 pieces ≡ depth
+
+-- The `{` of a literal part that stands directly before these characters opens a field at depth 200. That it isn't the first of
+-- two braces is known only here.
+pub record OpensBraceTooDeep (before after : List ℕ) (offset : ℕ) : Type 0 where
+  pub start : List ℕ
+  pub spell : start ++ byte "{" ∷ [] ≡ before
+  pub due : IsFieldDue literal 200 start after
+  pub place : offset ≡ byte_len start
+
+-- a short string is open at its specification
+pub record InShortSpecification (characters start : List ℕ) : Type 0 where
+  pub host : Host
+  pub field : List ℕ
+  pub inside : InSpecification host characters field
+  pub short : host.is_long ≡ false
+  pub before : inside.string ≡ start
+
+-- a bare line end in an open short string, or any in a specification of one: that string starts at this byte
 pub record BreaksString (before : List ℕ) (c offset : ℕ) : Type 0 where
   pub start : List ℕ
   pub breaks : is_break c ≡ true
-  pub inside : InShortString before start
+  pub inside : InOpenShort before start ⊎ InShortSpecification before start
   pub place : offset ≡ byte_len start
 
 -- a character directly after a backslash outside strings and comments, which stands at this byte
 pub record BreaksJoin (before : List ℕ) (offset : ℕ) : Type 0 where
   pub start : List ℕ
-  pub after : AfterBackslash before start
+  pub after : AfterOpenBackslash before start
   pub place : offset ≡ byte_len start
 
 -- a closing bracket
@@ -119,43 +89,59 @@ pub record ClosesWrong (before : List ℕ) (c offset : ℕ) : Type 0 where
   pub closes : is_closing c ≡ true
   pub place : offset ≡ byte_len before
 
--- an opening bracket at depth 200
+-- an opening bracket, or the `{` of a field in a specification, at depth 200
 pub record OpensTooDeep (before : List ℕ) (c offset : ℕ) : Type 0 where
   pub opens : is_opening c ≡ true
-  pub deep : IsAtDepth before c 200
+  pub deep : IsAtDepth before c 200 ⊎ ((c ≡ byte "{") × IsFieldDue specification 200 before [])
   pub place : offset ≡ byte_len before
+
+-- a quote that would close the string whose specification is open: its field opened at this byte
+pub record EndsSpecification (before : List ℕ) (c offset : ℕ) : Type 0 where
+  pub host : Host
+  pub start : List ℕ
+  pub inside : InSpecification host before start
+  pub quotes : c ≡ host.quote
+  pub place : offset ≡ byte_len start
 
 -- why a character is refused
 pub data Cause : Type 0 where
+  brace_too_deep : Cause
   breaks_string : Cause
   breaks_join : Cause
   closes_wrong : Cause
   opens_too_deep : Cause
+  ends_specification : Cause
   begins_nothing : Cause
 
 -- the kind of its fault
 abbrev pub kind_of_cause : Cause → FaultKind
+kind_of_cause brace_too_deep = TooDeep
 kind_of_cause breaks_string = OpenString
 kind_of_cause breaks_join = BadJoin
 kind_of_cause closes_wrong = WrongClose
 kind_of_cause opens_too_deep = TooDeep
+kind_of_cause ends_specification = OpenField
 kind_of_cause begins_nothing = BadChar
 
 -- the cause fits this character after those before it, and its fault stands at this byte
 abbrev pub Explains : Cause → List ℕ → ℕ → ℕ → Type 0
+Explains brace_too_deep before c offset = OpensBraceTooDeep before (c ∷ []) offset
 Explains breaks_string before c offset = BreaksString before c offset
 Explains breaks_join before c offset = BreaksJoin before offset
 Explains closes_wrong before c offset = ClosesWrong before c offset
 Explains opens_too_deep before c offset = OpensTooDeep before c offset
+Explains ends_specification before c offset = EndsSpecification before c offset
 Explains begins_nothing before c offset = offset ≡ byte_len before
 
 -- the causes that go before it where several fit
 abbrev pub causes_before : Cause → List Cause
-causes_before breaks_string = []
-causes_before breaks_join = breaks_string ∷ []
-causes_before closes_wrong = breaks_string ∷ breaks_join ∷ []
-causes_before opens_too_deep = breaks_string ∷ breaks_join ∷ closes_wrong ∷ []
-causes_before begins_nothing = breaks_string ∷ breaks_join ∷ closes_wrong ∷ opens_too_deep ∷ []
+causes_before brace_too_deep = []
+causes_before breaks_string = brace_too_deep ∷ []
+causes_before breaks_join = brace_too_deep ∷ breaks_string ∷ []
+causes_before closes_wrong = brace_too_deep ∷ breaks_string ∷ breaks_join ∷ []
+causes_before opens_too_deep = brace_too_deep ∷ breaks_string ∷ breaks_join ∷ closes_wrong ∷ []
+causes_before ends_specification = brace_too_deep ∷ breaks_string ∷ breaks_join ∷ closes_wrong ∷ opens_too_deep ∷ []
+causes_before begins_nothing = brace_too_deep ∷ breaks_string ∷ breaks_join ∷ closes_wrong ∷ opens_too_deep ∷ ends_specification ∷ []
 
 -- none of these causes fits the character, at any byte
 abbrev pub NoneExplains : List Cause → List ℕ → ℕ → Type 0
@@ -172,36 +158,56 @@ pub record IsCharacterFault (kind : FaultKind) (characters : List ℕ) (offset :
   pub fits : Explains cause before c offset
   pub first : NoneExplains (causes_before cause) before c
 
+-- a bracket of the innermost list is open, after `start`: what follows it is balanced, and goes to the end of the characters
+pub record InOpenBracket (characters start : List ℕ) : Type 0 where
+  pub outside : List ℕ
+  pub depth : ℕ
+  pub outer : List Piece
+  pub opener : Piece
+  pub inner : List Piece
+  pub list : BeginsList outside (spelled (outer ++ opener ∷ inner)) depth
+  pub begun : AreBegun depth (outer ++ opener ∷ inner) []
+  pub opens : is_opener opener ≡ true
+  pub balanced : IsBalanced inner
+  pub spell : outside ++ spelled (outer ++ opener ∷ inner) ≡ characters
+  pub before : outside ++ spelled outer ≡ start
+
 -- what may be open where a text ends
 pub data Unfinished : Type 0 where
+  open_brace : Unfinished
   open_short : Unfinished
   open_long : Unfinished
   open_join : Unfinished
   open_bracket : Unfinished
+  open_inside : Unfinished
 
 -- the kind of its fault
 abbrev pub kind_of_unfinished : Unfinished → FaultKind
+kind_of_unfinished open_brace = TooDeep
 kind_of_unfinished open_short = OpenString
 kind_of_unfinished open_long = OpenTriple
 kind_of_unfinished open_join = BadJoin
 kind_of_unfinished open_bracket = OpenBracket
+kind_of_unfinished open_inside = OpenField
 
--- it is open where these characters end, and starts after `start`: what was opened last decides
-abbrev pub IsOpenAtEnd : Unfinished → List ℕ → List ℕ → Type 0
-IsOpenAtEnd open_short characters start = InShortString characters start
-IsOpenAtEnd open_long characters start = InLongString characters start
-IsOpenAtEnd open_join characters start = AfterBackslash characters start
-IsOpenAtEnd open_bracket characters start = InBracket characters start
+-- It is open where these characters end, and its fault stands at this byte: what was opened last decides. A field whose `{` stands
+-- at the end is not open at depth 200.
+abbrev pub IsOpenAtEnd : Unfinished → List ℕ → ℕ → Type 0
+IsOpenAtEnd open_brace characters offset = OpensBraceTooDeep characters [] offset
+IsOpenAtEnd open_short characters offset = (start : List ℕ) × InOpenShort characters start × (offset ≡ byte_len start)
+IsOpenAtEnd open_long characters offset = (start : List ℕ) × InOpenLong characters start × (offset ≡ byte_len start)
+IsOpenAtEnd open_join characters offset = (start : List ℕ) × AfterOpenBackslash characters start × (offset ≡ byte_len start)
+IsOpenAtEnd open_bracket characters offset = (start : List ℕ) × InOpenBracket characters start × (offset ≡ byte_len start)
+IsOpenAtEnd open_inside characters offset =
+    (start : List ℕ) × InOpenField characters start × (offset ≡ byte_len start) × ((place : ℕ) → ¬ (OpensBraceTooDeep characters [] place))
 
 -- the fault of a text that is UTF-8 and live, but has no reading
 pub record IsEndFault (kind : FaultKind) (characters tail : List ℕ) (offset : ℕ) : Type 0 where
   pub unfinished : Unfinished
-  pub start : List ℕ
   pub is : kind ≡ kind_of_unfinished unfinished
   pub whole : tail ≡ []
   pub live : IsLive characters
-  pub ends_in : IsOpenAtEnd unfinished characters start
-  pub place : offset ≡ byte_len start
+  pub ends_in : IsOpenAtEnd unfinished characters offset
 
 -- bytes that begin no character, after a text that is live up to them
 pub record IsUndecodable (kind : FaultKind) (characters tail : List ℕ) (offset : ℕ) : Type 0 where

@@ -1,12 +1,10 @@
 -- The fields of strings, which hold code, and texts with them. Python Language Reference of Python 3.14, the sections on
 -- f-strings and t-strings.
-use Rattle.std.specs.Prelude.{◌≡◌, ℕ, zero, suc, ◌+◌, ◌<◌, Bool, true, false, ◌==◌, ◌&&◌, List, [], ◌∷◌, ◌++◌}
-use Rattle.std.specs.Str.{byte}
-use Rattle.py_lines.specs.Piece.{string, Piece, begins_marked, spelled}
-use Rattle.py_lines.specs.PieceGrammar.{joined, has_triple, Grammar, AreReadIn, ReadsIn}
+use Rattle.std.specs.Prelude.{◌≡◌, ℕ, zero, suc, ◌+◌, ◌<◌, Bool, true, false, ◌==◌, ◌&&◌, List, [], ◌∷◌, ◌++◌, encode_utf8_all}
+use Rattle.std.specs.Str.{byte, all_scalars}
+use Rattle.py_lines.specs.Piece.{Class, string, Piece, begins_marked, spelled}
+use Rattle.py_lines.specs.PieceGrammar.{joined, has_triple, Grammar, InClassIn, MayPrecedeIn, AreReadIn, ReadsIn}
 use Rattle.py_lines.specs.Balance.{is_operator_that, is_opener, IsBalanced, depth_after}
-use Rattle.py_lines.specs.LogicalLine.{LogicalLine, lines_of}
-use Rattle.py_lines.specs.Reading.{Decodes}
 use Rattle.py_lines.specs.FieldStrings.{Host, specification, AreParts, named_through, with_fields}
 
 -- whether the piece is `:`
@@ -59,6 +57,28 @@ Fields host text = (n : ℕ) × FieldsWithin n host text
 abbrev pub fielded : Grammar
 fielded = with_fields Fields
 
+-- how each class is spelled
+abbrev pub InClass : Class → List ℕ → Type 0
+InClass class text = InClassIn fielded class text
+
+-- what a piece may stand before: `rest` is all that follows it
+abbrev pub MayPrecede : Class → List ℕ → List ℕ → Type 0
+MayPrecede class text rest = MayPrecedeIn fielded class text rest
+
+-- each piece is of its class and may precede what follows it, with `rest` at the end; no mark stands after a piece
+abbrev pub AreReadBefore : List Piece → List ℕ → Type 0
+AreReadBefore pieces rest = AreReadIn fielded pieces rest
+
+-- the pieces read these characters, to the end of the text
+abbrev pub Reads : List Piece → List ℕ → Type 0
+Reads pieces characters = ReadsIn fielded pieces characters
+
+-- the pieces read this text: it is the UTF-8 of their characters
+pub record ReadsText (pieces : List Piece) (text : List ℕ) : Type 0 where
+  pub scalars : all_scalars (spelled pieces) ≡ true
+  pub spell : encode_utf8_all (spelled pieces) ≡ text
+  pub fit : AreReadBefore pieces []
+
 -- No bracket and no field opens at depth 200 in pieces that begin at this depth, where `Shallow` says it of the fields of
 -- a string at each depth: brackets and fields count in one depth.
 abbrev pub IsShallowWith : (Shallow : ℕ → Host → List ℕ → Type 0) → ℕ → List Piece → Type 0
@@ -79,20 +99,5 @@ abbrev pub ShallowFields : ℕ → Host → List ℕ → Type 0
 ShallowFields depth host text = (n : ℕ) × ShallowWithin n depth host text
 
 -- no bracket and no field opens at depth 200 in pieces that begin at this depth
-abbrev pub IsShallowFielded : ℕ → List Piece → Type 0
-IsShallowFielded depth pieces = IsShallowWith ShallowFields depth pieces
-
--- The pieces read these characters whole, as Python 3.12 and later read strings, with brackets in pairs and at most 200
--- brackets and fields open.
-pub record IsFieldReading (pieces : List Piece) (characters : List ℕ) : Type 0 where
-  pub reads : ReadsIn fielded pieces characters
-  pub balanced : IsBalanced pieces
-  pub shallow : IsShallowFielded 0 pieces
-
--- the text is read whole with fields, and these are its logical lines
-pub record IsFieldLexed (text : List ℕ) (lines : List LogicalLine) : Type 0 where
-  pub characters : List ℕ
-  pub pieces : List Piece
-  pub decodes : Decodes text characters []
-  pub reading : IsFieldReading pieces characters
-  pub cut : lines ≡ lines_of pieces
+abbrev pub IsShallow : ℕ → List Piece → Type 0
+IsShallow depth pieces = IsShallowWith ShallowFields depth pieces

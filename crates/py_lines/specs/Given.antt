@@ -1,11 +1,11 @@
 -- The first logical lines of a text, up to a place: without a reader, and without its fault.
 use Rattle.std.specs.Prelude.{◌≡◌, ℕ, ◌+◌, ◌⊎◌, List, [], ◌++◌}
 use Rattle.py_lines.specs.Piece.{Piece, spelled}
-use Rattle.py_lines.specs.PieceGrammar.{AreReadBefore}
-use Rattle.py_lines.specs.Balance.{IsBalanced, IsShallow}
-use Rattle.py_lines.specs.LogicalLine.{LogicalLine, lines_of, byte_len, line_ends}
+use Rattle.py_lines.specs.Balance.{IsBalanced}
+use Rattle.py_lines.specs.Fields.{AreReadBefore, IsShallow}
 use Rattle.py_lines.specs.Reading.{Decodes}
 use Rattle.py_lines.specs.Settled.{EndsForGood}
+use Rattle.py_lines.specs.LogicalLine.{LogicalLine, lines_of, byte_len, line_ends}
 
 -- These are the first logical lines of the text, up to this byte, which is on this line: they are cut from pieces that
 -- are read before the rest, and stay so whatever follows, or the text ends there.

@@ -2,7 +2,7 @@
 use Rattle.std.specs.Prelude.{◌≡◌, ℕ, Bool, true, false, not, ◌&&◌, List, [], ◌∷◌}
 use Rattle.py_lines.specs.Character.{is_line_feed, is_return}
 use Rattle.py_lines.specs.Piece.{Class, mark, space, word, string, operator, comment, join, line_end, Piece, begins, ends, begins_marked, spelled}
-use Rattle.py_lines.specs.PieceGrammar.{InClass}
+use Rattle.py_lines.specs.Fields.{InClass}
 use Rattle.py_lines.specs.LogicalLine.{is_line_end_class}
 
 -- every class except marks and strings

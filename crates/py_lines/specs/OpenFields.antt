@@ -2,14 +2,46 @@
 -- Reference of Python 3.14, the sections on f-strings and t-strings.
 use Rattle.std.specs.Prelude.{◌≡◌, ℕ, ◌+◌, ◌<◌, Bool, true, false, ◌⊎◌, List, [], ◌∷◌, ◌++◌}
 use Rattle.std.specs.Str.{byte}
-use Rattle.std.specs.List.{list_any}
-use Rattle.py_lines.specs.Character.{is_quote, is_r}
+use Rattle.std.specs.List.{list_all, list_any}
+use Rattle.py_lines.specs.Character.{is_quote, is_backslash, is_r}
 use Rattle.py_lines.specs.Piece.{Piece, begins_marked, spelled}
-use Rattle.py_lines.specs.PieceGrammar.{joined, has_triple, AreReadIn}
+use Rattle.py_lines.specs.PieceGrammar.{IsPrefix, is_item, is_short_item, joined, has_triple}
 use Rattle.py_lines.specs.Balance.{IsBalanced, depth_through}
-use Rattle.py_lines.specs.Faults.{IsUnescaped, IsShortPrefix, IsLongPrefix, IsSlash}
+use Rattle.py_lines.specs.Fields.{HasNoColon, AreInside, Fields, fielded, AreReadBefore}
 use Rattle.py_lines.specs.FieldStrings.{is_field_prefix, Host, Place, literal, specification, quotes_of, begins_open, named_through, AreParts}
-use Rattle.py_lines.specs.Fields.{HasNoColon, AreInside, Fields, fielded}
+
+-- the items of an open string may have a backslash after them that has nothing to escape yet
+abbrev pub IsUnescaped : List ℕ → Type 0
+IsUnescaped last = (last ≡ []) ⊎ ((slash : ℕ) × (last ≡ slash ∷ []) × (is_backslash slash ≡ true))
+
+-- the beginning of a short string, up to where it is still open (2.4.1)
+pub record IsShortPrefix (text : List ℕ) : Type 0 where
+  pub prefix : List ℕ
+  pub quote : ℕ
+  pub items : List (List ℕ)
+  pub last : List ℕ
+  pub spell : text ≡ prefix ++ (quote ∷ joined items ++ last)
+  pub begun : IsPrefix prefix
+  pub opens : is_quote quote ≡ true
+  pub each : list_all (is_short_item quote) items ≡ true
+  pub escapes : IsUnescaped last
+
+-- the beginning of a long string, up to where it is still open (2.4.1)
+pub record IsLongPrefix (text : List ℕ) : Type 0 where
+  pub prefix : List ℕ
+  pub quote : ℕ
+  pub items : List (List ℕ)
+  pub last : List ℕ
+  pub spell : text ≡ prefix ++ (quote ∷ quote ∷ quote ∷ joined items ++ last)
+  pub begun : IsPrefix prefix
+  pub opens : is_quote quote ≡ true
+  pub each : list_all is_item items ≡ true
+  pub open_yet : has_triple quote items ≡ false
+  pub escapes : IsUnescaped last
+
+-- one backslash
+abbrev pub IsSlash : List ℕ → Type 0
+IsSlash text = (slash : ℕ) × (text ≡ slash ∷ []) × (is_backslash slash ≡ true)
 
 -- Where a place between two parts of a string is: in its literal part or in a specification; whether braces stand for
 -- themselves there; in how many specifications, one in another; and what of the string stands before the `{` of the field
@@ -52,7 +84,7 @@ pub data IsOpenString (host : Host) : Spot → List ℕ → List ℕ → Type 0 
 -- The first pieces of a list, at this depth, before the rest: others after them would balance it. In a field, which stands at
 -- a depth above 0, none of them is a mark, and no `:` stands outside brackets.
 pub record AreBegun (depth : ℕ) (pieces : List Piece) (rest : List ℕ) : Type 0 where
-  pub fit : AreReadIn fielded pieces rest
+  pub fit : AreReadBefore pieces rest
   pub others : List Piece
   pub balanced : IsBalanced (pieces ++ others)
   pub inside : 0 < depth → (begins_marked pieces ≡ false) × HasNoColon 0 pieces

@@ -1,6 +1,5 @@
 -- The grammar of pieces: how each class is spelled, and what may follow it. Python Language Reference, chapter 2.
-use Rattle.std.specs.Prelude.{◌≡◌, ℕ, Bool, true, false, not, ◌==◌, ◌||◌, ◌&&◌, ◌⊎◌, List, [], ◌∷◌, ◌++◌, encode_utf8_all, codes}
-use Rattle.std.specs.Str.{all_scalars}
+use Rattle.std.specs.Prelude.{◌≡◌, ℕ, Bool, true, false, not, ◌==◌, ◌||◌, ◌&&◌, ◌⊎◌, List, [], ◌∷◌, ◌++◌, codes}
 use Rattle.std.specs.List.{list_all, list_any}
 use Rattle.py_lines.specs.Character.{is_mark, is_space, is_word_character, is_word_start, is_quote, is_operator, is_line_feed, is_return, is_break, is_hash, is_backslash, is_barred, is_r, is_b, is_f, is_u}
 use Rattle.py_lines.specs.Piece.{Class, mark, space, word, string, operator, comment, join, line_end, Piece, begins, ends, spelled, begins_marked}
@@ -127,8 +126,8 @@ InClassIn grammar comment text = IsComment text
 InClassIn grammar join text = IsJoin text
 InClassIn grammar line_end text = IsLineEnd text
 
-abbrev pub InClass : Class → List ℕ → Type 0
-InClass class text = InClassIn without_fields class text
+abbrev pub InPlainClass : Class → List ℕ → Type 0
+InPlainClass class text = InClassIn without_fields class text
 
 -- What a piece may stand before: `rest` is all that follows it. Spaces and words are as long as can be, a prefix
 -- isn't cut from its string, two quotes aren't the beginning of three, a comment goes to the line's end, and CR isn't
@@ -145,8 +144,8 @@ MayPrecedeIn grammar comment text rest = (rest ≡ []) ⊎ (begins is_break rest
 MayPrecedeIn grammar join text rest = ends is_return text && begins is_line_feed rest ≡ false
 MayPrecedeIn grammar line_end text rest = ends is_return text && begins is_line_feed rest ≡ false
 
-abbrev pub MayPrecede : Class → List ℕ → List ℕ → Type 0
-MayPrecede class text rest = MayPrecedeIn without_fields class text rest
+abbrev pub MayPrecedePlain : Class → List ℕ → List ℕ → Type 0
+MayPrecedePlain class text rest = MayPrecedeIn without_fields class text rest
 
 -- each piece is of its class and may precede what follows it, with `rest` at the end; no mark stands after a piece
 abbrev pub AreReadIn : Grammar → List Piece → List ℕ → Type 0
@@ -155,19 +154,13 @@ AreReadIn grammar (p ∷ ps) rest =
     InClassIn grammar p.class p.text × MayPrecedeIn grammar p.class p.text (spelled ps ++ rest) × (begins_marked ps ≡ false)
     × AreReadIn grammar ps rest
 
-abbrev pub AreReadBefore : List Piece → List ℕ → Type 0
-AreReadBefore pieces rest = AreReadIn without_fields pieces rest
+abbrev pub AreReadPlain : List Piece → List ℕ → Type 0
+AreReadPlain pieces rest = AreReadIn without_fields pieces rest
 
 -- the pieces read these characters, to the end of the text
 pub record ReadsIn (grammar : Grammar) (pieces : List Piece) (characters : List ℕ) : Type 0 where
   pub spell : spelled pieces ≡ characters
   pub fit : AreReadIn grammar pieces []
 
-abbrev pub Reads : List Piece → List ℕ → Type 0
-Reads pieces characters = ReadsIn without_fields pieces characters
-
--- the pieces read this text: it is the UTF-8 of their characters
-pub record ReadsText (pieces : List Piece) (text : List ℕ) : Type 0 where
-  pub scalars : all_scalars (spelled pieces) ≡ true
-  pub spell : encode_utf8_all (spelled pieces) ≡ text
-  pub fit : AreReadBefore pieces []
+abbrev pub ReadsPlain : List Piece → List ℕ → Type 0
+ReadsPlain pieces characters = ReadsIn without_fields pieces characters

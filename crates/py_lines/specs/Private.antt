@@ -2,6 +2,9 @@
 -- and the reader of lines. No public contract names a word of these files.
 pub mod Machine
 pub mod FieldMachine
+pub mod ScanMachine
+pub mod FieldFlaws
+pub mod FieldScan
 pub mod Scan
 pub mod LineState
 pub mod Source

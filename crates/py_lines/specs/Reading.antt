@@ -3,8 +3,8 @@
 use Rattle.std.specs.Prelude.{◌≡◌, ℕ, ◌≤◌, ◌⊎◌, true, List, [], ◌∷◌, ◌++◌, length, encode_utf8_all}
 use Rattle.std.specs.Str.{all_scalars, StartsWithNoChar}
 use Rattle.py_lines.specs.Piece.{line_end, Piece, spelled}
-use Rattle.py_lines.specs.PieceGrammar.{AreReadBefore}
-use Rattle.py_lines.specs.Balance.{IsBalanced, IsShallow, depth_through}
+use Rattle.py_lines.specs.Balance.{IsBalanced, depth_through}
+use Rattle.py_lines.specs.Fields.{Reads, IsShallow}
 
 -- the bytes are the UTF-8 of these characters, and then `tail`, which begins with no character
 pub record Decodes (text characters tail : List ℕ) : Type 0 where
@@ -12,10 +12,9 @@ pub record Decodes (text characters tail : List ℕ) : Type 0 where
   pub spell : encode_utf8_all characters ++ tail ≡ text
   pub bad : StartsWithNoChar tail
 
--- the pieces read these characters whole, with their brackets in pairs and at most 200 open
+-- the pieces read these characters whole, with brackets in pairs and at most 200 brackets and fields open
 pub record IsBalancedReading (pieces : List Piece) (characters : List ℕ) : Type 0 where
-  pub spell : spelled pieces ≡ characters
-  pub fit : AreReadBefore pieces []
+  pub reads : Reads pieces characters
   pub balanced : IsBalanced pieces
   pub shallow : IsShallow 0 pieces
 
@@ -31,10 +30,14 @@ AreLongest EndSo pieces characters =
     (others : List Piece) (after : List ℕ) → spelled others ++ after ≡ characters → IsBalancedReading others (spelled others)
     → EndSo others after → length (spelled others) ≤ length (spelled pieces)
 
--- the pieces read a prefix of the characters that ends a line, the longest that there is
-pub record IsReadPrefix (pieces : List Piece) (characters : List ℕ) : Type 0 where
+-- the pieces read a prefix of the characters that ends so, the longest that there is
+pub record IsLongest (EndSo : List Piece → List ℕ → Type 0) (pieces : List Piece) (characters : List ℕ) : Type 0 where
   pub rest : List ℕ
   pub spell : spelled pieces ++ rest ≡ characters
   pub reading : IsBalancedReading pieces (spelled pieces)
-  pub ended : EndsLine pieces
-  pub longest : AreLongest (λ others after. EndsLine others) pieces characters
+  pub ended : EndSo pieces rest
+  pub longest : AreLongest EndSo pieces characters
+
+-- a prefix that ends a line
+abbrev pub IsReadPrefix : List Piece → List ℕ → Type 0
+IsReadPrefix pieces characters = IsLongest (λ others after. EndsLine others) pieces characters

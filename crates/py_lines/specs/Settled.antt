@@ -4,7 +4,7 @@ use Rattle.std.specs.Str.{StartsWithNoChar}
 use Rattle.py_lines.specs.Character.{is_return}
 use Rattle.py_lines.specs.Piece.{Piece, ends, spelled}
 use Rattle.py_lines.specs.LogicalLine.{LogicalLine, lines_of}
-use Rattle.py_lines.specs.Reading.{Decodes, IsBalancedReading, EndsLine, AreLongest}
+use Rattle.py_lines.specs.Reading.{Decodes, EndsLine, IsLongest}
 use Rattle.py_lines.specs.Faults.{IsCharacterFault, IsLexicalFault}
 use Rattle.py_lines.specs.declared.fault.FaultKind.{FaultKind}
 use Rattle.py_lines.specs.declared.fault.FaultKind.TheVariants.{BadUtf8}
@@ -14,13 +14,9 @@ use Rattle.py_lines.specs.declared.fault.Fault.{Fault}
 abbrev pub EndsForGood : List Piece → List ℕ → Type 0
 EndsForGood pieces rest = EndsLine pieces × (rest ≡ [] → ends is_return (spelled pieces) ≡ false)
 
--- the pieces read a prefix of the text that ends a line for good, the longest that there is
-pub record IsSettledPrefix (pieces : List Piece) (characters tail : List ℕ) : Type 0 where
-  pub rest : List ℕ
-  pub spell : spelled pieces ++ rest ≡ characters
-  pub reading : IsBalancedReading pieces (spelled pieces)
-  pub ended : EndsForGood pieces (rest ++ tail)
-  pub longest : AreLongest (λ others after. EndsForGood others (after ++ tail)) pieces characters
+-- a prefix that ends a line for good, where these bytes follow the characters
+abbrev pub IsSettledPrefix : List Piece → List ℕ → List ℕ → Type 0
+IsSettledPrefix pieces characters tail = IsLongest (λ others after. EndsForGood others (after ++ tail)) pieces characters
 
 -- the logical lines that these bytes settle: every text that begins with them begins with these lines
 pub record IsSettled (text : List ℕ) (lines : List LogicalLine) : Type 0 where

@@ -38,7 +38,7 @@ pub struct Brackets {
 
 impl Brackets {
     ghost use Rattle.py_lines.specs.Private.Run.{may_stand};
-    ghost use Rattle.py_lines.specs.Private.Scan.{stack_of, none_open, IsInnermost, Meets};
+    ghost use Rattle.py_lines.specs.Private.Scan.{stack_of, depth_of, none_open, IsInnermost, Meets};
 
     /// No bracket is open.
     pub fn new(alloc: Global) -> Brackets
@@ -54,6 +54,13 @@ impl Brackets {
         ensures { stack_of self.new ≡ [] }
     {
         self.open.clear();
+    }
+
+    /// How many brackets are open.
+    pub fn len(&self) -> usize
+        ensures { result ≡ depth_of self.now }
+    {
+        self.open.len()
     }
 
     /// Whether no bracket is open.

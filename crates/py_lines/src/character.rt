@@ -1,7 +1,7 @@
 //! Which characters the pieces of a text are made of (Python Language Reference, 2.1 to 2.6).
 
 ghost use Rattle.std.specs.Prelude.{◌≡◌};
-ghost use Rattle.py_lines.specs.Character.{is_mark, is_space, is_word_character, is_word_start, is_digit, is_quote, is_operator, is_line_feed, is_return, is_break, is_hash, is_backslash, is_r, is_b, is_f, is_u};
+ghost use Rattle.py_lines.specs.Character.{is_mark, is_space, is_word_character, is_word_start, is_digit, is_quote, is_operator, is_line_feed, is_return, is_break, is_hash, is_backslash, is_brace, is_r, is_b, is_f, is_t, is_u};
 ghost use Rattle.py_lines.specs.Balance.{is_opening, is_closing};
 
 use crate::run::is_ascii_word;
@@ -135,6 +135,14 @@ pub fn is_backslash(c: char) -> bool
     c == '\\'
 }
 
+/// `{` and `}`.
+#[tactic(auto, unfolding(crate::specs::Character::is_brace))]
+pub fn is_brace(c: char) -> bool
+    ensures { result ≡ is_brace c }
+{
+    matches!(c, '{' | '}')
+}
+
 /// `r` in either case, in the prefix of a string.
 #[tactic(auto, unfolding(crate::specs::Character::is_r))]
 pub fn is_r(c: char) -> bool
@@ -157,6 +165,14 @@ pub fn is_f(c: char) -> bool
     ensures { result ≡ is_f c }
 {
     matches!(c, 'f' | 'F')
+}
+
+/// `t` in either case, in the prefix of a string.
+#[tactic(auto, unfolding(crate::specs::Character::is_t))]
+pub fn is_t(c: char) -> bool
+    ensures { result ≡ is_t c }
+{
+    matches!(c, 't' | 'T')
 }
 
 /// `u` in either case, in the prefix of a string.

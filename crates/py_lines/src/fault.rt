@@ -28,6 +28,8 @@ pub enum FaultKind {
     TooDeep,
     /// An import statement that isn't in the import grammar.
     BadImport,
+    /// The text's end in a field of a string, or a closing quote in a field's format specification.
+    OpenField,
 }
 
 impl FaultKind {
@@ -45,6 +47,7 @@ impl FaultKind {
             FaultKind::BadJoin => "F7 backslash not before a line end",
             FaultKind::TooDeep => "F8 more than 200 brackets open",
             FaultKind::BadImport => "F9 import statement not understood",
+            FaultKind::OpenField => "F10 field not closed",
         }
     }
 }

@@ -5,10 +5,10 @@ ghost use Rattle.std.specs.Char.{is_ascii_alphabetic};
 ghost use Rattle.std.specs.List.{list_all, list_any};
 ghost use Rattle.py_lines.specs.Character.{is_break};
 ghost use Rattle.py_lines.specs.Piece.{Piece, spelled};
-ghost use Rattle.py_lines.specs.PieceGrammar.{AreReadBefore, IsWord, Reads, ReadsIn, ReadsText};
+ghost use Rattle.py_lines.specs.PieceGrammar.{IsWord, ReadsPlain};
 ghost use Rattle.py_lines.specs.FieldStrings.{Host, may_have_fields};
-ghost use Rattle.py_lines.specs.Fields.{IsField, AnyPieces, Fields, fielded, IsShallowFielded, ShallowFields, IsFieldReading, IsFieldLexed};
-ghost use Rattle.py_lines.specs.FieldLexed.{FieldFault, IsLexedWithFields, IsSettledWithFields};
+ghost use Rattle.py_lines.specs.Fields.{IsField, AnyPieces, Fields, fielded, AreReadBefore, Reads, ReadsText, IsShallow, ShallowFields};
+ghost use Rattle.py_lines.specs.WithoutFields.{IsPlainReading, IsPlainLexed};
 ghost use Rattle.py_lines.specs.LogicalLine.{LogicalLine, cut, line_of};
 ghost use Rattle.py_lines.specs.Reading.{Decodes, IsBalancedReading, EndsLine};
 ghost use Rattle.py_lines.specs.Faults.{IsFaultAt, IsReadOrFaulty};
@@ -22,32 +22,9 @@ ghost use Rattle.py_lines.specs.declared.fault.Fault.{Fault};
 ghost use Rattle.py_lines.specs.declared.fault.FaultKind.{FaultKind};
 
 /// A text has at most one reading: pieces that read the same characters, or the same bytes, are the same.
-#[tactic(auto, using(crate::proofs::Machine::ReadingSteps::one_reading_of, crate::proofs::Machine::ReadingSteps::one_reading_of_text))]
 pub fn one_reading()
     ensures of_characters { (pieces others : List Piece) (characters : List ℕ) → Reads pieces characters → Reads others characters → pieces ≡ others }
     ensures of_text { (pieces others : List Piece) (text : List ℕ) → ReadsText pieces text → ReadsText others text → pieces ≡ others }
-{}
-
-/// A text has at most one reading with fields in strings too, however deep they stand in one another. So it has at most one
-/// list of logical lines.
-pub fn one_reading_with_fields()
-    ensures of_characters { (pieces others : List Piece) (characters : List ℕ) → ReadsIn fielded pieces characters → ReadsIn fielded others characters → pieces ≡ others }
-    ensures of_lines { (text : List ℕ) (lines others : List LogicalLine) → IsFieldLexed text lines → IsFieldLexed text others → lines ≡ others }
-{}
-
-/// Read with fields in strings, a text has one list of logical lines, and after it its end or one fault.
-pub fn one_lexing_with_fields()
-    ensures some { (text : List ℕ) → (lines : List LogicalLine) × (end : Option FieldFault) × IsLexedWithFields text lines end }
-    ensures one { (text : List ℕ) (lines others : List LogicalLine) (end other : Option FieldFault) → IsLexedWithFields text lines end → IsLexedWithFields text others other → (lines ≡ others) × (end ≡ other) }
-{}
-
-/// What the known bytes of a text settle with fields in strings stays, whatever follows them. Any bytes settle one list of
-/// lines, which begins the lines of each text that begins with them, and more bytes settle no fewer lines.
-pub fn settled_with_fields_is_final()
-    ensures some { (text : List ℕ) → (lines : List LogicalLine) × IsSettledWithFields text lines }
-    ensures one { (text : List ℕ) (lines others : List LogicalLine) → IsSettledWithFields text lines → IsSettledWithFields text others → lines ≡ others }
-    ensures lines { (text more : List ℕ) (lines others : List LogicalLine) (end : Option FieldFault) → IsSettledWithFields text lines → IsLexedWithFields (text ++ more) others end → (rest : List LogicalLine) × (others ≡ lines ++ rest) }
-    ensures grow { (text more : List ℕ) (lines others : List LogicalLine) → IsSettledWithFields text lines → IsSettledWithFields (text ++ more) others → (rest : List LogicalLine) × (others ≡ lines ++ rest) }
 {}
 
 /// Fields are defined by how many of them stand one in another, and this says no less than the plain words: a field holds
@@ -56,8 +33,8 @@ pub fn settled_with_fields_is_final()
 pub fn fields_hold_fields()
     ensures whole { (host : Host) (text : List ℕ) → IsField fielded AnyPieces Fields host text → Fields host text }
     ensures parts { (host : Host) (text : List ℕ) → Fields host text → IsField fielded AnyPieces Fields host text }
-    ensures shallow_whole { (depth : ℕ) (host : Host) (text : List ℕ) → depth < 200 → IsField fielded (IsShallowFielded (depth + 1)) (ShallowFields (depth + 1)) host text → ShallowFields depth host text }
-    ensures shallow_parts { (depth : ℕ) (host : Host) (text : List ℕ) → ShallowFields depth host text → (depth < 200) × IsField fielded (IsShallowFielded (depth + 1)) (ShallowFields (depth + 1)) host text }
+    ensures shallow_whole { (depth : ℕ) (host : Host) (text : List ℕ) → depth < 200 → IsField fielded (IsShallow (depth + 1)) (ShallowFields (depth + 1)) host text → ShallowFields depth host text }
+    ensures shallow_parts { (depth : ℕ) (host : Host) (text : List ℕ) → ShallowFields depth host text → (depth < 200) × IsField fielded (IsShallow (depth + 1)) (ShallowFields (depth + 1)) host text }
 {}
 
 /// A text is read or has a lexical fault, and its fault is one: of one kind, at one byte.
@@ -100,12 +77,12 @@ pub fn settled_is_final()
 /// A text in which neither `f` nor `t`, alone or followed by `r`, stands directly before a quote is read by the same pieces
 /// whether strings hold fields or not, and these are as deep. So it has the same logical lines.
 pub fn fields_change_nothing_elsewhere()
-    ensures read_with { (pieces : List Piece) (characters : List ℕ) → may_have_fields characters ≡ false → Reads pieces characters → ReadsIn fielded pieces characters }
-    ensures read_without { (pieces : List Piece) (characters : List ℕ) → may_have_fields characters ≡ false → ReadsIn fielded pieces characters → Reads pieces characters }
-    ensures balanced_with { (pieces : List Piece) (characters : List ℕ) → may_have_fields characters ≡ false → IsBalancedReading pieces characters → IsFieldReading pieces characters }
-    ensures balanced_without { (pieces : List Piece) (characters : List ℕ) → may_have_fields characters ≡ false → IsFieldReading pieces characters → IsBalancedReading pieces characters }
-    ensures lines_with { (text characters : List ℕ) (lines : List LogicalLine) → Decodes text characters [] → may_have_fields characters ≡ false → IsLexed text lines None → IsFieldLexed text lines }
-    ensures lines_without { (text characters : List ℕ) (lines : List LogicalLine) → Decodes text characters [] → may_have_fields characters ≡ false → IsFieldLexed text lines → IsLexed text lines None }
+    ensures read_with { (pieces : List Piece) (characters : List ℕ) → may_have_fields characters ≡ false → ReadsPlain pieces characters → Reads pieces characters }
+    ensures read_without { (pieces : List Piece) (characters : List ℕ) → may_have_fields characters ≡ false → Reads pieces characters → ReadsPlain pieces characters }
+    ensures balanced_with { (pieces : List Piece) (characters : List ℕ) → may_have_fields characters ≡ false → IsPlainReading pieces characters → IsBalancedReading pieces characters }
+    ensures balanced_without { (pieces : List Piece) (characters : List ℕ) → may_have_fields characters ≡ false → IsBalancedReading pieces characters → IsPlainReading pieces characters }
+    ensures lines_with { (text characters : List ℕ) (lines : List LogicalLine) → Decodes text characters [] → may_have_fields characters ≡ false → IsPlainLexed text lines → IsLexed text lines None }
+    ensures lines_without { (text characters : List ℕ) (lines : List LogicalLine) → Decodes text characters [] → may_have_fields characters ≡ false → IsLexed text lines None → IsPlainLexed text lines }
 {}
 
 /// A word holds no line end.

@@ -6,6 +6,8 @@ mod character;
 mod count;
 mod fault;
 mod feed;
+mod field_scan;
+mod host;
 pub mod laws;
 mod line_state;
 mod lines;

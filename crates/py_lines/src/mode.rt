@@ -1,14 +1,16 @@
 //! The machine that reads a text one character at a time.
 
 ghost use Rattle.std.specs.Prelude.{◌≡◌, ◌<◌, ◌==◌, ◌||◌, ◌&&◌, length};
-ghost use Rattle.py_lines.specs.Private.Machine.{first_spelling, spelling_with, is_prefix_spelling, token_of, short_move, long_move, move_of, start_of, in_short, in_long, is_after_backslash};
+ghost use Rattle.py_lines.specs.Private.Machine.{first_spelling, spelling_with, token_of, short_move, long_move, start_of, in_short, in_long, is_after_backslash};
+ghost use Rattle.py_lines.specs.Private.ScanMachine.{is_field_spelling, is_raw_spelling, begins_string, quote_move, opened_move, meet_of};
 ghost use Rattle.py_lines.specs.Private.Run.{word_spelling, is_free};
 ghost use Rattle.py_lines.specs.Private.Scan.{is_join_mode, is_return_mode, holds_nothing};
 
 use crate::character::{
     is_b, is_backslash, is_break, is_digit, is_f, is_hash, is_line_feed, is_mark, is_operator,
-    is_quote, is_r, is_return, is_space, is_u, is_word_character, is_word_start,
+    is_quote, is_r, is_return, is_space, is_t, is_u, is_word_character, is_word_start,
 };
+use crate::host::Host;
 use crate::token::TokKind;
 
 /// Whether a word may be the prefix of a string, as far as it goes.
@@ -16,7 +18,7 @@ use crate::token::TokKind;
 pub enum Spelling {
     /// A digit came first.
     Number,
-    /// `r`: a prefix, and with `b` or `f` after it one of two letters.
+    /// `r`: a prefix, and with `b`, `f` or `t` after it one of two letters.
     R,
     /// `b`: a prefix, and with `r` after it one of two letters.
     B,
@@ -24,6 +26,10 @@ pub enum Spelling {
     F,
     /// `f` and `r`, in either order: a prefix.
     Fr,
+    /// `t`: a prefix, and with `r` after it one of two letters.
+    T,
+    /// `t` and `r`, in either order: a prefix.
+    Tr,
     /// Any other prefix.
     Prefix,
     /// No prefix.
@@ -58,6 +64,12 @@ pub enum Mode {
     LongTwo(char),
     /// After a backslash in a long string.
     LongEscape(char),
+    /// After one quote of a string with fields.
+    FieldOpened(Host),
+    /// After two quotes of a string with fields.
+    FieldEmpty(Host),
+    /// In a string with fields that holds something, or that three quotes begin. How far it has come, its `FieldScan` says.
+    Fielded,
     /// After a backslash outside strings and comments.
     Backslash,
     /// After a backslash and CR: LF may belong to them.
@@ -98,6 +110,8 @@ impl Spelling {
             Spelling::B
         } else if is_f(c) {
             Spelling::F
+        } else if is_t(c) {
+            Spelling::T
         } else if is_u(c) {
             Spelling::Prefix
         } else {
@@ -114,8 +128,10 @@ impl Spelling {
             Spelling::Number => Spelling::Number,
             Spelling::R if is_b(c) => Spelling::Prefix,
             Spelling::R if is_f(c) => Spelling::Fr,
+            Spelling::R if is_t(c) => Spelling::Tr,
             Spelling::B if is_r(c) => Spelling::Prefix,
             Spelling::F if is_r(c) => Spelling::Fr,
+            Spelling::T if is_r(c) => Spelling::Tr,
             _ => Spelling::Name,
         }
     }
@@ -134,9 +150,58 @@ impl Spelling {
 
     /// Whether the word spells the prefix of a string.
     fn is_prefix(self) -> bool
-        ensures { result ≡ is_prefix_spelling self }
+        ensures { result ≡ begins_string self }
     {
         !matches!(self, Spelling::Number | Spelling::Name)
+    }
+
+    /// Whether the word spells the prefix of a string with fields.
+    fn has_fields(self) -> bool
+        ensures { result ≡ is_field_spelling self }
+    {
+        matches!(
+            self,
+            Spelling::F | Spelling::Fr | Spelling::T | Spelling::Tr
+        )
+    }
+
+    /// Whether `r` is in the prefix of a string with fields.
+    fn is_raw(self) -> bool
+        ensures { result ≡ is_raw_spelling self }
+    {
+        matches!(self, Spelling::Fr | Spelling::Tr)
+    }
+}
+
+/// What a quote does after a word.
+#[tactic(auto, unfolding(crate::specs::Private::ScanMachine::quote_move))]
+fn quote_move(spelling: Spelling, quote: char) -> Move
+    ensures { result ≡ quote_move spelling quote }
+{
+    if spelling.has_fields() {
+        Move::Grows(Mode::FieldOpened(Host {
+            quote,
+            is_long: false,
+            is_raw: spelling.is_raw(),
+        }))
+    } else if spelling.is_prefix() {
+        Move::Grows(Mode::Opened(quote))
+    } else {
+        Move::Breaks
+    }
+}
+
+/// What a character does after one quote of a string with fields.
+#[tactic(auto, unfolding(crate::specs::Private::ScanMachine::opened_move))]
+fn opened_move(host: Host, c: char) -> Move
+    ensures { result ≡ opened_move host c }
+{
+    if c == host.quote {
+        Move::Grows(Mode::FieldEmpty(host))
+    } else if is_break(c) {
+        Move::Refused
+    } else {
+        Move::Grows(Mode::Fielded)
     }
 }
 
@@ -185,7 +250,10 @@ impl Mode {
             | Mode::Long(_)
             | Mode::LongOne(_)
             | Mode::LongTwo(_)
-            | Mode::LongEscape(_) => Some(TokKind::Str),
+            | Mode::LongEscape(_)
+            | Mode::FieldOpened(_)
+            | Mode::FieldEmpty(_)
+            | Mode::Fielded => Some(TokKind::Str),
         }
     }
 
@@ -223,17 +291,25 @@ impl Mode {
     {
         matches!(
             self,
-            Mode::Opened(_) | Mode::Inside(_) | Mode::Escape(_) | Mode::EscapeReturn(_)
+            Mode::Opened(_)
+                | Mode::Inside(_)
+                | Mode::Escape(_)
+                | Mode::EscapeReturn(_)
+                | Mode::FieldOpened(_)
         )
     }
 
-    /// Whether a long string is open.
+    /// Whether a long string is open, or one with fields that holds something.
     pub fn in_long(self) -> bool
         ensures { result ≡ in_long self }
     {
         matches!(
             self,
-            Mode::Long(_) | Mode::LongOne(_) | Mode::LongTwo(_) | Mode::LongEscape(_)
+            Mode::Long(_)
+                | Mode::LongOne(_)
+                | Mode::LongTwo(_)
+                | Mode::LongEscape(_)
+                | Mode::Fielded
         )
     }
 
@@ -244,10 +320,10 @@ impl Mode {
         matches!(self, Mode::Backslash)
     }
 
-    /// What the next character does to the open piece.
-    #[tactic(auto, unfolding(crate::specs::Private::Machine::move_of))]
+    /// What the next character does to the open piece. In a string with fields its `FieldScan` says it.
+    #[tactic(auto, unfolding(crate::specs::Private::Machine::move_of, crate::specs::Private::ScanMachine::meet_of))]
     pub fn meet(self, c: char) -> Move
-        ensures { result ≡ move_of self c }
+        ensures { result ≡ meet_of self c }
     {
         match self {
             Mode::Start if is_mark(c) => Move::Closes,
@@ -258,9 +334,7 @@ impl Mode {
             Mode::Word(spelling) if is_word_character(c) => Move::Grows(Mode::Word(spelling.with(
                 c,
             ))),
-            Mode::Word(spelling) if spelling.is_prefix() && is_quote(c) => {
-                Move::Grows(Mode::Opened(c))
-            }
+            Mode::Word(spelling) if is_quote(c) => quote_move(spelling, c),
             Mode::Word(_) => Move::Breaks,
             Mode::Comment if is_break(c) => Move::Breaks,
             Mode::Comment => Move::Grows(Mode::Comment),
@@ -282,6 +356,10 @@ impl Mode {
             Mode::LongTwo(quote) if c == quote => Move::Closes,
             Mode::LongTwo(quote) => long_move(quote, c),
             Mode::LongEscape(quote) => Move::Grows(Mode::Long(quote)),
+            Mode::FieldOpened(host) => opened_move(host, c),
+            Mode::FieldEmpty(host) if c == host.quote => Move::Grows(Mode::Fielded),
+            Mode::FieldEmpty(_) => Move::Breaks,
+            Mode::Fielded => Move::Refused,
             Mode::Backslash if is_line_feed(c) => Move::Closes,
             Mode::Backslash if is_return(c) => Move::Grows(Mode::JoinReturn),
             Mode::Backslash => Move::Refused,

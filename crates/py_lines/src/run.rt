@@ -176,7 +176,7 @@ fn set_first(mask: u8x16) -> usize
 
 /// What the bytes of a run are.
 #[derive(Clone, Copy)]
-pub enum Run {
+pub enum ByteRun {
     /// ASCII letters, digits and underscores.
     Word,
     /// Spaces, tabs and form feeds.
@@ -189,17 +189,17 @@ pub enum Run {
     Remark,
 }
 
-impl Run {
+impl ByteRun {
     /// Whether the byte is one of them.
     fn holds(self, b: u8) -> bool
         ensures { result ≡ is_in_run self b }
     {
         match self {
-            Run::Word => is_ascii_word(b),
-            Run::Space => is_space_byte(b),
-            Run::Body(quote) => is_body_byte(quote, b),
-            Run::Text(quote) => is_text_byte(quote, b),
-            Run::Remark => is_remark_byte(b),
+            ByteRun::Word => is_ascii_word(b),
+            ByteRun::Space => is_space_byte(b),
+            ByteRun::Body(quote) => is_body_byte(quote, b),
+            ByteRun::Text(quote) => is_text_byte(quote, b),
+            ByteRun::Remark => is_remark_byte(b),
         }
     }
 
@@ -209,11 +209,11 @@ impl Run {
         ensures { Marks (is_in_run self) lanes result }
     {
         match self {
-            Run::Word => words(lanes),
-            Run::Space => spaces(lanes),
-            Run::Body(quote) => body(quote, lanes),
-            Run::Text(quote) => text(quote, lanes),
-            Run::Remark => remark(lanes),
+            ByteRun::Word => words(lanes),
+            ByteRun::Space => spaces(lanes),
+            ByteRun::Body(quote) => body(quote, lanes),
+            ByteRun::Text(quote) => text(quote, lanes),
+            ByteRun::Remark => remark(lanes),
         }
     }
 
@@ -261,7 +261,7 @@ pub fn word_before_more(bytes: &[u8]) -> Option<usize>
     requires { 17 < length bytes.now }
     ensures { IsWordBeforeMore bytes.now result }
 {
-    let len = Run::Word.len_in_sixteen(bytes);
+    let len = ByteRun::Word.len_in_sixteen(bytes);
     if len < 16 {
         return Some(len);
     }
@@ -277,7 +277,7 @@ pub fn word_before_more(bytes: &[u8]) -> Option<usize>
 fn long_word_run(bytes: &[u8]) -> usize
     ensures { IsRunOf is_ascii_word bytes.now result }
 {
-    Run::Word.len_in(bytes)
+    ByteRun::Word.len_in(bytes)
 }
 
 /// How many bytes of words a text begins with, where it mostly begins with none: after a character of another script.
@@ -287,7 +287,7 @@ fn later_word_run(bytes: &[u8]) -> usize
     if bytes.is_empty() || !is_ascii_word(bytes[0]) {
         return 0;
     }
-    Run::Word.len_in(bytes)
+    ByteRun::Word.len_in(bytes)
 }
 
 /// How many bytes of an open word that is spelled so a text begins with: none where it may be the prefix of a string.
@@ -318,7 +318,7 @@ pub fn comment_run(bytes: &[u8]) -> usize
 pub fn whole_comment(bytes: &[u8]) -> Option<usize>
     ensures { IsWholeComment bytes.now result }
 {
-    let ascii = Run::Remark.len_in(bytes);
+    let ascii = ByteRun::Remark.len_in(bytes);
     if ascii == bytes.len() {
         return None;
     }
@@ -339,12 +339,12 @@ fn body_characters(quote: u8, bytes: &[u8]) -> usize
     requires quote { quote < 128 }
     ensures { Spans (is_body_byte quote) bytes.now result }
 {
-    let ascii = Run::Text(quote).len_in(bytes);
+    let ascii = ByteRun::Text(quote).len_in(bytes);
     if ascii == bytes.len() || bytes[ascii].is_ascii() {
         return ascii;
     }
     let rest = &bytes[ascii..];
-    let run = Run::Body(quote).len_in(rest);
+    let run = ByteRun::Body(quote).len_in(rest);
     ascii + utf8_len(&rest[..run])
 }
 
@@ -357,7 +357,7 @@ pub fn characters_in(mode: Mode, bytes: &[u8]) -> usize
     match mode {
         Mode::Inside(quote) | Mode::Long(quote) => body_characters(quote as u8, bytes),
         Mode::Comment => utf8_len(&bytes[..comment_run(bytes)]),
-        Mode::Space => Run::Space.len_in(bytes),
+        Mode::Space => ByteRun::Space.len_in(bytes),
         Mode::Word(spelling) => later_characters(spelling, bytes),
         _ => 0,
     }

@@ -4,16 +4,22 @@ ghost use Rattle.std.specs.Prelude.{◌≡◌, ℕ, ◌+◌, ◌<◌, ◌≤◌,
 ghost use Rattle.std.specs.Char.{len_utf8};
 ghost use Rattle.py_lines.specs.Character.{is_line_feed};
 ghost use Rattle.py_lines.specs.Piece.{begins};
-ghost use Rattle.py_lines.specs.Private.Machine.{IsSound, start_of, character_kind};
-ghost use Rattle.py_lines.specs.Private.Scan.{TakesNext, AddsTo, Emits, Closes, with_character, Begins, Tallies, IsStacked, Scans, ScansIn, line_start, is_returned, none_open, stack_of, line_end_progress, ClosesAndAdds, freed, refused_place, IsUnfinished};
-ghost use Rattle.py_lines.specs.Private.Run.{WhereverReached, is_free, Holds, HasAsciiQuote, StandsBefore};
+ghost use Rattle.py_lines.specs.Private.Machine.{start_of, character_kind};
+ghost use Rattle.py_lines.specs.Private.FieldMachine.{FieldScanned};
+ghost use Rattle.py_lines.specs.Private.ScanMachine.{IsScanSound, meet_of};
+ghost use Rattle.py_lines.specs.Private.Scan.{TakesNext, AddsTo, Emits, Closes, with_character, Begins, Tallies, IsStacked, Scans, ScansIn, line_start, is_returned, none_open, stack_of, line_end_progress, ClosesAndAdds, freed, refused_place, IsRefusal, IsUnfinished, IsPlainUnfinished, StandsInString, TakesInString, in_mode};
+ghost use Rattle.py_lines.specs.Private.Run.{WhereverReached, is_free, Holds, HeldIn, HasAsciiQuote, StandsBefore};
 ghost use Rattle.py_lines.specs.declared.token.TokKind.TheVariants.{Op};
 ghost use Rattle.py_lines.specs.declared.mode.Mode.{Mode};
+ghost use Rattle.py_lines.specs.declared.mode.Mode.TheVariants.{Fielded};
+ghost use Rattle.py_lines.specs.declared.mode.Move.TheVariants.{Grows};
 
 use crate::brackets::Brackets;
 use crate::character::{is_closing, is_line_feed, is_opening};
 use crate::count::Count;
 use crate::fault::FaultKind;
+use crate::field_scan::{FieldProgress, FieldScan};
+use crate::host::Host;
 use crate::mode::{Mode, Move, Start};
 use crate::run::characters_in;
 use crate::token::{TokKind, Token};
@@ -85,6 +91,8 @@ pub struct Scan {
     pub tokens: Vec<Token>,
     /// The brackets that are open.
     pub brackets: Brackets,
+    /// How far the string with fields has come, if one is open that holds something.
+    pub fields: FieldScan,
 }
 
 impl Scan {
@@ -108,11 +116,13 @@ impl Scan {
             kind: UnitKind::Blank,
             tokens: Vec::new(alloc),
             brackets: Brackets::new(alloc),
+            fields: FieldScan::new(alloc),
         }
     }
 
     /// Begins a line anew; the memory is kept.
     pub fn restart(&mut self, mode: Mode, line: u64)
+        requires { mode ≡ Fielded → ⊥ }
         ensures start { Tallies self.new (line_start mode) }
         ensures stacked { IsStacked self.new (line_start mode) }
         ensures line { self.new.line ≡ line }
@@ -130,6 +140,7 @@ impl Scan {
         self.kind = UnitKind::Blank;
         self.tokens.clear();
         self.brackets.clear();
+        self.fields.clear();
     }
 
     /// One more character is read.
@@ -274,6 +285,64 @@ impl Scan {
         }
     }
 
+    /// Takes a character that goes on in the open piece.
+    fn grow(&mut self, mode: Mode, c: char)
+        requires bytes { self.old.stop + len_utf8 c < 2 ^ 64 }
+        requires lines { self.old.count.line + 1 < 2 ^ 64 }
+        ensures { self.new ≡ in_mode (with_character self.old c) mode }
+    {
+        self.read(c);
+        self.piece.mode = mode;
+    }
+
+    /// Takes the next character in a string with fields.
+    fn push_in_string(&mut self, c: char) -> Result<Progress, AllocError>
+        requires order { self.old.piece.start ≤ self.old.stop }
+        requires bytes { self.old.stop + len_utf8 c < 2 ^ 64 }
+        requires lines { self.old.count.line + 1 < 2 ^ 64 }
+        ensures { (t : FieldScanned) → StandsInString self.old t → TakesInString self.old t c result self.new }
+    {
+        match self.fields.push(c, self.stop, self.brackets.len())? {
+            FieldProgress::Going => {
+                self.grow(Mode::Fielded, c);
+                Ok(Progress::Going)
+            }
+            FieldProgress::Closed => {
+                self.read(c);
+                self.close()?;
+                Ok(Progress::Going)
+            }
+            FieldProgress::Refused => Ok(Progress::Refused),
+        }
+    }
+
+    /// Takes the character with which a string with fields holds something, or has its three quotes.
+    fn enter_string(&mut self, c: char) -> Result<Progress, AllocError>
+        requires order { self.old.piece.start ≤ self.old.stop }
+        requires bytes { self.old.stop + len_utf8 c < 2 ^ 64 }
+        requires lines { self.old.count.line + 1 < 2 ^ 64 }
+        requires enters { meet_of self.old.piece.mode c ≡ Grows Fielded }
+        ensures { TakesNext self.old c result self.new }
+    {
+        match self.piece.mode {
+            Mode::FieldOpened(host) => {
+                self.fields.begin(host, self.piece.start);
+                self.push_in_string(c)
+            }
+            Mode::FieldEmpty(host) => {
+                let long = Host {
+                    quote: host.quote,
+                    is_long: true,
+                    is_raw: host.is_raw,
+                };
+                self.fields.begin(long, self.piece.start);
+                self.grow(Mode::Fielded, c);
+                Ok(Progress::Going)
+            }
+            _ => unreachable!(),
+        }
+    }
+
     /// Takes the next character of the line.
     pub fn push(&mut self, c: char) -> Result<Progress, AllocError>
         requires order { self.old.piece.start ≤ self.old.stop }
@@ -281,10 +350,15 @@ impl Scan {
         requires lines { self.old.count.line + 1 < 2 ^ 64 }
         ensures { TakesNext self.old c result self.new }
     {
+        if matches!(self.piece.mode, Mode::Fielded) {
+            return self.push_in_string(c);
+        }
         match self.piece.mode.meet(c) {
             Move::Grows(mode) => {
-                self.read(c);
-                self.piece.mode = mode;
+                if matches!(mode, Mode::Fielded) {
+                    return self.enter_string(c);
+                }
+                self.grow(mode, c);
                 Ok(Progress::Going)
             }
             Move::Closes => {
@@ -331,8 +405,19 @@ impl Scan {
         self.is_returned() && !is_line_feed(c)
     }
 
-    /// What is wrong where `c` is refused. An open short string and a backslash are at fault themselves.
+    /// What is wrong where `c` is refused.
     pub fn refusal(&self, c: char) -> Flaw
+        ensures { IsRefusal self.now c result }
+    {
+        if matches!(self.piece.mode, Mode::Fielded) {
+            self.fields.refusal(c, self.stop, self.brackets.len())
+        } else {
+            self.plain_refusal(c)
+        }
+    }
+
+    /// The same outside strings with fields. An open short string and a backslash are at fault themselves.
+    fn plain_refusal(&self, c: char) -> Flaw
         ensures kind { result.kind ≡ character_kind self.now.piece.mode c }
         ensures place { result.place ≡ refused_place self.now }
     {
@@ -350,9 +435,20 @@ impl Scan {
         Flaw { kind, place }
     }
 
-    /// What is wrong where the text ends here, if it may not: an open string, a backslash, or else an open bracket.
+    /// What is wrong where the text ends here, if it may not: what is open.
     pub fn unfinished(&self) -> Option<Flaw>
         ensures { IsUnfinished self.now result }
+    {
+        if matches!(self.piece.mode, Mode::Fielded) {
+            Some(self.fields.unfinished(self.stop, self.brackets.len()))
+        } else {
+            self.plain_unfinished()
+        }
+    }
+
+    /// The same outside strings with fields: an open string, a backslash, or else an open bracket.
+    fn plain_unfinished(&self) -> Option<Flaw>
+        ensures { IsPlainUnfinished self.now result }
     {
         let kind = if self.piece.mode.in_short() {
             FaultKind::OpenString
@@ -372,13 +468,25 @@ impl Scan {
         })
     }
 
+    /// How many bytes of whole characters leave the open piece as it is, and end no line.
+    fn run_len(&self, bytes: &[u8]) -> usize
+        requires quote { HasAsciiQuote self.now.piece.mode }
+        ensures { HeldIn self.now bytes.now result }
+    {
+        if matches!(self.piece.mode, Mode::Fielded) {
+            self.fields.hold(bytes)
+        } else {
+            characters_in(self.piece.mode, bytes)
+        }
+    }
+
     /// Takes the characters that leave the open piece as it is, and answers the bytes after them.
     fn hold<'s>(&mut self, bytes: &'s [u8]) -> &'s [u8]
         requires bytes { self.old.stop + length bytes.now < 2 ^ 64 }
         requires quote { HasAsciiQuote self.old.piece.mode }
         ensures { Holds self.old bytes.now result.now self.new }
     {
-        let len = characters_in(self.piece.mode, bytes);
+        let len = self.run_len(bytes);
         if len > 0 {
             self.stop += len;
             self.count.after_return = false;
@@ -420,7 +528,7 @@ impl Scan {
     pub fn scan_text(&mut self, text: &str) -> Result<Stop, AllocError>
         requires start { Tallies self.old (line_start self.old.piece.mode) }
         requires stacked { IsStacked self.old (line_start self.old.piece.mode) }
-        requires sound { IsSound (line_start self.old.piece.mode) [] }
+        requires sound { IsScanSound (line_start self.old.piece.mode) [] }
         requires lines { self.old.line + length text.now + 1 < 2 ^ 64 }
         ensures stops { IfOk result (Scans self.old.piece.mode text.now self.new) }
         ensures line { OnOk result (self.new.line ≡ self.old.line) }

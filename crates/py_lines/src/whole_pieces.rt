@@ -9,7 +9,7 @@ ghost use Rattle.py_lines.specs.Token.{is_comment};
 
 use crate::character::is_line_feed;
 use crate::mode::{Mode, Spelling};
-use crate::run::{FirstByte, Run, whole_comment, word_before_more};
+use crate::run::{ByteRun, FirstByte, whole_comment, word_before_more};
 use crate::scan::{OpenPiece, Scan};
 use crate::token::{TokKind, Token};
 use crate::unit::UnitKind;
@@ -131,7 +131,7 @@ impl Scan {
         requires begins { begins is_ascii_word bytes.now ≡ true }
         ensures { IfOk result (λ len. TakesRun is_ascii_word follows word_mode self.old bytes.now len self.new) }
     {
-        let len = Run::Word.len_in(bytes);
+        let len = ByteRun::Word.len_in(bytes);
         if !self.is_followed(&bytes[len..]) {
             self.open(Mode::Word(Spelling::of_word(&bytes[..len])), len);
             return Ok(len);
@@ -151,7 +151,7 @@ impl Scan {
         requires begins { begins is_space bytes.now ≡ true }
         ensures { TakesRun is_space may_begin space_mode self.old bytes.now result self.new }
     {
-        let len = Run::Space.len_in(bytes);
+        let len = ByteRun::Space.len_in(bytes);
         if !self.is_begun(&bytes[len..]) {
             self.open(Mode::Space, len);
             return len;
@@ -174,7 +174,7 @@ impl Scan {
     {
         let quote = bytes[0];
         let body = &bytes[1..];
-        let len = Run::Text(quote).len_in(body);
+        let len = ByteRun::Text(quote).len_in(body);
         if len == 0 || len == body.len() || body[len] != quote {
             return Ok(Taken::Nothing);
         }
@@ -290,7 +290,7 @@ impl Scan {
         requires { begins is_space bytes.now ≡ true }
         ensures { IsSpaceAfter (stack_of self.now.brackets) bytes.now result }
     {
-        let len = Run::Space.len_in(bytes);
+        let len = ByteRun::Space.len_in(bytes);
         if self.is_begun(&bytes[len..]) { len } else { 0 }
     }
 

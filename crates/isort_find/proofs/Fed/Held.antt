@@ -1,9 +1,9 @@
 -- What a finder over pieces holds of the text.
 use Rattle.std.proofs.Common.{◌≡◌, ℕ, ◌<◌, true, false, Option, None, Some, List, [], ◌∷◌, ◌++◌, length, take, inl, inr, ◌⊎◌, refl, ◌∙◌, subst}
 use Rattle.py_lines.specs.LogicalLine.{LogicalLine}
-use Rattle.py_lines.specs.Given.{AreFirstLines}
 use Rattle.py_lines.specs.Lexed.{IsLexed}
 use Rattle.py_lines.specs.Settled.{IsSettled}
+use Rattle.py_lines.specs.Given.{AreFirstLines}
 use Rattle.py_lines.specs.ScannerState.{ScannerState, fed_of, ready_lines, HoldsReady, IsScanning}
 use Rattle.py_imports.specs.Bound.{Bound}
 use Rattle.isort_find.specs.Cursor.{CursorState}

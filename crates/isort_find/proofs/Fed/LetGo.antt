@@ -5,7 +5,7 @@ use Rattle.py_lines.specs.ScannerState.{ScannerState, fed_of, IsScanning, HasEnd
 use Rattle.py_imports.specs.Bound.{Bound}
 use Rattle.isort_find.specs.Cursor.{CursorState}
 use Rattle.isort_find.specs.Pending.{PendingState}
-use Rattle.isort_find.specs.Stand.{phase_in, skip_in, left_in, are_left, ready_in}
+use Rattle.isort_find.specs.Stand.{phase_in, skip_in, are_left, ready_in}
 use Rattle.isort_find.specs.Pieces.{PieceFinderState, piece_finder_state, fed_by, has_ready, HasReleased, IsBetweenLines, IsWithinLine, HasFoundIn}
 use Rattle.isort_find.specs.Private.PieceSteps.{ReleasesAny, LetsLineGo}
 use Rattle.isort_find.specs.Private.Walks.{after_line}
@@ -40,13 +40,6 @@ after_idle (stand.End passed) opened none = absurd cc
 after_idle (stand.Fault fault) opened none = absurd cc
 
 -- where nothing is ready, nothing is left
-pub idle_left : (s : Stand) → phase_in s ≡ phase.Open → ready_in s ≡ false → left_in s ≡ []
-idle_left (stand.Between skip) opened none = refl
-idle_left (stand.Unread start skip) opened none = refl
-idle_left (stand.Within pending) opened none = none_are_left pending.left none
-idle_left (stand.End passed) opened none = refl
-idle_left (stand.Fault fault) opened none = refl
-
 pub fed_open : (f : PieceFinderState) → phase_in f.stand ≡ phase.Open → fed_by f ≡ fed_of f.scanning
 fed_open f opened = by f.stand opened
   where

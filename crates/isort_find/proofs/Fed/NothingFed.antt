@@ -2,8 +2,8 @@
 use Rattle.std.proofs.Common.{◌≡◌, ℕ, ◌+◌, List, [], length, take, refl, sym, ap, ◌∙◌, length-append, arith, encode_utf8_all}
 use Rattle.std.proofs.lemmas.List.{nil_from_length}
 use Rattle.std.proofs.lemmas.Str.{length-le-encodes}
-use Rattle.py_lines.specs.Settled.{Decides}
 use Rattle.py_lines.specs.Balance.{none}
+use Rattle.py_lines.specs.Settled.{Decides}
 use Rattle.py_lines.specs.ScannerState.{ScannerState, begun_at, IsScanning}
 use Rattle.py_lines.specs.declared.fault.Fault.{Fault}
 use Rattle.isort_find.specs.Cursor.{CursorState, first_cursor}
@@ -22,7 +22,7 @@ none_decided text fault empty d =
     let tail : d.tail ≡ [] = nil_from_length d.tail (omega (arith, size, parts)) in
     let short = length-le-encodes d.characters in
     let characters : d.characters ≡ [] = nil_from_length d.characters (omega (arith, size, parts, short)) in
-    d.refused.unread tail [] (record { spell = sym characters; fit = tt; balanced = none [] refl; shallow = tt })
+    d.refused.unread tail [] (record { reads = record { spell = sym characters; fit = tt }; balanced = none [] refl; shallow = tt })
 
 fed_none : (s : ScannerState) (text : List ℕ) → s ≡ begun_at 0 1 → take (s.place + length s.held) text ≡ []
 fed_none s text start = ap (λ (x : ScannerState). take (x.place + length x.held) text) start

@@ -2,8 +2,8 @@
 use Rattle.std.proofs.Common.{◌≡◌, ℕ, ◌+◌, Bool, true, false, ◌&&◌, ◌==◌, None, List, [], ◌∷◌, ◌++◌, length, refl, sym, ap, ◌∙◌, append_assoc, append-nil, if◌then◌else◌, encode_utf8, encode_utf8_all, length-append}
 use Rattle.py_lines.specs.Piece.{Piece, spelled}
 use Rattle.py_lines.specs.Balance.{depth_after}
-use Rattle.py_lines.specs.LogicalLine.{LogicalLine, lines_from, cut, put_first, byte_len, line_ends, is_line_end_class}
 use Rattle.py_lines.specs.Lexed.{IsLexed}
+use Rattle.py_lines.specs.LogicalLine.{LogicalLine, lines_from, cut, put_first, byte_len, line_ends, is_line_end_class}
 use Rattle.py_lines.specs.Reader.{Reader, HasGiven}
 use Rattle.isort_find.specs.Lexing.{byte_count}
 
@@ -42,4 +42,4 @@ bytes_given reader lines h = ap byte_count h.first.cut ∙ bytes_of-lines_from (
 
 -- all logical lines of a text are its bytes
 pub bytes_lexed : (text : List ℕ) (lines : List LogicalLine) → IsLexed text lines None → byte_count lines ≡ length text
-bytes_lexed text lines h = ap byte_count h.cut ∙ bytes_of-lines_from (cut 0 h.pieces) 0 1 ∙ ap byte_len (spelled_parts-cut h.pieces 0) ∙ ap byte_len h.reading.spell ∙ ap length (sym (append-nil (encode_utf8_all h.characters)) ∙ h.decodes.spell)
+bytes_lexed text lines h = ap byte_count h.cut ∙ bytes_of-lines_from (cut 0 h.pieces) 0 1 ∙ ap byte_len (spelled_parts-cut h.pieces 0) ∙ ap byte_len h.reading.reads.spell ∙ ap length (sym (append-nil (encode_utf8_all h.characters)) ∙ h.decodes.spell)

@@ -17,9 +17,6 @@ not_fault fault r h k = cc
 memory_or_fault : (fault : Fault) (r : Result (Unit {0}) FindError) → r ≡ Err error.Memory → r ≡ Err (error.Fault fault) → ⊥
 memory_or_fault fault r h k = cc
 
-same_fault : (fault other : Fault) (r : Result (Unit {0}) FindError) → r ≡ Err (error.Fault other) → r ≡ Err (error.Fault fault) → other ≡ fault
-same_fault fault other r h k = let e : error.Fault other ≡ error.Fault fault = cc in cc
-
 step_bad : (old mid : WalkerState) (line : LogicalLine) (start : LineStart) (s : Step) (read : Result (Unit {0}) FindError) (fault : Fault) → Judges old.cursor.options line s → FollowsStep old start s read mid → read ≡ Err (error.Fault fault) → TriesLine old line start (Err (error.Fault fault)) mid
 step_bad old mid line start (step.Bindings bindings) read fault judged follows is = absurd (not_fault fault read follows.0 is)
 step_bad old mid line start step.Plain read fault judged follows is = absurd judged

@@ -35,7 +35,7 @@ lines_spelled offset line (u ∷ us) = ap (λ (t : List ℕ). encode_utf8_all (s
 -- a text is the texts of its lines
 pub text_of_lines : (text : List ℕ) (lines : List LogicalLine) → IsLexed text lines None → text ≡ texts_of_lines lines
 text_of_lines text lines is =
-    sym is.decodes.spell ∙ append-nil (encode_utf8_all is.characters) ∙ ap encode_utf8_all (sym is.reading.spell ∙ sym (cut_spelled 0 is.pieces))
+    sym is.decodes.spell ∙ append-nil (encode_utf8_all is.characters) ∙ ap encode_utf8_all (sym is.reading.reads.spell ∙ sym (cut_spelled 0 is.pieces))
     ∙ sym (lines_spelled 0 1 (cut 0 is.pieces)) ∙ ap texts_of_lines (sym is.cut)
 
 -- rows after the first line have the texts of their lines

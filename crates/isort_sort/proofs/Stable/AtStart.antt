@@ -9,12 +9,12 @@ use Rattle.std.proofs.lemmas.Bool.Decides.{Decides-eqb}
 use Rattle.std.proofs.lemmas.List.{map-append}
 use Rattle.std.proofs.lemmas.Slice.Eq.{starts_is}
 use Rattle.std.proofs.lemmas.Str.{encodes-append}
+use Rattle.py_lines.specs.PieceGrammar.{IsLineEnd}
 use Rattle.py_lines.specs.Balance.{IsBalanced as balance}
-use Rattle.py_lines.specs.Character.{is_mark, is_line_feed, is_return}
 use Rattle.py_lines.specs.Reading.{EndsLine}
+use Rattle.py_lines.specs.Character.{is_mark, is_line_feed, is_return}
 use Rattle.py_lines.specs.LogicalLine.{LogicalLine, put_first, lines_from}
 use Rattle.py_lines.specs.Piece.{mark, Piece, begins, ends, begins_marked, spelled}
-use Rattle.py_lines.specs.PieceGrammar.{IsLineEnd}
 use Rattle.py_imports.specs.ActionComment.{says}
 use Rattle.py_imports.specs.Shape.{mark_len}
 use Rattle.py_imports.specs.declared.action_comment.ActionComment.TheVariants as action
@@ -46,10 +46,9 @@ unfolding is_mark
 marked_unit false u is plain = is
 marked_unit true u is plain = record {
   reading = record {
-    spell = refl;
-    fit = ((0xFEFF, refl, refl), tt, plain, is.reading.fit);
+    reads = record { spell = refl; fit = ((0xFEFF, refl, refl), tt, plain, is.reading.reads.fit) };
     balanced = balance.both (mark_pieces true ++ u) (mark_pieces true) u refl (balance.one (mark_pieces true) (record { class = mark; text = 0xFEFF ∷ [] }) refl refl) is.reading.balanced;
-    shallow = (λ e. absurd (cc), is.reading.shallow);
+    shallow = ((λ e. absurd (cc)), (λ e. absurd (cc)), is.reading.shallow);
   };
   scalars = is.scalars;
   whole = ap (put_first (record { class = mark; text = 0xFEFF ∷ [] })) is.whole;
@@ -62,7 +61,7 @@ marked_ends u is (inr (body, last, same, class, deep)) = inr (record { class = m
 marked_last : (u : List Piece) → IsUnit u → ends is_return (0xFEFF ∷ spelled u) ≡ ends is_return (spelled u)
 marked_last [] is = absurd (let e = is.whole in cc)
 marked_last (p ∷ ps) is =
-    let c = first_character p.class p.text is.reading.fit.0 in
+    let c = first_character p.class p.text is.reading.reads.fit.0 in
     ap (λ (t : List ℕ). ends is_return (0xFEFF ∷ (t ++ spelled ps))) c.2 ∙ sym (ap (λ (t : List ℕ). ends is_return (t ++ spelled ps)) c.2)
 
 marked_follows : (marked : Bool) (u : List Piece) (us : List (List Piece)) → IsUnit u → MayFollowUnit u us → MayFollowUnit (mark_pieces marked ++ u) us

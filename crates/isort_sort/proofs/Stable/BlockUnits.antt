@@ -6,12 +6,13 @@ use Rattle.std.specs.Str.{all_scalars}
 use Rattle.std.proofs.lemmas.Bool.{and_from}
 use Rattle.std.proofs.lemmas.Slice.Eq.{bytes_eq-Decides}
 use Rattle.std.proofs.lemmas.Str.{encodes-append, length-le-encodes}
-use Rattle.py_lines.specs.Balance.{depth_after, IsShallow, IsBalanced as balance}
+use Rattle.py_lines.specs.PieceGrammar.{IsLineEnd}
+use Rattle.py_lines.specs.Balance.{depth_after, IsBalanced as balance}
+use Rattle.py_lines.specs.Fields.{IsShallow}
 use Rattle.py_lines.specs.Character.{is_space, is_line_feed, is_return}
 use Rattle.py_lines.specs.LogicalLine.{LogicalLine, line_of}
 use Rattle.py_lines.specs.Neighbours.{is_simple, AreSimple, MayTouch}
 use Rattle.py_lines.specs.Piece.{Class, mark, line_end, Piece, begins, ends, is_mark_class, begins_marked, spelled}
-use Rattle.py_lines.specs.PieceGrammar.{IsLineEnd}
 use Rattle.py_imports.specs.ActionComment.{says}
 use Rattle.py_imports.specs.Shape.{mark_len}
 use Rattle.py_imports.specs.declared.action_comment.ActionComment.TheVariants as action
@@ -57,8 +58,8 @@ touch_first (p ∷ []) qs h = tt
 touch_first (p ∷ q ∷ ps) qs h = (h.0, touch_first (q ∷ ps) qs h.1)
 
 shallow_end : (d : ℕ) (ps : List Piece) (end : List ℕ) → IsShallow d ps → IsShallow d (ps ++ end_pieces true end)
-shallow_end d [] end h = (λ e. absurd (cc), tt)
-shallow_end d (p ∷ ps) end h = (h.0, shallow_end (depth_after d p) ps end h.1)
+shallow_end d [] end h = ((λ e. absurd (cc)), (λ e. absurd (cc)), tt)
+shallow_end d (p ∷ ps) end h = (h.0, h.1, shallow_end (depth_after d p) ps end h.2)
 
 simple_no_mark : (class : Class) → is_simple class ≡ true → is_mark_class class ≡ false
 simple_no_mark mark h = absurd (cc)
@@ -75,7 +76,7 @@ end_scalars end is = by_end (λ e. all_scalars (e ++ []) ≡ true) end refl refl
 -- a written statement is a logical line, alone and with a line end
 statement_alone : NeighbourLaw → (indentation end : List ℕ) (s : Laid) (lines : List (List ℕ)) (pieces : List Piece) → IsWritten indentation end s lines pieces → IsUnit pieces
 statement_alone law indentation end s lines pieces w = record {
-  reading = record { spell = refl; fit = law pieces w.simple (touch_first pieces (end_pieces true end) w.touch); balanced = w.balanced; shallow = w.shallow };
+  reading = record { reads = record { spell = refl; fit = law pieces w.simple (touch_first pieces (end_pieces true end) w.touch) }; balanced = w.balanced; shallow = w.shallow };
   scalars = w.scalars;
   whole = w.whole;
 }
@@ -83,8 +84,7 @@ statement_alone law indentation end s lines pieces w = record {
 statement_ended : NeighbourLaw → (indentation end : List ℕ) (s : Laid) (lines : List (List ℕ)) (pieces : List Piece) → IsLineEnd end → IsWritten indentation end s lines pieces → IsUnit (pieces ++ end_pieces true end)
 statement_ended law indentation end s lines pieces is w = record {
   reading = record {
-    spell = refl;
-    fit = law (pieces ++ end_pieces true end) (simple_end pieces end w.simple is) w.touch;
+    reads = record { spell = refl; fit = law (pieces ++ end_pieces true end) (simple_end pieces end w.simple is) w.touch };
     balanced = balance.both (pieces ++ end_pieces true end) pieces (end_pieces true end) refl w.balanced (balance.one (end_pieces true end) (record { class = line_end; text = end }) refl refl);
     shallow = shallow_end 0 pieces end w.shallow;
   };

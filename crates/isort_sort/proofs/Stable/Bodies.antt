@@ -4,16 +4,16 @@ use Rattle.std.specs.List.{list_any, list_all, join_by, AllByRecursion}
 use Rattle.std.specs.Str.{chars}
 use Rattle.std.proofs.lemmas.Bool.{and_parts}
 use Rattle.std.proofs.lemmas.List.Folds.{list_any-append}
+use Rattle.py_lines.specs.PieceGrammar.{IsLineEnd}
 use Rattle.py_lines.specs.Balance.{is_opening, is_closing}
 use Rattle.py_lines.specs.Character.{is_space, is_line_feed, is_return, is_operator}
 use Rattle.py_lines.specs.Piece.{space, word, operator, join, Piece, begins, ends}
-use Rattle.py_lines.specs.PieceGrammar.{IsLineEnd}
 use Rattle.py_imports.specs.Grammar.{Terminal, comma, star, opening, closing, Item}
 use Rattle.py_imports.specs.Names.{IsNameItem}
 use Rattle.isort_sort.specs.WrittenLine.{AreRemarks}
 use Rattle.isort_sort.specs.Wrapping.{item_text, items_text, remark}
 use Rattle.isort_sort.proofs.Stable.Items.{a_space, part-a_space, alias_pieces, item_pieces, item_terminals, item-joinable, IsJoinable, IsGlue, all-joinable, HasItem, line_terminals}
-use Rattle.isort_sort.proofs.Stable.OneLine.{is_bracket, is_line_end_piece, plain-line, line-append, opening_piece, closing_piece}
+use Rattle.isort_sort.proofs.Stable.OneLine.{is_bracket_or_string, is_line_end_piece, plain-line, line-append, opening_piece, closing_piece}
 use Rattle.isort_sort.proofs.Stable.Parts.{piece, IsStatementPart, part-append, part-space, part-operator, part-end, part-join, LettersAreWords}
 use Rattle.isort_sort.proofs.Stable.Phrases.{end_piece, IsPhrase, remark_pieces, remark_said, part-remark, touch-remark, well-remark, line-remark}
 use Rattle.isort_sort.proofs.Stable.Touching.{touch-space, touch-operator, word_after_space}
@@ -160,7 +160,7 @@ any-items p n items = any-joined p item_pieces comma_space (any-item p n) (λ k.
 pub any-lines : (p : Piece → Bool) → Passes p → (glue : List Piece) → list_any p glue ≡ false → (lines : List (List Item)) → list_any p (lines_pieces glue lines) ≡ false
 any-lines p n glue none lines = any-joined p line_pieces glue (any-items p n) none lines
 
-pub no_bracket : Passes is_bracket
+pub no_bracket : Passes is_bracket_or_string
 unfolding is_opening is_closing
 no_bracket = record { no_word = λ t. refl; no_space = λ t. refl; no_comma = refl }
 

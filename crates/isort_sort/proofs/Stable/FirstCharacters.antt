@@ -2,11 +2,13 @@
 use Rattle.std.proofs.Common.{◌≡◌, ℕ, ◌==◌, Bool, true, false, cond, ◌&&◌, ◌||◌, ◌⊎◌, ⊎_elim, inl, inr, List, [], ◌∷◌, ◌++◌, append_assoc, refl, sym, ap, ◌∙◌}
 use Rattle.std.specs.List.{list_any, list_all}
 use Rattle.std.proofs.lemmas.Bool.{and_parts, both_ways, cases_Bool, false_from_ne_true, or_parts, eqb-true}
+use Rattle.py_lines.specs.PieceGrammar.{IsWord, IsPrefix, is_prefix, joined}
+use Rattle.py_lines.specs.FieldStrings.{is_field_prefix, quotes_of}
 use Rattle.py_lines.specs.Balance.{depth_after}
-use Rattle.py_lines.specs.Character.{is_mark, is_space, is_quote, is_operator, is_line_feed, is_break, is_hash, is_backslash, is_one_of, is_r, is_b, is_f, is_u}
+use Rattle.py_lines.specs.Fields.{InClass}
+use Rattle.py_lines.specs.Character.{is_mark, is_space, is_quote, is_operator, is_line_feed, is_break, is_hash, is_backslash, is_one_of, is_r, is_b, is_f, is_u, is_t}
 use Rattle.py_lines.specs.LogicalLine.{is_line_end_class, put_first, cut, kind_of}
 use Rattle.py_lines.specs.Piece.{Class, mark, space, word, string, operator, comment, join, line_end, Piece, begins, spelled}
-use Rattle.py_lines.specs.PieceGrammar.{InClass, IsWord, IsPrefix, is_prefix, joined}
 use Rattle.py_lines.specs.declared.unit.UnitKind.TheVariants as unit_kind
 use Rattle.py_imports.specs.ActionComment.{says}
 use Rattle.py_imports.specs.Shape.{IsSortable}
@@ -69,6 +71,16 @@ prefix_feed [] q more is quote = other_test is_quote q quote_ten quote
 prefix_feed (c ∷ cs) q more (inl none) quote = absurd (cc)
 prefix_feed (c ∷ cs) q more (inr is) quote = false_from_ne_true _ (λ h. both_ways _ (prefix_ten cs) (sym (ap (λ (x : ℕ). is_prefix (x ∷ cs)) (feed_is c h)) ∙ is))
 
+field_prefix_ten : (cs : List ℕ) → is_field_prefix (10 ∷ cs) ≡ false
+unfolding is_r is_f is_t
+field_prefix_ten [] = refl
+field_prefix_ten (b ∷ []) = refl
+field_prefix_ten (b ∷ c ∷ cs) = refl
+
+field_prefix_feed : (prefix more : List ℕ) → is_field_prefix prefix ≡ true → begins is_line_feed (prefix ++ more) ≡ false
+field_prefix_feed [] more is = absurd (cc)
+field_prefix_feed (c ∷ cs) more is = false_from_ne_true _ (λ h. both_ways _ (field_prefix_ten cs) (sym (ap (λ (x : ℕ). is_field_prefix (x ∷ cs)) (feed_is c h)) ∙ is))
+
 piece_feed : WordsLaw → (class : Class) (text rest : List ℕ) → InClass class text → is_line_end_class class ≡ false → begins is_line_feed (text ++ rest) ≡ false
 piece_feed law mark text rest is h = ap (λ (t : List ℕ). begins is_line_feed (t ++ rest)) is.1 ∙ other_test is_mark is.0 mark_ten is.2
 piece_feed law space text rest is h = ap (λ (t : List ℕ). begins is_line_feed (t ++ rest)) is.2 ∙ other_test is_space is.0 space_ten (and_parts (is_space is.0) (list_all is_space is.1) (ap (list_all is_space) (sym is.2) ∙ is.3)).0
@@ -76,10 +88,13 @@ piece_feed law word text rest is h =
     let none = law text is in
     let first = (or_parts (is_break is.0) (list_any is_break is.1) (ap (list_any is_break) (sym is.2) ∙ none)).0 in
     ap (λ (t : List ℕ). begins is_line_feed (t ++ rest)) is.2 ∙ false_from_ne_true _ (λ k. both_ways _ first (feed_breaks is.0 k))
-piece_feed law string text rest (inl s) h =
+piece_feed law string text rest (inl (inl (s, none))) h =
     ap (λ (t : List ℕ). begins is_line_feed (t ++ rest)) s.spell ∙ ap (begins is_line_feed) (append_assoc s.prefix (s.quote ∷ (joined s.items ++ s.quote ∷ [])) rest)
     ∙ prefix_feed s.prefix s.quote ((joined s.items ++ s.quote ∷ []) ++ rest) s.begun s.opens
 piece_feed law string text rest (inr s) h =
+    ap (λ (t : List ℕ). begins is_line_feed (t ++ rest)) s.spell ∙ ap (begins is_line_feed) (append_assoc s.prefix (quotes_of s.host ++ (joined s.parts ++ quotes_of s.host)) rest)
+    ∙ field_prefix_feed s.prefix ((quotes_of s.host ++ (joined s.parts ++ quotes_of s.host)) ++ rest) s.begun
+piece_feed law string text rest (inl (inr (s, none))) h =
     let q = s.quote in
     ap (λ (t : List ℕ). begins is_line_feed (t ++ rest)) s.spell ∙ ap (begins is_line_feed) (append_assoc s.prefix (q ∷ q ∷ q ∷ (joined s.items ++ q ∷ q ∷ q ∷ [])) rest)
     ∙ prefix_feed s.prefix q ((q ∷ q ∷ (joined s.items ++ q ∷ q ∷ q ∷ [])) ++ rest) s.begun s.opens
@@ -112,5 +127,5 @@ first_feed law (p ∷ ps) is off role h k = by (is_line_end_class p.class) refl
         ap kind_of (ap (λ l. p ∷ l) (sym none)) ∙ ap (λ c. kind_of (record { class = c; text = p.text } ∷ [])) (is_end_class p.class e)
 
     by : (b : Bool) → is_line_end_class p.class ≡ b → begins is_line_feed (p.text ++ spelled ps) ≡ false
-    by false e = piece_feed law p.class p.text (spelled ps) is.reading.fit.0 e
+    by false e = piece_feed law p.class p.text (spelled ps) is.reading.reads.fit.0 e
     by true e = absurd (both_ways _ k (blank_role off (p ∷ ps) role (ended e) h))

@@ -6,9 +6,10 @@ use Rattle.std.specs.List.{list_any}
 use Rattle.std.proofs.lemmas.Bool.{both_ways, eqb-true, or_parts}
 use Rattle.std.proofs.lemmas.Str.{encodes-append, char_from_byte}
 use Rattle.py_lines.specs.Character.{is_one_of, is_line_feed, is_return}
+use Rattle.py_lines.specs.PieceGrammar.{IsLineEnd, feed, return_feed, return}
+use Rattle.py_lines.specs.Fields.{InClass, AreReadBefore}
 use Rattle.py_lines.specs.Reading.{EndsLine}
 use Rattle.py_lines.specs.Piece.{Class, Piece, begins, ends, spelled}
-use Rattle.py_lines.specs.PieceGrammar.{InClass, AreReadBefore, IsLineEnd, feed, return_feed, return}
 use Rattle.isort_sort.specs.Layout.{text_of_lines}
 use Rattle.isort_sort.specs.Sorted.{first_end}
 use Rattle.isort_sort.specs.WrittenLine.{end_pieces}
@@ -84,7 +85,7 @@ last_class (p ∷ ps) last fit = last_class ps last fit.3
 pub closed_unit : (u : List Piece) → IsUnit u → EndsLine u → IsClosed u
 closed_unit u is (inl none) = absurd (let e = is.whole in cc)
 closed_unit u is (inr (body, last, same, class, deep)) =
-    let good = last_class body last (subst (λ (l : List Piece). AreReadBefore l []) same is.reading.fit) in
+    let good = last_class body last (subst (λ (l : List Piece). AreReadBefore l []) same is.reading.reads.fit) in
     let closes : IsLineEnd last.text = subst (λ (c : Class). InClass c last.text) class good in
     record {
       text = encode_utf8_all (spelled body);

@@ -7,13 +7,14 @@ use Rattle.std.proofs.lemmas.Bool.{and_parts}
 use Rattle.std.proofs.lemmas.Bool.Decides.{nat_tests}
 use Rattle.std.proofs.Math.Utf8.{encode}
 use Rattle.std.proofs.lemmas.Str.{encodes-append}
+use Rattle.py_lines.specs.PieceGrammar.{IsComment, IsLineEnd, feed, return_feed, return}
 use Rattle.py_lines.specs.Balance.{IsBalanced, depth_through, IsBalanced as balance}
-use Rattle.py_lines.specs.Character.{is_space, is_line_feed, is_return, is_hash}
+use Rattle.py_lines.specs.Fields.{AreReadBefore}
 use Rattle.py_lines.specs.Reading.{IsBalancedReading, EndsLine}
+use Rattle.py_lines.specs.Character.{is_space, is_line_feed, is_return, is_hash}
 use Rattle.py_lines.specs.LogicalLine.{LogicalLine, cut, line_of, end_len_of}
 use Rattle.py_lines.specs.Neighbours.{AreSimple, MayTouch}
 use Rattle.py_lines.specs.Piece.{space, comment, line_end, Piece, begins, ends, begins_marked, spelled}
-use Rattle.py_lines.specs.PieceGrammar.{AreReadBefore, IsComment, IsLineEnd, feed, return_feed, return}
 use Rattle.py_lines.specs.Words.{words_of}
 use Rattle.py_imports.specs.ActionComment.{says}
 use Rattle.py_imports.specs.declared.action_comment.ActionComment.{ActionComment}
@@ -136,7 +137,7 @@ blank_line end is =
     let alone : ends is_return end && false ≡ false = by_end (λ e. ends is_return e && false ≡ false) end refl refl refl is in
     record {
       unit = record {
-        reading = record { spell = refl; fit = (is, alone, refl, tt); balanced = balance.one (end_pieces true end) (record { class = line_end; text = end }) refl refl; shallow = (λ e. absurd (cc), tt) };
+        reading = record { reads = record { spell = refl; fit = (is, alone, refl, tt) }; balanced = balance.one (end_pieces true end) (record { class = line_end; text = end }) refl refl; shallow = ((λ e. absurd (cc)), (λ e. absurd (cc)), tt) };
         scalars = ap all_scalars (append-nil end) ∙ scalar;
         whole = refl;
       };
@@ -246,15 +247,14 @@ comment_reading : NeighbourLaw → (indentation characters end : List ℕ) → l
 comment_reading law [] characters end spaces is closes =
     let two : IsBalanced (comment_unit [] characters end) =
     balance.both _ (record { class = comment; text = characters } ∷ []) (end_pieces true end) refl (balance.one _ (record { class = comment; text = characters }) refl refl) (balance.one _ (record { class = line_end; text = end }) refl refl) in
-    record { spell = refl; fit = law (comment_unit [] characters end) (refl, is, (refl, closes, tt)) (refl, tt); balanced = two; shallow = (λ e. absurd (cc), (λ e. absurd (cc), tt)) }
+    record { reads = record { spell = refl; fit = law (comment_unit [] characters end) (refl, is, (refl, closes, tt)) (refl, tt) }; balanced = two; shallow = ((λ e. absurd (cc)), (λ e. absurd (cc)), ((λ e. absurd (cc)), (λ e. absurd (cc)), tt)) }
 comment_reading law (c ∷ cs) characters end spaces is closes =
     let two : IsBalanced (comment_unit [] characters end) =
     balance.both _ (record { class = comment; text = characters } ∷ []) (end_pieces true end) refl (balance.one _ (record { class = comment; text = characters }) refl refl) (balance.one _ (record { class = line_end; text = end }) refl refl) in
     record {
-      spell = refl;
-      fit = law (comment_unit (c ∷ cs) characters end) (refl, (c, cs, refl, spaces), (refl, is, (refl, closes, tt))) (refl, (refl, tt));
+      reads = record { spell = refl; fit = law (comment_unit (c ∷ cs) characters end) (refl, (c, cs, refl, spaces), (refl, is, (refl, closes, tt))) (refl, (refl, tt)) };
       balanced = balance.both _ (record { class = space; text = c ∷ cs } ∷ []) (comment_unit [] characters end) refl (balance.one _ (record { class = space; text = c ∷ cs }) refl refl) two;
-      shallow = (λ e. absurd (cc), (λ e. absurd (cc), (λ e. absurd (cc), tt)));
+      shallow = ((λ e. absurd (cc)), (λ e. absurd (cc)), ((λ e. absurd (cc)), (λ e. absurd (cc)), ((λ e. absurd (cc)), (λ e. absurd (cc)), tt)));
     }
 
 hash_no_feed : (c : ℕ) → is_hash c ≡ true → is_line_feed c ≡ false

@@ -1,18 +1,18 @@
 -- The names of a written `from` statement in each of its layouts.
 use Rattle.std.proofs.Common.{◌≡◌, ℕ, Bool, true, false, not, ◌||◌, ◌&&◌, List, [], ◌∷◌, ◌++◌, codes, refl, sym, ap, ◌∙◌, subst, append_assoc, append-nil}
 use Rattle.std.specs.List.{list_any, list_all, join_by}
+use Rattle.py_lines.specs.PieceGrammar.{IsLineEnd}
 use Rattle.py_lines.specs.Balance.{is_opening, is_closing}
 use Rattle.py_lines.specs.Character.{is_space, is_return, is_line_feed}
 use Rattle.py_lines.specs.Neighbours.{MayTouch}
 use Rattle.py_lines.specs.Piece.{space, join, Piece, ends}
-use Rattle.py_lines.specs.PieceGrammar.{IsLineEnd}
 use Rattle.py_lines.specs.Words.{Word, words_of}
 use Rattle.py_imports.specs.Grammar.{Terminal, comma, opening, closing, Item}
 use Rattle.isort_sort.specs.WrittenLine.{AreRemarks}
 use Rattle.isort_sort.specs.Wrapping.{items_text, remark}
 use Rattle.isort_sort.proofs.Stable.Bodies.{comma_piece, part-comma, part-opening, part-closing, IsPad, part-pad, pad_no_feed, comma_line, line-glue, comma_join, join-glue, AreLines, lines_pieces, lines_terminals, lines-joinable, any-append, any-lines, any-items, Passes, no_bracket, no_end, line_pieces, line-joinable, AreNameItems}
 use Rattle.isort_sort.proofs.Stable.Items.{HasItem, line_terminals, IsJoinable}
-use Rattle.isort_sort.proofs.Stable.OneLine.{is_bracket, is_line_end_piece, plain-line, line-append, opening_piece, closing_piece, bracketed-line}
+use Rattle.isort_sort.proofs.Stable.OneLine.{is_bracket_or_string, is_line_end_piece, plain-line, line-append, opening_piece, closing_piece, bracketed-line}
 use Rattle.isort_sort.proofs.Stable.Parts.{piece, remarks_in, IsStatementPart, words-append, part-append, part-nil, part-space, part-end, part-join, space_pieces, LettersAreWords}
 use Rattle.isort_sort.proofs.Stable.Phrases.{end_piece, IsPhrase, remark_pieces, remark_said, part-remark, touch-remark, remark_after_word, well-remark, any-remark, line-remark}
 use Rattle.isort_sort.proofs.Stable.Tokens.{are_well, no_words, well-append}
@@ -20,7 +20,7 @@ use Rattle.isort_sort.proofs.Stable.Touching.{after_word, after_space, touch-spa
 use Rattle.std.proofs.Math.Bool.{and-false}
 
 -- names and the comment
-plain-phrase : (end : List ℕ) (ps : List Piece) (bytes : List ℕ) (terminals : List Terminal) → IsJoinable ps bytes terminals → list_any is_bracket ps ≡ false → list_any is_line_end_piece ps ≡ false → (cs : List (List ℕ)) → AreRemarks cs → IsPhrase end (ps ++ remark_pieces cs) (bytes ++ remark cs) (terminals ++ []) (remark_said cs)
+plain-phrase : (end : List ℕ) (ps : List Piece) (bytes : List ℕ) (terminals : List Terminal) → IsJoinable ps bytes terminals → list_any is_bracket_or_string ps ≡ false → list_any is_line_end_piece ps ≡ false → (cs : List (List ℕ)) → AreRemarks cs → IsPhrase end (ps ++ remark_pieces cs) (bytes ++ remark cs) (terminals ++ []) (remark_said cs)
 plain-phrase end ps bytes terminals j bare unended cs h =
     let whole : (ps ++ remark_pieces cs) ++ end_piece end ∷ [] ≡ ps ++ (remark_pieces cs ++ end_piece end ∷ []) = append_assoc ps (remark_pieces cs) (end_piece end ∷ []) in
     record {
@@ -34,7 +34,7 @@ plain-phrase end ps bytes terminals j bare unended cs h =
 -- on one line
 pub flat-phrase : LettersAreWords → (end : List ℕ) (items : List Item) → HasItem items → AreNameItems items → (cs : List (List ℕ)) → AreRemarks cs → IsPhrase end (line_pieces items ++ remark_pieces cs) (items_text items ++ remark cs) (line_terminals items ++ []) (remark_said cs)
 flat-phrase law end items some named cs h =
-    plain-phrase end (line_pieces items) (items_text items) (line_terminals items) (line-joinable law items some named) (one is_bracket no_bracket) (one is_line_end_piece no_end) cs h
+    plain-phrase end (line_pieces items) (items_text items) (line_terminals items) (line-joinable law items some named) (one is_bracket_or_string no_bracket) (one is_line_end_piece no_end) cs h
   where
     one : (p : Piece → Bool) → Passes p → list_any p (line_pieces items) ≡ false
     one p n = any-items p n items
@@ -47,7 +47,7 @@ hanging-phrase law end pad e p line lines named cs h =
     let sep : List ℕ = (codes ", " ++ 92 ∷ []) ++ (end ++ pad) in
     let names = lines_pieces glue (line ∷ lines) in
     let j = lines-joinable law glue sep (join-glue end pad e p) line lines named in
-    let rest = plain-phrase end names (join_by items_text sep (line ∷ lines)) (lines_terminals (line ∷ lines)) j (any-lines is_bracket no_bracket glue refl (line ∷ lines)) (any-lines is_line_end_piece no_end glue refl (line ∷ lines)) cs h in
+    let rest = plain-phrase end names (join_by items_text sep (line ∷ lines)) (lines_terminals (line ∷ lines)) j (any-lines is_bracket_or_string no_bracket glue refl (line ∷ lines)) (any-lines is_line_end_piece no_end glue refl (line ∷ lines)) cs h in
     record {
       part =
           part-append (part-join end e) (part-append (part-pad pad p) rest.part);
@@ -110,7 +110,7 @@ brackets-phrase law end pad e p line lines named t cs h =
     let terminals = lines_terminals (line ∷ lines) in
     let j = lines-joinable law glue sep (line-glue end pad e p) line lines named in
     let inner = names ++ comma_pieces t in
-    let bare = any-append is_bracket names (comma_pieces t) (any-lines is_bracket no_bracket glue refl (line ∷ lines)) (any-trailing is_bracket no_bracket t) in
+    let bare = any-append is_bracket_or_string names (comma_pieces t) (any-lines is_bracket_or_string no_bracket glue refl (line ∷ lines)) (any-trailing is_bracket_or_string no_bracket t) in
     let bracketed = opening_piece ∷ (inner ++ closing_piece ∷ []) in
     let part : IsStatementPart bracketed (codes "(" ++ ((bytes ++ comma_text t) ++ codes ")")) (opening ∷ ((terminals ++ comma_terminals t) ++ closing ∷ [])) [] =
     part-append part-opening (part-append (part-append j.part (part-trailing t)) part-closing) in
@@ -136,7 +136,7 @@ hung_pieces names t cs end pad indentation = opening_piece ∷ (hung_inner names
 abbrev pub hung_bytes : List ℕ → Bool → List (List ℕ) → List ℕ → List ℕ → List ℕ → List ℕ
 hung_bytes bytes t cs end pad indentation = codes "(" ++ ((remark cs ++ (end ++ (pad ++ (bytes ++ (comma_text t ++ (end ++ indentation)))))) ++ codes ")")
 
-bare-spaces : (indentation : List ℕ) → list_any is_bracket (space_pieces indentation) ≡ false
+bare-spaces : (indentation : List ℕ) → list_any is_bracket_or_string (space_pieces indentation) ≡ false
 bare-spaces [] = refl
 bare-spaces (c ∷ cs) = refl
 
@@ -176,9 +176,9 @@ hung-phrase law end pad indentation e p spaces line lines named t cs h =
     let part-behind : IsStatementPart behind (end ++ (pad ++ (bytes ++ (comma_text t ++ (end ++ indentation))))) (terminals ++ (comma_terminals t ++ [])) [] =
     part-append (part-end end e) (part-append (part-pad pad p) (part-append j.part (part-append (part-trailing t) part-last))) in
     let inner = remark_pieces cs ++ behind in
-    let bare-names = any-lines is_bracket no_bracket glue refl (line ∷ lines) in
-    let bare-rest : list_any is_bracket (names ++ (comma_pieces t ++ last)) ≡ false = any-append is_bracket names (comma_pieces t ++ last) bare-names (any-append is_bracket (comma_pieces t) last (any-trailing is_bracket no_bracket t) (bare-spaces indentation)) in
-    let bare : list_any is_bracket inner ≡ false = any-append is_bracket (remark_pieces cs) behind (any-remark is_bracket (λ x. refl) (λ x. refl) cs) bare-rest in
+    let bare-names = any-lines is_bracket_or_string no_bracket glue refl (line ∷ lines) in
+    let bare-rest : list_any is_bracket_or_string (names ++ (comma_pieces t ++ last)) ≡ false = any-append is_bracket_or_string names (comma_pieces t ++ last) bare-names (any-append is_bracket_or_string (comma_pieces t) last (any-trailing is_bracket_or_string no_bracket t) (bare-spaces indentation)) in
+    let bare : list_any is_bracket_or_string inner ≡ false = any-append is_bracket_or_string (remark_pieces cs) behind (any-remark is_bracket_or_string (λ x. refl) (λ x. refl) cs) bare-rest in
     let ending = end_piece end ∷ [] in
     let whole = regroup-hung opening_piece closing_piece (end_piece end) (piece space pad) (remark_pieces cs) names (comma_pieces t) (space_pieces indentation) ending in
     let closed = end_piece end ∷ (space_pieces indentation ++ (closing_piece ∷ ending)) in

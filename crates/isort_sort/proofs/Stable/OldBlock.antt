@@ -4,10 +4,10 @@ use Rattle.std.specs.Prelude.{bytes_eq, nat_lt}
 use Rattle.std.specs.List.{list_all}
 use Rattle.std.proofs.lemmas.Bool.{and_parts, and_from, lt-ltb}
 use Rattle.std.proofs.lemmas.Str.{length-le-encodes}
+use Rattle.py_lines.specs.Fields.{AreReadBefore}
 use Rattle.py_lines.specs.Reading.{EndsLine}
 use Rattle.py_lines.specs.LogicalLine.{is_line_end_class, byte_len, end_len_of}
 use Rattle.py_lines.specs.Piece.{line_end, Piece}
-use Rattle.py_lines.specs.PieceGrammar.{AreReadBefore}
 use Rattle.isort_sort.specs.Blocks.{is_member, stands_between, is_blank, role_is_member, role_stands_between, Further, further_rows, Run, run_rows, goes_on, is_run}
 use Rattle.isort_sort.specs.Row.{Role, member, comments, blank, Row, HasRole, indentation_of}
 use Rattle.isort_sort.specs.Sorted.{last_row}
@@ -101,7 +101,7 @@ last_bytes (p ∷ q ∷ body) last class fit = last_bytes (q ∷ body) last clas
 pub ends_bytes : (u : List Piece) → IsUnit u → EndsLine u → nat_lt 0 (end_len_of u) ≡ true
 ends_bytes u is (inl none) = absurd (let e = is.whole in cc)
 ends_bytes u is (inr (body, last, spell, class, deep)) =
-    lt-ltb 0 (end_len_of u) (subst (λ (l : List Piece). 0 < end_len_of l) (sym spell) (last_bytes body last class (subst (λ (l : List Piece). AreReadBefore l []) spell is.reading.fit)))
+    lt-ltb 0 (end_len_of u) (subst (λ (l : List Piece). 0 < end_len_of l) (sym spell) (last_bytes body last class (subst (λ (l : List Piece). AreReadBefore l []) spell is.reading.reads.fit)))
 
 abbrev last_ended : Row → List Row → Bool
 last_ended row [] = row.ended

@@ -2,14 +2,22 @@
 use Rattle.std.proofs.Common.{◌≡◌, ℕ, ◌+◌, ◌-◌, ◌==◌, Bool, true, false, cond, not, lit<, ◌||◌, ◌&&◌, List, [], ◌∷◌, ◌++◌, refl, sym, ap, ◌∙◌, subst}
 use Rattle.std.specs.List.{list_any}
 use Rattle.std.proofs.lemmas.Bool.{and_parts, and_from, or_parts, both_ways}
-use Rattle.py_lines.specs.Balance.{is_opening, is_closing, is_opener, is_closer, IsBalanced, none, one, pair, both, IsShallow, depth_after, depth_through}
+use Rattle.py_lines.specs.Balance.{is_opening, is_closing, is_opener, is_closer, IsBalanced, none, one, pair, both, depth_after, depth_through}
+use Rattle.py_lines.specs.Fields.{IsShallow}
 use Rattle.py_lines.specs.LogicalLine.{is_line_end_class, put_first, cut, byte_len, end_len_of}
-use Rattle.py_lines.specs.Piece.{Class, operator, line_end, Piece}
+use Rattle.py_lines.specs.Piece.{Class, string, operator, line_end, Piece}
 use Rattle.isort_sort.proofs.Stable.Parts.{piece}
 use Rattle.std.proofs.Math.Bool.{and-false}
 
-abbrev pub is_bracket : Piece → Bool
-is_bracket p = is_opener p || is_closer p
+abbrev pub is_string_class : Class → Bool
+is_string_class string = true
+is_string_class other = false
+
+abbrev pub is_bracket_or_string : Piece → Bool
+is_bracket_or_string p = is_string_class p.class || (is_opener p || is_closer p)
+
+no_bracket : (p : Piece) → is_bracket_or_string p ≡ false → is_opener p || is_closer p ≡ false
+no_bracket p h = (or_parts (is_string_class p.class) (is_opener p || is_closer p) h).1
 
 abbrev pub is_line_end_piece : Piece → Bool
 is_line_end_piece p = is_line_end_class p.class
@@ -26,8 +34,8 @@ pub record IsOneLine (pieces : List Piece) : Type 0 where
   pub kept : keeps 0 pieces ≡ true
 
 -- a piece that is no bracket leaves the depth
-same_depth : (d : ℕ) (p : Piece) → is_bracket p ≡ false → depth_after d p ≡ d
-same_depth d p h = by (is_opener p) (is_closer p) h
+same_depth : (d : ℕ) (p : Piece) → is_bracket_or_string p ≡ false → depth_after d p ≡ d
+same_depth d p h = by (is_opener p) (is_closer p) (no_bracket p h)
   where
     by : (o c : Bool) → o || c ≡ false → cond o (d + 1) (cond c (d - 1) d) ≡ d
     by true c k = absurd (cc)
@@ -35,32 +43,35 @@ same_depth d p h = by (is_opener p) (is_closer p) h
     by false false k = refl
 
 -- pieces without brackets
-bare-balanced : (ps : List Piece) → list_any is_bracket ps ≡ false → IsBalanced ps
+bare-balanced : (ps : List Piece) → list_any is_bracket_or_string ps ≡ false → IsBalanced ps
 bare-balanced [] h = none [] refl
-bare-balanced (p ∷ ps) h = let parts = or_parts (is_bracket p) (list_any is_bracket ps) h in both (p ∷ ps) (p ∷ []) ps refl (one (p ∷ []) p refl parts.0) (bare-balanced ps parts.1)
+bare-balanced (p ∷ ps) h = let parts = or_parts (is_bracket_or_string p) (list_any is_bracket_or_string ps) h in both (p ∷ ps) (p ∷ []) ps refl (one (p ∷ []) p refl (no_bracket p parts.0)) (bare-balanced ps parts.1)
 
-bare-shallow : (d : ℕ) (ps : List Piece) → list_any is_bracket ps ≡ false → IsShallow d ps
+bare-shallow : (d : ℕ) (ps : List Piece) → list_any is_bracket_or_string ps ≡ false → IsShallow d ps
 bare-shallow d [] h = tt
 bare-shallow d (p ∷ ps) h =
-    let parts = or_parts (is_bracket p) (list_any is_bracket ps) h in
-    ((λ opens. absurd (both_ways _ (or_parts (is_opener p) (is_closer p) parts.0).0 opens)), bare-shallow (depth_after d p) ps parts.1)
+    let parts = or_parts (is_bracket_or_string p) (list_any is_bracket_or_string ps) h in (
+      (λ opens. absurd (both_ways _ (or_parts (is_opener p) (is_closer p) (no_bracket p parts.0)).0 opens)),
+      (λ is. absurd (both_ways _ (or_parts (is_string_class p.class) _ parts.0).0 (ap is_string_class is))),
+      bare-shallow (depth_after d p) ps parts.1,
+    )
 
-bare-depth : (d : ℕ) (ps : List Piece) → list_any is_bracket ps ≡ false → depth_through d ps ≡ d
+bare-depth : (d : ℕ) (ps : List Piece) → list_any is_bracket_or_string ps ≡ false → depth_through d ps ≡ d
 bare-depth d [] h = refl
-bare-depth d (p ∷ ps) h = let parts = or_parts (is_bracket p) (list_any is_bracket ps) h in bare-depth (depth_after d p) ps parts.1 ∙ same_depth d p parts.0
+bare-depth d (p ∷ ps) h = let parts = or_parts (is_bracket_or_string p) (list_any is_bracket_or_string ps) h in bare-depth (depth_after d p) ps parts.1 ∙ same_depth d p parts.0
 
 unended-kept : (d : ℕ) (ps : List Piece) → list_any is_line_end_piece ps ≡ false → keeps d ps ≡ true
 unended-kept d [] h = refl
 unended-kept d (p ∷ ps) h = let parts = or_parts (is_line_end_piece p) (list_any is_line_end_piece ps) h in and_from _ _ (ap (λ b. not (b && (d == 0))) parts.0) (unended-kept (depth_after d p) ps parts.1)
 
-inside-kept : (ps : List Piece) → list_any is_bracket ps ≡ false → keeps 1 ps ≡ true
+inside-kept : (ps : List Piece) → list_any is_bracket_or_string ps ≡ false → keeps 1 ps ≡ true
 inside-kept [] h = refl
 inside-kept (p ∷ ps) h =
-    let parts = or_parts (is_bracket p) (list_any is_bracket ps) h in
+    let parts = or_parts (is_bracket_or_string p) (list_any is_bracket_or_string ps) h in
     and_from _ _ (ap not (and-false (is_line_end_piece p))) (subst (λ (d : ℕ). keeps d ps ≡ true) (sym (same_depth 1 p parts.0)) (inside-kept ps parts.1))
 
 -- no bracket, and no line end
-pub plain-line : (ps : List Piece) → list_any is_bracket ps ≡ false → list_any is_line_end_piece ps ≡ false → IsOneLine ps
+pub plain-line : (ps : List Piece) → list_any is_bracket_or_string ps ≡ false → list_any is_line_end_piece ps ≡ false → IsOneLine ps
 plain-line ps h k = record { balanced = bare-balanced ps h; shallow = bare-shallow 0 ps h; deep = bare-depth 0 ps h; kept = unended-kept 0 ps k }
 
 -- pieces one after another
@@ -70,7 +81,7 @@ depth-append d (p ∷ ps) qs = depth-append (depth_after d p) ps qs
 
 shallow-append : (d : ℕ) (ps qs : List Piece) → IsShallow d ps → IsShallow (depth_through d ps) qs → IsShallow d (ps ++ qs)
 shallow-append d [] qs h k = k
-shallow-append d (p ∷ ps) qs h k = (h.0, shallow-append (depth_after d p) ps qs h.1 k)
+shallow-append d (p ∷ ps) qs h k = (h.0, h.1, shallow-append (depth_after d p) ps qs h.2 k)
 
 kept-append : (d : ℕ) (ps qs : List Piece) → keeps d ps ≡ true → keeps (depth_through d ps) qs ≡ true → keeps d (ps ++ qs) ≡ true
 kept-append d [] qs h k = k
@@ -91,13 +102,13 @@ opening_piece = piece operator (40 ∷ [])
 abbrev pub closing_piece : Piece
 closing_piece = piece operator (41 ∷ [])
 
-pub bracketed-line : (inner : List Piece) → list_any is_bracket inner ≡ false → IsOneLine (opening_piece ∷ (inner ++ closing_piece ∷ []))
+pub bracketed-line : (inner : List Piece) → list_any is_bracket_or_string inner ≡ false → IsOneLine (opening_piece ∷ (inner ++ closing_piece ∷ []))
 unfolding is_opening is_closing
 bracketed-line inner h =
     let depth = bare-depth 1 inner h in
     record {
       balanced = pair _ inner opening_piece closing_piece refl (record { opens = refl; closes = refl; kind = refl }) (bare-balanced inner h);
-      shallow = ((λ _. lit< tt), shallow-append 1 inner (closing_piece ∷ []) (bare-shallow 1 inner h) (subst (λ (d : ℕ). IsShallow d (closing_piece ∷ [])) (sym depth) ((λ k. absurd (cc)), tt)));
+      shallow = ((λ _. lit< tt), (λ k. absurd (cc)), shallow-append 1 inner (closing_piece ∷ []) (bare-shallow 1 inner h) (subst (λ (d : ℕ). IsShallow d (closing_piece ∷ [])) (sym depth) ((λ k. absurd (cc)), (λ k. absurd (cc)), tt)));
       deep = depth-append 1 inner (closing_piece ∷ []) ∙ ap (λ (d : ℕ). depth_through d (closing_piece ∷ [])) depth;
       kept = kept-append 1 inner (closing_piece ∷ []) (inside-kept inner h) (subst (λ (d : ℕ). keeps d (closing_piece ∷ []) ≡ true) (sym depth) refl);
     }

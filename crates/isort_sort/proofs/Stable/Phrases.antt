@@ -17,7 +17,7 @@ use Rattle.isort_sort.specs.WrittenLine.{IsRemark, AreRemarks}
 use Rattle.isort_sort.specs.Wrapping.{remark}
 use Rattle.isort_sort.proofs.Stable.Items.{a_space, part-a_space, alias_pieces, alias_terminals, part-alias}
 use Rattle.isort_sort.proofs.Stable.Modules.{path_pieces, part-module, touch-module, module_after_space, part-relative, touch-relative, relative_after_space}
-use Rattle.isort_sort.proofs.Stable.OneLine.{is_bracket, is_line_end_piece, IsOneLine, plain-line, line-append}
+use Rattle.isort_sort.proofs.Stable.OneLine.{is_bracket_or_string, is_line_end_piece, IsOneLine, plain-line, line-append}
 use Rattle.isort_sort.proofs.Stable.Parts.{piece, IsStatementPart, words-append, scalars-append, part-append, part-nil, part-as, part-space, part-comment, LettersAreWords, part-letters}
 use Rattle.isort_sort.proofs.Stable.Tokens.{are_well, well-append}
 use Rattle.isort_sort.proofs.Stable.Touching.{after_word, after_space, touch-space, touch-word}
@@ -106,7 +106,7 @@ any-remark p s c [] = refl
 any-remark p s c (x ∷ xs) = λ i. s (32 ∷ 32 ∷ []) i || (c (35 ∷ 32 ∷ join_by chars (codes "; ") (x ∷ xs)) i || false)
 
 pub line-remark : (cs : List (List ℕ)) → IsOneLine (remark_pieces cs)
-line-remark cs = plain-line (remark_pieces cs) (any-remark is_bracket (λ t. refl) (λ t. refl) cs) (any-remark is_line_end_piece (λ t. refl) (λ t. refl) cs)
+line-remark cs = plain-line (remark_pieces cs) (any-remark is_bracket_or_string (λ t. refl) (λ t. refl) cs) (any-remark is_line_end_piece (λ t. refl) (λ t. refl) cs)
 
 any-path : (p : Piece → Bool) → ((w : List ℕ) → p (piece word (chars w)) ≡ false) → p (piece operator (46 ∷ [])) ≡ false → (ts : List Terminal) → list_any p (path_pieces ts) ≡ false
 any-path p w d [] = refl
@@ -116,7 +116,7 @@ any-path p w d (_ ∷ ts) = any-path p w d ts
 
 line-path : (ts : List Terminal) → IsOneLine (path_pieces ts)
 unfolding is_opening is_closing
-line-path ts = plain-line (path_pieces ts) (any-path is_bracket (λ w. refl) refl ts) (any-path is_line_end_piece (λ w. refl) refl ts)
+line-path ts = plain-line (path_pieces ts) (any-path is_bracket_or_string (λ w. refl) refl ts) (any-path is_line_end_piece (λ w. refl) refl ts)
 
 -- a relative module, ` import `, and what follows
 abbrev pub import_pieces : List Piece
@@ -165,7 +165,7 @@ phrase-module law end path m names a named cs remarks =
       part = part-append first (part-append second (part-remark cs remarks));
       touch = subst MayTouch (sym whole) (touch-module path m (alias_pieces a ++ ending) (alias_after_word a ending after) (touch-after a ending after (touch-remark cs end [] tt)));
       start = ap after_space whole ∙ module_after_space path m (alias_pieces a ++ ending);
-      line = line-append (line-path path) (line-append (plain-line (alias_pieces a) (unended-alias is_bracket (λ t. refl) (λ t. refl) a) (unended-alias is_line_end_piece (λ t. refl) (λ t. refl) a)) (line-remark cs));
+      line = line-append (line-path path) (line-append (plain-line (alias_pieces a) (unended-alias is_bracket_or_string (λ t. refl) (λ t. refl) a) (unended-alias is_line_end_piece (λ t. refl) (λ t. refl) a)) (line-remark cs));
       well = λ o.
           ap (are_well o) (words-append (path_pieces path) (alias_pieces a ++ remark_pieces cs))
           ∙ well-append (words_of (path_pieces path)) (words_of (alias_pieces a ++ remark_pieces cs)) first.remarks

@@ -7,7 +7,8 @@ use Rattle.std.proofs.lemmas.Bool.{or_parts}
 use Rattle.py_lines.specs.Character.{is_digit}
 use Rattle.py_lines.specs.LogicalLine.{LogicalLine}
 use Rattle.py_lines.specs.Piece.{Class, word, comment, Piece, begins, spelled}
-use Rattle.py_lines.specs.PieceGrammar.{InClass, IsComment, AreReadBefore}
+use Rattle.py_lines.specs.PieceGrammar.{IsComment}
+use Rattle.py_lines.specs.Fields.{InClass, AreReadBefore}
 use Rattle.py_lines.specs.Words.{Word, words_of_piece, words_of}
 use Rattle.py_lines.specs.declared.token.TokKind.TheVariants as kind
 use Rattle.py_lines.specs.declared.token.Token.{Token}
@@ -51,7 +52,7 @@ words_comments (p ∷ ps) rest fit fine =
     piece_comments p.class p.text (words_of ps) fit.0 parts.0 (words_comments ps rest fit.3 parts.1)
 
 pub unit_comments : TokenLaws → (u : List Piece) → IsUnit u → AreCommentTexts (comment_texts (unit_line u))
-unit_comments laws u is = subst AreCommentTexts (sym (comments_of_unit laws 0 1 u)) (words_comments u [] is.reading.fit is.scalars)
+unit_comments laws u is = subst AreCommentTexts (sym (comments_of_unit laws 0 1 u)) (words_comments u [] is.reading.reads.fit is.scalars)
 
 -- comments that may stand above a statement
 above_from : (cs : List (List ℕ)) → AreCommentTexts cs → list_any (says action.Off) cs ≡ false → list_any (says action.On) cs ≡ false → list_any (says action.Split) cs ≡ false → list_any (says action.SkipFile) cs ≡ false → AreAbove cs

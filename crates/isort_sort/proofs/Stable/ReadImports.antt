@@ -9,7 +9,7 @@ use Rattle.std.proofs.lemmas.Str.{encodes-append, encode_ascii}
 use Rattle.py_lines.specs.Character.{is_mark, is_space}
 use Rattle.py_lines.specs.LogicalLine.{LogicalLine, byte_len, space_len, line_of}
 use Rattle.py_lines.specs.Piece.{Class, mark, space, Piece, is_mark_class, spelled}
-use Rattle.py_lines.specs.PieceGrammar.{InClass, AreReadBefore}
+use Rattle.py_lines.specs.Fields.{InClass, AreReadBefore}
 use Rattle.py_lines.specs.declared.token.Token.{Token}
 use Rattle.py_imports.specs.Binds.{BindEach, BindsAt, nothing, imports, terminals_at, terminal_in}
 use Rattle.py_imports.specs.Bound.{Bound}
@@ -86,7 +86,7 @@ each_named laws line (p ∷ ps) bounds h b =
 pub imports_named : ImportLaws → (u : List Piece) (is : List Imported) → IsUnit u → Imports (unit_line u) is → AreNamed is
 imports_named laws u is unit h =
     let line : LogicalLine = unit_line u in
-    let names = laws.names 0 1 u [] unit.reading.fit unit.scalars in
+    let names = laws.names 0 1 u [] unit.reading.reads.fit unit.scalars in
     subst AreNamed (sym h.1.2)
     (each_named laws line (starts (significant line.tokens)) h.1.0 (filter_named line.text (λ p. may_start_after p.before) (places_from [] (significant line.tokens)) (places_named line.text [] (significant line.tokens) names)) h.1.1)
 
@@ -198,15 +198,15 @@ is_mark_or_not _ = inr refl
 
 pub indentation_spaces : (u : List Piece) → IsUnit u → list_all is_space (indentation_of (unit_line u)) ≡ true
 indentation_spaces [] is = absurd (let e = is.whole in cc)
-indentation_spaces (p ∷ []) is = begins_space p.class p.text [] is.reading.fit.0 (mark_len (unit_line (p ∷ []))) (unmarked_space p [] is.reading.fit.0)
+indentation_spaces (p ∷ []) is = begins_space p.class p.text [] is.reading.reads.fit.0 (mark_len (unit_line (p ∷ []))) (unmarked_space p [] is.reading.reads.fit.0)
 indentation_spaces (p ∷ q ∷ ps) is =
     ⊎_elim
     (λ (e : p.class ≡ mark).
     ap (λ (b : Bool). list_all is_space (slice_range text m (m + (if b then space_len q.class q.text else space_len p.class p.text)))) (ap is_mark_class e)
-    ∙ marked_spaces p q ps is.reading.fit.0 is.reading.fit.3.0 e)
+    ∙ marked_spaces p q ps is.reading.reads.fit.0 is.reading.reads.fit.3.0 e)
     (λ (e : is_mark_class p.class ≡ false).
     ap (λ (b : Bool). list_all is_space (slice_range text m (m + (if b then space_len q.class q.text else space_len p.class p.text)))) e
-    ∙ begins_space p.class p.text (q ∷ ps) is.reading.fit.0 m (unmarked_space p (q ∷ ps) is.reading.fit.0))
+    ∙ begins_space p.class p.text (q ∷ ps) is.reading.reads.fit.0 m (unmarked_space p (q ∷ ps) is.reading.reads.fit.0))
     (is_mark_or_not p.class)
   where
     text : List ℕ

@@ -76,8 +76,8 @@ pub cut_text : (v : Values) → SortLaws v → (text : List ℕ) (lines : List L
 cut_text v laws text lines rows h =
     let lexed = h.accepted.lexed in
     let us : List (List Piece) = cut 0 lexed.pieces in
-    let reading : IsBalancedReading lexed.pieces (spelled lexed.pieces) = record { spell = refl; fit = lexed.reading.fit; balanced = lexed.reading.balanced; shallow = lexed.reading.shallow } in
-    let are = text_units laws.lines us lexed.pieces refl reading (ap all_scalars lexed.reading.spell ∙ lexed.decodes.are) in
+    let reading : IsBalancedReading lexed.pieces (spelled lexed.pieces) = record { reads = record { spell = refl; fit = lexed.reading.reads.fit }; balanced = lexed.reading.balanced; shallow = lexed.reading.shallow } in
+    let are = text_units laws.lines us lexed.pieces refl reading (ap all_scalars lexed.reading.reads.spell ∙ lexed.decodes.are) in
     let asks = or_parts (list_any (λ l. list_any (says action.SkipFile) (comment_texts l)) lines) (first_string_skips lines) h.unskipped in (
       us,
       lexed.cut,
@@ -87,7 +87,7 @@ cut_text v laws text lines rows h =
         unskipped = sym (ap (list_any (λ l. list_any (says action.SkipFile) (comment_texts l))) lexed.cut ∙ comments_skip laws.tokens 0 1 us) ∙ asks.0;
         no_string = sym (ap first_string_skips lexed.cut ∙ strings_skip laws.tokens 0 1 us) ∙ asks.1;
         seen = subst (λ (l : List LogicalLine). AreRows [] l (cut_rows rows)) lexed.cut (subst (AreRows [] lines) (sym h.cut_at.all) h.seen);
-        bytes = ap (λ l. encode_utf8_all (spelled l)) (flat_cut 0 lexed.pieces) ∙ ap encode_utf8_all lexed.reading.spell ∙ sym (append-nil (encode_utf8_all lexed.characters)) ∙ lexed.decodes.spell;
+        bytes = ap (λ l. encode_utf8_all (spelled l)) (flat_cut 0 lexed.pieces) ∙ ap encode_utf8_all lexed.reading.reads.spell ∙ sym (append-nil (encode_utf8_all lexed.characters)) ∙ lexed.decodes.spell;
         blocks = h.cut_at.blocks;
         done = lexed.decodes.bad;
       },

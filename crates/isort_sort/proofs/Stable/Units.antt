@@ -1,14 +1,16 @@
 -- The pieces of a text's logical lines, one list after another.
-use Rattle.std.proofs.Common.{◌≡◌, ℕ, ◌==◌, Bool, true, false, cond, ◌&&◌, ◌⊎◌, ⊎_elim, inl, inr, List, [], ◌∷◌, ◌++◌, flat_map, refl, sym, ap, ◌∙◌, subst, append-nil}
+use Rattle.std.proofs.Common.{◌≡◌, ℕ, ◌==◌, Bool, true, false, cond, if◌then◌else◌, ◌&&◌, ◌⊎◌, ⊎_elim, inl, inr, List, [], ◌∷◌, ◌++◌, flat_map, refl, sym, ap, ◌∙◌, subst, append-nil}
 use Rattle.std.specs.Str.{all_scalars}
 use Rattle.std.proofs.lemmas.Bool.{and_parts, and_from, eqb-true, cases_Bool}
+use Rattle.py_lines.specs.PieceGrammar.{feed, return_feed, return}
+use Rattle.py_lines.specs.FieldStrings.{Host, quotes_of}
 use Rattle.py_lines.specs.Balance.{depth_after, depth_through, IsBalanced as balance}
-use Rattle.py_lines.specs.Character.{is_line_feed, is_return}
+use Rattle.py_lines.specs.Fields.{InClass, MayPrecede, AreReadBefore}
 use Rattle.py_lines.specs.Reading.{IsBalancedReading, EndsLine}
+use Rattle.py_lines.specs.Character.{is_line_feed, is_return}
 use Rattle.py_lines.specs.LogicalLine.{is_line_end_class, put_first, cut}
 use Rattle.py_lines.specs.Neighbours.{MayFollowLines}
 use Rattle.py_lines.specs.Piece.{Class, mark, space, word, string, operator, comment, join, line_end, Piece, begins, ends, begins_marked, spelled}
-use Rattle.py_lines.specs.PieceGrammar.{InClass, MayPrecede, AreReadBefore, feed, return_feed, return}
 use Rattle.isort_sort.proofs.Stable.Parts.{spelled-append, scalars-append}
 
 -- what whole lines and pieces after them are, as the lexer's laws say
@@ -50,12 +52,20 @@ some_after : (prefix : List ℕ) (q : ℕ) (more : List ℕ) → (c : ℕ) × (c
 some_after [] q more = (q, more, refl)
 some_after (c ∷ cs) q more = (c, cs ++ q ∷ more, refl)
 
+some_host : (prefix : List ℕ) (host : Host) (more : List ℕ) → (c : ℕ) × (cs : List ℕ) × (prefix ++ (quotes_of host ++ more) ≡ c ∷ cs)
+some_host prefix host more = go host.is_long
+  where
+    go : (long : Bool) → (c : ℕ) × (cs : List ℕ) × (prefix ++ ((if long then host.quote ∷ host.quote ∷ host.quote ∷ [] else host.quote ∷ []) ++ more) ≡ c ∷ cs)
+    go true = some_after prefix host.quote (host.quote ∷ host.quote ∷ more)
+    go false = some_after prefix host.quote more
+
 pub first_character : (class : Class) (text : List ℕ) → InClass class text → (c : ℕ) × (cs : List ℕ) × (text ≡ c ∷ cs)
 first_character mark text is = (is.0, [], is.1)
 first_character space text is = (is.0, is.1, is.2)
 first_character word text is = (is.0, is.1, is.2)
-first_character string text (inl s) = let f = some_after s.prefix s.quote _ in (f.0, f.1, s.spell ∙ f.2)
-first_character string text (inr s) = let f = some_after s.prefix s.quote _ in (f.0, f.1, s.spell ∙ f.2)
+first_character string text (inl (inl (s, none))) = let f = some_after s.prefix s.quote _ in (f.0, f.1, s.spell ∙ f.2)
+first_character string text (inl (inr (s, none))) = let f = some_after s.prefix s.quote _ in (f.0, f.1, s.spell ∙ f.2)
+first_character string text (inr s) = let f = some_host s.prefix s.host _ in (f.0, f.1, s.spell ∙ f.2)
 first_character operator text is = (is.0, [], is.1)
 first_character comment text is = (is.0, is.1, is.2)
 first_character join text is = (is.0, is.1, is.2)
@@ -67,7 +77,7 @@ first_character line_end text (return e) = (13, [], e)
 pub begins-first : (f : ℕ → Bool) (w rest : List Piece) → IsUnit w → begins f (spelled (w ++ rest)) ≡ begins f (spelled w)
 begins-first f [] rest is = absurd (let e = is.whole in cc)
 begins-first f (p ∷ ps) rest is =
-    let c = first_character p.class p.text is.reading.fit.0 in
+    let c = first_character p.class p.text is.reading.reads.fit.0 in
     ap (λ (t : List ℕ). begins f (t ++ spelled (ps ++ rest))) c.2 ∙ sym (ap (λ (t : List ℕ). begins f (t ++ spelled ps)) c.2)
 
 marked-first : (w rest : List Piece) → IsUnit w → begins_marked (w ++ rest) ≡ begins_marked w
@@ -82,7 +92,7 @@ follow-less u w rest is h = record { unmarked = sym (marked-first w rest is) ∙
 
 -- logical lines that may follow one another are read together, and are cut again
 pub read_units : LineLaws → (us : List (List Piece)) → AreUnits us → IsBalancedReading (flat us) (spelled (flat us))
-read_units laws [] are = record { spell = refl; fit = tt; balanced = balance.none [] refl; shallow = tt }
+read_units laws [] are = record { reads = record { spell = refl; fit = tt }; balanced = balance.none [] refl; shallow = tt }
 read_units laws (u ∷ []) are = subst (λ (l : List Piece). IsBalancedReading l (spelled l)) (sym (append-nil u)) are.0.reading
 read_units laws (u ∷ w ∷ us) are =
     laws.together u (flat (w ∷ us)) are.1.0 are.0.reading (read_units laws (w ∷ us) are.2) (follow-more u w (flat us) are.2.0 are.1.1)
@@ -212,7 +222,7 @@ first_unit laws ps ws f later k reading scalars others =
     let parts = scalars-parts (spelled f.first) (spelled f.others) (ap all_scalars (sym (spelled-append f.first f.others)) ∙ ap (λ l. all_scalars (spelled l)) (sym f.spell) ∙ scalars) in
     let are = others both.1 parts.1 in (
       record { reading = both.0; scalars = parts.0; whole = f.own },
-      next_follows f.first (inr k) f.others ws (ap flat (sym later) ∙ flat_cut 0 f.others) are (follows_first f.first f.others k whole.fit),
+      next_follows f.first (inr k) f.others ws (ap flat (sym later) ∙ flat_cut 0 f.others) are (follows_first f.first f.others k whole.reads.fit),
       are,
     )
 

@@ -192,6 +192,12 @@ const LISTED: &[Listed<'static>] = &[
     Listed(b"x = \\ 1\n", WHOLE, "", End::Fault(Kind::BadJoin, 4, 1)),
     Listed(b"$", WHOLE, "", End::Fault(Kind::BadChar, 0, 1)),
     Listed(b"a\xff", WHOLE, "", End::Fault(Kind::BadUtf8, 1, 1)),
+    Listed(
+        b"f'{\n1}'\nimport a\nx = f\"{d[\"import\"]}\"\nf\"{y",
+        WHOLE,
+        "p.py:3 import a\n",
+        End::Fault(Kind::OpenField, 40, 5),
+    ),
     // What the options ask for.
     Listed(
         ALIKE,

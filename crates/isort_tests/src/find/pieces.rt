@@ -4,7 +4,7 @@ ghost use Rattle.std.specs.Prelude.{◌≤◌, length};
 use crate::find::acts::{Act, tell_acts, tells};
 use crate::find::options::{ALL, ATTRIBUTES, MODULES, PACKAGES, TOP, UNIQUE};
 use crate::harness::cases::{Case, all_are_so, each_holds, each_holds_again};
-use crate::texts::brackets;
+use crate::texts::{brackets, fields};
 use isort_find::FindOptions;
 use std::alloc::Global;
 use std::test::Fail;
@@ -200,6 +200,26 @@ const ROWS: &[Row<'static>] = &[
         TOP,
         "1 import a\nend\nat 9, 1\n",
     ),
+    // Strings with fields.
+    Row(b"f\"{d[\"import\"]}\"", ALL, "end\nat 16, 0\n"),
+    Row(b"t'{x:{w}}'", ALL, "end\nat 10, 0\n"),
+    Row(b"f\"{{\"", ALL, "end\nat 5, 0\n"),
+    Row(b"f\"{x!r:>{w}}\"", ALL, "end\nat 13, 0\n"),
+    Row(b"f\"}\"", ALL, "end\nat 4, 0\n"),
+    Row(b"f\"{}\"", ALL, "end\nat 5, 0\n"),
+    Row(b"f\"\\N{DASH}\"", ALL, "end\nat 11, 0\n"),
+    Row(b"rf\"\\N{a}\"", ALL, "end\nat 9, 0\n"),
+    Row(b"f\"a\\\nb\"", ALL, "end\nat 7, 0\n"),
+    Row(b"f\"\"\"{x:\"\"}\"\"\"", ALL, "end\nat 13, 0\n"),
+    Row(b"f\"\\N{{ {x}\"", ALL, "end\nat 11, 0\n"),
+    Row(b"f\"{{{x}}}\"", ALL, "end\nat 10, 0\n"),
+    Row(b"f\"{{\" f\"}}\"", ALL, "end\nat 11, 0\n"),
+    Row(b"f'{\n1}'\nimport a\n", ALL, "3 import a\nend\nat 17, 1\n"),
+    Row(b"f\"{x", ALL, "F10 field not closed, 2, 1\nat 0, 0\n"),
+    Row(b"f\"{x:\"", ALL, "F10 field not closed, 2, 1\nat 0, 0\n"),
+    Row(b"f\"{\"", ALL, "F3 string not closed, 3, 1\nat 0, 0\n"),
+    Row(b"f\"{x:\n}\"", ALL, "F3 string not closed, 0, 1\nat 0, 0\n"),
+    Row(b"f\"{a # }\"", ALL, "F10 field not closed, 2, 1\nat 0, 0\n"),
 ];
 
 #[test]
@@ -218,6 +238,20 @@ fn counts_brackets_in_every_cut(rt: HostRuntime) -> Result<(), Fail> {
         Row(&text[1..401], ALL, "end\nat 400, 0\n"),
         Row(&text[1..201], ALL, OPEN),
         Row(&text[..201], ALL, TOO_DEEP),
+    ];
+    each_holds(rt.alloc(), &rows)
+}
+
+#[test]
+fn counts_fields_in_every_cut(rt: HostRuntime) -> Result<(), Fail> {
+    let text = fields();
+    let rows = [
+        Row(&text[..600], ALL, "F10 field not closed, 599, 1\nat 0, 0\n"),
+        Row(
+            &text[..603],
+            ALL,
+            "F8 more than 200 brackets open, 602, 1\nat 0, 0\n",
+        ),
     ];
     each_holds(rt.alloc(), &rows)
 }
@@ -249,6 +283,8 @@ const ACCEPTED: &str = "end\n";
 const OPEN_STRING: &str = "F3 string not closed, 0, 1\n";
 
 const OPEN_TRIPLE: &str = "F4 triple-quoted string not closed, 0, 1\n";
+
+const OPEN_FIELD: &str = "F10 field not closed, 2, 1\n";
 
 /// A text, and what is told of its prefixes of 0, 1, 2 bytes and so on.
 struct Prefixes(&'static [u8], &'static [&'static str]);
@@ -308,6 +344,145 @@ const PREFIXES: &[Prefixes] = &[
         ],
     ),
     Prefixes(b"\xc3\xa9", &[ACCEPTED, "F1 not UTF-8, 0, 1\n", ACCEPTED]),
+    Prefixes(
+        b"f\"{d[\"import\"]}\"",
+        &[
+            ACCEPTED,
+            ACCEPTED,
+            OPEN_STRING,
+            OPEN_FIELD,
+            OPEN_FIELD,
+            "F6 bracket not closed, 4, 1\n",
+            "F3 string not closed, 5, 1\n",
+            "F3 string not closed, 5, 1\n",
+            "F3 string not closed, 5, 1\n",
+            "F3 string not closed, 5, 1\n",
+            "F3 string not closed, 5, 1\n",
+            "F3 string not closed, 5, 1\n",
+            "F3 string not closed, 5, 1\n",
+            "F6 bracket not closed, 4, 1\n",
+            OPEN_FIELD,
+            OPEN_STRING,
+            ACCEPTED,
+        ],
+    ),
+    Prefixes(
+        b"t'{x:{w}}'",
+        &[
+            ACCEPTED,
+            ACCEPTED,
+            OPEN_STRING,
+            OPEN_FIELD,
+            OPEN_FIELD,
+            OPEN_FIELD,
+            "F10 field not closed, 5, 1\n",
+            "F10 field not closed, 5, 1\n",
+            OPEN_FIELD,
+            OPEN_STRING,
+            ACCEPTED,
+        ],
+    ),
+    Prefixes(
+        b"f\"{{{x}}}\"",
+        &[
+            ACCEPTED,
+            ACCEPTED,
+            OPEN_STRING,
+            OPEN_FIELD,
+            OPEN_STRING,
+            "F10 field not closed, 4, 1\n",
+            "F10 field not closed, 4, 1\n",
+            OPEN_STRING,
+            OPEN_STRING,
+            OPEN_STRING,
+            ACCEPTED,
+        ],
+    ),
+    Prefixes(
+        b"f\"{x!r:>{w}}\"",
+        &[
+            ACCEPTED,
+            ACCEPTED,
+            OPEN_STRING,
+            OPEN_FIELD,
+            OPEN_FIELD,
+            OPEN_FIELD,
+            OPEN_FIELD,
+            OPEN_FIELD,
+            OPEN_FIELD,
+            "F10 field not closed, 8, 1\n",
+            "F10 field not closed, 8, 1\n",
+            OPEN_FIELD,
+            OPEN_STRING,
+            ACCEPTED,
+        ],
+    ),
+    Prefixes(
+        b"f\"\"\"{x:\"\"}\"\"\"",
+        &[
+            ACCEPTED,
+            ACCEPTED,
+            OPEN_STRING,
+            ACCEPTED,
+            OPEN_TRIPLE,
+            "F10 field not closed, 4, 1\n",
+            "F10 field not closed, 4, 1\n",
+            "F10 field not closed, 4, 1\n",
+            "F10 field not closed, 4, 1\n",
+            "F10 field not closed, 4, 1\n",
+            OPEN_TRIPLE,
+            OPEN_TRIPLE,
+            OPEN_TRIPLE,
+            ACCEPTED,
+        ],
+    ),
+    Prefixes(
+        b"f\"\\N{{ {x}\"",
+        &[
+            ACCEPTED,
+            ACCEPTED,
+            OPEN_STRING,
+            OPEN_STRING,
+            OPEN_STRING,
+            OPEN_STRING,
+            OPEN_STRING,
+            OPEN_STRING,
+            OPEN_STRING,
+            OPEN_STRING,
+            OPEN_STRING,
+            ACCEPTED,
+        ],
+    ),
+    Prefixes(
+        b"rf\"\\N{a}\"",
+        &[
+            ACCEPTED,
+            ACCEPTED,
+            ACCEPTED,
+            OPEN_STRING,
+            OPEN_STRING,
+            OPEN_STRING,
+            "F10 field not closed, 5, 1\n",
+            "F10 field not closed, 5, 1\n",
+            OPEN_STRING,
+            ACCEPTED,
+        ],
+    ),
+    Prefixes(
+        b"f\"{a # }\"",
+        &[
+            ACCEPTED,
+            ACCEPTED,
+            OPEN_STRING,
+            OPEN_FIELD,
+            OPEN_FIELD,
+            OPEN_FIELD,
+            OPEN_FIELD,
+            OPEN_FIELD,
+            OPEN_FIELD,
+            OPEN_FIELD,
+        ],
+    ),
 ];
 
 #[test]

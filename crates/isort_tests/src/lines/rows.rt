@@ -122,6 +122,82 @@ const ROWS: &[Lexed] = &[
         "200 line 1: F8 more than 200 brackets open",
         (0, 1),
     ),
+    // Strings with fields.
+    Lexed(
+        b"f\"{d[\"import\"]}\"",
+        "(Code, 0, 1, 0, 0) (Str, \"f\\\"{d[\\\"import\\\"]}\\\"\", 1); end",
+        (16, 1),
+    ),
+    Lexed(
+        b"t'{x:{w}}'",
+        "(Code, 0, 1, 0, 0) (Str, \"t'{x:{w}}'\", 1); end",
+        (10, 1),
+    ),
+    Lexed(
+        b"f\"{{\"",
+        "(Code, 0, 1, 0, 0) (Str, \"f\\\"{{\\\"\", 1); end",
+        (5, 1),
+    ),
+    Lexed(
+        b"f\"{x!r:>{w}}\"",
+        "(Code, 0, 1, 0, 0) (Str, \"f\\\"{x!r:>{w}}\\\"\", 1); end",
+        (13, 1),
+    ),
+    Lexed(
+        b"f\"}\"",
+        "(Code, 0, 1, 0, 0) (Str, \"f\\\"}\\\"\", 1); end",
+        (4, 1),
+    ),
+    Lexed(
+        b"f\"{}\"",
+        "(Code, 0, 1, 0, 0) (Str, \"f\\\"{}\\\"\", 1); end",
+        (5, 1),
+    ),
+    Lexed(
+        b"f\"\\N{DASH}\"",
+        "(Code, 0, 1, 0, 0) (Str, \"f\\\"\\\\N{DASH}\\\"\", 1); end",
+        (11, 1),
+    ),
+    Lexed(
+        b"rf\"\\N{a}\"",
+        "(Code, 0, 1, 0, 0) (Str, \"rf\\\"\\\\N{a}\\\"\", 1); end",
+        (9, 1),
+    ),
+    Lexed(
+        b"f\"a\\\nb\"",
+        "(Code, 0, 1, 0, 0) (Str, \"f\\\"a\\\\\\nb\\\"\", 1); end",
+        (7, 2),
+    ),
+    Lexed(
+        b"f\"\"\"{x:\"\"}\"\"\"",
+        "(Code, 0, 1, 0, 0) (Str, \"f\\\"\\\"\\\"{x:\\\"\\\"}\\\"\\\"\\\"\", 1); end",
+        (13, 1),
+    ),
+    Lexed(
+        b"f\"\\N{{ {x}\"",
+        "(Code, 0, 1, 0, 0) (Str, \"f\\\"\\\\N{{ {x}\\\"\", 1); end",
+        (11, 1),
+    ),
+    Lexed(
+        b"f\"{{{x}}}\"",
+        "(Code, 0, 1, 0, 0) (Str, \"f\\\"{{{x}}}\\\"\", 1); end",
+        (10, 1),
+    ),
+    Lexed(
+        b"f\"{{\" f\"}}\"",
+        "(Code, 0, 1, 0, 0) (Str, \"f\\\"{{\\\"\", 1) (Str, \"f\\\"}}\\\"\", 1); end",
+        (11, 1),
+    ),
+    Lexed(
+        b"f'{\n1}'\nimport a\n",
+        "(Code, 0, 1, 0, 1) (Str, \"f'{\\n1}'\", 1); (Code, 8, 3, 0, 1) (Name, \"import\", 3) (Name, \"a\", 3); end",
+        (17, 4),
+    ),
+    Lexed(b"f\"{x", "2 line 1: F10 field not closed", (0, 1)),
+    Lexed(b"f\"{x:\"", "2 line 1: F10 field not closed", (0, 1)),
+    Lexed(b"f\"{\"", "3 line 1: F3 string not closed", (0, 1)),
+    Lexed(b"f\"{x:\n}\"", "0 line 1: F3 string not closed", (0, 1)),
+    Lexed(b"f\"{a # }\"", "2 line 1: F10 field not closed", (0, 1)),
 ];
 
 impl Case for Lexed {

@@ -439,6 +439,42 @@ const SCRIPTS: &[Script] = &[
         "took 1; -; took 4; (\"12 #\\n\", 1, [Token { kind: Number, start: 0, stop: 2, line: 1 }, \
          Token { kind: Remark, start: 3, stop: 4, line: 1 }]); ",
     ),
+    // A string goes on after its fields, whatever stands in them, and a quote in a specification is refused at once.
+    Script(
+        0,
+        &[
+            Act::Feed(b"f'{\n"),
+            Act::Ready,
+            Act::Feed(b"1}"),
+            Act::Ready,
+            Act::Feed(b"'\n"),
+            Act::Tokens,
+        ],
+        false,
+        "took 4; -; took 2; -; took 2; (\"f'{\\n1}'\\n\", 1, [Token { kind: Str, start: 0, stop: 7, line: 1 }]); ",
+    ),
+    Script(
+        0,
+        &[
+            Act::Feed(b"f\"{"),
+            Act::Ready,
+            Act::Feed(b"{\"\n"),
+            Act::Tokens,
+        ],
+        false,
+        "took 3; -; took 3; (\"f\\\"{{\\\"\\n\", 1, [Token { kind: Str, start: 0, stop: 5, line: 1 }]); ",
+    ),
+    Script(
+        0,
+        &[
+            Act::Feed(b"f\"{x:"),
+            Act::Ready,
+            Act::Feed(b"\""),
+            Act::Feed(b"}"),
+        ],
+        false,
+        "took 5; -; 2 line 1: F10 field not closed; 2 line 1: F10 field not closed; ",
+    ),
     // A scanner begins in mid-text, where a byte order mark is none.
     Script(
         2,

@@ -354,6 +354,11 @@ pub(crate) const BLOCKS: &[Under] = &[
     ),
     Under(
         "",
+        "x = f'{\nimport b\nimport a\n}'\nimport d\nimport c\n",
+        "x = f'{\nimport b\nimport a\n}'\nimport c\nimport d\n",
+    ),
+    Under(
+        "",
         "if a:\n    import sys\n    import os\nx = 1\n",
         "if a:\n    import os\n    import sys\nx = 1\n",
     ),
@@ -675,6 +680,12 @@ const FAULTS: &[Faulty] = &[
     Faulty("x = 'abc\n", FaultKind::OpenString, 4, 1),
     Faulty("# isort: skip_file\nimport\n", FaultKind::BadImport, 19, 2),
     Faulty("# isort: skip_file\n)", FaultKind::WrongClose, 19, 2),
+    Faulty(
+        "import b\nimport a\nx = f\"{y\n",
+        FaultKind::OpenField,
+        24,
+        3,
+    ),
 ];
 
 #[test]

@@ -1,8 +1,12 @@
--- The place of a fault stands after some characters of the text.
-use Rattle.std.proofs.Common.{◌≡◌, ℕ, List, [], ◌∷◌, ◌++◌, refl, sym, ap, ◌∙◌, subst, append_assoc, append-nil}
+-- The place of a fault of a text with fields stands after some characters of the text.
+use Rattle.std.proofs.Common.{◌≡◌, ℕ, List, [], ◌∷◌, ◌++◌, sym, ap, ◌∙◌, inl, inr, ◌⊎◌, append_assoc, append-nil}
+use Rattle.std.specs.Str.{byte}
 use Rattle.py_lines.specs.Piece.{spelled}
+use Rattle.py_lines.specs.PieceGrammar.{joined}
+use Rattle.py_lines.specs.Faults.{InShortSpecification, InOpenBracket, Cause, brace_too_deep, breaks_string, breaks_join, closes_wrong, opens_too_deep, ends_specification, begins_nothing, kind_of_cause, Explains, kind_of_unfinished, IsUndecodable, Unfinished, open_brace, open_short, open_long, open_join, open_bracket, open_inside, IsOpenAtEnd, IsFaultAt, at_character, at_bytes, at_end}
+use Rattle.py_lines.specs.OpenFields.{Spot, IsOpenString, in_literal, in_specification, StandsIn, InOpenShort, InSpecification, InOpenField}
 use Rattle.py_lines.specs.LogicalLine.{byte_len}
-use Rattle.py_lines.specs.Faults.{Cause, kind_of_cause, Explains, IsCharacterFault, Unfinished, kind_of_unfinished, IsOpenAtEnd, IsUndecodable, IsFaultAt, breaks_string, breaks_join, closes_wrong, opens_too_deep, begins_nothing, open_short, open_long, open_join, open_bracket, at_character, at_bytes, at_end}
+use Rattle.py_lines.specs.FieldStrings.{Host, literal, specification}
 use Rattle.py_lines.specs.declared.fault.FaultKind.{FaultKind}
 use Rattle.py_lines.specs.declared.fault.FaultKind.TheVariants as faults
 use Rattle.py_lines.proofs.Pieces.PieceLists.{spelled-append}
@@ -14,57 +18,97 @@ pub record PrefixTo (characters : List ℕ) (offset : ℕ) : Type 0 where
   pub spell : prefix ++ rest ≡ characters
   pub place : byte_len prefix ≡ offset
 
--- what is open at the end starts after some characters
-pub end_rest : (what : Unfinished) (characters start : List ℕ) → IsOpenAtEnd what characters start → (rest : List ℕ) × (start ++ rest ≡ characters)
-end_rest open_short characters start is = (is.rest, is.spell)
-end_rest open_long characters start is = (is.rest, is.spell)
-end_rest open_join characters start is = (is.rest, is.spell)
-end_rest open_bracket characters start is =
-    let inside = is.opener ∷ is.inner in
-    (spelled inside, ap (λ t. t ++ spelled inside) (sym is.before) ∙ sym (spelled-append is.outer inside) ∙ is.spell)
+-- what begins some characters
+abbrev Begins : List ℕ → List ℕ → Type 0
+Begins start characters = (rest : List ℕ) × (start ++ rest ≡ characters)
 
--- what is open before a character starts after some characters
-opened_before : (before after start prefix : List ℕ) (c offset : ℕ) → start ++ prefix ≡ before → offset ≡ byte_len start → PrefixTo (before ++ c ∷ after) offset
-opened_before before after start prefix c offset spell place = record {
+stands_begins : (IsOpen : List ℕ → Type 0) (characters start : List ℕ) → StandsIn IsOpen characters start → Begins start characters
+stands_begins IsOpen characters start at = (at.front, at.spell)
+
+-- the text of a string up to the field whose specification is open
+field_begins : (host : Host) (spot : Spot) (front rest : List ℕ) → IsOpenString host spot front rest → spot.place ≡ specification → Begins spot.field front
+field_begins host spot front rest (in_literal _ _ _ prefix parts is spell begun raw quotes each open_yet) at =
+    let other : literal ≡ specification = sym (ap (λ (s : Spot). s.place) is) ∙ at in
+    absurd (cc)
+field_begins host spot front rest (in_specification _ round _ _ opening inside parts is spell string may are_inside each open_yet) at =
+    let code = byte "{" ∷ spelled inside ++ (byte ":" ∷ joined parts) in
+    (code, ap (λ (s : Spot). s.field ++ code) is ∙ sym spell)
+
+specification_begins : (host : Host) (characters start : List ℕ) → InSpecification host characters start → Begins start characters
+specification_begins host characters start is =
+    let up = is.stands.open_yet in
+    let field = field_begins host is.spot up.body up.last up.string is.place in (
+      field.0 ++ up.last,
+      ap (λ t. t ++ (field.0 ++ up.last)) (sym is.before)
+          ∙ append_assoc is.string is.spot.field (field.0 ++ up.last)
+          ∙ ap (λ t. is.string ++ t) (sym (append_assoc is.spot.field field.0 up.last) ∙ ap (λ t. t ++ up.last) field.1 ∙ sym up.spell)
+          ∙ is.stands.spell,
+    )
+
+string_begins : (characters start : List ℕ) → InOpenShort characters start ⊎ InShortSpecification characters start → Begins start characters
+string_begins characters start (inl is) = stands_begins _ characters start is
+string_begins characters start (inr is) = (is.inside.stands.front, ap (λ t. t ++ is.inside.stands.front) (sym is.before) ∙ is.inside.stands.spell)
+
+bracket_begins : (characters start : List ℕ) → InOpenBracket characters start → Begins start characters
+bracket_begins characters start is =
+    let later = spelled (is.opener ∷ is.inner) in
+    (later, ap (λ t. t ++ later) (sym is.before) ∙ append_assoc is.outside (spelled is.outer) later ∙ ap (λ t. is.outside ++ t) (sym (spelled-append is.outer (is.opener ∷ is.inner))) ∙ is.spell)
+
+field_open_begins : (characters start : List ℕ) → InOpenField characters start → Begins start characters
+field_open_begins characters start (inl is) = (byte "{" ∷ spelled is.pieces, is.spell)
+field_open_begins characters start (inr (host, is)) = specification_begins host characters start is
+
+-- so each place ends a prefix of the text
+prefix_to : (before rest characters start : List ℕ) (offset : ℕ) → before ++ rest ≡ characters → Begins start before → offset ≡ byte_len start → PrefixTo characters offset
+prefix_to before rest characters start offset whole begin_here place = record {
   prefix = start;
-  rest = prefix ++ c ∷ after;
-  spell = sym (append_assoc start prefix (c ∷ after)) ∙ ap (λ t. t ++ c ∷ after) spell;
+  rest = begin_here.0 ++ rest;
+  spell = sym (append_assoc start begin_here.0 rest) ∙ ap (λ t. t ++ rest) begin_here.1 ∙ whole;
   place = sym place;
 }
 
-directly_before : (before after : List ℕ) (c offset : ℕ) → offset ≡ byte_len before → PrefixTo (before ++ c ∷ after) offset
-directly_before before after c offset place = record { prefix = before; rest = c ∷ after; spell = refl; place = sym place }
+itself : (before : List ℕ) → Begins before before
+itself before = ([], append-nil before)
 
-explained : (cause : Cause) (before after : List ℕ) (c offset : ℕ) → Explains cause before c offset → PrefixTo (before ++ c ∷ after) offset
-explained breaks_string before after c offset fits = opened_before before after fits.start fits.inside.rest c offset fits.inside.spell fits.place
-explained breaks_join before after c offset fits = opened_before before after fits.start fits.after.rest c offset fits.after.spell fits.place
-explained closes_wrong before after c offset fits = directly_before before after c offset fits.place
-explained opens_too_deep before after c offset fits = directly_before before after c offset fits.place
-explained begins_nothing before after c offset fits = directly_before before after c offset fits
+pub explained : (cause : Cause) (before rest characters : List ℕ) (c offset : ℕ) → before ++ rest ≡ characters → Explains cause before c offset → PrefixTo characters offset
+explained brace_too_deep before rest characters c offset whole fits = prefix_to before rest characters fits.start offset whole (byte "{" ∷ [], fits.spell) fits.place
+explained breaks_string before rest characters c offset whole fits = prefix_to before rest characters fits.start offset whole (string_begins before fits.start fits.inside) fits.place
+explained breaks_join before rest characters c offset whole fits = prefix_to before rest characters fits.start offset whole (stands_begins _ before fits.start fits.after) fits.place
+explained closes_wrong before rest characters c offset whole fits = prefix_to before rest characters before offset whole (itself before) fits.place
+explained opens_too_deep before rest characters c offset whole fits = prefix_to before rest characters before offset whole (itself before) fits.place
+explained ends_specification before rest characters c offset whole fits = prefix_to before rest characters fits.start offset whole (specification_begins fits.host before fits.start fits.inside) fits.place
+explained begins_nothing before rest characters c offset whole fits = prefix_to before rest characters before offset whole (itself before) fits
 
-character_prefix : (kind : FaultKind) (characters : List ℕ) (offset : ℕ) → IsCharacterFault kind characters offset → PrefixTo characters offset
-character_prefix kind characters offset fault = subst (λ (t : List ℕ). PrefixTo t offset) fault.dies.spell (explained fault.cause fault.before fault.dies.after fault.c offset fault.fits)
+ended : (what : Unfinished) (characters : List ℕ) (offset : ℕ) → IsOpenAtEnd what characters offset → PrefixTo characters offset
+ended open_brace characters offset is = prefix_to characters [] characters is.start offset (append-nil characters) (byte "{" ∷ [], is.spell) is.place
+ended open_short characters offset (start, is, place) = prefix_to characters [] characters start offset (append-nil characters) (stands_begins _ characters start is) place
+ended open_long characters offset (start, is, place) = prefix_to characters [] characters start offset (append-nil characters) (stands_begins _ characters start is) place
+ended open_join characters offset (start, is, place) = prefix_to characters [] characters start offset (append-nil characters) (stands_begins _ characters start is) place
+ended open_bracket characters offset (start, is, place) = prefix_to characters [] characters start offset (append-nil characters) (bracket_begins characters start is) place
+ended open_inside characters offset (start, is, place, other) = prefix_to characters [] characters start offset (append-nil characters) (field_open_begins characters start is) place
 
-pub fault_prefix : (kind : FaultKind) (characters tail : List ℕ) (offset : ℕ) → IsFaultAt kind characters tail offset → PrefixTo characters offset
-fault_prefix kind characters tail offset (at_character fault) = character_prefix kind characters offset fault
-fault_prefix kind characters tail offset (at_bytes fault) = record { prefix = characters; rest = []; spell = append-nil characters; place = sym fault.place }
-fault_prefix kind characters tail offset (at_end fault) =
-    let left = end_rest fault.unfinished characters fault.start fault.ends_in in
-    record { prefix = fault.start; rest = left.0; spell = left.1; place = sym fault.place }
+pub field_fault_prefix : (kind : FaultKind) (characters tail : List ℕ) (offset : ℕ) → IsFaultAt kind characters tail offset → PrefixTo characters offset
+field_fault_prefix kind characters tail offset (at_character fault) = explained fault.cause fault.before (fault.c ∷ fault.dies.after) characters fault.c offset fault.dies.spell fault.fits
+field_fault_prefix kind characters tail offset (at_bytes fault) = prefix_to characters [] characters characters offset (append-nil characters) (itself characters) fault.place
+field_fault_prefix kind characters tail offset (at_end fault) = ended fault.unfinished characters offset fault.ends_in
 
 -- no character and no end of a text has the fault of undecodable bytes
 cause_decodes : (cause : Cause) → ¬ (kind_of_cause cause ≡ faults.BadUtf8)
+cause_decodes brace_too_deep is = cc
 cause_decodes breaks_string is = cc
 cause_decodes breaks_join is = cc
 cause_decodes closes_wrong is = cc
 cause_decodes opens_too_deep is = cc
+cause_decodes ends_specification is = cc
 cause_decodes begins_nothing is = cc
 
 end_decodes : (what : Unfinished) → ¬ (kind_of_unfinished what ≡ faults.BadUtf8)
+end_decodes open_brace is = cc
 end_decodes open_short is = cc
 end_decodes open_long is = cc
 end_decodes open_join is = cc
 end_decodes open_bracket is = cc
+end_decodes open_inside is = cc
 
 pub undecodable : (kind : FaultKind) (characters tail : List ℕ) (offset : ℕ) → kind ≡ faults.BadUtf8 → IsFaultAt kind characters tail offset → IsUndecodable kind characters tail offset
 undecodable kind characters tail offset is (at_character fault) = absurd (cause_decodes fault.cause (sym fault.is ∙ is))

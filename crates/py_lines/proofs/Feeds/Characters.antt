@@ -6,7 +6,7 @@ use Rattle.py_lines.specs.declared.feed.Feed.{Feed}
 use Rattle.py_lines.specs.declared.scan.Stop.{Stop}
 use Rattle.py_lines.specs.declared.scan.Stop.TheVariants as stops
 use Rattle.py_lines.specs.Private.Scan.{line_start, IsUnderWay, IsLineBefore, StopsIn, ScansIn}
-use Rattle.py_lines.specs.Private.Machine.{steps_from}
+use Rattle.py_lines.specs.Private.ScanMachine.{scan_steps}
 use Rattle.py_lines.specs.Private.Run.{Reached}
 use Rattle.py_lines.specs.Private.LineState.{first_mode}
 use Rattle.py_lines.specs.Private.Feed.{KeepsText, IsOpen, IsEnded, StopsHeld}
@@ -33,7 +33,7 @@ stops_held old new stop keeps s = (s.read, s.rest, go stop s.stops)
     spell = s.spell ∙ ap (λ (v : Vec ℕ). v.items) (sym keeps.held)
 
     opens : IsUnderWay (first_mode old.state.place) new.state.scan s.read → IsOpen new s.read s.rest
-    opens way = record { scalars = s.scalars; spell = spell; way = record { state = way.state; steps = ap (λ (n : ℕ). steps_from (Some (line_start (first_mode n))) s.read) keeps.place ∙ way.steps; tallies = way.tallies; stacked = way.stacked; one_line = way.one_line }; number = s.number ∙ sym keeps.line }
+    opens way = record { scalars = s.scalars; spell = spell; way = record { state = way.state; steps = ap (λ (n : ℕ). scan_steps (Some (line_start (first_mode n))) s.read) keeps.place ∙ way.steps; tallies = way.tallies; stacked = way.stacked; one_line = way.one_line }; number = s.number ∙ sym keeps.line }
 
     ended : (len : ℕ) → IsLineBefore (first_mode old.state.place) new.state.scan s.read len → IsEnded new len s.read s.rest
     ended len at = record { scalars = s.scalars; spell = spell; at = subst (λ (n : ℕ). IsLineBefore (first_mode n) new.state.scan s.read len) (sym keeps.place) at; number = s.number ∙ sym keeps.line }

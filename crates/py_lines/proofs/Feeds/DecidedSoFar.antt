@@ -1,46 +1,40 @@
 -- Which faults the known bytes decide: where the machine refuses a character, and where no bytes complete a character.
-use Rattle.std.proofs.Common.{◌≡◌, ℕ, ◌+◌, Bool, true, false, not, ◌&&◌, ◌||◌, Some, None, List, [], ◌∷◌, ◌++◌, refl, sym, ap, ◌∙◌, subst, ⊎_elim, inl, inr, append_assoc, append-nil, arith}
-use Rattle.std.specs.Prelude.{if◌then◌else◌}
+use Rattle.std.proofs.Common.{◌≡◌, ℕ, ◌+◌, false, not, ◌&&◌, Some, None, List, [], ◌∷◌, ◌++◌, refl, sym, ap, ◌∙◌, subst, ⊎_elim, inl, inr, append_assoc, append-nil, arith}
 use Rattle.std.specs.Str.{StartsWithNoChar}
 use Rattle.py_lines.specs.Character.{is_line_feed}
 use Rattle.py_lines.specs.Piece.{spelled}
-use Rattle.py_lines.specs.PieceGrammar.{AreReadBefore}
-use Rattle.py_lines.specs.LogicalLine.{LogicalLine, byte_len, line_ends}
+use Rattle.py_lines.specs.Fields.{AreReadBefore}
 use Rattle.py_lines.specs.Reading.{Decodes}
-use Rattle.py_lines.specs.Faults.{IsLive, IsCharacterFault, IsLexicalFault}
+use Rattle.py_lines.specs.Faults.{IsLive, IsLexicalFault}
 use Rattle.py_lines.specs.Lexed.{IsLexed, IsLexedToFault}
 use Rattle.py_lines.specs.Settled.{IsHopeless, Decides}
+use Rattle.py_lines.specs.LogicalLine.{LogicalLine, byte_len, line_ends}
 use Rattle.py_lines.specs.declared.fault.Fault.{Fault}
 use Rattle.py_lines.specs.declared.fault.FaultKind.{FaultKind}
 use Rattle.py_lines.specs.declared.fault.FaultKind.TheVariants as faults
 use Rattle.py_lines.specs.declared.mode.Mode.TheVariants as modes
-use Rattle.py_lines.specs.Private.Machine.{Scanned, step, in_short, is_after_backslash, character_kind, character_place, Bracket}
-use Rattle.py_lines.specs.Private.Scan.{EndsNoLine, line_start, none_open, is_return_mode, stack_if}
+use Rattle.py_lines.specs.declared.scan.Flaw.{Flaw}
+use Rattle.py_lines.specs.declared.scan.Scan.{Scan}
+use Rattle.py_lines.specs.Private.Machine.{Scanned, Bracket}
+use Rattle.py_lines.specs.Private.ScanMachine.{scan_step}
+use Rattle.py_lines.specs.Private.Scan.{EndsNoLine, line_start, IsUnderWay, none_open, is_return_mode, stack_of, stack_if, IsRefusal}
 use Rattle.py_lines.specs.Private.LineState.{first_mode}
 use Rattle.py_lines.proofs.Text.Utf8Prefixes.{nothing_bad}
 use Rattle.py_lines.proofs.Machine.PieceSteps.{pieces_at}
-use Rattle.py_lines.proofs.Machine.Advance.{GoesTo}
-use Rattle.py_lines.proofs.Machine.LiveTexts.{runs_live}
-use Rattle.py_lines.proofs.Faults.FaultPlaces.{character_fault}
-use Rattle.py_lines.proofs.Faults.Uniqueness.{not_live}
+use Rattle.py_lines.proofs.ScanMachine.Advance.{GoesTo}
+use Rattle.py_lines.proofs.ScanMachine.LiveTexts.{runs_live}
+use Rattle.py_lines.proofs.Faults.Verdict.{not_live}
 use Rattle.py_lines.proofs.Lexings.Answers.{IsLineOf, HasPrefix, refused_at_character, refused_at_bytes}
 use Rattle.py_lines.proofs.Lexings.GivenLines.{base_lines}
-use Rattle.py_lines.proofs.Lexings.Uniqueness.{decoded}
+use Rattle.py_lines.proofs.Text.Decoding.{decoded}
 use Rattle.py_lines.proofs.LogicalLines.Cuts.{byte_len-append}
 use Rattle.py_lines.proofs.LineScan.NextCharacter.{closed_one_line}
-use Rattle.py_lines.proofs.LineScan.TextSteps.{base_of, Joined, joined, dead_at}
-use Rattle.py_lines.proofs.Readers.FaultAnswers.{open_return, same_kind}
+use Rattle.py_lines.proofs.LineScan.TextSteps.{base_of, way_goes, Joined, joined, dead_at}
+use Rattle.py_lines.proofs.Readers.LineFaults.{refused_fault}
+use Rattle.py_lines.proofs.Readers.FaultAnswers.{open_return, fault_as}
 use Rattle.py_lines.proofs.Readers.LineAnswers.{Within}
 use Rattle.py_lines.proofs.Feeds.Known as of
 use Rattle.py_lines.proofs.Feeds.Known.{IsKnown}
-
--- where a character is refused in the line that is open
-abbrev pub refused_after : Scanned → List ℕ → ℕ
-refused_after s read = if in_short s.mode || is_after_backslash s.mode then byte_len (spelled s.done) else byte_len read
-
-place_of : (b : Bool) (n done whole first all : ℕ) → (b ≡ true → all ≡ n + done) → first ≡ n + whole → n + (if b then done else whole) ≡ (if b then all else first)
-place_of true n done whole first all one two = sym (one refl)
-place_of false n done whole first all one two = sym two
 
 module _ (text : List ℕ) (place line : ℕ) (lines : List LogicalLine) (read rest : List ℕ) (k : IsKnown text place line lines read rest) where
   -- the line of a fault in what was read
@@ -100,10 +94,13 @@ module _ (text : List ℕ) (place line : ℕ) (lines : List LogicalLine) (read :
   before_fit = subst (AreReadBefore k.base) (append_assoc read (c ∷ []) k.more) k.fit
 
   joins_before : (s : Scanned) (st : List Bracket) → GoesTo (line_start (first_mode place)) read s st → Joined k.base read s st (c ∷ k.more)
-  joins_before s st goes = joined place k.base (c ∷ k.more) (of.level text place line lines (read ++ c ∷ []) [] k) read s st before_fit (base_of place k.base (read ++ c ∷ k.more) before_fit k.ended k.here) goes
+  joins_before s st goes = joined place k.base (c ∷ k.more) (of.level text place line lines (read ++ c ∷ []) [] k) (of.strings text place line lines (read ++ c ∷ []) [] k) read s st before_fit (base_of place k.base (read ++ c ∷ k.more) before_fit k.ended k.here) goes
 
-  pub decided_character : (s : Scanned) (st : List Bracket) → GoesTo (line_start (first_mode place)) read s st → EndsNoLine 0 s.done → stack_if (step s c) ≡ None → (is_return_mode s.mode && none_open st) && not (is_line_feed c) ≡ false → (fault : Fault) → fault.kind ≡ character_kind s.mode c → fault.offset ≡ place + refused_after s read → (w : Within read (refused_after s read)) → fault.line ≡ line + line_ends w.prefix → Decides all_known fault × IsLexed all_known lines (Some fault)
-  decided_character s st goes one_line refuses not_yet fault kind at w number =
+  pub decided_character : (scan : Scan) (way : IsUnderWay (first_mode place) scan read) → stack_if (scan_step way.state c) ≡ None → (is_return_mode way.state.mode && none_open (stack_of scan.brackets)) && not (is_line_feed c) ≡ false → (flaw : Flaw) → IsRefusal scan c flaw → (fault : Fault) → fault.kind ≡ flaw.kind → fault.offset ≡ place + flaw.place → (w : Within read flaw.place) → fault.line ≡ line + line_ends w.prefix → Decides all_known fault × IsLexed all_known lines (Some fault)
+  decided_character scan way refuses not_yet flaw is_flaw fault kind at w number =
+      let s = way.state in
+      let st = stack_of scan.brackets in
+      let goes = way_goes way in
       let j = joins_before s st goes in
       let level = of.level text place line lines (read ++ c ∷ []) [] k in
       let characters = spelled k.base ++ (read ++ c ∷ []) in
@@ -111,23 +108,22 @@ module _ (text : List ℕ) (place line : ℕ) (lines : List LogicalLine) (read :
       let decodes : Decodes all_known characters [] = of.decodes text place line lines (read ++ c ∷ []) [] k nothing_bad in
       let dead = dead_at k.base read (c ∷ k.more) k.more s st c j level refl refuses in
       let open_yet = open_return s.mode s.done s.held c st goes.stack refuses not_yet in
-      let prefix : HasPrefix j.state k.base = record { others = pieces_at s; spell = j.pieces; ended = k.ended; none = closed_one_line s.mode s.done s.held st goes.stack one_line open_yet } in
-      let kind_is : fault.kind ≡ character_kind j.state.mode c = kind ∙ same_kind s.mode j.state.mode c (sym j.short) (sym j.slash) in
-      let flags : in_short s.mode || is_after_backslash s.mode ≡ in_short j.state.mode || is_after_backslash j.state.mode = ap (λ (b : Bool). b || is_after_backslash s.mode) (sym j.short) ∙ ap (λ (b : Bool). in_short j.state.mode || b) (sym j.slash) in
-      let here : fault.offset ≡ character_place j.state (spelled k.base ++ read) =
-      at ∙ ap (λ (n : ℕ). n + refused_after s read) k.here
-      ∙ place_of (in_short s.mode || is_after_backslash s.mode) (byte_len (spelled k.base)) (byte_len (spelled s.done)) (byte_len read) (byte_len (spelled k.base ++ read)) (byte_len (spelled j.state.done)) j.start (byte_len-append (spelled k.base) read)
-      ∙ ap (λ (b : Bool). if b then byte_len (spelled j.state.done) else byte_len (spelled k.base ++ read)) flags in
-      let lexed = refused_at_character all_known characters [] (spelled k.base ++ read) [] c j.state j.st k.base fault decodes spell j.steps dead prefix kind_is here
-      (line_after text place line lines (read ++ c ∷ []) [] k fault.kind (refused_after s read) w.prefix (w.later ++ c ∷ []) fault (sym (append_assoc w.prefix w.later (c ∷ [])) ∙ ap (λ t. t ++ c ∷ []) w.split) w.size at number characters [] (append-nil _)) in
-      let found = character_fault characters (spelled k.base ++ read) [] c j.state j.st spell j.steps dead in (
+      let prefix : HasPrefix j.state k.base = record { others = pieces_at s; spell = j.pieces; ended = k.ended; none = closed_one_line s.mode s.done s.held st goes.stack way.one_line open_yet } in
+      let found = refused_fault place k.base level (of.strings text place line lines (read ++ c ∷ []) [] k) (base_of place k.base (read ++ c ∷ k.more) before_fit k.ended k.here) scan read way c [] (alone read before_fit) refuses flaw is_flaw in
+      let is = fault_as fault flaw.kind (byte_len (spelled k.base) + flaw.place) _ _ kind (ap (λ (n : ℕ). n + flaw.place) (sym k.here) ∙ sym at) spell found in
+      let lexed = refused_at_character all_known characters [] (spelled k.base ++ read) [] c j.state j.st k.base fault decodes spell j.steps dead prefix is
+      (line_after text place line lines (read ++ c ∷ []) [] k fault.kind flaw.place w.prefix (w.later ++ c ∷ []) fault (sym (append_assoc w.prefix w.later (c ∷ [])) ∙ ap (λ t. t ++ c ∷ []) w.split) w.size at number characters [] (append-nil _)) in (
         record {
           characters = characters;
           tail = [];
           decodes = decodes;
           refused = (let same = decoded all_known characters lexed.characters [] lexed.tail decodes lexed.decodes in
               subst (λ t. IsLexicalFault characters t fault) (sym same.1) (subst (λ t. IsLexicalFault t lexed.tail fault) (sym same.0) lexed.refused));
-          stays = inl (subst (λ (n : ℕ). IsCharacterFault fault.kind characters n) (sym here) (subst (λ (f : FaultKind). IsCharacterFault f characters (character_place j.state (spelled k.base ++ read))) (sym kind_is) found));
+          stays = inl is;
         },
         subst (λ l. IsLexedToFault all_known l fault) (sym k.cut) lexed,
       )
+    where
+      alone : (xs : List ℕ) → AreReadBefore k.base (xs ++ c ∷ k.more) → AreReadBefore k.base (xs ++ c ∷ [])
+      alone [] fit = of.read_then k.base c [] k.more [] fit
+      alone (x ∷ xs) fit = of.read_then k.base x xs (c ∷ k.more) (c ∷ []) fit

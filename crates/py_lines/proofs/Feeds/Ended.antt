@@ -1,39 +1,37 @@
 -- The text ends where its known bytes do: its last line, or the fault that stands there.
-use Rattle.std.proofs.Common.{◌≡◌, ℕ, ◌+◌, ◌<◌, ◌⊎◌, Bool, true, false, Some, None, List, [], ◌∷◌, ◌++◌, length, refl, sym, ap, ◌∙◌, subst, inl, inr, append-nil, arith, length-append}
-use Rattle.std.specs.Prelude.{encode_utf8_all, if◌then◌else◌}
+use Rattle.std.proofs.Common.{◌≡◌, ℕ, ◌+◌, ◌<◌, true, false, Some, None, List, [], ◌∷◌, ◌++◌, length, refl, sym, ap, ◌∙◌, subst, append-nil, arith, length-append}
+use Rattle.std.specs.Prelude.{encode_utf8_all}
 use Rattle.std.specs.Str.{StartsWithNoChar}
 use Rattle.std.proofs.lemmas.List.{nil_from_length, take_all}
 use Rattle.std.proofs.lemmas.Str.{length-le-encodes}
-use Rattle.py_lines.specs.Piece.{Piece, spelled}
-use Rattle.py_lines.specs.PieceGrammar.{AreReadBefore}
-use Rattle.py_lines.specs.LogicalLine.{LogicalLine, cut, byte_len, line_ends, line_of, lines_of}
+use Rattle.py_lines.specs.Piece.{spelled}
+use Rattle.py_lines.specs.Fields.{AreReadBefore}
 use Rattle.py_lines.specs.Reading.{Decodes, IsBalancedReading}
 use Rattle.py_lines.specs.Lexed.{IsLexed, IsLexedToFault}
 use Rattle.py_lines.specs.Given.{AreFirstLines}
+use Rattle.py_lines.specs.LogicalLine.{LogicalLine, cut, byte_len, line_ends, line_of, lines_of}
 use Rattle.py_lines.specs.declared.fault.Fault.{Fault}
 use Rattle.py_lines.specs.declared.fault.FaultKind.TheVariants as faults
 use Rattle.py_lines.specs.declared.mode.Mode.TheVariants as modes
-use Rattle.py_lines.specs.Private.Machine.{Scanned, is_final, end_kind, end_place, top_place, Bracket}
-use Rattle.py_lines.specs.Private.Scan.{EndsNoLine, line_start, none_open}
+use Rattle.py_lines.specs.declared.scan.Flaw.{Flaw}
+use Rattle.py_lines.specs.declared.scan.Scan.{Scan}
+use Rattle.py_lines.specs.Private.Machine.{Scanned, is_final, Bracket}
+use Rattle.py_lines.specs.Private.Scan.{EndsNoLine, line_start, IsUnderWay, none_open, stack_of, IsUnfinished}
 use Rattle.py_lines.specs.Private.LineState.{first_mode}
 use Rattle.py_lines.proofs.Text.Utf8Prefixes.{nothing_bad}
-use Rattle.py_lines.proofs.Pieces.PieceLists.{spelled-append}
 use Rattle.py_lines.proofs.Machine.PieceSteps.{pieces_at}
-use Rattle.py_lines.proofs.Machine.EarlierPieces.{shift}
-use Rattle.py_lines.proofs.Machine.Advance.{GoesTo, RunsTo, goes_once}
-use Rattle.py_lines.proofs.Machine.LiveTexts.{reading_at, run_of_reading}
-use Rattle.py_lines.proofs.Faults.FaultPlaces.{unread_at}
+use Rattle.py_lines.proofs.ScanMachine.Advance.{GoesTo, RunsTo}
+use Rattle.py_lines.proofs.ScanMachine.LiveTexts.{reading_at}
+use Rattle.py_lines.proofs.LineScan.TextSteps.{way_goes}
 use Rattle.py_lines.proofs.LogicalLines.Cuts.{byte_len-append}
 use Rattle.py_lines.proofs.LogicalLines.NextLine.{lines_of-push}
 use Rattle.py_lines.proofs.Lexings.Answers.{refused_at_bytes, refused_at_end}
+use Rattle.py_lines.proofs.Readers.LineFaults.{unfinished_fault}
 use Rattle.py_lines.proofs.Readers.LineAnswers.{Within}
+use Rattle.py_lines.proofs.Readers.EndAnswers.{end_fault_as}
 use Rattle.py_lines.proofs.Feeds.Known as of
 use Rattle.py_lines.proofs.Feeds.Known.{IsKnown}
 use Rattle.py_lines.proofs.Feeds.DecidedSoFar as decided
-
--- where something is open at the end of what was read
-abbrev pub open_after : Scanned → List Bracket → ℕ
-open_after s st = if is_final s.mode then top_place st else byte_len (spelled s.done)
 
 -- nothing was fed after the lines released: they are all of the text
 pub ended_empty : (text : List ℕ) (place line : ℕ) (lines : List LogicalLine) → AreFirstLines text place line lines → place ≡ length text → IsLexed text lines None
@@ -47,8 +45,10 @@ ended_empty text place line lines first ends =
       pieces = first.pieces;
       decodes = subst (λ t. Decodes text first.characters t) no_tail first.decodes;
       reading = record {
-        spell = sym (append-nil (spelled first.pieces)) ∙ ap (λ t. spelled first.pieces ++ t) (sym no_rest) ∙ first.spell;
-        fit = subst (AreReadBefore first.pieces) no_rest first.fit;
+        reads = record {
+          spell = sym (append-nil (spelled first.pieces)) ∙ ap (λ t. spelled first.pieces ++ t) (sym no_rest) ∙ first.spell;
+          fit = subst (AreReadBefore first.pieces) no_rest first.fit;
+        };
         balanced = first.balanced;
         shallow = first.shallow;
       };
@@ -74,32 +74,21 @@ module _ (text : List ℕ) (place line : ℕ) (lines : List LogicalLine) (read r
   all_decoded none = subst (λ t. Decodes t (spelled k.base ++ read) []) all (subst (λ t. Decodes (of.bytes text place line lines read rest k) (spelled k.base ++ read) t) none (of.decodes text place line lines read rest k (subst StartsWithNoChar (sym none) nothing_bad)))
 
   -- the text may not end there
-  unread : (s : Scanned) (st : List Bracket) (goes : GoesTo (line_start (first_mode place)) read s st) → 0 < byte_len read → (is_final s.mode ≡ false) ⊎ ((b : Bracket) × (others : List Bracket) × (st ≡ b ∷ others)) → (pieces : List Piece) → ¬ (IsBalancedReading pieces (spelled k.base ++ read))
-  unread s st goes some (inl unfinal) =
-      let j = of.joins text place line lines read rest k s st goes in
-      unread_at (spelled k.base ++ read) j.state j.steps.run (ap (λ (t : Scanned). is_final t.mode) (j.same some).0 ∙ unfinal)
-  unread s st goes some (inr (b, others, top)) = λ pieces reading.
-      let j = of.joins text place line lines read rest k s st goes in
-      let ran = run_of_reading pieces (spelled k.base ++ read) reading in
-      let none : shift (byte_len (spelled k.base)) (b ∷ others) ≡ [] = ap (shift (byte_len (spelled k.base))) (sym top) ∙ sym (j.same some).1 ∙ (goes_once j.steps ran.steps).1 in
-      cc
-
-  place_at : (s : Scanned) (st : List Bracket) (b : Bool) → is_final s.mode ≡ b → (is_final s.mode ≡ false) ⊎ ((c : Bracket) × (others : List Bracket) × (st ≡ c ∷ others)) → place + (if b then top_place st else byte_len (spelled s.done)) ≡ (if b then top_place (shift (byte_len (spelled k.base)) st) else byte_len (spelled (k.base ++ s.done)))
-  place_at s st false final unfinished = ap (λ (n : ℕ). n + byte_len (spelled s.done)) k.here ∙ sym (ap byte_len (spelled-append k.base s.done) ∙ byte_len-append (spelled k.base) (spelled s.done))
-  place_at s st true final (inl unfinal) = absurd (let clash = sym final ∙ unfinal in cc)
-  place_at s st true final (inr (c, others, top)) = ap (λ l. place + top_place l) top ∙ ap (λ (n : ℕ). n + c.place) k.here ∙ ap (λ l. top_place (shift (byte_len (spelled k.base)) l)) (sym top)
-
-  pub ended_unfinished : rest ≡ [] → (s : Scanned) (st : List Bracket) (goes : GoesTo (line_start (first_mode place)) read s st) → EndsNoLine 0 s.done → (s.mode ≡ modes.Return → none_open st ≡ false) → 0 < byte_len read → (is_final s.mode ≡ false) ⊎ ((b : Bracket) × (others : List Bracket) × (st ≡ b ∷ others)) → (fault : Fault) → fault.kind ≡ end_kind s.mode → fault.offset ≡ place + open_after s st → (w : Within read (open_after s st)) → fault.line ≡ line + line_ends w.prefix → IsLexed text lines (Some fault)
-  ended_unfinished none s st goes one_line open_yet some unfinished fault kind at w number =
-      let j = of.joins text place line lines read rest k s st goes in
+  pub ended_unfinished : rest ≡ [] → (scan : Scan) (way : IsUnderWay (first_mode place) scan read) → (way.state.mode ≡ modes.Return → none_open (stack_of scan.brackets) ≡ false) → 0 < byte_len read → (flaw : Flaw) → IsUnfinished scan (Some flaw) → (fault : Fault) → fault.kind ≡ flaw.kind → fault.offset ≡ place + flaw.place → (w : Within read flaw.place) → fault.line ≡ line + line_ends w.prefix → IsLexed text lines (Some fault)
+  ended_unfinished none scan way open_yet some flaw is_flaw fault kind at w number =
+      let goes = way_goes way in
+      let j = of.joins text place line lines read rest k way.state (stack_of scan.brackets) goes in
       let characters = spelled k.base ++ read in
-      let here : fault.offset ≡ end_place j.state j.st = at ∙ place_at s st (is_final s.mode) refl unfinished ∙ ap (λ (t : Scanned). end_place t (shift (byte_len (spelled k.base)) st)) (sym (j.same some).0) ∙ ap (end_place j.state) (sym (j.same some).1) in
+      let found = unfinished_fault place k.base (of.level text place line lines read rest k) (of.strings text place line lines read rest k) (of.stands text place line lines read rest k) scan read way (alone read some k.fit) some flaw is_flaw in
       subst (λ l. IsLexedToFault text l fault) (sym k.cut)
-      (refused_at_end text characters j.state j.st k.base fault (all_decoded none) j.steps (unread s st goes some unfinished)
-      (decided.prefix_of text place line lines read rest k s st goes one_line open_yet)
-      (kind ∙ ap (λ (t : Scanned). end_kind t.mode) (sym (j.same some).0))
-      here
-      (decided.line_after text place line lines read rest k fault.kind (open_after s st) w.prefix w.later fault w.split w.size at number characters [] (append-nil _)))
+      (refused_at_end text characters j.state j.st k.base fault (all_decoded none) j.steps
+      (decided.prefix_of text place line lines read rest k way.state (stack_of scan.brackets) goes way.one_line open_yet)
+      (end_fault_as fault flaw.kind (byte_len (spelled k.base) + flaw.place) characters characters kind (ap (λ (n : ℕ). n + flaw.place) (sym k.here) ∙ sym at) refl found)
+      (decided.line_after text place line lines read rest k fault.kind flaw.place w.prefix w.later fault w.split w.size at number characters [] (append-nil _)))
+    where
+      alone : (xs : List ℕ) → 0 < byte_len xs → AreReadBefore k.base (xs ++ k.more) → AreReadBefore k.base (xs ++ [])
+      alone [] full fit = absurd (omega (arith, full))
+      alone (x ∷ xs) full fit = of.read_then k.base x xs k.more [] fit
 
   -- the text's last line
   pub ended_line : rest ≡ [] → (s : Scanned) → GoesTo (line_start (first_mode place)) read s [] → is_final s.mode ≡ true → 0 < byte_len read → cut 0 (pieces_at s) ≡ pieces_at s ∷ [] → IsLexed text (lines ++ line_of place line (pieces_at s) ∷ []) None
@@ -114,5 +103,5 @@ module _ (text : List ℕ) (place line : ℕ) (lines : List LogicalLine) (read r
         decodes = all_decoded none;
         reading = pieces;
         cut = ap (λ l. l ++ line_of place line (pieces_at s) ∷ []) k.cut ∙ ap (λ (n : ℕ). lines_of k.base ++ line_of n line (pieces_at s) ∷ []) k.here ∙ ap (λ (n : ℕ). lines_of k.base ++ line_of (byte_len (spelled k.base)) n (pieces_at s) ∷ []) k.number
-            ∙ sym (lines_of-push k.base (pieces_at s) [] k.ended one pieces.fit);
+            ∙ sym (lines_of-push k.base (pieces_at s) [] k.ended one pieces.reads.fit);
       }

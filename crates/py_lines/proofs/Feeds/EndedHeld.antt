@@ -1,18 +1,16 @@
 -- The text ends with what is held: its last line, or the fault that stands there.
-use Rattle.std.proofs.Common.{◌≡◌, ℕ, ◌+◌, ◌<◌, ◌≤◌, ◌⊎◌, Bool, true, false, ◌&&◌, None, Some, Result, Ok, Err, List, [], ◌∷◌, ◌++◌, length, take, refl, sym, ap, ◌∙◌, subst, inl, inr, append-nil, arith}
-use Rattle.std.specs.Prelude.{encode_utf8_all, if◌then◌else◌}
+use Rattle.std.proofs.Common.{◌≡◌, ℕ, ◌+◌, ◌<◌, ◌≤◌, true, false, ◌&&◌, None, Some, Result, Ok, Err, List, [], ◌∷◌, ◌++◌, length, take, refl, sym, ap, ◌∙◌, subst, append-nil, arith}
+use Rattle.std.specs.Prelude.{encode_utf8_all}
 use Rattle.std.specs.Global.{Vec}
 use Rattle.std.specs.Str.{StartsWithNoChar}
 use Rattle.std.proofs.lemmas.Bool.{both_ways, and_parts, false_from_ne_true}
 use Rattle.std.proofs.lemmas.List.{nil_from_length}
-use Rattle.py_lines.specs.Piece.{spelled}
 use Rattle.py_lines.specs.LogicalLine.{LogicalLine, byte_len, line_of}
 use Rattle.py_lines.specs.Lexed.{IsLexed}
 use Rattle.py_lines.specs.ScannerState.{GoesOnWith}
 use Rattle.py_lines.specs.ScannerState.View.{line_of_feed}
 use Rattle.py_lines.specs.declared.scan.Scan.{Scan}
 use Rattle.py_lines.specs.declared.fault.Fault.{Fault}
-use Rattle.py_lines.specs.declared.fault.FaultKind.{FaultKind}
 use Rattle.py_lines.specs.declared.fault.FaultKind.TheVariants.{BadUtf8}
 use Rattle.py_lines.specs.declared.fault.LexError.{LexError}
 use Rattle.py_lines.specs.declared.fault.LexError.TheVariants as lex
@@ -20,18 +18,20 @@ use Rattle.py_lines.specs.declared.feed.Feed.{Feed}
 use Rattle.py_lines.specs.declared.line_state.LineState.{LineState}
 use Rattle.py_lines.specs.declared.mode.Mode.{Mode}
 use Rattle.py_lines.specs.declared.mode.Mode.TheVariants as modes
-use Rattle.py_lines.specs.Private.Machine.{Bracket, is_final, end_kind, top_place, fresh}
-use Rattle.py_lines.specs.Private.Scan.{Closes, Tallies, is_returned, is_return_mode, none_open, stack_of, line_start, IsOpenFrom, IsUnfinished}
+use Rattle.py_lines.specs.declared.scan.Flaw.{Flaw}
+use Rattle.py_lines.specs.Private.Machine.{Bracket, is_final, fresh}
+use Rattle.py_lines.specs.Private.Scan.{Closes, Tallies, is_returned, is_return_mode, none_open, stack_of, line_start, IsUnfinished}
 use Rattle.py_lines.specs.Private.LineState.{first_mode}
 use Rattle.py_lines.specs.Private.Feed.{KeepsText, IsOpen, IsPart, FailsAt, ClosesLine, EndsWith, IsLastLine, IsEndFault, EndsHeld}
 use Rattle.py_lines.proofs.Machine.PieceSteps.{pieces_at}
-use Rattle.py_lines.proofs.Machine.Advance.{GoesTo}
+use Rattle.py_lines.proofs.ScanMachine.Advance.{GoesTo}
 use Rattle.py_lines.proofs.LineScan.PieceEnd.{closes_shut}
 use Rattle.py_lines.proofs.LineScan.TextSteps.{way_goes}
-use Rattle.py_lines.proofs.Readers.LineAnswers.{IsLine, Within}
-use Rattle.py_lines.proofs.Readers.EndAnswers.{end_return, within_open, line_at_text_end, line_at_return}
+use Rattle.py_lines.proofs.Readers.LineAnswers.{IsScannedLine, Within}
+use Rattle.py_lines.proofs.Readers.LineFaults.{finished, unfinished_within}
+use Rattle.py_lines.proofs.Readers.EndAnswers.{end_return, line_at_text_end, line_at_return}
 use Rattle.py_lines.proofs.Feeds.Known.{IsKnown, is_known}
-use Rattle.py_lines.proofs.Feeds.Ended.{open_after, ended_bytes, ended_unfinished, ended_line}
+use Rattle.py_lines.proofs.Feeds.Ended.{ended_bytes, ended_unfinished, ended_line}
 use Rattle.py_lines.proofs.Feeds.Loops.{fails_keep}
 use Rattle.py_lines.proofs.Feeds.Steps.{open_sound, open_stop, open_size, within_held}
 use Rattle.py_lines.proofs.Feeds.ReadyLines.{line_of_ready, ready_line}
@@ -71,46 +71,37 @@ module _ (f : Feed) (read rest : List ℕ) (o : IsOpen f read rest) where
           (ap (λ (x : Fault). x.offset) same ∙ fails.keeps.at.place ∙ ap (λ (n : ℕ). f.state.place + n) stop)
           (ap (λ (x : Fault). x.line) same ∙ fails.keeps.at.line read (sym taken))
 
-  -- where something is open
-  open_place : (offset : ℕ) → IsOpenFrom f.state.scan offset → offset ≡ open_after o.way.state (stack_of f.state.scan.brackets)
-  open_place offset (inl (unfinal, is)) =
-      is ∙ o.way.tallies.start ∙ ap (λ (b : Bool). if b then top_place (stack_of f.state.scan.brackets) else byte_len (spelled o.way.state.done)) (sym unfinal ∙ ap is_final o.way.tallies.mode)
-  open_place offset (inr (final, (b, others, top, is))) =
-      is ∙ ap (λ l. top_place l) (sym top) ∙ ap (λ (x : Bool). if x then top_place (stack_of f.state.scan.brackets) else byte_len (spelled o.way.state.done)) (sym final ∙ ap is_final o.way.tallies.mode)
+  read_some : rest ≡ [] → 0 < length f.held.items → 0 < byte_len read
+  read_some none some = omega (arith, some, open_size f read rest o, ap length none)
 
-  open_so : (offset : ℕ) → IsOpenFrom f.state.scan offset → (is_final o.way.state.mode ≡ false) ⊎ ((b : Bracket) × (others : List Bracket) × (stack_of f.state.scan.brackets ≡ b ∷ others))
-  open_so offset (inl (unfinal, is)) = inl (ap is_final (sym o.way.tallies.mode) ∙ unfinal)
-  open_so offset (inr (final, (b, others, top, is))) = inr (b, others, top)
-
-  pub unfinished_within : (offset : ℕ) → IsOpenFrom f.state.scan offset → Within read offset
-  unfinished_within offset is = within_open f.state.scan read o.way.state (open_sound f read rest o) o.way.tallies o.way.stacked offset is
+  pub open_flaw_within : rest ≡ [] → 0 < length f.held.items → (flaw : Flaw) → IsUnfinished f.state.scan (Some flaw) → Within read flaw.place
+  open_flaw_within none some flaw is = unfinished_within f.state.place f.state.scan read o.way (read_some none some) flaw is
 
   -- something is open
-  pub ends_open : (new : Feed) (fault : Fault) (offset : ℕ) → rest ≡ [] → 0 < length f.held.items → is_returned f.state.scan ≡ false → IsOpenFrom f.state.scan offset → FailsAt f (end_kind f.state.scan.piece.mode) offset (lex.Fault fault) new → f.ready ≡ None → IsEndFault f fault new
-  ends_open new fault offset none some not_yet unfinished fails not_ready =
+  pub ends_open : (new : Feed) (fault : Fault) (flaw : Flaw) → rest ≡ [] → 0 < length f.held.items → is_returned f.state.scan ≡ false → IsUnfinished f.state.scan (Some flaw) → FailsAt f flaw.kind flaw.place (lex.Fault fault) new → f.ready ≡ None → IsEndFault f fault new
+  ends_open new fault flaw none some not_yet is_flaw fails not_ready =
       let same : fault ≡ fails.keeps.fault = (let x = fails.keeps.error_is in cc) in
-      let place_is = open_place offset unfinished in
       record {
         text = fails_keep f new _ _ _ fails;
         none_ready = ap (λ (g : Feed). g.ready) fails.same ∙ not_ready;
         kept = ap (λ (s : LineState). s.fault) fails.keeps.same ∙ ap Some (sym same);
         lexed = λ text lines ends.
             let k = known_at text lines ends some in
-            let w : Within read (open_after o.way.state (stack_of f.state.scan.brackets)) = subst (Within read) place_is (unfinished_within offset unfinished) in
-            let taken : take offset f.held.items ≡ encode_utf8_all w.prefix = ap (λ (n : ℕ). take n f.held.items) place_is ∙ (within_held f read rest o (open_after o.way.state (stack_of f.state.scan.brackets)) w).1 in
-            ended_unfinished text f.state.place f.state.line lines read rest k (whole_at text lines ends) none o.way.state (stack_of f.state.scan.brackets) (way_goes o.way) o.way.one_line (open_yet not_yet) (omega (arith, some, open_size f read rest o, ap length none)) (open_so offset unfinished) fault
-            (ap (λ (x : Fault). x.kind) same ∙ fails.keeps.at.is ∙ ap end_kind o.way.tallies.mode)
-            (ap (λ (x : Fault). x.offset) same ∙ fails.keeps.at.place ∙ ap (λ (n : ℕ). f.state.place + n) place_is)
+            let w = open_flaw_within none some flaw is_flaw in
+            let taken : take flaw.place f.held.items ≡ encode_utf8_all w.prefix = (within_held f read rest o flaw.place w).1 in
+            ended_unfinished text f.state.place f.state.line lines read rest k (whole_at text lines ends) none f.state.scan o.way (open_yet not_yet) (read_some none some) flaw is_flaw fault
+            (ap (λ (x : Fault). x.kind) same ∙ fails.keeps.at.is)
+            (ap (λ (x : Fault). x.offset) same ∙ fails.keeps.at.place)
             w
             (ap (λ (x : Fault). x.line) same ∙ fails.keeps.at.line w.prefix (sym taken));
       }
 
   -- the last line
-  last_line : (new : Feed) (end_len : ℕ) → rest ≡ [] → 0 < length f.held.items → KeepsText f new → new.state.fault ≡ f.state.fault → new.ready ≡ Some end_len → new.state.scan.line ≡ f.state.scan.line → is_final f.state.scan.piece.mode ≡ true → stack_of f.state.scan.brackets ≡ [] → IsLine (line_start (first_mode f.state.place)) new.state.scan read end_len (pieces_at o.way.state) → IsLastLine f new
+  last_line : (new : Feed) (end_len : ℕ) → rest ≡ [] → 0 < length f.held.items → KeepsText f new → new.state.fault ≡ f.state.fault → new.ready ≡ Some end_len → new.state.scan.line ≡ f.state.scan.line → is_final f.state.scan.piece.mode ≡ true → stack_of f.state.scan.brackets ≡ [] → IsScannedLine (line_start (first_mode f.state.place)) new.state.scan read end_len (pieces_at o.way.state) → IsLastLine f new
   last_line new end_len none some keeps fault ready number final empty line =
       let held : encode_utf8_all read ++ rest ≡ new.held.items = o.spell ∙ ap (λ (v : Vec ℕ). v.items) (sym keeps.held) in
       let same : new.state.scan.line ≡ new.state.line = number ∙ o.number ∙ sym keeps.line in
-      let line_new : IsLine (line_start (first_mode new.state.place)) new.state.scan read end_len (pieces_at o.way.state) = subst (λ (n : ℕ). IsLine (line_start (first_mode n)) new.state.scan read end_len (pieces_at o.way.state)) (sym keeps.place) line in
+      let line_new : IsScannedLine (line_start (first_mode new.state.place)) new.state.scan read end_len (pieces_at o.way.state) = subst (λ (n : ℕ). IsScannedLine (line_start (first_mode n)) new.state.scan read end_len (pieces_at o.way.state)) (sym keeps.place) line in
       let is : line_of_feed new end_len ≡ line_of f.state.place f.state.line (pieces_at o.way.state) = line_of_ready new end_len read rest (pieces_at o.way.state) held same line_new ∙ ap (λ (n : ℕ). line_of n new.state.line (pieces_at o.way.state)) keeps.place ∙ ap (λ (n : ℕ). line_of f.state.place n (pieces_at o.way.state)) keeps.line in
       record {
         text = keeps;
@@ -125,17 +116,15 @@ module _ (f : Feed) (read rest : List ℕ) (o : IsOpen f read rest) where
             (ended_line text f.state.place f.state.line lines read rest k (whole_at text lines ends) none o.way.state (subst (GoesTo (line_start (first_mode f.state.place)) read o.way.state) empty (way_goes o.way)) (ap is_final (sym o.way.tallies.mode) ∙ final) line.some line.whole);
       }
 
-  read_some : rest ≡ [] → 0 < length f.held.items → 0 < byte_len read
-  read_some none some = omega (arith, some, open_size f read rest o, ap length none)
-
   closed_tallies : (new : Feed) → Closes f.state.scan new.state.scan → Tallies new.state.scan (fresh (pieces_at o.way.state))
   closed_tallies new closes = closes_shut f.state.scan new.state.scan o.way.state.done o.way.state.mode o.way.state.held read closes (open_sound f read rest o) o.way.tallies
 
   -- the last line, which no line end closes
   pub ends_plain : (new : Feed) → rest ≡ [] → 0 < length f.held.items → is_returned f.state.scan ≡ false → IsUnfinished f.state.scan None → KeepsText f new → new.state.fault ≡ f.state.fault → new.ready ≡ Some 0 → Closes f.state.scan new.state.scan → IsLastLine f new
-  ends_plain new none some not_yet (final, empty) keeps fault ready closes =
+  ends_plain new none some not_yet unfinished keeps fault ready closes =
+      let (final, empty) = finished f.state.scan unfinished in
       last_line new 0 none some keeps fault ready (ap (λ (s : Scan). s.line) closes.same) final empty
-      (line_at_text_end (first_mode f.state.place) f.state.scan new.state.scan read o.way (open_sound f read rest o) (open_yet not_yet) (closed_tallies new closes) empty (read_some none some))
+      (line_at_text_end (first_mode f.state.place) f.state.scan new.state.scan read o.way (open_sound f read rest o) (ap is_final (sym o.way.tallies.mode) ∙ final) (open_yet not_yet) (closed_tallies new closes) empty (read_some none some))
 
   -- the last line, which CR closes
   pub ends_returned_line : (new : Feed) → rest ≡ [] → 0 < length f.held.items → is_returned f.state.scan ≡ true → KeepsText f new → new.state.fault ≡ f.state.fault → new.ready ≡ Some 1 → Closes f.state.scan new.state.scan → IsLastLine f new
@@ -162,10 +151,10 @@ module _ (f : Feed) (read rest : List ℕ) (o : IsOpen f read rest) where
       subst (λ (e : LexError). EndsHeld f (Err e) new) (sym fails.keeps.error_is)
       (ends_in_bytes new fails.keeps.fault part.none some (false_from_ne_true _ (λ returned. omega (arith, some, ap length (part.last returned)))) (subst (λ (e : LexError). FailsAt f BadUtf8 f.state.scan.stop e new) fails.keeps.error_is fails) not_ready)
 
-  pub ends_so_open : (new : Feed) (error : LexError) (kind : FaultKind) (offset : ℕ) → kind ≡ end_kind f.state.scan.piece.mode → rest ≡ [] → 0 < length f.held.items → is_returned f.state.scan ≡ false → IsOpenFrom f.state.scan offset → FailsAt f kind offset error new → f.ready ≡ None → EndsHeld f (Err error) new
-  ends_so_open new error kind offset kind_is none some not_yet unfinished fails not_ready =
+  pub ends_so_open : (new : Feed) (error : LexError) (flaw : Flaw) → rest ≡ [] → 0 < length f.held.items → is_returned f.state.scan ≡ false → IsUnfinished f.state.scan (Some flaw) → FailsAt f flaw.kind flaw.place error new → f.ready ≡ None → EndsHeld f (Err error) new
+  ends_so_open new error flaw none some not_yet unfinished fails not_ready =
       subst (λ (e : LexError). EndsHeld f (Err e) new) (sym fails.keeps.error_is)
-      (ends_open new fails.keeps.fault offset none some not_yet unfinished (subst (λ (k : FaultKind). FailsAt f k offset (lex.Fault fails.keeps.fault) new) kind_is (subst (λ (e : LexError). FailsAt f kind offset e new) fails.keeps.error_is fails)) not_ready)
+      (ends_open new fails.keeps.fault flaw none some not_yet unfinished (subst (λ (e : LexError). FailsAt f flaw.kind flaw.place e new) fails.keeps.error_is fails) not_ready)
 
   pub ends_so_plain : (new : Feed) (result : Result (Unit {0}) LexError) → rest ≡ [] → 0 < length f.held.items → is_returned f.state.scan ≡ false → IsUnfinished f.state.scan None → ClosesLine f 0 result new → EndsHeld f result new
   ends_so_plain new (Ok done) none some not_yet unfinished (keeps, ready, fault, closes) = ends_plain new none some not_yet unfinished keeps fault ready closes

@@ -1,13 +1,12 @@
 -- The scan of what is held has met a fault: the bytes fed decide it, after the lines given.
-use Rattle.std.proofs.Common.{◌≡◌, ℕ, ◌+◌, ◌<◌, ◌≤◌, false, not, ◌&&◌, ◌||◌, None, Some, List, [], ◌∷◌, ◌++◌, length, take, drop, refl, sym, ap, ◌∙◌, subst, append_assoc, append-nil, arith, length-append}
-use Rattle.std.specs.Prelude.{encode_utf8, encode_utf8_all, if◌then◌else◌}
+use Rattle.std.proofs.Common.{◌≡◌, ℕ, ◌+◌, ◌<◌, ◌≤◌, false, not, ◌&&◌, None, Some, List, [], ◌∷◌, ◌++◌, length, take, drop, refl, sym, ap, ◌∙◌, subst, append_assoc, append-nil, arith, length-append}
+use Rattle.std.specs.Prelude.{encode_utf8, encode_utf8_all}
 use Rattle.std.specs.Char.{IsScalar, len_utf8}
 use Rattle.std.specs.Global.{Vec}
 use Rattle.std.proofs.lemmas.List.{take-append-drop}
 use Rattle.std.proofs.lemmas.Str.{encodes-append, length-encode, len_utf8_bounds}
 use Rattle.std.proofs.Math.Seq.{take-append_seam}
 use Rattle.py_lines.specs.Character.{is_line_feed}
-use Rattle.py_lines.specs.Piece.{spelled}
 use Rattle.py_lines.specs.LogicalLine.{LogicalLine, byte_len}
 use Rattle.py_lines.specs.Lexed.{IsLexed}
 use Rattle.py_lines.specs.Settled.{IsHopeless, Decides}
@@ -19,21 +18,21 @@ use Rattle.py_lines.specs.declared.fault.LexError.TheVariants as lex
 use Rattle.py_lines.specs.declared.feed.Feed.{Feed}
 use Rattle.py_lines.specs.declared.line_state.LineState.{LineState}
 use Rattle.py_lines.specs.declared.mode.Mode.{Mode}
-use Rattle.py_lines.specs.Private.Machine.{in_short, is_after_backslash, character_kind}
-use Rattle.py_lines.specs.Private.Scan.{IsUnderWay, is_returned, is_return_mode, none_open, stack_of, refused_place}
+use Rattle.py_lines.specs.Private.Scan.{IsUnderWay, is_returned, is_return_mode, none_open, stack_of}
 use Rattle.py_lines.specs.Private.LineState.{first_mode}
 use Rattle.py_lines.specs.declared.fault.FaultKind.{FaultKind}
 use Rattle.py_lines.specs.Private.Feed.{KeepsText, IsOpen, RefusesNext, FailsAt, FailsNext, FailsHeld}
 use Rattle.py_lines.proofs.Text.Incomplete.{part_none}
 use Rattle.py_lines.proofs.Lexings.DecidedFaults.{decided_lexing}
+use Rattle.py_lines.proofs.Readers.LineFaults.{refused_within}
 use Rattle.py_lines.proofs.Readers.LineAnswers.{Within}
 use Rattle.py_lines.proofs.Readers.EndAnswers.{end_return}
 use Rattle.py_lines.proofs.LineScan.TextSteps.{way_goes}
 use Rattle.py_lines.proofs.Feeds.Known.{is_known}
-use Rattle.py_lines.proofs.Feeds.DecidedSoFar.{refused_after, decided_character, decided_bytes}
+use Rattle.py_lines.proofs.Feeds.DecidedSoFar.{decided_character, decided_bytes}
 use Rattle.py_lines.proofs.Text.Utf8Prefixes.{scalars_more, spell_more}
 use Rattle.py_lines.proofs.Feeds.Loops.{keeps_on, fails_keep}
-use Rattle.py_lines.proofs.Feeds.Steps.{open_stop, within_held, refused_held}
+use Rattle.py_lines.proofs.Feeds.Steps.{open_stop, within_held}
 
 -- some of the bytes that the text goes on with
 pub goes_with_first : (text : List ℕ) (place : ℕ) (first later : List ℕ) → GoesOnWith text place (first ++ later) → GoesOnWith text place first
@@ -56,13 +55,6 @@ decided_whole text place lines n most fault within both = record {
   lexed = subst (λ t. IsLexed t lines (Some fault)) (take-append-drop (place + n) text) (decided_lexing (take (place + n) text) (drop (place + n) text) fault lines both.0 both.1);
 }
 
--- where the fault of a refused character stands
-place_of_refused : (f : Feed) (read rest : List ℕ) (o : IsOpen f read rest) (way : IsUnderWay (first_mode f.state.place) f.state.scan read) → refused_place f.state.scan ≡ refused_after way.state read
-place_of_refused f read rest o way =
-    ap (λ (m : Mode). if in_short m || is_after_backslash m then f.state.scan.piece.start else f.state.scan.stop) way.tallies.mode
-    ∙ ap (λ (n : ℕ). if in_short way.state.mode || is_after_backslash way.state.mode then n else f.state.scan.stop) way.tallies.start
-    ∙ ap (λ (n : ℕ). if in_short way.state.mode || is_after_backslash way.state.mode then byte_len (spelled way.state.done) else n) (open_stop f read rest o)
-
 -- a refused character
 by_character : (f new : Feed) (read rest : List ℕ) (o : IsOpen f read rest) (fault : Fault) (c : ℕ) (after : List ℕ) → IsScalar c → rest ≡ encode_utf8 c ++ after → RefusesNext f read c (lex.Fault fault) new → (text : List ℕ) (lines : List LogicalLine) → AreFirstLines text f.state.place f.state.line lines → GoesOnWith text f.state.place f.held.items → IsDecidedAt text f.state.place lines (length f.held.items) fault
 by_character f new read rest o fault c after scalar is r text lines first goes =
@@ -77,13 +69,12 @@ by_character f new read rest o fault c after scalar is r text lines first goes =
     let k = is_known text f.state.place f.state.line lines more [] first (scalars_more read c o.scalars scalar) goes_more some in
     let fails = r.fails in
     let same : fault ≡ fails.keeps.fault = (let e = fails.keeps.error_is in cc) in
-    let place_is = place_of_refused f read rest o way in
-    let w : Within read (refused_after way.state read) = subst (Within read) place_is (refused_held f read rest o) in
-    let taken : take (refused_place f.state.scan) f.held.items ≡ encode_utf8_all w.prefix = ap (λ (n : ℕ). take n f.held.items) place_is ∙ (within_held f read rest o (refused_after way.state read) w).1 in
+    let w = refused_within f.state.place f.state.scan read way c r.refuses r.flaw r.is_flaw in
+    let taken : take r.flaw.place f.held.items ≡ encode_utf8_all w.prefix = (within_held f read rest o r.flaw.place w).1 in
     let not_yet : (is_return_mode way.state.mode && none_open (stack_of f.state.scan.brackets)) && not (is_line_feed c) ≡ false = ap (λ (m : Mode). (is_return_mode m && none_open (stack_of f.state.scan.brackets)) && not (is_line_feed c)) (sym way.tallies.mode) ∙ r.not_yet in
-    let both = decided_character text f.state.place f.state.line lines read c k way.state (stack_of f.state.scan.brackets) (way_goes way) way.one_line r.refuses not_yet fault
-    (ap (λ (x : Fault). x.kind) same ∙ fails.keeps.at.is ∙ ap (λ (m : Mode). character_kind m c) way.tallies.mode)
-    (ap (λ (x : Fault). x.offset) same ∙ fails.keeps.at.place ∙ ap (λ (n : ℕ). f.state.place + n) place_is)
+    let both = decided_character text f.state.place f.state.line lines read c k f.state.scan way r.refuses not_yet r.flaw r.is_flaw fault
+    (ap (λ (x : Fault). x.kind) same ∙ fails.keeps.at.is)
+    (ap (λ (x : Fault). x.offset) same ∙ fails.keeps.at.place)
     w
     (ap (λ (x : Fault). x.line) same ∙ fails.keeps.at.line w.prefix (sym taken)) in
     decided_whole text f.state.place lines (length (encode_utf8_all more ++ [])) (length f.held.items) fault (omega (arith, plain, ap length held, length-append (encode_utf8_all more) after)) both
@@ -129,5 +120,5 @@ failed_keeps old new fault e = go e.fails
         (keeps_on old e.mid new e.text (fails_keep e.mid new kind offset (lex.Fault fault) fails), ap (λ (f : Feed). f.ready) fails.same ∙ e.not_ready, ap (λ (s : LineState). s.fault) fails.keeps.same ∙ ap Some (sym same))
 
     go : FailsNext e.mid e.read e.rest (lex.Fault fault) new → KeepsText old new × (new.ready ≡ None) × (new.state.fault ≡ Some fault)
-    go (FailsNext.at_character c after scalar is refuses) = at (character_kind e.mid.state.scan.piece.mode c) (refused_place e.mid.state.scan) refuses.fails
+    go (FailsNext.at_character c after scalar is refuses) = at refuses.flaw.kind refuses.flaw.place refuses.fails
     go (FailsNext.at_bytes way hopeless open_yet fails) = at BadUtf8 e.mid.state.scan.stop fails

@@ -7,7 +7,7 @@ use Rattle.std.proofs.Math.Seq.{take-add, take-append_seam}
 use Rattle.py_lines.specs.Character.{is_return}
 use Rattle.py_lines.specs.Piece.{ends, spelled}
 use Rattle.py_lines.specs.LogicalLine.{LogicalLine}
-use Rattle.py_lines.specs.PieceGrammar.{AreReadBefore}
+use Rattle.py_lines.specs.Fields.{AreReadBefore}
 use Rattle.py_lines.specs.Reading.{Decodes, IsBalancedReading, EndsLine}
 use Rattle.py_lines.specs.Faults.{IsLive}
 use Rattle.py_lines.specs.Settled.{IsHopeless, IsSettled, Decides}
@@ -24,9 +24,9 @@ use Rattle.py_lines.specs.Private.LineState.{first_mode}
 use Rattle.py_lines.specs.Private.Feed.{IsEnded, IsScanned, EndsLineHeld, EndsExactly, HadEnded}
 use Rattle.py_lines.proofs.Text.Utf8Prefixes.{nothing_bad}
 use Rattle.py_lines.proofs.Text.Incomplete.{part_none}
-use Rattle.py_lines.proofs.Machine.LiveTexts.{reading_live}
-use Rattle.py_lines.proofs.Faults.Uniqueness.{not_live}
-use Rattle.py_lines.proofs.Lexings.Uniqueness.{decoded}
+use Rattle.py_lines.proofs.Lexings.Existence.{reading_live}
+use Rattle.py_lines.proofs.Faults.Verdict.{not_live}
+use Rattle.py_lines.proofs.Text.Decoding.{decoded}
 use Rattle.py_lines.proofs.LineScan.TextSteps.{way_goes}
 use Rattle.py_lines.proofs.Feeds.Known.{IsKnown, known_after, is_known}
 use Rattle.py_lines.proofs.Feeds.SettledSoFar.{MayGetFeed, Follow, settled_open, settled_ready, ended_before}
@@ -125,7 +125,7 @@ module _ (text : List ℕ) (place line : ℕ) (lines : List LogicalLine) (first 
       let size : length text ≡ place = ap length (sym first.decodes.spell) ∙ ap (λ t. length (encode_utf8_all first.characters ++ t)) parts.1 ∙ ap length (append-nil (encode_utf8_all first.characters)) ∙ ap (λ t. length (encode_utf8_all t)) characters ∙ sym first.here in
       let all : take (place + 0) text ≡ text = take_all (place + 0) text (omega (arith, size)) in
       let same = decoded (take (place + 0) text) first.characters d.characters first.tail d.tail (subst (λ t. Decodes t first.characters first.tail) (sym all) first.decodes) d.decodes in
-      let reading : IsBalancedReading first.pieces (spelled first.pieces) = record { spell = refl; fit = subst (AreReadBefore first.pieces) parts.0 first.fit; balanced = first.balanced; shallow = first.shallow } in
+      let reading : IsBalancedReading first.pieces (spelled first.pieces) = record { reads = record { spell = refl; fit = subst (AreReadBefore first.pieces) parts.0 first.fit }; balanced = first.balanced; shallow = first.shallow } in
       ⊎_elim
       (λ dies. not_live d.characters fault.kind fault.offset dies (subst IsLive (sym characters ∙ same.0) (reading_live first.pieces (spelled first.pieces) reading)))
       (λ stays. part_none (subst IsHopeless (sym same.1 ∙ parts.1) stays.1))

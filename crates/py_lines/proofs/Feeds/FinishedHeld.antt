@@ -1,5 +1,5 @@
 -- The text's end, as a caller of the scanner sees it.
-use Rattle.std.proofs.Common.{◌≡◌, ℕ, ◌+◌, ◌<◌, true, false, Option, None, Some, Result, Ok, Err, List, [], ◌++◌, length, take, drop, refl, sym, ap, ◌∙◌, subst, inl, inr, append-nil, arith, length-append, length-drop}
+use Rattle.std.proofs.Common.{◌≡◌, ℕ, ◌+◌, ◌<◌, true, false, Option, None, Some, Ok, Err, List, [], ◌++◌, length, take, drop, refl, sym, ap, ◌∙◌, subst, inl, inr, append-nil, arith, length-append, length-drop}
 use Rattle.std.specs.Prelude.{encode_utf8_all, is_some}
 use Rattle.std.specs.Global.{Vec}
 use Rattle.std.proofs.lemmas.Bool.{both_ways}
@@ -10,18 +10,16 @@ use Rattle.py_lines.specs.LogicalLine.{LogicalLine}
 use Rattle.py_lines.specs.Lexed.{IsLexed}
 use Rattle.py_lines.specs.Settled.{IsSettled}
 use Rattle.py_lines.specs.Given.{AreFirstLines}
-use Rattle.py_lines.specs.ScannerState.{GoesOnWith, IsScanning, HoldsReady, EndsScan, EndsFaulty, Finishes, fed_of, ready_lines}
+use Rattle.py_lines.specs.ScannerState.{GoesOnWith, IsScanning, HoldsReady, EndsScan, ready_lines}
 use Rattle.py_lines.specs.ScannerState.View.{ready_of, scanning_of}
-use Rattle.py_lines.specs.declared.fault.Fault.{Fault}
 use Rattle.py_lines.specs.declared.fault.LexError.{LexError}
 use Rattle.py_lines.specs.declared.fault.LexError.TheVariants as lex
 use Rattle.py_lines.specs.declared.feed.Feed.{Feed}
 use Rattle.py_lines.specs.Private.Scan.{EndsWhole}
-use Rattle.py_lines.specs.Private.Feed.{KeepsText, IsScanned, ScansHeld, EndsLineHeld, IsReady, StandsSo, IsSoundFeed, EndsWith, EndsHeld, HasEndedText, EndsText}
+use Rattle.py_lines.specs.Private.Feed.{KeepsText, IsScanned, ScansHeld, EndsLineHeld, IsReady, HasEndedText, EndsText}
 use Rattle.py_lines.proofs.Feeds.Known.{is_known}
 use Rattle.py_lines.proofs.Feeds.SettledSoFar.{ended_before}
 use Rattle.py_lines.proofs.Feeds.Ended.{ended_empty}
-use Rattle.py_lines.proofs.Feeds.Loops.{keeps_on, restarts_on, restarts_keep, restarts_ready, restarts_fault, restarts_open}
 use Rattle.py_lines.proofs.Feeds.ReadyLines.{ended_ready, scanned_stands}
 use Rattle.py_lines.proofs.Feeds.NextHeld.{next_pieces, next_line, next_some}
 use Rattle.py_lines.proofs.Feeds.FailedHeld.{failed_held, failed_keeps}
@@ -32,17 +30,6 @@ items_kept old new keeps = ap (λ (v : Vec ℕ). v.items) keeps.held
 -- the lines released are the text's first, and so they were before a scan
 first_kept : (old mid : Feed) (text : List ℕ) (lines : List LogicalLine) → KeepsText old mid → AreFirstLines text old.state.place old.state.line lines → AreFirstLines text mid.state.place mid.state.line lines
 first_kept old mid text lines keeps first = subst (λ (n : ℕ). AreFirstLines text n mid.state.line lines) (sym keeps.place) (subst (λ (n : ℕ). AreFirstLines text old.state.place n lines) (sym keeps.line) first)
-
--- the text ends with what is held, and so it did before a scan
-pub ends_as : (old mid : Feed) (text : List ℕ) (lines : List LogicalLine) → KeepsText old mid → EndsWith old text lines → EndsWith mid text lines
-ends_as old mid text lines keeps ends = record {
-  first = first_kept old mid text lines keeps ends.first;
-  held = subst (λ (n : ℕ). GoesOnWith text n mid.held.items) (sym keeps.place) (subst (GoesOnWith text old.state.place) (sym (items_kept old mid keeps)) ends.held);
-  whole = ends.whole ∙ ap (λ (n : ℕ). n + length old.held.items) (sym keeps.place) ∙ ap (λ l. mid.state.place + length l) (sym (items_kept old mid keeps));
-}
-
-ends_with : (f : Feed) (text : List ℕ) (lines : List LogicalLine) → IsScanning (scanning_of f) text lines → length text ≡ fed_of (scanning_of f) → EndsWith f text lines
-ends_with f text lines scanning whole = record { first = scanning.first; held = scanning.held; whole = whole }
 
 -- a fault of the scan
 pub text_fault : (old new : Feed) (error : LexError) → ScansHeld old (Err error) new → EndsText old (Err error) new
@@ -107,93 +94,9 @@ pub none_from : (ready : Option ℕ) → is_some ready ≡ false → ready ≡ N
 none_from None is = refl
 none_from (Some n) is = absurd (both_ways _ is refl)
 
--- the last line, or the fault at the text's end
-pub text_line : (old mid new : Feed) (result : Result (Unit {0}) LexError) → mid.ready ≡ None → KeepsText old mid → mid.state.fault ≡ old.state.fault → old.ready ≡ None → EndsHeld mid result new → EndsText old result new
-text_line old mid new (Ok done) not_ready keeps fault first e = record {
-  text = keeps_on old mid new keeps e.text;
-  fault = e.fault ∙ fault;
-  state = subst (λ r. StandsSo r new) (sym e.is_ready) e.ready;
-  lexed = λ text lines scanning whole.
-      subst (λ r. IsLexed text (lines ++ ready_lines (ready_of new r)) None × HoldsReady new.held.items (ready_of new r)) (sym e.is_ready)
-      (e.lexed text lines (ends_as old mid text lines keeps (ends_with old text lines scanning whole)), ([], sym (append-nil (take new.state.scan.stop new.held.items) ∙ take_all new.state.scan.stop new.held.items (omega (arith, e.all))), omega arith));
-}
-text_line old mid new (Err (lex.Fault f)) not_ready keeps fault first e = record {
-  text = keeps_on old mid new keeps e.text;
-  none_ready = e.none_ready;
-  kept = e.kept;
-  lexed = λ text lines ends. e.lexed text lines (ends_as old mid text lines keeps ends);
-}
-text_line old mid new (Err lex.Memory) not_ready keeps fault first r = restarts_on old mid new keeps (not_ready ∙ sym first) fault r
-
--- what a caller sees of a fault
-pub finish_again : (f : Feed) (fault : Fault) → f.state.fault ≡ Some fault → EndsFaulty (scanning_of f) fault (scanning_of f)
-finish_again f fault is = record {
-  all = λ text lines scanning whole. absurd (let none = scanning.no_fault in let h = sym is ∙ none in cc);
-  again = λ first was. (let h = sym is ∙ was in cc);
-  place = refl;
-  line = refl;
-  held = refl;
-  fed = refl;
-  ready = refl;
-  open_yet = refl;
-  kept = is;
-}
-
-same_scanning : (old new : Feed) → KeepsText old new → old.ready ≡ None → new.ready ≡ None → new.state.fault ≡ old.state.fault → scanning_of new ≡ scanning_of old
-same_scanning old new keeps first ready fault =
-    let place = keeps.place in
-    let line = keeps.line in
-    let held = items_kept old new keeps in
-    let ended = keeps.ended in
-    let both : ready_of new new.ready ≡ ready_of old old.ready = ap (ready_of new) ready ∙ sym (ap (ready_of old) first) in
-    λ i. record { place = place i; line = line i; held = held i; ready = both i; ended = ended i; fault = fault i }
-
-sound_again : (old new : Feed) → IsSoundFeed old → KeepsText old new → StandsSo new.ready new → IsSoundFeed new
-sound_again old new sound keeps state = record {
-  room = record {
-    fits = omega (arith, keeps.place, ap length (items_kept old new keeps), sound.room.fits);
-    few_lines = omega (arith, keeps.place, keeps.line, sound.room.few_lines);
-  };
-  state = state;
-}
-
-pub finish_error : (old new : Feed) (error : LexError) → old.state.fault ≡ None → old.ready ≡ None → EndsText old (Err error) new → Finishes (scanning_of old) (Err error) (scanning_of new)
-finish_error old new (lex.Fault f) no_fault first e = record {
-  all = λ text lines scanning whole. e.lexed text lines (ends_with old text lines scanning whole);
-  again = λ other was. absurd (let h = sym no_fault ∙ was in cc);
-  place = e.text.place;
-  line = e.text.line;
-  held = items_kept old new e.text;
-  fed = omega (arith, e.text.place, ap length (items_kept old new e.text));
-  ready = ap (ready_of new) e.none_ready ∙ sym (ap (ready_of old) first);
-  open_yet = e.text.ended;
-  kept = e.kept;
-}
-finish_error old new lex.Memory no_fault first r = record {
-  same = same_scanning old new (restarts_keep old new r) first (restarts_ready old new r ∙ first) (restarts_fault old new r);
-  none_ready = ap (ready_of old) first;
-  no_fault = no_fault;
-}
-
-pub sound_error : (old new : Feed) (error : LexError) → IsSoundFeed old → old.ready ≡ None → EndsText old (Err error) new → IsSoundFeed new
-sound_error old new (lex.Fault f) sound first e = sound_again old new sound e.text (subst (λ r. StandsSo r new) (sym e.none_ready) (λ no_fault. absurd (let h = sym no_fault ∙ e.kept in cc)))
-sound_error old new lex.Memory sound first r = sound_again old new sound (restarts_keep old new r) (subst (λ r. StandsSo r new) (sym (restarts_ready old new r ∙ first)) (λ no_fault. ([], new.held.items, restarts_open old new r)))
-
 -- the text has ended
 abbrev pub ended_now : Feed → Feed
 ended_now f = record f { ended = true }
-
-ready_now : (f : Feed) (n : ℕ) → IsReady f n → IsReady (ended_now f) n
-ready_now f n r = record { read = r.read; rest = r.rest; pieces = r.pieces; scalars = r.scalars; spell = r.spell; spells = r.spells; line_is = r.line_is; stop = r.stop; here = r.here; some = r.some }
-
-stands_now : (ready : Option ℕ) (f : Feed) → StandsSo ready f → StandsSo ready (ended_now f)
-stands_now None f stands = λ no_fault. (let h = stands no_fault in (h.0, h.1, record { scalars = h.2.scalars; spell = h.2.spell; way = h.2.way; number = h.2.number }))
-stands_now (Some n) f ready = ready_now f n ready
-
-pub sound_now : (old f : Feed) → IsSoundFeed old → HasEndedText old f → IsSoundFeed (ended_now f)
-sound_now old f sound e =
-    let s = sound_again old f sound e.text e.state in
-    record { room = record { fits = s.room.fits; few_lines = s.room.few_lines }; state = stands_now f.ready f e.state }
 
 same_ready : (ready : Option ℕ) (f : Feed) → ready_of f ready ≡ ready_of (ended_now f) ready
 same_ready None f = refl

@@ -17,7 +17,7 @@ use Rattle.py_lines.specs.Private.Scan.{EndsWhole, IsLineBefore, line_start}
 use Rattle.py_lines.specs.declared.scan.Stop.TheVariants as stops
 use Rattle.py_lines.specs.Private.Feed.{HasScannedNext, IsScanned, EndsLineHeld, EndsExactly, HadEnded, EndsAfter, whole_end, GivesBack, TakesOf}
 use Rattle.py_lines.proofs.Feeds.Chunks.{none_is}
-use Rattle.py_lines.proofs.Readers.LineAnswers.{IsLine, line_at_end}
+use Rattle.py_lines.proofs.Readers.LineAnswers.{IsScannedLine, line_at_end}
 
 -- a line's end stays whole where one byte after CR stays
 whole_taken : (all after : List ℕ) (k : ℕ) → EndsWhole all after → (ends is_return all ≡ true → 0 < k) → EndsWhole all (take k after)
@@ -34,7 +34,7 @@ exact_return all after returned (inr (b, m, is, other)) = inr (b, ap (take 1) is
 
 -- a line that has ended in these bytes
 module _ (m : Mode) (scan : Scan) (bytes all after : List ℕ) (end_len : ℕ) (spell : encode_utf8_all all ++ after ≡ bytes) (at : IsLineBefore m scan all end_len) (whole : EndsWhole all after) where
-  pub line_ended : IsLine (line_start m) scan all end_len ((at [] (λ returned. refl)).body ++ (at [] (λ returned. refl)).last ∷ [])
+  pub line_ended : IsScannedLine (line_start m) scan all end_len ((at [] (λ returned. refl)).body ++ (at [] (λ returned. refl)).last ∷ [])
   line_ended = line_at_end m scan all [] end_len (at [] (λ returned. refl)) [] refl
 
   line_returned : scan.count.after_return ≡ ends is_return all

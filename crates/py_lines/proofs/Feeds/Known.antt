@@ -7,19 +7,22 @@ use Rattle.std.proofs.lemmas.List.{take-append-drop}
 use Rattle.std.proofs.lemmas.Str.{encodes-append}
 use Rattle.std.proofs.Math.Seq.{take-add, take-append_seam, drop-append_seam}
 use Rattle.py_lines.specs.Piece.{Piece, spelled}
-use Rattle.py_lines.specs.PieceGrammar.{AreReadBefore}
-use Rattle.py_lines.specs.Balance.{IsBalanced, IsShallow}
-use Rattle.py_lines.specs.LogicalLine.{LogicalLine, lines_of, byte_len, line_ends}
+use Rattle.py_lines.specs.Balance.{IsBalanced}
+use Rattle.py_lines.specs.Fields.{fielded, AreReadBefore, IsShallow}
 use Rattle.py_lines.specs.Reading.{Decodes, EndsLine}
 use Rattle.py_lines.specs.Given.{AreFirstLines}
+use Rattle.py_lines.specs.LogicalLine.{LogicalLine, lines_of, byte_len, line_ends}
 use Rattle.py_lines.specs.ScannerState.{GoesOnWith}
 use Rattle.py_lines.specs.Private.Machine.{Scanned, Bracket, brackets_of}
+use Rattle.py_lines.specs.Private.ScanMachine.{StringsFit}
 use Rattle.py_lines.specs.Private.Scan.{line_start}
 use Rattle.py_lines.specs.Private.LineState.{first_mode}
 use Rattle.py_lines.proofs.Text.Continued.{goes_on}
 use Rattle.py_lines.proofs.Text.Utf8Prefixes.{all_scalars-parts, all_scalars-append}
 use Rattle.py_lines.proofs.Pieces.OpenBrackets.{stack-from_balanced}
-use Rattle.py_lines.proofs.Machine.Advance.{GoesTo}
+use Rattle.py_lines.proofs.Pieces.ShallowPieces.{brackets_shallow, strings_shallow}
+use Rattle.py_lines.proofs.Fields.OneReading.{read_before}
+use Rattle.py_lines.proofs.ScanMachine.Advance.{GoesTo}
 use Rattle.py_lines.proofs.LineScan.TextSteps.{Base, base_of, Joined, joined}
 
 -- the lines given, the characters read after them and the bytes left, which are all that is known of the text
@@ -94,11 +97,18 @@ module _ (text : List ℕ) (place line : ℕ) (lines : List LogicalLine) (read r
   decodes bad = record { are = k.scalars; spell = sym k.known; bad = bad }
 
   pub level : brackets_of k.base ≡ Some []
-  level = stack-from_balanced k.base k.balanced k.shallow
+  level = stack-from_balanced k.base k.balanced (brackets_shallow 0 k.base k.shallow)
+
+  pub strings : StringsFit 0 k.base
+  strings = strings_shallow 0 k.base k.shallow
 
   pub stands : Base place k.base
   stands = base_of place k.base (read ++ k.more) k.fit k.ended k.here
 
   -- the machine over the whole text so far
   pub joins : (s : Scanned) (st : List Bracket) → GoesTo (line_start (first_mode place)) read s st → Joined k.base read s st k.more
-  joins s st goes = joined place k.base k.more level read s st k.fit stands goes
+  joins s st goes = joined place k.base k.more level strings read s st k.fit stands goes
+
+-- the lines given are read before what was read, whatever follows that
+pub read_then : (base : List Piece) (c : ℕ) (read more others : List ℕ) → AreReadBefore base ((c ∷ read) ++ more) → AreReadBefore base ((c ∷ read) ++ others)
+read_then base c read more others fit = read_before fielded base c (read ++ more) (read ++ others) fit

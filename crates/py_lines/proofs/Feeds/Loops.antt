@@ -11,8 +11,8 @@ use Rattle.py_lines.specs.declared.fault.LexError.TheVariants as lex
 use Rattle.py_lines.specs.declared.feed.Feed.{Feed}
 use Rattle.py_lines.specs.declared.line_state.LineState.{LineState}
 use Rattle.py_lines.specs.declared.scan.Stop.TheVariants as stops
-use Rattle.py_lines.specs.Private.Machine.{character_kind}
-use Rattle.py_lines.specs.Private.Scan.{Tallies, IsStacked, IsUnderWay, line_start, is_returned, refused_place}
+use Rattle.py_lines.specs.declared.scan.Flaw.{Flaw}
+use Rattle.py_lines.specs.Private.Scan.{Tallies, IsStacked, IsUnderWay, line_start, is_returned, IsRefusal}
 use Rattle.py_lines.specs.Private.LineState.{first_mode}
 use Rattle.py_lines.specs.Private.Feed.{KeepsText, Restarts, IsOpen, IsPart, FailsAt, FailsNext, StopsHeld, ClosesLine, IsScanned, ScansHeld}
 use Rattle.py_lines.proofs.Text.Utf8Prefixes.{nothing_bad}
@@ -107,23 +107,23 @@ part_fails f new read rest error o ready hopeless open_yet fails = subst (λ (e 
 })
 
 -- the next character is refused
-pub held_refused : (old mid new : Feed) (read rest : List ℕ) (c : ℕ) (kind : FaultKind) (offset : ℕ) (error : LexError) → KeepsText old mid → mid.ready ≡ None → StopsHeld mid (stops.Refused c) read rest → kind ≡ character_kind mid.state.scan.piece.mode c → offset ≡ refused_place mid.state.scan → FailsAt mid kind offset error new → ScansHeld old (Err error) new
-held_refused old mid new read rest c kind offset error keeps ready s kind_is after_is fails =
-    let moved : FailsAt mid (character_kind mid.state.scan.piece.mode c) (refused_place mid.state.scan) error new = subst (λ (n : ℕ). FailsAt mid (character_kind mid.state.scan.piece.mode c) n error new) after_is (subst (λ (k : FaultKind). FailsAt mid k offset error new) kind_is fails) in
-    subst (λ (e : LexError). ScansHeld old (Err e) new) (sym moved.keeps.error_is) (record {
-      mid = mid;
-      text = keeps;
-      not_ready = ready;
-      read = read;
-      rest = rest;
-      opens = s.0;
-      fails = FailsNext.at_character c s.1 s.2 s.3 (record {
-        way = s.0.way;
-        refuses = s.4;
-        not_yet = s.5;
-        fails = subst (λ (e : LexError). FailsAt mid (character_kind mid.state.scan.piece.mode c) (refused_place mid.state.scan) e new) moved.keeps.error_is moved;
-      });
-    })
+pub held_refused : (old mid new : Feed) (read rest : List ℕ) (c : ℕ) (flaw : Flaw) (error : LexError) → KeepsText old mid → mid.ready ≡ None → StopsHeld mid (stops.Refused c) read rest → IsRefusal mid.state.scan c flaw → FailsAt mid flaw.kind flaw.place error new → ScansHeld old (Err error) new
+held_refused old mid new read rest c flaw error keeps ready s is_flaw fails = subst (λ (e : LexError). ScansHeld old (Err e) new) (sym fails.keeps.error_is) (record {
+  mid = mid;
+  text = keeps;
+  not_ready = ready;
+  read = read;
+  rest = rest;
+  opens = s.0;
+  fails = FailsNext.at_character c s.1 s.2 s.3 (record {
+    way = s.0.way;
+    refuses = s.4;
+    not_yet = s.5;
+    flaw = flaw;
+    is_flaw = is_flaw;
+    fails = subst (λ (e : LexError). FailsAt mid flaw.kind flaw.place e new) fails.keeps.error_is fails;
+  });
+})
 
 -- the same, from where a scan of the characters came to
 pub held_from : (old mid new : Feed) (r : _) → KeepsText old mid → mid.ready ≡ old.ready → mid.state.fault ≡ old.state.fault → ScansHeld mid r new → ScansHeld old r new

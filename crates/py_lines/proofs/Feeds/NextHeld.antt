@@ -50,6 +50,7 @@ module _ (text : List ℕ) (f : Feed) (lines : List LogicalLine) (end_len : ℕ)
         fit = at.fit k.more refl;
         whole = line.whole;
         stacked = line.stacked;
+        strings = line.strings;
         to = line.to;
         steps = line.steps;
       }

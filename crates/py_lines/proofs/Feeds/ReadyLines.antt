@@ -13,10 +13,10 @@ use Rattle.py_lines.specs.Private.Scan.{line_start}
 use Rattle.py_lines.specs.Private.LineState.{first_mode}
 use Rattle.py_lines.specs.Private.Feed.{IsEnded, IsScanned, IsHeldSo, IsReady, StandsSo}
 use Rattle.py_lines.proofs.LogicalLines.TokenPlaces.{tokens_lie}
-use Rattle.py_lines.proofs.Readers.LineAnswers.{IsLine, line_at_end}
+use Rattle.py_lines.proofs.Readers.LineAnswers.{IsScannedLine, line_at_end}
 
 -- the logical line of a line that was scanned whole
-pub line_of_ready : (f : Feed) (end_len : ℕ) (read rest : List ℕ) (u : List Piece) → encode_utf8_all read ++ rest ≡ f.held.items → f.state.scan.line ≡ f.state.line → IsLine (line_start (first_mode f.state.place)) f.state.scan read end_len u → line_of_feed f end_len ≡ line_of f.state.place f.state.line u
+pub line_of_ready : (f : Feed) (end_len : ℕ) (read rest : List ℕ) (u : List Piece) → encode_utf8_all read ++ rest ≡ f.held.items → f.state.scan.line ≡ f.state.line → IsScannedLine (line_start (first_mode f.state.place)) f.state.scan read end_len u → line_of_feed f end_len ≡ line_of f.state.place f.state.line u
 line_of_ready f end_len read rest u held number line =
     let text : take f.state.scan.stop f.held.items ≡ encode_utf8_all (spelled u) = ap (λ (n : ℕ). take n f.held.items) line.stop ∙ ap (take (byte_len read)) (sym held) ∙ take-append_seam (encode_utf8_all read) rest ∙ ap encode_utf8_all (sym line.spell) in
     let tokens = line.tokens ∙ ap (λ (n : ℕ). tokens_from 0 n u) number in
@@ -26,7 +26,7 @@ line_of_ready f end_len read rest u held number line =
     λ i. record { kind = kind i; text = text i; tokens = tokens i; offset = f.state.place; line = number i; indent = indent i; end_len = ends i }
 
 -- such a line is ready
-pub ready_line : (f : Feed) (end_len : ℕ) (read rest : List ℕ) (u : List Piece) → all_scalars read ≡ true → encode_utf8_all read ++ rest ≡ f.held.items → f.state.scan.line ≡ f.state.line → IsLine (line_start (first_mode f.state.place)) f.state.scan read end_len u → IsReady f end_len
+pub ready_line : (f : Feed) (end_len : ℕ) (read rest : List ℕ) (u : List Piece) → all_scalars read ≡ true → encode_utf8_all read ++ rest ≡ f.held.items → f.state.scan.line ≡ f.state.line → IsScannedLine (line_start (first_mode f.state.place)) f.state.scan read end_len u → IsReady f end_len
 ready_line f end_len read rest u scalars held number line = record {
   read = read;
   rest = rest;
@@ -41,7 +41,7 @@ ready_line f end_len read rest u scalars held number line = record {
 }
 
 -- the line that its line end has closed, as a logical line
-pub line_of_ended : (f : Feed) (end_len : ℕ) (read rest : List ℕ) (e : IsEnded f end_len read rest) (after : List ℕ) (h : ends is_return read ≡ true → begins is_line_feed after ≡ false) → IsLine (line_start (first_mode f.state.place)) f.state.scan read end_len ((e.at after h).body ++ (e.at after h).last ∷ []) × (line_of_feed f end_len ≡ line_of f.state.place f.state.line ((e.at after h).body ++ (e.at after h).last ∷ []))
+pub line_of_ended : (f : Feed) (end_len : ℕ) (read rest : List ℕ) (e : IsEnded f end_len read rest) (after : List ℕ) (h : ends is_return read ≡ true → begins is_line_feed after ≡ false) → IsScannedLine (line_start (first_mode f.state.place)) f.state.scan read end_len ((e.at after h).body ++ (e.at after h).last ∷ []) × (line_of_feed f end_len ≡ line_of f.state.place f.state.line ((e.at after h).body ++ (e.at after h).last ∷ []))
 line_of_ended f end_len read rest e after h =
     let at = e.at after h in
     let line = line_at_end (first_mode f.state.place) f.state.scan read (encode_utf8_all after) end_len at after refl in

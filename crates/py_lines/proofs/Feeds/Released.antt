@@ -5,11 +5,11 @@ use Rattle.std.specs.Str.{all_scalars}
 use Rattle.std.proofs.lemmas.List.{take-append-drop, append_cancel_left}
 use Rattle.std.proofs.lemmas.Str.{encodes-append, encodes_same}
 use Rattle.py_lines.specs.Piece.{spelled}
-use Rattle.py_lines.specs.PieceGrammar.{AreReadBefore}
-use Rattle.py_lines.specs.LogicalLine.{LogicalLine, byte_len, line_ends}
+use Rattle.py_lines.specs.Fields.{AreReadBefore}
 use Rattle.py_lines.specs.Lexed.{IsLexedWhole}
 use Rattle.py_lines.specs.Settled.{IsSettled}
 use Rattle.py_lines.specs.Given.{AreFirstLines}
+use Rattle.py_lines.specs.LogicalLine.{LogicalLine, byte_len, line_ends}
 use Rattle.py_lines.proofs.Text.Continued.{goes_on}
 use Rattle.py_lines.proofs.Text.Decoding.{decoding}
 use Rattle.py_lines.proofs.Text.Utf8Prefixes.{all_scalars-parts, one_decoding}
@@ -69,7 +69,7 @@ module _ (text : List ℕ) (place line : ℕ) (lines : List LogicalLine) (read :
   last_rest : first.rest ≡ read
   last_rest =
       let characters = (one_decoding first.characters all.characters first.tail [] first.decodes.are all.decodes.are first.decodes.bad all.decodes.bad (first.decodes.spell ∙ sym all.decodes.spell)).0 in
-      append_cancel_left (spelled first.pieces) first.rest read (first.spell ∙ characters ∙ sym all.reading.spell ∙ last_spells)
+      append_cancel_left (spelled first.pieces) first.rest read (first.spell ∙ characters ∙ sym all.reading.reads.spell ∙ last_spells)
 
   pub last_released : AreFirstLines text (place + byte_len read) (line + line_ends read) (lines ++ l ∷ [])
   last_released =
@@ -80,8 +80,8 @@ module _ (text : List ℕ) (place line : ℕ) (lines : List LogicalLine) (read :
         pieces = all.pieces;
         rest = [];
         decodes = all.decodes;
-        spell = append-nil (spelled all.pieces) ∙ all.reading.spell;
-        fit = all.reading.fit;
+        spell = append-nil (spelled all.pieces) ∙ all.reading.reads.spell;
+        fit = all.reading.reads.fit;
         balanced = all.reading.balanced;
         shallow = all.reading.shallow;
         ended = inr refl;

@@ -6,30 +6,31 @@ use Rattle.std.proofs.lemmas.Bool.{cases_lt, and_from, false_from_ne_true}
 use Rattle.std.proofs.lemmas.Str.{encodes-append, encodes_same, encode_ascii}
 use Rattle.py_lines.specs.Character.{is_line_feed, is_return}
 use Rattle.py_lines.specs.Piece.{line_end, Piece, ends, spelled}
-use Rattle.py_lines.specs.PieceGrammar.{AreReadBefore}
 use Rattle.py_lines.specs.Balance.{depth_through}
-use Rattle.py_lines.specs.LogicalLine.{LogicalLine, cut, byte_len, line_of, lines_of}
+use Rattle.py_lines.specs.Fields.{AreReadBefore, IsShallow}
 use Rattle.py_lines.specs.Reading.{Decodes, IsBalancedReading, EndsLine}
 use Rattle.py_lines.specs.Settled.{EndsForGood, IsSettled}
-use Rattle.py_lines.specs.Private.Machine.{Scanned, steps_from, Bracket, brackets_of, IsSound}
+use Rattle.py_lines.specs.LogicalLine.{LogicalLine, cut, byte_len, line_of, lines_of}
+use Rattle.py_lines.specs.Private.Machine.{Scanned, Bracket, brackets_of}
+use Rattle.py_lines.specs.Private.ScanMachine.{scan_steps, StringsFit, IsScanSound}
 use Rattle.py_lines.specs.Private.Scan.{EndsNoLine, line_start}
 use Rattle.py_lines.specs.Private.LineState.{first_mode}
 use Rattle.py_lines.specs.declared.mode.Mode.{Mode}
 use Rattle.py_lines.specs.declared.mode.Mode.TheVariants as modes
 use Rattle.std.proofs.Math.Utf8.{low_scalar}
 use Rattle.py_lines.specs.Balance as brackets
-use Rattle.py_lines.specs.Balance.{IsShallow}
 use Rattle.py_lines.proofs.Text.CharacterTests.{return_is, feed_is}
 use Rattle.py_lines.proofs.Text.Continued.{goes_on}
 use Rattle.py_lines.proofs.Text.Utf8Prefixes.{all_scalars-append, nothing_bad}
 use Rattle.py_lines.proofs.Text.Utf8Shapes.{no_char}
 use Rattle.py_lines.proofs.Pieces.PieceLists.{spelled-append, AreReadBefore-append, AreReadBefore-second}
-use Rattle.py_lines.proofs.Pieces.OpenBrackets.{balanced-from_stack, balanced_depth, depth_through-append, IsShallow-append}
+use Rattle.py_lines.proofs.Pieces.OpenBrackets.{balanced_depth, depth_through-append}
+use Rattle.py_lines.proofs.Pieces.ShallowPieces.{IsShallow-append, fits_reading}
 use Rattle.py_lines.proofs.LogicalLines.NextLine.{lines_of-push, texts, texts-lines}
 use Rattle.py_lines.proofs.Lexings.LinePrefix.{read-alone}
 use Rattle.py_lines.proofs.Lexings.SettledLines.{ends-line}
 use Rattle.py_lines.proofs.Machine.PieceSteps.{scanned, pieces_at}
-use Rattle.py_lines.proofs.Machine.Advance.{GoesTo}
+use Rattle.py_lines.proofs.ScanMachine.Advance.{GoesTo}
 use Rattle.py_lines.proofs.Lexings.SettledPrefixes.{EndsNoneYet, settled_at, settled_line}
 use Rattle.py_lines.proofs.LineScan.NextCharacter.{closed_one_line}
 use Rattle.py_lines.proofs.LineScan.LineSteps.{sound_steps}
@@ -42,7 +43,7 @@ abbrev pub MayGetFeed : Mode → List Bracket → List ℕ → Type 0
 MayGetFeed modes.Return [] rest = rest ≡ []
 MayGetFeed m st rest = Unit {0}
 
-ends_none : (m : Mode) (done : List Piece) (held read rest : List ℕ) (st : List Bracket) → IsSound (scanned done m held) read → brackets_of done ≡ Some st → EndsNoLine 0 done → MayGetFeed m st rest → EndsNoneYet (pieces_at (scanned done m held)) rest
+ends_none : (m : Mode) (done : List Piece) (held read rest : List ℕ) (st : List Bracket) → IsScanSound (scanned done m held) read → brackets_of done ≡ Some st → EndsNoLine 0 done → MayGetFeed m st rest → EndsNoneYet (pieces_at (scanned done m held)) rest
 ends_none modes.Return done held read rest [] sound stacked one_line last = EndsNoneYet.by_return done held refl one_line (sound.holds.1 ∙ ap (λ d. d ∷ []) (return_is sound.holds.0 sound.holds.2)) last
 ends_none modes.Return done held read rest (b ∷ bs) sound stacked one_line last = EndsNoneYet.none (closed_one_line modes.Return done held (b ∷ bs) stacked one_line (λ same. refl))
 ends_none m done held read rest st sound stacked one_line last = EndsNoneYet.none (closed_one_line m done held st stacked one_line (λ same. absurd (cc)))
@@ -95,8 +96,9 @@ pub record IsNextLine (place : ℕ) (read more : List ℕ) (u : List Piece) : Ty
   pub fit : AreReadBefore u more
   pub whole : cut 0 u ≡ u ∷ []
   pub stacked : brackets_of u ≡ Some []
+  pub strings : StringsFit 0 u
   pub to : Scanned
-  pub steps : steps_from (Some (line_start (first_mode place))) read ≡ Some to
+  pub steps : scan_steps (Some (line_start (first_mode place))) read ≡ Some to
 
 module _ (text : List ℕ) (place line : ℕ) (lines : List LogicalLine) (read rest : List ℕ) (k : IsKnown text place line lines read rest) (u : List Piece) (next : IsNextLine place read k.more u) where
   all_fit : AreReadBefore (k.base ++ u) k.more
@@ -117,11 +119,10 @@ module _ (text : List ℕ) (place line : ℕ) (lines : List LogicalLine) (read r
   all_reading : IsBalancedReading (k.base ++ u) (spelled (k.base ++ u))
   all_reading =
       let split : k.base ++ u ≡ (k.base ++ next.body) ++ next.last ∷ [] = ap (λ l. k.base ++ l) next.is ∙ sym (append_assoc k.base next.body (next.last ∷ [])) in
-      let balanced = balanced-from_stack u next.stacked in
+      let balanced = fits_reading u next.stacked next.strings in
       let level : depth_through 0 k.base ≡ 0 = balanced_depth k.base k.balanced 0 in
       record {
-        spell = refl;
-        fit = subst (λ l. AreReadBefore l []) (sym split) (read-alone (k.base ++ next.body) next.last k.more next.class (subst (λ l. AreReadBefore l k.more) split all_fit));
+        reads = record { spell = refl; fit = subst (λ l. AreReadBefore l []) (sym split) (read-alone (k.base ++ next.body) next.last k.more next.class (subst (λ l. AreReadBefore l k.more) split all_fit)) };
         balanced = brackets.both (k.base ++ u) k.base u refl k.balanced balanced.0;
         shallow = IsShallow-append 0 k.base u k.shallow (subst (λ (d : ℕ). IsShallow d u) (sym level) balanced.1);
       }

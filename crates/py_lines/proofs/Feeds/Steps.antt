@@ -1,31 +1,30 @@
 -- One character more of what a scanner holds.
-use Rattle.std.proofs.Common.{◌≡◌, ℕ, ◌+◌, ◌<◌, ◌≤◌, true, ◌||◌, List, [], ◌∷◌, ◌++◌, length, take, drop, inr, refl, sym, ap, ◌∙◌, subst, append_assoc, arith, length-append, length-drop, ◌-◌}
+use Rattle.std.proofs.Common.{◌≡◌, ℕ, ◌+◌, ◌<◌, ◌≤◌, true, List, [], ◌∷◌, ◌++◌, length, take, drop, inr, refl, sym, ap, ◌∙◌, subst, append_assoc, arith, length-append, length-drop, ◌-◌}
 use Rattle.std.specs.Prelude.{encode_utf8_all, IsUtf8}
 use Rattle.std.specs.Str.{all_scalars, StartsWithNoChar}
-use Rattle.std.proofs.lemmas.Bool.{and_parts, cond_both}
+use Rattle.std.proofs.lemmas.Bool.{and_parts}
 use Rattle.std.proofs.lemmas.Str.{encodes-append, encode_ascii, encodes_same}
 use Rattle.std.proofs.lemmas.List.{take_all}
 use Rattle.std.proofs.Math.Seq.{take-append_seam, drop-append_seam}
 use Rattle.py_lines.specs.Character.{is_line_feed}
-use Rattle.py_lines.specs.Piece.{begins, spelled}
-use Rattle.py_lines.specs.LogicalLine.{byte_len, line_ends}
+use Rattle.py_lines.specs.Piece.{begins}
+use Rattle.py_lines.specs.LogicalLine.{byte_len}
 use Rattle.py_lines.specs.declared.scan.Scan.{Scan}
 use Rattle.py_lines.specs.declared.feed.Feed.{Feed}
-use Rattle.py_lines.specs.Private.Machine.{in_short, is_after_backslash, IsSound}
+use Rattle.py_lines.specs.Private.ScanMachine.{IsScanSound}
 use Rattle.std.specs.Global.{Vec}
-use Rattle.py_lines.specs.Private.Scan.{Closes, is_return_mode, IsAtLineEnd, is_returned, refused_place}
+use Rattle.py_lines.specs.Private.Scan.{Closes, is_return_mode, IsAtLineEnd, is_returned}
 use Rattle.py_lines.specs.Private.LineState.{first_mode}
 use Rattle.py_lines.specs.Private.Feed.{KeepsText, IsOpen, EndsLineHeld}
 use Rattle.py_lines.proofs.Text.Utf8Prefixes.{all_scalars-parts}
 use Rattle.py_lines.proofs.LogicalLines.Cuts.{byte_len-append}
-use Rattle.py_lines.proofs.LineScan.LineCount.{line_ends-bytes}
-use Rattle.py_lines.proofs.LineScan.LineSteps.{sound_steps, returned, way_order, way_stop, way_here}
+use Rattle.py_lines.proofs.LineScan.LineSteps.{sound_steps, returned, way_order, way_stop}
 use Rattle.py_lines.proofs.LineScan.LineStops.{return_ends}
 use Rattle.py_lines.proofs.LineScan.TextSteps.{begun_sound}
-use Rattle.py_lines.proofs.Readers.LineAnswers.{Within, all_within}
+use Rattle.py_lines.proofs.Readers.LineAnswers.{Within}
 
 module _ (f : Feed) (read rest : List ℕ) (o : IsOpen f read rest) where
-  pub open_sound : IsSound o.way.state read
+  pub open_sound : IsScanSound o.way.state read
   open_sound = sound_steps (first_mode f.state.place) read o.way.state (begun_sound f.state.place) o.way.steps
 
   pub open_order : f.state.scan.piece.start ≤ f.state.scan.stop
@@ -34,18 +33,12 @@ module _ (f : Feed) (read rest : List ℕ) (o : IsOpen f read rest) where
   pub open_stop : f.state.scan.stop ≡ byte_len read
   open_stop = way_stop (first_mode f.state.place) f.state.scan read o.way (begun_sound f.state.place)
 
-  pub open_here : f.state.scan.count.line ≡ f.state.line + line_ends read
-  open_here = way_here (first_mode f.state.place) f.state.scan read o.way (begun_sound f.state.place) ∙ ap (λ (n : ℕ). n + line_ends read) o.number
-
   pub open_size : length f.held.items ≡ byte_len read + length rest
   open_size = ap length (sym o.spell) ∙ length-append (encode_utf8_all read) rest
 
   -- where the scan stopped in the bytes that are held
   pub open_within : (bytes : List ℕ) → bytes ≡ f.held.items → f.state.scan.stop ≤ length bytes
   open_within bytes is = omega (arith, open_stop, open_size, ap length is)
-
-  pub open_lines : line_ends read ≤ byte_len read
-  open_lines = line_ends-bytes read
 
   -- a place in what was scanned
   pub within_held : (offset : ℕ) (w : Within read offset) → (offset ≤ byte_len read) × (take offset f.held.items ≡ encode_utf8_all w.prefix) × IsUtf8 (take offset f.held.items)
@@ -55,12 +48,6 @@ module _ (f : Feed) (read rest : List ℕ) (o : IsOpen f read rest) where
       let taken : take offset f.held.items ≡ encode_utf8_all w.prefix = ap (λ (n : ℕ). take n f.held.items) w.size ∙ ap (take (byte_len w.prefix)) spell ∙ take-append_seam (encode_utf8_all w.prefix) (encode_utf8_all w.later ++ rest) in
       let scalars = (all_scalars-parts w.prefix w.later (ap all_scalars w.split ∙ o.scalars)).0 in
       (omega (arith, size, w.size), taken, (w.prefix, (scalars, sym taken)))
-
-  pub refused_held : Within read (refused_place f.state.scan)
-  refused_held =
-      cond_both (in_short f.state.scan.piece.mode || is_after_backslash f.state.scan.piece.mode) f.state.scan.piece.start f.state.scan.stop (Within read)
-      (λ h. record { prefix = spelled o.way.state.done; later = o.way.state.held; split = open_sound.spell; size = o.way.tallies.start })
-      (λ h. all_within read f.state.scan.stop open_stop)
 
 -- what is held next
 pub held_next : (f : Feed) (read rest : List ℕ) → IsOpen f read rest → drop f.state.scan.stop f.held.items ≡ rest

@@ -4,8 +4,9 @@ use Rattle.std.proofs.lemmas.Bool.{cases_Bool}
 use Rattle.py_lines.specs.Character.{is_mark}
 use Rattle.py_lines.specs.Piece.{Class, mark, space, word, string, operator, comment, join, line_end, Piece, begins, is_mark_class, spelled}
 use Rattle.py_lines.specs.PieceGrammar.{AreReadIn}
+use Rattle.py_lines.specs.Fields.{Fields, fielded, ShallowFields}
+use Rattle.py_lines.specs.Reading.{IsBalancedReading}
 use Rattle.py_lines.specs.FieldStrings.{Host, with_fields}
-use Rattle.py_lines.specs.Fields.{Fields, fielded, ShallowFields, IsFieldReading}
 use Rattle.py_lines.specs.declared.mode.Mode.TheVariants as modes
 use Rattle.py_lines.specs.Private.Machine.{move_of}
 use Rattle.py_lines.specs.Private.FieldMachine.{FieldMode, plain, closes, breaks, FieldScanned, field_state, field_fresh, field_text_start, field_closed, field_pieces, field_move, field_moved, field_started, field_step, field_steps_from, openers_through, have_room, IsFieldFinal}
@@ -121,7 +122,7 @@ pub record FieldReads (pieces : List Piece) (characters : List ℕ) : Type 0 whe
   pub pieces_are : field_pieces to ≡ pieces
 
 -- So every text that has a reading is read.
-pub reading_reached : (pieces : List Piece) (characters : List ℕ) → IsFieldReading pieces characters → FieldReads pieces characters
+pub reading_reached : (pieces : List Piece) (characters : List ℕ) → IsBalancedReading pieces characters → FieldReads pieces characters
 reading_reached pieces characters is =
     let found = reached BelowLimit ShallowFields begin_shallow shallow_run Fields pieces [] [] is.reads.fit (passed_shallow ShallowFields 0 pieces is.shallow) (balanced_openers pieces is.balanced []) in
     let to : FieldScanned = field_state [] found.done [] found.mode found.held in

@@ -5,8 +5,8 @@ use Rattle.py_lines.specs.Character.{is_quote, is_operator, is_backslash, is_bre
 use Rattle.py_lines.specs.Piece.{Piece, spelled}
 use Rattle.py_lines.specs.PieceGrammar.{joined, has_triple, AreReadIn}
 use Rattle.py_lines.specs.Balance.{is_opening}
-use Rattle.py_lines.specs.FieldStrings.{Host, Place, literal, specification, begins_double, named_through, with_fields}
 use Rattle.py_lines.specs.Fields.{AreInside, IsSpecification, IsField, simple, specified}
+use Rattle.py_lines.specs.FieldStrings.{Host, Place, literal, specification, begins_double, named_through, with_fields}
 use Rattle.py_lines.specs.declared.mode.Start.TheVariants as starts
 use Rattle.py_lines.specs.Private.Machine.{start_of}
 use Rattle.py_lines.specs.Private.FieldMachine.{At, between, after_brace, body, begins_code, opens_field, ends_field, Level, FieldScanned, field_state, field_fresh, field_ended, field_pieces, between_move, body_move, field_move, field_moved, field_started, code_operator, levels_open, frames}

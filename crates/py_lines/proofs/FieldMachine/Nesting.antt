@@ -3,8 +3,8 @@ use Rattle.std.proofs.Common.{◌≡◌, ℕ, zero, suc, false, Some, List, [], 
 use Rattle.py_lines.specs.Piece.{Piece, begins_marked, spelled}
 use Rattle.py_lines.specs.PieceGrammar.{InClassIn, AreReadIn}
 use Rattle.py_lines.specs.Balance.{depth_after}
+use Rattle.py_lines.specs.Fields.{AnyPieces, FieldsWithin, Fields, fielded, IsShallowWith, ShallowWithin, ShallowFields}
 use Rattle.py_lines.specs.FieldStrings.{Host, with_fields}
-use Rattle.py_lines.specs.Fields.{AnyPieces, FieldsWithin, Fields, fielded, IsShallowWith, ShallowWithin, ShallowFields, IsShallowFielded}
 use Rattle.py_lines.specs.Private.FieldMachine.{FieldScanned, openers_through, frames}
 use Rattle.py_lines.proofs.Fields.Parts.{BeginOpen}
 use Rattle.py_lines.proofs.Fields.OneReading.{field_begins, within_begin, fields_begin}
@@ -50,7 +50,3 @@ begin_shallow depth host text (n, is) = begin_shallow_within n depth host text i
 
 pub shallow_run : FieldsRun BelowLimit ShallowFields
 shallow_run outer done openers host place at held text (n, is) quotes single here = shallow_within n outer done openers host place at held text is quotes single here
-
-pub shallow_found : (from : FieldScanned) (ps : List Piece) (after rest : List ℕ) → AreReadIn fielded ps rest → begins_marked ps ≡ false → IsShallowFielded (frames from) ps → openers_through (Some from.openers) ps ≡ Some after → HasNoColonIn from.outer (length from.openers) ps → StopsAt from.mode from.held (spelled ps ++ rest) → FieldFinds BelowLimit from (spelled ps) ps after rest
-shallow_found from ps after rest fit unmarked shallow opens none stops =
-    all_found BelowLimit ShallowFields begin_shallow shallow_run Fields from ps after rest fit unmarked (passed_shallow ShallowFields (frames from) ps shallow) opens none stops

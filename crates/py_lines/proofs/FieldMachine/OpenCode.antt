@@ -4,12 +4,11 @@ use Rattle.std.specs.Str.{byte}
 use Rattle.py_lines.specs.Character.{is_mark, is_quote}
 use Rattle.py_lines.specs.Piece.{Piece, spelled}
 use Rattle.py_lines.specs.Balance.{depth_through}
-use Rattle.py_lines.specs.FieldStrings.{Host, Place, literal, specification}
+use Rattle.py_lines.specs.Faults.{IsFieldDue, IsAtDepth}
 use Rattle.py_lines.specs.OpenFields.{AreBegun, BeginsList, InFieldCode}
-use Rattle.py_lines.specs.FieldFaults.{IsFieldDue, IsAtFieldDepth}
-use Rattle.py_lines.specs.Private.FieldMachine.{body, after_brace, Level, FieldScanned, field_state, field_text_start, field_pieces, openers_through, levels_open, frames, may_end}
+use Rattle.py_lines.specs.FieldStrings.{Host, Place, literal, specification}
+use Rattle.py_lines.specs.Private.FieldMachine.{before, body, after_brace, Level, FieldScanned, field_state, field_text_start, field_pieces, openers_through, levels_open, frames, may_end}
 use Rattle.py_lines.proofs.Machine.ReadingSteps.{MayBegin}
-use Rattle.py_lines.proofs.FieldSoundness.Holds.{before}
 use Rattle.py_lines.proofs.FieldMachine.Runs.{NoLimit, Goes, StopsAt, goes-append}
 use Rattle.py_lines.proofs.FieldMachine.ListBrackets.{balanced_openers}
 use Rattle.py_lines.proofs.FieldMachine.OpenStrings.{IsInString, open_quotes, open_unmarked, open_begins, string_runs}
@@ -114,7 +113,7 @@ code_comes characters start is =
     go s (inr at) = at_brace at.host at.mode_is at.start_is
 
 -- before an opening bracket: in a list, or as the first character of a field's code
-pub depth_comes : (characters : List ℕ) (c depth : ℕ) → is_mark c ≡ false → IsAtFieldDepth characters c depth → Comes characters (λ s. (StopsAt s.mode s.held (c ∷ []) × (frames s ≡ depth)) ⊎ ((host : Host) × (s.mode ≡ body host literal false after_brace) × (frames s + 1 ≡ depth)))
+pub depth_comes : (characters : List ℕ) (c depth : ℕ) → is_mark c ≡ false → IsAtDepth characters c depth → Comes characters (λ s. (StopsAt s.mode s.held (c ∷ []) × (frames s ≡ depth)) ⊎ ((host : Host) × (s.mode ≡ body host literal false after_brace) × (frames s + 1 ≡ depth)))
 depth_comes characters c depth no_mark is =
     let end = list_end is.outside is.base is.pieces (c ∷ []) is.list is.begun (string_begins is.pieces (c ∷ []) no_mark) in
     record { to = end.to; goes = subst (λ x. Goes NoLimit field_text_start x end.to) is.spell end.goes; such = go end.to end.such }

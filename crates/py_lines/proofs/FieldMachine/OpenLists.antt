@@ -3,12 +3,11 @@ use Rattle.std.proofs.Common.{◌≡◌, ℕ, ◌+◌, true, false, Option, None
 use Rattle.py_lines.specs.Character.{is_mark, is_quote}
 use Rattle.py_lines.specs.Piece.{Piece, begins, spelled}
 use Rattle.py_lines.specs.Balance.{IsBalanced, depth_through}
-use Rattle.py_lines.specs.FieldStrings.{Host, Place, literal, specification, begins_open}
 use Rattle.py_lines.specs.OpenFields.{AreBegun, BeginsList, at_start, in_field}
-use Rattle.py_lines.specs.Private.FieldMachine.{At, between, after_brace, FieldMode, opened, body, opens_field, Level, FieldScanned, field_state, field_fresh, field_text_start, field_closed, field_pieces, field_move, field_moved, frames, openers_by, openers_through, levels_open}
+use Rattle.py_lines.specs.FieldStrings.{Host, Place, literal, specification, begins_open}
+use Rattle.py_lines.specs.Private.FieldMachine.{before, At, between, after_brace, FieldMode, opened, body, opens_field, Level, FieldScanned, field_state, field_fresh, field_text_start, field_closed, field_pieces, field_move, field_moved, frames, openers_by, openers_through, levels_open}
 use Rattle.py_lines.proofs.Text.CharacterTests.{not_quote}
 use Rattle.py_lines.proofs.Machine.ReadingSteps.{MayBegin}
-use Rattle.py_lines.proofs.FieldSoundness.Holds.{before}
 use Rattle.py_lines.proofs.FieldMachine.Runs.{NoLimit, Goes, StopsAt, HasRoomFor, goes-append, goes-grows, stops-fresh}
 use Rattle.py_lines.proofs.FieldMachine.ListBrackets.{none_some, openers_through-append, balanced_openers, depth_is}
 use Rattle.py_lines.proofs.FieldMachine.StringParts.{settled, MayGoOn, goes_on, body_moves, open_moves, open_no_quote}

@@ -3,18 +3,16 @@ use Rattle.std.proofs.Common.{◌≡◌, ℕ, ◌+◌, ◌==◌, Bool, true, fal
 use Rattle.py_lines.specs.Character.{is_mark, is_quote, is_backslash}
 use Rattle.py_lines.specs.Piece.{Piece, begins, spelled}
 use Rattle.py_lines.specs.PieceGrammar.{joined, has_triple}
-use Rattle.py_lines.specs.FieldStrings.{is_field_prefix, Host, Place, literal, specification, quotes_of, begins_open, named_through}
 use Rattle.py_lines.specs.Fields.{Fields}
-use Rattle.py_lines.specs.OpenFields.{Spot, literal_after, specification_after, IsOpenString, in_literal, in_specification, IsOpenUpTo}
-use Rattle.py_lines.specs.Faults.{IsUnescaped}
-use Rattle.py_lines.specs.Private.FieldMachine.{At, between, after_slash, FieldMode, opened, body, Level, FieldScanned, field_state, field_fresh, field_pieces, is_after_brace, levels_open}
+use Rattle.py_lines.specs.OpenFields.{Spot, literal_after, specification_after, IsOpenString, in_literal, in_specification, IsOpenUpTo, IsUnescaped}
+use Rattle.py_lines.specs.FieldStrings.{is_field_prefix, Host, Place, literal, specification, quotes_of, begins_open, named_through}
+use Rattle.py_lines.specs.Private.FieldMachine.{before, At, between, after_slash, FieldMode, opened, body, Level, FieldScanned, field_state, field_fresh, field_pieces, is_after_brace, levels_open}
 use Rattle.py_lines.proofs.Text.CharacterTests.{not_quote, slash-not-quote}
 use Rattle.py_lines.proofs.Machine.OpenStrings.{start-not-mark}
 use Rattle.py_lines.proofs.Fields.Elsewhere.{quotes_begin}
 use Rattle.py_lines.proofs.Fields.Prefixes.{field_letters}
 use Rattle.py_lines.proofs.Fields.Parts.{begins_same}
 use Rattle.py_lines.proofs.Fields.OneReading.{some_head, fields_begin}
-use Rattle.py_lines.proofs.FieldSoundness.Holds.{before}
 use Rattle.py_lines.proofs.FieldMachine.Runs.{NoLimit, Goes, StopsAt, goes-append, goes-to, goes-grows}
 use Rattle.py_lines.proofs.FieldMachine.StringParts.{settled, MayGoOn, goes_on, body_moves, slash_grows, parts_go, open_no_quote}
 use Rattle.py_lines.proofs.FieldMachine.StringRuns.{opened_goes, IsInLiteral, in_body, at_quote, literal_goes}

@@ -4,7 +4,7 @@ use Rattle.std.specs.List.{list_all, list_any}
 use Rattle.std.proofs.lemmas.Bool.{and_parts, or_from, both_ways, cond_both, eqb-true, false_from_ne_true}
 use Rattle.py_lines.specs.Character.{is_space, is_word_character, is_word_start, is_quote, is_operator, is_line_feed, is_return}
 use Rattle.py_lines.specs.Piece.{Class, mark, space, word, string, operator, comment, join, line_end, Piece, begins, is_mark_class}
-use Rattle.py_lines.specs.PieceGrammar.{feed, return_feed, return, is_prefix, IsNoneOr, IsPrefix, InClass, MayPrecede, MayPrecedeIn}
+use Rattle.py_lines.specs.PieceGrammar.{feed, return_feed, return, is_prefix, IsNoneOr, IsPrefix, InPlainClass, MayPrecedePlain, MayPrecedeIn}
 use Rattle.py_lines.specs.Balance.{is_opening, is_closing}
 use Rattle.py_lines.specs.FieldStrings.{is_field_prefix, Host, with_fields}
 use Rattle.py_lines.specs.declared.mode.Mode.{Mode}
@@ -119,7 +119,7 @@ thirteen_returns : is_return 13 ≡ true
 unfolding is_return
 thirteen_returns = refl
 
-plain_start : (class : Class) (text : List ℕ) → IsPlainClass class → InClass class text → StartsPlain text
+plain_start : (class : Class) (text : List ℕ) → IsPlainClass class → InPlainClass class text → StartsPlain text
 plain_start mark text plain_class is = absurd plain_class
 plain_start string text plain_class is = absurd plain_class
 plain_start operator text plain_class is = absurd plain_class
@@ -141,7 +141,7 @@ either_prefix true b q h = (h, and_second b q h)
 either_prefix false b q h = (refl, h)
 
 -- what may stand before the rest with fields may do so without them
-plain_before : (F : Host → List ℕ → Type 0) (class : Class) (text rest : List ℕ) → MayPrecedeIn (with_fields F) class text rest → MayPrecede class text rest
+plain_before : (F : Host → List ℕ → Type 0) (class : Class) (text rest : List ℕ) → MayPrecedeIn (with_fields F) class text rest → MayPrecedePlain class text rest
 plain_before F mark text rest before = before
 plain_before F space text rest before = before
 plain_before F word text rest before = (before.0, (either_prefix (is_prefix text) (is_field_prefix text) (begins is_quote rest) before.1).0)
@@ -232,7 +232,7 @@ module _ (Room : ℕ → Type 0) where
       (one_begun from c cs (cs ++ rest) begins_so.start b (subst (λ t. StopsAt from.mode from.held (t ++ rest)) begins_so.is stops) begins_so.starts begins_so.quiet) none
 
   -- a space, a word, a comment, a join or a line end
-  pub plain_found : (F : Host → List ℕ → Type 0) (from : FieldScanned) (class : Class) (text rest : List ℕ) → IsPlainClass class → InClass class text → MayPrecedeIn (with_fields F) class text rest → StopsAt from.mode from.held (text ++ rest) → FieldFinds Room from text (piece class text ∷ []) from.openers rest
+  pub plain_found : (F : Host → List ℕ → Type 0) (from : FieldScanned) (class : Class) (text rest : List ℕ) → IsPlainClass class → InPlainClass class text → MayPrecedeIn (with_fields F) class text rest → StopsAt from.mode from.held (text ++ rest) → FieldFinds Room from text (piece class text ∷ []) from.openers rest
   plain_found F from class text rest plain_class is before stops =
       piece_found from class text rest (plain_start class text plain_class is)
       (find (fresh (field_pieces from)) class text rest (plain_unmarked class plain_class) is (plain_before F class text rest before) (stops-free (text ++ rest)))
@@ -267,7 +267,7 @@ module _ (Room : ℕ → Type 0) where
       (goes-grows Room (lift named_at) (lift (scanned done (modes.Opened q) ((a ∷ bs) ++ q ∷ []))) (plain (modes.Opened q)) q [] quote_moves refl)
 
   -- a string without fields
-  pub string_found : (F : Host → List ℕ → Type 0) (from : FieldScanned) (text prefix : List ℕ) (q : ℕ) (body rest : List ℕ) → text ≡ prefix ++ q ∷ body → IsPrefix prefix → is_field_prefix prefix ≡ false → is_quote q ≡ true → InClass string text → MayPrecedeIn (with_fields F) string text rest → StopsAt from.mode from.held (text ++ rest) → FieldFinds Room from text (piece string text ∷ []) from.openers rest
+  pub string_found : (F : Host → List ℕ → Type 0) (from : FieldScanned) (text prefix : List ℕ) (q : ℕ) (body rest : List ℕ) → text ≡ prefix ++ q ∷ body → IsPrefix prefix → is_field_prefix prefix ≡ false → is_quote q ≡ true → InPlainClass string text → MayPrecedeIn (with_fields F) string text rest → StopsAt from.mode from.held (text ++ rest) → FieldFinds Room from text (piece string text ∷ []) from.openers rest
   string_found F from text prefix q body rest is begins_so no_field quotes is_string before stops =
       let done = field_pieces from in
       let opened_at : Scanned = scanned done (modes.Opened q) (prefix ++ q ∷ []) in

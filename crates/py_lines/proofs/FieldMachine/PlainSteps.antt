@@ -45,7 +45,7 @@ one_at_most modes.Free = omega arith
 one_at_most m = omega arith
 
 -- where a piece grows that is no word, a piece is open after it that is no word
-abbrev NoWord : Move → Type 0
+abbrev pub NoWord : Move → Type 0
 NoWord (moves.Grows n) = (one_open n ≡ 1) × (is_word_mode n ≡ false)
 NoWord other = Unit {0}
 
@@ -57,7 +57,7 @@ no_word-long : (q c : ℕ) → NoWord (long_move q c)
 unfolding long_move
 no_word-long q c = cond_both (is_backslash c) _ _ NoWord (λ h. (refl, refl)) (λ h. (refl, refl))
 
-no_word : (m : Mode) (c : ℕ) → is_word_mode m ≡ false → NoWord (move_of m c)
+pub no_word : (m : Mode) (c : ℕ) → is_word_mode m ≡ false → NoWord (move_of m c)
 unfolding move_of
 no_word modes.Start c h = cond_both (is_mark c) moves.Closes moves.Breaks NoWord (λ k. tt) (λ k. tt)
 no_word modes.Free c h = tt
@@ -74,6 +74,9 @@ no_word (modes.Long q) c h = cond_both (c == q) _ _ NoWord (λ k. (refl, refl)) 
 no_word (modes.LongOne q) c h = cond_both (c == q) _ _ NoWord (λ k. (refl, refl)) (λ k. no_word-long q c)
 no_word (modes.LongTwo q) c h = cond_both (c == q) moves.Closes _ NoWord (λ k. tt) (λ k. no_word-long q c)
 no_word (modes.LongEscape q) c h = (refl, refl)
+no_word (modes.FieldOpened f) c h = tt
+no_word (modes.FieldEmpty f) c h = tt
+no_word modes.Fielded c h = tt
 no_word modes.Backslash c h = cond_both (is_line_feed c) moves.Closes _ NoWord (λ k. tt) (λ k. cond_both (is_return c) _ moves.Refused NoWord (λ l. (refl, refl)) (λ l. tt))
 no_word modes.JoinReturn c h = cond_both (is_line_feed c) moves.Closes moves.Breaks NoWord (λ k. tt) (λ k. tt)
 no_word modes.Return c h = cond_both (is_line_feed c) moves.Closes moves.Breaks NoWord (λ k. tt) (λ k. tt)

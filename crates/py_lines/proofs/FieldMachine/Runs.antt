@@ -49,7 +49,7 @@ steps_of Room s t [] goes = ap Some goes
 steps_of Room s t (c ∷ cs) (next, step, room, others) = ap (λ o. field_steps_from o cs) step ∙ steps_of Room next t cs others
 
 -- and the room within 200
-room_at : (depth c : ℕ) (move : FieldMove) → HasRoomFor BelowLimit depth c move → has_room_at depth c move ≡ true
+pub room_at : (depth c : ℕ) (move : FieldMove) → HasRoomFor BelowLimit depth c move → has_room_at depth c move ≡ true
 unfolding has_room_at
 room_at depth c breaks room = go (is_opening c) room
   where

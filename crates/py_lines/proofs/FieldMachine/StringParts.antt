@@ -191,9 +191,6 @@ unfolding between_move is_backslash is_break
 open_moves host place at quotes = rw (not_quote 123 host.quote quotes open_no_quote)
 
 -- what isn't a quote of the string
-no_own_quote : (host : Host) (c : ℕ) → is_quote host.quote ≡ true → is_quote c ≡ false → eqb c host.quote ≡ false
-no_own_quote host c quotes other = not_quote c host.quote quotes other
-
 return_no_brace : (c : ℕ) → is_return c ≡ true → is_brace c ≡ false
 unfolding is_brace is_return
 return_no_brace c h = none_of is_brace (13 ∷ []) c refl h
@@ -278,12 +275,9 @@ module _ (Room : ℕ → Type 0) (outer : List Level) (done : List Piece) (opene
     open_yet = open_yet;
   }
 
-  -- and after it one more, or two
+  -- and after it one more
   two_held : (held : List ℕ) (mode : FieldMode) (c d : ℕ) → within mode ((held ++ c ∷ []) ++ d ∷ []) ≡ within mode (held ++ c ∷ d ∷ [])
   two_held held mode c d = ap (within mode) (append_assoc held (c ∷ []) (d ∷ []))
-
-  three_held : (held : List ℕ) (mode : FieldMode) (c d e : ℕ) → within mode (((held ++ c ∷ []) ++ d ∷ []) ++ e ∷ []) ≡ within mode (held ++ c ∷ d ∷ e ∷ [])
-  three_held held mode c d e = ap (within mode) (append_assoc (held ++ c ∷ []) (d ∷ []) (e ∷ []) ∙ append_assoc held (c ∷ []) (d ∷ e ∷ []))
 
   -- a backslash and a character
   escape_goes : (host : Host) (place : Place) (named : Bool) (at to : At) (held : List ℕ) (s c : ℕ) (rest : List ℕ) → is_quote host.quote ≡ true → is_backslash s ≡ true → MayGoOn host place named at (s ∷ c ∷ rest) → field_move (body host place named after_slash) (held ++ s ∷ []) c ≡ grows (body host place named to) → Goes Room (within (body host place named at) held) (s ∷ c ∷ []) (within (body host place named to) (held ++ s ∷ c ∷ []))

@@ -24,7 +24,7 @@ host_opens : (s : Spelling) (prefix : List ℕ) (q : ℕ) → is_field_prefix pr
 unfolding field_move
 host_opens s prefix q is quotes = rw (is, quotes)
 
-second_quote : (host : Host) (held : List ℕ) → field_move (opened host) held host.quote ≡ grows (empty host)
+pub second_quote : (host : Host) (held : List ℕ) → field_move (opened host) held host.quote ≡ grows (empty host)
 unfolding field_move
 second_quote host held = rw (eq-eqb host.quote host.quote refl)
 
@@ -89,7 +89,7 @@ module _ (Room : ℕ → Type 0) (from : FieldScanned) where
   abbrev inside : FieldMode → List ℕ → FieldScanned
   inside mode held = field_state from.outer (field_pieces from) from.openers mode held
 
-  prefix_goes : (prefix : List ℕ) (q : ℕ) (after : List ℕ) → is_field_prefix prefix ≡ true → is_quote q ≡ true → StopsAt from.mode from.held (prefix ++ q ∷ after) → Goes Room from (prefix ++ q ∷ []) (inside (opened (host_of prefix q)) (prefix ++ q ∷ []))
+  pub prefix_goes : (prefix : List ℕ) (q : ℕ) (after : List ℕ) → is_field_prefix prefix ≡ true → is_quote q ≡ true → StopsAt from.mode from.held (prefix ++ q ∷ after) → Goes Room from (prefix ++ q ∷ []) (inside (opened (host_of prefix q)) (prefix ++ q ∷ []))
   prefix_goes [] q after is quotes stops = absurd (both_ways _ refl is)
   prefix_goes (a ∷ bs) q after is quotes stops =
       let letters = field_letters (a ∷ bs) is in

@@ -3,15 +3,13 @@ use Rattle.std.proofs.Common.{◌≡◌, ℕ, Bool, true, false, Some, List, [],
 use Rattle.std.proofs.lemmas.Bool.{both_ways}
 use Rattle.py_lines.specs.Character.{is_mark, is_quote}
 use Rattle.py_lines.specs.Piece.{begins, spelled}
-use Rattle.py_lines.specs.PieceGrammar.{joined}
-use Rattle.py_lines.specs.Faults.{IsSlash}
+use Rattle.py_lines.specs.PieceGrammar.{joined, IsPrefix}
+use Rattle.py_lines.specs.OpenFields.{IsSlash, Spot, StandsIn, IsOpenUpTo, IsOpenLiteral, IsPlainShortPrefix, IsPlainLongPrefix, InOpenShort, InOpenLong, AfterOpenBackslash, InSpecification}
 use Rattle.py_lines.specs.FieldStrings.{is_field_prefix, Host, Place, literal, specification}
-use Rattle.py_lines.specs.OpenFields.{Spot, StandsIn, IsOpenUpTo, IsOpenLiteral, IsPlainShortPrefix, IsPlainLongPrefix, InOpenShort, InOpenLong, AfterOpenBackslash, InSpecification}
 use Rattle.py_lines.specs.declared.mode.Mode.{Mode}
 use Rattle.py_lines.specs.declared.mode.Mode.TheVariants as modes
 use Rattle.py_lines.specs.Private.Machine.{Scanned}
-use Rattle.py_lines.specs.Private.FieldMachine.{FieldMode, plain, opened, body, FieldScanned, field_state, field_text_start, field_pieces, field_started, field_steps_from, in_open_short, in_open_long, after_open_backslash, InSpecificationOf}
-use Rattle.py_lines.specs.PieceGrammar.{IsPrefix}
+use Rattle.py_lines.specs.Private.FieldMachine.{before, FieldMode, plain, opened, body, FieldScanned, field_state, field_text_start, field_pieces, field_started, field_steps_from, in_open_short, in_open_long, after_open_backslash, InSpecificationOf}
 use Rattle.py_lines.specs.Private.Machine.{fresh, steps_from}
 use Rattle.py_lines.proofs.Fields.OneReading.{some_head}
 use Rattle.py_lines.proofs.Machine.Starts.{start-slash}
@@ -20,7 +18,6 @@ use Rattle.py_lines.proofs.Machine.StringSteps.{opened_steps, long_opened}
 use Rattle.py_lines.proofs.Machine.OpenStrings.{prefix-unmarked, slash-not-mark, short_end, long_end}
 use Rattle.py_lines.proofs.FieldMachine.PlainSteps.{lifted, one_at_most, follows}
 use Rattle.py_lines.proofs.FieldMachine.PieceRuns.{plain_opens}
-use Rattle.py_lines.proofs.FieldSoundness.Holds.{before}
 use Rattle.py_lines.proofs.FieldMachine.Runs.{NoLimit, Goes, StopsAt, goes-append, goes-begins, steps_of}
 use Rattle.py_lines.proofs.FieldMachine.OpenStrings.{IsHostMode, HasOpened, open_unmarked, open_begins, up_to_runs}
 use Rattle.py_lines.proofs.FieldMachine.OpenLists.{list_runs, after_pieces, string_begins}

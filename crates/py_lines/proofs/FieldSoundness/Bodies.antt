@@ -7,8 +7,8 @@ use Rattle.std.proofs.lemmas.Bool.{cond_both, and_parts, and_from, or_cases, eqb
 use Rattle.py_lines.specs.Character.{is_quote, is_return, is_break, is_backslash, is_brace, is_barred}
 use Rattle.py_lines.specs.Piece.{string}
 use Rattle.py_lines.specs.PieceGrammar.{is_prefix, IsNoneOr, is_bare, joined, has_triple, InClassIn, MayPrecedeIn}
-use Rattle.py_lines.specs.FieldStrings.{is_field_prefix, Host, Place, literal, specification, quotes_of, is_ordinary, names, IsPart, bare, named_after, named_through, AreParts, IsFieldString, with_fields}
 use Rattle.py_lines.specs.Fields.{fielded}
+use Rattle.py_lines.specs.FieldStrings.{is_field_prefix, Host, Place, literal, specification, quotes_of, is_ordinary, names, IsPart, bare, named_after, named_through, AreParts, IsFieldString, with_fields}
 use Rattle.py_lines.specs.Private.Machine.{IsFull}
 use Rattle.py_lines.specs.Private.FieldMachine.{At, between, after_one, after_two, FieldMode, body, FieldMove, grows, closes, breaks, begins_code, opens_field, ends_field, refused, Level, is_after_two, with_quote, closing_move, opening_move, ending_move, between_move}
 use Rattle.py_lines.proofs.Pieces.TripleQuotes.{triple-left, triple-other}
@@ -60,10 +60,6 @@ quote-not-open q h = none_of (λ c. c == 123) (39 ∷ 34 ∷ []) q refl h
 quote-not-slash : (q : ℕ) → is_quote q ≡ true → is_backslash q ≡ false
 unfolding is_quote is_backslash
 quote-not-slash q h = none_of is_backslash (39 ∷ 34 ∷ []) q refl h
-
-pub brace-not-quote : (c : ℕ) → is_brace c ≡ true → is_quote c ≡ false
-unfolding is_quote is_brace
-brace-not-quote c h = none_of is_quote (123 ∷ 125 ∷ []) c refl h
 
 pub slash-not-closing : (c : ℕ) → is_backslash c ≡ true → c == 125 ≡ false
 unfolding is_backslash

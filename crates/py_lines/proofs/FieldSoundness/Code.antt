@@ -5,20 +5,21 @@ use Rattle.py_lines.specs.Character.{is_quote, is_operator, is_backslash}
 use Rattle.py_lines.specs.Piece.{string, operator, line_end, Piece, spelled}
 use Rattle.py_lines.specs.PieceGrammar.{is_bare, joined}
 use Rattle.py_lines.specs.Balance.{is_opening, depth_through}
-use Rattle.py_lines.specs.FieldStrings.{Host, Place, literal, specification, begins_open, field, named_after}
 use Rattle.py_lines.specs.Fields.{AreInside, IsSpecification, simple, specified, fielded}
+use Rattle.py_lines.specs.FieldStrings.{Host, Place, literal, specification, begins_open, field, named_after}
 use Rattle.py_lines.specs.declared.mode.Mode.{Mode}
 use Rattle.py_lines.specs.declared.mode.Mode.TheVariants as modes
 use Rattle.py_lines.specs.declared.mode.Start.{Start}
 use Rattle.py_lines.specs.declared.mode.Start.TheVariants as starts
 use Rattle.py_lines.specs.Private.Machine.{class_of, start_of}
-use Rattle.py_lines.specs.Private.FieldMachine.{between, plain, body, Level, FieldScanned, field_state, levels_open, field_ended, code_operator, after_operator, field_operator, field_started, openers_with, specification_ended}
+use Rattle.py_lines.specs.Private.FieldMachine.{before, between, plain, body, Level, FieldScanned, field_state, levels_open, field_ended, code_operator, after_operator, field_operator, field_started, openers_with, specification_ended}
+use Rattle.py_lines.specs.Private.ScanMachine.{BeginsPlain}
 use Rattle.py_lines.proofs.Pieces.PieceLists.{piece}
 use Rattle.py_lines.proofs.Text.CharacterTests.{not_quote}
 use Rattle.py_lines.proofs.Machine.Starts.{StartsSo, starts_so}
-use Rattle.py_lines.proofs.FieldSoundness.PlainPieces.{BeginsPlain, StartHolds, start_holds}
+use Rattle.py_lines.proofs.FieldSoundness.PlainPieces.{StartHolds, start_holds}
 use Rattle.py_lines.proofs.FieldSoundness.OpenLists.{OpensIf, opens-none, opens-operator, opens-depth, balanced_at}
-use Rattle.py_lines.proofs.FieldSoundness.Holds.{Limit, before, OpensSpecification, HoldsParts, HoldsBetween, HoldsList, IsSingle, HoldsLevel, HoldsLevels, AtStart, IsFieldSound}
+use Rattle.py_lines.proofs.FieldSoundness.Holds.{Limit, OpensSpecification, HoldsParts, HoldsBetween, HoldsList, IsSingle, HoldsLevel, HoldsLevels, AtStart, IsFieldSound}
 use Rattle.py_lines.proofs.FieldSoundness.Bodies.{longer_next, push_between}
 use Rattle.py_lines.proofs.FieldSoundness.Lists.{FieldSoundIf, not_specification, list_more, levels_more, adds_neutral, fresh_sound}
 

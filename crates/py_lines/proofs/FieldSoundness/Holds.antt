@@ -10,13 +10,13 @@ use Rattle.py_lines.specs.Character.{is_quote, is_return, is_backslash, is_r}
 use Rattle.py_lines.specs.Piece.{string, Piece, begins_marked, spelled}
 use Rattle.py_lines.specs.PieceGrammar.{joined, has_triple, InClassIn, AreReadIn}
 use Rattle.py_lines.specs.Balance.{is_opener, depth_through}
-use Rattle.py_lines.specs.FieldStrings.{is_field_prefix, Host, Place, literal, specification, quotes_of, may_be_escaped, names, begins_open, named_through, AreParts, with_fields}
 use Rattle.py_lines.specs.Fields.{HasNoColon, AreInside, IsField, Fields, fielded}
+use Rattle.py_lines.specs.FieldStrings.{is_field_prefix, Host, Place, literal, specification, quotes_of, may_be_escaped, names, begins_open, named_through, AreParts, with_fields}
 use Rattle.py_lines.specs.declared.mode.Mode.TheVariants as modes
 use Rattle.py_lines.specs.Private.Machine.{IsFull, Holds, class_of}
-use Rattle.py_lines.specs.Private.FieldMachine.{At, between, after_one, after_two, after_slash, after_return, after_name, after_brace, FieldMode, plain, opened, empty, body, Level, FieldScanned, levels_open, frames}
+use Rattle.py_lines.specs.Private.FieldMachine.{text_place, before, At, between, after_one, after_two, after_slash, after_return, after_name, after_brace, FieldMode, plain, opened, empty, body, Level, FieldScanned, levels_open, frames}
+use Rattle.py_lines.specs.Private.ScanMachine.{BeginsPlain}
 use Rattle.py_lines.proofs.FieldSoundness.OpenLists.{Opens}
-use Rattle.py_lines.proofs.FieldSoundness.PlainPieces.{BeginsPlain}
 
 -- what may stand at a depth: which fields have their `{` there, which pieces begin there, and whether one more bracket or field
 -- may open there
@@ -32,18 +32,6 @@ pub record Limit : Type 1 where
   pub none_at : (depth : ℕ) → PiecesAt depth []
   pub one_more : (depth : ℕ) (ps : List Piece) (p : Piece) → PiecesAt depth ps → (is_opener p ≡ true → Room (depth_through depth ps))
       → (p.class ≡ string → InClassIn (with_fields (FieldsAt (depth_through depth ps))) string p.text) → PiecesAt depth (ps ++ p ∷ [])
-
--- the place where a mode is: code counts as a literal part
-abbrev pub place_of : FieldMode → Place
-place_of (body host place named at) = place
-place_of other = literal
-
--- the characters before the innermost list; where a specification is open, those before its string
-abbrev pub before : Place → List Level → List ℕ
-before literal [] = []
-before literal (l ∷ ls) = before l.place ls ++ (spelled l.done ++ l.front)
-before specification [] = []
-before specification (l ∷ ls) = before l.place ls ++ spelled l.done
 
 -- what a string with fields begins with
 pub record OpensHost (host : Host) (quotes text : List ℕ) : Type 0 where
@@ -145,8 +133,8 @@ AtStart other outer done = Unit {0}
 
 -- the machine has read these characters, and stands so
 pub record IsFieldSound (limit : Limit) (s : FieldScanned) (read : List ℕ) : Type 0 where
-  pub spell : before (place_of s.mode) s.outer ++ (spelled s.done ++ s.held) ≡ read
+  pub spell : before (text_place s.mode) s.outer ++ (spelled s.done ++ s.held) ≡ read
   pub mode : HoldsMode limit s.outer (frames s) s.mode s.held
-  pub list : HoldsList limit s.outer (place_of s.mode) s.done s.openers s.held
-  pub levels : HoldsLevels limit (place_of s.mode) s.outer (spelled s.done ++ s.held)
+  pub list : HoldsList limit s.outer (text_place s.mode) s.done s.openers s.held
+  pub levels : HoldsLevels limit (text_place s.mode) s.outer (spelled s.done ++ s.held)
   pub start : AtStart s.mode s.outer s.done

@@ -6,16 +6,16 @@ use Rattle.py_lines.specs.Character.{is_quote}
 use Rattle.py_lines.specs.Piece.{Class, string, spelled, Piece}
 use Rattle.py_lines.specs.PieceGrammar.{InClassIn, MayPrecedeIn}
 use Rattle.py_lines.specs.Balance.{is_opening}
-use Rattle.py_lines.specs.FieldStrings.{Host, Place, literal, specification, quotes_of, IsFieldString, with_fields}
 use Rattle.py_lines.specs.Fields.{Fields, fielded}
+use Rattle.py_lines.specs.FieldStrings.{Host, Place, literal, specification, quotes_of, IsFieldString, with_fields}
 use Rattle.py_lines.specs.declared.mode.Mode.TheVariants as modes
-use Rattle.py_lines.specs.Private.FieldMachine.{between, FieldMode, plain, opened, empty, body, FieldMove, grows, closes, breaks, begins_code, opens_field, ends_field, refused, Level, FieldScanned, field_state, field_text_start, begins_host, long_host, field_move, body_move, field_moved, field_step, field_steps_from, field_class_of, levels_open, frames}
+use Rattle.py_lines.specs.Private.FieldMachine.{text_place, before, between, FieldMode, plain, opened, empty, body, FieldMove, grows, closes, breaks, begins_code, opens_field, ends_field, refused, Level, FieldScanned, field_state, field_text_start, begins_host, long_host, field_move, body_move, field_moved, field_step, field_steps_from, field_class_of, levels_open, frames}
 use Rattle.py_lines.proofs.Pieces.PieceLists.{piece, spelled-push}
 use Rattle.py_lines.proofs.Fields.Nesting.{string_map}
 use Rattle.py_lines.proofs.Fields.Prefixes.{field_letters}
 use Rattle.py_lines.proofs.Fields.SameStrings.{first_quote}
 use Rattle.py_lines.proofs.FieldSoundness.OpenLists.{opens-none, opens-depth}
-use Rattle.py_lines.proofs.FieldSoundness.Holds.{Limit, place_of, before, OpensHost, HoldsParts, HoldsBetween, HoldsList, HoldsLevel, HoldsLevels, AtStart, IsFieldSound}
+use Rattle.py_lines.proofs.FieldSoundness.Holds.{Limit, OpensHost, HoldsParts, HoldsBetween, HoldsList, HoldsLevel, HoldsLevels, AtStart, IsFieldSound}
 use Rattle.py_lines.proofs.FieldSoundness.Bodies.{quoted_prefix, short_quotes, IsIn, Moved, between_moves}
 use Rattle.py_lines.proofs.FieldSoundness.BodyMoves.{body_moves}
 use Rattle.py_lines.proofs.FieldSoundness.Lists.{FieldSoundIf, not_specification, list_more, levels_more, adds_neutral, list_push, levels_push, fresh_sound}
@@ -68,7 +68,7 @@ empty_string F host held h quotes short = record {
 pub empty_end : (host : Host) (held : List ℕ) → OpensHost host (host.quote ∷ host.quote ∷ []) held → is_quote host.quote ≡ true → MayPrecedeIn fielded string held []
 empty_end host held h quotes prefix r spell begun also = refl
 
-empty_before : (host : Host) (held : List ℕ) (c : ℕ) (more : List ℕ) → OpensHost host (host.quote ∷ host.quote ∷ []) held → is_quote host.quote ≡ true → c == host.quote ≡ false → MayPrecedeIn fielded string held (c ∷ more)
+pub empty_before : (host : Host) (held : List ℕ) (c : ℕ) (more : List ℕ) → OpensHost host (host.quote ∷ host.quote ∷ []) held → is_quote host.quote ≡ true → c == host.quote ≡ false → MayPrecedeIn fielded string held (c ∷ more)
 empty_before host held c more h quotes other prefix r spell begun also =
     let cut = first_quote h.prefix prefix (host.quote ∷ []) (r ∷ []) host.quote r (field_letters h.prefix h.begun).quotes (quoted_prefix prefix begun) quotes also (sym h.spell ∙ spell) in
     let both : host.quote ∷ host.quote ∷ [] ≡ r ∷ r ∷ [] = cut.1 in
@@ -87,7 +87,7 @@ module _ (limit : Limit) (outer : List Level) (done : List Piece) (openers : Lis
   longer_text = sym (append_assoc (spelled done) held (c ∷ []))
 
   -- the string ends with the character
-  string_closes : (at : place_of m ≡ literal) → InClassIn (with_fields (limit.FieldsAt depth)) string (held ++ c ∷ []) → ((more : List ℕ) → MayPrecedeIn fielded string (held ++ c ∷ []) more) → IsFieldSound limit (field_state outer (done ++ piece string (held ++ c ∷ []) ∷ []) openers (plain modes.Free) []) (read ++ c ∷ [])
+  string_closes : (at : text_place m ≡ literal) → InClassIn (with_fields (limit.FieldsAt depth)) string (held ++ c ∷ []) → ((more : List ℕ) → MayPrecedeIn fielded string (held ++ c ∷ []) more) → IsFieldSound limit (field_state outer (done ++ piece string (held ++ c ∷ []) ∷ []) openers (plain modes.Free) []) (read ++ c ∷ [])
   string_closes at own precedes =
       let text = held ++ c ∷ [] in
       let list = list_more limit outer literal done openers held (c ∷ []) (subst (λ p. HoldsList limit outer p done openers held) at sound.list) in
@@ -98,7 +98,7 @@ module _ (limit : Limit) (outer : List Level) (done : List Piece) (openers : Lis
       (λ h. subst (λ (d : ℕ). InClassIn (with_fields (limit.FieldsAt d)) string text) (sym (opens-depth openers done (levels_open outer) sound.list.opens)) own))
 
   -- it ends before the character
-  string_ready : (at : place_of m ≡ literal) → InClassIn (with_fields (limit.FieldsAt depth)) string held → ((more : List ℕ) → MayPrecedeIn fielded string held (c ∷ more)) → (is_opening c ≡ true → limit.Room depth) → Ready limit outer (done ++ piece string held ∷ []) openers read c
+  string_ready : (at : text_place m ≡ literal) → InClassIn (with_fields (limit.FieldsAt depth)) string held → ((more : List ℕ) → MayPrecedeIn fielded string held (c ∷ more)) → (is_opening c ≡ true → limit.Room depth) → Ready limit outer (done ++ piece string held ∷ []) openers read c
   string_ready at own precedes room =
       let list = subst (λ p. HoldsList limit outer p done openers held) at sound.list in
       record {
@@ -111,7 +111,7 @@ module _ (limit : Limit) (outer : List Level) (done : List Piece) (openers : Lis
       }
 
   -- a field opens before the character, in a literal part
-  code_begins : (host : Host) (text : List ℕ) → place_of m ≡ literal → c == byte "{" ≡ false → held ≡ text ++ byte "{" ∷ [] → HoldsParts limit outer depth host literal false text (byte "{" ∷ []) → HasRoom limit depth c (begins_code host) → FieldSoundIf limit (field_moved State c (begins_code host)) (read ++ c ∷ [])
+  code_begins : (host : Host) (text : List ℕ) → text_place m ≡ literal → c == byte "{" ≡ false → held ≡ text ++ byte "{" ∷ [] → HoldsParts limit outer depth host literal false text (byte "{" ∷ []) → HasRoom limit depth c (begins_code host) → FieldSoundIf limit (field_moved State c (begins_code host)) (read ++ c ∷ [])
   code_begins host text at single spell parts room =
       let level : Level = record { done = done; openers = openers; host = host; place = literal; front = held } in
       let own : HoldsLevel limit level outer = record { text = text; spell = spell; list = subst (λ p. HoldsList limit outer p done openers held) at sound.list; parts = parts; room = room.0 } in
@@ -123,7 +123,7 @@ module _ (limit : Limit) (outer : List Level) (done : List Piece) (openers : Lis
       })
 
   -- a field opens at the character, in a specification
-  field_opens : (host : Host) → place_of m ≡ specification → c ≡ byte "{" → HoldsParts limit outer depth host specification false held (byte "{" ∷ []) → limit.Room depth → FieldSoundIf limit (field_moved State c (opens_field host)) (read ++ c ∷ [])
+  field_opens : (host : Host) → text_place m ≡ specification → c ≡ byte "{" → HoldsParts limit outer depth host specification false held (byte "{" ∷ []) → limit.Room depth → FieldSoundIf limit (field_moved State c (opens_field host)) (read ++ c ∷ [])
   field_opens host at is parts room =
       let front = held ++ c ∷ [] in
       let level : Level = record { done = done; openers = openers; host = host; place = specification; front = front } in
@@ -146,7 +146,7 @@ module _ (limit : Limit) (outer : List Level) (done : List Piece) (openers : Lis
       }
 
   -- the field ends whose specification is open
-  field_ends : (host : Host) → place_of m ≡ specification → c ≡ byte "}" → HoldsParts limit outer depth host specification false held (byte "}" ∷ []) → FieldSoundIf limit (field_moved State c ends_field) (read ++ c ∷ [])
+  field_ends : (host : Host) → text_place m ≡ specification → c ≡ byte "}" → HoldsParts limit outer depth host specification false held (byte "}" ∷ []) → FieldSoundIf limit (field_moved State c ends_field) (read ++ c ∷ [])
   field_ends host at is parts =
       let none = sound.list.no_list at in
       let text : spelled done ++ held ≡ held = ap (λ (l : List Piece). spelled l ++ held) none.0 in
@@ -155,13 +155,13 @@ module _ (limit : Limit) (outer : List Level) (done : List Piece) (openers : Lis
       (ap (λ t. before specification outer ++ t) (sym text) ∙ ap (λ p. before p outer ++ (spelled done ++ held)) (sym at) ∙ sound.spell)
 
   -- so whatever a character does in the body of a string
-  body_in : (place : Place) (n : FieldMode) (host : Host) → IsIn limit outer depth host place n → place_of m ≡ place → (place_of n ≡ place_of m) × AtStart n outer done
+  body_in : (place : Place) (n : FieldMode) (host : Host) → IsIn limit outer depth host place n → text_place m ≡ place → (text_place n ≡ text_place m) × AtStart n outer done
   body_in place (plain n) host is at = absurd is
   body_in place (opened h) host is at = absurd is
   body_in place (empty h) host is at = absurd is
   body_in place (body h p named q) host is at = (is ∙ sym at, tt)
 
-  moved_sound : (host : Host) (place : Place) (v : FieldMove) → place_of m ≡ place → field_class_of m ≡ string → Moved limit outer depth host place held c v → HasRoom limit depth c v → FieldSoundIf limit (field_moved State c v) (read ++ c ∷ [])
+  moved_sound : (host : Host) (place : Place) (v : FieldMove) → text_place m ≡ place → field_class_of m ≡ string → Moved limit outer depth host place held c v → HasRoom limit depth c v → FieldSoundIf limit (field_moved State c v) (read ++ c ∷ [])
   moved_sound host place (grows n) at class holds room =
       let own = body_in place n host holds.0 at in
       grew limit outer done openers m n held read c sound own.0 holds.1 own.1

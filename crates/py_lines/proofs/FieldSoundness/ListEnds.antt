@@ -2,17 +2,17 @@
 use Rattle.std.proofs.Common.{◌≡◌, ℕ, true, false, List, [], ◌∷◌, ◌++◌, refl, sym, ap, ◌∙◌, subst, inr, append-nil}
 use Rattle.std.proofs.lemmas.Bool.{and_left, and_right, both_ways}
 use Rattle.py_lines.specs.Piece.{Class, string, operator, Piece, is_mark_class, begins_marked, spelled}
-use Rattle.py_lines.specs.PieceGrammar.{InClassIn, MayPrecedeIn, AreReadBefore, AreReadIn}
+use Rattle.py_lines.specs.PieceGrammar.{InClassIn, MayPrecedeIn, AreReadPlain, AreReadIn}
 use Rattle.py_lines.specs.Balance.{depth_through}
-use Rattle.py_lines.specs.FieldStrings.{literal, with_fields}
 use Rattle.py_lines.specs.Fields.{HasNoColon, Fields, fielded}
+use Rattle.py_lines.specs.FieldStrings.{literal, with_fields}
 use Rattle.py_lines.specs.declared.mode.Mode.{Mode}
 use Rattle.py_lines.specs.Private.Machine.{closed, class_of, is_final}
-use Rattle.py_lines.specs.Private.FieldMachine.{FieldMode, plain, opened, empty, body, Level, field_state, field_closed, levels_open, may_end}
+use Rattle.py_lines.specs.Private.FieldMachine.{text_place, FieldMode, plain, opened, empty, body, Level, field_state, field_closed, levels_open, may_end}
 use Rattle.py_lines.proofs.Pieces.PieceLists.{piece, spelled-push, AreReadIn-push, follows_any}
 use Rattle.py_lines.proofs.FieldSoundness.PlainPieces.{IsPlainText, plain_class, plain_precede, end_holds}
 use Rattle.py_lines.proofs.FieldSoundness.OpenLists.{Opens, opens-other}
-use Rattle.py_lines.proofs.FieldSoundness.Holds.{Limit, place_of, IsFieldSound}
+use Rattle.py_lines.proofs.FieldSoundness.Holds.{Limit, IsFieldSound}
 use Rattle.py_lines.proofs.FieldSoundness.Lists.{neutral, colon-push, marked-push}
 use Rattle.py_lines.proofs.FieldSoundness.PlainSteps.{plain_text, string_of, Ends, nothing, something, ends_of}
 use Rattle.py_lines.proofs.FieldSoundness.HostSteps.{empty_string, empty_end}
@@ -26,7 +26,7 @@ pub record EndsList (limit : Limit) (outer : List Level) (openers : List ℕ) (p
   pub in_field : (l : Level) (ls : List Level) → outer ≡ l ∷ ls → (begins_marked pieces ≡ false) × HasNoColon 0 pieces
 
 -- no string with fields is open there
-pub code_at_end : (m : FieldMode) → may_end m ≡ true → place_of m ≡ literal
+pub code_at_end : (m : FieldMode) → may_end m ≡ true → text_place m ≡ literal
 code_at_end (plain m) may = refl
 code_at_end (opened host) may = refl
 code_at_end (empty host) may = refl
@@ -63,7 +63,7 @@ ends_plain limit outer done openers m held read sound may = go (ends_of m)
     go : Ends m → EndsList limit outer openers (closed m done held) (spelled done ++ held)
     go (nothing is none) = subst (λ (l : List Piece). EndsList limit outer openers l (spelled done ++ held)) (sym (is done held)) (ends_none limit outer done openers (plain m) held read sound (none held sound.mode.0))
     go (something is class marked) =
-        let fit : AreReadBefore (piece (class_of m) held ∷ []) [] = subst (λ (l : List Piece). AreReadBefore l []) (is [] held) (end_holds m held sound.mode.0 may) in
+        let fit : AreReadPlain (piece (class_of m) held ∷ []) [] = subst (λ (l : List Piece). AreReadPlain l []) (is [] held) (end_holds m held sound.mode.0 may) in
         let own : IsPlainText (class_of m) held [] = plain_text (class_of m) held [] sound.mode.1 (λ at. and_right _ _ refl) in
         subst (λ (l : List Piece). EndsList limit outer openers l (spelled done ++ held)) (sym (is done held))
         (ends_piece limit outer done openers (plain m) held read sound (class_of m) class marked (plain_class Fields (class_of m) held [] own fit.0) (plain_precede Fields (class_of m) held [] own fit.1)

@@ -4,12 +4,12 @@ use Rattle.std.proofs.lemmas.Bool.{and_left}
 use Rattle.py_lines.specs.Piece.{Class, mark, space, word, string, operator, comment, join, line_end, Piece, is_mark_class, begins_marked, spelled}
 use Rattle.py_lines.specs.PieceGrammar.{InClassIn, MayPrecedeIn, AreReadIn}
 use Rattle.py_lines.specs.Balance.{is_opener, is_closer, depth_after, depth_through}
-use Rattle.py_lines.specs.FieldStrings.{Place, literal, specification, begins_open, with_fields}
 use Rattle.py_lines.specs.Fields.{is_colon, HasNoColon, fielded}
-use Rattle.py_lines.specs.Private.FieldMachine.{Level, FieldScanned, field_fresh, levels_open}
+use Rattle.py_lines.specs.FieldStrings.{Place, literal, specification, begins_open, with_fields}
+use Rattle.py_lines.specs.Private.FieldMachine.{before, Level, FieldScanned, field_fresh, levels_open}
 use Rattle.py_lines.proofs.Pieces.PieceLists.{piece, spelled-push, AreReadIn-push, MayFollow, follows_any}
 use Rattle.py_lines.proofs.FieldSoundness.OpenLists.{Opens, opens-other}
-use Rattle.py_lines.proofs.FieldSoundness.Holds.{Limit, before, HoldsList, IsSingle, HoldsLevels, IsFieldSound}
+use Rattle.py_lines.proofs.FieldSoundness.Holds.{Limit, HoldsList, IsSingle, HoldsLevels, IsFieldSound}
 
 abbrev pub FieldSoundIf : Limit → Option FieldScanned → List ℕ → Type 0
 FieldSoundIf limit None read = Unit {0}

@@ -6,8 +6,8 @@ use Rattle.std.proofs.lemmas.Bool.{and_parts, and_from, and_right, both_ways, eq
 use Rattle.py_lines.specs.Character.{is_quote}
 use Rattle.py_lines.specs.Piece.{comment, line_end, Piece}
 use Rattle.py_lines.specs.Balance.{is_opening, is_closing}
+use Rattle.py_lines.specs.Faults.{IsLive}
 use Rattle.py_lines.specs.FieldStrings.{Host, Place, literal}
-use Rattle.py_lines.specs.FieldFaults.{IsFieldLive}
 use Rattle.py_lines.specs.declared.mode.Mode.{Mode}
 use Rattle.py_lines.specs.declared.mode.Mode.TheVariants as modes
 use Rattle.py_lines.specs.declared.mode.Move.TheVariants as moves
@@ -102,6 +102,9 @@ module _ (Room : ℕ → Type 0) (outer : List Level) (done : List Piece) (opene
   plain_readies (modes.LongOne q) held holds = long_one q held holds.2.opens
   plain_readies (modes.LongTwo q) held holds = long_two q held holds.2.opens
   plain_readies (modes.LongEscape q) held holds = on (modes.LongEscape q) (modes.Long q) held q (one q holds.3.opens) refl (long-escape-grows q q) (long_none q (held ++ q ∷ []) holds.3.opens)
+  plain_readies (modes.FieldOpened h) held holds = absurd holds
+  plain_readies (modes.FieldEmpty h) held holds = absurd holds
+  plain_readies modes.Fielded held holds = absurd holds
   plain_readies modes.Backslash held holds = last modes.Backslash held 10 refl refl slash-closes
   plain_readies modes.JoinReturn held holds = once modes.JoinReturn held ready-join
   plain_readies modes.Return held holds = once modes.Return held ready-return
@@ -111,7 +114,7 @@ module _ (Room : ℕ → Type 0) (outer : List Level) (done : List Piece) (opene
   then_finishes m held first levels = finishes_after Room _ _ first.more first.scalars first.goes (list_finishes Room outer first.done openers first.mode first.held first.ready levels)
 
 -- the quote of a string that is open
-quotes_at : (limit : Limit) (outer : List Level) (depth : ℕ) (host : Host) (place : Place) (named : Bool) (at : At) (held : List ℕ) → HoldsAt limit outer depth host place named at held → is_quote host.quote ≡ true
+pub quotes_at : (limit : Limit) (outer : List Level) (depth : ℕ) (host : Host) (place : Place) (named : Bool) (at : At) (held : List ℕ) → HoldsAt limit outer depth host place named at held → is_quote host.quote ≡ true
 quotes_at limit outer depth host place named between held h = h.all.quotes
 quotes_at limit outer depth host place named after_one held h = h.3.all.quotes
 quotes_at limit outer depth host place named after_two held h = h.3.all.quotes
@@ -160,14 +163,14 @@ room_before (Some s) (c ∷ a) b h =
     and_from _ _ parts.0 (room_before (field_step s c) a b parts.1)
 
 -- the machine goes through a live text, and each character has room
-pub live_goes : (characters : List ℕ) → IsFieldLive characters → (s : FieldScanned) × (field_steps_from (Some field_text_start) characters ≡ Some s) × (have_room (Some field_text_start) characters ≡ true)
+pub live_goes : (characters : List ℕ) → IsLive characters → (s : FieldScanned) × (field_steps_from (Some field_text_start) characters ≡ Some s) × (have_room (Some field_text_start) characters ≡ true)
 live_goes characters live =
     let whole = reading_reached live.pieces (characters ++ live.more) live.reading in
     let first = steps_before (field_steps_from (Some field_text_start) characters) live.more whole.to (sym (steps-append (Some field_text_start) characters live.more) ∙ whole.steps) in
     (first.0, first.1, room_before (Some field_text_start) characters live.more whole.room)
 
 -- and a text that it goes through so is live
-pub goes_live : (characters : List ℕ) (s : FieldScanned) → field_steps_from (Some field_text_start) characters ≡ Some s → have_room (Some field_text_start) characters ≡ true → IsFieldLive characters
+pub goes_live : (characters : List ℕ) (s : FieldScanned) → field_steps_from (Some field_text_start) characters ≡ Some s → have_room (Some field_text_start) characters ≡ true → IsLive characters
 goes_live characters s steps room =
     let later = state_finishes two_hundred BelowLimit s.outer s.done s.openers s.mode s.held characters (sound_at two_hundred characters s (rooms_at (Some field_text_start) characters room) steps) in
     record {
@@ -180,7 +183,7 @@ goes_live characters s steps room =
     }
 
 -- what a live text begins with is live
-pub live_before : (xs ys : List ℕ) → IsFieldLive (xs ++ ys) → IsFieldLive xs
+pub live_before : (xs ys : List ℕ) → IsLive (xs ++ ys) → IsLive xs
 live_before xs ys live =
     let whole = live_goes (xs ++ ys) live in
     let first = steps_before (field_steps_from (Some field_text_start) xs) ys whole.0 (sym (steps-append (Some field_text_start) xs ys) ∙ whole.1) in

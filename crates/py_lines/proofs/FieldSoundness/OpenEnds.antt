@@ -4,20 +4,20 @@ use Rattle.std.proofs.lemmas.Bool.{both_ways, and_right, eqb-true}
 use Rattle.py_lines.specs.Character.{is_backslash, is_brace}
 use Rattle.py_lines.specs.Piece.{string, Piece, spelled}
 use Rattle.py_lines.specs.Balance as balance
-use Rattle.py_lines.specs.Faults.{IsUnescaped, IsShortPrefix, IsLongPrefix, IsSlash}
+use Rattle.py_lines.specs.OpenFields.{IsUnescaped, IsShortPrefix, IsLongPrefix, IsSlash, Spot, AreBegun, BeginsList, StandsIn, IsOpenUpTo, IsPlainShortPrefix, IsPlainLongPrefix, IsOpenLiteral, InOpenShort, InOpenLong, AfterOpenBackslash, InSpecification, InFieldCode}
 use Rattle.py_lines.specs.FieldStrings.{Host, Place, literal, specification, may_be_escaped, escape}
-use Rattle.py_lines.specs.OpenFields.{Spot, AreBegun, BeginsList, StandsIn, IsOpenUpTo, IsPlainShortPrefix, IsPlainLongPrefix, IsOpenLiteral, InOpenShort, InOpenLong, AfterOpenBackslash, InSpecification, InFieldCode}
 use Rattle.py_lines.specs.declared.mode.Mode.{Mode}
 use Rattle.py_lines.specs.declared.mode.Mode.TheVariants as modes
 use Rattle.py_lines.specs.Private.Machine.{class_of, in_short, in_long, is_after_backslash}
-use Rattle.py_lines.specs.Private.FieldMachine.{At, between, after_one, after_two, after_slash, after_return, after_name, after_brace, FieldMode, plain, opened, body, Level, field_state, field_closed, levels_open, may_end}
+use Rattle.py_lines.specs.Private.FieldMachine.{text_place, before, At, between, after_one, after_two, after_slash, after_return, after_name, after_brace, FieldMode, plain, opened, body, Level, field_state, field_closed, levels_open, may_end}
+use Rattle.py_lines.specs.Private.ScanMachine.{BeginsPlain}
 use Rattle.py_lines.proofs.Pieces.TripleQuotes.{triple-other}
 use Rattle.py_lines.proofs.Machine.OpenPieces.{joined-push}
 use Rattle.py_lines.proofs.Machine.OpenStrings.{short_held, long_held, slash_held}
 use Rattle.py_lines.proofs.Fields.Prefixes.{plain_quotes}
-use Rattle.py_lines.proofs.FieldSoundness.PlainPieces.{BeginsPlain, other_prefix}
+use Rattle.py_lines.proofs.FieldSoundness.PlainPieces.{other_prefix}
 use Rattle.py_lines.proofs.FieldSoundness.OpenLists.{balanced_at}
-use Rattle.py_lines.proofs.FieldSoundness.Holds.{Limit, place_of, before, HoldsParts, HoldsAt, HoldsList, HoldsLevels, IsFieldSound}
+use Rattle.py_lines.proofs.FieldSoundness.Holds.{Limit, HoldsParts, HoldsAt, HoldsList, HoldsLevels, IsFieldSound}
 use Rattle.py_lines.proofs.FieldSoundness.Bodies.{parts-push, named-push, return-not-brace, letter-not-brace, names_letter, one_quote, two_quotes}
 use Rattle.py_lines.proofs.FieldSoundness.HostSteps.{no_parts, short_opens}
 use Rattle.py_lines.proofs.FieldSoundness.ListEnds.{code_at_end, list_ends}
@@ -94,7 +94,7 @@ pub record BodyOpen (host : Host) (place : Place) (named : Bool) (characters sta
   pub named_is : spot.named ≡ named
 
 module _ (limit : Limit) (outer : List Level) (done : List Piece) (openers : List ℕ) (m : FieldMode) (held read : List ℕ) (sound : IsFieldSound limit (field_state outer done openers m held) read) where
-  body_open : (host : Host) (place : Place) (named : Bool) → place_of m ≡ place → OpenUpTo limit outer (length openers + levels_open outer) host place named held → BodyOpen host place named read (before place outer ++ spelled done)
+  body_open : (host : Host) (place : Place) (named : Bool) → text_place m ≡ place → OpenUpTo limit outer (length openers + levels_open outer) host place named held → BodyOpen host place named read (before place outer ++ spelled done)
   body_open host place named at up =
       let list = subst (λ p. HoldsList limit outer p done openers held) at sound.list in
       let levels = subst (λ p. HoldsLevels limit p outer (spelled done ++ held)) at sound.levels in
@@ -117,7 +117,7 @@ module _ (limit : Limit) (outer : List Level) (done : List Piece) (openers : Lis
       }
 
   -- a piece of the innermost list that is open
-  piece_open : (IsOpen : List ℕ → Type 0) → place_of m ≡ literal → IsOpen held → StandsIn IsOpen read (before literal outer ++ spelled done)
+  piece_open : (IsOpen : List ℕ → Type 0) → text_place m ≡ literal → IsOpen held → StandsIn IsOpen read (before literal outer ++ spelled done)
   piece_open IsOpen at is =
       let list = subst (λ p. HoldsList limit outer p done openers held) at sound.list in
       let levels = subst (λ p. HoldsLevels limit p outer (spelled done ++ held)) at sound.levels in
@@ -162,6 +162,7 @@ short_class (modes.Opened q) is = refl
 short_class (modes.Inside q) is = refl
 short_class (modes.Escape q) is = refl
 short_class (modes.EscapeReturn q) is = refl
+short_class (modes.FieldOpened h) is = refl
 short_class m is = absurd (both_ways _ refl is)
 
 long_class : (m : Mode) → in_long m ≡ true → class_of m ≡ string
@@ -169,6 +170,7 @@ long_class (modes.Long q) is = refl
 long_class (modes.LongOne q) is = refl
 long_class (modes.LongTwo q) is = refl
 long_class (modes.LongEscape q) is = refl
+long_class modes.Fielded is = refl
 long_class m is = absurd (both_ways _ refl is)
 
 plain_short : (held : List ℕ) → BeginsPlain held → IsShortPrefix held → IsPlainShortPrefix held

@@ -6,15 +6,15 @@ use Rattle.py_lines.specs.Character.{is_quote}
 use Rattle.py_lines.specs.Piece.{operator, Piece, begins_marked, spelled}
 use Rattle.py_lines.specs.PieceGrammar.{joined, has_triple, AreReadIn}
 use Rattle.py_lines.specs.Balance.{closing_of, IsBalanced, depth_through}
-use Rattle.py_lines.specs.FieldStrings.{Host, Place, literal, specification, begins_open, named_through, AreParts}
 use Rattle.py_lines.specs.Fields.{HasNoColon, Fields, fielded}
 use Rattle.py_lines.specs.OpenFields.{Spot, literal_after, specification_after, IsOpenString, in_literal, in_specification, AreBegun, BeginsList, at_start, in_field}
-use Rattle.py_lines.specs.Private.FieldMachine.{Level, levels_open}
+use Rattle.py_lines.specs.FieldStrings.{Host, Place, literal, specification, begins_open, named_through, AreParts}
+use Rattle.py_lines.specs.Private.FieldMachine.{before, Level, levels_open}
 use Rattle.py_lines.proofs.Pieces.PieceLists.{piece}
 use Rattle.py_lines.proofs.Machine.LiveTexts.{closing_of-closing}
 use Rattle.py_lines.proofs.Fields.Nesting.{parts_map}
 use Rattle.py_lines.proofs.FieldSoundness.OpenLists.{Opens, opens-closes, opens-depth, balanced_at}
-use Rattle.py_lines.proofs.FieldSoundness.Holds.{Limit, before, OpensPlace, HoldsParts, HoldsList, HoldsLevel, HoldsLevels}
+use Rattle.py_lines.proofs.FieldSoundness.Holds.{Limit, OpensPlace, HoldsParts, HoldsList, HoldsLevel, HoldsLevels}
 use Rattle.py_lines.proofs.FieldSoundness.Code.{single_at}
 
 -- brackets that are open can be closed

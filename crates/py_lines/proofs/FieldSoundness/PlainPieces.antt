@@ -5,7 +5,7 @@ use Rattle.std.specs.List.{list_any}
 use Rattle.std.proofs.lemmas.Bool.{or_cases, both_ways}
 use Rattle.py_lines.specs.Character.{is_quote}
 use Rattle.py_lines.specs.Piece.{Class, mark, space, word, string, operator, comment, join, line_end, begins}
-use Rattle.py_lines.specs.PieceGrammar.{is_prefix, IsNoneOr, InClass, InClassIn, MayPrecede, MayPrecedeIn, AreReadBefore}
+use Rattle.py_lines.specs.PieceGrammar.{is_prefix, IsNoneOr, InPlainClass, InClassIn, MayPrecedePlain, MayPrecedeIn, AreReadPlain}
 use Rattle.py_lines.specs.FieldStrings.{is_field_prefix, Host, with_fields}
 use Rattle.py_lines.specs.declared.mode.Mode.{Mode}
 use Rattle.py_lines.specs.declared.mode.Move.{Move}
@@ -13,24 +13,15 @@ use Rattle.py_lines.specs.declared.mode.Move.TheVariants as moves
 use Rattle.py_lines.specs.declared.mode.Start.{Start}
 use Rattle.py_lines.specs.declared.mode.Start.TheVariants as starts
 use Rattle.py_lines.specs.Private.Machine.{Holds, IsSound, closed, class_of, started, moved, move_of, start_of, is_final}
-use Rattle.py_lines.proofs.Pieces.PieceLists.{piece, AreReadBefore-first}
+use Rattle.py_lines.specs.Private.ScanMachine.{BeginsPlain}
+use Rattle.py_lines.proofs.Pieces.PieceLists.{piece, AreReadPlain-first}
 use Rattle.py_lines.proofs.Machine.Starts.{starts_so}
 use Rattle.py_lines.proofs.Machine.PieceSteps.{scanned}
 use Rattle.py_lines.proofs.Machine.Soundness.{SoundIf, step_sound, start_sound, end_sound}
 use Rattle.py_lines.proofs.Fields.Prefixes.{plain_quotes, field_letters}
 use Rattle.py_lines.proofs.Fields.SameStrings.{first_quote}
 
--- a text whose first quote comes after no prefix of a string with fields
-pub record BeginsPlain (text : List ℕ) : Type 0 where
-  pub prefix : List ℕ
-  pub quote : ℕ
-  pub body : List ℕ
-  pub spell : text ≡ prefix ++ quote ∷ body
-  pub none : list_any is_quote prefix ≡ false
-  pub opens : is_quote quote ≡ true
-  pub plain : is_field_prefix prefix ≡ false
-
--- it stays so where it goes on
+-- a text whose first quote comes after no prefix of a string with fields stays so where it goes on
 pub begins_plain-more : (text : List ℕ) (c : ℕ) → BeginsPlain text → BeginsPlain (text ++ c ∷ [])
 begins_plain-more text c is = record {
   prefix = is.prefix;
@@ -54,7 +45,7 @@ IsPlainText word text rest = is_field_prefix text && begins is_quote rest ≡ fa
 IsPlainText string text rest = BeginsPlain text
 IsPlainText other text rest = Unit {0}
 
-pub plain_class : (F : Host → List ℕ → Type 0) (class : Class) (text rest : List ℕ) → IsPlainText class text rest → InClass class text → InClassIn (with_fields F) class text
+pub plain_class : (F : Host → List ℕ → Type 0) (class : Class) (text rest : List ℕ) → IsPlainText class text rest → InPlainClass class text → InClassIn (with_fields F) class text
 plain_class F mark text rest plain is = is
 plain_class F space text rest plain is = is
 plain_class F word text rest plain is = is
@@ -69,7 +60,7 @@ neither : (a b c : Bool) → a && c ≡ false → b && c ≡ false → (a || b) 
 neither true b c h k = h
 neither false b c h k = k
 
-pub plain_precede : (F : Host → List ℕ → Type 0) (class : Class) (text rest : List ℕ) → IsPlainText class text rest → MayPrecede class text rest → MayPrecedeIn (with_fields F) class text rest
+pub plain_precede : (F : Host → List ℕ → Type 0) (class : Class) (text rest : List ℕ) → IsPlainText class text rest → MayPrecedePlain class text rest → MayPrecedeIn (with_fields F) class text rest
 plain_precede F mark text rest plain before = before
 plain_precede F space text rest plain before = before
 plain_precede F word text rest plain before = (before.0, neither (is_prefix text) (is_field_prefix text) (begins is_quote rest) before.1 plain)
@@ -93,8 +84,8 @@ alone m held holds = record { spell = refl; holds = holds; fit = λ more. tt }
 -- what a character begins
 abbrev pub StartHolds : ℕ → Start → Type 0
 StartHolds c (starts.Open m) = Holds m [] (c ∷ [])
-StartHolds c starts.Operator = InClass operator (c ∷ [])
-StartHolds c starts.LineEnd = InClass line_end (c ∷ []) × ((more : List ℕ) → MayPrecede line_end (c ∷ []) more)
+StartHolds c starts.Operator = InPlainClass operator (c ∷ [])
+StartHolds c starts.LineEnd = InPlainClass line_end (c ∷ []) × ((more : List ℕ) → MayPrecedePlain line_end (c ∷ []) more)
 StartHolds c starts.Nothing = Unit {0}
 
 pub start_holds : (c : ℕ) → StartHolds c (start_of c)
@@ -109,12 +100,12 @@ start_holds c = go (start_of c) (start_sound [] [] c (start_of c) (starts_so c) 
 -- the open piece is read before a character that begins another one
 abbrev pub BreaksBefore : Mode → List ℕ → ℕ → Start → Type 0
 BreaksBefore m held c starts.Nothing = Unit {0}
-BreaksBefore m held c other = (more : List ℕ) → AreReadBefore (closed m [] held) (c ∷ more)
+BreaksBefore m held c other = (more : List ℕ) → AreReadPlain (closed m [] held) (c ∷ more)
 
 -- what a character does to it
 abbrev pub MoveHolds : Mode → List ℕ → ℕ → Move → Type 0
 MoveHolds m held c (moves.Grows n) = Holds n [] (held ++ c ∷ [])
-MoveHolds m held c moves.Closes = InClass (class_of m) (held ++ c ∷ []) × ((more : List ℕ) → MayPrecede (class_of m) (held ++ c ∷ []) more)
+MoveHolds m held c moves.Closes = InPlainClass (class_of m) (held ++ c ∷ []) × ((more : List ℕ) → MayPrecedePlain (class_of m) (held ++ c ∷ []) more)
 MoveHolds m held c moves.Breaks = BreaksBefore m held c (start_of c)
 MoveHolds m held c moves.Refused = Unit {0}
 
@@ -123,8 +114,8 @@ move_holds m held c holds = go (move_of m c) (step_sound [] m held held c (alone
   where
     breaks : (s : Start) → SoundIf (started (closed m [] held) c s) (held ++ c ∷ []) → BreaksBefore m held c s
     breaks (starts.Open n) sound = sound.fit
-    breaks starts.Operator sound = λ more. AreReadBefore-first (closed m [] held) (piece operator (c ∷ []) ∷ []) more (sound.fit more)
-    breaks starts.LineEnd sound = λ more. AreReadBefore-first (closed m [] held) (piece line_end (c ∷ []) ∷ []) more (sound.fit more)
+    breaks starts.Operator sound = λ more. AreReadPlain-first (closed m [] held) (piece operator (c ∷ []) ∷ []) more (sound.fit more)
+    breaks starts.LineEnd sound = λ more. AreReadPlain-first (closed m [] held) (piece line_end (c ∷ []) ∷ []) more (sound.fit more)
     breaks starts.Nothing sound = tt
 
     go : (v : Move) → SoundIf (moved (scanned [] m held) c v) (held ++ c ∷ []) → MoveHolds m held c v
@@ -134,5 +125,5 @@ move_holds m held c holds = go (move_of m c) (step_sound [] m held held c (alone
     go moves.Refused sound = tt
 
 -- and the text's end
-pub end_holds : (m : Mode) (held : List ℕ) → Holds m [] held → is_final m ≡ true → AreReadBefore (closed m [] held) []
+pub end_holds : (m : Mode) (held : List ℕ) → Holds m [] held → is_final m ≡ true → AreReadPlain (closed m [] held) []
 end_holds m held holds may = (end_sound [] m held held (alone m held holds) may).1

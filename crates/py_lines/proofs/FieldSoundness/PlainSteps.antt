@@ -4,10 +4,10 @@ use Rattle.std.specs.List.{list_any}
 use Rattle.std.proofs.lemmas.Bool.{cond_both, and_parts, both_ways, or_from, false_from_ne_true}
 use Rattle.py_lines.specs.Character.{is_mark, is_space, is_word_character, is_quote, is_line_feed, is_return, is_break}
 use Rattle.py_lines.specs.Piece.{Class, word, string, operator, Piece, begins, is_mark_class, spelled}
-use Rattle.py_lines.specs.PieceGrammar.{InClass, InClassIn, MayPrecede, AreReadBefore}
+use Rattle.py_lines.specs.PieceGrammar.{InPlainClass, InClassIn, MayPrecedePlain, AreReadPlain}
 use Rattle.py_lines.specs.Balance.{is_opening, depth_through}
-use Rattle.py_lines.specs.FieldStrings.{is_field_prefix, Host, literal, with_fields}
 use Rattle.py_lines.specs.Fields.{Fields}
+use Rattle.py_lines.specs.FieldStrings.{is_field_prefix, Host, literal, with_fields}
 use Rattle.py_lines.specs.declared.mode.Spelling.{Spelling}
 use Rattle.py_lines.specs.declared.mode.Mode.{Mode}
 use Rattle.py_lines.specs.declared.mode.Mode.TheVariants as modes
@@ -16,13 +16,14 @@ use Rattle.py_lines.specs.declared.mode.Move.TheVariants as moves
 use Rattle.py_lines.specs.declared.mode.Start.{Start}
 use Rattle.py_lines.specs.declared.mode.Start.TheVariants as starts
 use Rattle.py_lines.specs.Private.Machine.{Holds, closed, class_of, move_of, start_of, is_prefix_spelling}
-use Rattle.py_lines.specs.Private.FieldMachine.{FieldMode, plain, opened, FieldMove, closes, breaks, Level, field_state, host_of, begins_host, plain_move, field_started, field_moved, levels_open}
+use Rattle.py_lines.specs.Private.FieldMachine.{text_place, before, FieldMode, plain, opened, FieldMove, closes, breaks, Level, field_state, host_of, begins_host, plain_move, field_started, field_moved, levels_open}
+use Rattle.py_lines.specs.Private.ScanMachine.{BeginsPlain}
 use Rattle.py_lines.proofs.Pieces.PieceLists.{piece, spelled-push}
 use Rattle.py_lines.proofs.Text.CharacterTests.{quote-not-start}
 use Rattle.py_lines.proofs.Fields.Prefixes.{word_quotes}
 use Rattle.py_lines.proofs.FieldMachine.Runs.{HasRoomFor}
-use Rattle.py_lines.proofs.FieldSoundness.PlainPieces.{BeginsPlain, begins_plain-more, IsPlainText, plain_class, plain_precede, BreaksBefore, MoveHolds, move_holds}
-use Rattle.py_lines.proofs.FieldSoundness.Holds.{Limit, place_of, before, HoldsMode, HoldsList, HoldsLevels, AtStart, IsFieldSound}
+use Rattle.py_lines.proofs.FieldSoundness.PlainPieces.{begins_plain-more, IsPlainText, plain_class, plain_precede, BreaksBefore, MoveHolds, move_holds}
+use Rattle.py_lines.proofs.FieldSoundness.Holds.{Limit, HoldsMode, HoldsList, HoldsLevels, AtStart, IsFieldSound}
 use Rattle.py_lines.proofs.FieldSoundness.Lists.{FieldSoundIf, list_more, levels_more, adds_neutral, list_push, levels_push, fresh_sound}
 use Rattle.py_lines.proofs.FieldSoundness.Code.{Ready, start_sound}
 
@@ -31,17 +32,17 @@ abbrev pub HasRoom : Limit → ℕ → ℕ → FieldMove → Type 0
 HasRoom limit depth c move = HasRoomFor limit.Room depth c move
 
 -- the open piece grows
-pub grew : (limit : Limit) (outer : List Level) (done : List Piece) (openers : List ℕ) (m n : FieldMode) (held read : List ℕ) (c : ℕ) → IsFieldSound limit (field_state outer done openers m held) read → place_of n ≡ place_of m → HoldsMode limit outer (length openers + levels_open outer) n (held ++ c ∷ []) → AtStart n outer done → IsFieldSound limit (field_state outer done openers n (held ++ c ∷ [])) (read ++ c ∷ [])
+pub grew : (limit : Limit) (outer : List Level) (done : List Piece) (openers : List ℕ) (m n : FieldMode) (held read : List ℕ) (c : ℕ) → IsFieldSound limit (field_state outer done openers m held) read → text_place n ≡ text_place m → HoldsMode limit outer (length openers + levels_open outer) n (held ++ c ∷ []) → AtStart n outer done → IsFieldSound limit (field_state outer done openers n (held ++ c ∷ [])) (read ++ c ∷ [])
 grew limit outer done openers m n held read c sound at holds start =
     let text : spelled done ++ (held ++ c ∷ []) ≡ (spelled done ++ held) ++ c ∷ [] = sym (append_assoc (spelled done) held (c ∷ [])) in
     record {
       spell = ap (λ p. before p outer ++ (spelled done ++ (held ++ c ∷ []))) at
-          ∙ ap (λ t. before (place_of m) outer ++ t) text
-          ∙ sym (append_assoc (before (place_of m) outer) (spelled done ++ held) (c ∷ []))
+          ∙ ap (λ t. before (text_place m) outer ++ t) text
+          ∙ sym (append_assoc (before (text_place m) outer) (spelled done ++ held) (c ∷ []))
           ∙ ap (λ t. t ++ c ∷ []) sound.spell;
       mode = holds;
-      list = subst (λ p. HoldsList limit outer p done openers (held ++ c ∷ [])) (sym at) (list_more limit outer (place_of m) done openers held (c ∷ []) sound.list);
-      levels = subst (λ p. HoldsLevels limit p outer (spelled done ++ (held ++ c ∷ []))) (sym at) (subst (HoldsLevels limit (place_of m) outer) (sym text) (levels_more limit (place_of m) outer (spelled done ++ held) (c ∷ []) sound.levels));
+      list = subst (λ p. HoldsList limit outer p done openers (held ++ c ∷ [])) (sym at) (list_more limit outer (text_place m) done openers held (c ∷ []) sound.list);
+      levels = subst (λ p. HoldsLevels limit p outer (spelled done ++ (held ++ c ∷ []))) (sym at) (subst (HoldsLevels limit (text_place m) outer) (sym text) (levels_more limit (text_place m) outer (spelled done ++ held) (c ∷ []) sound.levels));
       start = start;
     }
 
@@ -51,7 +52,7 @@ word_no_quote s held (first, others, is, opens, all, so) =
     ap (list_any is_quote) is ∙ or_from _ _ (false_from_ne_true _ (λ quotes. both_ways _ (quote-not-start first quotes) opens)) (word_quotes others all)
 
 -- a string that the machine without fields begins is none with fields
-abbrev QuotedSo : List ℕ → ℕ → Move → Type 0
+abbrev pub QuotedSo : List ℕ → ℕ → Move → Type 0
 QuotedSo held c (moves.Grows n) = class_of n ≡ string → BeginsPlain (held ++ c ∷ [])
 QuotedSo held c other = Unit {0}
 
@@ -61,7 +62,7 @@ goes_on held c moves.Closes is = tt
 goes_on held c moves.Breaks is = tt
 goes_on held c moves.Refused is = tt
 
-quoted_so : (m : Mode) (held : List ℕ) (c : ℕ) → Holds m [] held → (class_of m ≡ string → BeginsPlain held) → begins_host m held c ≡ false → QuotedSo held c (move_of m c)
+pub quoted_so : (m : Mode) (held : List ℕ) (c : ℕ) → Holds m [] held → (class_of m ≡ string → BeginsPlain held) → begins_host m held c ≡ false → QuotedSo held c (move_of m c)
 unfolding move_of
 quoted_so modes.Start held c holds own other = cond_both (is_mark c) _ _ (λ (v : Move). QuotedSo held c v) (λ h. tt) (λ h. tt)
 quoted_so modes.Free held c holds own other = tt
@@ -85,12 +86,12 @@ quoted_so modes.Return held c holds own other = cond_both (is_line_feed c) _ _ (
 quoted_so m held c holds own other = goes_on held c (move_of m c) (own refl)
 
 -- no character closes a word, nor what stands after no piece
-abbrev ClosesSo : Mode → Move → Type 0
+abbrev pub ClosesSo : Mode → Move → Type 0
 ClosesSo modes.Free moves.Closes = ⊥
 ClosesSo (modes.Word s) moves.Closes = ⊥
 ClosesSo m v = Unit {0}
 
-closes_so : (m : Mode) (c : ℕ) → ClosesSo m (move_of m c)
+pub closes_so : (m : Mode) (c : ℕ) → ClosesSo m (move_of m c)
 unfolding move_of
 closes_so modes.Free c = tt
 closes_so (modes.Word s) c =
@@ -98,7 +99,7 @@ closes_so (modes.Word s) c =
     cond_both (is_word_character c) _ _ P (λ h. tt) (λ h. cond_both (is_prefix_spelling s && is_quote c) _ _ P (λ k. tt) (λ k. tt))
 closes_so m c = tt
 
-closes_class : (m : Mode) → ClosesSo m moves.Closes → (class_of m ≡ operator → ⊥) × (class_of m ≡ word → ⊥)
+pub closes_class : (m : Mode) → ClosesSo m moves.Closes → (class_of m ≡ operator → ⊥) × (class_of m ≡ word → ⊥)
 closes_class modes.Free so = absurd so
 closes_class (modes.Word s) so = absurd so
 closes_class m so = (λ h. absurd (cc), λ h. absurd (cc))
@@ -109,7 +110,7 @@ plain_text word text rest one two = two refl
 plain_text string text rest one two = one refl
 plain_text other text rest one two = tt
 
-word_host : (m : Mode) (held : List ℕ) (c : ℕ) → begins_host m held c ≡ false → class_of m ≡ word → is_field_prefix held && is_quote c ≡ false
+pub word_host : (m : Mode) (held : List ℕ) (c : ℕ) → begins_host m held c ≡ false → class_of m ≡ word → is_field_prefix held && is_quote c ≡ false
 word_host (modes.Word s) held c h at = h
 word_host m held c h at = absurd (cc)
 
@@ -133,7 +134,7 @@ ends_of m = something (λ done held. refl) (λ h. absurd (cc)) refl
 
 module _ (limit : Limit) (outer : List Level) (done : List Piece) (openers : List ℕ) (m : Mode) (held read : List ℕ) (c : ℕ) (sound : IsFieldSound limit (field_state outer done openers (plain m) held) read) (other : begins_host m held c ≡ false) where
   -- the piece ends with the character
-  closes_sound : InClass (class_of m) (held ++ c ∷ []) × ((more : List ℕ) → MayPrecede (class_of m) (held ++ c ∷ []) more) → ClosesSo m moves.Closes → FieldSoundIf limit (field_moved (field_state outer done openers (plain m) held) c closes) (read ++ c ∷ [])
+  closes_sound : InPlainClass (class_of m) (held ++ c ∷ []) × ((more : List ℕ) → MayPrecedePlain (class_of m) (held ++ c ∷ []) more) → ClosesSo m moves.Closes → FieldSoundIf limit (field_moved (field_state outer done openers (plain m) held) c closes) (read ++ c ∷ [])
   closes_sound own so =
       let text = held ++ c ∷ [] in
       let class = closes_class m so in
@@ -148,7 +149,7 @@ module _ (limit : Limit) (outer : List Level) (done : List Piece) (openers : Lis
       (λ at. string_of _ (class_of m) text (plain_class (limit.FieldsAt (depth_through (levels_open outer) done)) (class_of m) text [] (is_plain []) own.0) at))
 
   -- the piece ends before it
-  ready : ((more : List ℕ) → AreReadBefore (closed m [] held) (c ∷ more)) → (is_opening c ≡ true → limit.Room (length openers + levels_open outer)) → Ready limit outer (closed m done held) openers read c
+  ready : ((more : List ℕ) → AreReadPlain (closed m [] held) (c ∷ more)) → (is_opening c ≡ true → limit.Room (length openers + levels_open outer)) → Ready limit outer (closed m done held) openers read c
   ready own room = go (ends_of m)
     where
       go : Ends m → Ready limit outer (closed m done held) openers read c
@@ -162,7 +163,7 @@ module _ (limit : Limit) (outer : List Level) (done : List Piece) (openers : Lis
             room = room;
           })
       go (something is class marked) =
-          let fit : (more : List ℕ) → AreReadBefore (piece (class_of m) held ∷ []) (c ∷ more) = λ more. subst (λ (l : List Piece). AreReadBefore l (c ∷ more)) (is [] held) (own more) in
+          let fit : (more : List ℕ) → AreReadPlain (piece (class_of m) held ∷ []) (c ∷ more) = λ more. subst (λ (l : List Piece). AreReadPlain l (c ∷ more)) (is [] held) (own more) in
           let is_plain : (more : List ℕ) → IsPlainText (class_of m) held (c ∷ more) = λ more. plain_text (class_of m) held (c ∷ more) sound.mode.1 (word_host m held c other) in
           subst (λ (l : List Piece). Ready limit outer l openers read c) (sym (is done held)) (record {
             spell = ap (λ t. before literal outer ++ t) (spelled-push done (class_of m) held) ∙ sound.spell;
@@ -177,7 +178,7 @@ module _ (limit : Limit) (outer : List Level) (done : List Piece) (openers : Lis
   breaks_sound : BreaksBefore m held c (start_of c) → (is_opening c ≡ true → limit.Room (length openers + levels_open outer)) → FieldSoundIf limit (field_moved (field_state outer done openers (plain m) held) c breaks) (read ++ c ∷ [])
   breaks_sound own room = go (start_of c) refl own
     where
-      started : (s : Start) → start_of c ≡ s → ((more : List ℕ) → AreReadBefore (closed m [] held) (c ∷ more)) → FieldSoundIf limit (field_started outer (closed m done held) openers c s) (read ++ c ∷ [])
+      started : (s : Start) → start_of c ≡ s → ((more : List ℕ) → AreReadPlain (closed m [] held) (c ∷ more)) → FieldSoundIf limit (field_started outer (closed m done held) openers c s) (read ++ c ∷ [])
       started s at fit = subst (λ (x : Start). FieldSoundIf limit (field_started outer (closed m done held) openers c x) (read ++ c ∷ [])) at (start_sound limit outer (closed m done held) openers read c (ready fit room))
 
       go : (s : Start) → start_of c ≡ s → BreaksBefore m held c s → FieldSoundIf limit (field_started outer (closed m done held) openers c s) (read ++ c ∷ [])

@@ -5,12 +5,13 @@ use Rattle.std.proofs.lemmas.Bool.{and_parts, both_ways, ltb-true}
 use Rattle.py_lines.specs.Piece.{string, Piece, spelled}
 use Rattle.py_lines.specs.PieceGrammar.{InClassIn, ReadsIn}
 use Rattle.py_lines.specs.Balance.{is_opening, is_opener, IsBalanced, depth_after, depth_through}
+use Rattle.py_lines.specs.Fields.{IsShallow, AnyPieces, Fields, fielded, ShallowFields}
+use Rattle.py_lines.specs.Reading.{IsBalancedReading}
 use Rattle.py_lines.specs.FieldStrings.{with_fields}
-use Rattle.py_lines.specs.Fields.{AnyPieces, Fields, fielded, ShallowFields, IsShallowFielded, IsFieldReading}
-use Rattle.py_lines.specs.Private.FieldMachine.{FieldMove, grows, closes, breaks, begins_code, opens_field, ends_field, refused, Level, FieldScanned, field_state, field_text_start, field_move, field_step, field_steps_from, field_pieces, frames, has_room, has_room_at, have_room, IsFieldFinal}
+use Rattle.py_lines.specs.Private.FieldMachine.{before, FieldMove, grows, closes, breaks, begins_code, opens_field, ends_field, refused, Level, FieldScanned, field_state, field_text_start, field_move, field_step, field_steps_from, field_pieces, frames, has_room, has_room_at, have_room, IsFieldFinal}
 use Rattle.py_lines.proofs.Fields.Nesting.{field_is, shallow_is, any_shallow}
 use Rattle.py_lines.proofs.FieldSoundness.OpenLists.{balanced_at}
-use Rattle.py_lines.proofs.FieldSoundness.Holds.{Limit, before, IsFieldSound}
+use Rattle.py_lines.proofs.FieldSoundness.Holds.{Limit, IsFieldSound}
 use Rattle.py_lines.proofs.FieldSoundness.PlainSteps.{HasRoom}
 use Rattle.py_lines.proofs.FieldSoundness.HostSteps.{HaveRoom, sound_at}
 use Rattle.py_lines.proofs.FieldSoundness.ListEnds.{code_at_end, list_ends}
@@ -28,14 +29,14 @@ no_limit = record {
 }
 
 -- at most 200 brackets and fields
-pub shallow-push : (depth : ℕ) (ps : List Piece) (p : Piece) → IsShallowFielded depth ps → (is_opener p ≡ true → depth_through depth ps < 200) → (p.class ≡ string → InClassIn (with_fields (ShallowFields (depth_through depth ps))) string p.text) → IsShallowFielded depth (ps ++ p ∷ [])
+pub shallow-push : (depth : ℕ) (ps : List Piece) (p : Piece) → IsShallow depth ps → (is_opener p ≡ true → depth_through depth ps < 200) → (p.class ≡ string → InClassIn (with_fields (ShallowFields (depth_through depth ps))) string p.text) → IsShallow depth (ps ++ p ∷ [])
 shallow-push depth [] p passes room holds = (room, holds, tt)
 shallow-push depth (q ∷ ps) p passes room holds = (passes.0, passes.1, shallow-push (depth_after depth q) ps p passes.2 room holds)
 
 abbrev pub two_hundred : Limit
 two_hundred = record {
   FieldsAt = ShallowFields;
-  PiecesAt = IsShallowFielded;
+  PiecesAt = IsShallow;
   Room = λ depth. depth < 200;
   are_fields = any_shallow;
   makes_field = shallow_is;
@@ -65,7 +66,7 @@ code_room true depth h =
     (omega arith, λ is. less)
 code_room false depth h = (ltb-true depth 200 h, λ is. absurd (both_ways _ refl is))
 
-room_at : (depth c : ℕ) (v : FieldMove) → has_room_at depth c v ≡ true → HasRoom two_hundred depth c v
+pub room_at : (depth c : ℕ) (v : FieldMove) → has_room_at depth c v ≡ true → HasRoom two_hundred depth c v
 unfolding has_room_at
 room_at depth c breaks h = λ opens. ltb-true depth 200 (second (is_opening c) (nat_lt depth 200) h opens)
   where
@@ -106,14 +107,8 @@ ends_sound limit s read sound final = go s.outer s.openers sound final.outside f
         }
     go (l ∷ ls) openers own outside none = absurd (cc)
 
--- the machine with fields is sound: where it may end, its pieces read the text, with brackets in pairs
-pub final_reads : (characters : List ℕ) (s : FieldScanned) → field_steps_from (Some field_text_start) characters ≡ Some s → IsFieldFinal s → ReadsIn fielded (field_pieces s) characters × IsBalanced (field_pieces s)
-final_reads characters s steps final =
-    let at_end = ends_sound no_limit s characters (sound_at no_limit characters s (any_rooms (Some field_text_start) characters) steps) final in
-    (at_end.reads, at_end.balanced)
-
 -- and at most 200 brackets and fields are open, if each character had room
-pub final_is_reading : (characters : List ℕ) (s : FieldScanned) → field_steps_from (Some field_text_start) characters ≡ Some s → have_room (Some field_text_start) characters ≡ true → IsFieldFinal s → IsFieldReading (field_pieces s) characters
+pub final_is_reading : (characters : List ℕ) (s : FieldScanned) → field_steps_from (Some field_text_start) characters ≡ Some s → have_room (Some field_text_start) characters ≡ true → IsFieldFinal s → IsBalancedReading (field_pieces s) characters
 final_is_reading characters s steps room final =
     let at_end = ends_sound two_hundred s characters (sound_at two_hundred characters s (rooms_at (Some field_text_start) characters room) steps) final in
     record { reads = at_end.reads; balanced = at_end.balanced; shallow = at_end.passes }

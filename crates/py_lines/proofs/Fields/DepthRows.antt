@@ -6,9 +6,9 @@ use Rattle.std.proofs.lemmas.List.{append_cancel_left}
 use Rattle.py_lines.specs.Character.{is_quote, is_backslash}
 use Rattle.py_lines.specs.Piece.{string, spelled}
 use Rattle.py_lines.specs.PieceGrammar.{has_triple, joined, InClassIn, MayPrecedeIn}
+use Rattle.py_lines.specs.Fields.{IsShallow, AreInside, IsField, simple, specified, FieldsWithin, Fields, fielded, ShallowWithin, ShallowFields}
 use Rattle.py_lines.specs.Balance as balance
 use Rattle.py_lines.specs.FieldStrings.{Host, literal, quotes_of, IsPart, bare, slash, escape, escaped_end, name, double, field, begins_double, AreParts, IsFieldString, with_fields}
-use Rattle.py_lines.specs.Fields.{AreInside, IsField, simple, specified, FieldsWithin, Fields, fielded, ShallowWithin, ShallowFields, IsShallowFielded}
 use Rattle.py_lines.proofs.Text.CharacterTests.{not_quote}
 use Rattle.py_lines.proofs.Fields.Parts.{BeginOpen, Agree}
 use Rattle.py_lines.proofs.Fields.SameStrings.{alike_strings}
@@ -117,12 +117,12 @@ own_field F host n rest is = go (begun_nested n) is
     go begun (field own a b) = own
 
 -- the field's pieces are that string
-own_string : (n depth : ℕ) (host : Host) → IsField fielded (IsShallowFielded (depth + 1)) (ShallowFields (depth + 1)) host (around (nested n)) → InClassIn (with_fields (ShallowFields (depth + 1))) string (nested n)
+own_string : (n depth : ℕ) (host : Host) → IsField fielded (IsShallow (depth + 1)) (ShallowFields (depth + 1)) host (around (nested n)) → InClassIn (with_fields (ShallowFields (depth + 1))) string (nested n)
 own_string n depth host (simple pieces shape is passes) =
     let known = inside Fields (nested n) (string_nested n) in
     let text : spelled pieces ++ 125 ∷ [] ≡ (nested n ++ []) ++ 125 ∷ [] = append_cancel_left (123 ∷ []) _ _ (sym shape ∙ in_braces (nested n)) in
     let same = same_inside Fields Fields fields_begin fields_begin fields_agree pieces (piece string (nested n) ∷ []) 125 125 [] [] brace brace is known text in
-    (subst (IsShallowFielded (depth + 1)) same.0 passes).1 refl
+    (subst (IsShallow (depth + 1)) same.0 passes).1 refl
 own_string n depth host (specified pieces parts shape is passes specification) =
     let known = inside Fields (nested n) (string_nested n) in
     let text : spelled pieces ++ 58 ∷ (joined parts ++ 125 ∷ []) ≡ (nested n ++ []) ++ 125 ∷ [] = append_cancel_left (123 ∷ []) _ _ (sym shape ∙ in_braces (nested n)) in

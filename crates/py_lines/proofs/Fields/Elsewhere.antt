@@ -4,11 +4,12 @@ use Rattle.std.proofs.lemmas.Bool.{or_parts, or_from, or_cases, both_ways}
 use Rattle.std.specs.Prelude.{if◌then◌else◌}
 use Rattle.py_lines.specs.Character.{is_quote, is_r, is_f, is_t}
 use Rattle.py_lines.specs.Piece.{Class, mark, space, word, string, operator, comment, join, line_end, Piece, begins, spelled}
-use Rattle.py_lines.specs.PieceGrammar.{is_prefix, IsNoneOr, InClass, InClassIn, MayPrecede, MayPrecedeIn, AreReadBefore, AreReadIn, Reads, ReadsIn, joined}
-use Rattle.py_lines.specs.Balance.{IsShallow, depth_after}
+use Rattle.py_lines.specs.PieceGrammar.{is_prefix, IsNoneOr, InPlainClass, InClassIn, MayPrecedePlain, MayPrecedeIn, AreReadPlain, AreReadIn, ReadsPlain, ReadsIn, joined}
+use Rattle.py_lines.specs.Balance.{IsShallowPlain, depth_after}
+use Rattle.py_lines.specs.Fields.{Fields, fielded, IsShallowWith, ShallowFields}
 use Rattle.py_lines.specs.Reading.{IsBalancedReading}
+use Rattle.py_lines.specs.WithoutFields.{IsPlainReading}
 use Rattle.py_lines.specs.FieldStrings.{is_field_prefix, Host, quotes_of, IsFieldString, with_fields, begins_raw, may_have_fields}
-use Rattle.py_lines.specs.Fields.{Fields, fielded, IsShallowWith, ShallowFields, IsFieldReading}
 
 -- what follows some of the text has none either
 later : (a b : List ℕ) → may_have_fields (a ++ b) ≡ false → may_have_fields b ≡ false
@@ -64,7 +65,7 @@ has_prefix F text rest h is =
     both_ways _ (no_field_string text is.prefix _ rest is.host.quote spell is.opens h) is.begun
 
 -- each class
-class_with : (F : Host → List ℕ → Type 0) (class : Class) (text rest : List ℕ) → may_have_fields (text ++ rest) ≡ false → InClass class text → InClassIn (with_fields F) class text
+class_with : (F : Host → List ℕ → Type 0) (class : Class) (text rest : List ℕ) → may_have_fields (text ++ rest) ≡ false → InPlainClass class text → InClassIn (with_fields F) class text
 class_with F mark text rest h is = is
 class_with F space text rest h is = is
 class_with F word text rest h is = is
@@ -75,7 +76,7 @@ class_with F comment text rest h is = is
 class_with F join text rest h is = is
 class_with F line_end text rest h is = is
 
-class_without : (F : Host → List ℕ → Type 0) (class : Class) (text rest : List ℕ) → may_have_fields (text ++ rest) ≡ false → InClassIn (with_fields F) class text → InClass class text
+class_without : (F : Host → List ℕ → Type 0) (class : Class) (text rest : List ℕ) → may_have_fields (text ++ rest) ≡ false → InClassIn (with_fields F) class text → InPlainClass class text
 class_without F mark text rest h is = is
 class_without F space text rest h is = is
 class_without F word text rest h is = is
@@ -110,7 +111,7 @@ more_prefixes : (prefix : List ℕ) → IsNoneOr is_prefix prefix → IsNoneOr (
 more_prefixes prefix (inl none) = inl none
 more_prefixes prefix (inr some) = inr (ap (λ b. b || is_field_prefix prefix) some)
 
-precede_with : (F : Host → List ℕ → Type 0) (class : Class) (text rest : List ℕ) → may_have_fields (text ++ rest) ≡ false → MayPrecede class text rest → MayPrecedeIn (with_fields F) class text rest
+precede_with : (F : Host → List ℕ → Type 0) (class : Class) (text rest : List ℕ) → may_have_fields (text ++ rest) ≡ false → MayPrecedePlain class text rest → MayPrecedeIn (with_fields F) class text rest
 precede_with F mark text rest h before = before
 precede_with F space text rest h before = before
 precede_with F word text rest h before = (before.0, word_with text rest h before.1)
@@ -120,7 +121,7 @@ precede_with F comment text rest h before = before
 precede_with F join text rest h before = before
 precede_with F line_end text rest h before = before
 
-pub precede_without : (F : Host → List ℕ → Type 0) (class : Class) (text rest : List ℕ) → MayPrecedeIn (with_fields F) class text rest → MayPrecede class text rest
+pub precede_without : (F : Host → List ℕ → Type 0) (class : Class) (text rest : List ℕ) → MayPrecedeIn (with_fields F) class text rest → MayPrecedePlain class text rest
 precede_without F mark text rest before = before
 precede_without F space text rest before = before
 precede_without F word text rest before = (before.0, fewer_false (is_prefix text) (is_field_prefix text) (begins is_quote rest) before.1)
@@ -131,13 +132,13 @@ precede_without F join text rest before = before
 precede_without F line_end text rest before = before
 
 -- so all pieces of the text
-read_with : (F : Host → List ℕ → Type 0) (ps : List Piece) (rest : List ℕ) → may_have_fields (spelled ps ++ rest) ≡ false → AreReadBefore ps rest → AreReadIn (with_fields F) ps rest
+read_with : (F : Host → List ℕ → Type 0) (ps : List Piece) (rest : List ℕ) → may_have_fields (spelled ps ++ rest) ≡ false → AreReadPlain ps rest → AreReadIn (with_fields F) ps rest
 read_with F [] rest h fit = tt
 read_with F (p ∷ ps) rest h fit =
     let here : may_have_fields (p.text ++ (spelled ps ++ rest)) ≡ false = subst (λ t. may_have_fields t ≡ false) (append_assoc p.text (spelled ps) rest) h in
     (class_with F p.class p.text _ here fit.0, precede_with F p.class p.text _ here fit.1, fit.2, read_with F ps rest (later p.text (spelled ps ++ rest) here) fit.3)
 
-read_without : (F : Host → List ℕ → Type 0) (ps : List Piece) (rest : List ℕ) → may_have_fields (spelled ps ++ rest) ≡ false → AreReadIn (with_fields F) ps rest → AreReadBefore ps rest
+read_without : (F : Host → List ℕ → Type 0) (ps : List Piece) (rest : List ℕ) → may_have_fields (spelled ps ++ rest) ≡ false → AreReadIn (with_fields F) ps rest → AreReadPlain ps rest
 read_without F [] rest h fit = tt
 read_without F (p ∷ ps) rest h fit =
     let here : may_have_fields (p.text ++ (spelled ps ++ rest)) ≡ false = subst (λ t. may_have_fields t ≡ false) (append_assoc p.text (spelled ps) rest) h in
@@ -146,36 +147,32 @@ read_without F (p ∷ ps) rest h fit =
 none_after : (pieces : List Piece) (characters : List ℕ) → may_have_fields characters ≡ false → spelled pieces ≡ characters → may_have_fields (spelled pieces ++ []) ≡ false
 none_after pieces characters h is = ap may_have_fields (append-nil (spelled pieces) ∙ is) ∙ h
 
-pub reads_with : (pieces : List Piece) (characters : List ℕ) → may_have_fields characters ≡ false → Reads pieces characters → ReadsIn fielded pieces characters
+pub reads_with : (pieces : List Piece) (characters : List ℕ) → may_have_fields characters ≡ false → ReadsPlain pieces characters → ReadsIn fielded pieces characters
 reads_with pieces characters h reads = record { spell = reads.spell; fit = read_with Fields pieces [] (none_after pieces characters h reads.spell) reads.fit }
 
-pub reads_without : (pieces : List Piece) (characters : List ℕ) → may_have_fields characters ≡ false → ReadsIn fielded pieces characters → Reads pieces characters
+pub reads_without : (pieces : List Piece) (characters : List ℕ) → may_have_fields characters ≡ false → ReadsIn fielded pieces characters → ReadsPlain pieces characters
 reads_without pieces characters h reads = record { spell = reads.spell; fit = read_without Fields pieces [] (none_after pieces characters h reads.spell) reads.fit }
 
 -- and their depth: strings without fields are shallow at each
-shallow_with : (Shallow : ℕ → Host → List ℕ → Type 0) (ps : List Piece) (rest : List ℕ) (depth : ℕ) → may_have_fields (spelled ps ++ rest) ≡ false → AreReadBefore ps rest → IsShallow depth ps → IsShallowWith Shallow depth ps
+shallow_with : (Shallow : ℕ → Host → List ℕ → Type 0) (ps : List Piece) (rest : List ℕ) (depth : ℕ) → may_have_fields (spelled ps ++ rest) ≡ false → AreReadPlain ps rest → IsShallowPlain depth ps → IsShallowWith Shallow depth ps
 shallow_with Shallow [] rest depth h fit shallow = tt
 shallow_with Shallow (p ∷ ps) rest depth h fit shallow =
     let here : may_have_fields (p.text ++ (spelled ps ++ rest)) ≡ false = subst (λ t. may_have_fields t ≡ false) (append_assoc p.text (spelled ps) rest) h in (
       shallow.0,
-      λ is. class_with (Shallow depth) string p.text _ here (subst (λ c. InClass c p.text) is fit.0),
+      λ is. class_with (Shallow depth) string p.text _ here (subst (λ c. InPlainClass c p.text) is fit.0),
       shallow_with Shallow ps rest (depth_after depth p) (later p.text (spelled ps ++ rest) here) fit.3 shallow.1,
     )
 
-pub shallow_without : (Shallow : ℕ → Host → List ℕ → Type 0) (ps : List Piece) (depth : ℕ) → IsShallowWith Shallow depth ps → IsShallow depth ps
+pub shallow_without : (Shallow : ℕ → Host → List ℕ → Type 0) (ps : List Piece) (depth : ℕ) → IsShallowWith Shallow depth ps → IsShallowPlain depth ps
 shallow_without Shallow [] depth shallow = tt
 shallow_without Shallow (p ∷ ps) depth shallow = (shallow.0, shallow_without Shallow ps (depth_after depth p) shallow.2)
 
-pub balanced_with : (pieces : List Piece) (characters : List ℕ) → may_have_fields characters ≡ false → IsBalancedReading pieces characters → IsFieldReading pieces characters
-balanced_with pieces characters h is =
-    let plain : Reads pieces characters = record { spell = is.spell; fit = is.fit } in
-    record {
-      reads = reads_with pieces characters h plain;
-      balanced = is.balanced;
-      shallow = shallow_with ShallowFields pieces [] 0 (none_after pieces characters h is.spell) is.fit is.shallow;
-    }
+pub balanced_with : (pieces : List Piece) (characters : List ℕ) → may_have_fields characters ≡ false → IsPlainReading pieces characters → IsBalancedReading pieces characters
+balanced_with pieces characters h is = record {
+  reads = reads_with pieces characters h is.reads;
+  balanced = is.balanced;
+  shallow = shallow_with ShallowFields pieces [] 0 (none_after pieces characters h is.reads.spell) is.reads.fit is.shallow;
+}
 
-pub balanced_without : (pieces : List Piece) (characters : List ℕ) → may_have_fields characters ≡ false → IsFieldReading pieces characters → IsBalancedReading pieces characters
-balanced_without pieces characters h is =
-    let plain = reads_without pieces characters h is.reads in
-    record { spell = plain.spell; fit = plain.fit; balanced = is.balanced; shallow = shallow_without ShallowFields pieces 0 is.shallow }
+pub balanced_without : (pieces : List Piece) (characters : List ℕ) → may_have_fields characters ≡ false → IsBalancedReading pieces characters → IsPlainReading pieces characters
+balanced_without pieces characters h is = record { reads = reads_without pieces characters h is.reads; balanced = is.balanced; shallow = shallow_without ShallowFields pieces 0 is.shallow }

@@ -5,8 +5,8 @@ use Rattle.std.proofs.lemmas.Bool.{both_ways, eq-eqb}
 use Rattle.std.proofs.lemmas.List.{append_cancel_left}
 use Rattle.py_lines.specs.Character.{is_quote, is_backslash, is_brace, is_barred}
 use Rattle.py_lines.specs.PieceGrammar.{joined, has_triple}
-use Rattle.py_lines.specs.FieldStrings.{Host, literal, specification, is_ordinary, IsPart, named_after, named_through, AreParts}
 use Rattle.py_lines.specs.Fields.{IsSpecification}
+use Rattle.py_lines.specs.FieldStrings.{Host, literal, specification, is_ordinary, IsPart, named_after, named_through, AreParts}
 use Rattle.py_lines.proofs.Text.CharacterTests.{none_of}
 use Rattle.py_lines.proofs.Pieces.PieceLists.{joined-append}
 use Rattle.py_lines.proofs.Fields.Prefixes.{Compared, same, longer, shorter}

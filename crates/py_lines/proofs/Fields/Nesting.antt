@@ -3,8 +3,8 @@ use Rattle.std.proofs.Common.{◌≡◌, ℕ, zero, suc, ◌+◌, ◌<◌, ◌�
 use Rattle.py_lines.specs.Piece.{Class, mark, space, word, string, operator, comment, join, line_end, Piece}
 use Rattle.py_lines.specs.PieceGrammar.{joined, InClassIn, MayPrecedeIn, AreReadIn}
 use Rattle.py_lines.specs.Balance.{depth_after}
+use Rattle.py_lines.specs.Fields.{IsShallow, AreInside, IsSpecification, IsField, simple, specified, FieldsWithin, Fields, fielded, IsShallowWith, ShallowWithin, ShallowFields, AnyPieces}
 use Rattle.py_lines.specs.FieldStrings.{Host, Place, IsPart, bare, slash, escape, escaped_end, name, double, field, named_after, AreParts, with_fields}
-use Rattle.py_lines.specs.Fields.{AreInside, IsSpecification, IsField, simple, specified, FieldsWithin, Fields, fielded, IsShallowWith, ShallowWithin, ShallowFields, IsShallowFielded, AnyPieces}
 
 -- more fields than others: what is made of these is made of those
 abbrev pub Within : (Host → List ℕ → Type 0) → (Host → List ℕ → Type 0) → Type 0
@@ -168,7 +168,7 @@ shallow_more (suc n) (suc m) le depth host text is =
     let f : (d : ℕ) → Within (ShallowWithin n d) (ShallowWithin m d) = shallow_more n m (omega arith) in
     (is.0, field_map Fields Fields (ShallowWithin n (depth + 1)) (ShallowWithin m (depth + 1)) _ _ (λ h t one. one) (f (depth + 1)) (shallow_map (ShallowWithin n) (ShallowWithin m) f (depth + 1)) host text is.1)
 
-shallow_within : (depth : ℕ) (ps : List Piece) → IsShallowFielded depth ps → (n : ℕ) × IsShallowWith (ShallowWithin n) depth ps
+shallow_within : (depth : ℕ) (ps : List Piece) → IsShallow depth ps → (n : ℕ) × IsShallowWith (ShallowWithin n) depth ps
 shallow_within depth [] shallow = (zero, tt)
 shallow_within depth (p ∷ ps) shallow =
     let first = at p.class shallow.1 in
@@ -195,7 +195,7 @@ shallow_within depth (p ∷ ps) shallow =
     at join h = (zero, λ is. absurd (cc))
     at line_end h = (zero, λ is. absurd (cc))
 
-pub shallow_is : (depth : ℕ) (host : Host) (text : List ℕ) → depth < 200 → IsField fielded (IsShallowFielded (depth + 1)) (ShallowFields (depth + 1)) host text → ShallowFields depth host text
+pub shallow_is : (depth : ℕ) (host : Host) (text : List ℕ) → depth < 200 → IsField fielded (IsShallow (depth + 1)) (ShallowFields (depth + 1)) host text → ShallowFields depth host text
 shallow_is depth host text room (simple inside spell is passes) =
     let own = shallow_within (depth + 1) inside passes in
     (suc own.0, (room, simple inside spell is own.1))
@@ -212,7 +212,7 @@ shallow_is depth host text room (specified inside parts spell is passes specific
       ),
     )
 
-pub shallow_of : (depth : ℕ) (host : Host) (text : List ℕ) → ShallowFields depth host text → (depth < 200) × IsField fielded (IsShallowFielded (depth + 1)) (ShallowFields (depth + 1)) host text
+pub shallow_of : (depth : ℕ) (host : Host) (text : List ℕ) → ShallowFields depth host text → (depth < 200) × IsField fielded (IsShallow (depth + 1)) (ShallowFields (depth + 1)) host text
 shallow_of depth host text (zero, is) = absurd is
 shallow_of depth host text (suc n, is) =
     let f : (d : ℕ) → Within (ShallowWithin n d) (ShallowFields d) = λ d h t one. (n, one) in

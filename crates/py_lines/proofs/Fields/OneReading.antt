@@ -6,11 +6,13 @@ use Rattle.std.proofs.lemmas.List.{append_cancel_left}
 use Rattle.py_lines.specs.Character.{is_operator, is_quote, is_return, is_line_feed}
 use Rattle.py_lines.specs.Piece.{Class, mark, space, word, string, operator, comment, join, line_end, Piece, ends, spelled}
 use Rattle.py_lines.specs.PieceGrammar.{feed, return_feed, return, joined, Grammar, InClassIn, MayPrecedeIn, AreReadIn, ReadsIn}
+use Rattle.py_lines.specs.Balance.{is_opening, is_closing, is_opener, is_closer, IsBalanced, depth_after, depth_through}
+use Rattle.py_lines.specs.Fields.{ReadsText, HasNoColon, AreInside, IsField, simple, specified, FieldsWithin, Fields, fielded}
+use Rattle.std.specs.Str.{chars}
+use Rattle.std.proofs.lemmas.Str.{chars-encodes}
 use Rattle.py_lines.specs.LogicalLine.{first_or_zero}
 use Rattle.py_lines.specs.Balance as balance
-use Rattle.py_lines.specs.Balance.{is_opening, is_closing, is_opener, is_closer, IsBalanced, depth_after, depth_through}
 use Rattle.py_lines.specs.FieldStrings.{Host, quotes_of, with_fields}
-use Rattle.py_lines.specs.Fields.{HasNoColon, AreInside, IsField, simple, specified, FieldsWithin, Fields, fielded}
 use Rattle.py_lines.proofs.Pieces.PieceLists.{piece, spelled-append, AreReadIn-second}
 use Rattle.py_lines.proofs.Pieces.OpenBrackets.{closer-not-opener, balanced_depth}
 use Rattle.py_lines.proofs.Fields.Elsewhere.{quotes_begin}
@@ -253,3 +255,8 @@ one_fielded_reading pieces others characters one two =
     go (same is) = is
     go (longer y zs is) = absurd (ends_there pieces others zs y one.fit is at)
     go (shorter y zs is) = absurd (ends_there others pieces zs y two.fit is (sym at))
+
+pub one_fielded_reading_of_text : (pieces others : List Piece) (text : List ℕ) → ReadsText pieces text → ReadsText others text → pieces ≡ others
+one_fielded_reading_of_text pieces others text first second =
+    let same : spelled pieces ≡ spelled others = sym (chars-encodes (spelled pieces) first.scalars) ∙ ap chars (first.spell ∙ sym second.spell) ∙ chars-encodes (spelled others) second.scalars in
+    one_fielded_reading pieces others (spelled others) (record { spell = same; fit = first.fit }) (record { spell = refl; fit = second.fit })

@@ -1,27 +1,27 @@
 -- Two pieces without fields that begin in one place are the same: the machine goes over one, and then over no other.
 use Rattle.std.proofs.Common.{◌≡◌, ℕ, Option, None, Some, List, [], ◌∷◌, ◌++◌, refl, sym, ap, ◌∙◌, subst, append_assoc, append-nil}
 use Rattle.py_lines.specs.Piece.{Class, Piece}
-use Rattle.py_lines.specs.PieceGrammar.{InClass, MayPrecede}
+use Rattle.py_lines.specs.PieceGrammar.{InPlainClass, MayPrecedePlain}
 use Rattle.py_lines.specs.declared.mode.Move.{Move}
 use Rattle.py_lines.specs.declared.mode.Move.TheVariants as moves
 use Rattle.py_lines.specs.Private.Machine.{Scanned, text_start, started, moved, steps_from, move_of, start_of}
 use Rattle.py_lines.proofs.Pieces.PieceLists.{piece}
 use Rattle.py_lines.proofs.Machine.PieceSteps.{pieces_at, StopsBefore, steps_from-append}
 use Rattle.py_lines.proofs.Machine.ReadingSteps.{reach}
-use Rattle.py_lines.proofs.Machine.Advance.{GrowsIf, closed_grows, started_grows, run_grows}
+use Rattle.py_lines.proofs.Machine.FinishedPieces.{GrowsIf, closed_grows, started_grows, run_grows}
 
 -- two texts that begin alike: one begins with the other
-data Cut (s t r u : List ℕ) : Type 0 where
-  alike : s ≡ t → Cut s t r u
-  first : (c : ℕ) (x : List ℕ) → t ≡ s ++ c ∷ x → r ≡ c ∷ (x ++ u) → Cut s t r u
-  second : (c : ℕ) (x : List ℕ) → s ≡ t ++ c ∷ x → u ≡ c ∷ (x ++ r) → Cut s t r u
+data BeginAlike (s t r u : List ℕ) : Type 0 where
+  alike : s ≡ t → BeginAlike s t r u
+  first : (c : ℕ) (x : List ℕ) → t ≡ s ++ c ∷ x → r ≡ c ∷ (x ++ u) → BeginAlike s t r u
+  second : (c : ℕ) (x : List ℕ) → s ≡ t ++ c ∷ x → u ≡ c ∷ (x ++ r) → BeginAlike s t r u
 
-cut_more : (a b : ℕ) (s t r u : List ℕ) → a ≡ b → Cut s t r u → Cut (a ∷ s) (b ∷ t) r u
+cut_more : (a b : ℕ) (s t r u : List ℕ) → a ≡ b → BeginAlike s t r u → BeginAlike (a ∷ s) (b ∷ t) r u
 cut_more a b s t r u here (alike is) = alike (ap (λ z. z ∷ s) here ∙ ap (λ l. b ∷ l) is)
 cut_more a b s t r u here (first c x is rest) = first c x (ap (λ z. z ∷ t) (sym here) ∙ ap (λ l. a ∷ l) is) rest
 cut_more a b s t r u here (second c x is rest) = second c x (ap (λ z. z ∷ s) here ∙ ap (λ l. b ∷ l) is) rest
 
-cut_at : (s t r u : List ℕ) → s ++ r ≡ t ++ u → Cut s t r u
+cut_at : (s t r u : List ℕ) → s ++ r ≡ t ++ u → BeginAlike s t r u
 cut_at [] [] r u at = alike refl
 cut_at [] (b ∷ t) r u at = first b t refl at
 cut_at (a ∷ s) [] r u at = second a s refl (sym at)
@@ -34,7 +34,7 @@ cut_at (a ∷ s) (b ∷ t) r u at =
 abbrev Over : Piece → List ℕ → List ℕ → Type 0
 Over p text rest = (to : Scanned) × (steps_from (Some text_start) text ≡ Some to) × (pieces_at to ≡ p ∷ []) × ((c : ℕ) (x : List ℕ) → rest ≡ c ∷ x → move_of to.mode c ≡ moves.Breaks)
 
-over : (c : Class) (text rest : List ℕ) → InClass c text → MayPrecede c text rest → Over (piece c text) text rest
+over : (c : Class) (text rest : List ℕ) → InPlainClass c text → MayPrecedePlain c text rest → Over (piece c text) text rest
 over c text rest is before =
     let reached = reach (piece c text ∷ []) rest (is, before, refl, tt) in
     (reached.to, ap (steps_from (Some text_start)) (sym (append-nil text)) ∙ reached.steps, reached.pieces_are, λ d x shape. subst (StopsBefore reached.to.mode) shape (reached.stops tt))
@@ -61,7 +61,7 @@ longer p q s t r u c x one two is rest =
     heads p q (grown.0 ++ whole.0)
     (ap (λ l. l ++ (grown.0 ++ whole.0)) (sym one.2) ∙ sym (append_assoc done grown.0 whole.0) ∙ ap (λ l. l ++ whole.0) (sym grown.1) ∙ sym whole.1 ∙ two.2)
 
-pub same_plain : (c d : Class) (s t r u : List ℕ) → InClass c s → MayPrecede c s r → InClass d t → MayPrecede d t u → s ++ r ≡ t ++ u → piece c s ≡ piece d t
+pub same_plain : (c d : Class) (s t r u : List ℕ) → InPlainClass c s → MayPrecedePlain c s r → InPlainClass d t → MayPrecedePlain d t u → s ++ r ≡ t ++ u → piece c s ≡ piece d t
 unfolding pieces_or
 same_plain c d s t r u is before also after at = go (cut_at s t r u at)
   where
@@ -71,7 +71,7 @@ same_plain c d s t r u is before also after at = go (cut_at s t r u at)
     two : Over (piece d t) t u
     two = over d t u also after
 
-    go : Cut s t r u → piece c s ≡ piece d t
+    go : BeginAlike s t r u → piece c s ≡ piece d t
     go (alike same) =
         let states : Some one.0 ≡ Some two.0 = sym one.1 ∙ ap (steps_from (Some text_start)) same ∙ two.1 in
         heads (piece c s) (piece d t) [] (sym one.2 ∙ ap pieces_or states ∙ two.2)

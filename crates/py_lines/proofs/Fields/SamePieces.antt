@@ -5,7 +5,7 @@ use Rattle.std.proofs.lemmas.Bool.{and_parts, and_from, both_ways}
 use Rattle.std.proofs.lemmas.List.{append_cancel_left}
 use Rattle.py_lines.specs.Character.{is_mark, is_space, is_operator, is_hash, is_backslash, is_quote, is_line_feed, is_return, is_word_character}
 use Rattle.py_lines.specs.Piece.{Class, mark, space, word, string, operator, comment, join, line_end, Piece, begins, spelled}
-use Rattle.py_lines.specs.PieceGrammar.{is_prefix, joined, IsLineEnd, feed, return_feed, return, InClass, InClassIn, MayPrecedeIn, AreReadIn}
+use Rattle.py_lines.specs.PieceGrammar.{is_prefix, joined, IsLineEnd, feed, return_feed, return, InPlainClass, InClassIn, MayPrecedeIn, AreReadIn}
 use Rattle.py_lines.specs.FieldStrings.{is_field_prefix, Host, quotes_of, IsFieldString, with_fields}
 use Rattle.py_lines.proofs.Text.CharacterTests.{quote-not-word}
 use Rattle.py_lines.proofs.Pieces.PieceLists.{piece}
@@ -111,7 +111,7 @@ module _ (F G : Host → List ℕ → Type 0) where
       go line_end shape later = absurd (no_line_end t u _ letters.first none shape first)
 
 -- a piece without fields, or a string with them
-plain_or_fielded : (F : Host → List ℕ → Type 0) (class : Class) (text : List ℕ) → InClassIn (with_fields F) class text → InClass class text ⊎ ((class ≡ string) × IsFieldString F text)
+plain_or_fielded : (F : Host → List ℕ → Type 0) (class : Class) (text : List ℕ) → InClassIn (with_fields F) class text → InPlainClass class text ⊎ ((class ≡ string) × IsFieldString F text)
 plain_or_fielded F mark text is = inl is
 plain_or_fielded F space text is = inl is
 plain_or_fielded F word text is = inl is
@@ -135,7 +135,7 @@ same_piece F G begin_f begin_g agree c d s t r u one before two after at = go (p
         same_as c d s t (x ∙ sym y) (same_field_string F G begin_f begin_g agree s t r u is also
         (subst (λ z. MayPrecedeIn (with_fields F) z s r) x before) (subst (λ z. MayPrecedeIn (with_fields G) z t u) y after) at)
 
-    go : InClass c s ⊎ ((c ≡ string) × IsFieldString F s) → InClass d t ⊎ ((d ≡ string) × IsFieldString G t) → piece c s ≡ piece d t
+    go : InPlainClass c s ⊎ ((c ≡ string) × IsFieldString F s) → InPlainClass d t ⊎ ((d ≡ string) × IsFieldString G t) → piece c s ≡ piece d t
     go (inl plain) (inl also) = same_plain c d s t r u plain (precede_without F c s r before) also (precede_without G d t u after) at
     go (inr fielded) other =
         let alone = fielded_alone F G d s t r u fielded.1 two after at in

@@ -7,10 +7,10 @@ use Rattle.unicode_ident.proofs.Computing.{unicode_ident}
 use Rattle.py_lines.specs.Character.{is_space, is_word_character, is_word_start, is_digit, is_quote, is_operator, is_line_feed, is_return, is_break, is_hash, is_backslash, is_barred, is_brace, is_r, is_b, is_f, is_t, is_u}
 use Rattle.py_lines.specs.Piece.{Class, space, word, string, operator, comment, line_end, Piece, spelled}
 use Rattle.py_lines.specs.PieceGrammar.{feed, joined, InClassIn, ReadsIn}
-use Rattle.py_lines.specs.Balance as balance
 use Rattle.py_lines.specs.Balance.{is_opening, is_closing, IsBalanced}
-use Rattle.py_lines.specs.FieldStrings.{Host, literal, specification, quotes_of, IsPart, bare, slash, escape, escaped_end, name, double, field, AreParts, IsFieldString, with_fields}
 use Rattle.py_lines.specs.Fields.{AreInside, IsField, simple, specified, AnyPieces, FieldsWithin, Fields, fielded}
+use Rattle.py_lines.specs.Balance as balance
+use Rattle.py_lines.specs.FieldStrings.{Host, literal, specification, quotes_of, IsPart, bare, slash, escape, escaped_end, name, double, field, AreParts, IsFieldString, with_fields}
 use Rattle.py_lines.proofs.Text.CharacterTests.{not_quote}
 use Rattle.py_lines.proofs.Fields.Elsewhere.{none_false}
 use Rattle.py_lines.proofs.Fields.OneReading.{one_fielded_reading, same_inside, no_colon, fields_begin, fields_agree, brace, colon}

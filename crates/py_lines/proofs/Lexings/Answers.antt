@@ -1,40 +1,21 @@
 -- What a reader answers in the end, from where the machine stands.
-use Rattle.std.proofs.Common.{◌≡◌, ℕ, ◌+◌, true, List, [], ◌∷◌, ◌++◌, refl, sym, ap, ◌∙◌, subst, append_assoc, append-nil, arith}
-use Rattle.std.proofs.lemmas.Str.{length-le-encodes}
-use Rattle.std.proofs.lemmas.List.{nil_from_length}
+use Rattle.std.proofs.Common.{◌≡◌, ℕ, ◌+◌, true, List, [], ◌∷◌, ◌++◌, refl, sym, ap, ◌∙◌, subst, append-nil}
 use Rattle.py_lines.specs.Piece.{Piece}
 use Rattle.py_lines.specs.LogicalLine.{lines_of, byte_len, line_ends}
-use Rattle.py_lines.specs.Reading.{Decodes, IsBalancedReading, EndsLine}
-use Rattle.py_lines.specs.Faults.{IsLive, IsFaultAt, at_character, at_bytes, at_end}
+use Rattle.py_lines.specs.Reading.{Decodes, EndsLine}
+use Rattle.py_lines.specs.Faults.{IsLive, IsCharacterFault, IsEndFault, at_character, at_bytes, at_end}
 use Rattle.py_lines.specs.Lexed.{IsLexedWhole, IsLexedToFault}
-use Rattle.py_lines.specs.declared.fault.FaultKind.{FaultKind}
 use Rattle.py_lines.specs.declared.fault.FaultKind.TheVariants as faults
 use Rattle.py_lines.specs.declared.fault.Fault.{Fault}
-use Rattle.py_lines.specs.Private.Machine.{Scanned, is_final, character_kind, character_place, end_kind, end_place, Bracket}
+use Rattle.py_lines.specs.Private.Machine.{Scanned, is_final, Bracket}
 use Rattle.py_lines.proofs.Machine.PieceSteps.{pieces_at}
-use Rattle.py_lines.proofs.Machine.Advance.{RunsTo}
-use Rattle.py_lines.proofs.Machine.LiveTexts.{reading_at, reading_live, runs_live}
-use Rattle.py_lines.proofs.Faults.FaultPlaces.{character_fault, end_fault}
-use Rattle.py_lines.proofs.Lexings.LinePrefix.{EndsNoLine, prefix_is, live_prefix, Either, either}
-use Rattle.py_lines.proofs.LogicalLines.Cuts.{byte_len-append}
-
--- a byte of a text belongs to one prefix
-no_bytes : (k : List ℕ) → byte_len k ≡ 0 → k ≡ []
-no_bytes k none =
-    let bound = length-le-encodes k in
-    nil_from_length k (omega arith)
-
-pub same_place : (b a d e : List ℕ) → b ++ a ≡ d ++ e → byte_len b ≡ byte_len d → b ≡ d
-same_place b a d e same bytes = go (either b a d e same)
-  where
-    go : Either b d e → b ≡ d
-    go (Either.shorter k one) =
-        let sum : byte_len d ≡ byte_len b + byte_len k = ap byte_len one ∙ byte_len-append b k in
-        sym (append-nil b) ∙ ap (λ t. b ++ t) (sym (no_bytes k (omega arith))) ∙ sym one
-    go (Either.longer c k after one two) =
-        let sum : byte_len b ≡ byte_len d + byte_len (c ∷ k) = ap byte_len one ∙ byte_len-append d (c ∷ k) in
-        let none : c ∷ k ≡ [] = no_bytes (c ∷ k) (omega arith) in
-        absurd (cc)
+use Rattle.py_lines.proofs.LogicalLines.Cuts.{same_place}
+use Rattle.py_lines.proofs.Faults.Ends.{end_unread}
+use Rattle.py_lines.proofs.Faults.Verdict.{not_live}
+use Rattle.py_lines.proofs.ScanMachine.Advance.{RunsTo}
+use Rattle.py_lines.proofs.ScanMachine.LiveTexts.{reading_at, runs_live}
+use Rattle.py_lines.proofs.Lexings.Existence.{reading_live}
+use Rattle.py_lines.proofs.Lexings.LinePrefix.{EndsNoLine, prefix_is}
 
 -- the line of a place, told by the prefix that ends there
 pub record IsLineOf (fault : Fault) (characters : List ℕ) : Type 0 where
@@ -60,23 +41,20 @@ pub record HasPrefix (s : Scanned) (prefix : List Piece) : Type 0 where
   pub none : EndsNoLine 0 others
 
 -- the text is refused at a character
-pub refused_at_character : (text characters tail before after : List ℕ) (c : ℕ) (s : Scanned) (st : List Bracket) (prefix : List Piece) (fault : Fault) → Decodes text characters tail → before ++ c ∷ after ≡ characters → RunsTo before s st → ¬ (IsLive (before ++ c ∷ [])) → HasPrefix s prefix → fault.kind ≡ character_kind s.mode c → fault.offset ≡ character_place s before → IsLineOf fault characters → IsLexedToFault text (lines_of prefix) fault
-refused_at_character text characters tail before after c s st prefix fault decodes spell steps dead has kind place line =
-    let found = character_fault characters before after c s st spell steps dead in
-    let at : IsFaultAt (character_kind s.mode c) characters tail (character_place s before) = at_character found in
-    record {
-      characters = characters;
-      tail = tail;
-      pieces = prefix;
-      decodes = decodes;
-      prefix = prefix_is before (c ∷ after) characters s st prefix has.others steps spell (λ d ds same. subst (λ (x : ℕ). ¬ (IsLive (before ++ x ∷ []))) (head_same c d after ds same) dead) has.spell has.ended has.none;
-      refused = record {
-        unread = λ whole pieces reading. dead (live_prefix (before ++ c ∷ []) after (subst IsLive (sym spell ∙ sym (append_assoc before (c ∷ []) after)) (reading_live pieces characters reading)));
-        place = subst (λ (o : ℕ). IsFaultAt fault.kind characters tail o) (sym place) (subst (λ (k : FaultKind). IsFaultAt k characters tail (character_place s before)) (sym kind) at);
-        line = line_at fault characters line;
-      };
-      cut = refl;
-    }
+pub refused_at_character : (text characters tail before after : List ℕ) (c : ℕ) (s : Scanned) (st : List Bracket) (prefix : List Piece) (fault : Fault) → Decodes text characters tail → before ++ c ∷ after ≡ characters → RunsTo before s st → ¬ (IsLive (before ++ c ∷ [])) → HasPrefix s prefix → IsCharacterFault fault.kind characters fault.offset → IsLineOf fault characters → IsLexedToFault text (lines_of prefix) fault
+refused_at_character text characters tail before after c s st prefix fault decodes spell steps dead has is line = record {
+  characters = characters;
+  tail = tail;
+  pieces = prefix;
+  decodes = decodes;
+  prefix = prefix_is before (c ∷ after) characters s st prefix has.others steps spell (λ d ds same. subst (λ (x : ℕ). ¬ (IsLive (before ++ x ∷ []))) (head_same c d after ds same) dead) has.spell has.ended has.none;
+  refused = record {
+    unread = λ whole pieces reading. not_live characters fault.kind fault.offset is (reading_live pieces characters reading);
+    place = at_character is;
+    line = line_at fault characters line;
+  };
+  cut = refl;
+}
   where
     head_same : (x d : ℕ) (xs ds : List ℕ) → x ∷ xs ≡ d ∷ ds → x ≡ d
     head_same x d xs ds same = cc
@@ -85,22 +63,20 @@ nothing_later : (characters : List ℕ) (c : ℕ) (after : List ℕ) → [] ≡ 
 nothing_later characters c after same = absurd (cc)
 
 -- the text is refused at its end
-pub refused_at_end : (text characters : List ℕ) (s : Scanned) (st : List Bracket) (prefix : List Piece) (fault : Fault) → Decodes text characters [] → RunsTo characters s st → ((pieces : List Piece) → ¬ (IsBalancedReading pieces characters)) → HasPrefix s prefix → fault.kind ≡ end_kind s.mode → fault.offset ≡ end_place s st → IsLineOf fault characters → IsLexedToFault text (lines_of prefix) fault
-refused_at_end text characters s st prefix fault decodes steps unread has kind place line =
-    let at : IsFaultAt (end_kind s.mode) characters [] (end_place s st) = at_end (end_fault characters [] s st refl steps unread) in
-    record {
-      characters = characters;
-      tail = [];
-      pieces = prefix;
-      decodes = decodes;
-      prefix = prefix_is characters [] characters s st prefix has.others steps (append-nil characters) (nothing_later characters) has.spell has.ended has.none;
-      refused = record {
-        unread = λ whole. unread;
-        place = subst (λ (o : ℕ). IsFaultAt fault.kind characters [] o) (sym place) (subst (λ (k : FaultKind). IsFaultAt k characters [] (end_place s st)) (sym kind) at);
-        line = line_at fault characters line;
-      };
-      cut = refl;
-    }
+pub refused_at_end : (text characters : List ℕ) (s : Scanned) (st : List Bracket) (prefix : List Piece) (fault : Fault) → Decodes text characters [] → RunsTo characters s st → HasPrefix s prefix → IsEndFault fault.kind characters [] fault.offset → IsLineOf fault characters → IsLexedToFault text (lines_of prefix) fault
+refused_at_end text characters s st prefix fault decodes steps has is line = record {
+  characters = characters;
+  tail = [];
+  pieces = prefix;
+  decodes = decodes;
+  prefix = prefix_is characters [] characters s st prefix has.others steps (append-nil characters) (nothing_later characters) has.spell has.ended has.none;
+  refused = record {
+    unread = λ whole. end_unread characters [] fault.kind fault.offset is;
+    place = at_end is;
+    line = line_at fault characters line;
+  };
+  cut = refl;
+}
 
 -- the text is refused at bytes that begin no character
 pub refused_at_bytes : (text characters : List ℕ) (d : ℕ) (ds : List ℕ) (s : Scanned) (st : List Bracket) (prefix : List Piece) (fault : Fault) → Decodes text characters (d ∷ ds) → RunsTo characters s st → HasPrefix s prefix → fault.kind ≡ faults.BadUtf8 → fault.offset ≡ byte_len characters → IsLineOf fault characters → IsLexedToFault text (lines_of prefix) fault

@@ -13,15 +13,18 @@ use Rattle.py_lines.specs.declared.fault.FaultKind.TheVariants as faults
 use Rattle.py_lines.specs.declared.fault.Fault.{Fault}
 use Rattle.py_lines.proofs.Text.Continued.{goes_on}
 use Rattle.py_lines.proofs.Text.Decoding.{decoding}
-use Rattle.py_lines.proofs.Machine.LiveTexts.{reading_live}
-use Rattle.py_lines.proofs.Faults.FaultPrefixes.{fault_prefix, undecodable}
-use Rattle.py_lines.proofs.Lexings.LinePrefix.{live_prefix, Either, either}
-use Rattle.py_lines.proofs.Lexings.Uniqueness.{decoded, same_fault}
-use Rattle.py_lines.proofs.Lexings.Answers.{same_place}
+use Rattle.py_lines.proofs.Text.Splits.{Either, either}
+use Rattle.py_lines.proofs.FieldSoundness.LiveTexts.{live_before}
+use Rattle.py_lines.proofs.Faults.FaultPrefixes.{field_fault_prefix, undecodable}
+use Rattle.py_lines.proofs.Faults.Verdict.{not_live}
+use Rattle.py_lines.proofs.Text.Decoding.{decoded}
+use Rattle.py_lines.proofs.Lexings.Existence.{reading_live}
+use Rattle.py_lines.proofs.Lexings.Uniqueness.{same_fault}
+use Rattle.py_lines.proofs.LogicalLines.Cuts.{same_place}
 
 -- a text that dies at a character has no reading, nor has one that goes on from there
 dies_unread : (kind : FaultKind) (characters : List ℕ) (offset : ℕ) → IsCharacterFault kind characters offset → (pieces : List Piece) → ¬ (IsBalancedReading pieces characters)
-dies_unread kind characters offset fault pieces reading = fault.dies.dead (live_prefix (fault.before ++ fault.c ∷ []) fault.dies.after (subst IsLive (sym fault.dies.spell ∙ sym (append_assoc fault.before (fault.c ∷ []) fault.dies.after)) (reading_live pieces characters reading)))
+dies_unread kind characters offset fault pieces reading = not_live characters kind offset fault (reading_live pieces characters reading)
 
 -- its fault stays where it is
 goes_on_faulty : (kind : FaultKind) (characters rest : List ℕ) (offset : ℕ) → IsCharacterFault kind characters offset → IsCharacterFault kind (characters ++ rest) offset
@@ -53,12 +56,12 @@ prefix_on kind characters rest offset pieces fault prefix = record {
       where
         go : Either (spelled others) (fault.before ++ fault.c ∷ []) (fault.dies.after ++ rest) → length (spelled others) ≤ length (spelled pieces)
         go (Either.shorter k one) = prefix.longest others (k ++ fault.dies.after) (sym (append_assoc (spelled others) k fault.dies.after) ∙ ap (λ t. t ++ fault.dies.after) (sym one) ∙ whole) reading ended
-        go (Either.longer c k later one two) = absurd (fault.dies.dead (live_prefix (fault.before ++ fault.c ∷ []) (c ∷ k) (subst IsLive one (reading_live others (spelled others) reading))))
+        go (Either.longer c k later one two) = absurd (fault.dies.dead (live_before (fault.before ++ fault.c ∷ []) (c ∷ k) (subst IsLive one (reading_live others (spelled others) reading))))
 
 -- the line of a fault stays
 line_on : (characters tail rest other : List ℕ) (fault : Fault) → IsLexicalFault characters tail fault → IsFaultAt fault.kind characters tail fault.offset → (before after : List ℕ) → before ++ after ≡ characters ++ rest → byte_len before ≡ fault.offset → fault.line ≡ 1 + line_ends before
 line_on characters tail rest other fault refused at before after spell place =
-    let found = fault_prefix fault.kind characters tail fault.offset at in
+    let found = field_fault_prefix fault.kind characters tail fault.offset at in
     refused.line found.prefix found.rest found.spell found.place ∙ ap (λ t. 1 + line_ends t) (same_place found.prefix (found.rest ++ rest) before after (sym (append_assoc found.prefix found.rest rest) ∙ ap (λ t. t ++ rest) found.spell ∙ sym spell) (found.place ∙ sym place))
 
 -- the known bytes, and what they say of a text that goes on

@@ -6,21 +6,23 @@ use Rattle.std.proofs.lemmas.List.{take-append-drop, nil_from_length}
 use Rattle.std.proofs.lemmas.Str.{encodes-append, length-le-encodes}
 use Rattle.std.proofs.Math.Seq.{drop-append_seam}
 use Rattle.py_lines.specs.Piece.{line_end, Piece, spelled}
-use Rattle.py_lines.specs.PieceGrammar.{AreReadBefore}
-use Rattle.py_lines.specs.Balance as brackets
-use Rattle.py_lines.specs.Balance.{IsBalanced, IsShallow, depth_through}
-use Rattle.py_lines.specs.LogicalLine.{LogicalLine, cut, byte_len, line_ends, line_of, lines_of}
+use Rattle.py_lines.specs.Balance.{IsBalanced, depth_through}
+use Rattle.py_lines.specs.Fields.{fielded, AreReadBefore, IsShallow}
 use Rattle.py_lines.specs.Reading.{Decodes, EndsLine}
 use Rattle.py_lines.specs.Lexed.{IsLexed}
-use Rattle.py_lines.specs.Reader.{Reader, HasGiven}
 use Rattle.py_lines.specs.Settled.{EndsForGood}
+use Rattle.py_lines.specs.Balance as brackets
+use Rattle.py_lines.specs.LogicalLine.{LogicalLine, cut, byte_len, line_ends, line_of, lines_of}
+use Rattle.py_lines.specs.Reader.{Reader, HasGiven}
 use Rattle.py_lines.specs.Private.Machine.{brackets_of}
+use Rattle.py_lines.specs.Private.ScanMachine.{StringsFit}
 use Rattle.py_lines.proofs.Text.Utf8Prefixes.{one_decoding, prefix_chars}
 use Rattle.py_lines.proofs.Pieces.PieceLists.{spelled-append, AreReadBefore-append, MayFollow}
 use Rattle.py_lines.proofs.LogicalLines.Cuts.{byte_len-append, line_ends-pieces}
 use Rattle.py_lines.proofs.LogicalLines.NextLine.{line_ends-spelled, lines_of-push}
-use Rattle.py_lines.proofs.Pieces.OpenBrackets.{balanced-from_stack, balanced_depth, IsShallow-append, depth_through-append}
-use Rattle.py_lines.proofs.Lexings.LinePrefix.{read-first}
+use Rattle.py_lines.proofs.Pieces.OpenBrackets.{balanced_depth, depth_through-append}
+use Rattle.py_lines.proofs.Pieces.ShallowPieces.{IsShallow-append, fits_reading}
+use Rattle.py_lines.proofs.Fields.OneReading.{read_before}
 
 -- Lines were given, the machine then went through `read`, and `after` follows, up to bytes that begin no character.
 pub record Situation (r : Reader) (characters : List ℕ) (lines : List LogicalLine) (read rest : List ℕ) : Type 0 where
@@ -64,7 +66,7 @@ situate r characters lines read rest given utf8 prefix bad more scanned =
 pub base_lines : (base : List Piece) (prefix rest : List ℕ) → AreReadBefore base (prefix ++ rest) → line_ends (spelled base ++ prefix) ≡ line_ends (spelled base) + line_ends prefix
 base_lines base [] rest fit = ap line_ends (append-nil (spelled base)) ∙ sym (add-zero (line_ends (spelled base)))
 base_lines base (c ∷ cs) rest fit =
-    let near = read-first base c (cs ++ rest) cs fit in
+    let near = read_before fielded base c (cs ++ rest) cs fit in
     line_ends-pieces base (c ∷ cs) near ∙ ap (λ (n : ℕ). n + line_ends (c ∷ cs)) (sym (line_ends-spelled base (c ∷ cs) near))
 
 -- pieces that end a line do so for good, or the text ends there
@@ -78,14 +80,14 @@ pub data IsEnded (u : List Piece) (nothing : Type 0) : Type 0 where
   by_text : nothing → IsEnded u nothing
 
 -- the lines given, and one more
-pub one_more : (r n : Reader) (characters : List ℕ) (lines : List LogicalLine) (read rest : List ℕ) (u : List Piece) (s : Situation r characters lines read rest) → spelled u ≡ read → AreReadBefore u s.after → MayFollow s.given.first.pieces u → brackets_of u ≡ Some [] → cut 0 u ≡ u ∷ [] → IsEnded u (s.after ++ s.given.first.tail ≡ []) → n.text ≡ r.text → n.place ≡ r.place + byte_len read → n.line ≡ r.line + line_ends read → n.fault ≡ None → HasGiven n (lines ++ line_of r.place r.line u ∷ [])
-one_more r n characters lines read rest u s spell fit follows stacked whole ended text place line no_fault =
+pub one_more : (r n : Reader) (characters : List ℕ) (lines : List LogicalLine) (read rest : List ℕ) (u : List Piece) (s : Situation r characters lines read rest) → spelled u ≡ read → AreReadBefore u s.after → MayFollow s.given.first.pieces u → brackets_of u ≡ Some [] → StringsFit 0 u → cut 0 u ≡ u ∷ [] → IsEnded u (s.after ++ s.given.first.tail ≡ []) → n.text ≡ r.text → n.place ≡ r.place + byte_len read → n.line ≡ r.line + line_ends read → n.fault ≡ None → HasGiven n (lines ++ line_of r.place r.line u ∷ [])
+one_more r n characters lines read rest u s spell fit follows stacked strings whole ended text place line no_fault =
     let given = s.given in
     let base = given.first.pieces in
     let base_fit : AreReadBefore base (read ++ s.after) = subst (AreReadBefore base) s.split given.first.fit in
     let all : AreReadBefore (base ++ u) s.after = AreReadBefore-append base u s.after (subst (λ t. AreReadBefore base (t ++ s.after)) (sym spell) base_fit) fit follows in
     let spelled_all : spelled (base ++ u) ≡ spelled base ++ read = spelled-append base u ∙ ap (λ t. spelled base ++ t) spell in
-    let balanced = balanced-from_stack u stacked in
+    let balanced = fits_reading u stacked strings in
     let level : depth_through 0 base ≡ 0 = balanced_depth base given.first.balanced 0 in
     record {
       first = record {
@@ -123,8 +125,10 @@ all_given r lines given ends =
       pieces = given.first.pieces;
       decodes = subst (λ t. Decodes r.text given.first.characters t) no_tail given.first.decodes;
       reading = record {
-        spell = sym (append-nil (spelled given.first.pieces)) ∙ ap (λ t. spelled given.first.pieces ++ t) (sym no_rest) ∙ given.first.spell;
-        fit = subst (AreReadBefore given.first.pieces) no_rest given.first.fit;
+        reads = record {
+          spell = sym (append-nil (spelled given.first.pieces)) ∙ ap (λ t. spelled given.first.pieces ++ t) (sym no_rest) ∙ given.first.spell;
+          fit = subst (AreReadBefore given.first.pieces) no_rest given.first.fit;
+        };
         balanced = given.first.balanced;
         shallow = given.first.shallow;
       };

@@ -2,15 +2,17 @@
 use Rattle.std.proofs.Common.{◌≡◌, ℕ, Bool, false, ◌&&◌, Option, None, Some, List, [], ◌∷◌, ◌++◌, refl, sym, ap, ◌∙◌, subst, inl, inr, append-nil}
 use Rattle.py_lines.specs.Character.{is_line_feed, is_return}
 use Rattle.py_lines.specs.Piece.{line_end, Piece, begins, ends, begins_marked, is_mark_class, spelled}
-use Rattle.py_lines.specs.PieceGrammar.{MayPrecede, AreReadBefore}
-use Rattle.py_lines.specs.Balance.{IsShallow, IsBalanced as balance}
+use Rattle.py_lines.specs.Balance.{IsBalanced as balance}
+use Rattle.py_lines.specs.Fields.{fielded, MayPrecede, AreReadBefore, IsShallow}
 use Rattle.py_lines.specs.Reading.{IsBalancedReading, EndsLine}
 use Rattle.py_lines.specs.Neighbours.{MayFollowLines}
 use Rattle.py_lines.specs.Private.Machine.{Bracket}
 use Rattle.py_lines.proofs.Pieces.PieceLists.{MayFollow, spelled-append, AreReadBefore-append, AreReadBefore-first, AreReadBefore-second, follows_any}
-use Rattle.py_lines.proofs.Pieces.OpenBrackets.{IsShallow-append, balanced-from_stack, stack-from_balanced}
+use Rattle.py_lines.proofs.Pieces.OpenBrackets.{balanced-from_stack, stack-from_balanced}
+use Rattle.py_lines.proofs.Pieces.ShallowPieces.{IsShallow-append, IsShallow-parts, brackets_shallow}
+use Rattle.py_lines.proofs.Fields.OneReading.{read_before}
 use Rattle.py_lines.proofs.Machine.EarlierPieces.{shift_if, stack-after}
-use Rattle.py_lines.proofs.Lexings.LinePrefix.{read-first, read-alone, line_first, depth_prefix, prefix_stack}
+use Rattle.py_lines.proofs.Lexings.LinePrefix.{read-alone, line_first, depth_prefix, prefix_stack}
 
 ends-append : (p : ℕ → Bool) (xs : List ℕ) (c : ℕ) (cs : List ℕ) → ends p (xs ++ c ∷ cs) ≡ ends p (c ∷ cs)
 ends-append p [] c cs = refl
@@ -25,7 +27,7 @@ read-before body last rest is uncut fit =
     let text = line_first last is second.0 in
     let spell : (last.text ++ []) ++ [] ≡ text.0 ∷ text.1 = append-nil (last.text ++ []) ∙ append-nil last.text ∙ text.2 in
     AreReadBefore-append body (last ∷ []) rest
-    (subst (AreReadBefore body) (sym (ap (λ t. t ++ rest) (append-nil last.text ∙ text.2))) (read-first body text.0 text.1 (text.1 ++ rest) (subst (AreReadBefore body) spell first)))
+    (subst (AreReadBefore body) (sym (ap (λ t. t ++ rest) (append-nil last.text ∙ text.2))) (read_before fielded body text.0 text.1 (text.1 ++ rest) (subst (AreReadBefore body) spell first)))
     (second.0, subst (λ x. MayPrecede x last.text rest) (sym is) uncut, refl, tt) (follows_any body last.class last.text (ap is_mark_class is))
 
 -- the last character of lines is that of their last line end
@@ -41,14 +43,13 @@ follows_lines (p ∷ ps) rest h = h
 pub read_together : (lines rest : List Piece) → EndsLine lines → IsBalancedReading lines (spelled lines) → IsBalancedReading rest (spelled rest) → MayFollowLines lines rest → IsBalancedReading (lines ++ rest) (spelled (lines ++ rest))
 read_together lines rest (inl none) first second follows = subst (λ (l : List Piece). IsBalancedReading (l ++ rest) (spelled (l ++ rest))) (sym none) second
 read_together lines rest (inr (body, last, is, class, level)) first second follows =
-    let fit = subst (λ (l : List Piece). AreReadBefore l []) is first.fit in
+    let fit = subst (λ (l : List Piece). AreReadBefore l []) is first.reads.fit in
     let text = line_first last class (AreReadBefore-second body (last ∷ []) [] fit).0 in
     let uncut : ends is_return last.text && begins is_line_feed (spelled rest ++ []) ≡ false =
     ap (λ t. ends is_return last.text && begins is_line_feed t) (append-nil (spelled rest))
     ∙ ap (λ b. b && begins is_line_feed (spelled rest)) (sym (ap (λ l. ends is_return (spelled l)) is ∙ last_end body last text.0 text.1 text.2)) ∙ follows.uncut in
     record {
-      spell = refl;
-      fit = AreReadBefore-append lines rest [] (subst (λ (l : List Piece). AreReadBefore l (spelled rest ++ [])) (sym is) (read-before body last (spelled rest ++ []) class uncut fit)) second.fit (follows_lines lines rest follows.unmarked);
+      reads = record { spell = refl; fit = AreReadBefore-append lines rest [] (subst (λ (l : List Piece). AreReadBefore l (spelled rest ++ [])) (sym is) (read-before body last (spelled rest ++ []) class uncut fit)) second.reads.fit (follows_lines lines rest follows.unmarked) };
       balanced = balance.both (lines ++ rest) lines rest refl first.balanced second.balanced;
       shallow = IsShallow-append 0 lines rest first.shallow (subst (λ (d : ℕ). IsShallow d rest) (sym (depth_prefix lines (inr (body, last, is, class, level)))) second.shallow);
     }
@@ -66,11 +67,12 @@ read_alone lines rest (inr (body, last, is, class, level)) fit =
 -- lines and what follows them are read, where both are read together
 pub read_apart : (lines rest : List Piece) → EndsLine lines → IsBalancedReading (lines ++ rest) (spelled (lines ++ rest)) → IsBalancedReading lines (spelled lines) × IsBalancedReading rest (spelled rest)
 read_apart lines rest ended reading =
-    let whole = stack-from_balanced (lines ++ rest) reading.balanced reading.shallow in
+    let whole = stack-from_balanced (lines ++ rest) reading.balanced (brackets_shallow 0 (lines ++ rest) reading.shallow) in
+    let shallow = IsShallow-parts 0 lines rest reading.shallow in
     let prefix = prefix_stack lines rest [] whole ended in
     let second = no_stack _ _ (sym (stack-after lines rest prefix) ∙ whole) in
     let one = balanced-from_stack lines prefix in
     let two = balanced-from_stack rest second in (
-      record { spell = refl; fit = read_alone lines rest ended reading.fit; balanced = one.0; shallow = one.1 },
-      record { spell = refl; fit = AreReadBefore-second lines rest [] reading.fit; balanced = two.0; shallow = two.1 },
+      record { reads = record { spell = refl; fit = read_alone lines rest ended reading.reads.fit }; balanced = one.0; shallow = shallow.0 },
+      record { reads = record { spell = refl; fit = AreReadBefore-second lines rest [] reading.reads.fit }; balanced = two.0; shallow = subst (λ (d : ℕ). IsShallow d rest) (depth_prefix lines ended) shallow.1 },
     )

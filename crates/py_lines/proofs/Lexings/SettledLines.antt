@@ -1,32 +1,34 @@
 -- The lines that the known bytes of a text settle begin every text that begins with them.
-use Rattle.std.proofs.Common.{◌≡◌, ℕ, ◌+◌, Bool, true, false, ◌&&◌, Some, List, [], ◌∷◌, ◌++◌, length, refl, sym, ap, ◌∙◌, subst, append_assoc, length-append, arith}
+use Rattle.std.proofs.Common.{◌≡◌, ℕ, ◌≤◌, Bool, true, false, Option, None, Some, List, [], ◌∷◌, ◌++◌, length, refl, sym, ap, ◌∙◌, subst, append_assoc, append-nil, length-append, arith}
 use Rattle.std.specs.Prelude.{encode_utf8_all}
 use Rattle.std.specs.Str.{StartsWithNoChar, all_scalars}
-use Rattle.py_lines.specs.Character.{is_return, is_line_feed}
-use Rattle.py_lines.specs.Piece.{line_end, Piece, ends, begins, spelled}
-use Rattle.py_lines.specs.PieceGrammar.{without_fields, InClass, IsLineEnd, AreReadBefore}
-use Rattle.py_lines.specs.Balance.{depth_through}
-use Rattle.py_lines.specs.LogicalLine.{LogicalLine, byte_len, line_ends}
-use Rattle.py_lines.specs.Reading.{IsBalancedReading}
-use Rattle.py_lines.specs.Lexed.{BeginsLexing}
-use Rattle.py_lines.specs.Reader.{standing_at}
+use Rattle.std.proofs.lemmas.Bool.{both_ways}
+use Rattle.std.proofs.lemmas.List.{append_cancel_left}
+use Rattle.std.proofs.lemmas.Str.{encodes-append, length-le-encodes}
+use Rattle.py_lines.specs.Piece.{line_end, string, Piece, ends, spelled}
+use Rattle.py_lines.specs.PieceGrammar.{IsLineEnd}
+use Rattle.py_lines.specs.Balance.{is_opener, is_closer, depth_through}
+use Rattle.py_lines.specs.Fields.{InClass, fielded, AreReadBefore, Fields}
+use Rattle.py_lines.specs.Reading.{Decodes, EndsLine, IsBalancedReading}
+use Rattle.py_lines.specs.Lexed.{IsLexed, BeginsLexing}
 use Rattle.py_lines.specs.Settled.{EndsForGood, IsSettledPrefix, IsSettled}
+use Rattle.py_lines.specs.LogicalLine.{LogicalLine, lines_of}
+use Rattle.py_lines.specs.declared.fault.Fault.{Fault}
 use Rattle.py_lines.specs.Private.Machine.{Bracket, brackets_of}
 use Rattle.py_lines.proofs.Text.Continued.{goes_on}
-use Rattle.py_lines.proofs.Text.Decoding.{decoding}
 use Rattle.py_lines.proofs.Text.Utf8Prefixes.{all_scalars-parts}
-use Rattle.py_lines.proofs.Pieces.PieceLists.{piece}
+use Rattle.py_lines.proofs.Pieces.PieceLists.{piece, spelled-append}
 use Rattle.py_lines.proofs.Pieces.OpenBrackets.{stands, stack_before, stack-from_balanced, balanced-from_stack}
+use Rattle.py_lines.proofs.Pieces.ShallowPieces.{IsShallow-parts, brackets_shallow}
 use Rattle.py_lines.proofs.Machine.LiveTexts.{keeps}
-use Rattle.std.proofs.lemmas.Str.{encodes-append, length-le-encodes}
+use Rattle.py_lines.proofs.LogicalLines.NextLine.{lines_of-more}
+use Rattle.py_lines.proofs.Fields.Prefixes.{Compared}
+use Rattle.py_lines.proofs.Fields.SamePieces.{compare_pieces}
+use Rattle.py_lines.proofs.Fields.OneReading.{fields_begin, fields_agree, read_before, ends_there}
+use Rattle.py_lines.proofs.FieldSoundness.WholeTexts.{shallow-push}
 pub use Rattle.py_lines.proofs.Lexings.SettledFits.{ends-append, with_feed}
-use Rattle.py_lines.proofs.Lexings.SettledFits.{ends-last, read_on, another_line, Readings, fits_on}
-use Rattle.py_lines.proofs.Lexings.GivenLines.{ends_for_good}
-use Rattle.py_lines.proofs.Lexings.FirstLines.{given_begin}
-
--- pieces that end a line, before another rest
-pub read-on : (body : List Piece) (last : Piece) (rest after : List ℕ) → last.class ≡ line_end → AreReadBefore (body ++ last ∷ []) rest → ends is_return last.text && begins is_line_feed after ≡ false → AreReadBefore (body ++ last ∷ []) after
-read-on body last rest after is fit apart = read_on without_fields body last rest after is fit apart
+use Rattle.py_lines.proofs.Lexings.SettledFits.{ends-last, another_line, Readings, fits_on}
+use Rattle.py_lines.proofs.Lexings.Existence.{some_lexing_of}
 
 -- the last characters of pieces are those of the last one
 pub ends-line : (p : ℕ → Bool) (body : List Piece) (last : Piece) → last.class ≡ line_end → InClass last.class last.text → ends p (spelled (body ++ last ∷ [])) ≡ ends p last.text
@@ -43,23 +45,31 @@ body_stack body last whole deep =
     first.1 ∙ ap (λ l. Some l) (no_brackets first.0 (sym (stands body first.0 first.1).depth ∙ deep))
 
 -- the same pieces, with another line end at the end, are a reading of their own
-pub another_end : (body : List Piece) (last other : Piece) (c : ℕ) (cs ds : List ℕ) → last.class ≡ line_end → other.class ≡ line_end → IsLineEnd other.text → last.text ≡ c ∷ cs → other.text ≡ c ∷ ds → depth_through 0 body ≡ 0 → IsBalancedReading (body ++ last ∷ []) (spelled (body ++ last ∷ [])) → IsBalancedReading (body ++ other ∷ []) (spelled (body ++ other ∷ []))
+another_end : (body : List Piece) (last other : Piece) (c : ℕ) (cs ds : List ℕ) → last.class ≡ line_end → other.class ≡ line_end → IsLineEnd other.text → last.text ≡ c ∷ cs → other.text ≡ c ∷ ds → depth_through 0 body ≡ 0 → IsBalancedReading (body ++ last ∷ []) (spelled (body ++ last ∷ [])) → IsBalancedReading (body ++ other ∷ []) (spelled (body ++ other ∷ []))
 another_end body last other c cs ds is also holds one two deep reading =
-    let level = body_stack body last (stack-from_balanced (body ++ last ∷ []) reading.balanced reading.shallow) deep in
-    let stack = keeps body other [] (ap (λ k. Rattle.py_lines.specs.Balance.is_opener (piece k other.text)) also) (ap (λ k. Rattle.py_lines.specs.Balance.is_closer (piece k other.text)) also) level in
-    let balanced = balanced-from_stack (body ++ other ∷ []) stack in
-    record { spell = refl; fit = another_line without_fields body last other c cs ds also holds one two reading.fit; balanced = balanced.0; shallow = balanced.1 }
+    let all = body ++ last ∷ [] in
+    let level = body_stack body last (stack-from_balanced all reading.balanced (brackets_shallow 0 all reading.shallow)) deep in
+    let no_opener : is_opener other ≡ false = ap (λ k. is_opener (piece k other.text)) also in
+    let stack = keeps body other [] no_opener (ap (λ k. is_closer (piece k other.text)) also) level in
+    record {
+      reads = record { spell = refl; fit = another_line fielded body last other c cs ds also holds one two reading.reads.fit };
+      balanced = (balanced-from_stack (body ++ other ∷ []) stack).0;
+      shallow = shallow-push 0 body other (IsShallow-parts 0 body (last ∷ []) reading.shallow).0 (λ opens. absurd (both_ways _ no_opener opens)) (λ at. no_string (sym also ∙ at));
+    }
+  where
+    no_string : {A : Type 0} → line_end ≡ string → A
+    no_string at = absurd (cc)
 
-balanced_readings : Readings without_fields (λ pieces. IsBalancedReading pieces (spelled pieces))
-balanced_readings = record { fit_of = λ pieces reading. reading.fit; another = another_end }
+field_readings : Readings fielded (λ pieces. IsBalancedReading pieces (spelled pieces))
+field_readings = record { fit_of = λ pieces reading. reading.reads.fit; another = another_end }
 
 -- the settled pieces are read before what follows in a text that goes on
 pub settled_fits : (characters tail more : List ℕ) (pieces : List Piece) (prefix : IsSettledPrefix pieces characters tail) → all_scalars prefix.rest ≡ true → StartsWithNoChar tail → (after t : List ℕ) → all_scalars after ≡ true → StartsWithNoChar t → encode_utf8_all after ++ t ≡ (encode_utf8_all prefix.rest ++ tail) ++ more → AreReadBefore pieces after
 settled_fits characters tail more pieces prefix fine bad after t are none same =
-    fits_on without_fields (λ l. IsBalancedReading l (spelled l)) balanced_readings characters tail more prefix.rest pieces
+    fits_on fielded (λ l. IsBalancedReading l (spelled l)) field_readings characters tail more prefix.rest pieces
     (record { spell = prefix.spell; reading = prefix.reading; ended = prefix.ended; longest = prefix.longest }) fine bad after t are none same
 
--- settled lines begin every text that goes on from the known bytes
+-- the bytes of the settled pieces, and those after them
 pub spelled_first : (text more : List ℕ) (pieces : List Piece) (rest characters tail : List ℕ) → spelled pieces ++ rest ≡ characters → encode_utf8_all characters ++ tail ≡ text → encode_utf8_all (spelled pieces) ++ ((encode_utf8_all rest ++ tail) ++ more) ≡ text ++ more
 spelled_first text more pieces rest characters tail spell bytes =
     sym (append_assoc (encode_utf8_all (spelled pieces)) (encode_utf8_all rest ++ tail) more)
@@ -79,29 +89,94 @@ parts_nil (c ∷ cs) b more h = absurd (omega (arith, ap length h, length-append
 pub still_ends : (pieces : List Piece) (rest tail more after t : List ℕ) → encode_utf8_all after ++ t ≡ (encode_utf8_all rest ++ tail) ++ more → EndsForGood pieces (rest ++ tail) → EndsForGood pieces (after ++ t)
 still_ends pieces rest tail more after t same ended = (ended.0, λ none. ended.1 (parts_nil rest tail more (sym same ∙ nothing_after after t none)))
 
+-- pieces that are read before what follows begin those that read more
+pub begins_with : (pieces others : List Piece) (after rest : List ℕ) → AreReadBefore pieces after → IsBalancedReading pieces (spelled pieces) → IsBalancedReading others (spelled others) → spelled pieces ++ after ≡ spelled others ++ rest → length (spelled pieces) ≤ length (spelled others) → (more : List Piece) × (others ≡ pieces ++ more)
+begins_with pieces others after rest fit reading read spell few = go (split (spelled pieces) (spelled others) after rest spell few)
+  where
+    split : (xs ys us vs : List ℕ) → xs ++ us ≡ ys ++ vs → length xs ≤ length ys → (mid : List ℕ) × (xs ++ mid ≡ ys) × (us ≡ mid ++ vs)
+    split [] ys us vs at less = (ys, refl, at)
+    split (x ∷ xs) [] us vs at less = absurd (omega (arith, less))
+    split (x ∷ xs) (y ∷ ys) us vs at less =
+        let here : x ≡ y = cc in
+        let later : xs ++ us ≡ ys ++ vs = cc in
+        let others = split xs ys us vs later (omega (arith, less)) in
+        (others.0, ap (λ z. z ∷ (xs ++ others.0)) here ∙ ap (λ t. y ∷ t) others.1, others.2)
+
+    before_mid : (mid : List ℕ) → after ≡ mid ++ rest → AreReadBefore pieces mid
+    before_mid [] is = reading.reads.fit
+    before_mid (c ∷ cs) is = read_before fielded pieces c (cs ++ rest) cs (subst (AreReadBefore pieces) is fit)
+
+    nil_left : (xs ys zs : List ℕ) → (xs ++ ys) ++ zs ≡ xs → ys ≡ []
+    nil_left xs [] zs at = refl
+    nil_left xs (y ∷ ys) zs at =
+        let none : (y ∷ ys) ++ zs ≡ [] = append_cancel_left xs ((y ∷ ys) ++ zs) [] (sym (append_assoc xs (y ∷ ys) zs) ∙ at ∙ sym (append-nil xs)) in
+        absurd (cc)
+
+    by : (mid : List ℕ) → spelled pieces ++ mid ≡ spelled others → Compared Piece pieces others → (more : List Piece) × (others ≡ pieces ++ more)
+    by mid at (Compared.same is) = ([], sym is ∙ sym (append-nil pieces))
+    by mid at (Compared.shorter x xs is) = (x ∷ xs, is)
+    by mid at (Compared.longer y ys is) =
+        let whole : (spelled others ++ spelled (y ∷ ys)) ++ mid ≡ spelled others = ap (λ t. t ++ mid) (sym (spelled-append others (y ∷ ys)) ∙ ap spelled (sym is)) ∙ at in
+        let none = nil_left (spelled others) (spelled (y ∷ ys)) mid whole in
+        absurd (ends_there pieces others ys y reading.reads.fit is (ap spelled is ∙ spelled-append others (y ∷ ys) ∙ ap (λ t. spelled others ++ t) none ∙ append-nil (spelled others)))
+
+    go : (mid : List ℕ) × (spelled pieces ++ mid ≡ spelled others) × (after ≡ mid ++ rest) → (more : List Piece) × (others ≡ pieces ++ more)
+    go (mid, at, is) = by mid at (compare_pieces Fields Fields fields_begin fields_begin fields_agree pieces others mid [] (before_mid mid is) read.reads.fit (at ∙ sym (append-nil (spelled others))))
+
+-- the text goes on from the settled pieces
+record OnFrom (pieces : List Piece) (all t : List ℕ) (rest tail more : List ℕ) : Type 0 where
+  after : List ℕ
+  spell : spelled pieces ++ after ≡ all
+  left : encode_utf8_all after ++ t ≡ (encode_utf8_all rest ++ tail) ++ more
+  fit : AreReadBefore pieces after
+
+on_from : (text more characters tail all t : List ℕ) (pieces : List Piece) (prefix : IsSettledPrefix pieces characters tail) → Decodes text characters tail → Decodes (text ++ more) all t → OnFrom pieces all t prefix.rest tail more
+on_from text more characters tail all t pieces prefix decodes whole =
+    let parts = all_scalars-parts (spelled pieces) prefix.rest (ap all_scalars prefix.spell ∙ decodes.are) in
+    let on = goes_on (spelled pieces) ((encode_utf8_all prefix.rest ++ tail) ++ more) all t parts.0 whole.are whole.bad (spelled_first text more pieces prefix.rest characters tail prefix.spell decodes.spell ∙ sym whole.spell) in
+    let later = all_scalars-parts (spelled pieces) on.rest (ap all_scalars (sym on.split) ∙ whole.are) in
+    record {
+      after = on.rest;
+      spell = sym on.split;
+      left = on.left;
+      fit = settled_fits characters tail more pieces prefix parts.1 decodes.bad on.rest t later.1 whole.bad on.left;
+    }
+
+-- so its lines are the first ones
+pub lines_first : (pieces others : List Piece) (lines : List LogicalLine) → EndsLine pieces → lines ≡ lines_of pieces → (more : List Piece) × (others ≡ pieces ++ more) → (later : List LogicalLine) × (lines_of others ≡ lines ++ later)
+lines_first pieces others lines ended cut begun =
+    let first = lines_of-more pieces begun.0 ended in
+    (first.0, ap lines_of begun.1 ∙ first.1 ∙ ap (λ l. l ++ first.0) (sym cut))
+
+-- settled lines begin those that more bytes settle
+pub settled_before_settled : (text more : List ℕ) (lines others : List LogicalLine) → IsSettled text lines → IsSettled (text ++ more) others → (later : List LogicalLine) × (others ≡ lines ++ later)
+settled_before_settled text more lines others first second =
+    let on = on_from text more first.characters first.tail second.characters second.tail first.pieces first.prefix first.decodes second.decodes in
+    let bound = second.prefix.longest first.pieces on.after on.spell first.prefix.reading (still_ends first.pieces first.prefix.rest first.tail more on.after second.tail on.left first.prefix.ended) in
+    let begun = begins_with first.pieces second.pieces on.after second.prefix.rest on.fit first.prefix.reading second.prefix.reading (on.spell ∙ sym second.prefix.spell) bound in
+    let found = lines_first first.pieces second.pieces lines first.prefix.ended.0 first.cut begun in
+    (found.0, second.cut ∙ found.1)
+
+-- and those of every text that goes on from them, whether it is read whole or has a fault
+pub settled_before_lexed : (text more : List ℕ) (lines others : List LogicalLine) (end : Option Fault) → IsSettled text lines → IsLexed (text ++ more) others end → (later : List LogicalLine) × (others ≡ lines ++ later)
+settled_before_lexed text more lines others None first second =
+    let on = on_from text more first.characters first.tail second.characters [] first.pieces first.prefix first.decodes second.decodes in
+    let whole : spelled second.pieces ≡ second.characters = second.reading.reads.spell in
+    let same_length = ap length (on.spell ∙ sym whole) in
+    let bound : length (spelled first.pieces) ≤ length (spelled second.pieces) = omega (arith, same_length, length-append (spelled first.pieces) on.after) in
+    let begun = begins_with first.pieces second.pieces on.after [] on.fit first.prefix.reading (subst (IsBalancedReading second.pieces) (sym whole) second.reading) (on.spell ∙ sym whole ∙ sym (append-nil (spelled second.pieces))) bound in
+    let found = lines_first first.pieces second.pieces lines first.prefix.ended.0 first.cut begun in
+    (found.0, second.cut ∙ found.1)
+settled_before_lexed text more lines others (Some fault) first second =
+    let on = on_from text more first.characters first.tail second.characters second.tail first.pieces first.prefix first.decodes second.decodes in
+    let bound = second.prefix.longest first.pieces on.after on.spell first.prefix.reading first.prefix.ended.0 in
+    let begun = begins_with first.pieces second.pieces on.after second.prefix.rest on.fit first.prefix.reading second.prefix.reading (on.spell ∙ sym second.prefix.spell) bound in
+    let found = lines_first first.pieces second.pieces lines first.prefix.ended.0 first.cut begun in
+    (found.0, second.cut ∙ found.1)
+
+-- so they begin its lexing
 pub settled_begin : (text more : List ℕ) (lines : List LogicalLine) → IsSettled text lines → BeginsLexing (text ++ more) lines
 settled_begin text more lines settled =
-    let pieces = settled.pieces in
-    let prefix = settled.prefix in
-    let whole = decoding (text ++ more) in
-    let parts = all_scalars-parts (spelled pieces) prefix.rest (ap all_scalars prefix.spell ∙ settled.decodes.are) in
-    let on = goes_on (spelled pieces) ((encode_utf8_all prefix.rest ++ settled.tail) ++ more) whole.characters whole.tail parts.0 whole.decodes.are whole.decodes.bad (spelled_first text more pieces prefix.rest settled.characters settled.tail prefix.spell settled.decodes.spell ∙ sym whole.decodes.spell) in
-    given_begin (standing_at (text ++ more) (byte_len (spelled pieces)) (1 + line_ends (spelled pieces))) lines
-    (record {
-      first = record {
-        characters = whole.characters;
-        tail = whole.tail;
-        pieces = pieces;
-        rest = on.rest;
-        decodes = whole.decodes;
-        spell = sym on.split;
-        fit = settled_fits settled.characters settled.tail more pieces prefix parts.1 settled.decodes.bad on.rest whole.tail (all_scalars-parts (spelled pieces) on.rest (ap all_scalars (sym on.split) ∙ whole.decodes.are)).1 whole.decodes.bad on.left;
-        balanced = prefix.reading.balanced;
-        shallow = prefix.reading.shallow;
-        ended = ends_for_good pieces (on.rest ++ whole.tail) prefix.ended.0;
-        here = refl;
-        number = refl;
-        cut = settled.cut;
-      };
-      no_fault = refl;
-    })
+    let all = some_lexing_of (text ++ more) in
+    let first = settled_before_lexed text more lines all.0 all.1 settled all.2 in
+    record { more = first.0; end = all.1; lexed = subst (λ l. IsLexed (text ++ more) l all.1) first.1 all.2 }

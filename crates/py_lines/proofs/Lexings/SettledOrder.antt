@@ -1,24 +1,24 @@
 -- Of two lists of first lines of a text, the one of no more bytes begins the other: settled lines, and lines up to a place.
-use Rattle.std.proofs.Common.{◌≡◌, ℕ, ◌+◌, ◌≤◌, ◌<◌, ◌&&◌, ◌==◌, List, [], ◌∷◌, ◌++◌, length, take, drop, refl, sym, ap, ◌∙◌, subst, inl, inr, append-nil, length-append, arith}
+use Rattle.std.proofs.Common.{◌≡◌, ℕ, ◌+◌, ◌≤◌, ◌<◌, ◌&&◌, ◌==◌, List, [], ◌∷◌, ◌++◌, length, take, drop, refl, sym, ap, ◌∙◌, subst, inl, inr, length-append, arith}
 use Rattle.std.specs.Prelude.{encode_utf8_all}
-use Rattle.std.specs.Str.{all_scalars}
 use Rattle.std.proofs.lemmas.Bool.{cond_both}
 use Rattle.std.proofs.lemmas.List.{take-append-drop, length-take}
 use Rattle.std.proofs.lemmas.Str.{length-le-encodes}
 use Rattle.py_lines.specs.Piece.{Class, mark, space, word, string, operator, comment, join, line_end, Piece, spelled}
-use Rattle.py_lines.specs.PieceGrammar.{InClass, feed, return_feed, return, joined, AreReadBefore}
+use Rattle.py_lines.specs.FieldStrings.{quotes_of}
+use Rattle.py_lines.specs.PieceGrammar.{feed, return_feed, return, joined}
 use Rattle.py_lines.specs.Balance.{depth_after}
-use Rattle.py_lines.specs.LogicalLine.{is_line_end_class, put_first, cut, LogicalLine, byte_len, line_ends, lines_from}
+use Rattle.py_lines.specs.Fields.{InClass, AreReadBefore}
 use Rattle.py_lines.specs.Lexed.{BeginsLexing}
-use Rattle.py_lines.specs.Reader.{standing_at}
 use Rattle.py_lines.specs.Settled.{IsSettled}
 use Rattle.py_lines.specs.Given.{AreFirstLines}
-use Rattle.py_lines.proofs.Text.Continued.{goes_on}
-use Rattle.py_lines.proofs.Text.Utf8Prefixes.{all_scalars-parts, bytes_in}
+use Rattle.py_lines.specs.LogicalLine.{is_line_end_class, put_first, cut, LogicalLine, byte_len, line_ends, lines_from}
+use Rattle.py_lines.specs.Reader.{standing_at}
 use Rattle.py_lines.proofs.LogicalLines.Cuts.{byte_len-append}
 use Rattle.py_lines.proofs.LogicalLines.NextLine.{texts, texts-lines}
 use Rattle.py_lines.proofs.Lexings.FirstLines.{given_begin}
-use Rattle.py_lines.proofs.Lexings.SettledLines.{settled_begin, spelled_first, still_ends}
+use Rattle.py_lines.proofs.Fields.Elsewhere.{quotes_begin}
+use Rattle.py_lines.proofs.Lexings.SettledLines.{settled_begin}
 use Rattle.py_lines.proofs.Lexings.Uniqueness.{one_lexing_of}
 
 -- a piece has a character
@@ -26,8 +26,11 @@ pub piece_some : (class : Class) (text : List ℕ) → InClass class text → 0 
 piece_some mark text (one, is, passes) = omega (arith, ap length is)
 piece_some space text (first, others, is, pass) = omega (arith, ap length is)
 piece_some word text (first, others, is, starts, pass) = omega (arith, ap length is)
-piece_some string text (inl short) = omega (arith, ap length short.spell, length-append short.prefix (short.quote ∷ joined short.items ++ short.quote ∷ []))
-piece_some string text (inr long) = omega (arith, ap length long.spell, length-append long.prefix (long.quote ∷ long.quote ∷ long.quote ∷ joined long.items ++ long.quote ∷ long.quote ∷ long.quote ∷ []))
+piece_some string text (inl (inl (short, plain))) = omega (arith, ap length short.spell, length-append short.prefix (short.quote ∷ joined short.items ++ short.quote ∷ []))
+piece_some string text (inl (inr (long, plain))) = omega (arith, ap length long.spell, length-append long.prefix (long.quote ∷ long.quote ∷ long.quote ∷ joined long.items ++ long.quote ∷ long.quote ∷ long.quote ∷ []))
+piece_some string text (inr is) =
+    let quotes = quotes_begin is.host in
+    omega (arith, ap length is.spell, length-append is.prefix (quotes_of is.host ++ (joined is.parts ++ quotes_of is.host)), length-append (quotes_of is.host) (joined is.parts ++ quotes_of is.host), ap length quotes.1)
 piece_some operator text (one, is, passes) = omega (arith, ap length is)
 piece_some comment text (hash, body, is, first, free) = omega (arith, ap length is)
 piece_some join text (slash, end, is, first, ends) = omega (arith, ap length is)
@@ -79,7 +82,7 @@ begin_both text lines others f g have short = begin_same lines others f.more g.m
 -- the bytes of settled lines
 module _ (text : List ℕ) (lines : List LogicalLine) (s : IsSettled text lines) where
   settled_some : LinesHaveText lines
-  settled_some = subst LinesHaveText (sym s.cut) (from_some 0 1 (cut 0 s.pieces) (cut_some 0 s.pieces [] s.prefix.reading.fit))
+  settled_some = subst LinesHaveText (sym s.cut) (from_some 0 1 (cut 0 s.pieces) (cut_some 0 s.pieces [] s.prefix.reading.reads.fit))
 
   settled_bytes : length (texts lines) ≡ byte_len (spelled s.pieces)
   settled_bytes = ap (λ l. length (texts l)) s.cut ∙ ap length (texts-lines s.pieces)
@@ -94,16 +97,3 @@ settled_begin_first text place line lines others f s =
     let bytes : length (texts lines) ≡ place = ap (λ l. length (texts l)) f.cut ∙ ap length (texts-lines f.pieces) ∙ sym f.here in
     begin_both text lines others (given_begin (standing_at text place line) lines (record { first = f; no_fault = refl })) begin (settled_some (take place text) others s)
     (omega (arith, bytes, settled_within (take place text) others s, length-take place text))
-
--- more bytes settle no fewer lines
-pub settled_grow : (text more : List ℕ) (lines others : List LogicalLine) → IsSettled text lines → IsSettled (text ++ more) others → (rest : List LogicalLine) × (others ≡ lines ++ rest)
-settled_grow text more lines others s t =
-    let prefix = s.prefix in
-    let parts = all_scalars-parts (spelled s.pieces) prefix.rest (ap all_scalars prefix.spell ∙ s.decodes.are) in
-    let on = goes_on (spelled s.pieces) ((encode_utf8_all prefix.rest ++ s.tail) ++ more) t.characters t.tail parts.0 t.decodes.are t.decodes.bad (spelled_first text more s.pieces prefix.rest s.characters s.tail prefix.spell s.decodes.spell ∙ sym t.decodes.spell) in
-    let ended = still_ends s.pieces prefix.rest s.tail more on.rest t.tail on.left prefix.ended in
-    let longer = t.prefix.longest s.pieces on.rest (sym on.split) prefix.reading ended in
-    let bytes = bytes_in (spelled s.pieces) (spelled t.pieces) on.rest t.prefix.rest (sym on.split ∙ sym t.prefix.spell) longer in
-    let begin = subst (λ x. BeginsLexing x others) (append-nil (text ++ more)) (settled_begin (text ++ more) [] others t) in
-    begin_both (text ++ more) others lines begin (settled_begin text more lines s) (settled_some text lines s)
-    (omega (arith, bytes, settled_bytes text lines s, settled_bytes (text ++ more) others t))

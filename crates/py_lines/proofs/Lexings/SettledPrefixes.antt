@@ -4,20 +4,19 @@ use Rattle.std.proofs.lemmas.Bool.{both_ways}
 use Rattle.std.proofs.lemmas.List.{nil_from_length}
 use Rattle.py_lines.specs.Character.{is_line_feed, is_return}
 use Rattle.py_lines.specs.Piece.{line_end, Piece, ends, spelled}
-use Rattle.py_lines.specs.PieceGrammar.{InClass, IsLineEnd, feed, return_feed, return}
+use Rattle.py_lines.specs.PieceGrammar.{IsLineEnd, feed, return_feed, return}
 use Rattle.py_lines.specs.Balance.{depth_through}
+use Rattle.py_lines.specs.Fields.{InClass, AreReadBefore}
 use Rattle.py_lines.specs.Reading.{IsBalancedReading}
 use Rattle.py_lines.specs.Settled.{EndsForGood, IsSettledPrefix}
-use Rattle.py_lines.specs.Private.Machine.{Scanned, text_start, steps_from, Bracket, brackets_of}
+use Rattle.py_lines.specs.Private.Machine.{Scanned, text_start, Bracket}
+use Rattle.py_lines.specs.Private.ScanMachine.{scan_steps}
 use Rattle.py_lines.proofs.Pieces.PieceLists.{piece, spelled-append, AreReadBefore-second}
-use Rattle.py_lines.proofs.Pieces.OpenBrackets.{balanced-from_stack, depth_through-append}
+use Rattle.py_lines.proofs.Pieces.OpenBrackets.{depth_through-append}
 use Rattle.py_lines.proofs.Machine.PieceSteps.{pieces_at}
-use Rattle.py_lines.proofs.Machine.ReadingSteps.{reach}
-use Rattle.py_lines.proofs.Machine.Soundness.{sound_at}
-use Rattle.py_lines.proofs.Machine.Advance.{RunsTo, run_before}
-use Rattle.py_lines.proofs.Machine.LiveTexts.{stack_closed}
-use Rattle.py_lines.proofs.Machine.OpenStrings.{same_state}
-use Rattle.py_lines.proofs.Lexings.LinePrefix.{EndsNoLine, Stays, Split, split, closed_spells, depth_prefix, prefix_fits, prefix_stack, length_line, line_first, line_stays, no_end_in, within}
+use Rattle.py_lines.proofs.ScanMachine.Advance.{RunsTo, run_before}
+use Rattle.py_lines.proofs.ScanMachine.Soundness.{sound_at}
+use Rattle.py_lines.proofs.Lexings.LinePrefix.{EndsNoLine, Stays, Split, split, closed_spells, depth_prefix, prefix_reading, length_line, line_first, line_stays, no_end_in, same_state, reach_reading, within}
 use Rattle.py_lines.proofs.Lexings.SettledLines.{ends-append, ends-line}
 
 -- No line ends in the pieces after the lines given, or only by the CR with which the known bytes end.
@@ -44,12 +43,10 @@ thirteen text same = ap (ends is_return) same
 -- the machine has read the known characters: the lines given are settled, and no more
 pub settled_at : (characters tail : List ℕ) (s : Scanned) (st : List Bracket) (base others : List Piece) (rest : List ℕ) → RunsTo characters s st → pieces_at s ≡ base ++ others → EndsForGood base (rest ++ tail) → EndsNoneYet others tail → spelled base ++ rest ≡ characters → IsSettledPrefix base characters tail
 settled_at characters tail s st base others rest steps pieces good yet spell =
-    let stack = stack_closed s.mode s.done s.held st steps.stack in
-    let level = balanced-from_stack base (prefix_stack base others st (ap brackets_of (sym pieces) ∙ stack) good.0) in
     record {
       rest = rest;
       spell = spell;
-      reading = record { spell = refl; fit = prefix_fits characters s base others steps.run pieces good.0; balanced = level.0; shallow = level.1 };
+      reading = prefix_reading characters s st base others steps pieces good.0;
       ended = good;
       longest = longest;
     }
@@ -60,7 +57,7 @@ settled_at characters tail s st base others rest steps pieces good yet spell =
     -- a rival that ends with the CR ends with the known bytes, so not for good
     at_return : (rivals : List Piece) (after : List ℕ) (body : List Piece) (last line : Piece) (text : List ℕ) → spelled rivals ++ after ≡ characters → rivals ≡ body ++ last ∷ [] → IsBalancedReading rivals (spelled rivals) → last.class ≡ line_end → (after ++ tail ≡ [] → ends is_return (spelled rivals) ≡ false) → pieces_at s ≡ body ++ line ∷ [] → line ≡ piece line_end text → text ≡ 13 ∷ [] → tail ≡ [] → ⊥
     at_return rivals after body last line text spells is reading class settles at is_line cr bare =
-        let fit = subst (λ l. Rattle.py_lines.specs.PieceGrammar.AreReadBefore l []) is reading.fit in
+        let fit = subst (λ l. AreReadBefore l []) is reading.reads.fit in
         let some = line_first last class (AreReadBefore-second body (last ∷ []) [] fit).0 in
         let one : length line.text ≡ 1 = ap (λ (p : Piece). length p.text) is_line ∙ ap length cr in
         let mine : length characters ≡ length (spelled body) + (length line.text + 0) = ap length (sym whole) ∙ ap (λ l. length (spelled l)) at ∙ length_line body line [] in
@@ -101,10 +98,10 @@ settled_at characters tail s st base others rest steps pieces good yet spell =
         let short : length (spelled rivals) ≡ 0 = ap (λ l. length (spelled l)) empty in
         omega arith
     longest rivals after spells reading (inr (body, last, is, class, deep), settles) =
-        let found = reach rivals [] reading.fit in
-        let through = run_before (Some text_start) (spelled rivals) after s (ap (steps_from (Some text_start)) spells ∙ steps.run) in
+        let found = reach_reading rivals reading in
+        let through = run_before (Some text_start) (spelled rivals) after s (ap (scan_steps (Some text_start)) spells ∙ steps.run) in
         let same = same_state (spelled rivals) through.0 found.to through.1 found.steps in
-        let run : steps_from (Some found.to) after ≡ Some s = ap (λ (t : Scanned). steps_from (Some t) after) (sym same) ∙ through.2 in
+        let run : scan_steps (Some found.to) after ≡ Some s = ap (λ (t : Scanned). scan_steps (Some t) after) (sym same) ∙ through.2 in
         bounded rivals after body last spells is reading class deep settles (line_stays found.to.mode found.to.done found.to.held after s body last run (found.pieces_are ∙ is) class) yet
 
 -- a line end ends in LF or CR
@@ -126,7 +123,7 @@ settled_line characters tail prefix rest spell reading good near = record { rest
         let short : length (spelled others) ≡ 0 = ap (λ l. length (spelled l)) empty in
         omega arith
     not_last c others is other bare spells read (inr (body, last, split_at, class, deep), settles) =
-        let fit = subst (λ l. Rattle.py_lines.specs.PieceGrammar.AreReadBefore l []) split_at read.fit in
+        let fit = subst (λ l. AreReadBefore l []) split_at read.reads.fit in
         let holds = (AreReadBefore-second body (last ∷ []) [] fit).0 in
         let all : spelled others ≡ spelled prefix ++ c ∷ [] = sym (append-nil (spelled others)) ∙ spells ∙ sym spell ∙ ap (λ t. spelled prefix ++ t) is in
         let no_cr : ends is_return last.text ≡ false = sym (ends-line is_return body last class holds) ∙ ap (λ (l : List Piece). ends is_return (spelled l)) (sym split_at) ∙ settles bare in

@@ -2,7 +2,7 @@
 use Rattle.std.proofs.Common.{◌≡◌, ℕ, suc, Bool, ◌-◌, ◌<◌, ◌≤◌, true, false, eqb, ◌==◌, Option, None, Some, List, [], ◌∷◌, ◌++◌, length, slice_get, refl, sym, ap, ◌∙◌, subst, arith, length-append}
 use Rattle.std.specs.Prelude.{option_to_list, nat_lt, is_some, if◌then◌else◌}
 use Rattle.std.proofs.lemmas.Bool.{false_from_ne_true, ltb-true, eqb-true, eq-eqb}
-use Rattle.py_lines.specs.Piece.{operator, Piece}
+use Rattle.py_lines.specs.Piece.{operator}
 use Rattle.py_lines.specs.Balance.{is_opening, is_closing, closing_of}
 use Rattle.py_lines.specs.Private.Machine.{Bracket, brackets_after, opened_by, closed_by}
 use Rattle.py_lines.specs.Private.Run.{may_stand}
@@ -47,9 +47,6 @@ pops old new None y b others some is top = absurd (cc)
 pops old new (Some x) y b others some is top =
     let both : entry x ∷ stack new ≡ b ∷ others = sym (stack-push new x) ∙ ap stack (sym is) ∙ top in
     cc
-
-one : ℕ → Piece
-one c = record { class = operator; text = c ∷ [] }
 
 -- an operator at a byte
 pub too_deep : (st : List Bracket) (place c : ℕ) → is_opening c ≡ true → 200 ≤ length st → brackets_after st place (record { class = operator; text = c ∷ [] }) ≡ None

@@ -16,6 +16,7 @@ use Rattle.py_lines.specs.declared.scan.Scan.{Scan}
 use Rattle.py_lines.specs.declared.scan.Stop.TheVariants as stops
 use Rattle.py_lines.specs.declared.whole_pieces.Taken.TheVariants as taken
 use Rattle.py_lines.specs.Private.Machine.{move_of}
+use Rattle.py_lines.specs.Private.ScanMachine.{meet_of}
 use Rattle.py_lines.specs.Private.Scan.{Begins, Closes, with_character, counts_after, is_return_mode, is_returned, line_end_progress, none_open, stack_of}
 use Rattle.py_lines.specs.Private.Run.{Reached, TakesReturn, TakesReturnAlone, TakesReturnFeed, is_free, line_ended}
 use Rattle.py_lines.proofs.Machine.Starts.{start-return}
@@ -66,15 +67,15 @@ feed_reads old =
 end_closes : (old : Scan) (len : ℕ) → Closes (with_end old len) (line_ended old len)
 end_closes old len = record { tokens = sym (append-nil old.tokens.items); same = ap (λ (b : Bool). record (line_ended old len) { margin = b }) (sym (and_right old.margin false refl)) }
 
-feed_move : move_of modes.Return 10 ≡ moves.Closes
-unfolding move_of
+feed_move : meet_of modes.Return 10 ≡ moves.Closes
+unfolding meet_of move_of
 feed_move = rw (feed_from 10 refl) refl
 
 feed_takes : (old : Scan) (p : Progress) → p ≡ line_end_progress (none_open (stack_of old.brackets)) 2 → TakesTo (with_end old 1) 10 p (line_ended old 2)
 feed_takes old p is = record {
   begun = λ is. absurd (both_ways _ refl is);
   taken = λ other s read sound none not_yet tallies stacked.
-      takes_returned (with_end old 1) (line_ended old 2) s.done s.mode s.held read 10 p (ap is_return_mode (sym tallies.mode)) (ap (λ m. move_of m 10) (sym tallies.mode) ∙ feed_move) sound tallies stacked none (subst (λ (s : Scan). Closes s (line_ended old 2)) (feed_reads old) (end_closes old 2)) is;
+      takes_returned (with_end old 1) (line_ended old 2) s.done s.mode s.held read 10 p (ap is_return_mode (sym tallies.mode)) (ap (λ m. meet_of m 10) (sym tallies.mode) ∙ feed_move) sound tallies stacked none (subst (λ (s : Scan). Closes s (line_ended old 2)) (feed_reads old) (end_closes old 2)) is;
 }
 
 -- a character that ended no line before it

@@ -9,7 +9,8 @@ use Rattle.py_lines.specs.declared.mode.Mode.{Mode}
 use Rattle.py_lines.specs.declared.mode.Mode.TheVariants as modes
 use Rattle.py_lines.specs.declared.mode.Move.TheVariants as moves
 use Rattle.py_lines.specs.declared.scan.Scan.{Scan}
-use Rattle.py_lines.specs.Private.Machine.{Bracket, IsSound, move_of}
+use Rattle.py_lines.specs.Private.Machine.{Bracket, move_of}
+use Rattle.py_lines.specs.Private.ScanMachine.{IsScanSound, meet_of}
 use Rattle.py_lines.specs.Private.Scan.{line_start, stack_of}
 use Rattle.py_lines.specs.Private.Run.{IsRunOf, ReachedShut, TakesComment, follows, is_apart, is_comment_byte, is_ascii_word, may_begin, opened, with_bytes}
 use Rattle.py_lines.proofs.Machine.Starts.{start-hash}
@@ -56,20 +57,20 @@ comment_next : (st : List Bracket) (rest : List ℕ) → 0 < length rest → beg
 comment_next st [] some ends = absurd (omega (arith, some))
 comment_next st (c ∷ cs) some ends = follows_begin st c (break_follows st c (break_of c ends))
 
-comment_breaks : (c : ℕ) → is_comment_byte c ≡ false → move_of modes.Comment c ≡ moves.Breaks
-unfolding move_of
+comment_breaks : (c : ℕ) → is_comment_byte c ≡ false → meet_of modes.Comment c ≡ moves.Breaks
+unfolding meet_of move_of
 comment_breaks c ends = rw (break_of c ends) refl
 
-pub comment_reached : (m : Mode) (at : ℕ) (text : List ℕ) (scan new : Scan) (bytes : List ℕ) (len : ℕ) → scan.piece.mode ≡ modes.Free → ReachedShut m at text scan bytes → IsSound (line_start m) [] → TakesComment scan bytes len new → ReachedShut m at text new (drop len bytes)
+pub comment_reached : (m : Mode) (at : ℕ) (text : List ℕ) (scan new : Scan) (bytes : List ℕ) (len : ℕ) → scan.piece.mode ≡ modes.Free → ReachedShut m at text scan bytes → IsScanSound (line_start m) [] → TakesComment scan bytes len new → ReachedShut m at text new (drop len bytes)
 comment_reached m at text scan new [] len free r start takes = absurd (both_ways _ refl takes.hash)
 comment_reached m at text scan new (b ∷ bs) zero free r start takes = absurd (both_ways _ (takes.run.ends (omega arith)) (hash_stays b takes.hash))
 comment_reached m at text scan new (b ∷ bs) (suc n) free r start takes =
     let low : b < 128 = omega (arith, hash_is b takes.hash) in
     let spell = append-nil _ ∙ encode_ascii b low in
-    let first = opens_reached m at text scan b [] bs modes.Comment modes.Comment (meets m at text scan b bs free r) start (start-hash b takes.hash) (λ done. refl) (and_from _ _ (hash_stays b takes.hash) refl) (spell, and_from _ _ (low_scalar b (omega (arith, low))) refl) in
+    let first = opens_reached m at text scan b [] bs modes.Comment modes.Comment (meets m at text scan b bs free r) start (start-hash b takes.hash) (λ done. refl) (λ is. cc) (and_from _ _ (hash_stays b takes.hash) refl) (spell, and_from _ _ (low_scalar b (omega (arith, low))) refl) in
     let tail = run_tail is_comment_byte b bs n takes.run in
-    let held = held_in modes.Comment bs n (IsUtf8-drop (b ∷ take n bs) 1 takes.utf8 (IsCharBoundary-after_ascii (b ∷ take n bs) 0 takes.utf8 (omega arith) low)) tt tail.within tail.each in
-    let reached = reached_run m at text (opened scan modes.Comment 1) (opened scan modes.Comment (suc n)) bs (drop n bs) first (holds_run (opened scan modes.Comment 1) (opened scan modes.Comment (suc n)) bs n held (reads_more scan n)) in
+    let held = held_in (opened scan modes.Comment 1) bs n (IsUtf8-drop (b ∷ take n bs) 1 takes.utf8 (IsCharBoundary-after_ascii (b ∷ take n bs) 0 takes.utf8 (omega arith) low)) tt (λ is. cc) tail.within tail.each in
+    let reached = reached_run m at text (opened scan modes.Comment 1) (opened scan modes.Comment (suc n)) bs (drop n bs) first start (holds_run (opened scan modes.Comment 1) (opened scan modes.Comment (suc n)) bs n held (reads_more scan n)) in
     let ends = none_begins is_comment_byte (b ∷ bs) (suc n) takes.run.within takes.run.ends in
     record {
       unshut = opened scan modes.Comment (suc n);

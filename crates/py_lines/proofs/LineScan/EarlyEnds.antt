@@ -14,7 +14,8 @@ use Rattle.py_lines.specs.declared.mode.Start.TheVariants as starts
 use Rattle.py_lines.specs.declared.scan.Progress.{Progress}
 use Rattle.py_lines.specs.declared.scan.Progress.TheVariants as progress
 use Rattle.py_lines.specs.declared.scan.Scan.{Scan}
-use Rattle.py_lines.specs.Private.Machine.{Scanned, move_of, start_of, IsSound, Bracket, token_of}
+use Rattle.py_lines.specs.Private.Machine.{Scanned, start_of, Bracket, token_of}
+use Rattle.py_lines.specs.Private.ScanMachine.{IsScanSound, meet_of}
 use Rattle.py_lines.specs.Private.Scan.{Closes, Begins, ClosesAndAdds, Tallies, IsStacked, Takes, EndsNoLine, line_start, stack_of, none_open, is_returned, is_return_mode, line_end_progress, tokens_with, with_brackets, stack_with, closed_with, holds_nothing}
 use Rattle.py_lines.specs.Private.Run.{is_free, may_stand, may_begin, follows, Reached, ReachedShut, IsShut}
 use Rattle.py_lines.proofs.Text.Incomplete.{one_char}
@@ -88,8 +89,8 @@ pub record TakesFrom (m : Mode) (at : ℕ) (text before : List ℕ) (c : ℕ) (p
   pub takes : Takes from reached.way.state c (Ok p) new
   pub not_yet : is_returned from && not (is_line_feed c) ≡ false
 
-module _ (m : Mode) (at : ℕ) (text before : List ℕ) (c : ℕ) (p : Progress) (new : Scan) (start : IsSound (line_start m) []) where
-  broken_from : (from : Scan) → Reached m at text from before → move_of from.piece.mode c ≡ moves.Breaks → is_return_mode from.piece.mode ≡ false → Begins from c (start_of c) (Ok p) new → TakesFrom m at text before c p new
+module _ (m : Mode) (at : ℕ) (text before : List ℕ) (c : ℕ) (p : Progress) (new : Scan) (start : IsScanSound (line_start m) []) where
+  broken_from : (from : Scan) → Reached m at text from before → meet_of from.piece.mode c ≡ moves.Breaks → is_return_mode from.piece.mode ≡ false → Begins from c (start_of c) (Ok p) new → TakesFrom m at text before c p new
   broken_from from o breaks unreturned begun =
       let way = o.way in
       let s = way.state in
@@ -97,7 +98,7 @@ module _ (m : Mode) (at : ℕ) (text before : List ℕ) (c : ℕ) (p : Progress)
       record {
         from = from;
         reached = o;
-        takes = takes_broken from new s.done s.mode s.held o.read c (ap (λ n. move_of n c) (sym way.tallies.mode) ∙ breaks) (sound_steps m o.read s start way.steps) way.one_line not_yet way.tallies way.stacked (Ok p) begun;
+        takes = takes_broken from new s.done s.mode s.held o.read c (ap (λ n. meet_of n c) (sym way.tallies.mode) ∙ breaks) (sound_steps m o.read s start way.steps) way.one_line not_yet way.tallies way.stacked (Ok p) begun;
         not_yet = not_yet;
       }
 
@@ -106,7 +107,7 @@ module _ (m : Mode) (at : ℕ) (text before : List ℕ) (c : ℕ) (p : Progress)
   taken_shut scan from rest (b ∷ more) same is free begun o shut =
       let low = begin_low (stack_of scan.brackets) b shut.next in
       let c_is : c ≡ b = char_from_byte (b ∷ more) rest c (same ∙ is) low (omega arith) in
-      broken_from from o (ap (λ (n : ℕ). move_of from.piece.mode n) c_is ∙ shut.breaks b more refl) shut.unreturned
+      broken_from from o (ap (λ (n : ℕ). meet_of from.piece.mode n) c_is ∙ shut.breaks b more refl) shut.unreturned
       (begins_shut from scan new c (start_of c) p shut.closes (begun_so (stack_of scan.brackets) c (subst (λ (n : ℕ). may_begin (stack_of scan.brackets) n ≡ true) (sym c_is) shut.next)) refl begun)
 
   -- after closed pieces
@@ -117,7 +118,7 @@ module _ (m : Mode) (at : ℕ) (text before : List ℕ) (c : ℕ) (p : Progress)
       (λ shut. taken_shut scan r.unshut rest before refl is free begun r.reached shut) r.how
 
   -- and in an open one
-  pub taken_open : (scan : Scan) → ReachedShut m at text scan before → is_free scan.piece.mode ≡ false → is_returned scan && not (is_line_feed c) ≡ false → ((s : Scanned) (read : List ℕ) → IsSound s read → EndsNoLine 0 s.done → is_returned scan && not (is_line_feed c) ≡ false → Tallies scan s → IsStacked scan s → Takes scan s c (Ok p) new) → TakesFrom m at text before c p new
+  pub taken_open : (scan : Scan) → ReachedShut m at text scan before → is_free scan.piece.mode ≡ false → is_returned scan && not (is_line_feed c) ≡ false → ((s : Scanned) (read : List ℕ) → IsScanSound s read → EndsNoLine 0 s.done → is_returned scan && not (is_line_feed c) ≡ false → Tallies scan s → IsStacked scan s → Takes scan s c (Ok p) new) → TakesFrom m at text before c p new
   taken_open scan r other not_yet takes =
       let o = open_reached m at text scan before other r in
       record { from = scan; reached = o; takes = takes o.way.state o.read (sound_steps m o.read o.way.state start o.way.steps) o.way.one_line not_yet o.way.tallies o.way.stacked; not_yet = not_yet }
@@ -129,7 +130,7 @@ pub record Stands (at : ℕ) (text : List ℕ) (scan : Scan) (rest : List ℕ) :
   pub lines : scan.count.line ≤ scan.line + scan.stop
   pub line : scan.line ≡ at
 
-pub stands_reached : (m : Mode) (at : ℕ) (text : List ℕ) (scan : Scan) (rest : List ℕ) → IsSound (line_start m) [] → Reached m at text scan rest → Stands at text scan rest
+pub stands_reached : (m : Mode) (at : ℕ) (text : List ℕ) (scan : Scan) (rest : List ℕ) → IsScanSound (line_start m) [] → Reached m at text scan rest → Stands at text scan rest
 stands_reached m at text scan rest start r = record {
   order = way_order scan r.way.state r.way.tallies;
   room = omega (arith, way_stop m scan r.read r.way start, ap length r.spell, length-append (encode_utf8_all r.read) rest);
@@ -137,7 +138,7 @@ stands_reached m at text scan rest start r = record {
   line = r.line;
 }
 
-pub stands_shut : (m : Mode) (at : ℕ) (text : List ℕ) (scan : Scan) (rest : List ℕ) → IsSound (line_start m) [] → ReachedShut m at text scan rest → Stands at text scan rest
+pub stands_shut : (m : Mode) (at : ℕ) (text : List ℕ) (scan : Scan) (rest : List ℕ) → IsScanSound (line_start m) [] → ReachedShut m at text scan rest → Stands at text scan rest
 stands_shut m at text scan rest start r =
     let stood = stands_reached m at text r.unshut rest start r.reached in
     ⊎_elim

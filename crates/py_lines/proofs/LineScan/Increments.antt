@@ -1,34 +1,14 @@
 -- What one more piece, and one more character, do to what a reader counts.
-use Rattle.std.proofs.Common.{◌≡◌, ℕ, ◌+◌, Bool, true, false, not, ◌&&◌, ◌||◌, ◌==◌, Option, None, Some, List, [], ◌∷◌, ◌++◌, length, refl, sym, ap, ◌∙◌, arith}
+use Rattle.std.proofs.Common.{◌≡◌, ℕ, ◌+◌, Bool, true, false, not, ◌&&◌, ◌||◌, ◌==◌, List, [], ◌∷◌, ◌++◌, refl, arith}
 use Rattle.std.specs.Prelude.{if◌then◌else◌}
-use Rattle.std.proofs.lemmas.Bool.{and_right, both_ways}
+use Rattle.std.proofs.lemmas.Bool.{both_ways}
 use Rattle.py_lines.specs.Character.{is_line_feed, is_return}
-use Rattle.py_lines.specs.Piece.{line_end, Piece, ends, spelled}
-use Rattle.py_lines.specs.PieceGrammar.{return, AreReadBefore}
+use Rattle.py_lines.specs.Piece.{Piece, ends}
 use Rattle.py_lines.specs.Balance.{depth_after, depth_through}
-use Rattle.py_lines.specs.LogicalLine.{is_line_end_class, byte_len, ends_line, line_ends}
-use Rattle.py_lines.specs.Reading.{EndsLine}
-use Rattle.py_lines.specs.declared.mode.Mode.TheVariants as modes
-use Rattle.py_lines.specs.Private.Scan.{counts_after}
-use Rattle.py_lines.specs.Private.Machine.{text_start, steps_from, Bracket, brackets_after, brackets_through, brackets_of}
-use Rattle.py_lines.proofs.Text.CharacterTests.{return_is, feed-not-return}
-use Rattle.py_lines.proofs.Pieces.PieceLists.{piece, AreReadBefore-push, follows_any}
-use Rattle.py_lines.proofs.Pieces.OpenBrackets.{through-append, stands, depth_through-append}
-use Rattle.py_lines.proofs.Machine.Soundness.{sound_at}
-use Rattle.py_lines.proofs.Lexings.LinePrefix.{EndsNoLine, depth_prefix}
-
--- the stack after one more piece
-pub stack_push : (done : List Piece) (p : Piece) (st : List Bracket) → brackets_of done ≡ Some st → brackets_of (done ++ p ∷ []) ≡ brackets_after st (byte_len (spelled done)) p
-stack_push done p st stack = through-append (Some []) [] done (p ∷ []) ∙ ap (λ o. brackets_through o done (p ∷ [])) stack ∙ go (brackets_after st (byte_len (spelled done)) p)
-  where
-    go : (o : Option (List Bracket)) → brackets_through o (done ++ p ∷ []) [] ≡ o
-    go None = refl
-    go (Some bs) = refl
-
--- the depth after a line's pieces is the number of open brackets
-pub depth_is_stack : (prefix others : List Piece) (st : List Bracket) → EndsLine prefix → brackets_of (prefix ++ others) ≡ Some st → depth_through 0 others ≡ length st
-depth_is_stack prefix others st ended stack =
-    ap (λ (d : ℕ). depth_through d others) (sym (depth_prefix prefix ended)) ∙ sym (depth_through-append 0 prefix others) ∙ (stands (prefix ++ others) st stack).depth
+use Rattle.py_lines.specs.LogicalLine.{is_line_end_class, ends_line, line_ends}
+use Rattle.py_lines.specs.Private.Scan.{counts_after, EndsNoLine}
+use Rattle.py_lines.proofs.Text.CharacterTests.{feed-not-return}
+pub use Rattle.py_lines.proofs.Pieces.OpenBrackets.{stack_push}
 
 -- one more piece that doesn't end the line
 pub EndsNoLine-push : (d : ℕ) (ps : List Piece) (p : Piece) → EndsNoLine d ps → is_line_end_class p.class && (depth_through d ps == 0) ≡ false → EndsNoLine d (ps ++ p ∷ [])
@@ -36,11 +16,6 @@ EndsNoLine-push d [] p none last = (last, tt)
 EndsNoLine-push d (q ∷ ps) p none last = (none.0, EndsNoLine-push (depth_after d q) ps p none.1 last)
 
 -- a CR that no LF follows is read before what follows
-pub return_read : (before : List ℕ) (done : List Piece) (held : List ℕ) (c : ℕ) (more : List ℕ) → steps_from (Some text_start) before ≡ Some (record { done = done; mode = modes.Return; held = held }) → is_line_feed c ≡ false → AreReadBefore (done ++ piece line_end held ∷ []) (c ∷ more)
-return_read before done held c more steps other =
-    let sound = sound_at before (record { done = done; mode = modes.Return; held = held }) steps in
-    AreReadBefore-push done line_end held (c ∷ more) (sound.fit (c ∷ more)) (return (sound.holds.1 ∙ ap (λ d. d ∷ []) (return_is sound.holds.0 sound.holds.2))) (and_right _ _ other) (follows_any done line_end held refl)
-
 counted : Bool → ℕ
 counted b = if b then 1 else 0
 

@@ -13,25 +13,28 @@ use Rattle.py_lines.specs.declared.mode.Mode.TheVariants as modes
 use Rattle.py_lines.specs.declared.scan.Progress.TheVariants as progress
 use Rattle.py_lines.specs.declared.scan.Scan.{Scan}
 use Rattle.py_lines.specs.declared.scan.Stop.TheVariants as stops
-use Rattle.py_lines.specs.Private.Machine.{Scanned, fresh, step, steps_from, IsSound}
+use Rattle.py_lines.specs.Private.Machine.{Scanned, fresh}
+use Rattle.py_lines.specs.Private.ScanMachine.{IsScanSound, scan_step, scan_steps}
 use Rattle.py_lines.specs.Private.Scan.{Tallies, IsStacked, Takes, Closes, line_start, stack_of, none_open, is_returned, is_return_mode, EndsNoLine, IsUnderWay, IsAtLineEnd, StopsIn}
 use Rattle.py_lines.proofs.Pieces.PieceLists.{piece, spelled-push, AreReadBefore-push, follows_any}
 use Rattle.py_lines.proofs.Text.CharacterTests.{return_is}
-use Rattle.py_lines.proofs.Machine.PieceSteps.{scanned, steps_from-append}
-use Rattle.py_lines.proofs.Machine.Soundness.{SoundIf, run_sound}
+use Rattle.py_lines.proofs.Machine.PieceSteps.{scanned}
+use Rattle.py_lines.proofs.ScanMachine.Steps.{scan_steps-append}
+use Rattle.py_lines.proofs.ScanMachine.Soundness.{SoundIf, run_sound}
 use Rattle.py_lines.proofs.LineScan.PieceEnd.{closes_shut}
 use Rattle.py_lines.proofs.LineScan.NextCharacter.{one_return, none_level, none_stack}
 use Rattle.py_lines.proofs.LogicalLines.Cuts.{byte_len-append}
+use Rattle.py_lines.proofs.Lexings.LineEnds.{line_string}
 
 -- where the machine has come, it is sound
-pub sound_steps : (m : Mode) (read : List ℕ) (s : Scanned) → IsSound (line_start m) [] → steps_from (Some (line_start m)) read ≡ Some s → IsSound s read
+pub sound_steps : (m : Mode) (read : List ℕ) (s : Scanned) → IsScanSound (line_start m) [] → scan_steps (Some (line_start m)) read ≡ Some s → IsScanSound s read
 sound_steps m read s start steps = subst (λ o. SoundIf o read) steps (run_sound (line_start m) [] read start)
 
 -- one character more
-pub steps_push : (from : Scanned) (read : List ℕ) (s : Scanned) (c : ℕ) → steps_from (Some from) read ≡ Some s → steps_from (Some from) (read ++ c ∷ []) ≡ step s c
-steps_push from read s c steps = steps_from-append (Some from) read (c ∷ []) ∙ ap (λ o. steps_from o (c ∷ [])) steps ∙ whole (step s c)
+pub steps_push : (from : Scanned) (read : List ℕ) (s : Scanned) (c : ℕ) → scan_steps (Some from) read ≡ Some s → scan_steps (Some from) (read ++ c ∷ []) ≡ scan_step s c
+steps_push from read s c steps = scan_steps-append (Some from) read (c ∷ []) ∙ ap (λ o. scan_steps o (c ∷ [])) steps ∙ whole (scan_step s c)
   where
-    whole : (o : Option Scanned) → steps_from o [] ≡ o
+    whole : (o : Option Scanned) → scan_steps o [] ≡ o
     whole None = refl
     whole (Some t) = refl
 
@@ -46,7 +49,7 @@ under_way m old new read c way takes = record {
 }
 
 -- a character that ended the line
-pub at_line_end : (m : Mode) (old new : Scan) (read rest : List ℕ) (c len : ℕ) (way : IsUnderWay m old read) → IsSound (line_start m) [] → Takes old way.state c (Ok (progress.LineEnded len)) new → IsAtLineEnd m new (read ++ c ∷ []) rest len
+pub at_line_end : (m : Mode) (old new : Scan) (read rest : List ℕ) (c len : ℕ) (way : IsUnderWay m old read) → IsScanSound (line_start m) [] → Takes old way.state c (Ok (progress.LineEnded len)) new → IsAtLineEnd m new (read ++ c ∷ []) rest len
 at_line_end m old new read rest c len way start takes =
     let ended = takes.0 in
     let sound = sound_steps m (read ++ c ∷ []) (fresh (ended.body ++ ended.last ∷ [])) start (steps_push (line_start m) read way.state c way.steps ∙ ended.goes) in
@@ -58,6 +61,7 @@ at_line_end m old new read rest c len way start takes =
       steps = steps_push (line_start m) read way.state c way.steps ∙ ended.goes;
       spell = sym (append-nil (spelled (ended.body ++ ended.last ∷ []))) ∙ sound.spell;
       fit = λ after is. sound.fit after;
+      strings = sound.strings;
       tallies = ended.tallies;
     }
 
@@ -71,10 +75,10 @@ refused m old new read c after rest way not_yet takes scalar is =
 no_feed : (text rest : List ℕ) → begins is_line_feed rest ≡ false → ends is_return text && begins is_line_feed rest ≡ false
 no_feed text rest none = and_right _ _ none
 
-returned_as : (m : Mode) (old new : Scan) (read rest : List ℕ) (s : Scanned) → steps_from (Some (line_start m)) read ≡ Some s → IsSound s read → Tallies old s → IsStacked old s → EndsNoLine 0 s.done → (n : Mode) → n ≡ s.mode → is_return_mode n ≡ true → none_open (stack_of old.brackets) ≡ true → Closes old new → ((after : List ℕ) → encode_utf8_all after ≡ rest → begins is_line_feed after ≡ false) → IsAtLineEnd m new read rest 1
+returned_as : (m : Mode) (old new : Scan) (read rest : List ℕ) (s : Scanned) → scan_steps (Some (line_start m)) read ≡ Some s → IsScanSound s read → Tallies old s → IsStacked old s → EndsNoLine 0 s.done → (n : Mode) → n ≡ s.mode → is_return_mode n ≡ true → none_open (stack_of old.brackets) ≡ true → Closes old new → ((after : List ℕ) → encode_utf8_all after ≡ rest → begins is_line_feed after ≡ false) → IsAtLineEnd m new read rest 1
 returned_as m old new read rest s steps sound tallies stacked none modes.Return is returns empty closes follows = go s.mode is s.done s.held sound tallies stacked none
   where
-    go : (k : Mode) → modes.Return ≡ k → (done : List Piece) (held : List ℕ) → IsSound (scanned done k held) read → Tallies old (scanned done k held) → IsStacked old (scanned done k held) → EndsNoLine 0 done → IsAtLineEnd m new read rest 1
+    go : (k : Mode) → modes.Return ≡ k → (done : List Piece) (held : List ℕ) → IsScanSound (scanned done k held) read → Tallies old (scanned done k held) → IsStacked old (scanned done k held) → EndsNoLine 0 done → IsAtLineEnd m new read rest 1
     go modes.Return same done held sound' tallies' stacked' none' =
         let r = sound'.holds.0 in
         let text : held ≡ 13 ∷ [] = sound'.holds.1 ∙ ap (λ d. d ∷ []) (return_is r sound'.holds.2) in
@@ -86,19 +90,17 @@ returned_as m old new read rest s steps sound tallies stacked none modes.Return 
           steps = steps;
           spell = spelled-push done line_end held ∙ sound'.spell;
           fit = λ after is_rest. AreReadBefore-push done line_end held after (sound'.fit after) (return text) (no_feed held after (follows after is_rest)) (follows_any done line_end held refl);
+          strings = line_string done (piece line_end held) refl sound'.strings;
           tallies = closes_shut old new done modes.Return held read closes sound' tallies';
         }
     go k same done held sound' tallies' stacked' none' = absurd (cc)
 returned_as m old new read rest s steps sound tallies stacked none n is returns empty closes follows = absurd (both_ways _ refl returns)
 
-pub returned : (m : Mode) (old new : Scan) (read rest : List ℕ) (way : IsUnderWay m old read) → IsSound (line_start m) [] → is_return_mode old.piece.mode ≡ true → none_open (stack_of old.brackets) ≡ true → Closes old new → ((after : List ℕ) → encode_utf8_all after ≡ rest → begins is_line_feed after ≡ false) → IsAtLineEnd m new read rest 1
+pub returned : (m : Mode) (old new : Scan) (read rest : List ℕ) (way : IsUnderWay m old read) → IsScanSound (line_start m) [] → is_return_mode old.piece.mode ≡ true → none_open (stack_of old.brackets) ≡ true → Closes old new → ((after : List ℕ) → encode_utf8_all after ≡ rest → begins is_line_feed after ≡ false) → IsAtLineEnd m new read rest 1
 returned m old new read rest way start returns empty closes follows =
     returned_as m old new read rest way.state way.steps (sound_steps m read way.state start way.steps) way.tallies way.stacked way.one_line old.piece.mode way.tallies.mode returns empty closes follows
 
 -- what follows begins with another character, or is nothing
-pub follows_other : (c : ℕ) (more rest after : List ℕ) → rest ≡ encode_utf8_all (c ∷ more) → is_line_feed c ≡ false → encode_utf8_all after ≡ rest → begins is_line_feed after ≡ false
-follows_other c more rest after is other spells = ap (begins is_line_feed) (encodes_same after (c ∷ more) (spells ∙ is)) ∙ other
-
 pub follows_nothing : (rest after : List ℕ) → rest ≡ [] → encode_utf8_all after ≡ rest → begins is_line_feed after ≡ false
 follows_nothing rest after none spells = ap (begins is_line_feed) (encodes_same after [] (spells ∙ none))
 
@@ -106,8 +108,8 @@ follows_nothing rest after none spells = ap (begins is_line_feed) (encodes_same 
 pub way_order : (scan : Scan) (s : Scanned) → Tallies scan s → scan.piece.start ≤ scan.stop
 way_order scan s tallies = omega (arith, tallies.start, tallies.stop, byte_len-append (spelled s.done) s.held)
 
-pub way_stop : (m : Mode) (scan : Scan) (read : List ℕ) (way : IsUnderWay m scan read) → IsSound (line_start m) [] → scan.stop ≡ byte_len read
+pub way_stop : (m : Mode) (scan : Scan) (read : List ℕ) (way : IsUnderWay m scan read) → IsScanSound (line_start m) [] → scan.stop ≡ byte_len read
 way_stop m scan read way start = way.tallies.stop ∙ ap byte_len (sound_steps m read way.state start way.steps).spell
 
-pub way_here : (m : Mode) (scan : Scan) (read : List ℕ) (way : IsUnderWay m scan read) → IsSound (line_start m) [] → scan.count.line ≡ scan.line + line_ends read
+pub way_here : (m : Mode) (scan : Scan) (read : List ℕ) (way : IsUnderWay m scan read) → IsScanSound (line_start m) [] → scan.count.line ≡ scan.line + line_ends read
 way_here m scan read way start = way.tallies.here ∙ ap (λ t. scan.line + line_ends t) (sound_steps m read way.state start way.steps).spell

@@ -16,9 +16,10 @@ use Rattle.py_lines.specs.declared.whole_pieces.Left.{Left}
 use Rattle.py_lines.specs.declared.whole_pieces.Left.TheVariants as lefts
 use Rattle.py_lines.specs.declared.scan.Stop.{Stop}
 use Rattle.py_lines.specs.declared.scan.Stop.TheVariants as stops
-use Rattle.py_lines.specs.Private.Machine.{Scanned, IsSound, start_of}
+use Rattle.py_lines.specs.Private.Machine.{Scanned, start_of}
+use Rattle.py_lines.specs.Private.ScanMachine.{IsScanSound}
 use Rattle.py_lines.specs.Private.Scan.{Tallies, IsStacked, TakesNext, Begins, Closes, line_start, stack_of, none_open, is_returned, is_return_mode, IsAtLineEnd, EndsWhole, ScansIn, Scans}
-use Rattle.py_lines.specs.Private.Run.{StandsBefore, Holds, HasAsciiQuote, Reached, ReachedShut, IsNoLonger, LeavesOff, is_free}
+use Rattle.py_lines.specs.Private.Run.{StandsBefore, Holds, HasAsciiQuote, Reached, ReachedShut, LeavesOff, is_free}
 use Rattle.py_lines.proofs.LineScan.EarlyEnds.{TakesFrom, taken_free, taken_open, stands_reached, stands_shut, shut_none}
 use Rattle.py_lines.proofs.LineScan.ShortPieces.{free_is, open_reached, shut_from}
 use Rattle.py_lines.proofs.Text.CharacterTests.{feed_from, feed_is}
@@ -32,26 +33,23 @@ use Rattle.py_lines.proofs.LineScan.Runs.{reached_character, reached_run, way_qu
 
 -- wherever in a line the scan stood before a text, it stands now before another
 abbrev pub GoesTo : Scan → List ℕ → Scan → List ℕ → Type 0
-GoesTo old text new rest = (m : Mode) (line : ℕ) (whole : List ℕ) → IsSound (line_start m) [] → Reached m line whole old text → Reached m line whole new rest
+GoesTo old text new rest = (m : Mode) (line : ℕ) (whole : List ℕ) → IsScanSound (line_start m) [] → Reached m line whole old text → Reached m line whole new rest
 
 -- and it stops so
 abbrev pub StopsNow : Scan → List ℕ → Scan → Stop → Type 0
-StopsNow old text new stop = (m : Mode) (line : ℕ) (whole : List ℕ) → IsSound (line_start m) [] → Reached m line whole old text → ScansIn m line whole new stop
+StopsNow old text new stop = (m : Mode) (line : ℕ) (whole : List ℕ) → IsScanSound (line_start m) [] → Reached m line whole old text → ScansIn m line whole new stop
 
 -- the same, where it may have closed the open piece early
 abbrev pub ShutsTo : Scan → List ℕ → Scan → List ℕ → Type 0
-ShutsTo old text new rest = (m : Mode) (line : ℕ) (whole : List ℕ) → IsSound (line_start m) [] → Reached m line whole old text → ReachedShut m line whole new rest
+ShutsTo old text new rest = (m : Mode) (line : ℕ) (whole : List ℕ) → IsScanSound (line_start m) [] → Reached m line whole old text → ReachedShut m line whole new rest
 
 -- what pieces leave
 abbrev pub Leaves : Scan → List ℕ → Scan → Left → Type 0
-Leaves old before new left = (m : Mode) (line : ℕ) (whole : List ℕ) → IsSound (line_start m) [] → Reached m line whole old before → LeavesOff m line whole new left
+Leaves old before new left = (m : Mode) (line : ℕ) (whole : List ℕ) → IsScanSound (line_start m) [] → Reached m line whole old before → LeavesOff m line whole new left
 
 -- the text that is left after them
 pub left_shuts : {first : Scan} {text : List ℕ} {old : Scan} {before : List ℕ} {new : Scan} {left : Left} {rest : Bor (List ℕ)} → left ≡ lefts.Bytes rest → GoesTo first text old before → Leaves old before new left → ShutsTo first text new rest.now
 left_shuts {new = new} is goes leaves m line whole start r = subst (LeavesOff m line whole new) is (leaves m line whole start (goes m line whole start r))
-
-pub left_length : (text : List ℕ) (left : Left) (rest : Bor (List ℕ)) → left ≡ lefts.Bytes rest → IsNoLonger text left → length rest.now ≤ length text
-left_length text left rest is shorter = subst (IsNoLonger text) is shorter
 
 -- and the line's end
 pub left_ends : (first : Scan) (text : List ℕ) (old : Scan) (before : List ℕ) (new : Scan) (left : Left) (len : ℕ) → left ≡ lefts.LineEnd len → GoesTo first text old before → Leaves old before new left → StopsNow first text new (stops.LineEnd len)
@@ -101,11 +99,11 @@ feed_last m scan read len at =
     by_true false h = refl
 
 -- where CR is open, it was read last
-return_at : (m : Mode) (done : List Piece) (held read : List ℕ) → IsSound (record { done = done; mode = m; held = held }) read → is_return_mode m ≡ true → ends is_return read ≡ true
+return_at : (m : Mode) (done : List Piece) (held read : List ℕ) → IsScanSound (record { done = done; mode = m; held = held }) read → is_return_mode m ≡ true → ends is_return read ≡ true
 return_at modes.Return done held read sound is = ap (ends is_return) (sym sound.spell ∙ ap (λ t. spelled done ++ t) sound.holds.1) ∙ ends-append is_return (spelled done) sound.holds.0 [] ∙ sound.holds.2
 return_at m done held read sound is = absurd (both_ways _ refl is)
 
-pub return_ends : (s : Scanned) (read : List ℕ) → IsSound s read → is_return_mode s.mode ≡ true → ends is_return read ≡ true
+pub return_ends : (s : Scanned) (read : List ℕ) → IsScanSound s read → is_return_mode s.mode ≡ true → ends is_return read ≡ true
 return_ends s read sound is = return_at s.mode s.done s.held read sound is
 
 -- what begins with another character begins with no byte of LF
@@ -126,7 +124,7 @@ not_true false h = refl
 
 -- a run of characters was held
 pub goes_run : (first : Scan) (text : List ℕ) (old new : Scan) (before rest : List ℕ) → GoesTo first text old before → Holds old before rest new → GoesTo first text new rest
-goes_run first text old new before rest goes holds m line whole start r = reached_run m line whole old new before rest (goes m line whole start r) holds
+goes_run first text old new before rest goes holds m line whole start r = reached_run m line whole old new before rest (goes m line whole start r) start holds
 
 module _ (first : Scan) (text : List ℕ) (old : Scan) (before : List ℕ) (shuts : ShutsTo first text old before) where
   -- the line had ended with CR, before what follows
@@ -150,7 +148,7 @@ module _ (first : Scan) (text : List ℕ) (old : Scan) (before : List ℕ) (shut
 
   module _ (c : ℕ) (scalar : IsScalar c) (rest : List ℕ) (is : before ≡ encode_utf8 c ++ rest) (new : Scan) where
     -- where the machine takes it
-    taken_at : (p : Progress) (m : Mode) (line : ℕ) (whole : List ℕ) → IsSound (line_start m) [] → is_returned old && not (is_line_feed c) ≡ false → TakesTo old c p new → ReachedShut m line whole old before → TakesFrom m line whole before c p new
+    taken_at : (p : Progress) (m : Mode) (line : ℕ) (whole : List ℕ) → IsScanSound (line_start m) [] → is_returned old && not (is_line_feed c) ≡ false → TakesTo old c p new → ReachedShut m line whole old before → TakesFrom m line whole before c p new
     taken_at p m line whole start not_yet takes o = go (is_free old.piece.mode) refl
       where
         go : (b : Bool) → is_free old.piece.mode ≡ b → TakesFrom m line whole before c p new
@@ -228,7 +226,7 @@ nothing_left text read rest utf8 spell none =
     text_none rest (split.0, ((all_scalars-parts read split.0 (ap all_scalars (sym split.1) ∙ utf8.1.0)).1, split.2)) none
 
 -- where the text ends after CR, the line ends there
-pub scans_returned : (m : Mode) (line : ℕ) (text : List ℕ) (old new : Scan) → IsUtf8 text → IsSound (line_start m) [] → ScansIn m line text old stops.TextEnd → is_returned old ≡ true → Closes old new → Scans m text new (stops.LineEnd 1)
+pub scans_returned : (m : Mode) (line : ℕ) (text : List ℕ) (old new : Scan) → IsUtf8 text → IsScanSound (line_start m) [] → ScansIn m line text old stops.TextEnd → is_returned old ≡ true → Closes old new → Scans m text new (stops.LineEnd 1)
 scans_returned m line text old new utf8 start scans ended closes =
     let parts = and_parts (is_return_mode old.piece.mode) (none_open (stack_of old.brackets)) ended in
     record {

@@ -6,8 +6,8 @@ use Rattle.std.proofs.lemmas.List.Folds.{list_any-append}
 use Rattle.std.proofs.lemmas.Bool.{and_right}
 use Rattle.py_lines.specs.Character.{is_digit, is_return}
 use Rattle.py_lines.specs.Piece.{Class, mark, space, operator, line_end, Piece, begins, ends, is_mark_class, spelled}
-use Rattle.py_lines.specs.PieceGrammar.{AreReadBefore}
 use Rattle.py_lines.specs.Balance.{is_opener, is_closer}
+use Rattle.py_lines.specs.Fields.{AreReadBefore}
 use Rattle.py_lines.specs.LogicalLine.{is_code_class, is_comment_class, byte_len, line_ends, tokens_of_piece, tokens_from, kind_of, indent_of, space_len}
 use Rattle.py_lines.specs.declared.token.TokKind.{TokKind}
 use Rattle.py_lines.specs.declared.token.TokKind.TheVariants as kind
@@ -17,8 +17,9 @@ use Rattle.py_lines.specs.declared.mode.Spelling.TheVariants as spellings
 use Rattle.py_lines.specs.declared.mode.Mode.{Mode}
 use Rattle.py_lines.specs.declared.mode.Mode.TheVariants as modes
 use Rattle.py_lines.specs.declared.scan.Scan.{Scan}
-use Rattle.py_lines.specs.Private.Machine.{fresh, class_of, closed, token_of, Holds, IsSound, brackets_of}
-use Rattle.py_lines.specs.Private.Scan.{kind_with, tokens_with, kind_closed, indent_closed, holds_nothing, is_margin, Closes, ClosesAndAdds, Tallies, freed, with_character}
+use Rattle.py_lines.specs.Private.Machine.{Scanned, fresh, class_of, closed, token_of, brackets_of}
+use Rattle.py_lines.specs.Private.ScanMachine.{HoldsOpen, IsScanSound}
+use Rattle.py_lines.specs.Private.Scan.{kind_with, tokens_with, kind_closed, indent_closed, holds_nothing, is_margin, Closes, ClosesAndAdds, FieldsFollow, Tallies, freed, with_character}
 use Rattle.py_lines.proofs.Pieces.PieceLists.{piece, spelled-push}
 use Rattle.py_lines.proofs.Machine.WordTokens.{word_token}
 use Rattle.py_lines.proofs.Machine.PieceSteps.{scanned}
@@ -27,7 +28,7 @@ use Rattle.py_lines.proofs.LogicalLines.Cuts.{byte_len-append}
 use Rattle.py_lines.proofs.LogicalLines.NextLine.{line_ends-spelled, tokens_from-append}
 
 -- the open piece's token is that of its class
-pub class_token : (m : Mode) (done : List Piece) (held : List ℕ) (start stop line : ℕ) → Holds m done held → (m ≡ modes.Free → ⊥) → tokens_of_piece start stop line (class_of m) held ≡ tokens_with (token_of m) start stop line
+pub class_token : (m : Mode) (done : List Piece) (held : List ℕ) (start stop line : ℕ) → HoldsOpen m done held → (m ≡ modes.Free → ⊥) → tokens_of_piece start stop line (class_of m) held ≡ tokens_with (token_of m) start stop line
 class_token modes.Free done held start stop line holds other = absurd (other refl)
 class_token (modes.Word s) done held start stop line (first, others, is, opens, run, so) other =
     ap (λ (b : Bool). record { kind = cond b kind.Number kind.Name; start = start; stop = stop; line = line } ∷ []) (ap (begins is_digit) is)
@@ -93,6 +94,8 @@ kinds a b (modes.Word spellings.R) other = code_kind a (b || false) ∙ sym (to_
 kinds a b (modes.Word spellings.B) other = code_kind a (b || false) ∙ sym (to_code (kind_by a b) kind.Name (λ e. cc))
 kinds a b (modes.Word spellings.F) other = code_kind a (b || false) ∙ sym (to_code (kind_by a b) kind.Name (λ e. cc))
 kinds a b (modes.Word spellings.Fr) other = code_kind a (b || false) ∙ sym (to_code (kind_by a b) kind.Name (λ e. cc))
+kinds a b (modes.Word spellings.T) other = code_kind a (b || false) ∙ sym (to_code (kind_by a b) kind.Name (λ e. cc))
+kinds a b (modes.Word spellings.Tr) other = code_kind a (b || false) ∙ sym (to_code (kind_by a b) kind.Name (λ e. cc))
 kinds a b (modes.Word spellings.Prefix) other = code_kind a (b || false) ∙ sym (to_code (kind_by a b) kind.Name (λ e. cc))
 kinds a b (modes.Word spellings.Name) other = code_kind a (b || false) ∙ sym (to_code (kind_by a b) kind.Name (λ e. cc))
 kinds a b modes.Comment other = comment_kind a b
@@ -149,8 +152,27 @@ tokens_push line done p rest fit =
     tokens_from-append 0 line done (p ∷ [])
     ∙ rw (zero-add (byte_len (spelled done)), sym (line_ends-spelled done rest fit)) (ap (λ l. tokens_from 0 line done ++ l) (append-nil _))
 
+-- what the scan counts, where the machine with fields may be elsewhere
+pub record Counts (scan : Scan) (s : Scanned) : Type 0 where
+  pub mode : scan.piece.mode ≡ s.mode
+  pub start : scan.piece.start ≡ byte_len (spelled s.done)
+  pub stop : scan.stop ≡ byte_len (spelled s.done ++ s.held)
+  pub piece_line : scan.piece.line ≡ scan.line + line_ends (spelled s.done)
+  pub here : scan.count.line ≡ scan.line + line_ends (spelled s.done ++ s.held)
+  pub after : scan.count.after_return ≡ ends is_return (spelled s.done ++ s.held)
+  pub margin : scan.margin ≡ is_margin s.done
+  pub indent : scan.indent ≡ indent_of s.done
+  pub kind : scan.kind ≡ kind_of s.done
+  pub tokens : scan.tokens.items ≡ tokens_from 0 scan.line s.done
+
+pub counts : {scan : Scan} {s : Scanned} → Tallies scan s → Counts scan s
+counts t = record { mode = t.mode; start = t.start; stop = t.stop; piece_line = t.piece_line; here = t.here; after = t.after; margin = t.margin; indent = t.indent; kind = t.kind; tokens = t.tokens }
+
+pub tallies_of : {scan : Scan} {s : Scanned} → Counts scan s → FieldsFollow scan s.mode s.held → Tallies scan s
+tallies_of t fields = record { mode = t.mode; start = t.start; stop = t.stop; piece_line = t.piece_line; here = t.here; after = t.after; margin = t.margin; indent = t.indent; kind = t.kind; tokens = t.tokens; fields = fields }
+
 -- the scan follows where the open piece is closed, with the token of its class
-pub shut_as : (old new : Scan) (done : List Piece) (m : Mode) (held rest : List ℕ) → Closes old new → AreReadBefore done rest → Tallies old (scanned done m held) → ((start stop line : ℕ) → tokens_of_piece start stop line (class_of m) held ≡ tokens_with (token_of m) start stop line) → (m ≡ modes.Start → done ≡ []) → (m ≡ modes.Free → ⊥) → Tallies new (fresh (done ++ piece (class_of m) held ∷ []))
+pub shut_as : (old new : Scan) (done : List Piece) (m : Mode) (held rest : List ℕ) → Closes old new → AreReadBefore done rest → Counts old (scanned done m held) → ((start stop line : ℕ) → tokens_of_piece start stop line (class_of m) held ≡ tokens_with (token_of m) start stop line) → (m ≡ modes.Start → done ≡ []) → (m ≡ modes.Free → ⊥) → Tallies new (fresh (done ++ piece (class_of m) held ∷ []))
 shut_as old new done m held rest closes fit tallies token starts other =
     let spells = spelled-push done (class_of m) held in
     let whole : spelled done ++ held ≡ spelled (done ++ piece (class_of m) held ∷ []) ++ [] = sym (append-nil _ ∙ spells) in
@@ -168,6 +190,7 @@ shut_as old new done m held rest closes fit tallies token starts other =
       indent = rw (size, tallies.indent, tallies.mode, tallies.margin) (sym (indent_shut m done held other));
       kind = rw (tallies.kind, tallies.mode) (sym (kind_shut done m held other));
       tokens = closes.tokens ∙ rw (tallies.tokens, tallies.mode, tallies.start, tallies.stop, tallies.piece_line) (ap (λ l. tokens_from 0 old.line done ++ l) (sym (token _ _ _)) ∙ sym in_line);
+      fields = tt;
     })
 
 -- nothing is open
@@ -185,6 +208,7 @@ shut_nothing old new done m held closes tallies none nothing token same indents 
       indent = rw (tallies.indent, tallies.mode) (indents _ _ _);
       kind = rw (tallies.kind, tallies.mode) same;
       tokens = closes.tokens ∙ rw (tallies.mode, token) (append-nil _ ∙ tallies.tokens);
+      fields = tt;
     })
   where
     all_true : (b : Bool) → b && true ≡ b
@@ -192,10 +216,16 @@ shut_nothing old new done m held closes tallies none nothing token same indents 
     all_true false = refl
 
 -- the scan follows the machine where the open piece is closed
-pub closes_shut : (old new : Scan) (done : List Piece) (m : Mode) (held read : List ℕ) → Closes old new → IsSound (scanned done m held) read → Tallies old (scanned done m held) → Tallies new (fresh (closed m done held))
+pub closes_shut : (old new : Scan) (done : List Piece) (m : Mode) (held read : List ℕ) → Closes old new → IsScanSound (scanned done m held) read → Tallies old (scanned done m held) → Tallies new (fresh (closed m done held))
 closes_shut old new done modes.Start held read closes sound tallies = shut_nothing old new done modes.Start held closes tallies sound.holds.1 refl refl refl (λ a b c. refl)
 closes_shut old new done modes.Free held read closes sound tallies = shut_nothing old new done modes.Free held closes tallies sound.holds refl refl refl (λ a b c. refl)
-closes_shut old new done m held read closes sound tallies = shut_as old new done m held (held ++ []) closes (sound.fit []) tallies (λ start stop line. class_token m done held start stop line sound.holds (λ e. cc)) (λ e. absurd (cc)) (λ e. cc)
+closes_shut old new done m held read closes sound tallies = shut_as old new done m held (held ++ []) closes (sound.fit []) (counts tallies) (λ start stop line. class_token m done held start stop line sound.holds (λ e. cc)) (λ e. absurd (cc)) (λ e. cc)
+
+-- the closed pieces spell what is read
+pub closed_text : (m : Mode) (done : List Piece) (held : List ℕ) → HoldsOpen m done held → spelled (closed m done held) ≡ spelled done ++ held
+closed_text modes.Start done held holds = sym (append-nil (spelled done)) ∙ ap (λ t. spelled done ++ t) (sym holds.1)
+closed_text modes.Free done held holds = sym (append-nil (spelled done)) ∙ ap (λ t. spelled done ++ t) (sym holds)
+closed_text m done held holds = spelled-push done (class_of m) held
 
 -- a line end that is one character stands after closed pieces
 pub feed_adds : (old mid new : Scan) (c : ℕ) → Closes old mid → new ≡ freed (record (with_character mid c) { margin = false }) → ClosesAndAdds old c None new

@@ -1,42 +1,40 @@
 -- Characters that leave the open piece as it is are held in one step.
-use Rattle.std.proofs.Common.{◌≡◌, ℕ, ◌+◌, ◌<◌, ◌≤◌, ◌⊎◌, inl, inr, Bool, true, false, leb, not, ◌||◌, ◌&&◌, ◌==◌, Some, List, [], ◌∷◌, ◌++◌, length, take, drop, slice_index, refl, sym, ap, ◌∙◌, subst, append_assoc, append-nil, arith, ⊎_elim, take-append-drop, length-append, lit<}
-use Rattle.std.specs.Prelude.{encode_utf8_all, encode_utf8}
-use Rattle.std.specs.Str.{all_scalars, IsUtf8}
+use Rattle.std.proofs.Common.{◌≡◌, ℕ, ◌+◌, ◌<◌, ◌≤◌, ◌⊎◌, inl, inr, Bool, true, false, leb, not, ◌||◌, ◌&&◌, ◌==◌, Some, List, [], ◌∷◌, ◌++◌, length, take, drop, slice_index, refl, sym, ap, ◌∙◌, subst, append_assoc, append-nil, arith, ⊎_elim, take-append-drop, length-append, lit<, Ok}
+use Rattle.std.specs.Prelude.{encode_utf8_all, encode_utf8, codes, nat_le, if◌then◌else◌}
+use Rattle.std.specs.Str.{IsUtf8}
 use Rattle.std.specs.Char.{IsScalar}
 use Rattle.std.specs.List.{list_all}
 use Rattle.std.proofs.lemmas.Bool.{and_parts, and_from, cases_lt, both_ways, eqb-true, false_from_ne_true, or_parts, leb-false}
 use Rattle.std.proofs.lemmas.List.{get_or-append-add, length-take-le, get_or-take}
 use Rattle.std.proofs.lemmas.Bool.Decides.{nat_tests}
 use Rattle.std.proofs.lemmas.Str.{encodes-append, length-encode, len_utf8_bounds, char_from_byte, byte_from_char}
-use Rattle.py_lines.specs.Character.{is_space, is_word_character, is_break, is_backslash, is_return, is_line_feed}
-use Rattle.py_lines.specs.Piece.{ends, spelled}
+use Rattle.py_lines.specs.Character.{is_space, is_word_character, is_break, is_backslash, is_return, is_line_feed, is_one_of, is_word_start, is_digit, is_quote}
+use Rattle.py_lines.specs.Piece.{ends, spelled, Piece}
 use Rattle.py_lines.specs.LogicalLine.{byte_len, line_ends}
 use Rattle.py_lines.specs.declared.mode.Spelling.TheVariants as spellings
 use Rattle.py_lines.specs.declared.mode.Mode.{Mode}
 use Rattle.py_lines.specs.declared.mode.Mode.TheVariants as modes
 use Rattle.py_lines.specs.declared.mode.Move.TheVariants as moves
 use Rattle.py_lines.specs.declared.scan.Scan.{Scan}
-use Rattle.py_lines.specs.Piece.{Piece}
-use Rattle.py_lines.specs.Private.Machine.{Scanned, steps_from, move_of, short_move, long_move, spelling_with, IsFull, Holds as HoldsOpen}
-use Rattle.py_lines.specs.Private.Scan.{Tallies, IsStacked, IsUnderWay, line_start, stack_of, counts_after}
-use Rattle.py_lines.specs.Private.Run.{is_ascii_word, is_body_byte, stays, Holds, with_bytes, HasAsciiQuote, Reached}
+use Rattle.py_lines.specs.Private.Machine.{Scanned, move_of, short_move, long_move, spelling_with, IsFull}
+use Rattle.py_lines.specs.Private.ScanMachine.{HoldsOpen, IsScanSound, fielded_move, meet_of, move_at, move_in, scan_steps, string_state}
+use Rattle.py_lines.specs.Private.Scan.{FieldsFollow, Tallies, IsStacked, IsUnderWay, line_start, stack_of, counts_after, Takes}
+use Rattle.py_lines.specs.Balance.{depth_through}
+use Rattle.py_lines.specs.Private.FieldMachine.{FieldScanned, field_state, field_moved}
+use Rattle.py_lines.specs.Private.FieldScan.{HoldsField, StaysIn, with_text}
+use Rattle.py_lines.specs.Private.Run.{is_ascii_word, is_body_byte, stays, Stay, HeldIn, Holds, with_bytes, HasAsciiQuote, Reached}
 use Rattle.unicode_ident.proofs.IdentLemmas.{is_xid_continue-ascii, is_xid_start-ascii}
-use Rattle.py_lines.specs.Character.{is_one_of}
-use Rattle.std.specs.Prelude.{codes, nat_le}
-use Rattle.py_lines.specs.Character.{is_word_start, is_digit}
 use Rattle.py_lines.proofs.Text.CharacterTests.{none_of, excluded}
-use Rattle.py_lines.specs.Character.{is_quote}
-use Rattle.std.specs.Prelude.{if◌then◌else◌}
 use Rattle.py_lines.proofs.LineScan.Increments.{line_ends-step}
 use Rattle.py_lines.proofs.LineScan.LineCount.{ends-last}
+use Rattle.py_lines.proofs.LineScan.PieceEnd.{Counts, tallies_of}
+use Rattle.py_lines.proofs.LineScan.StringSteps.{in_string, string_grows, string_more}
 use Rattle.py_lines.proofs.LineScan.LineSteps.{sound_steps, under_way}
 use Rattle.py_lines.specs.declared.scan.Progress.TheVariants as progress
-use Rattle.py_lines.specs.Private.Scan.{Takes}
-use Rattle.std.proofs.Common.{Ok}
 use Rattle.py_lines.proofs.Text.Utf8Prefixes.{all_scalars-append, scalars_more, spell_more}
-use Rattle.py_lines.specs.Private.Machine.{IsSound}
 use Rattle.py_lines.proofs.LogicalLines.Cuts.{byte_len-append}
-use Rattle.py_lines.proofs.Machine.PieceSteps.{scanned, steps_from-append, grown, longer, all_held}
+use Rattle.py_lines.proofs.Machine.PieceSteps.{scanned, longer, all_held}
+use Rattle.py_lines.proofs.ScanMachine.Steps.{scan_steps-append, grown}
 
 -- a byte of words continues a word
 pub word_byte_low : (c : ℕ) → is_ascii_word c ≡ true → c < 128
@@ -85,15 +83,15 @@ no_longer true h = sym h
 no_longer false h = refl
 
 -- what stays grows the open piece, in its mode
-pub stays-grows : (m : Mode) (c : ℕ) → stays m c ≡ true → move_of m c ≡ moves.Grows m
-unfolding move_of short_move long_move spelling_with
-stays-grows modes.Space c h = rw h refl
-stays-grows (modes.Word spellings.Number) c h = rw (word_byte_continues c (word_byte_low c h) ∙ h) refl
-stays-grows (modes.Word spellings.Name) c h = rw (word_byte_continues c (word_byte_low c h) ∙ h) refl
-stays-grows modes.Comment c h = rw (no_longer (is_break c) h) refl
-stays-grows (modes.Inside q) c h = let parts = body_parts q c h in rw (parts.0, parts.1, parts.2) refl
-stays-grows (modes.Long q) c h = let parts = body_parts q c h in rw (parts.0, parts.1) refl
-stays-grows m c h = absurd (both_ways _ refl h)
+pub stays-grows : (m : Mode) (depth : ℕ) (held : List ℕ) (c : ℕ) → stays m c ≡ true → move_in m depth held c ≡ moves.Grows m
+unfolding meet_of move_of short_move long_move spelling_with
+stays-grows modes.Space depth held c h = rw h refl
+stays-grows (modes.Word spellings.Number) depth held c h = rw (word_byte_continues c (word_byte_low c h) ∙ h) refl
+stays-grows (modes.Word spellings.Name) depth held c h = rw (word_byte_continues c (word_byte_low c h) ∙ h) refl
+stays-grows modes.Comment depth held c h = rw (no_longer (is_break c) h) refl
+stays-grows (modes.Inside q) depth held c h = let parts = body_parts q c h in rw (parts.0, parts.1, parts.2) refl
+stays-grows (modes.Long q) depth held c h = let parts = body_parts q c h in rw (parts.0, parts.1) refl
+stays-grows m depth held c h = absurd (both_ways _ refl h)
 
 -- and ends no line
 pub stays-no_break : (m : Mode) (c : ℕ) → stays m c ≡ true → is_break c ≡ false
@@ -106,11 +104,11 @@ stays-no_break (modes.Long q) c h = (body_parts q c h).2
 stays-no_break m c h = absurd (both_ways _ refl h)
 
 -- the machine holds them
-pub held_run : (done : List Piece) (m : Mode) (held run : List ℕ) → list_all (stays m) run ≡ true → steps_from (Some (scanned done m held)) run ≡ Some (scanned done m (held ++ run))
+pub held_run : (done : List Piece) (m : Mode) (held run : List ℕ) → list_all (stays m) run ≡ true → scan_steps (Some (scanned done m held)) run ≡ Some (scanned done m (held ++ run))
 held_run done m held [] all = all_held done m held
 held_run done m held (c ∷ cs) all =
     let parts = and_parts (stays m c) (list_all (stays m) cs) all in
-    grown done m m held c cs (stays-grows m c parts.0) ∙ held_run done m (held ++ c ∷ []) cs parts.1 ∙ longer done m held c cs
+    grown done m m held c cs (stays-grows m (depth_through 0 done) held c parts.0) ∙ held_run done m (held ++ c ∷ []) cs parts.1 ∙ longer done m held c cs
 
 -- the bytes of characters stay where a quote is one byte, and then the characters do
 pub space_low : (c : ℕ) → is_space c ≡ true → c < 128
@@ -163,30 +161,37 @@ unfolding is_quote
 quote_ascii q h = leb-false 128 q (none_of (λ d. leb 128 d) (codes "'\"") q refl h)
 
 pub sound_quote : (m : Mode) (done : List Piece) (held : List ℕ) → HoldsOpen m done held → HasAsciiQuote m
-sound_quote (modes.Inside q) done held holds = quote_ascii q holds.all.opens
-sound_quote (modes.Long q) done held holds = quote_ascii q holds.opens
+sound_quote (modes.Inside q) done held holds = quote_ascii q holds.0.all.opens
+sound_quote (modes.Long q) done held holds = quote_ascii q holds.0.opens
 sound_quote m done held holds = tt
 
 -- what the first n bytes hold
-pub record HeldIn (m : Mode) (text : List ℕ) (n : ℕ) : Type 0 where
-  pub run : List ℕ
-  pub spell : encode_utf8_all run ++ drop n text ≡ text
-  pub scalars : all_scalars run ≡ true
-  pub size : byte_len run ≡ n
-  pub stay : list_all (stays m) run ≡ true
-
-pub held_in : (m : Mode) (text : List ℕ) (n : ℕ) → (prefix : IsUtf8 (take n text)) → HasAsciiQuote m → n ≤ length text → ((i : ℕ) → i < n → stays m (slice_index text i) ≡ true) → HeldIn m text n
-held_in m text n prefix quote within each =
+pub held_in : (scan : Scan) (text : List ℕ) (n : ℕ) → (prefix : IsUtf8 (take n text)) → HasAsciiQuote scan.piece.mode → (scan.piece.mode ≡ modes.Fielded → ⊥) → n ≤ length text → ((i : ℕ) → i < n → stays scan.piece.mode (slice_index text i) ≡ true) → HeldIn scan text n
+held_in scan text n prefix quote other within each =
+    let m = scan.piece.mode in
     let size : length (take n text) ≡ n = length-take-le n text within in
     record {
       run = prefix.0;
       spell = ap (λ t. t ++ drop n text) prefix.1.1 ∙ take-append-drop n text;
       scalars = prefix.1.0;
       size = ap length prefix.1.1 ∙ size;
-      stay = characters_stay m prefix.0 quote (λ i less.
+      stay = stay_in scan m prefix.0 other (characters_stay m prefix.0 quote (λ i less.
           let short : i < n = omega (arith, less, ap length prefix.1.1, size) in
-          subst (λ (t : List ℕ). stays m (slice_index t i) ≡ true) (sym prefix.1.1) (subst (λ (b : ℕ). stays m b ≡ true) (sym (get_or-take n text i 0 short)) (each i short)));
+          subst (λ (t : List ℕ). stays m (slice_index t i) ≡ true) (sym prefix.1.1) (subst (λ (b : ℕ). stays m b ≡ true) (sym (get_or-take n text i 0 short)) (each i short))));
     }
+  where
+    stay_in : (scan : Scan) (m : Mode) (run : List ℕ) → (m ≡ modes.Fielded → ⊥) → list_all (stays m) run ≡ true → Stay m scan run
+    stay_in scan modes.Fielded run other all = absurd (other refl)
+    stay_in scan m run other all = all
+
+pub string_held : (scan : Scan) (text : List ℕ) (n : ℕ) → scan.piece.mode ≡ modes.Fielded → HoldsField scan.fields text n → HeldIn scan text n
+string_held scan text n here held = record {
+  run = held.run;
+  spell = held.spell;
+  scalars = held.scalars;
+  size = held.size;
+  stay = subst (λ (m : Mode). Stay m scan held.run) (sym here) (λ t follows inside. held.stay scan.piece.start t follows inside);
+}
 
 full_from : (run : List ℕ) → 0 < byte_len run → IsFull run
 full_from [] some = absurd (omega (arith, some))
@@ -197,7 +202,7 @@ none_from [] none = refl
 none_from (c ∷ cs) none = absurd (omega (arith, none, length-append (encode_utf8 c) (encode_utf8_all cs), length-encode c, len_utf8_bounds c))
 
 -- a run was read, or none
-pub holds_run : (old new : Scan) (text : List ℕ) (n : ℕ) → HeldIn old.piece.mode text n → ((0 < n) × (new ≡ with_bytes old n)) ⊎ ((n ≤ 0) × (new ≡ old)) → Holds old text (drop n text) new
+pub holds_run : (old new : Scan) (text : List ℕ) (n : ℕ) → HeldIn old text n → ((0 < n) × (new ≡ with_bytes old n)) ⊎ ((n ≤ 0) × (new ≡ old)) → Holds old text (drop n text) new
 holds_run old new text n held how = record {
   run = held.run;
   spell = held.spell;
@@ -241,8 +246,8 @@ all_no_break m (c ∷ cs) all =
     and_from (not (is_break c)) (list_all (λ d. not (is_break d)) cs) (ap not (stays-no_break m c parts.0)) (all_no_break m cs parts.1)
 
 -- the scan keeps count over a run
-pub tallies_run : (old : Scan) (s : Scanned) (run : List ℕ) → list_all (λ d. not (is_break d)) run ≡ true → IsFull run → Tallies old s → Tallies (with_bytes old (byte_len run)) (scanned s.done s.mode (s.held ++ run))
-tallies_run old s run all full tallies =
+pub counts_run : (old : Scan) (s : Scanned) (run : List ℕ) → list_all (λ d. not (is_break d)) run ≡ true → IsFull run → Tallies old s → Counts (with_bytes old (byte_len run)) (scanned s.done s.mode (s.held ++ run))
+counts_run old s run all full tallies =
     let longer : (spelled s.done ++ s.held) ++ run ≡ spelled s.done ++ (s.held ++ run) = append_assoc (spelled s.done) s.held run in
     record {
       mode = tallies.mode;
@@ -257,39 +262,71 @@ tallies_run old s run all full tallies =
       tokens = tallies.tokens;
     }
 
+-- a string with fields over a run that leaves it as it is
+pub string_run : (done : List Piece) (held run : List ℕ) (t : FieldScanned) → string_state held ≡ Some t → StaysIn t run → (scan_steps (Some (scanned done modes.Fielded held)) run ≡ Some (scanned done modes.Fielded (held ++ run))) × (string_state (held ++ run) ≡ Some (with_text t run))
+string_run done held [] t is stay = (all_held done modes.Fielded held, ap string_state (append-nil held) ∙ is ∙ ap (λ u. Some (field_state t.outer t.done t.openers t.mode u)) (sym (append-nil t.held)))
+string_run done held (c ∷ cs) t is (stay, none, others) =
+    let next = with_text t (c ∷ []) in
+    let more : string_state (held ++ c ∷ []) ≡ Some next = string_more held c t is ∙ ap (field_moved t c) stay in
+    let later = string_run done (held ++ c ∷ []) cs next more others in
+    let move : move_at (scanned done modes.Fielded held) c ≡ moves.Grows modes.Fielded = ap (λ o. fielded_move (depth_through 0 done) o c) is ∙ string_grows (depth_through 0 done) t t.mode c stay in (
+      grown done modes.Fielded modes.Fielded held c cs move ∙ later.0 ∙ longer done modes.Fielded held c cs,
+      ap string_state (sym (append_assoc held (c ∷ []) cs)) ∙ later.1 ∙ ap (λ u. Some (field_state t.outer t.done t.openers t.mode u)) (append_assoc t.held (c ∷ []) cs),
+    )
+
+string_no_break : (t : FieldScanned) (run : List ℕ) → StaysIn t run → list_all (λ d. not (is_break d)) run ≡ true
+string_no_break t [] stay = refl
+string_no_break t (c ∷ cs) (stay, none, others) = and_from (not (is_break c)) (list_all (λ d. not (is_break d)) cs) (ap not none) (string_no_break (with_text t (c ∷ [])) cs others)
+
+-- what a run comes to, in each mode
+record RunsOn (old : Scan) (s : Scanned) (run : List ℕ) : Type 0 where
+  steps : scan_steps (Some s) run ≡ Some (scanned s.done s.mode (s.held ++ run))
+  none : list_all (λ d. not (is_break d)) run ≡ true
+  fields : FieldsFollow (with_bytes old (byte_len run)) s.mode (s.held ++ run)
+
+runs_on : (old : Scan) (done : List Piece) (m : Mode) (held read run : List ℕ) → IsScanSound (scanned done m held) read → Tallies old (scanned done m held) → Stay m old run → RunsOn old (scanned done m held) run
+runs_on old done modes.Fielded held read run sound tallies stay =
+    let i = in_string old done held read sound tallies in
+    let stays = stay i.state i.stands.follows i.stands.inside in
+    let ran = string_run done held run i.state i.steps stays.0 in
+    record { steps = ran.0; none = string_no_break i.state run stays.0; fields = (with_text i.state run, ran.1, stays.1) }
+runs_on old done m held read run sound tallies stay = record { steps = held_run done m held run stay; none = all_no_break m run stay; fields = tt }
+
 -- and follows the machine
-pub way_held : (m : Mode) (old new : Scan) (read text rest : List ℕ) (way : IsUnderWay m old read) (holds : Holds old text rest new) → IsUnderWay m new (read ++ holds.run)
-way_held m old new read text rest way holds =
+pub way_held : (m : Mode) (old new : Scan) (read text rest : List ℕ) (way : IsUnderWay m old read) → IsScanSound (line_start m) [] → (holds : Holds old text rest new) → IsUnderWay m new (read ++ holds.run)
+way_held m old new read text rest way start holds =
     ⊎_elim
     (λ none. record {
       state = way.state;
-      steps = ap (λ t. steps_from (Some (line_start m)) (read ++ t)) none.0 ∙ ap (steps_from (Some (line_start m))) (append-nil read) ∙ way.steps;
+      steps = ap (λ t. scan_steps (Some (line_start m)) (read ++ t)) none.0 ∙ ap (scan_steps (Some (line_start m))) (append-nil read) ∙ way.steps;
       tallies = subst (λ (n : Scan). Tallies n way.state) (sym none.1) way.tallies;
       stacked = subst (λ (n : Scan). IsStacked n way.state) (sym none.1) way.stacked;
       one_line = way.one_line;
     })
     (λ some.
-    let all : list_all (stays way.state.mode) holds.run ≡ true = subst (λ (n : Mode). list_all (stays n) holds.run ≡ true) way.tallies.mode holds.stay in
+    let s = way.state in
+    let stay : Stay s.mode old holds.run = subst (λ (n : Mode). Stay n old holds.run) way.tallies.mode holds.stay in
+    let on = runs_on old s.done s.mode s.held read holds.run (sound_steps m read s start way.steps) way.tallies stay in
     record {
-      state = scanned way.state.done way.state.mode (way.state.held ++ holds.run);
-      steps = steps_from-append (Some (line_start m)) read holds.run ∙ ap (λ o. steps_from o holds.run) way.steps ∙ held_run way.state.done way.state.mode way.state.held holds.run all;
-      tallies = subst (λ (n : Scan). Tallies n (scanned way.state.done way.state.mode (way.state.held ++ holds.run))) (sym some.1) (tallies_run old way.state holds.run (all_no_break way.state.mode holds.run all) some.0 way.tallies);
+      state = scanned s.done s.mode (s.held ++ holds.run);
+      steps = scan_steps-append (Some (line_start m)) read holds.run ∙ ap (λ o. scan_steps o holds.run) way.steps ∙ on.steps;
+      tallies = subst (λ (n : Scan). Tallies n (scanned s.done s.mode (s.held ++ holds.run))) (sym some.1) (tallies_of (counts_run old s holds.run on.none some.0 way.tallies) on.fields);
       stacked = way.stacked ∙ ap (λ (n : Scan). Some (stack_of n.brackets)) (sym some.1);
       one_line = way.one_line;
     }) holds.reads
 
 -- over a run too
-pub reached_run : (m : Mode) (at : ℕ) (text : List ℕ) (old new : Scan) (mid rest : List ℕ) → Reached m at text old mid → Holds old mid rest new → Reached m at text new rest
-reached_run m at text old new mid rest r holds = record {
+pub reached_run : (m : Mode) (at : ℕ) (text : List ℕ) (old new : Scan) (mid rest : List ℕ) → Reached m at text old mid → IsScanSound (line_start m) [] → Holds old mid rest new → Reached m at text new rest
+reached_run m at text old new mid rest r start holds = record {
   read = r.read ++ holds.run;
-  way = way_held m old new r.read mid rest r.way holds;
+  way = way_held m old new r.read mid rest r.way start holds;
   spell = ap (λ t. t ++ rest) (encodes-append r.read holds.run) ∙ append_assoc (encode_utf8_all r.read) (encode_utf8_all holds.run) rest ∙ ap (λ t. encode_utf8_all r.read ++ t) holds.spell ∙ r.spell;
   scalars = all_scalars-append r.read holds.run r.scalars holds.scalars;
   line = ⊎_elim (λ none. ap (λ (s : Scan). s.line) none.1) (λ some. ap (λ (s : Scan). s.line) some.1) holds.reads ∙ r.line;
 }
 
 -- the mode's quote is one byte on the way
-pub way_quote : (m : Mode) (scan : Scan) (read : List ℕ) (way : IsUnderWay m scan read) → IsSound (line_start m) [] → HasAsciiQuote scan.piece.mode
+pub way_quote : (m : Mode) (scan : Scan) (read : List ℕ) (way : IsUnderWay m scan read) → IsScanSound (line_start m) [] → HasAsciiQuote scan.piece.mode
 way_quote m scan read way start = subst HasAsciiQuote (sym way.tallies.mode) (sound_quote way.state.mode way.state.done way.state.held (sound_steps m read way.state start way.steps).holds)
 
 -- and over a character

@@ -29,18 +29,22 @@ use Rattle.py_lines.specs.declared.mode.Start.{Start}
 use Rattle.py_lines.specs.declared.mode.Start.TheVariants as starts
 use Rattle.py_lines.specs.declared.scan.Progress.TheVariants as progress
 use Rattle.py_lines.specs.declared.scan.Scan.{Scan}
-use Rattle.py_lines.specs.Private.Machine.{fresh, closed, moved, started, steps_from, token_of, move_of, start_of, short_move, first_spelling, spelling_with, spelling_on, is_prefix_spelling, IsFull, IsSound, Bracket, brackets_after}
+use Rattle.py_lines.specs.Private.Machine.{fresh, closed, moved, started, token_of, start_of, short_move, first_spelling, spelling_with, spelling_on, IsFull, Bracket, brackets_after, move_of}
+use Rattle.py_lines.specs.Private.ScanMachine.{IsScanSound, meet_of, move_in, scan_steps}
+use Rattle.py_lines.specs.Balance.{depth_through}
 use Rattle.py_lines.specs.Private.Scan.{Closes, Meets, Begins, ClosesAndAdds, Tallies, line_start, stack_of, none_open, is_return_mode, indent_closed, with_brackets, tokens_with, kind_through, in_mode, counts_after, freed, closed_with, with_character}
 use Rattle.py_lines.specs.Private.Run.{IsRunOf, is_ascii_word, may_stand, follows, is_free, word_spelling, word_mode, space_mode, opened, with_bytes, AddsToken, TakesRun, TakesOperator, Reached, ReachedShut, is_apart, may_begin, is_text_byte, is_body_byte, TakesString}
 use Rattle.py_lines.proofs.Text.CharacterTests.{operator_ascii, none_of, the_one}
-use Rattle.py_lines.proofs.Machine.PieceSteps.{scanned, steps_from-append, steps_word, steps_space, grown}
+use Rattle.py_lines.proofs.Machine.PieceSteps.{scanned}
+use Rattle.py_lines.proofs.ScanMachine.Steps.{scan_steps-append, steps_word, steps_space, grown, breaks_in}
 use Rattle.py_lines.proofs.Machine.Starts.{start-word, start-space, start-operator, start-quote}
 use Rattle.py_lines.proofs.Machine.WordTokens.{word_token}
 use Rattle.py_lines.proofs.Machine.LiveTexts.{stack_closed}
-use Rattle.py_lines.proofs.LineScan.PieceEnd.{closes_shut, to_code}
+use Rattle.py_lines.proofs.LineScan.PieceEnd.{closes_shut, tallies_of, to_code}
+use Rattle.py_lines.proofs.LineScan.StringSteps.{no_fields}
 use Rattle.py_lines.proofs.LineScan.NextCharacter.{closed_one_line, takes_broken, takes_closed, tallies_in}
 use Rattle.py_lines.proofs.LineScan.LineSteps.{sound_steps}
-use Rattle.py_lines.proofs.LineScan.Runs.{counts_none, break-return, stays-no_break, word_byte_low, word_byte_continues, word_byte_starts, space_low, break_low, quote_ascii, body_parts, held_run, tallies_run, reached_character}
+use Rattle.py_lines.proofs.LineScan.Runs.{counts_none, break-return, stays-no_break, word_byte_low, word_byte_continues, word_byte_starts, space_low, break_low, quote_ascii, body_parts, held_run, counts_run, reached_character}
 
 -- a run of bytes as a list
 pub record RunOf (passes : ℕ → Bool) (bytes : List ℕ) (len : ℕ) : Type 0 where
@@ -164,9 +168,9 @@ low_encodes passes (c ∷ cs) low all =
 abbrev pub settled : Scan → Scan
 settled old = record old { piece = record old.piece { start = old.stop; line = old.count.line } }
 
-pub free_breaks : (m : Mode) (c : ℕ) → m ≡ modes.Free → move_of m c ≡ moves.Breaks
-unfolding move_of
-free_breaks m c is = ap (λ n. move_of n c) is
+pub free_breaks : (m : Mode) (c : ℕ) → m ≡ modes.Free → meet_of m c ≡ moves.Breaks
+unfolding meet_of move_of
+free_breaks m c is = ap (λ n. meet_of n c) is
 
 pub settles : (old : Scan) → old.piece.mode ≡ modes.Free → Closes old (settled old)
 settles old free =
@@ -184,7 +188,7 @@ pub record MeetsPiece (m : Mode) (at : ℕ) (text : List ℕ) (scan : Scan) (c :
   pub unshut : Scan
   pub reached : Reached m at text unshut (c ∷ rest)
   pub closes : Closes unshut (settled scan)
-  pub breaks : move_of unshut.piece.mode c ≡ moves.Breaks
+  pub breaks : meet_of unshut.piece.mode c ≡ moves.Breaks
   pub unreturned : is_return_mode unshut.piece.mode ≡ false
 
 pub meets : (m : Mode) (at : ℕ) (text : List ℕ) (scan : Scan) (c : ℕ) (rest : List ℕ) → scan.piece.mode ≡ modes.Free → ReachedShut m at text scan (c ∷ rest) → MeetsPiece m at text scan c rest
@@ -212,27 +216,27 @@ list_all_more p q each (d ∷ ds) all =
     and_from (q d) (list_all q ds) (each d parts.0) (list_all_more p q each ds parts.1)
 
 -- a run opens a piece after closed ones
-pub opens_reached : (m : Mode) (at : ℕ) (text : List ℕ) (scan : Scan) (c : ℕ) (cs after : List ℕ) (first last : Mode) → MeetsPiece m at text scan c (cs ++ after) → IsSound (line_start m) [] → start_of c ≡ starts.Open first → ((done : List Piece) → steps_from (Some (scanned done first (c ∷ []))) cs ≡ Some (scanned done last (c ∷ cs))) → list_all (λ d. not (is_break d)) (c ∷ cs) ≡ true → (encode_utf8_all (c ∷ cs) ≡ c ∷ cs) × (all_scalars (c ∷ cs) ≡ true) → Reached m at text (opened scan last (length (c ∷ cs))) after
-opens_reached m at text scan c cs after first last meet start opens steps all low =
+pub opens_reached : (m : Mode) (at : ℕ) (text : List ℕ) (scan : Scan) (c : ℕ) (cs after : List ℕ) (first last : Mode) → MeetsPiece m at text scan c (cs ++ after) → IsScanSound (line_start m) [] → start_of c ≡ starts.Open first → ((done : List Piece) → scan_steps (Some (scanned done first (c ∷ []))) cs ≡ Some (scanned done last (c ∷ cs))) → (last ≡ modes.Fielded → ⊥) → list_all (λ d. not (is_break d)) (c ∷ cs) ≡ true → (encode_utf8_all (c ∷ cs) ≡ c ∷ cs) × (all_scalars (c ∷ cs) ≡ true) → Reached m at text (opened scan last (length (c ∷ cs))) after
+opens_reached m at text scan c cs after first last meet start opens steps plain all low =
     let way = meet.reached.way in
     let s = way.state in
     let read = meet.reached.read in
     let sound = sound_steps m read s start way.steps in
     let pieces = closed s.mode s.done s.held in
-    let breaks : move_of s.mode c ≡ moves.Breaks = ap (λ n. move_of n c) (sym way.tallies.mode) ∙ meet.breaks in
+    let breaks : meet_of s.mode c ≡ moves.Breaks = ap (λ n. meet_of n c) (sym way.tallies.mode) ∙ meet.breaks in
     let shut : Tallies (settled scan) (fresh pieces) = closes_shut meet.unshut (settled scan) s.done s.mode s.held read meet.closes sound way.tallies in
     let size : byte_len (c ∷ cs) ≡ length (c ∷ cs) = ap length low.0 in
     let read_all : Tallies (with_bytes (settled scan) (length (c ∷ cs))) (scanned pieces modes.Free (c ∷ cs))
-    = subst (λ (n : ℕ). Tallies (with_bytes (settled scan) n) (scanned pieces modes.Free (c ∷ cs))) size (tallies_run (settled scan) (fresh pieces) (c ∷ cs) all tt shut) in
-    let stepped : steps_from (Some (line_start m)) (read ++ c ∷ cs) ≡ Some (scanned pieces last (c ∷ cs))
-    = steps_from-append (Some (line_start m)) read (c ∷ cs) ∙ ap (λ o. steps_from o (c ∷ cs)) way.steps
-    ∙ ap (λ v. steps_from (moved s c v) cs) breaks ∙ ap (λ st. steps_from (started pieces c st) cs) opens ∙ steps pieces in
+    = subst (λ (n : ℕ). Tallies (with_bytes (settled scan) n) (scanned pieces modes.Free (c ∷ cs))) size (tallies_of (counts_run (settled scan) (fresh pieces) (c ∷ cs) all tt shut) tt) in
+    let stepped : scan_steps (Some (line_start m)) (read ++ c ∷ cs) ≡ Some (scanned pieces last (c ∷ cs))
+    = scan_steps-append (Some (line_start m)) read (c ∷ cs) ∙ ap (λ o. scan_steps o (c ∷ cs)) way.steps
+    ∙ ap (λ v. scan_steps (moved s c v) cs) (breaks_in s.mode (depth_through 0 s.done) s.held c breaks) ∙ ap (λ st. scan_steps (started pieces c st) cs) opens ∙ steps pieces in
     record {
       read = read ++ c ∷ cs;
       way = record {
         state = scanned pieces last (c ∷ cs);
         steps = stepped;
-        tallies = tallies_in (with_bytes (settled scan) (length (c ∷ cs))) (scanned pieces modes.Free (c ∷ cs)) last last scan.brackets refl read_all;
+        tallies = tallies_in (with_bytes (settled scan) (length (c ∷ cs))) (scanned pieces modes.Free (c ∷ cs)) last last scan.brackets refl read_all (no_fields (with_bytes (settled scan) (length (c ∷ cs))) last (c ∷ cs) plain);
         stacked = stack_closed s.mode s.done s.held (stack_of meet.unshut.brackets) way.stacked ∙ ap (λ (x : Scan). Some (stack_of x.brackets)) (sym meet.closes.same);
         one_line = closed_one_line s.mode s.done s.held (stack_of meet.unshut.brackets) way.stacked way.one_line (λ is. absurd (both_ways _ meet.unreturned (ap is_return_mode (way.tallies.mode ∙ is))));
       };
@@ -246,10 +250,10 @@ begins_wider p q each [] h = absurd (both_ways _ refl h)
 begins_wider p q each (c ∷ cs) h = each c h
 
 -- and is closed where what follows shows its end
-run_reached : (passes : ℕ → Bool) (next : List Bracket → ℕ → Bool) (wider : (st : List Bracket) (d : ℕ) → next st d ≡ true → may_begin st d ≡ true) (mode_of : List ℕ → Mode) (low : (d : ℕ) → passes d ≡ true → d < 128) (whole : (d : ℕ) → passes d ≡ true → not (is_break d) ≡ true) (first : ℕ → Mode) (starts_as : (d : ℕ) → passes d ≡ true → start_of d ≡ starts.Open (first d)) (steps : (done : List Piece) (d : ℕ) (ds : List ℕ) → list_all passes ds ≡ true → steps_from (Some (scanned done (first d) (d ∷ []))) ds ≡ Some (scanned done (mode_of (d ∷ ds)) (d ∷ ds))) (stops : (run : List ℕ) (d : ℕ) (st : List Bracket) → passes d ≡ false → next st d ≡ true → move_of (mode_of run) d ≡ moves.Breaks) (unreturned : (run : List ℕ) → is_return_mode (mode_of run) ≡ false) (m : Mode) (at : ℕ) (text : List ℕ) (scan new : Scan) (c : ℕ) (cs after : List ℕ) → MeetsPiece m at text scan c (cs ++ after) → IsSound (line_start m) [] → list_all passes (c ∷ cs) ≡ true → begins passes after ≡ false → (new ≡ opened scan (mode_of (c ∷ cs)) (length (c ∷ cs))) ⊎ (Closes (opened scan (mode_of (c ∷ cs)) (length (c ∷ cs))) new × (begins (next (stack_of scan.brackets)) after ≡ true)) → ReachedShut m at text new after
-run_reached passes next wider mode_of low whole first starts_as steps stops unreturned m at text scan new c cs after meet start all ends how =
+run_reached : (passes : ℕ → Bool) (next : List Bracket → ℕ → Bool) (wider : (st : List Bracket) (d : ℕ) → next st d ≡ true → may_begin st d ≡ true) (mode_of : List ℕ → Mode) (low : (d : ℕ) → passes d ≡ true → d < 128) (whole : (d : ℕ) → passes d ≡ true → not (is_break d) ≡ true) (first : ℕ → Mode) (starts_as : (d : ℕ) → passes d ≡ true → start_of d ≡ starts.Open (first d)) (steps : (done : List Piece) (d : ℕ) (ds : List ℕ) → list_all passes ds ≡ true → scan_steps (Some (scanned done (first d) (d ∷ []))) ds ≡ Some (scanned done (mode_of (d ∷ ds)) (d ∷ ds))) (stops : (run : List ℕ) (d : ℕ) (st : List Bracket) → passes d ≡ false → next st d ≡ true → meet_of (mode_of run) d ≡ moves.Breaks) (unreturned : (run : List ℕ) → is_return_mode (mode_of run) ≡ false) (plain : (run : List ℕ) → mode_of run ≡ modes.Fielded → ⊥) (m : Mode) (at : ℕ) (text : List ℕ) (scan new : Scan) (c : ℕ) (cs after : List ℕ) → MeetsPiece m at text scan c (cs ++ after) → IsScanSound (line_start m) [] → list_all passes (c ∷ cs) ≡ true → begins passes after ≡ false → (new ≡ opened scan (mode_of (c ∷ cs)) (length (c ∷ cs))) ⊎ (Closes (opened scan (mode_of (c ∷ cs)) (length (c ∷ cs))) new × (begins (next (stack_of scan.brackets)) after ≡ true)) → ReachedShut m at text new after
+run_reached passes next wider mode_of low whole first starts_as steps stops unreturned plain m at text scan new c cs after meet start all ends how =
     let parts = and_parts (passes c) (list_all passes cs) all in
-    let reached = opens_reached m at text scan c cs after (first c) (mode_of (c ∷ cs)) meet start (starts_as c parts.0) (λ done. steps done c cs parts.1) (list_all_more passes (λ d. not (is_break d)) whole (c ∷ cs) all) (low_encodes passes (c ∷ cs) low all) in
+    let reached = opens_reached m at text scan c cs after (first c) (mode_of (c ∷ cs)) meet start (starts_as c parts.0) (λ done. steps done c cs parts.1) (plain (c ∷ cs)) (list_all_more passes (λ d. not (is_break d)) whole (c ∷ cs) all) (low_encodes passes (c ∷ cs) low all) in
     ⊎_elim
     (λ is. record { unshut = new; reached = subst (λ (s : Scan). Reached m at text s after) (sym is) reached; how = inl refl })
     (λ shut. record {
@@ -264,19 +268,19 @@ run_reached passes next wider mode_of low whole first starts_as steps stops unre
     }) how
 
 -- what such a run comes to
-abbrev EndsRun : (ℕ → Bool) → (List Bracket → ℕ → Bool) → Mode → Scan → Scan → List ℕ → ℕ → Type 0
-EndsRun passes next m scan new after len = (new ≡ opened scan m len) ⊎ (Closes (opened scan m len) new × (begins (next (stack_of scan.brackets)) after ≡ true))
+abbrev EndsPieceRun : (ℕ → Bool) → (List Bracket → ℕ → Bool) → Mode → Scan → Scan → List ℕ → ℕ → Type 0
+EndsPieceRun passes next m scan new after len = (new ≡ opened scan m len) ⊎ (Closes (opened scan m len) new × (begins (next (stack_of scan.brackets)) after ≡ true))
 
 -- the run of a piece from its first character
-from_first : (passes : ℕ → Bool) (next : List Bracket → ℕ → Bool) (mode_of : List ℕ → Mode) (m : Mode) (at : ℕ) (text : List ℕ) (scan new : Scan) (bytes : List ℕ) (len : ℕ) → scan.piece.mode ≡ modes.Free → ReachedShut m at text scan bytes → ((c : ℕ) (cs after : List ℕ) → MeetsPiece m at text scan c (cs ++ after) → list_all passes (c ∷ cs) ≡ true → begins passes after ≡ false → EndsRun passes next (mode_of (c ∷ cs)) scan new after (length (c ∷ cs)) → ReachedShut m at text new after) → TakesRun passes next mode_of scan bytes len new → ReachedShut m at text new (drop len bytes)
+from_first : (passes : ℕ → Bool) (next : List Bracket → ℕ → Bool) (mode_of : List ℕ → Mode) (m : Mode) (at : ℕ) (text : List ℕ) (scan new : Scan) (bytes : List ℕ) (len : ℕ) → scan.piece.mode ≡ modes.Free → ReachedShut m at text scan bytes → ((c : ℕ) (cs after : List ℕ) → MeetsPiece m at text scan c (cs ++ after) → list_all passes (c ∷ cs) ≡ true → begins passes after ≡ false → EndsPieceRun passes next (mode_of (c ∷ cs)) scan new after (length (c ∷ cs)) → ReachedShut m at text new after) → TakesRun passes next mode_of scan bytes len new → ReachedShut m at text new (drop len bytes)
 from_first passes next mode_of m at text scan new bytes len free r reaches takes = go takes.run takes.spell takes.size takes.full takes.all takes.how
   where
-    go : (run : List ℕ) → run ++ takes.after ≡ bytes → length run ≡ len → IsFull run → list_all passes run ≡ true → EndsRun passes next (mode_of run) scan new takes.after len → ReachedShut m at text new (drop len bytes)
+    go : (run : List ℕ) → run ++ takes.after ≡ bytes → length run ≡ len → IsFull run → list_all passes run ≡ true → EndsPieceRun passes next (mode_of run) scan new takes.after len → ReachedShut m at text new (drop len bytes)
     go [] spell size full all how = absurd full
     go (c ∷ cs) spell size full all how =
         let meet = meets m at text scan c (cs ++ takes.after) free (subst (ReachedShut m at text scan) (sym spell) r) in
         subst (ReachedShut m at text new) (sym (ap (drop len) (sym spell) ∙ ap (λ (n : ℕ). drop n (c ∷ cs ++ takes.after)) (sym size) ∙ drop-append_seam (c ∷ cs) takes.after))
-        (reaches c cs takes.after meet all takes.ends (subst (EndsRun passes next (mode_of (c ∷ cs)) scan new takes.after) (sym size) how))
+        (reaches c cs takes.after meet all takes.ends (subst (EndsPieceRun passes next (mode_of (c ∷ cs)) scan new takes.after) (sym size) how))
 
 -- a word
 pub word_starts : (c : ℕ) → is_ascii_word c ≡ true → is_word_start c ≡ true
@@ -328,30 +332,30 @@ follows_begin st c h = ap (λ b. is_quote c || b) h ∙ or_right (is_quote c)
     or_right true = refl
     or_right false = refl
 
-word_stops : (run : List ℕ) (d : ℕ) (st : List Bracket) → is_ascii_word d ≡ false → follows st d ≡ true → move_of (word_mode run) d ≡ moves.Breaks
-unfolding move_of
+word_stops : (run : List ℕ) (d : ℕ) (st : List Bracket) → is_ascii_word d ≡ false → follows st d ≡ true → meet_of (word_mode run) d ≡ moves.Breaks
+unfolding meet_of
 word_stops run d st other next =
     let no_word : is_word_character d ≡ false = word_byte_continues d (follows_low st d next) ∙ other in
     let no_quote : is_quote d ≡ false = follows_cases (is_quote d ≡ false) st d next (λ word. absurd (both_ways _ other word)) (space-not-quote d) (apart-not-quote d) (λ stands so. operator-not-quote d stands) in
-    rw (no_word, and_right (is_prefix_spelling (word_spelling run)) (is_quote d) no_quote) refl
+    rw (no_word, no_quote) refl
 
 space_whole : (c : ℕ) → is_space c ≡ true → not (is_break c) ≡ true
 space_whole c h = ap not (stays-no_break modes.Space c h)
 
-space_stops : (run : List ℕ) (d : ℕ) (st : List Bracket) → is_space d ≡ false → may_begin st d ≡ true → move_of (space_mode run) d ≡ moves.Breaks
-unfolding move_of
+space_stops : (run : List ℕ) (d : ℕ) (st : List Bracket) → is_space d ≡ false → may_begin st d ≡ true → meet_of (space_mode run) d ≡ moves.Breaks
+unfolding meet_of move_of
 space_stops run d st other next = rw other refl
 
 -- a word, or space, from its first character
-pub word_reached : (m : Mode) (at : ℕ) (text : List ℕ) (scan new : Scan) (bytes : List ℕ) (len : ℕ) → scan.piece.mode ≡ modes.Free → ReachedShut m at text scan bytes → IsSound (line_start m) [] → TakesRun is_ascii_word follows word_mode scan bytes len new → ReachedShut m at text new (drop len bytes)
+pub word_reached : (m : Mode) (at : ℕ) (text : List ℕ) (scan new : Scan) (bytes : List ℕ) (len : ℕ) → scan.piece.mode ≡ modes.Free → ReachedShut m at text scan bytes → IsScanSound (line_start m) [] → TakesRun is_ascii_word follows word_mode scan bytes len new → ReachedShut m at text new (drop len bytes)
 word_reached m at text scan new bytes len free r start =
     from_first is_ascii_word follows word_mode m at text scan new bytes len free r
-    (λ c cs after meet all ends how. run_reached is_ascii_word follows follows_begin word_mode word_byte_low word_whole (λ d. modes.Word (first_spelling d)) (λ d h. start-word d (word_starts d h)) (λ done d ds h. steps_word done (first_spelling d) (d ∷ []) ds (all_words ds h)) word_stops (λ run. refl) m at text scan new c cs after meet start all ends how)
+    (λ c cs after meet all ends how. run_reached is_ascii_word follows follows_begin word_mode word_byte_low word_whole (λ d. modes.Word (first_spelling d)) (λ d h. start-word d (word_starts d h)) (λ done d ds h. steps_word done (first_spelling d) (d ∷ []) ds (all_words ds h)) word_stops (λ run. refl) (λ run is. cc) m at text scan new c cs after meet start all ends how)
 
-pub space_reached : (m : Mode) (at : ℕ) (text : List ℕ) (scan new : Scan) (bytes : List ℕ) (len : ℕ) → scan.piece.mode ≡ modes.Free → ReachedShut m at text scan bytes → IsSound (line_start m) [] → TakesRun is_space may_begin space_mode scan bytes len new → ReachedShut m at text new (drop len bytes)
+pub space_reached : (m : Mode) (at : ℕ) (text : List ℕ) (scan new : Scan) (bytes : List ℕ) (len : ℕ) → scan.piece.mode ≡ modes.Free → ReachedShut m at text scan bytes → IsScanSound (line_start m) [] → TakesRun is_space may_begin space_mode scan bytes len new → ReachedShut m at text new (drop len bytes)
 space_reached m at text scan new bytes len free r start =
     from_first is_space may_begin space_mode m at text scan new bytes len free r
-    (λ c cs after meet all ends how. run_reached is_space may_begin (λ st d h. h) space_mode space_low space_whole (λ d. modes.Space) (λ d h. start-space d h) (λ done d ds h. steps_space done (d ∷ []) ds h) space_stops (λ run. refl) m at text scan new c cs after meet start all ends how)
+    (λ c cs after meet all ends how. run_reached is_space may_begin (λ st d h. h) space_mode space_low space_whole (λ d. modes.Space) (λ d h. start-space d h) (λ done d ds h. steps_space done (d ∷ []) ds h) space_stops (λ run. refl) (λ run is. cc) m at text scan new c cs after meet start all ends how)
 
 -- an operator after closed pieces
 operator-no_break : (c : ℕ) → is_operator c ≡ true → is_break c ≡ false
@@ -382,14 +386,14 @@ adds_operator before scan new met c passes closes adds =
       };
     }
 
-pub operator_reached : (m : Mode) (at : ℕ) (text : List ℕ) (scan new : Scan) (bytes : List ℕ) (len : ℕ) → scan.piece.mode ≡ modes.Free → ReachedShut m at text scan bytes → IsSound (line_start m) [] → TakesOperator scan bytes len new → ReachedShut m at text new (drop len bytes)
+pub operator_reached : (m : Mode) (at : ℕ) (text : List ℕ) (scan new : Scan) (bytes : List ℕ) (len : ℕ) → scan.piece.mode ≡ modes.Free → ReachedShut m at text scan bytes → IsScanSound (line_start m) [] → TakesOperator scan bytes len new → ReachedShut m at text new (drop len bytes)
 operator_reached m at text scan new bytes len free r start takes =
     let c = takes.c in
     let meet = meets m at text scan c takes.after free (subst (ReachedShut m at text scan) (sym takes.spell) r) in
     let way = meet.reached.way in
     let s = way.state in
     let before = meet.unshut in
-    let breaks : move_of s.mode c ≡ moves.Breaks = ap (λ n. move_of n c) (sym way.tallies.mode) ∙ meet.breaks in
+    let breaks : meet_of s.mode c ≡ moves.Breaks = ap (λ n. meet_of n c) (sym way.tallies.mode) ∙ meet.breaks in
     let not_yet : (is_return_mode before.piece.mode && none_open (stack_of before.brackets)) && not (is_line_feed c) ≡ false = ap (λ (b : Bool). (b && none_open (stack_of before.brackets)) && not (is_line_feed c)) meet.unreturned in
     let stands : brackets_after (stack_of before.brackets) before.stop (piece operator (c ∷ [])) ≡ Some (stack_of takes.met)
     = ap (λ (x : Scan). brackets_after (stack_of x.brackets) x.stop (piece operator (c ∷ []))) (sym meet.closes.same) ∙ takes.stands in
@@ -420,15 +424,15 @@ low_is c h = grind (arith, nat_tests)
 is_low_from : (c : ℕ) → c < 128 → nat_lt c 128 ≡ true
 is_low_from c h = grind (arith, nat_tests)
 
-opened_grows : (q c : ℕ) → is_body_byte q c ≡ true → move_of (modes.Opened q) c ≡ moves.Grows (modes.Inside q)
-unfolding move_of short_move
+opened_grows : (q c : ℕ) → is_body_byte q c ≡ true → meet_of (modes.Opened q) c ≡ moves.Grows (modes.Inside q)
+unfolding meet_of move_of short_move
 opened_grows q c h = let parts = body_parts q c h in rw (parts.0, parts.1, parts.2) refl
 
-inside_closes : (q : ℕ) → move_of (modes.Inside q) q ≡ moves.Closes
-unfolding move_of
+inside_closes : (q : ℕ) → meet_of (modes.Inside q) q ≡ moves.Closes
+unfolding meet_of move_of
 inside_closes q = rw (eq-eqb q q refl) refl
 
-string_runs : (q : ℕ) (run : List ℕ) → IsFull run → list_all (is_text_byte q) run ≡ true → (done : List Piece) → steps_from (Some (scanned done (modes.Opened q) (q ∷ []))) run ≡ Some (scanned done (modes.Inside q) (q ∷ run))
+string_runs : (q : ℕ) (run : List ℕ) → IsFull run → list_all (is_text_byte q) run ≡ true → (done : List Piece) → scan_steps (Some (scanned done (modes.Opened q) (q ∷ []))) run ≡ Some (scanned done (modes.Inside q) (q ∷ run))
 string_runs q [] full all done = absurd full
 string_runs q (d ∷ ds) full all done =
     let parts = and_parts (is_text_byte q d) (list_all (is_text_byte q) ds) all in
@@ -442,7 +446,7 @@ quote_reads old q n quote =
 inside_other : (m : Mode) (q : ℕ) → modes.Inside q ≡ m → m ≡ modes.Return → ⊥
 inside_other m q is returns = let clash = is ∙ returns in cc
 
-pub string_reached : (m : Mode) (at : ℕ) (text : List ℕ) (scan new : Scan) (bytes : List ℕ) (len : ℕ) → scan.piece.mode ≡ modes.Free → ReachedShut m at text scan bytes → IsSound (line_start m) [] → TakesString scan bytes len new → ReachedShut m at text new (drop len bytes)
+pub string_reached : (m : Mode) (at : ℕ) (text : List ℕ) (scan new : Scan) (bytes : List ℕ) (len : ℕ) → scan.piece.mode ≡ modes.Free → ReachedShut m at text scan bytes → IsScanSound (line_start m) [] → TakesString scan bytes len new → ReachedShut m at text new (drop len bytes)
 string_reached m at text scan new bytes len free r start takes =
     let q = takes.q in
     let run = takes.run in
@@ -450,12 +454,12 @@ string_reached m at text scan new bytes len free r start takes =
     let meet = meets m at text scan q (run ++ q ∷ takes.after) free (subst (ReachedShut m at text scan) (sym takes.spell) r) in
     let whole : list_all (λ d. not (is_break d)) (q ∷ run) ≡ true = and_from _ _ (ap not (quote-no_break q takes.quote)) (list_all_more (is_text_byte q) (λ d. not (is_break d)) (λ d h. ap not (stays-no_break (modes.Inside q) d (text_body q d h))) run takes.all) in
     let low = low_encodes is_low (q ∷ run) low_is (and_from _ _ (is_low_from q (quote_ascii q takes.quote)) (list_all_more (is_text_byte q) is_low (text_low q) run takes.all)) in
-    let inside = opens_reached m at text scan q run (q ∷ takes.after) (modes.Opened q) (modes.Inside q) meet start (start-quote q takes.quote) (string_runs q run takes.full takes.all) whole low in
+    let inside = opens_reached m at text scan q run (q ∷ takes.after) (modes.Opened q) (modes.Inside q) meet start (start-quote q takes.quote) (string_runs q run takes.full takes.all) (λ is. cc) whole low in
     let way = inside.way in
     let s = way.state in
     let size : n + 1 ≡ len = omega (arith, takes.size) in
     let closes : Closes (opened scan (modes.Inside q) (n + 1)) new = subst (λ (k : ℕ). Closes (opened scan (modes.Inside q) k) new) (sym size) (token_closes scan new (modes.Inside q) kind.Str len refl refl (λ e. cc) takes.adds) in
-    let took = takes_closed (opened scan (modes.Inside q) n) new s inside.read q (ap (λ k. move_of k q) (sym way.tallies.mode) ∙ inside_closes q) (inside_other s.mode q way.tallies.mode) (sound_steps m inside.read s start way.steps) way.tallies way.stacked way.one_line (subst (λ (x : Scan). Closes x new) (quote_reads scan q n takes.quote) closes) in
+    let took = takes_closed (opened scan (modes.Inside q) n) new s inside.read q (ap (λ k. move_in k (depth_through 0 s.done) s.held q) (sym way.tallies.mode) ∙ inside_closes q) (inside_other s.mode q way.tallies.mode) (sound_steps m inside.read s start way.steps) way.tallies way.stacked way.one_line (subst (λ (x : Scan). Closes x new) (quote_reads scan q n takes.quote) closes) in
     let spelled_so : q ∷ takes.after ≡ encode_utf8 q ++ takes.after = sym (ap (λ t. t ++ takes.after) (encode_ascii q (quote_ascii q takes.quote))) in
     let all_size : length (q ∷ run ++ q ∷ []) ≡ len = omega (arith, takes.size, length-append run (q ∷ [])) in
     let dropped : drop len bytes ≡ takes.after = ap (drop len) (sym takes.spell ∙ ap (λ t. q ∷ t) (sym (append_assoc run (q ∷ []) takes.after))) ∙ ap (λ (k : ℕ). drop k ((q ∷ run ++ q ∷ []) ++ takes.after)) (sym all_size) ∙ drop-append_seam (q ∷ run ++ q ∷ []) takes.after in
@@ -546,7 +550,3 @@ pub operator_taken : (old new : Scan) (bytes : List ℕ) (met : Brackets) (stand
 operator_taken old new [] met stands some took holds adds = absurd (both_ways _ refl some)
 operator_taken old new (b ∷ bs) met true some took holds adds = record { c = b; after = bs; spell = refl; size = refl; passes = some; met = met; stands = took; adds = adds }
 operator_taken old new (b ∷ bs) met false some took holds adds = absurd (both_ways _ refl holds)
-
-pub operator_left : (old : Scan) (b : ℕ) (met : Brackets) (stands : Bool) → Meets old.brackets b old.stop (Ok stands) met → stands ≡ false → with_brackets old met ≡ old
-operator_left old b met false took fails = ap (with_brackets old) took.1
-operator_left old b met true took fails = absurd (both_ways _ fails refl)

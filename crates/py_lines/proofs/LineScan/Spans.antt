@@ -1,5 +1,5 @@
 -- Whole characters that leave the open piece as it is.
-use Rattle.std.proofs.Common.{◌≡◌, ℕ, ◌+◌, ◌-◌, ◌<◌, ◌≤◌, Bool, true, false, ◌&&◌, Some, List, [], refl, length, take, drop, slice_index, inl, inr, sym, ap, ◌∙◌, subst, arith, length-drop, length-take, take_all}
+use Rattle.std.proofs.Common.{◌≡◌, ℕ, ◌+◌, ◌-◌, ◌<◌, ◌≤◌, Bool, true, false, ◌&&◌, Some, List, refl, length, take, drop, slice_index, inl, inr, sym, ap, ◌∙◌, subst, arith, length-drop, length-take, take_all}
 use Rattle.std.specs.Prelude.{IsUtf8, nat_lt}
 use Rattle.std.specs.Char.{is_ascii}
 use Rattle.std.proofs.lemmas.Bool.{and_parts, both_ways, cases_lt}
@@ -53,13 +53,6 @@ run_spans passes bytes r n run within utf8 =
       run = record { within = omega (arith, size, run.within); each = λ i less. run.each i (omega (arith, less, size)) };
       utf8 = subst IsUtf8 (take-take n r bytes size) utf8;
     }
-
--- nothing
-pub no_spans : (passes : ℕ → Bool) (bytes : List ℕ) → Spans passes bytes 0
-no_spans passes bytes = record {
-  run = record { within = omega arith; each = λ i less. absurd (omega (arith, less)) };
-  utf8 = ([], (refl, refl));
-}
 
 -- characters after characters
 pub spans_on : (passes : ℕ → Bool) (bytes : List ℕ) (n m : ℕ) → Spans passes bytes n → Spans passes (take (length bytes - n) (drop n bytes)) m → Spans passes bytes (n + m)

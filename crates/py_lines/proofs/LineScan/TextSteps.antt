@@ -4,33 +4,40 @@ use Rattle.std.proofs.lemmas.Bool.{both_ways}
 use Rattle.std.proofs.lemmas.List.{same_from_push}
 use Rattle.std.proofs.lemmas.Str.{length-le-encodes}
 use Rattle.py_lines.specs.Piece.{Class, mark, line_end, Piece, is_mark_class, begins_marked, spelled}
-use Rattle.py_lines.specs.PieceGrammar.{InClass, AreReadBefore}
-use Rattle.py_lines.specs.LogicalLine.{byte_len}
+use Rattle.py_lines.specs.Fields.{InClass, AreReadBefore}
 use Rattle.py_lines.specs.Reading.{EndsLine}
 use Rattle.py_lines.specs.Faults.{IsLive}
+use Rattle.py_lines.specs.LogicalLine.{byte_len}
 use Rattle.py_lines.specs.declared.mode.Mode.{Mode}
 use Rattle.py_lines.specs.declared.mode.Mode.TheVariants as modes
-use Rattle.py_lines.specs.Private.Machine.{Scanned, fresh, text_start, class_of, closed, started, step, steps_from, start_of, IsSound, Bracket, brackets_of, in_short, is_after_backslash}
+use Rattle.py_lines.specs.Private.Machine.{Scanned, fresh, text_start, class_of, closed, started, start_of, Bracket, brackets_of, in_short, is_after_backslash}
+use Rattle.py_lines.specs.Private.ScanMachine.{IsScanSound, StringsFit, scan_step, scan_steps}
 use Rattle.py_lines.specs.declared.scan.Scan.{Scan}
 use Rattle.py_lines.specs.Private.Scan.{line_start, stack_of, stack_if, IsUnderWay}
 use Rattle.py_lines.specs.Private.LineState.{first_mode}
 use Rattle.py_lines.proofs.Pieces.PieceLists.{piece, MayFollow, AreReadBefore-second, spelled-append}
 use Rattle.py_lines.proofs.Machine.Starts.{start-mark}
-use Rattle.py_lines.proofs.Machine.PieceSteps.{scanned, pieces_at, StopsBefore, steps_from-append, stops-free}
-use Rattle.py_lines.proofs.Machine.PieceSteps as runs_of
-use Rattle.py_lines.proofs.Machine.ReadingSteps.{reach, MayBegin}
-use Rattle.py_lines.proofs.Pieces.OpenBrackets.{stack_before}
-use Rattle.py_lines.proofs.Machine.Advance.{kept, kept_if, GoesTo, RunsTo, closed_grows}
+use Rattle.py_lines.proofs.Machine.PieceSteps.{pieces_at}
+use Rattle.py_lines.proofs.ScanMachine.Steps.{StopsBefore, scan_steps-append, stops-free}
+use Rattle.py_lines.proofs.ScanMachine.Steps as runs_of
+use Rattle.py_lines.proofs.Machine.ReadingSteps.{MayBegin}
+use Rattle.py_lines.proofs.ScanMachine.Reaching.{reach}
+use Rattle.py_lines.proofs.Pieces.OpenBrackets.{stack_before, stands}
+use Rattle.py_lines.proofs.Machine.FinishedPieces.{closed_grows}
+use Rattle.py_lines.proofs.ScanMachine.Advance.{kept, kept_if, advance, GoesTo, RunsTo, stops_there}
+use Rattle.py_lines.proofs.ScanMachine.LiveTexts.{live_runs}
 use Rattle.py_lines.proofs.Machine.LiveTexts.{stack_closed}
-use Rattle.py_lines.proofs.Faults.FaultPlaces.{dead_stop}
 use Rattle.py_lines.proofs.Lexings.LinePrefix.{line_first}
 use Rattle.py_lines.proofs.LogicalLines.Cuts.{byte_len-append}
-use Rattle.py_lines.proofs.Machine.EarlierPieces.{after_pieces, after_if, steps-after, step-after, closed-after, shift, shift_if, stack-after}
+use Rattle.py_lines.proofs.Machine.EarlierPieces.{after_pieces, after_if, closed-after, shift, shift_if, stack-after}
+use Rattle.py_lines.proofs.ScanMachine.EarlierPieces.{steps-after, step-after}
+use Rattle.py_lines.specs.Balance.{depth_through}
+use Rattle.py_lines.proofs.LineScan.StringSteps.{first_plain}
 
 -- a line begins soundly
-pub begun_sound : (n : ℕ) → IsSound (line_start (first_mode n)) []
-begun_sound zero = record { spell = refl; holds = (refl, refl); fit = λ more. tt }
-begun_sound (suc n) = record { spell = refl; holds = refl; fit = λ more. tt }
+pub begun_sound : (n : ℕ) → IsScanSound (line_start (first_mode n)) []
+begun_sound zero = record { spell = refl; holds = (refl, refl); fit = λ more. tt; strings = tt }
+begun_sound (suc n) = record { spell = refl; holds = refl; fit = λ more. tt; strings = tt }
 
 -- pieces that end a line, and what the next line begins in
 pub data Base (n : ℕ) (base : List Piece) : Type 0 where
@@ -55,10 +62,10 @@ base_of n base rest fit (inr (body, last, is, class, level)) size =
     Base.lined body last is class (λ x. subst (λ l. MayBegin l x) (sym is) (begins_any body last x)) (free_mode n (omega (arith, size, total, bytes)))
 
 -- where the machine stands after pieces that end a line, nothing is open but perhaps a CR
-ended_mode : (m : Mode) (done : List Piece) (held : List ℕ) (body : List Piece) (last : Piece) → closed m done held ≡ body ++ last ∷ [] → last.class ≡ line_end → (in_short m ≡ false) × (is_after_backslash m ≡ false)
-ended_mode modes.Start done held body last is class = (refl, refl)
-ended_mode modes.Free done held body last is class = (refl, refl)
-ended_mode modes.Return done held body last is class = (refl, refl)
+ended_mode : (m : Mode) (done : List Piece) (held : List ℕ) (body : List Piece) (last : Piece) → closed m done held ≡ body ++ last ∷ [] → last.class ≡ line_end → (in_short m ≡ false) × (is_after_backslash m ≡ false) × (m ≡ modes.Fielded → ⊥)
+ended_mode modes.Start done held body last is class = (refl, refl, λ h. cc)
+ended_mode modes.Free done held body last is class = (refl, refl, λ h. cc)
+ended_mode modes.Return done held body last is class = (refl, refl, λ h. cc)
 ended_mode m done held body last is class =
     let parts = same_from_push done body (piece (class_of m) held) last is in
     let same : class_of m ≡ line_end = ap (λ (p : Piece). p.class) parts.1 ∙ class in
@@ -74,10 +81,12 @@ pub record Joined (base : List Piece) (read : List ℕ) (s : Scanned) (first : L
   pub st : List Bracket
   pub steps : RunsTo (spelled base ++ read) state st
   pub pieces : pieces_at state ≡ base ++ pieces_at s
-  pub next : (c : ℕ) (more : List ℕ) → after ≡ c ∷ more → step state c ≡ after_if base (step s c)
+  pub next : (c : ℕ) (more : List ℕ) → after ≡ c ∷ more → scan_step state c ≡ after_if base (scan_step s c)
   pub short : in_short state.mode ≡ in_short s.mode
   pub slash : is_after_backslash state.mode ≡ is_after_backslash s.mode
   pub start : in_short s.mode || is_after_backslash s.mode ≡ true → byte_len (spelled state.done) ≡ byte_len (spelled base) + byte_len (spelled s.done)
+  pub inside : s.mode ≡ modes.Fielded → state ≡ after_pieces base s
+  pub plain : (s.mode ≡ modes.Fielded → ⊥) → state.mode ≡ modes.Fielded → ⊥
   pub same : 0 < byte_len read → (state ≡ after_pieces base s) × (st ≡ shift (byte_len (spelled base)) first)
 
 paired : (base : List Piece) (m : Mode) (done : List Piece) (held : List ℕ) → brackets_of base ≡ Some [] → closed m done held ≡ base → brackets_of done ≡ Some []
@@ -88,18 +97,18 @@ paired base m done held level is =
     first.1 ∙ same
 
 -- from the start of a line, the machine goes as from its pieces
-pub from_base : (base : List Piece) (to : Scanned) (c : ℕ) (cs after : List ℕ) → pieces_at to ≡ base → StopsBefore to.mode (c ∷ after) → steps_from (Some to) (c ∷ cs) ≡ after_if base (steps_from (Some (line_start modes.Free)) (c ∷ cs))
-from_base base to c cs after is stops =
+pub from_base : (base : List Piece) (to : Scanned) (c : ℕ) (cs after : List ℕ) → depth_through 0 base ≡ 0 → pieces_at to ≡ base → StopsBefore to.mode (c ∷ after) → scan_steps (Some to) (c ∷ cs) ≡ after_if base (scan_steps (Some (line_start modes.Free)) (c ∷ cs))
+from_base base to c cs after flat is stops =
     runs_of.begun to c cs after (start_of c) stops refl
-    ∙ ap (λ l. steps_from (started l c (start_of c)) cs) is
+    ∙ ap (λ l. scan_steps (started l c (start_of c)) cs) is
     ∙ sym (runs_of.begun (fresh base) c cs after (start_of c) (stops-free (c ∷ after)) refl)
-    ∙ ap (λ l. steps_from (Some (fresh l)) (c ∷ cs)) (sym (append-nil base))
-    ∙ steps-after base (Some (line_start modes.Free)) (c ∷ cs)
+    ∙ ap (λ l. scan_steps (Some (fresh l)) (c ∷ cs)) (sym (append-nil base))
+    ∙ steps-after base (Some (line_start modes.Free)) (c ∷ cs) flat
 
-step_as_run : (s : Scanned) (c : ℕ) → steps_from (Some s) (c ∷ []) ≡ step s c
-step_as_run s c = go (step s c)
+step_as_run : (s : Scanned) (c : ℕ) → scan_steps (Some s) (c ∷ []) ≡ scan_step s c
+step_as_run s c = go (scan_step s c)
   where
-    go : (o : Option Scanned) → steps_from o [] ≡ o
+    go : (o : Option Scanned) → scan_steps o [] ≡ o
     go None = refl
     go (Some t) = refl
 
@@ -107,17 +116,17 @@ after_nothing : (o : Option Scanned) → after_if [] o ≡ o
 after_nothing None = refl
 after_nothing (Some t) = refl
 
-module _ (n : ℕ) (base : List Piece) (after : List ℕ) (level : brackets_of base ≡ Some []) where
+module _ (n : ℕ) (base : List Piece) (after : List ℕ) (level : brackets_of base ≡ Some []) (strings : StringsFit 0 base) where
   -- something was read
   full : (c : ℕ) (cs : List ℕ) (s : Scanned) (st : List Bracket) → AreReadBefore base ((c ∷ cs) ++ after) → Base n base → GoesTo (line_start (first_mode n)) (c ∷ cs) s st → RunsTo (spelled base ++ c ∷ cs) (after_pieces base s) (shift (byte_len (spelled base)) st)
   full c cs s st fit is goes = record { run = run is; stack = stack-after base s.done level ∙ ap (shift_if (byte_len (spelled base))) goes.stack }
     where
-      run : Base n base → steps_from (Some text_start) (spelled base ++ c ∷ cs) ≡ Some (after_pieces base s)
-      run (Base.bare none mode) = ap (λ l. steps_from (Some text_start) (spelled l ++ c ∷ cs)) none ∙ ap (λ m. steps_from (Some (line_start m)) (c ∷ cs)) (sym mode) ∙ goes.run ∙ ap (λ l. Some (after_pieces l s)) (sym none)
+      run : Base n base → scan_steps (Some text_start) (spelled base ++ c ∷ cs) ≡ Some (after_pieces base s)
+      run (Base.bare none mode) = ap (λ l. scan_steps (Some text_start) (spelled l ++ c ∷ cs)) none ∙ ap (λ m. scan_steps (Some (line_start m)) (c ∷ cs)) (sym mode) ∙ goes.run ∙ ap (λ l. Some (after_pieces l s)) (sym none)
       run (Base.lined body last ends class any mode) =
-          let reached = reach base (c ∷ cs ++ after) fit in
-          steps_from-append (Some text_start) (spelled base) (c ∷ cs) ∙ ap (λ o. steps_from o (c ∷ cs)) reached.steps ∙ from_base base reached.to c cs (cs ++ after) reached.pieces_are (reached.stops (any (c ∷ cs ++ after)))
-          ∙ ap (λ m. after_if base (steps_from (Some (line_start m)) (c ∷ cs))) (sym mode) ∙ ap (after_if base) goes.run
+          let reached = reach base [] (c ∷ cs ++ after) fit level strings in
+          scan_steps-append (Some text_start) (spelled base) (c ∷ cs) ∙ ap (λ o. scan_steps o (c ∷ cs)) reached.steps ∙ from_base base reached.to c cs (cs ++ after) (stands base [] level).depth reached.pieces_are (reached.stops (any (c ∷ cs ++ after)))
+          ∙ ap (λ m. after_if base (scan_steps (Some (line_start m)) (c ∷ cs))) (sym mode) ∙ ap (after_if base) goes.run
 
   joined_full : (c : ℕ) (cs : List ℕ) (s : Scanned) (st : List Bracket) → AreReadBefore base ((c ∷ cs) ++ after) → Base n base → GoesTo (line_start (first_mode n)) (c ∷ cs) s st → Joined base (c ∷ cs) s st after
   joined_full c cs s st fit is goes = record {
@@ -125,9 +134,11 @@ module _ (n : ℕ) (base : List Piece) (after : List ℕ) (level : brackets_of b
     st = shift (byte_len (spelled base)) st;
     steps = full c cs s st fit is goes;
     pieces = closed-after base s.done s.mode s.held;
-    next = λ d more follows. step-after base s d;
+    next = λ d more follows. step-after base s d (stands base [] level).depth;
     short = refl;
     slash = refl;
+    inside = λ at. refl;
+    plain = λ other. other;
     same = λ full_text. (refl, refl);
     start = λ open_yet. ap byte_len (spelled-append base s.done) ∙ byte_len-append (spelled base) (spelled s.done);
   }
@@ -140,27 +151,31 @@ module _ (n : ℕ) (base : List Piece) (after : List ℕ) (level : brackets_of b
       record {
         state = s;
         st = [];
-        steps = record { run = ap (λ l. steps_from (Some text_start) (spelled l ++ [])) nothing ∙ ap (λ (t : Scanned). Some t) here; stack = ap (λ (t : Scanned). brackets_of t.done) (sym here) };
+        steps = record { run = ap (λ l. scan_steps (Some text_start) (spelled l ++ [])) nothing ∙ ap (λ (t : Scanned). Some t) here; stack = ap (λ (t : Scanned). brackets_of t.done) (sym here) };
         pieces = ap (λ l. l ++ pieces_at s) (sym nothing);
-        next = λ d more follows. sym (after_nothing (step s d)) ∙ ap (λ l. after_if l (step s d)) (sym nothing);
+        next = λ d more follows. sym (after_nothing (scan_step s d)) ∙ ap (λ l. after_if l (scan_step s d)) (sym nothing);
         short = refl;
         slash = refl;
+        inside = λ at. absurd (first_plain n (ap (λ (t : Scanned). t.mode) is ∙ at));
+        plain = λ other. other;
         same = λ full_text. absurd (omega (arith, full_text));
         start = λ open_yet. sym (zero-add _) ∙ ap (λ l. byte_len (spelled l) + byte_len (spelled s.done)) (sym nothing);
       }
   joined_none s first fit (Base.lined body last is class any mode) begins =
-      let reached = reach base after fit in
+      let reached = reach base [] after fit level strings in
       let to = reached.to in
       let here : line_start modes.Free ≡ s = ap line_start (sym mode) ∙ begins in
       let closed_mode = ended_mode to.mode to.done to.held body last (reached.pieces_are ∙ is) class in
       record {
         state = to;
         st = [];
-        steps = record { run = ap (steps_from (Some text_start)) (append-nil (spelled base)) ∙ reached.steps; stack = paired base to.mode to.done to.held level reached.pieces_are };
+        steps = record { run = ap (scan_steps (Some text_start)) (append-nil (spelled base)) ∙ reached.steps; stack = paired base to.mode to.done to.held level reached.pieces_are };
         pieces = reached.pieces_are ∙ sym (append-nil base) ∙ ap (λ (t : Scanned). base ++ pieces_at t) here;
-        next = λ d more follows. sym (step_as_run to d) ∙ from_base base to d [] more reached.pieces_are (subst (StopsBefore to.mode) follows (reached.stops (any after))) ∙ ap (after_if base) (step_as_run (line_start modes.Free) d) ∙ ap (λ (t : Scanned). after_if base (step t d)) here;
+        next = λ d more follows. sym (step_as_run to d) ∙ from_base base to d [] more (stands base [] level).depth reached.pieces_are (subst (StopsBefore to.mode) follows (reached.stops (any after))) ∙ ap (after_if base) (step_as_run (line_start modes.Free) d) ∙ ap (λ (t : Scanned). after_if base (scan_step t d)) here;
         short = closed_mode.0 ∙ ap (λ (t : Scanned). in_short t.mode) here;
         slash = closed_mode.1 ∙ ap (λ (t : Scanned). is_after_backslash t.mode) here;
+        inside = λ at. absurd (first_plain n (ap (λ (t : Scanned). t.mode) begins ∙ at));
+        plain = λ other. closed_mode.2;
         same = λ full_text. absurd (omega (arith, full_text));
         start = λ open_yet. absurd (both_ways _ (sym (ap (λ (t : Scanned). in_short t.mode || is_after_backslash t.mode) here)) open_yet);
       }
@@ -174,29 +189,39 @@ module _ (n : ℕ) (base : List Piece) (after : List ℕ) (level : brackets_of b
   joined (c ∷ cs) s st fit is goes = joined_full c cs s st fit is goes
 
 -- a line after others begins with no mark
-pub follows_base : (n : ℕ) (base u : List Piece) (read after : List ℕ) (to : Scanned) → Base n base → spelled u ≡ read → AreReadBefore u after → steps_from (Some (line_start (first_mode n))) read ≡ Some to → MayFollow base u
+pub follows_base : (n : ℕ) (base u : List Piece) (read after : List ℕ) (to : Scanned) → Base n base → spelled u ≡ read → AreReadBefore u after → scan_steps (Some (line_start (first_mode n))) read ≡ Some to → MayFollow base u
 follows_base n base u read after to (Base.bare none mode) spell fit steps = subst (λ l. MayFollow l u) (sym none) tt
 follows_base n base u read after to (Base.lined body last is class any mode) spell fit steps =
-    subst (λ l. MayFollow l u) (sym is) (any_follow body last (unmarked u fit (ap (λ m. steps_from (Some (line_start m)) (spelled u)) (sym mode) ∙ ap (steps_from (Some (line_start (first_mode n)))) spell ∙ steps)))
+    subst (λ l. MayFollow l u) (sym is) (any_follow body last (unmarked u fit (ap (λ m. scan_steps (Some (line_start m)) (spelled u)) (sym mode) ∙ ap (scan_steps (Some (line_start (first_mode n)))) spell ∙ steps)))
   where
     any_follow : (ps : List Piece) (p : Piece) → begins_marked u ≡ false → MayFollow (ps ++ p ∷ []) u
     any_follow [] p h = h
     any_follow (q ∷ qs) p h = h
 
-    no_mark : (class : Class) (text rest : List ℕ) → InClass class text → steps_from (Some (line_start modes.Free)) (text ++ rest) ≡ Some to → is_mark_class class ≡ false
+    no_mark : (class : Class) (text rest : List ℕ) → InClass class text → scan_steps (Some (line_start modes.Free)) (text ++ rest) ≡ Some to → is_mark_class class ≡ false
     no_mark mark text rest (c, same, marks) goes =
-        let stuck : None ≡ Some to = sym (runs_of.begun (line_start modes.Free) c rest rest (start_of c) (stops-free (c ∷ rest)) refl ∙ ap (λ st. steps_from (started [] c st) rest) (start-mark c marks)) ∙ ap (λ t. steps_from (Some (line_start modes.Free)) (t ++ rest)) (sym same) ∙ goes in
+        let stuck : None ≡ Some to = sym (runs_of.begun (line_start modes.Free) c rest rest (start_of c) (stops-free (c ∷ rest)) refl ∙ ap (λ st. scan_steps (started [] c st) rest) (start-mark c marks)) ∙ ap (λ t. scan_steps (Some (line_start modes.Free)) (t ++ rest)) (sym same) ∙ goes in
         absurd (cc)
     no_mark class text rest holds goes = refl
 
-    unmarked : (us : List Piece) → AreReadBefore us after → steps_from (Some (line_start modes.Free)) (spelled us) ≡ Some to → begins_marked us ≡ false
+    unmarked : (us : List Piece) → AreReadBefore us after → scan_steps (Some (line_start modes.Free)) (spelled us) ≡ Some to → begins_marked us ≡ false
     unmarked [] fit' goes = refl
     unmarked (p ∷ ps) fit' goes = no_mark p.class p.text (spelled ps) fit'.0 goes
 
--- a character that the line refuses ends the text's life
-pub dead_at : (base : List Piece) (read after more : List ℕ) (s : Scanned) (first : List Bracket) (c : ℕ) (j : Joined base read s first after) → brackets_of base ≡ Some [] → after ≡ c ∷ more → stack_if (step s c) ≡ None → ¬ (IsLive ((spelled base ++ read) ++ c ∷ []))
-dead_at base read after more s first c j level follows refuses = dead_stop (spelled base ++ read) j.state j.st c j.steps (ap kept_if (j.next c more follows) ∙ stops (step s c) refuses)
+-- where a character isn't taken, the text through it isn't live
+pub dead_stop : (before : List ℕ) (s : Scanned) (st : List Bracket) (c : ℕ) → RunsTo before s st → advance s c ≡ None → ¬ (IsLive (before ++ c ∷ []))
+dead_stop before s st c steps none live =
+    let found = live_runs (before ++ c ∷ []) live in
+    stops_there c steps none found.2
+
+-- a character that the line refuses isn't taken in the text
+pub refused_at : (base : List Piece) (read after more : List ℕ) (s : Scanned) (first : List Bracket) (c : ℕ) (j : Joined base read s first after) → brackets_of base ≡ Some [] → after ≡ c ∷ more → stack_if (scan_step s c) ≡ None → advance j.state c ≡ None
+refused_at base read after more s first c j level follows refuses = ap kept_if (j.next c more follows) ∙ stops (scan_step s c) refuses
   where
     stops : (o : Option Scanned) → stack_if o ≡ None → kept_if (after_if base o) ≡ None
     stops None none = refl
     stops (Some t) none = ap (kept (after_pieces base t)) (stack-after base t.done level ∙ ap (shift_if (byte_len (spelled base))) none)
+
+-- so it ends the text's life
+pub dead_at : (base : List Piece) (read after more : List ℕ) (s : Scanned) (first : List Bracket) (c : ℕ) (j : Joined base read s first after) → brackets_of base ≡ Some [] → after ≡ c ∷ more → stack_if (scan_step s c) ≡ None → ¬ (IsLive ((spelled base ++ read) ++ c ∷ []))
+dead_at base read after more s first c j level follows refuses = dead_stop (spelled base ++ read) j.state j.st c j.steps (refused_at base read after more s first c j level follows refuses)

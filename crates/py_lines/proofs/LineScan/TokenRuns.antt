@@ -19,7 +19,7 @@ use Rattle.py_lines.specs.Private.Scan.{Closes, Meets, stack_of, with_brackets}
 use Rattle.py_lines.specs.declared.run.FirstByte.TheVariants as first
 use Rattle.std.proofs.lemmas.Bool.{both_ways}
 use Rattle.py_lines.proofs.LineScan.FirstBytes.{alone_taken}
-use Rattle.py_lines.proofs.LineScan.ShortPieces.{followed_by, free_is, operator_reached, operator_taken, space_closes, space_reached, takes_run, takes_word, word_reached}
+use Rattle.py_lines.proofs.LineScan.ShortPieces.{free_is, operator_reached, operator_taken, space_closes, space_reached, takes_run, takes_word, word_reached}
 use Rattle.py_lines.specs.Private.Run.{BeginsSo, HasAdded, HasTaken, IsRunOf, LeadsTo, IsSpaceAfter, IsWholeWord, IsNextToken, MeetsToken, TakesSpace, AddsToken, coded, coded_if, follows, follows_space, is_ascii_word, is_free, may_begin, opened, space_mode}
 
 -- a run of at least one byte
@@ -46,10 +46,6 @@ space_alone st (b ∷ d ∷ bs) more is next = inr (
   },
   next.1,
 )
-
--- a run of space before what may follow it
-pub space_run_is : (st : List Bracket) (bytes : List ℕ) (len : ℕ) → begins is_space bytes ≡ true → IsRunOf is_space bytes len → begins (may_begin st) (take (length bytes - len) (drop len bytes)) ≡ true → IsSpaceAfter st bytes len
-space_run_is st bytes len some run next = inr (run_some is_space bytes len run some, run, followed_by may_begin st bytes len true (sym next))
 
 -- what the first byte passes
 pub begins_from : (passes : ℕ → Bool) (bytes : List ℕ) → 0 < length bytes → passes (slice_index bytes 0) ≡ true → begins passes bytes ≡ true

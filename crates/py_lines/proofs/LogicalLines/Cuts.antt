@@ -1,18 +1,22 @@
 -- Logical lines, one after another: where a line ends, the lines so far are done.
-use Rattle.std.proofs.Common.{◌≡◌, ℕ, ◌+◌, Bool, true, false, not, cond, ◌&&◌, ◌||◌, ◌==◌, List, [], ◌∷◌, ◌++◌, length, refl, sym, ap, ◌∙◌, ⊎_elim, inl, inr, append_assoc, length-append, arith}
+use Rattle.std.proofs.Common.{◌≡◌, ℕ, ◌+◌, Bool, true, false, not, cond, ◌&&◌, ◌||◌, ◌==◌, List, [], ◌∷◌, ◌++◌, length, refl, sym, ap, ◌∙◌, ⊎_elim, inl, inr, append_assoc, append-nil, length-append, arith}
 use Rattle.std.specs.List.{list_all, list_any}
-use Rattle.std.proofs.lemmas.Str.{encodes-append}
+use Rattle.std.proofs.lemmas.Str.{encodes-append, length-le-encodes}
+use Rattle.std.proofs.lemmas.List.{nil_from_length}
 use Rattle.std.specs.Prelude.{if◌then◌else◌}
 use Rattle.std.proofs.lemmas.Bool.{cond_both, both_ways, and_parts, and_left, and_from, or_parts, eq-eqb, false_from_ne_true, cases_Bool}
 use Rattle.unicode_ident.proofs.Computing.{unicode_ident}
 use Rattle.py_lines.specs.Character.{is_mark, is_space, is_word_character, is_word_start, is_digit, is_quote, is_operator, is_line_feed, is_return, is_break, is_hash}
 use Rattle.py_lines.specs.Piece.{Class, mark, space, word, string, operator, comment, join, line_end, Piece, begins, ends, spelled}
-use Rattle.py_lines.specs.PieceGrammar.{joined, InClass, MayPrecede, AreReadBefore}
+use Rattle.py_lines.specs.PieceGrammar.{joined}
 use Rattle.py_lines.specs.Balance.{depth_after, depth_through}
-use Rattle.py_lines.specs.LogicalLine.{is_line_end_class, put_first, cut, byte_len, ends_line, line_ends}
+use Rattle.py_lines.specs.FieldStrings.{Host, quotes_of}
+use Rattle.py_lines.specs.Fields.{InClass, MayPrecede, AreReadBefore}
 use Rattle.py_lines.specs.Reading.{EndsLine}
+use Rattle.py_lines.specs.LogicalLine.{is_line_end_class, put_first, cut, byte_len, ends_line, line_ends}
 use Rattle.py_lines.proofs.Text.CharacterTests.{each_of, none_of}
-use Rattle.py_lines.proofs.Lexings.LinePrefix.{EndsNoLine}
+use Rattle.py_lines.proofs.Text.Splits.{Either, either}
+use Rattle.py_lines.specs.Private.Scan.{EndsNoLine}
 
 -- a CR at the end of a piece belongs to no LF after it
 ends-push : (p : ℕ → Bool) (text : List ℕ) (c : ℕ) → ends p (text ++ c ∷ []) ≡ p c
@@ -79,15 +83,26 @@ ends-comment hash (c ∷ cs) opens none = ends-none is_break is_return (c ∷ cs
 ends-quote : (prefix body : List ℕ) (q : ℕ) → is_quote q ≡ true → ends is_return (prefix ++ (body ++ q ∷ [])) ≡ false
 ends-quote prefix body q quotes = ap (ends is_return) (sym (append_assoc prefix body (q ∷ []))) ∙ ends-push is_return (prefix ++ body) q ∙ quote-not-return q quotes
 
+ends-quotes : (prefix : List ℕ) (host : Host) (inside : List ℕ) → is_quote host.quote ≡ true → ends is_return (prefix ++ (quotes_of host ++ (inside ++ quotes_of host))) ≡ false
+ends-quotes prefix host inside quotes =
+    let q = host.quote in
+    cond_both host.is_long (q ∷ q ∷ q ∷ []) (q ∷ []) (λ (t : List ℕ). ends is_return (prefix ++ (t ++ (inside ++ t))) ≡ false)
+    (λ long. ap (λ t. ends is_return (prefix ++ (q ∷ q ∷ q ∷ t))) (sym (append_assoc inside (q ∷ q ∷ []) (q ∷ []))) ∙ ends-quote prefix (q ∷ q ∷ q ∷ (inside ++ q ∷ q ∷ [])) q quotes)
+    (λ short. ends-quote prefix (q ∷ inside) q quotes)
+
 -- no CR LF is cut between a piece and what follows
 pub uncut : (class : Class) (text rest : List ℕ) → InClass class text → MayPrecede class text rest → ends is_return text && begins is_line_feed rest ≡ false
 uncut mark text rest (c, is, passes) before = and_left _ _ (ap (ends is_return) is ∙ mark-not-return c passes)
 uncut space text rest (first, others, is, run) before = and_left _ _ (ends-all is_space is_return text space-not-return run)
 uncut word text rest (first, others, is, opens, run) before = and_left _ _ (ap (ends is_return) is ∙ ends-word first others opens run)
-uncut string text rest (inl short) before = and_left _ _ (ap (ends is_return) short.spell ∙ ends-quote short.prefix (short.quote ∷ joined short.items) short.quote short.opens)
-uncut string text rest (inr long) before =
-    let q = long.quote in
-    and_left _ _ (ap (ends is_return) (long.spell ∙ ap (λ t. long.prefix ++ (q ∷ q ∷ q ∷ t)) (sym (append_assoc (joined long.items) (q ∷ q ∷ []) (q ∷ [])))) ∙ ends-quote long.prefix (q ∷ q ∷ q ∷ (joined long.items ++ q ∷ q ∷ [])) q long.opens)
+uncut string text rest (inl (inl short)) before =
+    let is = short.0 in
+    and_left _ _ (ap (ends is_return) is.spell ∙ ends-quote is.prefix (is.quote ∷ joined is.items) is.quote is.opens)
+uncut string text rest (inl (inr long)) before =
+    let is = long.0 in
+    let q = is.quote in
+    and_left _ _ (ap (ends is_return) (is.spell ∙ ap (λ t. is.prefix ++ (q ∷ q ∷ q ∷ t)) (sym (append_assoc (joined is.items) (q ∷ q ∷ []) (q ∷ [])))) ∙ ends-quote is.prefix (q ∷ q ∷ q ∷ (joined is.items ++ q ∷ q ∷ [])) q is.opens)
+uncut string text rest (inr is) before = and_left _ _ (ap (ends is_return) is.spell ∙ ends-quotes is.prefix is.host (joined is.parts) is.opens)
 uncut operator text rest (c, is, passes) before = and_left _ _ (ap (ends is_return) is ∙ false_from_ne_true _ (λ k. both_ways _ (return-not-operator c k) passes))
 uncut comment text rest (hash, body, is, opens, holds) before = and_left _ _ (ap (ends is_return) is ∙ ends-comment hash body opens holds)
 uncut join text rest is before = before
@@ -132,6 +147,24 @@ line_ends-pieces (p ∷ ps) rest fit =
 
 pub byte_len-append : (xs ys : List ℕ) → byte_len (xs ++ ys) ≡ byte_len xs + byte_len ys
 byte_len-append xs ys = ap length (encodes-append xs ys) ∙ length-append _ _
+
+-- a byte of a text belongs to one prefix
+no_bytes : (k : List ℕ) → byte_len k ≡ 0 → k ≡ []
+no_bytes k none =
+    let bound = length-le-encodes k in
+    nil_from_length k (omega arith)
+
+pub same_place : (b a d e : List ℕ) → b ++ a ≡ d ++ e → byte_len b ≡ byte_len d → b ≡ d
+same_place b a d e same bytes = go (either b a d e same)
+  where
+    go : Either b d e → b ≡ d
+    go (Either.shorter k one) =
+        let sum : byte_len d ≡ byte_len b + byte_len k = ap byte_len one ∙ byte_len-append b k in
+        sym (append-nil b) ∙ ap (λ t. b ++ t) (sym (no_bytes k (omega arith))) ∙ sym one
+    go (Either.longer c k after one two) =
+        let sum : byte_len b ≡ byte_len d + byte_len (c ∷ k) = ap byte_len one ∙ byte_len-append d (c ∷ k) in
+        let none : c ∷ k ≡ [] = no_bytes (c ∷ k) (omega arith) in
+        absurd (cc)
 
 -- the parts that a list of pieces is cut into
 abbrev some_parts : List (List Piece) → Type 0

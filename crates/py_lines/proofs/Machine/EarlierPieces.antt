@@ -10,7 +10,7 @@ use Rattle.py_lines.specs.declared.mode.Move.{Move}
 use Rattle.py_lines.specs.declared.mode.Move.TheVariants as moves
 use Rattle.py_lines.specs.declared.mode.Start.{Start}
 use Rattle.py_lines.specs.declared.mode.Start.TheVariants as starts
-use Rattle.py_lines.specs.Private.Machine.{Scanned, fresh, class_of, closed, step, moved, started, steps_from, move_of, start_of, Bracket, opened_by, closed_by, brackets_after, brackets_through, brackets_of}
+use Rattle.py_lines.specs.Private.Machine.{Scanned, fresh, class_of, closed, moved, started, start_of, Bracket, opened_by, closed_by, brackets_after, brackets_through, brackets_of}
 use Rattle.py_lines.proofs.Pieces.PieceLists.{piece, spelled-append}
 use Rattle.py_lines.proofs.Pieces.OpenBrackets.{through-append}
 use Rattle.py_lines.proofs.LogicalLines.Cuts.{byte_len-append}
@@ -34,19 +34,11 @@ started-after ps done c starts.Operator = ap (λ l. Some (fresh l)) (append_asso
 started-after ps done c starts.LineEnd = ap (λ l. Some (fresh l)) (append_assoc ps done (piece line_end (c ∷ []) ∷ []))
 started-after ps done c starts.Nothing = refl
 
-moved-after : (ps : List Piece) (s : Scanned) (c : ℕ) (v : Move) → moved (after_pieces ps s) c v ≡ after_if ps (moved s c v)
+pub moved-after : (ps : List Piece) (s : Scanned) (c : ℕ) (v : Move) → moved (after_pieces ps s) c v ≡ after_if ps (moved s c v)
 moved-after ps s c (moves.Grows m) = refl
 moved-after ps s c moves.Closes = ap (λ l. Some (fresh l)) (append_assoc ps s.done (piece (class_of s.mode) (s.held ++ c ∷ []) ∷ []))
 moved-after ps s c moves.Breaks = ap (λ l. started l c (start_of c)) (closed-after ps s.done s.mode s.held) ∙ started-after ps (closed s.mode s.done s.held) c (start_of c)
 moved-after ps s c moves.Refused = refl
-
-pub steps-after : (ps : List Piece) (o : Option Scanned) (cs : List ℕ) → steps_from (after_if ps o) cs ≡ after_if ps (steps_from o cs)
-steps-after ps None cs = refl
-steps-after ps (Some s) [] = refl
-steps-after ps (Some s) (c ∷ cs) = ap (λ o. steps_from o cs) (moved-after ps s c (move_of s.mode c)) ∙ steps-after ps (step s c) cs
-
-pub step-after : (ps : List Piece) (s : Scanned) (c : ℕ) → step (after_pieces ps s) c ≡ after_if ps (step s c)
-step-after ps s c = moved-after ps s c (move_of s.mode c)
 
 -- brackets, so many bytes further
 abbrev pub shift : ℕ → List Bracket → List Bracket
@@ -57,7 +49,7 @@ abbrev pub shift_if : ℕ → Option (List Bracket) → Option (List Bracket)
 shift_if k None = None
 shift_if k (Some st) = Some (shift k st)
 
-length-shift : (k : ℕ) (st : List Bracket) → length (shift k st) ≡ length st
+pub length-shift : (k : ℕ) (st : List Bracket) → length (shift k st) ≡ length st
 length-shift k [] = refl
 length-shift k (b ∷ bs) = omega (arith, length-shift k bs)
 

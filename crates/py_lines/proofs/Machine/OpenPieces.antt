@@ -5,7 +5,7 @@ use Rattle.std.proofs.lemmas.List.Folds.{list_all-append, list_any-append}
 use Rattle.std.proofs.lemmas.Bool.{and_parts, and_from, or_from, eqb-true, both_ways, false_from_ne_true, not_from_false}
 use Rattle.py_lines.specs.Character.{is_word_character, is_word_start, is_quote, is_backslash}
 use Rattle.py_lines.specs.Piece.{string}
-use Rattle.py_lines.specs.PieceGrammar.{IsPrefix, is_item, is_bare, is_short_item, joined, has_triple, IsShortString, IsLongString, MayPrecede}
+use Rattle.py_lines.specs.PieceGrammar.{IsPrefix, is_item, is_bare, is_short_item, joined, has_triple, IsShortString, IsLongString, MayPrecedePlain}
 use Rattle.py_lines.specs.Private.Machine.{IsFull, HoldsItems, HoldsSome, HoldsQuotes, HoldsPrefix, HoldsLong}
 use Rattle.py_lines.proofs.Pieces.PieceLists.{joined-append}
 use Rattle.py_lines.proofs.Text.CharacterTests.{prefix_word, quote-not-start, quote-not-word, slash-not-quote}
@@ -62,7 +62,7 @@ not_one b [] q r h = cc
 not_one b (c ∷ cs) q r h = cc
 
 -- a short string that holds something is no empty one
-pub something : (prefix body : List ℕ) (q : ℕ) (text rest : List ℕ) → text ≡ prefix ++ (q ∷ body ++ q ∷ []) → IsPrefix prefix → is_quote q ≡ true → IsFull body → MayPrecede string text rest
+pub something : (prefix body : List ℕ) (q : ℕ) (text rest : List ℕ) → text ≡ prefix ++ (q ∷ body ++ q ∷ []) → IsPrefix prefix → is_quote q ≡ true → IsFull body → MayPrecedePlain string text rest
 something prefix [] q text rest is begun opens full other r spell also quotes = absurd full
 something prefix (b ∷ bs) q text rest is begun opens full other r spell also quotes =
     let same : q ∷ b ∷ (bs ++ q ∷ []) ≡ r ∷ r ∷ [] = same_quotes prefix other q r (b ∷ (bs ++ q ∷ [])) (r ∷ []) (sym is ∙ spell) begun also opens quotes in
@@ -70,7 +70,7 @@ something prefix (b ∷ bs) q text rest is begun opens full other r spell also q
     absurd (not_one b bs q r later)
 
 -- nor is a long one
-pub long_something : (prefix body : List ℕ) (q : ℕ) (text rest : List ℕ) → text ≡ prefix ++ (q ∷ q ∷ q ∷ body) → IsPrefix prefix → is_quote q ≡ true → MayPrecede string text rest
+pub long_something : (prefix body : List ℕ) (q : ℕ) (text rest : List ℕ) → text ≡ prefix ++ (q ∷ q ∷ q ∷ body) → IsPrefix prefix → is_quote q ≡ true → MayPrecedePlain string text rest
 long_something prefix body q text rest is begun opens other r spell also quotes =
     let same : q ∷ q ∷ q ∷ body ≡ r ∷ r ∷ [] = same_quotes prefix other q r (q ∷ q ∷ body) (r ∷ []) (sym is ∙ spell) begun also opens quotes in
     absurd (cc)

@@ -1,26 +1,21 @@
 -- What is open where the machine stands: a short string, a long string, or a backslash; and the other way round.
-use Rattle.std.proofs.Common.{◌≡◌, ℕ, Bool, true, false, Some, List, [], ◌∷◌, ◌++◌, refl, sym, ap, ◌∙◌, subst, inl, inr, append_assoc, append-nil}
+use Rattle.std.proofs.Common.{◌≡◌, ℕ, true, false, Some, List, [], ◌∷◌, ◌++◌, refl, sym, ap, ◌∙◌, subst, inl, inr, append_assoc, append-nil}
 use Rattle.std.specs.List.{list_all}
 use Rattle.std.proofs.lemmas.Bool.{both_ways, false_from_ne_true}
 use Rattle.unicode_ident.proofs.Computing.{unicode_ident}
 use Rattle.py_lines.specs.Character.{is_mark, is_quote, is_word_start, is_digit, is_backslash}
-use Rattle.py_lines.specs.Piece.{Piece, begins, spelled}
-use Rattle.py_lines.specs.PieceGrammar.{IsPrefix, is_item, is_short_item, joined, has_triple, AreReadBefore}
-use Rattle.py_lines.specs.Faults.{IsUnescaped, IsShortPrefix, IsLongPrefix, IsSlash, InShortString, InLongString, AfterBackslash}
+use Rattle.py_lines.specs.Piece.{Piece, begins}
+use Rattle.py_lines.specs.PieceGrammar.{IsPrefix, is_item, is_short_item, joined, has_triple}
+use Rattle.py_lines.specs.OpenFields.{IsUnescaped, IsShortPrefix, IsLongPrefix}
 use Rattle.py_lines.specs.declared.mode.Mode.{Mode}
 use Rattle.py_lines.specs.declared.mode.Mode.TheVariants as modes
-use Rattle.py_lines.specs.Private.Machine.{Scanned, text_start, steps_from, in_short, in_long, is_after_backslash}
+use Rattle.py_lines.specs.Private.Machine.{steps_from, in_short, in_long, is_after_backslash}
 use Rattle.py_lines.proofs.Text.CharacterTests.{none_of, prefix_word}
-use Rattle.py_lines.proofs.Machine.Starts.{start-slash}
-use Rattle.py_lines.proofs.Machine.PieceSteps.{scanned, pieces_at, StopsBefore, steps_from-append, begun, grown}
-use Rattle.py_lines.proofs.Machine.StringSteps.{IsShortMode, short_escapes, short_body, opened_steps, long_opened, run_long, mode_at, Seen, seen_after, long_escapes}
-use Rattle.py_lines.proofs.Machine.ReadingSteps.{Reaches, reach, MayBegin}
-use Rattle.py_lines.specs.Private.Machine.{Holds, HoldsItems, HoldsPrefix, IsSound}
+use Rattle.py_lines.proofs.Machine.PieceSteps.{scanned, steps_from-append, grown}
+use Rattle.py_lines.proofs.Machine.StringSteps.{IsShortMode, short_escapes, short_body, run_long, mode_at, QuotesBefore, seen_after, long_escapes}
+use Rattle.py_lines.specs.Private.Machine.{Holds, HoldsItems, HoldsPrefix}
 use Rattle.py_lines.proofs.Machine.OpenPieces.{opened_items, opening_none, opening_one, opening_two}
 use Rattle.py_lines.proofs.Machine.Soundness.{returned_items}
-
-fit_held : (s : Scanned) (read : List ℕ) → IsSound s read → AreReadBefore s.done s.held
-fit_held s read sound = subst (AreReadBefore s.done) (append-nil s.held) (sound.fit [])
 
 short_open : (q : ℕ) (before last : List ℕ) → HoldsItems q before → IsUnescaped last → IsShortPrefix (before ++ last)
 short_open q before last items escapes = record {
@@ -66,6 +61,7 @@ short_held (modes.Opened q) done held holds is = short_opening q held (opened_it
 short_held (modes.Inside q) done held holds is = short_opening q held holds.all
 short_held (modes.Escape q) done held holds is = subst IsShortPrefix (sym holds.2) (short_escaped q holds.0 holds.1 holds.3 holds.4)
 short_held (modes.EscapeReturn q) done held holds is = short_opening q held (returned_items q done held holds).all
+short_held (modes.FieldOpened h) done held holds is = absurd holds
 short_held m done held holds is = absurd (both_ways _ refl is)
 
 pub long_held : (m : Mode) (done : List Piece) (held : List ℕ) → Holds m done held → in_long m ≡ true → IsLongPrefix held
@@ -73,21 +69,12 @@ long_held (modes.Long q) done held holds is = long_opening q held (opening_none 
 long_held (modes.LongOne q) done held holds is = long_opening q held (subst (HoldsPrefix q) (sym holds.1) (opening_one q holds.0 holds.2))
 long_held (modes.LongTwo q) done held holds is = long_opening q held (subst (HoldsPrefix q) (sym holds.1) (opening_two q holds.0 holds.2))
 long_held (modes.LongEscape q) done held holds is = subst IsLongPrefix (sym holds.2) (long_escaped q holds.0 holds.1 holds.3 holds.4)
+long_held modes.Fielded done held holds is = absurd holds
 long_held m done held holds is = absurd (both_ways _ refl is)
-
--- where the machine stands in a short string, the characters do
-pub in_short_string : (s : Scanned) (read : List ℕ) → IsSound s read → in_short s.mode ≡ true → InShortString read (spelled s.done)
-in_short_string s read sound is = record { pieces = s.done; rest = s.held; spell = sound.spell; before = refl; fit = fit_held s read sound; inside = short_held s.mode s.done s.held sound.holds is }
-
-pub in_long_string : (s : Scanned) (read : List ℕ) → IsSound s read → in_long s.mode ≡ true → InLongString read (spelled s.done)
-in_long_string s read sound is = record { pieces = s.done; rest = s.held; spell = sound.spell; before = refl; fit = fit_held s read sound; inside = long_held s.mode s.done s.held sound.holds is }
 
 pub slash_held : (m : Mode) (done : List Piece) (held : List ℕ) → Holds m done held → is_after_backslash m ≡ true → (slash : ℕ) × (held ≡ slash ∷ []) × (is_backslash slash ≡ true)
 slash_held modes.Backslash done held holds is = holds
 slash_held m done held holds is = absurd (both_ways _ refl is)
-
-pub after_backslash : (s : Scanned) (read : List ℕ) → IsSound s read → is_after_backslash s.mode ≡ true → AfterBackslash read (spelled s.done)
-after_backslash s read sound is = record { pieces = s.done; rest = s.held; spell = sound.spell; before = refl; fit = fit_held s read sound; inside = slash_held s.mode s.done s.held sound.holds is }
 
 -- a string and a backslash don't begin with a mark
 pub start-not-mark : (c : ℕ) → is_word_start c ≡ true → is_mark c ≡ false
@@ -107,38 +94,15 @@ prefix-unmarked [] q body is quotes = quote-not-mark q quotes
 prefix-unmarked (a ∷ bs) q body (inl empty) quotes = absurd (cc)
 prefix-unmarked (a ∷ bs) q body (inr is) quotes = start-not-mark a (prefix_word a bs is).0
 
-may_begin : (ps : List Piece) (rest : List ℕ) → begins is_mark rest ≡ false → MayBegin ps rest
-may_begin [] rest h = h
-may_begin (p ∷ ps) rest h = tt
-
--- the machine stands after these characters, in such a mode, with pieces that spell `start` finished
-pub record StandsIn (is_such : Mode → Bool) (characters start : List ℕ) : Type 0 where
-  pub to : Scanned
-  pub steps : steps_from (Some text_start) characters ≡ Some to
-  pub such : is_such to.mode ≡ true
-  pub before : spelled to.done ≡ start
-
--- from the start to a prefix after pieces
-stands_in : (is_such : Mode → Bool) (characters start : List ℕ) (pieces : List Piece) (rest : List ℕ) (reached : Reaches (spelled pieces) pieces rest) (m : Mode) (held : List ℕ) → start ++ rest ≡ characters → spelled pieces ≡ start → is_such m ≡ true → steps_from (Some reached.to) rest ≡ Some (scanned (pieces_at reached.to) m held) → StandsIn is_such characters start
-stands_in is_such characters start pieces rest reached m held spell before such steps = record {
-  to = scanned (pieces_at reached.to) m held;
-  steps = ap (steps_from (Some text_start)) (sym spell ∙ ap (λ t. t ++ rest) (sym before))
-      ∙ steps_from-append (Some text_start) (spelled pieces) rest
-      ∙ ap (λ o. steps_from o rest) reached.steps
-      ∙ steps;
-  such = such;
-  before = ap spelled reached.pieces_are ∙ before;
-}
-
 is_short_mode : (q : ℕ) (m : Mode) → IsShortMode q m → in_short m ≡ true
 is_short_mode q m (inl is) = ap in_short is
 is_short_mode q m (inr (inl is)) = ap in_short is
 is_short_mode q m (inr (inr is)) = ap in_short is
 
-is_long_mode : (q : ℕ) (seen : Seen) → in_long (mode_at q seen) ≡ true
-is_long_mode q Seen.none = refl
-is_long_mode q Seen.one = refl
-is_long_mode q Seen.two = refl
+is_long_mode : (q : ℕ) (seen : QuotesBefore) → in_long (mode_at q seen) ≡ true
+is_long_mode q QuotesBefore.none = refl
+is_long_mode q QuotesBefore.one = refl
+is_long_mode q QuotesBefore.two = refl
 
 -- a run into a short string
 pub record ShortEnd (done : List Piece) (from : Mode) (held body : List ℕ) : Type 0 where
@@ -166,23 +130,13 @@ short_end done q held (i ∷ is) last quotes each escapes =
           ∙ ap (λ t. Some (scanned done later.to t)) (append_assoc held (joined (i ∷ is)) last);
     }
 
-pub stands_in_short : (characters start : List ℕ) → InShortString characters start → StandsIn in_short characters start
-stands_in_short characters start short =
-    let rest = short.inside in
-    let reached = reach short.pieces short.rest short.fit in
-    let body = joined rest.items ++ rest.last in
-    let stops = subst (StopsBefore reached.to.mode) rest.spell (reached.stops (may_begin short.pieces short.rest (ap (begins is_mark) rest.spell ∙ prefix-unmarked rest.prefix rest.quote body rest.begun rest.opens))) in
-    let inner = short_end (pieces_at reached.to) rest.quote (rest.prefix ++ rest.quote ∷ []) rest.items rest.last rest.opens rest.each rest.escapes in
-    stands_in in_short characters start short.pieces short.rest reached inner.to _ short.spell short.before inner.short
-    (ap (steps_from (Some reached.to)) rest.spell ∙ opened_steps reached.to rest.prefix rest.quote body rest.begun rest.opens stops ∙ inner.steps)
-
 -- a run into a long string
 pub record LongEnd (done : List Piece) (from : Mode) (held body : List ℕ) : Type 0 where
   pub to : Mode
   pub long : in_long to ≡ true
   pub steps : steps_from (Some (scanned done from held)) body ≡ Some (scanned done to (held ++ body))
 
-long_last : (done : List Piece) (q : ℕ) (seen : Seen) (held last : List ℕ) → is_quote q ≡ true → IsUnescaped last → LongEnd done (mode_at q seen) held last
+long_last : (done : List Piece) (q : ℕ) (seen : QuotesBefore) (held last : List ℕ) → is_quote q ≡ true → IsUnescaped last → LongEnd done (mode_at q seen) held last
 long_last done q seen held last quotes (inl empty) =
     subst (LongEnd done (mode_at q seen) held) (sym empty) (record { to = mode_at q seen; long = is_long_mode q seen; steps = ap (λ t. Some (scanned done (mode_at q seen) t)) (sym (append-nil held)) })
 long_last done q seen held last quotes (inr (slash, is, slashes)) =
@@ -190,43 +144,12 @@ long_last done q seen held last quotes (inr (slash, is, slashes)) =
 
 pub long_end : (done : List Piece) (q : ℕ) (held : List ℕ) (items : List (List ℕ)) (last : List ℕ) → is_quote q ≡ true → list_all is_item items ≡ true → has_triple q items ≡ false → IsUnescaped last → LongEnd done (modes.Long q) held (joined items ++ last)
 long_end done q held items last quotes each triple escapes =
-    let later = long_last done q (seen_after q Seen.none items) (held ++ joined items) last quotes escapes in
+    let later = long_last done q (seen_after q QuotesBefore.none items) (held ++ joined items) last quotes escapes in
     record {
       to = later.to;
       long = later.long;
       steps = steps_from-append (Some (scanned done (modes.Long q) held)) (joined items) last
-          ∙ ap (λ o. steps_from o last) (run_long done q Seen.none held items quotes each triple)
+          ∙ ap (λ o. steps_from o last) (run_long done q QuotesBefore.none held items quotes each triple)
           ∙ later.steps
           ∙ ap (λ t. Some (scanned done later.to t)) (append_assoc held (joined items) last);
     }
-
-pub stands_in_long : (characters start : List ℕ) → InLongString characters start → StandsIn in_long characters start
-stands_in_long characters start long =
-    let rest = long.inside in
-    let reached = reach long.pieces long.rest long.fit in
-    let q = rest.quote in
-    let body = joined rest.items ++ rest.last in
-    let stops = subst (StopsBefore reached.to.mode) rest.spell (reached.stops (may_begin long.pieces long.rest (ap (begins is_mark) rest.spell ∙ prefix-unmarked rest.prefix q (q ∷ q ∷ body) rest.begun rest.opens))) in
-    let inner = long_end (pieces_at reached.to) q (rest.prefix ++ q ∷ q ∷ q ∷ []) rest.items rest.last rest.opens rest.each rest.open_yet rest.escapes in
-    stands_in in_long characters start long.pieces long.rest reached inner.to _ long.spell long.before inner.long
-    (ap (steps_from (Some reached.to)) rest.spell ∙ long_opened reached.to rest.prefix q body rest.begun rest.opens stops ∙ inner.steps)
-
-pub stands_after_slash : (characters start : List ℕ) → AfterBackslash characters start → StandsIn is_after_backslash characters start
-stands_after_slash characters start stood = go stood.inside
-  where
-    go : IsSlash stood.rest → StandsIn is_after_backslash characters start
-    go (slash, is, slashes) =
-        let reached = reach stood.pieces (slash ∷ []) (subst (AreReadBefore stood.pieces) is stood.fit) in
-        let stops = reached.stops (may_begin stood.pieces (slash ∷ []) (slash-not-mark slash slashes)) in
-        stands_in is_after_backslash characters start stood.pieces (slash ∷ []) reached modes.Backslash (slash ∷ []) (ap (λ t. start ++ t) (sym is) ∙ stood.spell) stood.before refl
-        (begun reached.to slash [] [] _ stops (start-slash slash slashes))
-
--- so the mode says what is open
-pub same_state : (cs : List ℕ) (s t : Scanned) → steps_from (Some text_start) cs ≡ Some s → steps_from (Some text_start) cs ≡ Some t → s ≡ t
-same_state cs s t first second = cc
-
-pub such_mode : (is_such : Mode → Bool) (characters start : List ℕ) (s : Scanned) → StandsIn is_such characters start → steps_from (Some text_start) characters ≡ Some s → is_such s.mode ≡ true
-such_mode is_such characters start s stands steps = ap (λ (t : Scanned). is_such t.mode) (same_state characters s stands.to steps stands.steps) ∙ stands.such
-
-pub such_start : (is_such : Mode → Bool) (characters start : List ℕ) (s : Scanned) → StandsIn is_such characters start → steps_from (Some text_start) characters ≡ Some s → spelled s.done ≡ start
-such_start is_such characters start s stands steps = ap (λ (t : Scanned). spelled t.done) (same_state characters s stands.to steps stands.steps) ∙ stands.before

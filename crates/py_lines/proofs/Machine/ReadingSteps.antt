@@ -1,12 +1,10 @@
 -- The machine goes through every list of pieces that is read before what follows, and finds those pieces.
 use Rattle.std.proofs.Common.{◌≡◌, ℕ, true, false, ◌&&◌, Option, None, Some, List, [], ◌∷◌, ◌++◌, refl, sym, ap, ◌∙◌, subst, ⊎_elim, inl, inr, append_assoc, append-nil}
 use Rattle.std.specs.List.{list_all}
-use Rattle.std.specs.Str.{chars}
-use Rattle.std.proofs.lemmas.Str.{chars-encodes}
 use Rattle.std.proofs.lemmas.Bool.{both_ways, cases_Bool}
 use Rattle.py_lines.specs.Character.{is_mark, is_space, is_quote, is_return, is_line_feed}
 use Rattle.py_lines.specs.Piece.{Class, mark, space, word, string, operator, comment, join, line_end, Piece, begins, ends, is_mark_class, begins_marked, spelled}
-use Rattle.py_lines.specs.PieceGrammar.{InClass, MayPrecede, is_prefix, AreReadBefore, Reads, ReadsText}
+use Rattle.py_lines.specs.PieceGrammar.{InPlainClass, MayPrecedePlain, is_prefix, AreReadPlain}
 use Rattle.py_lines.specs.declared.mode.Mode.TheVariants as modes
 use Rattle.py_lines.specs.declared.mode.Move.{Move}
 use Rattle.py_lines.specs.declared.mode.Move.TheVariants as moves
@@ -17,7 +15,7 @@ use Rattle.py_lines.proofs.Machine.PieceSteps.{pieces_at, StopsBefore, Finds, st
 use Rattle.py_lines.proofs.Machine.StringSteps.{find_short, find_long}
 
 -- a piece of any class but a mark
-pub find : (from : Scanned) (class : Class) (text rest : List ℕ) → is_mark_class class ≡ false → InClass class text → MayPrecede class text rest → StopsBefore from.mode (text ++ rest) → Finds from text (piece class text ∷ []) rest
+pub find : (from : Scanned) (class : Class) (text rest : List ℕ) → is_mark_class class ≡ false → InPlainClass class text → MayPrecedePlain class text rest → StopsBefore from.mode (text ++ rest) → Finds from text (piece class text ∷ []) rest
 find from mark text rest unmarked is before stops = absurd (both_ways _ unmarked refl)
 find from space text rest unmarked (first, others, is, run) before stops =
     let P : List ℕ → Type 0 = λ t. Finds from t (piece space t ∷ []) rest in
@@ -29,7 +27,7 @@ find from string text rest unmarked (inl short) before stops =
     let P : List ℕ → Type 0 = λ t. Finds from t (piece string t ∷ []) rest in
     subst P (sym short.spell) (find_short from short.prefix short.quote short.items rest short.begun short.opens short.each
     (subst (StopsBefore from.mode) (ap (λ t. t ++ rest) short.spell ∙ append_assoc short.prefix _ rest) stops)
-    (subst (λ t. MayPrecede string t rest) short.spell before))
+    (subst (λ t. MayPrecedePlain string t rest) short.spell before))
 find from string text rest unmarked (inr long) before stops =
     let P : List ℕ → Type 0 = λ t. Finds from t (piece string t ∷ []) rest in
     subst P (sym long.spell) (find_long from long.prefix long.quote long.items rest long.begun long.opens long.each long.first
@@ -46,7 +44,7 @@ find from join text rest unmarked (slash, end, is, slashes, line) before stops =
 find from line_end text rest unmarked is before stops = find_line_end from text rest is stops before
 
 -- pieces that are read before the rest are found, in their order
-pub find_all : (from : Scanned) (pieces : List Piece) (rest : List ℕ) → AreReadBefore pieces rest → begins_marked pieces ≡ false → StopsBefore from.mode (spelled pieces ++ rest) → Finds from (spelled pieces) pieces rest
+pub find_all : (from : Scanned) (pieces : List Piece) (rest : List ℕ) → AreReadPlain pieces rest → begins_marked pieces ≡ false → StopsBefore from.mode (spelled pieces ++ rest) → Finds from (spelled pieces) pieces rest
 find_all from [] rest fit unmarked stops = record { to = from; steps = refl; pieces_are = sym (append-nil _); stops = stops }
 find_all from (p ∷ ps) rest fit unmarked stops =
     let first = find from p.class p.text (spelled ps ++ rest) unmarked fit.0 fit.1 (subst (StopsBefore from.mode) (append_assoc p.text (spelled ps) rest) stops) in
@@ -105,7 +103,7 @@ stops-start : (rest : List ℕ) → begins is_mark rest ≡ false → StopsBefor
 stops-start [] h = refl
 stops-start (c ∷ cs) h = start-breaks c h
 
-reach_others : (p : Piece) (ps : List Piece) (rest : List ℕ) → AreReadBefore (p ∷ ps) rest → is_mark_class p.class ≡ false → Reaches (spelled (p ∷ ps)) (p ∷ ps) rest
+reach_others : (p : Piece) (ps : List Piece) (rest : List ℕ) → AreReadPlain (p ∷ ps) rest → is_mark_class p.class ≡ false → Reaches (spelled (p ∷ ps)) (p ∷ ps) rest
 reach_others p ps rest fit unmarked =
     let found = find_all (fresh []) (p ∷ ps) rest fit unmarked (stops-free _) in
     record {
@@ -115,7 +113,7 @@ reach_others p ps rest fit unmarked =
       stops = λ h. found.stops;
     }
 
-reach_marked : (text : List ℕ) (ps : List Piece) (rest : List ℕ) → AreReadBefore (piece mark text ∷ ps) rest → Reaches (spelled (piece mark text ∷ ps)) (piece mark text ∷ ps) rest
+reach_marked : (text : List ℕ) (ps : List Piece) (rest : List ℕ) → AreReadPlain (piece mark text ∷ ps) rest → Reaches (spelled (piece mark text ∷ ps)) (piece mark text ∷ ps) rest
 reach_marked text ps rest fit =
     let c = fit.0.0 in
     let P : List ℕ → Type 0 = λ t. Reaches (t ++ spelled ps) (piece mark t ∷ ps) rest in
@@ -128,11 +126,11 @@ reach_marked text ps rest fit =
     })
 
 -- pieces that are read before the rest are found from the start
-pub reach : (pieces : List Piece) (rest : List ℕ) → AreReadBefore pieces rest → Reaches (spelled pieces) pieces rest
+pub reach : (pieces : List Piece) (rest : List ℕ) → AreReadPlain pieces rest → Reaches (spelled pieces) pieces rest
 reach [] rest fit = record { to = text_start; steps = refl; pieces_are = refl; stops = stops-start rest }
 reach (p ∷ ps) rest fit = go p.class p.text fit
   where
-    go : (class : Class) (text : List ℕ) → AreReadBefore (piece class text ∷ ps) rest → Reaches (spelled (piece class text ∷ ps)) (piece class text ∷ ps) rest
+    go : (class : Class) (text : List ℕ) → AreReadPlain (piece class text ∷ ps) rest → Reaches (spelled (piece class text ∷ ps)) (piece class text ∷ ps) rest
     go mark text h = reach_marked text ps rest h
     go space text h = reach_others (piece space text) ps rest h refl
     go word text h = reach_others (piece word text) ps rest h refl
@@ -141,20 +139,3 @@ reach (p ∷ ps) rest fit = go p.class p.text fit
     go comment text h = reach_others (piece comment text) ps rest h refl
     go join text h = reach_others (piece join text) ps rest h refl
     go line_end text h = reach_others (piece line_end text) ps rest h refl
-
--- two lists of pieces that read the same characters are the same
-pub same_pieces : (pieces others : List Piece) → spelled pieces ≡ spelled others → AreReadBefore pieces [] → AreReadBefore others [] → pieces ≡ others
-unfolding pieces_or
-same_pieces pieces others same first second =
-    let one = reach pieces [] first in
-    let two = reach others [] second in
-    let states : Some one.to ≡ Some two.to = sym one.steps ∙ ap (steps_from (Some text_start)) same ∙ two.steps in
-    sym one.pieces_are ∙ ap pieces_or states ∙ two.pieces_are
-
-pub one_reading_of : (pieces others : List Piece) (characters : List ℕ) → Reads pieces characters → Reads others characters → pieces ≡ others
-one_reading_of pieces others characters first second = same_pieces pieces others (first.spell ∙ sym second.spell) first.fit second.fit
-
-pub one_reading_of_text : (pieces others : List Piece) (text : List ℕ) → ReadsText pieces text → ReadsText others text → pieces ≡ others
-one_reading_of_text pieces others text first second =
-    same_pieces pieces others
-    (sym (chars-encodes (spelled pieces) first.scalars) ∙ ap chars (first.spell ∙ sym second.spell) ∙ chars-encodes (spelled others) second.scalars) first.fit second.fit

@@ -3,7 +3,7 @@ use Rattle.std.proofs.Common.{◌≡◌, ℕ, Bool, true, false, ◌&&◌, eqb, 
 use Rattle.std.proofs.lemmas.Bool.{cond_both, and_parts, and_from, and_left, and_right, eqb-true, both_ways, not_from_false}
 use Rattle.py_lines.specs.Character.{is_mark, is_space, is_word_character, is_quote, is_line_feed, is_return, is_break, is_backslash}
 use Rattle.py_lines.specs.Piece.{Class, mark, space, word, string, operator, comment, join, line_end, Piece, ends, is_mark_class, spelled}
-use Rattle.py_lines.specs.PieceGrammar.{feed, return_feed, return, InClass, is_prefix, is_short_item, joined, MayPrecede, AreReadBefore}
+use Rattle.py_lines.specs.PieceGrammar.{feed, return_feed, return, InPlainClass, is_prefix, is_short_item, joined, MayPrecedePlain, AreReadPlain}
 use Rattle.py_lines.specs.declared.mode.Spelling.{Spelling}
 use Rattle.py_lines.specs.declared.mode.Mode.{Mode}
 use Rattle.py_lines.specs.declared.mode.Mode.TheVariants as modes
@@ -11,7 +11,7 @@ use Rattle.py_lines.specs.declared.mode.Move.{Move}
 use Rattle.py_lines.specs.declared.mode.Start.{Start}
 use Rattle.py_lines.specs.declared.mode.Start.TheVariants as starts
 use Rattle.py_lines.specs.Private.Machine.{IsSound, Holds, HoldsItems, HoldsSome, HoldsQuotes, HoldsPrefix, HoldsLong, Scanned, fresh, text_start, closed, started, moved, step, steps_from, move_of, short_move, long_move, start_of, first_spelling, spelling_with, is_prefix_spelling, is_final}
-use Rattle.py_lines.proofs.Pieces.PieceLists.{piece, spelled-push, AreReadBefore-push, MayFollow, follows_any}
+use Rattle.py_lines.proofs.Pieces.PieceLists.{piece, spelled-push, AreReadPlain-push, MayFollow, follows_any}
 use Rattle.py_lines.proofs.Machine.Starts.{StartsSo, starts_so}
 use Rattle.py_lines.proofs.Machine.Spellings.{spelling_on-push, prefix_spelling}
 use Rattle.py_lines.proofs.Text.CharacterTests.{feed_is, return_is, barred, feed-not-return}
@@ -27,26 +27,26 @@ grew : (done : List Piece) (held read : List ℕ) (c : ℕ) (m n : Mode) → IsS
 grew done held read c m n sound holds = record {
   spell = sym (append_assoc (spelled done) held (c ∷ [])) ∙ ap (λ t. t ++ c ∷ []) sound.spell;
   holds = holds;
-  fit = λ more. subst (AreReadBefore done) (sym (append_assoc held (c ∷ []) more)) (sound.fit (c ∷ more));
+  fit = λ more. subst (AreReadPlain done) (sym (append_assoc held (c ∷ []) more)) (sound.fit (c ∷ more));
 }
 
 -- a piece that is finished, with nothing open after it
-finished : (done : List Piece) (class : Class) (text read : List ℕ) → spelled done ++ text ≡ read → ((more : List ℕ) → AreReadBefore done (text ++ more)) → InClass class text → ((more : List ℕ) → MayPrecede class text more) → MayFollow done (piece class text ∷ []) → IsSound (fresh (done ++ piece class text ∷ [])) read
+finished : (done : List Piece) (class : Class) (text read : List ℕ) → spelled done ++ text ≡ read → ((more : List ℕ) → AreReadPlain done (text ++ more)) → InPlainClass class text → ((more : List ℕ) → MayPrecedePlain class text more) → MayFollow done (piece class text ∷ []) → IsSound (fresh (done ++ piece class text ∷ [])) read
 finished done class text read spell fit is before follows = record {
   spell = append-nil (spelled (done ++ piece class text ∷ [])) ∙ spelled-push done class text ∙ spell;
   holds = refl;
-  fit = λ more. AreReadBefore-push done class text more (fit more) is (before more) follows;
+  fit = λ more. AreReadPlain-push done class text more (fit more) is (before more) follows;
 }
 
 -- the open piece is finished by a character
-closed_by_one : (done : List Piece) (m : Mode) (held read : List ℕ) (c : ℕ) (class : Class) → IsSound (scanned done m held) read → InClass class (held ++ c ∷ []) → ((more : List ℕ) → MayPrecede class (held ++ c ∷ []) more) → MayFollow done (piece class (held ++ c ∷ []) ∷ []) → IsSound (fresh (done ++ piece class (held ++ c ∷ []) ∷ [])) (read ++ c ∷ [])
+closed_by_one : (done : List Piece) (m : Mode) (held read : List ℕ) (c : ℕ) (class : Class) → IsSound (scanned done m held) read → InPlainClass class (held ++ c ∷ []) → ((more : List ℕ) → MayPrecedePlain class (held ++ c ∷ []) more) → MayFollow done (piece class (held ++ c ∷ []) ∷ []) → IsSound (fresh (done ++ piece class (held ++ c ∷ []) ∷ [])) (read ++ c ∷ [])
 closed_by_one done m held read c class sound is before follows =
     finished done class (held ++ c ∷ []) (read ++ c ∷ [])
     (sym (append_assoc (spelled done) held (c ∷ [])) ∙ ap (λ t. t ++ c ∷ []) sound.spell)
-    (λ more. subst (AreReadBefore done) (sym (append_assoc held (c ∷ []) more)) (sound.fit (c ∷ more))) is before follows
+    (λ more. subst (AreReadPlain done) (sym (append_assoc held (c ∷ []) more)) (sound.fit (c ∷ more))) is before follows
 
 -- a character begins a piece after finished ones
-pub start_sound : (done : List Piece) (read : List ℕ) (c : ℕ) (s : Start) → StartsSo c s → spelled done ≡ read → ((more : List ℕ) → AreReadBefore done (c ∷ more)) → SoundIf (started done c s) (read ++ c ∷ [])
+pub start_sound : (done : List Piece) (read : List ℕ) (c : ℕ) (s : Start) → StartsSo c s → spelled done ≡ read → ((more : List ℕ) → AreReadPlain done (c ∷ more)) → SoundIf (started done c s) (read ++ c ∷ [])
 start_sound done read c (starts.Open modes.Space) so spell fit = record { spell = ap (λ t. t ++ c ∷ []) spell; holds = (c, [], refl, and_from _ _ so refl); fit = fit }
 start_sound done read c (starts.Open (modes.Word s)) so spell fit = record { spell = ap (λ t. t ++ c ∷ []) spell; holds = (c, [], refl, so.0, refl, so.1); fit = fit }
 start_sound done read c (starts.Open modes.Comment) so spell fit = record { spell = ap (λ t. t ++ c ∷ []) spell; holds = (c, [], refl, so, refl); fit = fit }
@@ -67,6 +67,9 @@ start_sound done read c (starts.Open (modes.Long q)) so spell fit = absurd so
 start_sound done read c (starts.Open (modes.LongOne q)) so spell fit = absurd so
 start_sound done read c (starts.Open (modes.LongTwo q)) so spell fit = absurd so
 start_sound done read c (starts.Open (modes.LongEscape q)) so spell fit = absurd so
+start_sound done read c (starts.Open (modes.FieldOpened h)) so spell fit = absurd so
+start_sound done read c (starts.Open (modes.FieldEmpty h)) so spell fit = absurd so
+start_sound done read c (starts.Open modes.Fielded) so spell fit = absurd so
 start_sound done read c (starts.Open modes.JoinReturn) so spell fit = absurd so
 start_sound done read c starts.Operator so spell fit = finished done operator (c ∷ []) (read ++ c ∷ []) (ap (λ t. t ++ c ∷ []) spell) fit (c, refl, so) (λ more. tt) (follows_any done operator (c ∷ []) refl)
 start_sound done read c starts.LineEnd so spell fit =
@@ -74,9 +77,9 @@ start_sound done read c starts.LineEnd so spell fit =
 start_sound done read c starts.Nothing so spell fit = tt
 
 -- the open piece ends before a character, which begins a new one
-break_sound : (done : List Piece) (m : Mode) (class : Class) (held read : List ℕ) (c : ℕ) → IsSound (scanned done m held) read → is_mark_class class ≡ false → InClass class held → ((more : List ℕ) → MayPrecede class held (c ∷ more)) → SoundIf (started (done ++ piece class held ∷ []) c (start_of c)) (read ++ c ∷ [])
+break_sound : (done : List Piece) (m : Mode) (class : Class) (held read : List ℕ) (c : ℕ) → IsSound (scanned done m held) read → is_mark_class class ≡ false → InPlainClass class held → ((more : List ℕ) → MayPrecedePlain class held (c ∷ more)) → SoundIf (started (done ++ piece class held ∷ []) c (start_of c)) (read ++ c ∷ [])
 break_sound done m class held read c sound unmarked is before =
-    start_sound (done ++ piece class held ∷ []) read c (start_of c) (starts_so c) (spelled-push done class held ∙ sound.spell) (λ more. AreReadBefore-push done class held (c ∷ more) (sound.fit (c ∷ more)) is (before more) (follows_any done class held unmarked))
+    start_sound (done ++ piece class held ∷ []) read c (start_of c) (starts_so c) (spelled-push done class held ∙ sound.spell) (λ more. AreReadPlain-push done class held (c ∷ more) (sound.fit (c ∷ more)) is (before more) (follows_any done class held unmarked))
 
 pub prefix_held : (s : Spelling) (done : List Piece) (held : List ℕ) → Holds (modes.Word s) done held → is_prefix held ≡ is_prefix_spelling s
 prefix_held s done held (first, others, is, opens, run, so) = ap is_prefix is ∙ prefix_spelling first others ∙ ap is_prefix_spelling (sym so)
@@ -124,13 +127,13 @@ returned_items q done held (before, slash, r, is, items, slashes, returns) =
     subst (HoldsSome q) (sym is) (items_push q before (slash ∷ r ∷ []) items (escaped_item q slash r slashes) tt)
 
 -- an empty string is before no quote of its kind
-empty_before : (q : ℕ) (held : List ℕ) (c : ℕ) (more : List ℕ) → HoldsQuotes (q ∷ q ∷ []) q held → eqb c q ≡ false → MayPrecede string held (c ∷ more)
+empty_before : (q : ℕ) (held : List ℕ) (c : ℕ) (more : List ℕ) → HoldsQuotes (q ∷ q ∷ []) q held → eqb c q ≡ false → MayPrecedePlain string held (c ∷ more)
 empty_before q held c more holds other prefix r spell begun quotes =
     let same : q ∷ q ∷ [] ≡ r ∷ r ∷ [] = same_quotes holds.prefix prefix q r (q ∷ []) (r ∷ []) (sym holds.spell ∙ spell) holds.begun begun holds.opens quotes in
     let one : q ≡ r = cc in
     subst (λ (d : ℕ). eqb c d ≡ false) one other
 
-empty_string : (q : ℕ) (held : List ℕ) → HoldsQuotes (q ∷ q ∷ []) q held → InClass string held
+empty_string : (q : ℕ) (held : List ℕ) → HoldsQuotes (q ∷ q ∷ []) q held → InPlainClass string held
 empty_string q held holds = inl (record { prefix = holds.prefix; quote = q; items = []; spell = holds.spell; begun = holds.begun; opens = holds.opens; each = refl })
 
 -- what the machine reads keeps it so, mode by mode
@@ -140,12 +143,12 @@ start_step done held read c sound =
     let empty : held ≡ [] = sound.holds.1 in
     cond_both (is_mark c) _ _ (λ (v : Move). SoundIf (moved (scanned done modes.Start held) c v) (read ++ c ∷ []))
     (λ h. closed_by_one done modes.Start held read c mark sound (c, ap (λ t. t ++ c ∷ []) empty, h) (λ more. tt) (subst (λ l. MayFollow l (piece mark (held ++ c ∷ []) ∷ [])) (sym sound.holds.0) tt))
-    (λ h. start_sound done read c (start_of c) (starts_so c) (sym (append-nil (spelled done)) ∙ ap (λ t. spelled done ++ t) (sym empty) ∙ sound.spell) (λ more. subst (λ t. AreReadBefore done (t ++ c ∷ more)) empty (sound.fit (c ∷ more))))
+    (λ h. start_sound done read c (start_of c) (starts_so c) (sym (append-nil (spelled done)) ∙ ap (λ t. spelled done ++ t) (sym empty) ∙ sound.spell) (λ more. subst (λ t. AreReadPlain done (t ++ c ∷ more)) empty (sound.fit (c ∷ more))))
 
 free_step : (done : List Piece) (held read : List ℕ) (c : ℕ) → IsSound (scanned done modes.Free held) read → SoundIf (step (scanned done modes.Free held) c) (read ++ c ∷ [])
 unfolding move_of
 free_step done held read c sound =
-    start_sound done read c (start_of c) (starts_so c) (sym (append-nil (spelled done)) ∙ ap (λ t. spelled done ++ t) (sym sound.holds) ∙ sound.spell) (λ more. subst (λ t. AreReadBefore done (t ++ c ∷ more)) sound.holds (sound.fit (c ∷ more)))
+    start_sound done read c (start_of c) (starts_so c) (sym (append-nil (spelled done)) ∙ ap (λ t. spelled done ++ t) (sym sound.holds) ∙ sound.spell) (λ more. subst (λ t. AreReadPlain done (t ++ c ∷ more)) sound.holds (sound.fit (c ∷ more)))
 
 space_step : (done : List Piece) (held read : List ℕ) (c : ℕ) → IsSound (scanned done modes.Space held) read → SoundIf (step (scanned done modes.Space held) c) (read ++ c ∷ [])
 unfolding move_of
@@ -249,7 +252,7 @@ long_two_step q done held read c sound =
     (λ h.
     let spell : held ++ c ∷ [] ≡ before ++ q ∷ q ∷ q ∷ [] = ap (λ t. t ++ c ∷ []) sound.holds.1 ∙ append_assoc before (q ∷ q ∷ []) (c ∷ []) ∙ ap (λ (d : ℕ). before ++ q ∷ q ∷ d ∷ []) (eqb-true c q h) in
     let whole = long_string q before long in
-    closed_by_one done (modes.LongTwo q) held read c string sound (subst (InClass string) (sym spell) (inr whole))
+    closed_by_one done (modes.LongTwo q) held read c string sound (subst (InPlainClass string) (sym spell) (inr whole))
     (λ more. long_something long.prefix (joined long.items ++ q ∷ q ∷ q ∷ []) q (held ++ c ∷ []) more (spell ∙ whole.spell) long.begun long.opens)
     (follows_any done string (held ++ c ∷ []) refl))
     (λ h. long_sound done (modes.LongTwo q) held read q c sound (subst (HoldsPrefix q) (sym sound.holds.1) (opening_two q before long)) h)
@@ -316,39 +319,21 @@ step_sound done (modes.Long q) held read c sound = long_step q done held read c 
 step_sound done (modes.LongOne q) held read c sound = long_one_step q done held read c sound
 step_sound done (modes.LongTwo q) held read c sound = long_two_step q done held read c sound
 step_sound done (modes.LongEscape q) held read c sound = long_escape_step q done held read c sound
+step_sound done (modes.FieldOpened h) held read c sound = absurd sound.holds
+step_sound done (modes.FieldEmpty h) held read c sound = absurd sound.holds
+step_sound done modes.Fielded held read c sound = absurd sound.holds
 step_sound done modes.Backslash held read c sound = slash_step done held read c sound
 step_sound done modes.JoinReturn held read c sound = join_step done held read c sound
 step_sound done modes.Return held read c sound = return_step done held read c sound
 
--- characters, one after another
-pub run_sound : (s : Scanned) (read cs : List ℕ) → IsSound s read → SoundIf (steps_from (Some s) cs) (read ++ cs)
-run_sound s read [] sound = subst (IsSound s) (sym (append-nil read)) sound
-run_sound s read (c ∷ cs) sound =
-    go (step s c) (step_sound s.done s.mode s.held read c sound) (λ t next. run_sound t (read ++ c ∷ []) cs next)
-  where
-    go : (o : Option Scanned) → SoundIf o (read ++ c ∷ []) → ((t : Scanned) → IsSound t (read ++ c ∷ []) → SoundIf (steps_from (Some t) cs) ((read ++ c ∷ []) ++ cs)) → SoundIf (steps_from o cs) (read ++ c ∷ cs)
-    go None next later = tt
-    go (Some t) next later = subst (SoundIf (steps_from (Some t) cs)) (append_assoc read (c ∷ []) cs) (later t next)
-
-pub start_is_sound : IsSound text_start []
-start_is_sound = record { spell = refl; holds = (refl, refl); fit = λ more. tt }
-
--- where the machine goes to from the start is sound
-pub sound_at : (cs : List ℕ) (s : Scanned) → steps_from (Some text_start) cs ≡ Some s → IsSound s cs
-sound_at cs s steps = subst (λ o. SoundIf o cs) steps (run_sound text_start [] cs start_is_sound)
-
 -- where the text may end, the pieces, the open one with them, are read to the text's end
-pub record EndsSound (s : Scanned) (read : List ℕ) : Type 0 where
-  pub spell : spelled (pieces_at s) ≡ read
-  pub fit : AreReadBefore (pieces_at s) []
+end_with : (done : List Piece) (m : Mode) (class : Class) (held read : List ℕ) → IsSound (scanned done m held) read → is_mark_class class ≡ false → InPlainClass class held → MayPrecedePlain class held [] → (spelled (done ++ piece class held ∷ []) ≡ read) × AreReadPlain (done ++ piece class held ∷ []) []
+end_with done m class held read sound unmarked is before = (spelled-push done class held ∙ sound.spell, AreReadPlain-push done class held [] (sound.fit []) is before (follows_any done class held unmarked))
 
-end_with : (done : List Piece) (m : Mode) (class : Class) (held read : List ℕ) → IsSound (scanned done m held) read → is_mark_class class ≡ false → InClass class held → MayPrecede class held [] → (spelled (done ++ piece class held ∷ []) ≡ read) × AreReadBefore (done ++ piece class held ∷ []) []
-end_with done m class held read sound unmarked is before = (spelled-push done class held ∙ sound.spell, AreReadBefore-push done class held [] (sound.fit []) is before (follows_any done class held unmarked))
+end_none : (done : List Piece) (m : Mode) (held read : List ℕ) → IsSound (scanned done m held) read → held ≡ [] → (spelled done ≡ read) × AreReadPlain done []
+end_none done m held read sound empty = (sym (append-nil (spelled done)) ∙ ap (λ t. spelled done ++ t) (sym empty) ∙ sound.spell, subst (λ t. AreReadPlain done (t ++ [])) empty (sound.fit []))
 
-end_none : (done : List Piece) (m : Mode) (held read : List ℕ) → IsSound (scanned done m held) read → held ≡ [] → (spelled done ≡ read) × AreReadBefore done []
-end_none done m held read sound empty = (sym (append-nil (spelled done)) ∙ ap (λ t. spelled done ++ t) (sym empty) ∙ sound.spell, subst (λ t. AreReadBefore done (t ++ [])) empty (sound.fit []))
-
-pub end_sound : (done : List Piece) (m : Mode) (held read : List ℕ) → IsSound (scanned done m held) read → is_final m ≡ true → (spelled (closed m done held) ≡ read) × AreReadBefore (closed m done held) []
+pub end_sound : (done : List Piece) (m : Mode) (held read : List ℕ) → IsSound (scanned done m held) read → is_final m ≡ true → (spelled (closed m done held) ≡ read) × AreReadPlain (closed m done held) []
 end_sound done modes.Start held read sound may = end_none done modes.Start held read sound sound.holds.1
 end_sound done modes.Free held read sound may = end_none done modes.Free held read sound sound.holds
 end_sound done modes.Space held read sound may = end_with done modes.Space space held read sound refl sound.holds refl
@@ -363,11 +348,9 @@ end_sound done (modes.Long q) held read sound may = absurd (both_ways _ refl may
 end_sound done (modes.LongOne q) held read sound may = absurd (both_ways _ refl may)
 end_sound done (modes.LongTwo q) held read sound may = absurd (both_ways _ refl may)
 end_sound done (modes.LongEscape q) held read sound may = absurd (both_ways _ refl may)
+end_sound done (modes.FieldOpened h) held read sound may = absurd (both_ways _ refl may)
+end_sound done (modes.FieldEmpty h) held read sound may = absurd sound.holds
+end_sound done modes.Fielded held read sound may = absurd (both_ways _ refl may)
 end_sound done modes.Backslash held read sound may = absurd (both_ways _ refl may)
 end_sound done modes.JoinReturn held read sound may = end_with done modes.JoinReturn join held read sound refl (sound.holds.0, sound.holds.1 ∷ [], sound.holds.2, sound.holds.3, return (ap (λ d. d ∷ []) (return_is sound.holds.1 sound.holds.4))) (and_right _ _ refl)
 end_sound done modes.Return held read sound may = end_with done modes.Return line_end held read sound refl (return (sound.holds.1 ∙ ap (λ d. d ∷ []) (return_is sound.holds.0 sound.holds.2))) (and_right _ _ refl)
-
-pub ends_sound : (cs : List ℕ) (s : Scanned) → steps_from (Some text_start) cs ≡ Some s → is_final s.mode ≡ true → EndsSound s cs
-ends_sound cs s steps may =
-    let at_end = end_sound s.done s.mode s.held cs (sound_at cs s steps) may in
-    record { spell = at_end.0; fit = at_end.1 }

@@ -5,7 +5,7 @@ use Rattle.std.proofs.lemmas.List.Folds.{list_all-append}
 use Rattle.std.proofs.lemmas.Bool.{and_parts, and_from, or_parts, eq-eqb, eqb-true, both_ways, cases_Bool, not-true}
 use Rattle.py_lines.specs.Character.{is_quote, is_line_feed, is_return, is_break, is_backslash, is_barred}
 use Rattle.py_lines.specs.Piece.{string, Piece, begins}
-use Rattle.py_lines.specs.PieceGrammar.{IsPrefix, is_item, is_bare, is_short_item, joined, begins_triple, has_triple, MayPrecede}
+use Rattle.py_lines.specs.PieceGrammar.{IsPrefix, is_item, is_bare, is_short_item, joined, begins_triple, has_triple, MayPrecedePlain}
 use Rattle.py_lines.specs.declared.mode.Spelling.{Spelling}
 use Rattle.py_lines.specs.declared.mode.Mode.{Mode}
 use Rattle.py_lines.specs.declared.mode.Mode.TheVariants as modes
@@ -197,7 +197,7 @@ stops_so : (from : Scanned) (prefix : List ℕ) (q : ℕ) (body rest : List ℕ)
 stops_so from [] q body rest h = h
 stops_so from (a ∷ bs) q body rest h = h
 
-pub find_short : (from : Scanned) (prefix : List ℕ) (q : ℕ) (items : List (List ℕ)) (rest : List ℕ) → IsPrefix prefix → is_quote q ≡ true → list_all (is_short_item q) items ≡ true → StopsBefore from.mode (prefix ++ q ∷ ((joined items ++ q ∷ []) ++ rest)) → MayPrecede string (prefix ++ (q ∷ joined items ++ q ∷ [])) rest → Finds from (prefix ++ (q ∷ joined items ++ q ∷ [])) (piece string (prefix ++ (q ∷ joined items ++ q ∷ [])) ∷ []) rest
+pub find_short : (from : Scanned) (prefix : List ℕ) (q : ℕ) (items : List (List ℕ)) (rest : List ℕ) → IsPrefix prefix → is_quote q ≡ true → list_all (is_short_item q) items ≡ true → StopsBefore from.mode (prefix ++ q ∷ ((joined items ++ q ∷ []) ++ rest)) → MayPrecedePlain string (prefix ++ (q ∷ joined items ++ q ∷ [])) rest → Finds from (prefix ++ (q ∷ joined items ++ q ∷ [])) (piece string (prefix ++ (q ∷ joined items ++ q ∷ [])) ∷ []) rest
 find_short from prefix q [] rest is quotes each stops before =
     let done = pieces_at from in
     record {
@@ -222,35 +222,35 @@ find_short from prefix q (i ∷ items) rest is quotes each stops before =
     }
 
 -- how many quotes stand directly before a place in a long string
-pub data Seen : Type 0 where
-  none : Seen
-  one : Seen
-  two : Seen
+pub data QuotesBefore : Type 0 where
+  none : QuotesBefore
+  one : QuotesBefore
+  two : QuotesBefore
 
-abbrev pub mode_at : ℕ → Seen → Mode
+abbrev pub mode_at : ℕ → QuotesBefore → Mode
 mode_at q none = modes.Long q
 mode_at q one = modes.LongOne q
 mode_at q two = modes.LongTwo q
 
-abbrev pub quotes_before : ℕ → Seen → List (List ℕ)
+abbrev pub quotes_before : ℕ → QuotesBefore → List (List ℕ)
 quotes_before q none = []
 quotes_before q one = (q ∷ []) ∷ []
 quotes_before q two = (q ∷ []) ∷ (q ∷ []) ∷ []
 
 -- one more quote; the third closes the string
-abbrev pub next : Seen → Seen
+abbrev pub next : QuotesBefore → QuotesBefore
 next none = one
 next one = two
 next two = two
 
-abbrev pub seen_with : ℕ → Seen → List ℕ → Seen
+abbrev pub seen_with : ℕ → QuotesBefore → List ℕ → QuotesBefore
 seen_with q seen item = cond (is_bare (λ c. c == q) item) (next seen) none
 
-abbrev pub seen_after : ℕ → Seen → List (List ℕ) → Seen
+abbrev pub seen_after : ℕ → QuotesBefore → List (List ℕ) → QuotesBefore
 seen_after q seen [] = seen
 seen_after q seen (item ∷ items) = seen_after q (seen_with q seen item) items
 
-long_moves : (q c : ℕ) (seen : Seen) → eqb c q ≡ false → move_of (mode_at q seen) c ≡ long_move q c
+long_moves : (q c : ℕ) (seen : QuotesBefore) → eqb c q ≡ false → move_of (mode_at q seen) c ≡ long_move q c
 unfolding move_of
 long_moves q c none other = rw other
 long_moves q c one other = rw other
@@ -265,7 +265,7 @@ unfolding long_move
 long_slash q c slash = rw slash
 
 -- a backslash in a long string
-pub long_escapes : (q c : ℕ) (seen : Seen) → is_quote q ≡ true → is_backslash c ≡ true → move_of (mode_at q seen) c ≡ moves.Grows (modes.LongEscape q)
+pub long_escapes : (q c : ℕ) (seen : QuotesBefore) → is_quote q ≡ true → is_backslash c ≡ true → move_of (mode_at q seen) c ≡ moves.Grows (modes.LongEscape q)
 long_escapes q c seen quotes slash = long_moves q c seen (not_quote c q quotes (slash-not-quote c slash)) ∙ long_slash q c slash
 
 long_escaped : (q c : ℕ) → move_of (modes.LongEscape q) c ≡ moves.Grows (modes.Long q)
@@ -289,7 +289,7 @@ unfolding move_of
 long-opens q = rw (eq-eqb q q refl)
 
 -- an item that is no quote of the string
-long_other : (done : List Piece) (q : ℕ) (seen : Seen) (held item : List ℕ) → is_quote q ≡ true → is_item item ≡ true → is_bare (λ c. c == q) item ≡ false → steps_from (Some (scanned done (mode_at q seen) held)) item ≡ Some (scanned done (modes.Long q) (held ++ item))
+long_other : (done : List Piece) (q : ℕ) (seen : QuotesBefore) (held item : List ℕ) → is_quote q ≡ true → is_item item ≡ true → is_bare (λ c. c == q) item ≡ false → steps_from (Some (scanned done (mode_at q seen) held)) item ≡ Some (scanned done (modes.Long q) (held ++ item))
 long_other done q seen held [] quotes is other = absurd (both_ways _ refl is)
 long_other done q seen held (c ∷ []) quotes is other = grown done (mode_at q seen) (modes.Long q) held c [] (long_moves q c seen other ∙ long_bare q c (not-true _ is))
 long_other done q seen held (c ∷ d ∷ []) quotes is other =
@@ -311,7 +311,7 @@ bare_quote q (c ∷ []) h = ap (λ d. d ∷ []) (eqb-true c q h)
 bare_quote q (c ∷ d ∷ cs) h = absurd (both_ways _ refl h)
 
 -- after a quote
-after_quote : (q : ℕ) (seen : Seen) (items : List (List ℕ)) → has_triple q (quotes_before q seen ++ (q ∷ []) ∷ items) ≡ false → has_triple q (quotes_before q (next seen) ++ items) ≡ false
+after_quote : (q : ℕ) (seen : QuotesBefore) (items : List (List ℕ)) → has_triple q (quotes_before q seen ++ (q ∷ []) ∷ items) ≡ false → has_triple q (quotes_before q (next seen) ++ items) ≡ false
 after_quote q none items h = h
 after_quote q one items h = h
 after_quote q two items h = absurd (both_ways _ (or_parts (begins_triple q ((q ∷ []) ∷ (q ∷ []) ∷ (q ∷ []) ∷ items)) _ h).0 (rw (eq-eqb q q refl)))
@@ -320,17 +320,17 @@ tail_triple : (q : ℕ) (item : List ℕ) (items : List (List ℕ)) → has_trip
 tail_triple q item items h = (or_parts (begins_triple q (item ∷ items)) (has_triple q items) h).1
 
 -- after another item
-after_other : (q : ℕ) (seen : Seen) (item : List ℕ) (items : List (List ℕ)) → has_triple q (quotes_before q seen ++ item ∷ items) ≡ false → has_triple q items ≡ false
+after_other : (q : ℕ) (seen : QuotesBefore) (item : List ℕ) (items : List (List ℕ)) → has_triple q (quotes_before q seen ++ item ∷ items) ≡ false → has_triple q items ≡ false
 after_other q none item items h = tail_triple q item items h
 after_other q one item items h = tail_triple q item items (tail_triple q (q ∷ []) (item ∷ items) h)
 after_other q two item items h = tail_triple q item items (tail_triple q (q ∷ []) (item ∷ items) (tail_triple q (q ∷ []) ((q ∷ []) ∷ item ∷ items) h))
 
-quote_grows : (done : List Piece) (q : ℕ) (seen : Seen) (held : List ℕ) (items : List (List ℕ)) → has_triple q (quotes_before q seen ++ (q ∷ []) ∷ items) ≡ false → steps_from (Some (scanned done (mode_at q seen) held)) (q ∷ []) ≡ Some (scanned done (mode_at q (next seen)) (held ++ q ∷ []))
+quote_grows : (done : List Piece) (q : ℕ) (seen : QuotesBefore) (held : List ℕ) (items : List (List ℕ)) → has_triple q (quotes_before q seen ++ (q ∷ []) ∷ items) ≡ false → steps_from (Some (scanned done (mode_at q seen) held)) (q ∷ []) ≡ Some (scanned done (mode_at q (next seen)) (held ++ q ∷ []))
 quote_grows done q none held items h = grown done (modes.Long q) (modes.LongOne q) held q [] (long-one q)
 quote_grows done q one held items h = grown done (modes.LongOne q) (modes.LongTwo q) held q [] (long-two q)
 quote_grows done q two held items h = absurd (both_ways _ (or_parts (begins_triple q ((q ∷ []) ∷ (q ∷ []) ∷ (q ∷ []) ∷ items)) _ h).0 (rw (eq-eqb q q refl)))
 
-pub run_long : (done : List Piece) (q : ℕ) (seen : Seen) (held : List ℕ) (items : List (List ℕ)) → is_quote q ≡ true → list_all is_item items ≡ true → has_triple q (quotes_before q seen ++ items) ≡ false → steps_from (Some (scanned done (mode_at q seen) held)) (joined items) ≡ Some (scanned done (mode_at q (seen_after q seen items)) (held ++ joined items))
+pub run_long : (done : List Piece) (q : ℕ) (seen : QuotesBefore) (held : List ℕ) (items : List (List ℕ)) → is_quote q ≡ true → list_all is_item items ≡ true → has_triple q (quotes_before q seen ++ items) ≡ false → steps_from (Some (scanned done (mode_at q seen) held)) (joined items) ≡ Some (scanned done (mode_at q (seen_after q seen items)) (held ++ joined items))
 run_long done q seen held [] quotes each triple = all_held done (mode_at q seen) held
 run_long done q seen held (i ∷ is) quotes each triple =
     let parts = and_parts (is_item i) (list_all is_item is) each in
@@ -341,19 +341,19 @@ run_long done q seen held (i ∷ is) quotes each triple =
     let so = subst (λ (j : List ℕ). has_triple q (quotes_before q seen ++ j ∷ is) ≡ false) same triple in
     ap (λ o. steps_from o (joined is)) (subst (λ (j : List ℕ). steps_from (Some (scanned done (mode_at q seen) held)) j ≡ Some (scanned done (mode_at q (next seen)) (held ++ j))) (sym same) (quote_grows done q seen held is so))
     ∙ run_long done q (next seen) (held ++ i) is quotes parts.1 (after_quote q seen is so)
-    ∙ ap (λ (s : Seen). Some (scanned done (mode_at q (seen_after q s is)) ((held ++ i) ++ joined is))) (sym (ap (λ (b : Bool). cond b (next seen) none) h)))
+    ∙ ap (λ (s : QuotesBefore). Some (scanned done (mode_at q (seen_after q s is)) ((held ++ i) ++ joined is))) (sym (ap (λ (b : Bool). cond b (next seen) none) h)))
     (λ (h : is_bare (λ c. c == q) i ≡ false).
     ap (λ o. steps_from o (joined is)) (long_other done q seen held i quotes parts.0 h)
     ∙ run_long done q none (held ++ i) is quotes parts.1 (after_other q seen i is triple)
-    ∙ ap (λ (s : Seen). Some (scanned done (mode_at q (seen_after q s is)) ((held ++ i) ++ joined is))) (sym (ap (λ (b : Bool). cond b (next seen) none) h)))
+    ∙ ap (λ (s : QuotesBefore). Some (scanned done (mode_at q (seen_after q s is)) ((held ++ i) ++ joined is))) (sym (ap (λ (b : Bool). cond b (next seen) none) h)))
     (cases_Bool (is_bare (λ c. c == q) i))
     ∙ ap (λ t. Some (scanned done (mode_at q (seen_after q seen (i ∷ is))) t)) (append_assoc held i (joined is))
 
-seen_after-append : (q : ℕ) (seen : Seen) (xs ys : List (List ℕ)) → seen_after q seen (xs ++ ys) ≡ seen_after q (seen_after q seen xs) ys
+seen_after-append : (q : ℕ) (seen : QuotesBefore) (xs ys : List (List ℕ)) → seen_after q seen (xs ++ ys) ≡ seen_after q (seen_after q seen xs) ys
 seen_after-append q seen [] ys = refl
 seen_after-append q seen (x ∷ xs) ys = seen_after-append q (seen_with q seen x) xs ys
 
-two_quotes : (q : ℕ) (seen : Seen) → seen_after q seen ((q ∷ []) ∷ (q ∷ []) ∷ []) ≡ two
+two_quotes : (q : ℕ) (seen : QuotesBefore) → seen_after q seen ((q ∷ []) ∷ (q ∷ []) ∷ []) ≡ two
 two_quotes q none = rw (eq-eqb q q refl)
 two_quotes q one = rw (eq-eqb q q refl)
 two_quotes q two = rw (eq-eqb q q refl)
@@ -387,7 +387,7 @@ find_long from prefix q items rest is quotes each triple stops =
           ∙ ap (steps_from (Some (scanned done (modes.Long q) opening))) (sym cut)
           ∙ steps_from-append (Some (scanned done (modes.Long q) opening)) (joined all) (q ∷ [])
           ∙ ap (λ o. steps_from o (q ∷ [])) (run_long done q none opening all quotes (list_all-append is_item items ((q ∷ []) ∷ (q ∷ []) ∷ []) ∙ and_from _ _ each (quotes_items q quotes)) triple)
-          ∙ ap (λ (s : Seen). steps_from (Some (scanned done (mode_at q s) (opening ++ joined all))) (q ∷ [])) seen
+          ∙ ap (λ (s : QuotesBefore). steps_from (Some (scanned done (mode_at q s) (opening ++ joined all))) (q ∷ [])) seen
           ∙ closes done (modes.LongTwo q) (opening ++ joined all) q (long-closes q);
       pieces_are = ap (λ t. done ++ piece string t ∷ []) (append_assoc opening (joined all) (q ∷ []) ∙ ap (λ t. opening ++ t) cut ∙ append_assoc prefix (q ∷ q ∷ q ∷ []) ends);
       stops = stops-free rest;

@@ -1,7 +1,7 @@
 -- A word's token, as the machine keeps it.
 use Rattle.std.proofs.Common.{◌≡◌, ℕ, Bool, true, false, cond, Some, List, [], ◌∷◌, refl, ap, ◌∙◌}
 use Rattle.std.proofs.lemmas.Bool.{cond_both}
-use Rattle.py_lines.specs.Character.{is_digit, is_r, is_b, is_f, is_u}
+use Rattle.py_lines.specs.Character.{is_digit, is_r, is_b, is_f, is_t, is_u}
 use Rattle.py_lines.specs.declared.mode.Spelling.{Spelling}
 use Rattle.py_lines.specs.declared.mode.Spelling.TheVariants as spellings
 use Rattle.py_lines.specs.declared.mode.Mode.TheVariants as modes
@@ -21,10 +21,12 @@ is_number other = false
 never_number : (s : Spelling) (c : ℕ) → is_number s ≡ false → is_number (spelling_with s c) ≡ false
 unfolding spelling_with
 never_number spellings.Number c h = absurd (cc)
-never_number spellings.R c h = cond_both (is_b c) _ _ (λ s. is_number s ≡ false) (λ _. refl) (λ _. cond_both (is_f c) spellings.Fr spellings.Name (λ s. is_number s ≡ false) (λ _. refl) (λ _. refl))
+never_number spellings.R c h = cond_both (is_b c) _ _ (λ s. is_number s ≡ false) (λ _. refl) (λ _. cond_both (is_f c) _ _ (λ s. is_number s ≡ false) (λ _. refl) (λ _. cond_both (is_t c) spellings.Tr spellings.Name (λ s. is_number s ≡ false) (λ _. refl) (λ _. refl)))
 never_number spellings.B c h = cond_both (is_r c) spellings.Prefix spellings.Name (λ s. is_number s ≡ false) (λ _. refl) (λ _. refl)
 never_number spellings.F c h = cond_both (is_r c) spellings.Fr spellings.Name (λ s. is_number s ≡ false) (λ _. refl) (λ _. refl)
 never_number spellings.Fr c h = refl
+never_number spellings.T c h = cond_both (is_r c) spellings.Tr spellings.Name (λ s. is_number s ≡ false) (λ _. refl) (λ _. refl)
+never_number spellings.Tr c h = refl
 never_number spellings.Prefix c h = refl
 never_number spellings.Name c h = refl
 
@@ -38,6 +40,8 @@ name_token spellings.R h = refl
 name_token spellings.B h = refl
 name_token spellings.F h = refl
 name_token spellings.Fr h = refl
+name_token spellings.T h = refl
+name_token spellings.Tr h = refl
 name_token spellings.Prefix h = refl
 name_token spellings.Name h = refl
 
@@ -52,4 +56,5 @@ word_token first others =
     (λ n. cond_both (is_r first) _ _ Q (λ _. name spellings.R refl n)
     (λ _. cond_both (is_b first) _ _ Q (λ _. name spellings.B refl n)
     (λ _. cond_both (is_f first) _ _ Q (λ _. name spellings.F refl n)
-    (λ _. cond_both (is_u first) _ _ Q (λ _. name spellings.Prefix refl n) (λ _. name spellings.Name refl n)))))
+    (λ _. cond_both (is_t first) _ _ Q (λ _. name spellings.T refl n)
+    (λ _. cond_both (is_u first) _ _ Q (λ _. name spellings.Prefix refl n) (λ _. name spellings.Name refl n))))))

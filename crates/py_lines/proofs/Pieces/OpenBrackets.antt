@@ -1,9 +1,9 @@
 -- Brackets are in pairs exactly where a stack of open ones is empty at the end.
-use Rattle.std.proofs.Common.{◌≡◌, ℕ, suc, ◌<◌, ◌≤◌, Bool, true, false, ◌==◌, Option, None, Some, List, [], ◌∷◌, ◌++◌, length, nat_lt, refl, sym, ap, ◌∙◌, subst, append_assoc, append-nil, add-one, arith}
+use Rattle.std.proofs.Common.{◌≡◌, ℕ, suc, ◌<◌, Bool, true, false, ◌==◌, Option, None, Some, List, [], ◌∷◌, ◌++◌, length, nat_lt, refl, sym, ap, ◌∙◌, subst, append_assoc, append-nil, add-one, arith}
 use Rattle.std.proofs.lemmas.Bool.{cond_both, or_parts, or_from, both_ways, lt-ltb, ltb-true}
 use Rattle.py_lines.specs.Piece.{Class, mark, space, word, string, operator, comment, join, line_end, Piece, begins, spelled}
 use Rattle.py_lines.specs.Balance as balance
-use Rattle.py_lines.specs.Balance.{is_opening, is_closing, closing_of, is_operator_that, is_opener, is_closer, ArePair, IsBalanced, depth_after, depth_through, IsShallow}
+use Rattle.py_lines.specs.Balance.{is_opening, is_closing, closing_of, is_operator_that, is_opener, is_closer, ArePair, IsBalanced, depth_after, depth_through, IsShallowPlain}
 use Rattle.py_lines.specs.LogicalLine.{first_or_zero, byte_len}
 use Rattle.py_lines.specs.Private.Machine.{Bracket, closed_by, opened_by, brackets_after, brackets_through, brackets_of}
 use Rattle.py_lines.proofs.Text.CharacterTests.{none_of}
@@ -63,14 +63,14 @@ pub depth_through-append : (d : ℕ) (ps qs : List Piece) → depth_through d (p
 depth_through-append d [] qs = refl
 depth_through-append d (p ∷ ps) qs = depth_through-append (depth_after d p) ps qs
 
-pub IsShallow-append : (d : ℕ) (ps qs : List Piece) → IsShallow d ps → IsShallow (depth_through d ps) qs → IsShallow d (ps ++ qs)
-IsShallow-append d [] qs h k = k
-IsShallow-append d (p ∷ ps) qs h k = (h.0, IsShallow-append (depth_after d p) ps qs h.1 k)
+pub IsShallowPlain-append : (d : ℕ) (ps qs : List Piece) → IsShallowPlain d ps → IsShallowPlain (depth_through d ps) qs → IsShallowPlain d (ps ++ qs)
+IsShallowPlain-append d [] qs h k = k
+IsShallowPlain-append d (p ∷ ps) qs h k = (h.0, IsShallowPlain-append (depth_after d p) ps qs h.1 k)
 
-pub IsShallow-parts : (d : ℕ) (ps qs : List Piece) → IsShallow d (ps ++ qs) → IsShallow d ps × IsShallow (depth_through d ps) qs
-IsShallow-parts d [] qs h = (tt, h)
-IsShallow-parts d (p ∷ ps) qs h =
-    let others = IsShallow-parts (depth_after d p) ps qs h.1 in
+pub IsShallowPlain-parts : (d : ℕ) (ps qs : List Piece) → IsShallowPlain d (ps ++ qs) → IsShallowPlain d ps × IsShallowPlain (depth_through d ps) qs
+IsShallowPlain-parts d [] qs h = (tt, h)
+IsShallowPlain-parts d (p ∷ ps) qs h =
+    let others = IsShallowPlain-parts (depth_after d p) ps qs h.1 in
     ((h.0, others.0), others.1)
 
 -- a balanced list leaves the depth as it was
@@ -99,9 +99,6 @@ through-append (Some st) done (p ∷ ps) qs =
     through-append (brackets_after st (byte_len (spelled done)) p) (done ++ p ∷ []) ps qs
     ∙ ap (λ l. brackets_through (brackets_through (brackets_after st (byte_len (spelled done)) p) (done ++ p ∷ []) ps) l qs) (append_assoc done (p ∷ []) ps)
 
-bracket : ℕ → ℕ → Bracket
-bracket opener place = record { opener = opener; place = place }
-
 pub opener_pushes : (st : List Bracket) (place : ℕ) (p : Piece) → is_opener p ≡ true → length st < 200 → brackets_after st place p ≡ Some (record { opener = first_or_zero p.text; place = place } ∷ st)
 unfolding brackets_after
 opener_pushes st place p h deep = rw (h, lt-ltb (length st) 200 deep)
@@ -120,26 +117,26 @@ pair_kind a b both =
     (begins_first is_opening (λ c. begins (λ d. d == closing_of c) b.text) a.text (operator_begins is_opening a.class a.text both.opens) both.kind)
 
 -- a balanced list leaves the stack as it was
-pub balanced_through : (ps : List Piece) → IsBalanced ps → (st : List Bracket) (done : List Piece) → IsShallow (length st) ps → brackets_through (Some st) done ps ≡ Some st
+pub balanced_through : (ps : List Piece) → IsBalanced ps → (st : List Bracket) (done : List Piece) → IsShallowPlain (length st) ps → brackets_through (Some st) done ps ≡ Some st
 balanced_through ps (balance.none _ is) st done shallow = ap (brackets_through (Some st) done) is
 balanced_through ps (balance.one _ p is other) st done shallow =
     let parts = or_parts (is_opener p) (is_closer p) other in
     ap (brackets_through (Some st) done) is ∙ ap (λ o. brackets_through o (done ++ p ∷ []) []) (other_keeps st (byte_len (spelled done)) p parts.0 parts.1)
 balanced_through ps (balance.pair _ inner a b is both within) st done shallow =
-    let parts = IsShallow-parts (length st) (a ∷ inner) (b ∷ []) (subst (IsShallow (length st)) is shallow) in
+    let parts = IsShallowPlain-parts (length st) (a ∷ inner) (b ∷ []) (subst (IsShallowPlain (length st)) is shallow) in
     let top : Bracket = record { opener = first_or_zero a.text; place = byte_len (spelled done) } in
     let middle : List Piece = done ++ a ∷ [] in
     ap (brackets_through (Some st) done) is
     ∙ through-append (Some st) done (a ∷ inner) (b ∷ [])
     ∙ ap (λ o. brackets_through (brackets_through o middle inner) (done ++ a ∷ inner) (b ∷ [])) (opener_pushes st (byte_len (spelled done)) a both.opens (parts.0.0 both.opens))
-    ∙ ap (λ o. brackets_through o (done ++ a ∷ inner) (b ∷ [])) (balanced_through inner within (top ∷ st) middle (subst (λ (n : ℕ). IsShallow n inner) (depth-opener (length st) a both.opens) parts.0.1))
+    ∙ ap (λ o. brackets_through o (done ++ a ∷ inner) (b ∷ [])) (balanced_through inner within (top ∷ st) middle (subst (λ (n : ℕ). IsShallowPlain n inner) (depth-opener (length st) a both.opens) parts.0.1))
     ∙ ap (λ o. brackets_through o ((done ++ a ∷ inner) ++ b ∷ []) []) (closer_pops st (byte_len (spelled (done ++ a ∷ inner))) top b both.closes (pair_kind a b both))
 balanced_through ps (balance.both _ first second is left right) st done shallow =
-    let parts = IsShallow-parts (length st) first second (subst (IsShallow (length st)) is shallow) in
+    let parts = IsShallowPlain-parts (length st) first second (subst (IsShallowPlain (length st)) is shallow) in
     ap (brackets_through (Some st) done) is
     ∙ through-append (Some st) done first second
     ∙ ap (λ o. brackets_through o (done ++ first) second) (balanced_through first left st done parts.0)
-    ∙ balanced_through second right st (done ++ first) (subst (λ (n : ℕ). IsShallow n second) (balanced_depth first left (length st)) parts.1)
+    ∙ balanced_through second right st (done ++ first) (subst (λ (n : ℕ). IsShallowPlain n second) (balanced_depth first left (length st)) parts.1)
 
 -- the brackets that are open after pieces, each with the balanced pieces after it
 pub data StandsAt : List Bracket → List Piece → Type 0 where
@@ -148,7 +145,7 @@ pub data StandsAt : List Bracket → List Piece → Type 0 where
 
 pub record Stands (bs : List Bracket) (ps : List Piece) : Type 0 where
   pub at : StandsAt bs ps
-  pub shallow : IsShallow 0 ps
+  pub shallow : IsShallowPlain 0 ps
   pub depth : depth_through 0 ps ≡ length bs
 
 stands-more : (bs : List Bracket) (ps qs : List Piece) → StandsAt bs ps → IsBalanced qs → StandsAt bs (ps ++ qs)
@@ -163,8 +160,8 @@ StandsIf (Some bs) ps = Stands bs ps
 depth_push : (ps : List Piece) (p : Piece) (n m : ℕ) → depth_through 0 ps ≡ n → depth_after n p ≡ m → depth_through 0 (ps ++ p ∷ []) ≡ m
 depth_push ps p n m before after = depth_through-append 0 ps (p ∷ []) ∙ ap (λ (d : ℕ). depth_after d p) before ∙ after
 
-shallow_push : (ps : List Piece) (p : Piece) → IsShallow 0 ps → (is_opener p ≡ true → depth_through 0 ps < 200) → IsShallow 0 (ps ++ p ∷ [])
-shallow_push ps p before room = IsShallow-append 0 ps (p ∷ []) before (room, tt)
+shallow_push : (ps : List Piece) (p : Piece) → IsShallowPlain 0 ps → (is_opener p ≡ true → depth_through 0 ps < 200) → IsShallowPlain 0 (ps ++ p ∷ [])
+shallow_push ps p before room = IsShallowPlain-append 0 ps (p ∷ []) before (room, tt)
 
 stands-opener : (bs : List Bracket) (ps : List Piece) (p : Piece) → Stands bs ps → is_opener p ≡ true → StandsIf (opened_by (first_or_zero p.text) (byte_len (spelled ps)) bs) (ps ++ p ∷ [])
 stands-opener bs ps p stands opens =
@@ -240,12 +237,12 @@ balanced_at bs ps empty (level _ _ is within) = within
 balanced_at bs ps empty (inside _ _ b others outer inner a is spell out opens kind place within) = absurd (cc)
 
 -- an empty stack at the end says that brackets are in pairs, and never more than 200 open
-pub balanced-from_stack : (ps : List Piece) → brackets_of ps ≡ Some [] → IsBalanced ps × IsShallow 0 ps
+pub balanced-from_stack : (ps : List Piece) → brackets_of ps ≡ Some [] → IsBalanced ps × IsShallowPlain 0 ps
 balanced-from_stack ps steps =
     let at_end = stands ps [] steps in
     (balanced_at [] ps refl at_end.at, at_end.shallow)
 
-pub stack-from_balanced : (ps : List Piece) → IsBalanced ps → IsShallow 0 ps → brackets_of ps ≡ Some []
+pub stack-from_balanced : (ps : List Piece) → IsBalanced ps → IsShallowPlain 0 ps → brackets_of ps ≡ Some []
 stack-from_balanced ps balanced shallow = balanced_through ps balanced [] [] shallow
 
 -- the stack of the first pieces
@@ -258,26 +255,10 @@ stack_before ps qs bs steps = go (brackets_of ps) refl
         absurd (cc)
     go (Some first) is = (first, is)
 
--- no more than 200 are open
-abbrev pub HasRoom : Option (List Bracket) → Type 0
-HasRoom None = Unit {0}
-HasRoom (Some bs) = length bs ≤ 200
-
-room-closer : (c : ℕ) (bs : List Bracket) → length bs ≤ 200 → HasRoom (closed_by c bs)
-room-closer c [] room = tt
-room-closer c (b ∷ bs) room = cond_both (c == closing_of b.opener) (Some bs) None HasRoom (λ same. omega arith) (λ other. tt)
-
-room-push : (bs : List Bracket) (place : ℕ) (p : Piece) → length bs ≤ 200 → HasRoom (brackets_after bs place p)
-unfolding brackets_after
-room-push bs place p room =
-    cond_both (is_opener p) _ _ HasRoom
-    (λ opens. cond_both (nat_lt (length bs) 200) _ _ HasRoom (λ less. ltb-true (length bs) 200 less) (λ full. tt))
-    (λ opens_not. cond_both (is_closer p) _ _ HasRoom (λ closes. room-closer (first_or_zero p.text) bs room) (λ closes_not. room))
-
-room-through : (ps done : List Piece) (o : Option (List Bracket)) → HasRoom o → HasRoom (brackets_through o done ps)
-room-through ps done None room = tt
-room-through [] done (Some bs) room = room
-room-through (p ∷ ps) done (Some bs) room = room-through ps (done ++ p ∷ []) (brackets_after bs (byte_len (spelled done)) p) (room-push bs (byte_len (spelled done)) p room)
-
-pub room_in : (ps : List Piece) (bs : List Bracket) → brackets_of ps ≡ Some bs → length bs ≤ 200
-room_in ps bs steps = subst HasRoom steps (room-through ps [] (Some []) (omega arith))
+-- the stack after one more piece
+pub stack_push : (done : List Piece) (p : Piece) (st : List Bracket) → brackets_of done ≡ Some st → brackets_of (done ++ p ∷ []) ≡ brackets_after st (byte_len (spelled done)) p
+stack_push done p st stack = through-append (Some []) [] done (p ∷ []) ∙ ap (λ o. brackets_through o done (p ∷ [])) stack ∙ go (brackets_after st (byte_len (spelled done)) p)
+  where
+    go : (o : Option (List Bracket)) → brackets_through o (done ++ p ∷ []) [] ≡ o
+    go None = refl
+    go (Some bs) = refl

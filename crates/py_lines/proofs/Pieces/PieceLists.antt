@@ -1,7 +1,8 @@
 -- Lists of pieces one after another.
 use Rattle.std.proofs.Common.{◌≡◌, ℕ, false, List, [], ◌∷◌, ◌++◌, refl, sym, ap, ◌∙◌, subst, append_assoc, append-nil}
 use Rattle.py_lines.specs.Piece.{Class, Piece, is_mark_class, begins_marked, spelled}
-use Rattle.py_lines.specs.PieceGrammar.{Grammar, without_fields, InClass, InClassIn, MayPrecede, MayPrecedeIn, AreReadIn, AreReadBefore, joined}
+use Rattle.py_lines.specs.PieceGrammar.{Grammar, without_fields, InPlainClass, InClassIn, MayPrecedePlain, MayPrecedeIn, AreReadIn, AreReadPlain, joined}
+use Rattle.py_lines.specs.Fields.{fielded, InClass, MayPrecede, AreReadBefore}
 
 abbrev pub piece : Class → List ℕ → Piece
 piece class text = record { class = class; text = text }
@@ -34,7 +35,7 @@ AreReadIn-append grammar (p ∷ ps) qs rest first second follows = (
     later (o ∷ os) h = h
 
 pub AreReadBefore-append : (ps qs : List Piece) (rest : List ℕ) → AreReadBefore ps (spelled qs ++ rest) → AreReadBefore qs rest → MayFollow ps qs → AreReadBefore (ps ++ qs) rest
-AreReadBefore-append ps qs rest first second follows = AreReadIn-append without_fields ps qs rest first second follows
+AreReadBefore-append ps qs rest first second follows = AreReadIn-append fielded ps qs rest first second follows
 
 -- the second part of pieces that are read, by any grammar of strings
 pub AreReadIn-second : (grammar : Grammar) (ps qs : List Piece) (rest : List ℕ) → AreReadIn grammar (ps ++ qs) rest → AreReadIn grammar qs rest
@@ -42,7 +43,7 @@ AreReadIn-second grammar [] qs rest fit = fit
 AreReadIn-second grammar (p ∷ ps) qs rest fit = AreReadIn-second grammar ps qs rest fit.3
 
 pub AreReadBefore-second : (ps qs : List Piece) (rest : List ℕ) → AreReadBefore (ps ++ qs) rest → AreReadBefore qs rest
-AreReadBefore-second ps qs rest fit = AreReadIn-second without_fields ps qs rest fit
+AreReadBefore-second ps qs rest fit = AreReadIn-second fielded ps qs rest fit
 
 -- one more piece
 pub AreReadIn-push : (grammar : Grammar) (ps : List Piece) (class : Class) (text rest : List ℕ) → AreReadIn grammar ps (text ++ rest) → InClassIn grammar class text → MayPrecedeIn grammar class text rest → MayFollow ps (piece class text ∷ []) → AreReadIn grammar (ps ++ piece class text ∷ []) rest
@@ -50,7 +51,10 @@ AreReadIn-push grammar ps class text rest fit is before follows =
     AreReadIn-append grammar ps (piece class text ∷ []) rest (subst (AreReadIn grammar ps) (ap (λ t. t ++ rest) (sym (append-nil text))) fit) (is, before, refl, tt) follows
 
 pub AreReadBefore-push : (ps : List Piece) (class : Class) (text rest : List ℕ) → AreReadBefore ps (text ++ rest) → InClass class text → MayPrecede class text rest → MayFollow ps (piece class text ∷ []) → AreReadBefore (ps ++ piece class text ∷ []) rest
-AreReadBefore-push ps class text rest fit is before follows = AreReadIn-push without_fields ps class text rest fit is before follows
+AreReadBefore-push ps class text rest fit is before follows = AreReadIn-push fielded ps class text rest fit is before follows
+
+pub AreReadPlain-push : (ps : List Piece) (class : Class) (text rest : List ℕ) → AreReadPlain ps (text ++ rest) → InPlainClass class text → MayPrecedePlain class text rest → MayFollow ps (piece class text ∷ []) → AreReadPlain (ps ++ piece class text ∷ []) rest
+AreReadPlain-push ps class text rest fit is before follows = AreReadIn-push without_fields ps class text rest fit is before follows
 
 pub spelled-push : (ps : List Piece) (class : Class) (text : List ℕ) → spelled (ps ++ piece class text ∷ []) ≡ spelled ps ++ text
 spelled-push ps class text = spelled-append ps (piece class text ∷ []) ∙ ap (λ t. spelled ps ++ t) (append-nil text)
@@ -79,4 +83,7 @@ AreReadIn-first grammar (p ∷ ps) qs rest fit = (
     marked-first (o ∷ os) rs h = h
 
 pub AreReadBefore-first : (ps qs : List Piece) (rest : List ℕ) → AreReadBefore (ps ++ qs) rest → AreReadBefore ps (spelled qs ++ rest)
-AreReadBefore-first ps qs rest fit = AreReadIn-first without_fields ps qs rest fit
+AreReadBefore-first ps qs rest fit = AreReadIn-first fielded ps qs rest fit
+
+pub AreReadPlain-first : (ps qs : List Piece) (rest : List ℕ) → AreReadPlain (ps ++ qs) rest → AreReadPlain ps (spelled qs ++ rest)
+AreReadPlain-first ps qs rest fit = AreReadIn-first without_fields ps qs rest fit

@@ -1,15 +1,16 @@
 -- A text that the machine doesn't go through, or may not stop at the end of, has the fault that the reader names.
-use Rattle.std.proofs.Common.{◌≡◌, ℕ, ◌+◌, ◌<◌, Bool, true, false, not, ◌&&◌, ◌||◌, None, Some, List, [], ◌∷◌, ◌++◌, length, take, drop, refl, sym, ap, ◌∙◌, subst, append_assoc, arith}
-use Rattle.std.specs.Prelude.{encode_utf8_all, if◌then◌else◌}
+use Rattle.std.proofs.Common.{◌≡◌, ℕ, ◌+◌, ◌<◌, false, not, ◌&&◌, None, Some, List, [], ◌∷◌, ◌++◌, length, take, drop, refl, sym, ap, ◌∙◌, subst, append_assoc, arith}
+use Rattle.std.specs.Prelude.{encode_utf8_all}
 use Rattle.std.specs.Borrow.{Bor}
 use Rattle.std.proofs.lemmas.Bool.{both_ways, cond_both}
 use Rattle.std.proofs.lemmas.Str.{encodes_same}
 use Rattle.std.proofs.Math.Seq.{take-append_seam}
 use Rattle.py_lines.specs.Character.{is_line_feed}
 use Rattle.py_lines.specs.Piece.{line_end, Piece, spelled}
-use Rattle.py_lines.specs.PieceGrammar.{AreReadBefore}
-use Rattle.py_lines.specs.LogicalLine.{LogicalLine, byte_len}
+use Rattle.py_lines.specs.Fields.{AreReadBefore}
+use Rattle.py_lines.specs.Faults.{IsCharacterFault}
 use Rattle.py_lines.specs.Lexed.{IsLexed, IsLexedToFault}
+use Rattle.py_lines.specs.LogicalLine.{LogicalLine, byte_len}
 use Rattle.py_lines.specs.Reader.{HasGiven, Fails}
 use Rattle.py_lines.specs.declared.fault.Fault.{Fault}
 use Rattle.py_lines.specs.declared.fault.FaultKind.{FaultKind}
@@ -21,8 +22,10 @@ use Rattle.py_lines.specs.declared.mode.Move.{Move}
 use Rattle.py_lines.specs.declared.scan.Stop.{Stop}
 use Rattle.py_lines.specs.declared.scan.Stop.TheVariants as stops
 use Rattle.py_lines.specs.declared.source.Source.{Source}
-use Rattle.py_lines.specs.Private.Machine.{step, moved, move_of, in_short, is_after_backslash, character_kind, character_place, Bracket, brackets_of, IsSound}
-use Rattle.py_lines.specs.Private.Scan.{line_start, IsUnderWay, none_open, is_return_mode, stack_of, stack_if, refused_place}
+use Rattle.py_lines.specs.Private.Machine.{moved, move_of, Bracket, brackets_of}
+use Rattle.py_lines.specs.Private.ScanMachine.{meet_of, scan_step, StringsFit, IsScanSound}
+use Rattle.py_lines.specs.declared.scan.Flaw.{Flaw}
+use Rattle.py_lines.specs.Private.Scan.{line_start, IsUnderWay, none_open, is_return_mode, stack_of, stack_if, IsRefusal}
 use Rattle.py_lines.specs.Reader.View.{reader_of}
 use Rattle.py_lines.specs.Private.LineState.{IsFaultAfter, first_mode}
 use Rattle.py_lines.specs.Private.Source.{HasScanned, FailsAfter}
@@ -30,13 +33,14 @@ use Rattle.py_lines.proofs.Pieces.PieceLists.{piece}
 use Rattle.py_lines.proofs.Machine.PieceSteps.{scanned, pieces_at}
 use Rattle.py_lines.proofs.Machine.LiveTexts.{keeps}
 use Rattle.py_lines.proofs.Pieces.OpenBrackets.{stack-from_balanced}
+use Rattle.py_lines.proofs.Pieces.ShallowPieces.{brackets_shallow, strings_shallow}
 use Rattle.py_lines.proofs.Lexings.Answers.{IsLineOf, HasPrefix, refused_at_character}
 use Rattle.py_lines.proofs.LogicalLines.Cuts.{byte_len-append}
 use Rattle.py_lines.proofs.LineScan.NextCharacter.{closed_one_line}
-use Rattle.py_lines.proofs.LineScan.LineSteps.{sound_steps, way_stop}
-use Rattle.py_lines.proofs.LineScan.TextSteps.{begun_sound, base_of, way_goes, Joined, joined, dead_at}
+use Rattle.py_lines.proofs.LineScan.TextSteps.{begun_sound, Base, base_of, way_goes, Joined, joined, dead_at}
 use Rattle.py_lines.proofs.Lexings.GivenLines.{Situation, base_lines}
-use Rattle.py_lines.proofs.Readers.LineAnswers.{situation, Within, prefix_spells, all_within}
+use Rattle.py_lines.proofs.Readers.LineFaults.{refused_fault, refused_within}
+use Rattle.py_lines.proofs.Readers.LineAnswers.{situation, Within, prefix_spells}
 
 -- the reader failed
 pub fails : (old new : Source) (kind : FaultKind) (offset : ℕ) (error : LexError) (at : FailsAfter old kind offset error new) → old.state.fault ≡ None → old.state.place < length old.bytes.now → ((lines : List LogicalLine) → HasGiven (reader_of old) lines → IsLexed old.bytes.now lines (Some at.keeps.fault)) → Fails (reader_of old) at.keeps.fault (reader_of new)
@@ -51,8 +55,8 @@ fails old new kind offset error at no_fault left all = record {
 }
 
 -- a CR that a line ends with isn't refused its next character
-pub open_return : (m : Mode) (done : List Piece) (held : List ℕ) (c : ℕ) (st : List Bracket) → brackets_of done ≡ Some st → stack_if (step (scanned done m held) c) ≡ None → (is_return_mode m && none_open st) && not (is_line_feed c) ≡ false → m ≡ modes.Return → none_open st ≡ false
-unfolding move_of
+pub open_return : (m : Mode) (done : List Piece) (held : List ℕ) (c : ℕ) (st : List Bracket) → brackets_of done ≡ Some st → stack_if (scan_step (scanned done m held) c) ≡ None → (is_return_mode m && none_open st) && not (is_line_feed c) ≡ false → m ≡ modes.Return → none_open st ≡ false
+unfolding meet_of move_of
 open_return modes.Return done held c (b ∷ bs) stacked refuses not_yet is = refl
 open_return modes.Return done held c [] stacked refuses not_yet is =
     absurd (cond_both (is_line_feed c) _ _ (λ (v : Move). stack_if (moved (scanned done modes.Return held) c v) ≡ None → ⊥)
@@ -60,15 +64,8 @@ open_return modes.Return done held c [] stacked refuses not_yet is =
     (λ other none. both_ways _ not_yet (ap not other)) refuses)
 open_return m done held c st stacked refuses not_yet is = absurd (cc)
 
-pub same_kind : (m n : Mode) (c : ℕ) → in_short m ≡ in_short n → is_after_backslash m ≡ is_after_backslash n → character_kind m c ≡ character_kind n c
-same_kind m n c short slash = rw (short, slash) refl
-
-place_by : (b : Bool) (place k start stop done whole : ℕ) → place ≡ k → (b ≡ true → done ≡ k + start) → whole ≡ k + stop → place + (if b then start else stop) ≡ (if b then done else whole)
-place_by true place k start stop done whole here first second = ap (λ (n : ℕ). n + start) here ∙ sym (first refl)
-place_by false place k start stop done whole here first second = ap (λ (n : ℕ). n + stop) here ∙ sym second
-
 module _ (old : Source) (stop : Stop) (has : HasScanned old stop) where
-  pub start_sound : IsSound (line_start (first_mode old.state.place)) []
+  pub start_sound : IsScanSound (line_start (first_mode old.state.place)) []
   start_sound = begun_sound old.state.place
 
   abbrev pub here : (lines : List LogicalLine) → HasGiven (reader_of old) lines → Situation (reader_of old) old.characters.now lines has.scans.read has.scans.rest
@@ -78,14 +75,22 @@ module _ (old : Source) (stop : Stop) (has : HasScanned old stop) where
   base_fit lines given = subst (AreReadBefore (here lines given).given.first.pieces) (here lines given).split (here lines given).given.first.fit
 
   pub level : (lines : List LogicalLine) (given : HasGiven (reader_of old) lines) → brackets_of (here lines given).given.first.pieces ≡ Some []
-  level lines given = stack-from_balanced (here lines given).given.first.pieces (here lines given).given.first.balanced (here lines given).given.first.shallow
+  level lines given = stack-from_balanced (here lines given).given.first.pieces (here lines given).given.first.balanced (brackets_shallow 0 (here lines given).given.first.pieces (here lines given).given.first.shallow)
+
+  pub strings : (lines : List LogicalLine) (given : HasGiven (reader_of old) lines) → StringsFit 0 (here lines given).given.first.pieces
+  strings lines given = strings_shallow 0 (here lines given).given.first.pieces (here lines given).given.first.shallow
+
+  -- where the line begins
+  pub begins : (lines : List LogicalLine) (given : HasGiven (reader_of old) lines) → Base old.state.place (here lines given).given.first.pieces
+  begins lines given =
+      let s = here lines given in
+      base_of old.state.place s.given.first.pieces (has.scans.read ++ s.after) (base_fit lines given) s.ends s.given.first.here
 
   -- the machine over the whole text so far
   pub joins : (lines : List LogicalLine) (given : HasGiven (reader_of old) lines) (way : IsUnderWay (first_mode old.state.place) old.state.scan has.scans.read) → Joined (here lines given).given.first.pieces has.scans.read way.state (stack_of old.state.scan.brackets) (here lines given).after
   joins lines given way =
       let s = here lines given in
-      joined old.state.place s.given.first.pieces s.after (level lines given) has.scans.read way.state (stack_of old.state.scan.brackets) (base_fit lines given)
-      (base_of old.state.place s.given.first.pieces (has.scans.read ++ s.after) (base_fit lines given) s.ends s.given.first.here) (way_goes way)
+      joined old.state.place s.given.first.pieces s.after (level lines given) (strings lines given) has.scans.read way.state (stack_of old.state.scan.brackets) (base_fit lines given) (begins lines given) (way_goes way)
 
   pub whole : (lines : List LogicalLine) (given : HasGiven (reader_of old) lines) → (spelled (here lines given).given.first.pieces ++ has.scans.read) ++ (here lines given).after ≡ (here lines given).given.first.characters
   whole lines given =
@@ -117,42 +122,32 @@ module _ (old : Source) (stop : Stop) (has : HasScanned old stop) where
     none = closed_one_line way.state.mode way.state.done way.state.held (stack_of old.state.scan.brackets) way.stacked way.one_line open_yet;
   }
 
-  pub refused_within : (way : IsUnderWay (first_mode old.state.place) old.state.scan has.scans.read) → Within has.scans.read (refused_place old.state.scan)
-  refused_within way =
-      let sound = sound_steps (first_mode old.state.place) has.scans.read way.state start_sound way.steps in
-      cond_both (in_short old.state.scan.piece.mode || is_after_backslash old.state.scan.piece.mode) old.state.scan.piece.start old.state.scan.stop (Within has.scans.read)
-      (λ h. record { prefix = spelled way.state.done; later = way.state.held; split = sound.spell; size = way.tallies.start })
-      (λ h. all_within has.scans.read old.state.scan.stop (way_stop (first_mode old.state.place) old.state.scan has.scans.read way start_sound))
-
-  refused_offset : (lines : List LogicalLine) (given : HasGiven (reader_of old) lines) (way : IsUnderWay (first_mode old.state.place) old.state.scan has.scans.read) → old.state.place + refused_place old.state.scan ≡ character_place (joins lines given way).state (spelled (here lines given).given.first.pieces ++ has.scans.read)
-  refused_offset lines given way =
-      let j = joins lines given way in
-      let s = here lines given in
-      let base = s.given.first.pieces in
-      let flags : in_short old.state.scan.piece.mode || is_after_backslash old.state.scan.piece.mode ≡ in_short way.state.mode || is_after_backslash way.state.mode = ap (λ (m : Mode). in_short m || is_after_backslash m) way.tallies.mode in
-      let state_flags : in_short way.state.mode || is_after_backslash way.state.mode ≡ in_short j.state.mode || is_after_backslash j.state.mode = ap (λ (b : Bool). b || is_after_backslash way.state.mode) (sym j.short) ∙ ap (λ (b : Bool). in_short j.state.mode || b) (sym j.slash) in
-      ap (λ (b : Bool). old.state.place + (if b then old.state.scan.piece.start else old.state.scan.stop)) flags
-      ∙ place_by (in_short way.state.mode || is_after_backslash way.state.mode) old.state.place (byte_len (spelled base)) old.state.scan.piece.start old.state.scan.stop (byte_len (spelled j.state.done)) (byte_len (spelled base ++ has.scans.read)) s.given.first.here
-      (λ h. j.start h ∙ ap (λ (n : ℕ). byte_len (spelled base) + n) (sym way.tallies.start))
-      (byte_len-append (spelled base) has.scans.read ∙ ap (λ (n : ℕ). byte_len (spelled base) + n) (sym (way_stop (first_mode old.state.place) old.state.scan has.scans.read way start_sound)))
-      ∙ ap (λ (b : Bool). if b then byte_len (spelled j.state.done) else byte_len (spelled base ++ has.scans.read)) state_flags
+-- the fault as the reader keeps it
+pub fault_as : (fault : Fault) (kind : FaultKind) (offset : ℕ) (characters others : List ℕ) → fault.kind ≡ kind → offset ≡ fault.offset → characters ≡ others → IsCharacterFault kind characters offset → IsCharacterFault fault.kind others fault.offset
+fault_as fault kind offset characters others same at spell is =
+    subst (λ t. IsCharacterFault fault.kind t fault.offset) spell (subst (λ k. IsCharacterFault k characters fault.offset) (sym same) (subst (λ o. IsCharacterFault kind characters o) at is))
 
 -- the next character was refused
-pub fails_at_character : (old new : Source) (c : ℕ) (kind : FaultKind) (error : LexError) (has : HasScanned old (stops.Refused c)) (at : FailsAfter old kind (refused_place old.state.scan) error new) → kind ≡ character_kind old.state.scan.piece.mode c → Fails (reader_of old) at.keeps.fault (reader_of new)
-fails_at_character old new c kind error has at kind_is =
+pub refused_place_within : (old : Source) (c : ℕ) (has : HasScanned old (stops.Refused c)) (flaw : Flaw) → IsRefusal old.state.scan c flaw → Within has.scans.read flaw.place
+refused_place_within old c has flaw is = refused_within old.state.place old.state.scan has.scans.read has.scans.stops.0 c has.scans.stops.3 flaw is
+
+pub fails_at_character : (old new : Source) (c : ℕ) (flaw : Flaw) (error : LexError) (has : HasScanned old (stops.Refused c)) (at : FailsAfter old flaw.kind flaw.place error new) → IsRefusal old.state.scan c flaw → Fails (reader_of old) at.keeps.fault (reader_of new)
+fails_at_character old new c flaw error has at is_flaw =
     let stop : Stop = stops.Refused c in
     let way = has.scans.stops.0 in
     let more = has.scans.stops.1 in
-    fails old new kind (refused_place old.state.scan) error at has.no_fault has.more (λ lines given.
+    fails old new flaw.kind flaw.place error at has.no_fault has.more (λ lines given.
     let s = situation old stop lines has given in
+    let base = s.given.first.pieces in
     let j = joins old stop has lines given way in
     let follows : s.after ≡ c ∷ more = encodes_same s.after (c ∷ more) (s.follow ∙ has.scans.stops.2) in
     let open_yet = open_return way.state.mode way.state.done way.state.held c (stack_of old.state.scan.brackets) way.stacked has.scans.stops.3 (ap (λ (m : Mode). (is_return_mode m && none_open (stack_of old.state.scan.brackets)) && not (is_line_feed c)) (sym way.tallies.mode) ∙ has.scans.stops.4) in
-    let spell = ap (λ t. (spelled s.given.first.pieces ++ has.scans.read) ++ t) (sym follows) ∙ whole old stop has lines given in
+    let spell = ap (λ t. (spelled base ++ has.scans.read) ++ t) (sym follows) ∙ whole old stop has lines given in
+    let fault = refused_fault old.state.place base (level old stop has lines given) (strings old stop has lines given) (begins old stop has lines given) old.state.scan has.scans.read way c more (subst (λ t. AreReadBefore base (has.scans.read ++ t)) follows (base_fit old stop has lines given)) has.scans.stops.3 flaw is_flaw in
+    let place : byte_len (spelled base) + flaw.place ≡ at.keeps.fault.offset = ap (λ n. n + flaw.place) (sym s.given.first.here) ∙ sym at.keeps.at.place in
     subst (λ l. IsLexedToFault old.bytes.now l at.keeps.fault) (sym s.given.first.cut)
-    (refused_at_character old.bytes.now s.given.first.characters s.given.first.tail (spelled s.given.first.pieces ++ has.scans.read) more c j.state j.st s.given.first.pieces at.keeps.fault s.given.first.decodes spell j.steps
-    (dead_at s.given.first.pieces has.scans.read s.after more way.state (stack_of old.state.scan.brackets) c j (level old stop has lines given) follows has.scans.stops.3)
+    (refused_at_character old.bytes.now s.given.first.characters s.given.first.tail (spelled base ++ has.scans.read) more c j.state j.st base at.keeps.fault s.given.first.decodes spell j.steps
+    (dead_at base has.scans.read s.after more way.state (stack_of old.state.scan.brackets) c j (level old stop has lines given) follows has.scans.stops.3)
     (has_prefix old stop has lines given way open_yet)
-    (at.keeps.at.is ∙ kind_is ∙ ap (λ (m : Mode). character_kind m c) way.tallies.mode ∙ same_kind way.state.mode j.state.mode c (sym j.short) (sym j.slash))
-    (at.keeps.at.place ∙ refused_offset old stop has lines given way)
-    (line_of_fault old stop has lines given kind (refused_place old.state.scan) at.keeps.fault at.keeps.at (refused_within old stop has way))))
+    (fault_as at.keeps.fault flaw.kind (byte_len (spelled base) + flaw.place) _ _ at.keeps.at.is place spell fault)
+    (line_of_fault old stop has lines given flaw.kind flaw.place at.keeps.fault at.keeps.at (refused_place_within old c has flaw is_flaw))))

@@ -7,10 +7,12 @@ use Rattle.std.proofs.lemmas.List.{take-append-drop}
 use Rattle.std.proofs.lemmas.Str.{length-le-encodes, encodes-append, IsUtf8-drop, IsUtf8-had, IsCharBoundary-from_rest, IsCharBoundary-at_seam}
 use Rattle.std.proofs.Math.Seq.{take-append_seam}
 use Rattle.py_lines.specs.Piece.{Class, line_end, Piece, spelled}
-use Rattle.py_lines.specs.PieceGrammar.{InClass, AreReadBefore}
+use Rattle.py_lines.specs.Fields.{InClass, AreReadBefore}
+use Rattle.py_lines.specs.Reading.{Decodes}
 use Rattle.py_lines.specs.LogicalLine.{LogicalLine, cut, byte_len, line_ends, line_of, tokens_from, kind_of, indent_of, end_len_of}
 use Rattle.py_lines.specs.Reader.{HasGiven, Continues, standing_at}
-use Rattle.py_lines.specs.Private.Machine.{Scanned, steps_from, brackets_of}
+use Rattle.py_lines.specs.Private.Machine.{Scanned, brackets_of}
+use Rattle.py_lines.specs.Private.ScanMachine.{scan_steps, StringsFit}
 use Rattle.py_lines.specs.declared.line_state.LineState.{LineState}
 use Rattle.py_lines.specs.declared.mode.Mode.{Mode}
 use Rattle.py_lines.specs.declared.scan.Scan.{Scan}
@@ -22,7 +24,6 @@ use Rattle.py_lines.specs.Reader.View.{reader_of}
 use Rattle.py_lines.specs.Private.LineState.{first_mode}
 use Rattle.py_lines.specs.Private.Source.{line_of_source, PassesLine, HasScanned}
 use Rattle.py_lines.specs.Token.{EachLiesIn}
-use Rattle.py_lines.specs.Reading.{Decodes}
 use Rattle.py_lines.proofs.Lexings.Existence.{first_at}
 use Rattle.py_lines.proofs.Text.Utf8Prefixes.{prefix_chars, all_scalars-parts, one_decoding}
 use Rattle.py_lines.proofs.Pieces.PieceLists.{spelled-append, AreReadBefore-second}
@@ -34,14 +35,16 @@ use Rattle.py_lines.proofs.LineScan.TextSteps.{base_of, follows_base}
 use Rattle.py_lines.proofs.Lexings.GivenLines.{Situation, situate, IsEnded, one_more}
 use Rattle.py_lines.proofs.LineScan.PieceEnd.{no_class_bracket}
 use Rattle.py_lines.proofs.Lexings.FirstLines.{given_begin}
+pub use Rattle.py_lines.proofs.Readers.LineFaults.{Within}
 
 -- the pieces of a line that was scanned whole, and what the scan says of them
-pub record IsLine (m : Scanned) (scan : Scan) (read : List ℕ) (end_len : ℕ) (u : List Piece) : Type 0 where
+pub record IsScannedLine (m : Scanned) (scan : Scan) (read : List ℕ) (end_len : ℕ) (u : List Piece) : Type 0 where
   pub to : Scanned
-  pub steps : steps_from (Some m) read ≡ Some to
+  pub steps : scan_steps (Some m) read ≡ Some to
   pub spell : spelled u ≡ read
   pub whole : cut 0 u ≡ u ∷ []
   pub stacked : brackets_of u ≡ Some []
+  pub strings : StringsFit 0 u
   pub stop : scan.stop ≡ byte_len read
   pub here : scan.count.line ≡ scan.line + line_ends read
   pub tokens : scan.tokens.items ≡ tokens_from 0 scan.line u
@@ -53,13 +56,6 @@ pub record IsLine (m : Scanned) (scan : Scan) (read : List ℕ) (end_len : ℕ) 
 -- where the scan stopped, given the lines so far
 pub situation : (s : Source) (stop : Stop) (lines : List LogicalLine) (has : HasScanned s stop) → HasGiven (reader_of s) lines → Situation (reader_of s) s.characters.now lines has.scans.read has.scans.rest
 situation s stop lines has given = situate (reader_of s) s.characters.now lines has.scans.read has.scans.rest given (IsUtf8-had _ s.text) s.prefix s.bad has.more has.scans.spell
-
--- a place in what was scanned
-pub record Within (read : List ℕ) (offset : ℕ) : Type 0 where
-  pub prefix : List ℕ
-  pub later : List ℕ
-  pub split : prefix ++ later ≡ read
-  pub size : offset ≡ byte_len prefix
 
 -- what follows a place in the scanned line is text, and the place is a boundary
 pub prefix_spells : (s : Source) (stop : Stop) (has : HasScanned s stop) (offset : ℕ) (w : Within has.scans.read offset) → encode_utf8_all w.prefix ++ (encode_utf8_all w.later ++ has.scans.rest) ≡ drop s.state.place s.characters.now
@@ -82,7 +78,7 @@ pub all_within : (read : List ℕ) (n : ℕ) → n ≡ byte_len read → Within 
 all_within read n size = record { prefix = read; later = []; split = append-nil read; size = size }
 
 -- the logical line that was scanned
-given_line : (old mid new : Source) (stop : Stop) (has : HasScanned old stop) (end_len : ℕ) (u : List Piece) → IsLine (line_start (first_mode old.state.place)) mid.state.scan has.scans.read end_len u → mid.state.place ≡ old.state.place → mid.characters ≡ old.characters → mid.state.scan.line ≡ old.state.scan.line → PassesLine mid end_len new → line_of_source new ≡ line_of old.state.place old.state.line u
+given_line : (old mid new : Source) (stop : Stop) (has : HasScanned old stop) (end_len : ℕ) (u : List Piece) → IsScannedLine (line_start (first_mode old.state.place)) mid.state.scan has.scans.read end_len u → mid.state.place ≡ old.state.place → mid.characters ≡ old.characters → mid.state.scan.line ≡ old.state.scan.line → PassesLine mid end_len new → line_of_source new ≡ line_of old.state.place old.state.line u
 given_line old mid new stop has end_len u line place characters same gives =
     let start : new.start ≡ old.state.place = gives.start ∙ place in
     let number : new.state.scan.line ≡ old.state.line = ap (λ (s : LineState). s.scan.line) gives.state ∙ same ∙ has.line in
@@ -101,7 +97,7 @@ lie_in_line : (new : Source) (offset number : ℕ) (u : List Piece) → line_of_
 lie_in_line new offset number u is scalars = subst (λ (l : LogicalLine). EachLiesIn l.text l.tokens) (sym is) (tokens_lie number u scalars)
 
 -- one more line was given
-pub continues : (old mid new : Source) (stop : Stop) (has : HasScanned old stop) (end_len : ℕ) (u : List Piece) → IsLine (line_start (first_mode old.state.place)) mid.state.scan has.scans.read end_len u → mid.bytes ≡ old.bytes → mid.state.place ≡ old.state.place → mid.state.fault ≡ old.state.fault → mid.characters ≡ old.characters → mid.state.scan.line ≡ old.state.scan.line → PassesLine mid end_len new
+pub continues : (old mid new : Source) (stop : Stop) (has : HasScanned old stop) (end_len : ℕ) (u : List Piece) → IsScannedLine (line_start (first_mode old.state.place)) mid.state.scan has.scans.read end_len u → mid.bytes ≡ old.bytes → mid.state.place ≡ old.state.place → mid.state.fault ≡ old.state.fault → mid.characters ≡ old.characters → mid.state.scan.line ≡ old.state.scan.line → PassesLine mid end_len new
     → ((lines : List LogicalLine) (s : Situation (reader_of old) old.characters.now lines has.scans.read has.scans.rest) → AreReadBefore u s.after)
     → ((lines : List LogicalLine) (s : Situation (reader_of old) old.characters.now lines has.scans.read has.scans.rest) → IsEnded u (s.after ++ s.given.first.tail ≡ []))
     → Continues (reader_of old) (line_of_source new) (reader_of new) × EachLiesIn (line_of_source new).text new.state.scan.tokens.items
@@ -117,7 +113,7 @@ continues old mid new stop has end_len u line bytes place fault characters same 
     let s = situation old stop lines has given in
     let base_fit = subst (AreReadBefore s.given.first.pieces) s.split s.given.first.fit in
     let base = base_of old.state.place s.given.first.pieces (has.scans.read ++ s.after) base_fit s.ends s.given.first.here in
-    subst (λ (l : LogicalLine). HasGiven (reader_of new) (lines ++ l ∷ [])) (sym is) (one_more (reader_of old) (reader_of new) old.characters.now lines has.scans.read has.scans.rest u s line.spell (fit lines s) (follows_base old.state.place s.given.first.pieces u has.scans.read s.after line.to base line.spell (fit lines s) line.steps) line.stacked line.whole (ended lines s) text here reached no_fault) in (
+    subst (λ (l : LogicalLine). HasGiven (reader_of new) (lines ++ l ∷ [])) (sym is) (one_more (reader_of old) (reader_of new) old.characters.now lines has.scans.read has.scans.rest u s line.spell (fit lines s) (follows_base old.state.place s.given.first.pieces u has.scans.read s.after line.to base line.spell (fit lines s) line.steps) line.stacked line.strings line.whole (ended lines s) text here reached no_fault) in (
       record {
         given = more;
         begins = λ lines given. given_begin (reader_of new) (lines ++ line_of_source new ∷ []) (more lines given);
@@ -152,7 +148,7 @@ unfolding has_after all_within
 after_is old len has = (rest_text old (stops.LineEnd len) has (byte_len has.scans.read) (all_within has.scans.read (byte_len has.scans.read) refl)).1.1
 
 -- a line with its line end
-pub line_at_end : (m : Mode) (scan : Scan) (read rest : List ℕ) (len : ℕ) (at : IsAtLineEnd m scan read rest len) (after : List ℕ) → encode_utf8_all after ≡ rest → IsLine (line_start m) scan read len (at.body ++ at.last ∷ [])
+pub line_at_end : (m : Mode) (scan : Scan) (read rest : List ℕ) (len : ℕ) (at : IsAtLineEnd m scan read rest len) (after : List ℕ) → encode_utf8_all after ≡ rest → IsScannedLine (line_start m) scan read len (at.body ++ at.last ∷ [])
 line_at_end m scan read rest len at after is =
     let t = at.tallies in
     let spell = append-nil (spelled (at.body ++ at.last ∷ [])) ∙ at.spell in
@@ -162,6 +158,7 @@ line_at_end m scan read rest len at after is =
       spell = at.spell;
       whole = one_line 0 at.body at.last at.are.one_line at.are.class at.are.level;
       stacked = no_class_bracket at.body at.last at.are.class at.are.paired;
+      strings = at.strings;
       stop = t.stop ∙ ap byte_len spell;
       here = t.here ∙ ap (λ l. scan.line + line_ends l) spell;
       tokens = t.tokens;
@@ -171,7 +168,7 @@ line_at_end m scan read rest len at after is =
       some = omega (arith, ap byte_len (sym at.spell ∙ spelled-append at.body (at.last ∷ [])), byte_len-append (spelled at.body) (at.last.text ++ []), ap byte_len (append-nil at.last.text), first_bytes at.last at.are.class (AreReadBefore-second at.body (at.last ∷ []) after (at.fit after is)).0);
     }
 
-pub line_ended : (old : Source) (len : ℕ) (has : HasScanned old (stops.LineEnd len)) → IsLine (line_start (first_mode old.state.place)) old.state.scan has.scans.read len (has.scans.stops.body ++ has.scans.stops.last ∷ [])
+pub line_ended : (old : Source) (len : ℕ) (has : HasScanned old (stops.LineEnd len)) → IsScannedLine (line_start (first_mode old.state.place)) old.state.scan has.scans.read len (has.scans.stops.body ++ has.scans.stops.last ∷ [])
 line_ended old len has = line_at_end (first_mode old.state.place) old.state.scan has.scans.read has.scans.rest len has.scans.stops (has_after old len has) (after_is old len has)
 
 -- a line that its line end closed

@@ -4,7 +4,7 @@ use Rattle.std.specs.Prelude.{codes}
 use Rattle.std.specs.List.{list_any, list_all}
 use Rattle.std.proofs.lemmas.Bool.{leb-false, or_cases, or_parts, and_parts, and_from, eqb-true, false_from_ne_true, both_ways}
 use Rattle.unicode_ident.proofs.Computing.{unicode_ident}
-use Rattle.py_lines.specs.Character.{is_one_of, is_mark, is_word_character, is_word_start, is_digit, is_quote, is_operator, is_line_feed, is_return, is_break, is_backslash, is_barred, is_r, is_b, is_f, is_u}
+use Rattle.py_lines.specs.Character.{is_one_of, is_mark, is_word_character, is_word_start, is_digit, is_quote, is_operator, is_line_feed, is_return, is_break, is_backslash, is_barred, is_r, is_b, is_f, is_t, is_u}
 use Rattle.py_lines.specs.PieceGrammar.{is_prefix}
 
 -- what each one of a list is
@@ -52,10 +52,6 @@ pub mark_is : (c : ℕ) → is_mark c ≡ true → c ≡ 65279
 unfolding is_mark
 mark_is c h = the_one 65279 c h
 
-pub slash_is : (c : ℕ) → is_backslash c ≡ true → c ≡ 92
-unfolding is_backslash
-slash_is c h = the_one 92 c h
-
 pub r-not-digit : (c : ℕ) → is_r c ≡ true → is_digit c ≡ false
 unfolding is_r is_digit
 r-not-digit c h = none_of is_digit (codes "rR") c refl h
@@ -75,6 +71,26 @@ b-not-r c h = none_of is_r (codes "bB") c refl h
 pub f-not-r : (c : ℕ) → is_f c ≡ true → is_r c ≡ false
 unfolding is_f is_r
 f-not-r c h = none_of is_r (codes "fF") c refl h
+
+pub t-not-digit : (c : ℕ) → is_t c ≡ true → is_digit c ≡ false
+unfolding is_t is_digit
+t-not-digit c h = none_of is_digit (codes "tT") c refl h
+
+pub t-not-r : (c : ℕ) → is_t c ≡ true → is_r c ≡ false
+unfolding is_t is_r
+t-not-r c h = none_of is_r (codes "tT") c refl h
+
+pub f-not-b : (c : ℕ) → is_f c ≡ true → is_b c ≡ false
+unfolding is_f is_b
+f-not-b c h = none_of is_b (codes "fF") c refl h
+
+pub t-not-b : (c : ℕ) → is_t c ≡ true → is_b c ≡ false
+unfolding is_t is_b
+t-not-b c h = none_of is_b (codes "tT") c refl h
+
+pub t-not-u : (c : ℕ) → is_t c ≡ true → is_u c ≡ false
+unfolding is_t is_u
+t-not-u c h = none_of is_u (codes "tT") c refl h
 
 pub u-not-digit : (c : ℕ) → is_u c ≡ true → is_digit c ≡ false
 unfolding is_u is_digit
@@ -145,17 +161,9 @@ pub feed-not-quote : (c : ℕ) → is_line_feed c ≡ true → is_quote c ≡ fa
 unfolding is_line_feed is_quote
 feed-not-quote c h = none_of is_quote (codes "\n") c refl h
 
-pub return-not-quote : (c : ℕ) → is_return c ≡ true → is_quote c ≡ false
-unfolding is_return is_quote
-return-not-quote c h = none_of is_quote (codes "\r") c refl h
-
 pub feed-not-slash : (c : ℕ) → is_line_feed c ≡ true → is_backslash c ≡ false
 unfolding is_line_feed is_backslash
 feed-not-slash c h = none_of is_backslash (codes "\n") c refl h
-
-pub return-not-slash : (c : ℕ) → is_return c ≡ true → is_backslash c ≡ false
-unfolding is_return is_backslash
-return-not-slash c h = none_of is_backslash (codes "\r") c refl h
 
 pub quote-not-feed : (c : ℕ) → is_quote c ≡ true → is_line_feed c ≡ false
 unfolding is_quote is_line_feed
@@ -180,3 +188,7 @@ feed-not-return c h = none_of is_return (codes "\n") c refl h
 pub operator_ascii : (c : ℕ) → is_operator c ≡ true → c < 128
 unfolding is_operator
 operator_ascii c h = leb-false 128 c (none_of (λ d. leb 128 d) (codes "+-*/%@&|^~<>=!()[]{},:.;") c refl h)
+
+pub slash-not-break : (c : ℕ) → is_break c ≡ true → is_backslash c ≡ false
+unfolding is_break is_backslash
+slash-not-break c h = none_of is_backslash (10 ∷ 13 ∷ []) c refl h

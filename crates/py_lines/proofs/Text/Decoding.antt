@@ -1,11 +1,11 @@
 -- Each list of bytes is the UTF-8 of some characters, and then bytes that begin no character.
-use Rattle.std.proofs.Common.{◌≡◌, ℕ, zero, suc, ◌<◌, ◌≤◌, Bool, true, false, List, [], ◌++◌, length, take, drop, refl, ap, ◌∙◌, subst, ⊎_elim, append-nil, arith, take_all, take-append-drop}
+use Rattle.std.proofs.Common.{◌≡◌, ℕ, zero, suc, ◌<◌, ◌≤◌, Bool, true, false, List, [], ◌++◌, length, take, drop, refl, sym, ap, ◌∙◌, subst, ⊎_elim, append-nil, arith, take_all, take-append-drop}
 use Rattle.std.specs.Str.{IsUtf8, IsValidUpTo, is_utf8}
 use Rattle.std.proofs.lemmas.Bool.{cases_lt, both_ways}
 use Rattle.std.proofs.lemmas.List.{length-take-le}
 use Rattle.std.proofs.lemmas.Str.{IsUtf8-nil, IsUtf8-from_is_utf8, is_utf8-from_IsUtf8}
 use Rattle.py_lines.specs.Reading.{Decodes}
-use Rattle.py_lines.proofs.Text.Utf8Prefixes.{nothing_bad, opening_text}
+use Rattle.py_lines.proofs.Text.Utf8Prefixes.{nothing_bad, opening_text, one_decoding}
 
 -- no prefix of more bytes than these is UTF-8
 abbrev NoneLonger : List ℕ → ℕ → Type 0
@@ -71,3 +71,7 @@ decoding text = go (is_utf8 text) refl
             bad = opening_text (take stop.0 text) text stop.0 stop.1 size;
           };
         }
+
+-- and they are one
+pub decoded : (text a b s t : List ℕ) → Decodes text a s → Decodes text b t → (a ≡ b) × (s ≡ t)
+decoded text a b s t d e = one_decoding a b s t d.are e.are d.bad e.bad (d.spell ∙ sym e.spell)

@@ -11,7 +11,7 @@ use Rattle.std.proofs.lemmas.Str.{cons_from_encodes, length-encode, len_utf8_bou
 use Rattle.std.proofs.Math.Seq.{take-append_seam, drop-append_seam}
 use Rattle.py_lines.specs.Private.Run.{BeginsWith}
 use Rattle.py_lines.proofs.Text.Utf8Prefixes.{nothing_bad}
-use Rattle.py_lines.proofs.Text.Utf8Shapes.{Shape, shape}
+use Rattle.py_lines.proofs.Text.Utf8Shapes.{Utf8Shape, shape}
 
 -- what the first byte of a character tells of their number
 pub record Encoded (c first : ℕ) : Type 0 where
@@ -23,17 +23,17 @@ pub record Encoded (c first : ℕ) : Type 0 where
 pub encoded : (c first : ℕ) → IsScalar c → first ≡ slice_index (encode_utf8 c) 0 → Encoded c first
 encoded c first scalar is = go (shape c (scalar_cases c scalar))
   where
-    go : Shape c → Encoded c first
-    go (Shape.of1 l e) =
+    go : Utf8Shape c → Encoded c first
+    go (Utf8Shape.of1 l e) =
         let same : first ≡ c = is ∙ ap (λ t. slice_index t 0) e in
         record { one = λ h. ap length e; two = λ h k. absurd (omega (arith, same, l, h)); three = λ h k. absurd (omega (arith, same, l, h)); four = λ h. absurd (omega (arith, same, l, h)) }
-    go (Shape.of2 a b l u f s least e) =
+    go (Utf8Shape.of2 a b l u f s least e) =
         let same : first ≡ a = is ∙ ap (λ t. slice_index t 0) e in
         record { one = λ h. absurd (omega (arith, same, l, h)); two = λ h k. ap length e; three = λ h k. absurd (omega (arith, same, u, h)); four = λ h. absurd (omega (arith, same, u, h)) }
-    go (Shape.of3 a b d l u f g s least e) =
+    go (Utf8Shape.of3 a b d l u f g s least e) =
         let same : first ≡ a = is ∙ ap (λ t. slice_index t 0) e in
         record { one = λ h. absurd (omega (arith, same, l, h)); two = λ h k. absurd (omega (arith, same, l, k)); three = λ h k. ap length e; four = λ h. absurd (omega (arith, same, u, h)) }
-    go (Shape.of4 a b d x l u f g h s least e) =
+    go (Utf8Shape.of4 a b d x l u f g h s least e) =
         let same : first ≡ a = is ∙ ap (λ t. slice_index t 0) e in
         record { one = λ h. absurd (omega (arith, same, l, h)); two = λ h k. absurd (omega (arith, same, l, k)); three = λ h k. absurd (omega (arith, same, l, k)); four = λ h. ap length e }
 

@@ -83,23 +83,3 @@ one_decoding (c ∷ cs) (d ∷ ds) s t are ares bad worse e =
     let heads = encode_same c d (encode_utf8_all cs ++ s) (encode_utf8_all ds ++ t) (sym (append_assoc (encode_utf8 c) (encode_utf8_all cs) s) ∙ e ∙ append_assoc (encode_utf8 d) (encode_utf8_all ds) t) in
     let others = one_decoding cs ds s t (and_parts _ _ are).1 (and_parts _ _ ares).1 bad worse heads.1 in
     ((λ i. heads.0 i ∷ others.0 i), others.1)
-
--- of two prefixes of one list of characters the one of fewer bytes is a prefix of the other
-pub shorter_prefix : (a b x y : List ℕ) → a ++ x ≡ b ++ y → length (encode_utf8_all a) ≤ length (encode_utf8_all b) → (more : List ℕ) × (b ≡ a ++ more)
-shorter_prefix [] b x y e short = (b, refl)
-shorter_prefix (c ∷ cs) [] x y e short = absurd (omega (arith, length-append (encode_utf8 c) (encode_utf8_all cs), length-encode c, len_utf8_bounds c, short))
-shorter_prefix (c ∷ cs) (d ∷ ds) x y e short =
-    let same : c ≡ d = cc in
-    let rest : cs ++ x ≡ ds ++ y = cc in
-    let bytes = ap (λ (n : ℕ). length (encode_utf8 n)) same in
-    let others = shorter_prefix cs ds x y rest (omega (arith, length-append (encode_utf8 c) (encode_utf8_all cs), length-append (encode_utf8 d) (encode_utf8_all ds), bytes, short)) in
-    (others.0, (λ i. sym same i ∷ others.1 i))
-
--- of two prefixes of one list of characters the one of no more characters has no more bytes
-pub bytes_in : (a b x y : List ℕ) → a ++ x ≡ b ++ y → length a ≤ length b → length (encode_utf8_all a) ≤ length (encode_utf8_all b)
-bytes_in [] b x y e less = omega arith
-bytes_in (c ∷ cs) [] x y e less = absurd (omega arith)
-bytes_in (c ∷ cs) (d ∷ ds) x y e less =
-    let same : c ≡ d = cc in
-    let rest : cs ++ x ≡ ds ++ y = cc in
-    omega (arith, length-append (encode_utf8 c) (encode_utf8_all cs), length-append (encode_utf8 d) (encode_utf8_all ds), ap (λ (n : ℕ). length (encode_utf8 n)) same, bytes_in cs ds x y rest (omega arith))

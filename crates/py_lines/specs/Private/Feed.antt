@@ -10,14 +10,15 @@ use Rattle.py_lines.specs.Settled.{IsHopeless}
 use Rattle.py_lines.specs.Given.{AreFirstLines}
 use Rattle.py_lines.specs.ScannerState.{GoesOnWith, IsScanning, HoldsReady, fed_of, ready_lines}
 use Rattle.py_lines.specs.ScannerState.View.{line_of_feed, ready_of, scanning_of}
-use Rattle.py_lines.specs.Private.Machine.{step, character_kind}
-use Rattle.py_lines.specs.Private.Scan.{ScansIn, Closes, IsUnderWay, stack_if, is_returned, refused_place, EndsWhole, IsLineBefore, IsNotEnded}
+use Rattle.py_lines.specs.Private.ScanMachine.{scan_step}
+use Rattle.py_lines.specs.Private.Scan.{ScansIn, Closes, IsUnderWay, stack_if, is_returned, IsRefusal, EndsWhole, IsLineBefore, IsNotEnded}
 use Rattle.py_lines.specs.Private.LineState.{BeginsAnew, KeepsFault, first_mode}
 use Rattle.py_lines.specs.declared.fault.Fault.{Fault}
 use Rattle.py_lines.specs.declared.fault.FaultKind.{FaultKind}
 use Rattle.py_lines.specs.declared.fault.FaultKind.TheVariants.{BadUtf8}
 use Rattle.py_lines.specs.declared.fault.LexError.{LexError}
 use Rattle.py_lines.specs.declared.fault.LexError.TheVariants as lex
+use Rattle.py_lines.specs.declared.scan.Flaw.{Flaw}
 use Rattle.py_lines.specs.declared.scan.Scan.{Scan}
 use Rattle.py_lines.specs.declared.scan.Stop.{Stop}
 use Rattle.py_lines.specs.declared.scan.Stop.TheVariants as stops
@@ -75,9 +76,11 @@ ClosesLine old end_len (Err lex.Memory) new = Restarts old new
 -- the line that is open in what is held may not go on with this character
 pub record RefusesNext (old : Feed) (read : List ℕ) (c : ℕ) (error : LexError) (new : Feed) : Type 0 where
   pub way : IsUnderWay (first_mode old.state.place) old.state.scan read
-  pub refuses : stack_if (step way.state c) ≡ None
+  pub refuses : stack_if (scan_step way.state c) ≡ None
   pub not_yet : IsNotEnded old.state.scan c
-  pub fails : FailsAt old (character_kind old.state.scan.piece.mode c) (refused_place old.state.scan) error new
+  pub flaw : Flaw
+  pub is_flaw : IsRefusal old.state.scan c flaw
+  pub fails : FailsAt old flaw.kind flaw.place error new
 
 -- a line has ended in what is held
 pub record EndsLineHeld (end_len : ℕ) (new : Feed) : Type 0 where
@@ -105,7 +108,7 @@ StopsHeld f stops.TextEnd read rest = IsOpen f read rest × StartsWithNoChar res
 StopsHeld f (stops.LineEnd len) read rest = IsEnded f len read rest × EndsWhole read rest
 StopsHeld f (stops.Refused c) read rest =
     (opens : IsOpen f read rest) × (after : List ℕ) × IsScalar c × (rest ≡ encode_utf8 c ++ after)
-    × (stack_if (step opens.way.state c) ≡ None) × IsNotEnded f.state.scan c
+    × (stack_if (scan_step opens.way.state c) ≡ None) × IsNotEnded f.state.scan c
 
 -- nothing is held, and the scan of these bytes, which come next, has stopped so
 pub record HasScannedNext (f : Feed) (chunk : List ℕ) (stop : Stop) : Type 0 where

@@ -323,3 +323,15 @@ pub record IsFieldFinal (s : FieldScanned) : Type 0 where
 -- the pieces of the innermost list, the open one with them
 abbrev pub field_pieces : FieldScanned → List Piece
 field_pieces s = field_closed s.mode s.done s.held
+
+-- the place where a mode is: code counts as a literal part
+abbrev pub text_place : FieldMode → Place
+text_place (body host place named at) = place
+text_place other = literal
+
+-- the characters before the innermost list; where a specification is open, those before its string
+abbrev pub before : Place → List Level → List ℕ
+before literal [] = []
+before literal (l ∷ ls) = before l.place ls ++ (spelled l.done ++ l.front)
+before specification [] = []
+before specification (l ∷ ls) = before l.place ls ++ spelled l.done

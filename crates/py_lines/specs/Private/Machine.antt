@@ -1,10 +1,10 @@
 -- The machine that reads for `Lines`, one character at a time. It serves the contracts of private functions; what a
 -- text reads to is said by Piece, Balance, LogicalLine and Lexed, and proofs tie the two.
 use Rattle.std.specs.Prelude.{◌≡◌, ℕ, Bool, true, false, ◌==◌, ◌||◌, ◌&&◌, Option, None, Some, List, [], ◌∷◌, ◌++◌, length, nat_lt, if◌then◌else◌}
-use Rattle.py_lines.specs.Character.{is_mark, is_space, is_word_character, is_word_start, is_digit, is_quote, is_operator, is_line_feed, is_return, is_break, is_hash, is_backslash, is_r, is_b, is_f, is_u}
+use Rattle.py_lines.specs.Character.{is_mark, is_space, is_word_character, is_word_start, is_digit, is_quote, is_operator, is_line_feed, is_return, is_break, is_hash, is_backslash, is_r, is_b, is_f, is_t, is_u}
 use Rattle.std.specs.List.{list_all}
 use Rattle.py_lines.specs.Piece.{Class, mark, space, word, string, operator, comment, join, line_end, Piece, spelled}
-use Rattle.py_lines.specs.PieceGrammar.{IsRun, IsComment, IsPrefix, is_item, is_short_item, joined, has_triple, AreReadBefore}
+use Rattle.py_lines.specs.PieceGrammar.{IsRun, IsComment, IsPrefix, is_item, is_short_item, joined, has_triple, AreReadPlain}
 use Rattle.py_lines.specs.Balance.{is_opening, is_closing, is_opener, is_closer, closing_of}
 use Rattle.py_lines.specs.LogicalLine.{first_or_zero, byte_len}
 use Rattle.py_lines.specs.declared.fault.FaultKind.{FaultKind}
@@ -27,26 +27,32 @@ first_spelling c =
     else (if is_r c then spellings.R
     else (if is_b c then spellings.B
     else (if is_f c then spellings.F
+    else (if is_t c then spellings.T
     else (if is_u c then spellings.Prefix
-    else spellings.Name))))
+    else spellings.Name)))))
 
 -- the spelling of a word with one more character
 unfoldable pub spelling_with : Spelling → ℕ → Spelling
 spelling_with spellings.Number c = spellings.Number
-spelling_with spellings.R c = if is_b c then spellings.Prefix else (if is_f c then spellings.Fr else spellings.Name)
+spelling_with spellings.R c =
+    if is_b c then spellings.Prefix else (if is_f c then spellings.Fr else (if is_t c then spellings.Tr else spellings.Name))
 spelling_with spellings.B c = if is_r c then spellings.Prefix else spellings.Name
 spelling_with spellings.F c = if is_r c then spellings.Fr else spellings.Name
 spelling_with spellings.Fr c = spellings.Name
+spelling_with spellings.T c = if is_r c then spellings.Tr else spellings.Name
+spelling_with spellings.Tr c = spellings.Name
 spelling_with spellings.Prefix c = spellings.Name
 spelling_with spellings.Name c = spellings.Name
 
--- whether the word may be the prefix of a string
+-- whether the word may be the prefix of a string without fields
 abbrev pub is_prefix_spelling : Spelling → Bool
 is_prefix_spelling spellings.Number = false
 is_prefix_spelling spellings.R = true
 is_prefix_spelling spellings.B = true
 is_prefix_spelling spellings.F = true
 is_prefix_spelling spellings.Fr = true
+is_prefix_spelling spellings.T = false
+is_prefix_spelling spellings.Tr = false
 is_prefix_spelling spellings.Prefix = true
 is_prefix_spelling spellings.Name = false
 
@@ -85,6 +91,9 @@ move_of (modes.Long q) c = if c == q then moves.Grows (modes.LongOne q) else lon
 move_of (modes.LongOne q) c = if c == q then moves.Grows (modes.LongTwo q) else long_move q c
 move_of (modes.LongTwo q) c = if c == q then moves.Closes else long_move q c
 move_of (modes.LongEscape q) c = moves.Grows (modes.Long q)
+move_of (modes.FieldOpened h) c = moves.Refused
+move_of (modes.FieldEmpty h) c = moves.Refused
+move_of modes.Fielded c = moves.Refused
 move_of modes.Backslash c = if is_line_feed c then moves.Closes else (if is_return c then moves.Grows modes.JoinReturn else moves.Refused)
 move_of modes.JoinReturn c = if is_line_feed c then moves.Closes else moves.Breaks
 move_of modes.Return c = if is_line_feed c then moves.Closes else moves.Breaks
@@ -179,6 +188,7 @@ is_final modes.Space = true
 is_final (modes.Word s) = true
 is_final modes.Comment = true
 is_final (modes.Empty q) = true
+is_final (modes.FieldEmpty h) = true
 is_final modes.JoinReturn = true
 is_final modes.Return = true
 is_final other = false
@@ -189,14 +199,16 @@ in_short (modes.Opened q) = true
 in_short (modes.Inside q) = true
 in_short (modes.Escape q) = true
 in_short (modes.EscapeReturn q) = true
+in_short (modes.FieldOpened h) = true
 in_short other = false
 
--- whether a long string is open
+-- whether a long string is open, or one with fields that holds something
 abbrev pub in_long : Mode → Bool
 in_long (modes.Long q) = true
 in_long (modes.LongOne q) = true
 in_long (modes.LongTwo q) = true
 in_long (modes.LongEscape q) = true
+in_long modes.Fielded = true
 in_long other = false
 
 -- whether a backslash stands directly before, outside strings and comments
@@ -335,6 +347,9 @@ Holds (modes.LongTwo q) done held = (before : List ℕ) × (held ≡ before ++ q
 Holds (modes.LongEscape q) done held =
     (before : List ℕ) × (slash : ℕ) × (held ≡ before ++ slash ∷ []) × HoldsPrefix q before
     × (is_backslash slash ≡ true)
+Holds (modes.FieldOpened h) done held = ⊥
+Holds (modes.FieldEmpty h) done held = ⊥
+Holds modes.Fielded done held = ⊥
 Holds modes.Backslash done held = (slash : ℕ) × (held ≡ slash ∷ []) × (is_backslash slash ≡ true)
 Holds modes.JoinReturn done held = (slash : ℕ) × (r : ℕ) × (held ≡ slash ∷ r ∷ []) × (is_backslash slash ≡ true) × (is_return r ≡ true)
 Holds modes.Return done held = (r : ℕ) × (held ≡ r ∷ []) × (is_return r ≡ true)
@@ -343,4 +358,4 @@ Holds modes.Return done held = (r : ℕ) × (held ≡ r ∷ []) × (is_return r 
 pub record IsSound (s : Scanned) (read : List ℕ) : Type 0 where
   pub spell : spelled s.done ++ s.held ≡ read
   pub holds : Holds s.mode s.done s.held
-  pub fit : (more : List ℕ) → AreReadBefore s.done (s.held ++ more)
+  pub fit : (more : List ℕ) → AreReadPlain s.done (s.held ++ more)

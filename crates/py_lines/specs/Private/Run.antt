@@ -3,12 +3,15 @@ use Rattle.std.specs.Prelude.{◌&&◌, is_some, Option, None, Some, Result, Ok,
 use Rattle.std.specs.Str.{all_scalars, byte, IsUtf8}
 use Rattle.std.specs.Char.{is_ascii_alphanumeric, is_ascii_digit, len_utf8, IsScalar}
 use Rattle.std.specs.List.{list_all, prefix_len}
-use Rattle.py_lines.specs.Character.{is_one_of}
+use Rattle.py_lines.specs.Character.{is_one_of, is_space, is_break, is_operator, is_hash, is_backslash, is_quote, is_line_feed, is_return}
 use Rattle.py_lines.specs.Balance.{is_opening, is_closing}
 use Rattle.py_lines.specs.LogicalLine.{byte_len, token}
 use Rattle.std.specs.declared.alloc.AllocError.{AllocError}
 use Rattle.py_lines.specs.Piece.{operator, begins}
-use Rattle.py_lines.specs.Private.Machine.{Bracket, IsSound, brackets_after, IsFull, first_spelling, spelling_on, move_of}
+use Rattle.py_lines.specs.Private.Machine.{Bracket, brackets_after, IsFull, first_spelling, spelling_on}
+use Rattle.py_lines.specs.Private.ScanMachine.{IsInString, IsScanSound, meet_of}
+use Rattle.py_lines.specs.Private.FieldMachine.{FieldScanned}
+use Rattle.py_lines.specs.Private.FieldScan.{Follows, StaysIn, with_text}
 use Rattle.py_lines.specs.Private.Scan.{Begins, Closes, freed, IsUnderWay, ScansIn, line_start, stack_of, none_open, with_brackets, is_return_mode, stack_with}
 use Rattle.py_lines.specs.declared.brackets.Brackets.{Brackets}
 use Rattle.py_lines.specs.declared.token.Token.{Token}
@@ -23,8 +26,8 @@ use Rattle.py_lines.specs.declared.mode.Move.TheVariants as moves
 use Rattle.py_lines.specs.declared.mode.Start.TheVariants as starts
 use Rattle.py_lines.specs.declared.run.FirstByte.{FirstByte}
 use Rattle.py_lines.specs.declared.run.FirstByte.TheVariants as first
-use Rattle.py_lines.specs.declared.run.Run.{Run}
-use Rattle.py_lines.specs.declared.run.Run.TheVariants as runs
+use Rattle.py_lines.specs.declared.run.ByteRun.{ByteRun}
+use Rattle.py_lines.specs.declared.run.ByteRun.TheVariants as runs
 use Rattle.py_lines.specs.declared.scan.Progress.TheVariants as progress
 use Rattle.py_lines.specs.declared.scan.Scan.{Scan}
 use Rattle.py_lines.specs.declared.scan.Stop.TheVariants as stops
@@ -32,7 +35,6 @@ use Rattle.py_lines.specs.declared.whole_pieces.Left.{Left}
 use Rattle.py_lines.specs.declared.whole_pieces.Left.TheVariants as left
 use Rattle.py_lines.specs.declared.whole_pieces.Taken.{Taken}
 use Rattle.py_lines.specs.declared.whole_pieces.Taken.TheVariants as taken
-use Rattle.py_lines.specs.Character.{is_space, is_break, is_operator, is_hash, is_backslash, is_quote, is_line_feed, is_return}
 
 -- as many bytes pass as there are before the first that doesn't
 pub record IsRunOf (passes : ℕ → Bool) (bytes : List ℕ) (len : ℕ) : Type 0 where
@@ -88,7 +90,7 @@ IsWholeComment bytes None = Unit {0}
 IsWholeComment bytes (Some len) = IsRunOf is_comment_byte bytes len × IsUtf8 (take len bytes) × (len < length bytes)
 
 -- whether a byte is one of a run's
-abbrev pub is_in_run : Run → ℕ → Bool
+abbrev pub is_in_run : ByteRun → ℕ → Bool
 is_in_run runs.Word = is_ascii_word
 is_in_run runs.Space = is_space
 is_in_run (runs.Body q) = is_body_byte q
@@ -115,12 +117,27 @@ HasAsciiQuote other = Unit {0}
 abbrev pub with_bytes : Scan → ℕ → Scan
 with_bytes old len = record old { stop = old.stop + len; count = record { line = old.count.line; after_return = false } }
 
+-- these characters leave the open piece as it is, and end no line
+abbrev pub Stay : Mode → Scan → List ℕ → Type 0
+Stay modes.Fielded scan run =
+    (t : FieldScanned) → Follows scan.fields scan.piece.start t → IsInString t
+    → StaysIn t run × Follows scan.fields scan.piece.start (with_text t run)
+Stay m scan run = list_all (stays m) run ≡ true
+
+-- the first bytes are such characters, so many of them
+pub record HeldIn (scan : Scan) (text : List ℕ) (n : ℕ) : Type 0 where
+  pub run : List ℕ
+  pub spell : encode_utf8_all run ++ drop n text ≡ text
+  pub scalars : all_scalars run ≡ true
+  pub size : byte_len run ≡ n
+  pub stay : Stay scan.piece.mode scan run
+
 -- some characters that the text begins with, and that leave the open piece as it is, were read; or none
 pub record Holds (old : Scan) (text rest : List ℕ) (new : Scan) : Type 0 where
   pub run : List ℕ
   pub spell : encode_utf8_all run ++ rest ≡ text
   pub scalars : all_scalars run ≡ true
-  pub stay : list_all (stays old.piece.mode) run ≡ true
+  pub stay : Stay old.piece.mode old run
   pub reads : ((run ≡ []) × (new ≡ old)) ⊎ (IsFull run × (new ≡ with_bytes old (byte_len run)))
 
 -- a character that these bytes begin with
@@ -139,12 +156,12 @@ pub record Reached (m : Mode) (at : ℕ) (text : List ℕ) (scan : Scan) (rest :
 -- this holds of each line and each text of which the scan has come to these bytes
 abbrev pub WhereverReached : Scan → List ℕ → (Mode → ℕ → List ℕ → Type 0) → Type 0
 WhereverReached scan rest holds =
-    (m : Mode) (line : ℕ) (whole : List ℕ) → IsSound (line_start m) [] → Reached m line whole scan rest → holds m line whole
+    (m : Mode) (line : ℕ) (whole : List ℕ) → IsScanSound (line_start m) [] → Reached m line whole scan rest → holds m line whole
 
 -- it has come there in some line
 abbrev pub StandsBefore : Scan → List ℕ → Type 0
 StandsBefore scan rest =
-    (m : Mode) × (line : ℕ) × (whole : List ℕ) × IsSound (line_start m) [] × Reached m line whole scan rest
+    (m : Mode) × (line : ℕ) × (whole : List ℕ) × IsScanSound (line_start m) [] × Reached m line whole scan rest
 
 -- what a line end, a comment or a join of lines begins with
 abbrev pub is_apart : ℕ → Bool
@@ -325,7 +342,7 @@ TakesSpace = TakesRun is_space may_begin space_mode
 -- the scan has closed the open piece, since the next byte shows its end
 pub record IsShut (before scan : Scan) (rest : List ℕ) : Type 0 where
   pub closes : Closes before scan
-  pub breaks : (c : ℕ) (more : List ℕ) → rest ≡ c ∷ more → move_of before.piece.mode c ≡ moves.Breaks
+  pub breaks : (c : ℕ) (more : List ℕ) → rest ≡ c ∷ more → meet_of before.piece.mode c ≡ moves.Breaks
   pub unreturned : is_return_mode before.piece.mode ≡ false
   pub next : begins (may_begin (stack_of scan.brackets)) rest ≡ true
 
@@ -346,7 +363,7 @@ coded_if false scan len = scan
 -- the scan goes on from these bytes to those, in each line and each text
 abbrev pub LeadsTo : Scan → List ℕ → Scan → List ℕ → Type 0
 LeadsTo old bytes new rest =
-    (m : Mode) (line : ℕ) (whole : List ℕ) → IsSound (line_start m) [] → ReachedShut m line whole old bytes
+    (m : Mode) (line : ℕ) (whole : List ℕ) → IsScanSound (line_start m) [] → ReachedShut m line whole old bytes
     → ReachedShut m line whole new rest
 
 -- tokens were added, and the scan has still to pass so many bytes

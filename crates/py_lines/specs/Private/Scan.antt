@@ -1,18 +1,23 @@
 -- What the scan of one logical line holds, in the words of the machine. It serves the contracts of private functions.
-use Rattle.std.specs.Prelude.{◌≡◌, ℕ, ◌+◌, ◌-◌, ◌==◌, ◌&&◌, ◌||◌, not, Bool, true, false, Option, None, Some, Result, Ok, Err, List, [], ◌∷◌, ◌++◌, encode_utf8, encode_utf8_all, if◌then◌else◌, ◌⊎◌}
+use Rattle.std.specs.Prelude.{◌≡◌, ℕ, ◌+◌, ◌-◌, ◌==◌, ◌&&◌, ◌||◌, not, Bool, true, false, Option, None, Some, Result, Ok, Err, List, [], ◌∷◌, ◌++◌, length, encode_utf8, encode_utf8_all, if◌then◌else◌, ◌⊎◌}
 use Rattle.std.specs.Str.{all_scalars, StartsWithNoChar}
 use Rattle.std.specs.Char.{len_utf8, IsScalar}
 use Rattle.std.specs.declared.alloc.AllocError.{AllocError}
 use Rattle.std.specs.Global.{Vec}
 use Rattle.py_lines.specs.Character.{is_return, is_line_feed}
 use Rattle.py_lines.specs.Piece.{operator, line_end, Piece, ends, is_mark_class, spelled, begins}
-use Rattle.py_lines.specs.PieceGrammar.{AreReadBefore}
 use Rattle.py_lines.specs.Balance.{depth_after, depth_through}
+use Rattle.py_lines.specs.Fields.{AreReadBefore}
 use Rattle.py_lines.specs.LogicalLine.{byte_len, line_ends, token, tokens_from, indent_of, kind_of, is_line_end_class}
-use Rattle.py_lines.specs.Private.Machine.{Scanned, IsSound, fresh, step, steps_from, token_of, Bracket, brackets_after, brackets_of, in_short, is_after_backslash, is_final, end_kind}
+use Rattle.py_lines.specs.Private.Machine.{Scanned, fresh, token_of, Bracket, brackets_after, brackets_of, in_short, is_after_backslash, is_final, character_kind, end_kind}
+use Rattle.py_lines.specs.Private.FieldMachine.{FieldScanned, field_step}
+use Rattle.py_lines.specs.Private.FieldFlaws.{here}
+use Rattle.py_lines.specs.Private.ScanMachine.{string_state, fielded_move, scan_step, scan_steps, IsInString, StringsFit, IsScanSound}
+use Rattle.py_lines.specs.Private.FieldScan.{Follows, IsFieldFlaw, IsFieldEnd}
 use Rattle.py_lines.specs.declared.token.Token.{Token}
 use Rattle.py_lines.specs.declared.mode.Mode.{Mode}
 use Rattle.py_lines.specs.declared.mode.Mode.TheVariants as modes
+use Rattle.py_lines.specs.declared.mode.Move.TheVariants as moves
 use Rattle.py_lines.specs.declared.mode.Start.{Start}
 use Rattle.py_lines.specs.declared.mode.Start.TheVariants as starts
 use Rattle.py_lines.specs.declared.token.TokKind.{TokKind}
@@ -27,6 +32,7 @@ use Rattle.py_lines.specs.declared.scan.Progress.TheVariants as progress
 use Rattle.py_lines.specs.declared.scan.Stop.{Stop}
 use Rattle.py_lines.specs.declared.scan.Stop.TheVariants as stops
 use Rattle.py_lines.specs.declared.scan.Flaw.{Flaw}
+use Rattle.py_lines.specs.declared.field_scan.FieldScan.{FieldScan}
 use Rattle.py_lines.specs.declared.scan.Scan.{Scan}
 
 -- what one more character counts after others: CR counts at once, and LF unless CR stands before it
@@ -160,6 +166,42 @@ pub record ClosesAndOpens (old : Scan) (c : ℕ) (m : Mode) (new : Scan) : Type 
   pub closes : Closes old mid
   pub is : new ≡ in_mode (with_character mid c) m
 
+-- how many brackets are open
+abbrev pub depth_of : Brackets → ℕ
+depth_of b = length (stack_of b)
+
+-- the scan of the string with fields that is open has come so far
+abbrev pub with_field_scan : Scan → FieldScan → Scan
+with_field_scan old fields = record old { fields = fields }
+
+-- the machine with fields stands so in the string that is open, before its next character
+pub record StandsInString (scan : Scan) (t : FieldScanned) : Type 0 where
+  pub follows : Follows scan.fields scan.piece.start t
+  pub inside : IsInString t
+  pub stop : scan.stop ≡ scan.piece.start + here t
+
+-- a character goes on in that string
+pub record GoesOnInString (old : Scan) (t : FieldScanned) (c : ℕ) (new : Scan) : Type 0 where
+  pub next : FieldScanned
+  pub goes : field_step t c ≡ Some next
+  pub move : fielded_move (depth_of old.brackets) (Some t) c ≡ moves.Grows modes.Fielded
+  pub inside : IsInString next
+  pub follows : Follows new.fields old.piece.start next
+  pub same : new ≡ in_mode (with_character (with_field_scan old new.fields) c) modes.Fielded
+
+-- or closes it
+pub record ClosesString (old : Scan) (t : FieldScanned) (c : ℕ) (new : Scan) : Type 0 where
+  pub fields : FieldScan
+  pub move : fielded_move (depth_of old.brackets) (Some t) c ≡ moves.Closes
+  pub closes : Closes (with_character (with_field_scan old fields) c) new
+
+-- what one more character comes to in that string
+abbrev pub TakesInString : Scan → FieldScanned → ℕ → Result Progress AllocError → Scan → Type 0
+TakesInString old t c (Ok progress.Going) new = GoesOnInString old t c new ⊎ ClosesString old t c new
+TakesInString old t c (Ok (progress.LineEnded len)) new = ⊥
+TakesInString old t c (Ok progress.Refused) new = (fielded_move (depth_of old.brackets) (Some t) c ≡ moves.Refused) × (new ≡ old)
+TakesInString old t c (Err e) new = Unit {0}
+
 -- whether no bracket is open
 abbrev pub none_open : List Bracket → Bool
 none_open [] = true
@@ -196,6 +238,11 @@ is_margin [] = true
 is_margin (p ∷ []) = is_mark_class p.class
 is_margin (p ∷ q ∷ ps) = false
 
+-- in a string with fields the scan keeps count of the machine with fields
+abbrev pub FieldsFollow : Scan → Mode → List ℕ → Type 0
+FieldsFollow scan modes.Fielded held = (t : FieldScanned) × (string_state held ≡ Some t) × Follows scan.fields scan.piece.start t
+FieldsFollow scan other held = Unit {0}
+
 -- the scan keeps count of what the machine has found in its line
 pub record Tallies (scan : Scan) (s : Scanned) : Type 0 where
   pub mode : scan.piece.mode ≡ s.mode
@@ -208,6 +255,7 @@ pub record Tallies (scan : Scan) (s : Scanned) : Type 0 where
   pub indent : scan.indent ≡ indent_of s.done
   pub kind : scan.kind ≡ kind_of s.done
   pub tokens : scan.tokens.items ≡ tokens_from 0 scan.line s.done
+  pub fields : FieldsFollow scan s.mode s.held
 
 -- and it keeps the machine's open brackets
 abbrev pub IsStacked : Scan → Scanned → Type 0
@@ -225,7 +273,7 @@ stack_if (Some s) = brackets_of s.done
 -- the machine goes on in the line
 pub record GoesOn (s : Scanned) (c : ℕ) (new : Scan) : Type 0 where
   pub next : Scanned
-  pub goes : step s c ≡ Some next
+  pub goes : scan_step s c ≡ Some next
   pub tallies : Tallies new next
   pub stacked : IsStacked new next
   pub one_line : EndsNoLine 0 next.done
@@ -242,7 +290,7 @@ pub record AreLine (body : List Piece) (last : Piece) (len : ℕ) : Type 0 where
 pub record ComesToEnd (s : Scanned) (c len : ℕ) (new : Scan) : Type 0 where
   pub body : List Piece
   pub last : Piece
-  pub goes : step s c ≡ Some (fresh (body ++ last ∷ []))
+  pub goes : scan_step s c ≡ Some (fresh (body ++ last ∷ []))
   pub tallies : Tallies new (fresh (body ++ last ∷ []))
   pub are : AreLine body last len
 
@@ -250,7 +298,7 @@ pub record ComesToEnd (s : Scanned) (c len : ℕ) (new : Scan) : Type 0 where
 abbrev pub Takes : Scan → Scanned → ℕ → Result Progress AllocError → Scan → Type 0
 Takes old s c (Ok progress.Going) new = GoesOn s c new × (new.line ≡ old.line)
 Takes old s c (Ok (progress.LineEnded len)) new = ComesToEnd s c len new × (new.line ≡ old.line)
-Takes old s c (Ok progress.Refused) new = (stack_if (step s c) ≡ None) × (new ≡ old)
+Takes old s c (Ok progress.Refused) new = (stack_if (scan_step s c) ≡ None) × (new ≡ old)
 Takes old s c (Err e) new = Unit {0}
 
 -- whether a CR that ends a line was read last
@@ -261,7 +309,7 @@ is_return_mode other = false
 -- the machine has gone through these characters of its line, none of which ended it
 pub record IsUnderWay (m : Mode) (scan : Scan) (read : List ℕ) : Type 0 where
   pub state : Scanned
-  pub steps : steps_from (Some (line_start m)) read ≡ Some state
+  pub steps : scan_steps (Some (line_start m)) read ≡ Some state
   pub tallies : Tallies scan state
   pub stacked : IsStacked scan state
   pub one_line : EndsNoLine 0 state.done
@@ -272,9 +320,10 @@ pub record IsAtLineEnd (m : Mode) (scan : Scan) (read rest : List ℕ) (len : �
   pub last : Piece
   pub are : AreLine body last len
   pub to : Scanned
-  pub steps : steps_from (Some (line_start m)) read ≡ Some to
+  pub steps : scan_steps (Some (line_start m)) read ≡ Some to
   pub spell : spelled (body ++ last ∷ []) ≡ read
   pub fit : (after : List ℕ) → encode_utf8_all after ≡ rest → AreReadBefore (body ++ last ∷ []) after
+  pub strings : StringsFit 0 (body ++ last ∷ [])
   pub tallies : Tallies scan (fresh (body ++ last ∷ []))
 
 -- whether the CR of a line end was read last, outside brackets
@@ -288,7 +337,7 @@ IsNotEnded scan c = is_returned scan && not (is_line_feed c) ≡ false
 -- what one more character comes to, wherever the machine stands that the scan keeps count of
 abbrev pub TakesNext : Scan → ℕ → Result Progress AllocError → Scan → Type 0
 TakesNext old c result new =
-    (s : Scanned) (read : List ℕ) → IsSound s read → EndsNoLine 0 s.done → IsNotEnded old c
+    (s : Scanned) (read : List ℕ) → IsScanSound s read → EndsNoLine 0 s.done → IsNotEnded old c
     → Tallies old s → IsStacked old s → Takes old s c result new
 
 -- the scan of a line's characters stops after these, with `rest` after them
@@ -297,7 +346,7 @@ StopsSo m scan stops.TextEnd read rest = IsUnderWay m scan read × (rest ≡ [])
 StopsSo m scan (stops.LineEnd len) read rest = IsAtLineEnd m scan read rest len
 StopsSo m scan (stops.Refused c) read rest =
     (way : IsUnderWay m scan read) × (after : List ℕ) × (rest ≡ encode_utf8_all (c ∷ after))
-    × (stack_if (step way.state c) ≡ None) × IsNotEnded scan c
+    × (stack_if (scan_step way.state c) ≡ None) × IsNotEnded scan c
 
 -- where the scan of a text stops: after some of its characters
 pub record Scans (m : Mode) (text : List ℕ) (scan : Scan) (stop : Stop) : Type 0 where
@@ -325,7 +374,7 @@ StopsIn m scan stops.TextEnd read rest = IsUnderWay m scan read × StartsWithNoC
 StopsIn m scan (stops.LineEnd len) read rest = IsLineBefore m scan read len × EndsWhole read rest
 StopsIn m scan (stops.Refused c) read rest =
     (way : IsUnderWay m scan read) × (after : List ℕ) × IsScalar c × (rest ≡ encode_utf8 c ++ after)
-    × (stack_if (step way.state c) ≡ None) × IsNotEnded scan c
+    × (stack_if (scan_step way.state c) ≡ None) × IsNotEnded scan c
 
 -- where the scan of a line stops that began with these bytes
 pub record ScansIn (m : Mode) (line : ℕ) (whole : List ℕ) (scan : Scan) (stop : Stop) : Type 0 where
@@ -336,9 +385,19 @@ pub record ScansIn (m : Mode) (line : ℕ) (whole : List ℕ) (scan : Scan) (sto
   pub stops : StopsIn m scan stop read rest
   pub number : scan.line ≡ line
 
--- where the fault of a refused character stands
+-- where the fault of a refused character stands, outside strings with fields
 abbrev pub refused_place : Scan → ℕ
 refused_place scan = if in_short scan.piece.mode || is_after_backslash scan.piece.mode then scan.piece.start else scan.stop
+
+-- what is wrong where a character is refused, in each mode
+abbrev pub IsRefusalIn : Mode → Scan → ℕ → Flaw → Type 0
+IsRefusalIn modes.Fielded scan c flaw =
+    (t : FieldScanned) → StandsInString scan t → fielded_move (depth_of scan.brackets) (Some t) c ≡ moves.Refused
+    → IsFieldFlaw scan.piece.start (depth_of scan.brackets) t c flaw
+IsRefusalIn m scan c flaw = (flaw.kind ≡ character_kind m c) × (flaw.place ≡ refused_place scan)
+
+abbrev pub IsRefusal : Scan → ℕ → Flaw → Type 0
+IsRefusal scan c flaw = IsRefusalIn scan.piece.mode scan c flaw
 
 -- the innermost open bracket stands at this byte
 abbrev pub HasInnermostAt : List Bracket → ℕ → Type 0
@@ -350,7 +409,17 @@ IsOpenFrom scan place =
     ((is_final scan.piece.mode ≡ false) × (place ≡ scan.piece.start))
     ⊎ ((is_final scan.piece.mode ≡ true) × HasInnermostAt (stack_of scan.brackets) place)
 
--- what is wrong where the text ends: nothing, if it may end there
+-- what is wrong where the text ends outside strings with fields: nothing, if it may end there
+abbrev pub IsPlainUnfinished : Scan → Option Flaw → Type 0
+IsPlainUnfinished scan None = (is_final scan.piece.mode ≡ true) × (stack_of scan.brackets ≡ [])
+IsPlainUnfinished scan (Some flaw) = (flaw.kind ≡ end_kind scan.piece.mode) × IsOpenFrom scan flaw.place
+
+-- and in each mode: in such a string something is open
+abbrev pub IsUnfinishedIn : Mode → Scan → Option Flaw → Type 0
+IsUnfinishedIn modes.Fielded scan None = ⊥
+IsUnfinishedIn modes.Fielded scan (Some flaw) =
+    (t : FieldScanned) → StandsInString scan t → IsFieldEnd scan.piece.start (depth_of scan.brackets) t flaw
+IsUnfinishedIn m scan flaw = IsPlainUnfinished scan flaw
+
 abbrev pub IsUnfinished : Scan → Option Flaw → Type 0
-IsUnfinished scan None = (is_final scan.piece.mode ≡ true) × (stack_of scan.brackets ≡ [])
-IsUnfinished scan (Some flaw) = (flaw.kind ≡ end_kind scan.piece.mode) × IsOpenFrom scan flaw.place
+IsUnfinished scan flaw = IsUnfinishedIn scan.piece.mode scan flaw

@@ -1,6 +1,7 @@
 use Rattle.py_lines.proofs.Lexings.DecidedFaults.{decided_fault}
-use Rattle.py_lines.proofs.Lexings.SettledExistence.{some_settled}
-use Rattle.py_lines.proofs.Lexings.SettledOrder.{settled_begin_first, settled_grow}
+use Rattle.py_lines.proofs.Lexings.Existence.{some_settled}
+use Rattle.py_lines.proofs.Lexings.SettledLines.{settled_before_settled}
+use Rattle.py_lines.proofs.Lexings.SettledOrder.{settled_begin_first}
 use Rattle.py_lines.proofs.Lexings.Uniqueness.{one_settled}
 use Rattle.py_lines.proofs.laws.settled_is_final.Goals as goal
 
@@ -14,7 +15,7 @@ pub returns-clause-fault : goal.returns-clause-fault
 returns-clause-fault c = decided_fault
 
 pub returns-clause-grow : goal.returns-clause-grow
-returns-clause-grow c = settled_grow
+returns-clause-grow c = settled_before_settled
 
 pub returns-clause-within : goal.returns-clause-within
 returns-clause-within c = settled_begin_first

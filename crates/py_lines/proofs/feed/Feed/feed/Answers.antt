@@ -1,5 +1,8 @@
-use Rattle.std.proofs.Common.{◌≡◌, ◌-◌, Err, [], length, take, drop, sym, ap, ◌∙◌, subst, inr, not, length-drop, arith}
+use Rattle.std.specs.Prelude.{is_some}
+use Rattle.std.proofs.Common.{◌≡◌, ◌-◌, true, ⊎_elim, Err, [], length, take, drop, sym, ap, ◌∙◌, subst, inr, not, length-drop, arith}
+use Rattle.std.proofs.lemmas.Bool.{both_ways, cases_lt}
 use Rattle.std.proofs.lemmas.List.{nil_from_length}
+use Rattle.py_lines.specs.declared.feed.Feed.{Feed}
 use Rattle.std.proofs.lemmas.Result.{err_from_is_err_and}
 use Rattle.py_lines.specs.declared.fault.LexError.{LexError}
 use Rattle.py_lines.specs.Private.Feed.{TakesChunk}
@@ -61,6 +64,29 @@ returns-after-loop-taken c =
     let taken = c.loop-taken.taken in
     let inv = c.loop-taken.invariant in
     let none : taken ≡ 0 → piece ≡ [] = λ zero. nil_from_length piece (omega (arith, zero, c.loop-taken-test.false)) in (
+      c.in_default.is,
+      inr (record {
+        not_ready = none_is old.ready (sym c.is_some.ensures ∙ c.if-is_some.false);
+        within = inv.within;
+        some = none;
+        more = inv.more;
+        fault = inv.fault;
+        stops = stops_taking old mid piece taken mid.ready (inv.scanned none) inv.last;
+      }),
+    )
+
+pub returns-else-is_none : goal.returns-else-is_none
+returns-else-is_none c =
+    let old = c.args.self.now in
+    let piece = c.args.piece.now in
+    let mid = c.loop-taken.self in
+    let taken = c.loop-taken.taken in
+    let inv = c.loop-taken.invariant in
+    let ready : is_some mid.ready ≡ true = c.is_none.ensures ∙ ap not c.if-is_none.false in
+    let none : taken ≡ 0 → piece ≡ [] = λ zero. ⊎_elim
+    (λ some. absurd (both_ways _ (sym c.is_some.ensures ∙ c.if-is_some.false) (ap (λ (f : Feed). is_some f.ready) (sym (inv.begun zero some)) ∙ ready)))
+    (λ empty. nil_from_length piece (omega (arith, empty)))
+    (cases_lt 0 (length piece)) in (
       c.in_default.is,
       inr (record {
         not_ready = none_is old.ready (sym c.is_some.ensures ∙ c.if-is_some.false);

@@ -1,6 +1,6 @@
 use Rattle.std.proofs.Common.{◌≡◌, ℕ, ◌<◌, ◌≤◌, ◌⊎◌, List, inl, inr, sym, subst, arith, length-drop, take_all, drop}
 use Rattle.py_lines.specs.Private.Run.{with_bytes, Holds}
-use Rattle.py_lines.proofs.LineScan.Runs.{held_in, holds_run}
+use Rattle.py_lines.proofs.LineScan.Runs.{holds_run}
 use Rattle.py_lines.proofs.scan.Scan.hold.Goals as goal
 use Rattle.py_lines.proofs.scan.Scan.hold.Goals.{then-len-gt0, else-len-gt0}
 
@@ -9,12 +9,10 @@ returns c =
     let old = c.args.self.now in
     let new = c.if-len-gt0.self in
     let bytes = c.args.bytes.now in
-    let len = c.characters_in-len.result in
-    let spans = c.characters_in-len.ensures in
+    let len = c.run_len-len.result in
     let how : ((0 < len) × (new ≡ with_bytes old len)) ⊎ ((len ≤ 0) × (new ≡ old))
     = elim c.if-len-gt0.branch [
       | then-len-gt0 w ↦ inl (w.if-len-gt0.true, w.self-is)
       | else-len-gt0 w ↦ inr (w.if-len-gt0.false, w.self-is)
     ] in
-    let held = held_in old.piece.mode bytes len spans.utf8 c.requires.quote spans.run.within spans.run.each in
-    subst (λ (r : List ℕ). Holds old bytes r new) (sym (take_all _ (drop len bytes) (omega (arith, length-drop len bytes)))) (holds_run old new bytes len held how)
+    subst (λ (r : List ℕ). Holds old bytes r new) (sym (take_all _ (drop len bytes) (omega (arith, length-drop len bytes)))) (holds_run old new bytes len c.run_len-len.ensures how)

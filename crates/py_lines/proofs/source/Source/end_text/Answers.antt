@@ -1,4 +1,4 @@
-use Rattle.std.proofs.Common.{ℕ, ◌+◌, ◌-◌, Some, Err, inl, inr, length, sym, ap, ◌∙◌, subst, refl, arith}
+use Rattle.std.proofs.Common.{◌≡◌, ℕ, ◌+◌, ◌-◌, ◌≤◌, Some, Err, inl, inr, length, sym, ap, ◌∙◌, subst, refl, arith}
 use Rattle.std.specs.Str.{IsCharBoundary}
 use Rattle.py_lines.specs.declared.fault.FaultKind.{FaultKind}
 use Rattle.py_lines.specs.declared.fault.LexError.{LexError}
@@ -12,29 +12,30 @@ use Rattle.py_lines.specs.declared.scan.Scan.{Scan}
 use Rattle.py_lines.specs.Private.Source.{Advances, FailsAfter, HasScanned}
 use Rattle.py_lines.proofs.LineScan.LineSteps.{way_order}
 use Rattle.py_lines.proofs.Readers.LineAnswers.{Within, all_within, place_room, place_boundary}
-use Rattle.py_lines.proofs.Readers.EndAnswers.{stop_size, fails_at_bytes, fails_at_end, unfinished_within, continues_text, few_lines_text}
+use Rattle.py_lines.proofs.Readers.LineFaults.{finished}
+use Rattle.py_lines.proofs.Readers.EndAnswers.{stop_size, fails_at_bytes, fails_at_end, end_within, continues_text, few_lines_text}
 use Rattle.py_lines.proofs.source.Source.end_text.Goals as goal
 
-flaw_within : (s : Source) (has : HasScanned s TextEnd) (rest : ℕ) (flaw : Flaw) → IsEndFlaw s.state.scan rest (Some flaw) → Within has.scans.read flaw.place
-flaw_within s has rest flaw (inl (some, kind, place)) = subst (Within has.scans.read) (sym place) (all_within has.scans.read s.state.scan.stop (stop_size s has))
-flaw_within s has rest flaw (inr (none, (kind, unfinished))) = unfinished_within s has flaw.place unfinished
+flaw_within : (s : Source) (has : HasScanned s TextEnd) (rest : ℕ) (flaw : Flaw) → (rest ≡ 0 → length s.bytes.now ≤ length s.characters.now) → IsEndFlaw s.state.scan rest (Some flaw) → Within has.scans.read flaw.place
+flaw_within s has rest flaw full (inl (some, kind, place)) = subst (Within has.scans.read) (sym place) (all_within has.scans.read s.state.scan.stop (stop_size s has))
+flaw_within s has rest flaw full (inr (none, unfinished)) = end_within s has (full none) flaw unfinished
 
 flaw_fails : (s : Source) (has : HasScanned s TextEnd) (flaw : Flaw) → IsEndFlaw s.state.scan (length s.bytes.now - length s.characters.now) (Some flaw) → (error : LexError) (new : Source) → FailsAfter s flaw.kind flaw.place error new → Advances s (Err error) new
 flaw_fails s has flaw (inl (some, kind, place)) error new at =
     let moved = subst (λ (k : FaultKind). FailsAfter s k s.state.scan.stop error new) kind (subst (λ (n : ℕ). FailsAfter s flaw.kind n error new) place at) in
     subst (λ (e : LexError). Advances s (Err e) new) (sym moved.keeps.error_is) (fails_at_bytes s has new error moved (omega (arith, some)))
-flaw_fails s has flaw (inr (none, (kind, unfinished))) error new at =
-    subst (λ (e : LexError). Advances s (Err e) new) (sym at.keeps.error_is) (fails_at_end s has new flaw.kind flaw.place error at kind unfinished (omega (arith, none)))
+flaw_fails s has flaw (inr (none, unfinished)) error new at =
+    subst (λ (e : LexError). Advances s (Err e) new) (sym at.keeps.error_is) (fails_at_end s has new flaw error at unfinished (omega (arith, none)))
 
 pub fail-requires-clause-within : goal.fail-requires-clause-within
 fail-requires-clause-within c =
     let s = c.args.self.now in
-    place_room s TextEnd c.requires c.in-Some.flaw.place (flaw_within s c.requires _ c.in-Some.flaw c.in-Some.ensures)
+    place_room s TextEnd c.requires c.in-Some.flaw.place (flaw_within s c.requires (length s.bytes.now - length s.characters.now) c.in-Some.flaw (λ none. omega (arith, none)) c.in-Some.ensures)
 
 pub fail-requires-clause-boundary : goal.fail-requires-clause-boundary
 fail-requires-clause-boundary c =
     let s = c.args.self.now in
-    place_boundary s TextEnd c.requires c.in-Some.flaw.place (flaw_within s c.requires _ c.in-Some.flaw c.in-Some.ensures)
+    place_boundary s TextEnd c.requires c.in-Some.flaw.place (flaw_within s c.requires (length s.bytes.now - length s.characters.now) c.in-Some.flaw (λ none. omega (arith, none)) c.in-Some.ensures)
 
 pub returns-in-Some : goal.returns-in-Some
 returns-in-Some c = flaw_fails c.args.self.now c.requires c.in-Some.flaw c.in-Some.ensures c.fail.result c.fail.new.self c.fail.ensures
@@ -58,5 +59,5 @@ give-requires-clause-lines c = few_lines_text c.args.self.now c.requires c.close
 pub returns : goal.returns
 returns c =
     let s = c.args.self.now in
-    let done = c.in_default.ensures.1 in
+    let done = finished s.state.scan c.in_default.ensures.1 in
     continues_text s c.requires _ c.give.new.self (ap (λ (m : Mode). is_final m) (sym c.requires.scans.stops.0.tallies.mode) ∙ done.0) done.1 c.in_ok-close.ensures refl refl refl refl (omega (arith, c.in_default.ensures.0)) c.give.ensures

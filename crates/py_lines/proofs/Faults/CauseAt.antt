@@ -1,0 +1,320 @@
+-- Where the machine with fields can't go on, its state and the character tell the cause of the fault, and the fault's byte.
+use Rattle.std.proofs.Common.{◌≡◌, ℕ, ◌+◌, ◌-◌, ◌≤◌, Bool, true, false, not, ◌&&◌, ◌||◌, ◌==◌, None, Some, List, [], ◌∷◌, ◌++◌, ◌⊎◌, inl, inr, length, nat_lt, refl, sym, ap, ◌∙◌, subst, ⊎_elim, length-append, arith}
+use Rattle.std.specs.Prelude.{if◌then◌else◌, encode_utf8_all}
+use Rattle.std.proofs.Math.Utf8.{encode}
+use Rattle.std.proofs.lemmas.Str.{encodes-append}
+use Rattle.std.proofs.lemmas.Bool.{both_ways, cond_both, and_parts, and_from, or_cases, or_left, eqb-true, eq-eqb, ltb-false}
+use Rattle.py_lines.specs.Character.{is_quote, is_line_feed, is_return, is_break}
+use Rattle.py_lines.specs.Piece.{Piece, spelled}
+use Rattle.py_lines.specs.Balance.{is_opening, is_closing}
+use Rattle.py_lines.specs.Faults.{OpensBraceTooDeep, InShortSpecification, BreaksString, OpensTooDeep, Cause, brace_too_deep, breaks_string, breaks_join, closes_wrong, opens_too_deep, ends_specification, begins_nothing, kind_of_cause, Explains, causes_before, NoneExplains, IsCharacterFault}
+use Rattle.py_lines.specs.OpenFields.{InOpenShort}
+use Rattle.py_lines.specs.LogicalLine.{byte_len}
+use Rattle.py_lines.specs.FieldStrings.{Host, literal, specification}
+use Rattle.py_lines.specs.Private.Machine.{start_of}
+use Rattle.py_lines.specs.Private.FieldMachine.{text_place, before, after_brace, FieldMode, plain, opened, empty, body, FieldMove, grows, closes, breaks, begins_code, opens_field, ends_field, refused, Level, FieldScanned, field_state, field_text_start, field_pieces, field_move, field_moved, field_started, field_step, opened_level, field_steps_from, levels_open, frames, has_room_at, have_room, body_move, after_open_backslash, InSpecificationOf}
+use Rattle.py_lines.specs.Private.FieldFlaws.{is_waiting, quotes_specification, cause_in, cause_place, here, piece_start}
+use Rattle.py_lines.proofs.Text.CharacterTests.{none_of}
+use Rattle.py_lines.proofs.Machine.Starts.{start-feed, start-return}
+use Rattle.py_lines.proofs.FieldMachine.WhatIsOpen.{Comes, comes_to, short_open_comes, backslash_comes, specification_comes}
+use Rattle.py_lines.proofs.FieldMachine.OpenCode.{brace_comes}
+use Rattle.py_lines.proofs.FieldSoundness.Holds.{IsFieldSound}
+use Rattle.py_lines.proofs.FieldSoundness.WholeTexts.{two_hundred}
+use Rattle.py_lines.proofs.FieldSoundness.OpenEnds.{specification_is_open, slash_is_open}
+use Rattle.py_lines.proofs.Faults.EndFaults.{few_frames}
+use Rattle.py_lines.proofs.Faults.Ends.{sound_to, short_place, join_place, starts_there, opened_in_specification, specification_named}
+use Rattle.py_lines.proofs.Faults.CharacterFaults.{IsStuck, grows_free, brace_due, opens_due, bracket_at, started, short_in, ShortSpecification, specification_in, specification_mode, no_brace_at, stuck_dies}
+use Rattle.py_lines.proofs.Faults.Refusals.{IsShortHere, Refuses, Reason, reason}
+
+-- the byte of a `{` is the one before the end
+pub brace_last : (start read : List ℕ) → start ++ 123 ∷ [] ≡ read → byte_len start ≡ byte_len read - 1
+unfolding encode
+brace_last start read is =
+    let one : byte_len (start ++ 123 ∷ []) ≡ byte_len start + 1 = ap length (encodes-append start (123 ∷ [])) ∙ length-append (encode_utf8_all start) (encode_utf8_all (123 ∷ [])) in
+    omega (arith, ap byte_len is, one)
+
+-- a line end begins a piece
+some_none : {A : Type 0} {a : A} → Some a ≡ None → ⊥
+some_none h = cc
+
+return_or_feed : (c : ℕ) → is_break c ≡ true → (is_line_feed c ≡ true) ⊎ (is_return c ≡ true)
+unfolding is_break is_line_feed is_return
+return_or_feed c h = ⊎_elim (λ (feed : c == 10 ≡ true). inl (or_left (c == 10) false feed)) (λ (other : (c == 13) || false ≡ true). inr other) (or_cases (c == 10) ((c == 13) || false) h)
+
+break_starts : (outer : List Level) (ps : List Piece) (os : List ℕ) (c : ℕ) → is_break c ≡ true → field_started outer ps os c (start_of c) ≡ None → ⊥
+break_starts outer ps os c break none =
+    ⊎_elim (λ feed. some_none (sym (ap (field_started outer ps os c) (start-feed c feed)) ∙ none))
+    (λ return. some_none (sym (ap (field_started outer ps os c) (start-return c return)) ∙ none)) (return_or_feed c break)
+
+break-not-opening : (c : ℕ) → is_break c ≡ true → is_opening c ≡ false
+unfolding is_break is_opening
+break-not-opening c h = none_of is_opening (10 ∷ 13 ∷ []) c refl h
+
+break-not-closing : (c : ℕ) → is_break c ≡ true → is_closing c ≡ false
+unfolding is_break is_closing
+break-not-closing c h = none_of is_closing (10 ∷ 13 ∷ []) c refl h
+
+break-not-quote : (c : ℕ) → is_break c ≡ true → is_quote c ≡ false
+unfolding is_break is_quote
+break-not-quote c h = none_of is_quote (10 ∷ 13 ∷ []) c refl h
+
+opening-not-quote : (c : ℕ) → is_opening c ≡ true → is_quote c ≡ false
+unfolding is_opening is_quote
+opening-not-quote c h = none_of is_quote (40 ∷ 91 ∷ 123 ∷ []) c refl h
+
+open_brace_opens : is_opening 123 ≡ true
+unfolding is_opening
+open_brace_opens = refl
+
+end_brace_closes : is_closing 125 ≡ true
+unfolding is_closing
+end_brace_closes = refl
+
+-- where a `{` waits, a character is a second one, or begins its field's code
+waiting_moves : (P : FieldMove → Type 0) (m : FieldMode) (held : List ℕ) (c : ℕ) → is_waiting m ≡ true → ((n : FieldMode) → P (grows n)) → ((h : Host) → P (begins_code h)) → P (field_move m held c)
+unfolding field_move body_move
+waiting_moves P (body host literal named after_brace) held c is second code = cond_both (c == 123) _ _ P (λ h. second _) (λ h. code host)
+waiting_moves P m held c is second code = absurd (both_ways _ refl is)
+
+-- a character that has no room opens a bracket
+no_room : (opens : Bool) (depth : ℕ) → not opens || nat_lt depth 200 ≡ false → opens ≡ false → ⊥
+no_room false depth full other = both_ways _ full refl
+no_room true depth full other = both_ways _ other refl
+
+few_left : (opens : Bool) (depth : ℕ) → not opens || nat_lt depth 200 ≡ false → 200 ≤ depth
+few_left true depth full = ltb-false depth 200 full
+few_left false depth full = absurd (both_ways _ full refl)
+
+full_code : (opens : Bool) (depth : ℕ) → nat_lt (if opens then depth + 1 else depth) 200 ≡ false → opens ≡ false → 200 ≤ depth
+full_code false depth full other = ltb-false depth 200 full
+full_code true depth full other = absurd (both_ways _ other refl)
+
+nearly_full : (opens : Bool) (depth : ℕ) → nat_lt (if opens then depth + 1 else depth) 200 ≡ false → 200 ≤ depth + 1
+nearly_full true depth full = ltb-false (depth + 1) 200 full
+nearly_full false depth full = let many = ltb-false depth 200 full in omega (arith, many)
+
+module _ (s : FieldScanned) (read : List ℕ) (c : ℕ) (after : List ℕ) (steps : field_steps_from (Some field_text_start) read ≡ Some s) (room : have_room (Some field_text_start) read ≡ true) (stuck : IsStuck s c) where
+  sound : IsFieldSound two_hundred s read
+  sound = sound_to read s steps room
+
+  text_is : here s ≡ byte_len read
+  text_is = ap byte_len sound.spell
+
+  few : frames s ≤ 200
+  few = few_frames s.outer s.done s.openers s.mode s.held read sound
+
+  -- where a cause fits, its byte is that of the state
+  specification_place : (host : Host) → InSpecificationOf host s.mode → text_place s.mode ≡ specification
+  specification_place host is = (opened_in_specification host s.mode s.outer read is).1
+
+  place_is : (cause : Cause) (offset : ℕ) → Explains cause read c offset → offset ≡ cause_place s cause
+  place_is brace_too_deep offset fits = fits.place ∙ brace_last fits.start read fits.spell ∙ ap (λ n. n - 1) (sym text_is)
+  place_is breaks_string offset fits = go fits.inside
+    where
+      go : InOpenShort read fits.start ⊎ InShortSpecification read fits.start → offset ≡ piece_start s
+      go (inl short) =
+          let own = comes_to read _ s (short_open_comes read fits.start short) steps in
+          starts_there s fits.start offset (short_place s.mode own.0) own.1 fits.place
+      go (inr is) =
+          let own = comes_to read _ s (specification_comes is.host read is.field is.inside) steps in
+          fits.place ∙ ap byte_len (sym (own.0.string_is ∙ own.1 ∙ is.before)) ∙ ap (λ p. byte_len (before p s.outer ++ spelled s.done)) (sym (specification_place is.host own.0.mode_is))
+  place_is breaks_join offset fits =
+      let own = comes_to read _ s (backslash_comes read fits.start fits.after) steps in
+      starts_there s fits.start offset (join_place s.mode own.0) own.1 fits.place
+  place_is closes_wrong offset fits = fits.place ∙ sym text_is
+  place_is opens_too_deep offset fits = fits.place ∙ sym text_is
+  place_is ends_specification offset fits =
+      let own = comes_to read _ s (specification_comes fits.host read fits.start fits.inside) steps in
+      let found = specification_named read s steps room fits.host fits.start offset own.0 fits.place in
+      let opened_is = (opened_in_specification fits.host s.mode s.outer read own.0.mode_is).0 in
+      found.1.2 ∙ brace_last found.1.0 (before literal s.outer) (found.1.1 ∙ opened_is)
+  place_is begins_nothing offset fits = fits ∙ sym text_is
+
+  -- a character that goes on is not stuck
+  no_grows : (n : FieldMode) → field_move s.mode s.held c ≡ grows n → ⊥
+  no_grows n is = grows_free s c n is stuck
+
+  no_closes : field_move s.mode s.held c ≡ closes → ⊥
+  unfolding has_room_at
+  no_closes is = ⊎_elim (λ none. some_none (sym (ap (field_moved s c) is) ∙ none)) (λ full. both_ways _ full (ap (has_room_at (frames s) c) is)) stuck
+
+  reason_is : (v : FieldMove) → field_move s.mode s.held c ≡ v → Reason s.mode c v
+  reason_is v is = subst (Reason s.mode c) is (reason two_hundred s.outer (frames s) s.mode s.held c sound.mode)
+
+  -- a `{` that waits at depth 200
+  abbrev is_deep : Bool
+  is_deep = is_waiting s.mode && (frames s == 200)
+
+  deep_back : (offset : ℕ) → OpensBraceTooDeep read (c ∷ []) offset → is_deep ≡ true
+  deep_back offset fits =
+      let at = comes_to read _ s (subst (λ t. Comes t (λ x. (host : Host) × (x.mode ≡ body host literal false after_brace) × (frames x ≡ 200))) fits.spell (brace_comes 200 fits.start (c ∷ []) fits.due)) steps in
+      and_from _ _ (ap is_waiting at.1) (ap (λ n. n == 200) at.2)
+
+  brace_fits : is_deep ≡ true → (offset : ℕ) × OpensBraceTooDeep read (c ∷ []) offset
+  brace_fits is =
+      let parts = and_parts (is_waiting s.mode) (frames s == 200) is in
+      waiting_moves (λ v. field_move s.mode s.held c ≡ v → (offset : ℕ) × OpensBraceTooDeep read (c ∷ []) offset) s.mode s.held c parts.0 (λ n at. absurd (no_grows n at))
+      (λ h at. brace_due s read c sound steps h at (eqb-true (frames s) 200 parts.1)) refl
+
+  not_deep : is_deep ≡ false → is_waiting s.mode ≡ true → 200 ≤ frames s → ⊥
+  not_deep other waits many =
+      let full : frames s ≡ 200 = omega (arith, few, many) in
+      both_ways _ other (and_from _ _ waits (eq-eqb (frames s) 200 full))
+
+  -- a line end that is refused
+  pub break_fits : is_deep ≡ false → is_break c ≡ true → (offset : ℕ) × BreaksString read c offset
+  unfolding has_room_at
+  break_fits shallow break = go (field_move s.mode s.held c) refl
+    where
+      no_opening : is_opening c ≡ false
+      no_opening = break-not-opening c break
+
+      inside : IsShortHere s.mode → (offset : ℕ) × BreaksString read c offset
+      inside (inl short) =
+          let start : List ℕ = before literal s.outer ++ spelled s.done in
+          (byte_len start, record { start = start; breaks = break; inside = inl (short_in s read c sound steps s.mode short sound); place = refl })
+      inside (inr (host, is, short)) = found (specification_in s read c sound steps s.mode sound)
+        where
+          found : ShortSpecification s read c sound steps s.mode → (offset : ℕ) × BreaksString read c offset
+          found (inl (start, own)) = (byte_len start, record { start = start; breaks = break; inside = inr own; place = refl })
+          found (inr none) = absurd (none host is short)
+
+      refuses : Refuses s.mode c → (offset : ℕ) × BreaksString read c offset
+      refuses (inl (at, short)) = inside short
+      refuses (inr (inl (slash, other))) = absurd (both_ways _ other break)
+      refuses (inr (inr (same, quotes))) = absurd (both_ways _ (break-not-quote c break) quotes)
+
+      begun : IsStuck s c → field_move s.mode s.held c ≡ breaks → ⊥
+      begun (inl none) is = break_starts s.outer (field_pieces s) s.openers c break (sym (ap (field_moved s c) is) ∙ none)
+      begun (inr full) is = no_room (is_opening c) (frames s) (sym (ap (has_room_at (frames s) c) is) ∙ full) no_opening
+
+      coded : IsStuck s c → (h : Host) → field_move s.mode s.held c ≡ begins_code h → ⊥
+      coded (inl none) h is = break_starts (opened_level s h literal s.held ∷ s.outer) [] [] c break (sym (ap (field_moved s c) is) ∙ none)
+      coded (inr full) h is = not_deep shallow (reason_is (begins_code h) is) (full_code (is_opening c) (frames s) (sym (ap (has_room_at (frames s) c) is) ∙ full) no_opening)
+
+      go : (v : FieldMove) → field_move s.mode s.held c ≡ v → (offset : ℕ) × BreaksString read c offset
+      go (grows n) is = absurd (no_grows n is)
+      go closes is = absurd (no_closes is)
+      go breaks is = absurd (begun stuck is)
+      go (begins_code h) is = absurd (coded stuck h is)
+      go (opens_field h) is = absurd (both_ways _ no_opening (ap is_opening (reason_is (opens_field h) is) ∙ open_brace_opens))
+      go ends_field is = absurd (both_ways _ (break-not-closing c break) (ap is_closing (reason_is ends_field is) ∙ end_brace_closes))
+      go refused is = refuses (reason_is refused is)
+
+  -- an opening bracket that is refused, or the `{` of a field
+  opening_fits : is_deep ≡ false → is_break c ≡ false → after_open_backslash s.mode ≡ false → is_closing c ≡ false → is_opening c ≡ true → (offset : ℕ) × OpensTooDeep read c offset
+  unfolding has_room_at
+  opening_fits shallow no_break no_slash no_closing opens = go (field_move s.mode s.held c) refl
+    where
+      begun : (outer : List Level) (ps : List Piece) (os : List ℕ) → field_step s c ≡ field_started outer ps os c (start_of c) → field_step s c ≡ None → ⊥
+      begun outer ps os step none = some_none (sym (started s read c sound steps outer ps os opens) ∙ sym step ∙ none)
+
+      full_at : (outer : List Level) (ps : List Piece) (os : List ℕ) → field_step s c ≡ field_started outer ps os c (start_of c) → length os + levels_open outer ≡ 200 → (offset : ℕ) × OpensTooDeep read c offset
+      full_at outer ps os step full =
+          (byte_len read, record { opens = opens; deep = inl (bracket_at s read c sound steps outer ps os opens (step ∙ started s read c sound steps outer ps os opens) full); place = refl })
+
+      by_breaks : field_move s.mode s.held c ≡ breaks → IsStuck s c → (offset : ℕ) × OpensTooDeep read c offset
+      by_breaks is (inl none) = absurd (begun s.outer (field_pieces s) s.openers (ap (field_moved s c) is) none)
+      by_breaks is (inr full) =
+          let many = few_left (is_opening c) (frames s) (sym (ap (has_room_at (frames s) c) is) ∙ full) in
+          full_at s.outer (field_pieces s) s.openers (ap (field_moved s c) is) (omega (arith, few, many))
+
+      by_code : (h : Host) → field_move s.mode s.held c ≡ begins_code h → IsStuck s c → (offset : ℕ) × OpensTooDeep read c offset
+      by_code h is (inl none) = absurd (begun (opened_level s h literal s.held ∷ s.outer) [] [] (ap (field_moved s c) is) none)
+      by_code h is (inr full) =
+          let many = nearly_full (is_opening c) (frames s) (sym (ap (has_room_at (frames s) c) is) ∙ full) in
+          let fewer : frames s ≡ 200 → ⊥ = λ same. not_deep shallow (reason_is (begins_code h) is) (omega (arith, same)) in
+          full_at (opened_level s h literal s.held ∷ s.outer) [] [] (ap (field_moved s c) is) (count (frames s) many few fewer)
+        where
+          count : (n : ℕ) → 200 ≤ n + 1 → n ≤ 200 → (n ≡ 200 → ⊥) → length {A = ℕ} [] + (n + 1) ≡ 200
+          count n many most other = omega arith
+
+      by_field : (h : Host) → field_move s.mode s.held c ≡ opens_field h → IsStuck s c → (offset : ℕ) × OpensTooDeep read c offset
+      by_field h is (inl none) = absurd (some_none (sym (ap (field_moved s c) is) ∙ none))
+      by_field h is (inr full) =
+          let many = ltb-false (frames s) 200 (sym (ap (has_room_at (frames s) c) is) ∙ full) in
+          (byte_len read, record { opens = opens; deep = inr (opens_due s read c sound steps h is (omega (arith, few, many))); place = refl })
+
+      refuses : Refuses s.mode c → ⊥
+      refuses (inl (break, short)) = both_ways _ no_break break
+      refuses (inr (inl (slash, other))) = both_ways _ no_slash slash
+      refuses (inr (inr (same, quotes))) = both_ways _ (opening-not-quote c opens) quotes
+
+      go : (v : FieldMove) → field_move s.mode s.held c ≡ v → (offset : ℕ) × OpensTooDeep read c offset
+      go (grows n) is = absurd (no_grows n is)
+      go closes is = absurd (no_closes is)
+      go breaks is = by_breaks is stuck
+      go (begins_code h) is = by_code h is stuck
+      go (opens_field h) is = by_field h is stuck
+      go ends_field is = absurd (both_ways _ no_closing (ap is_closing (reason_is ends_field is) ∙ end_brace_closes))
+      go refused is = absurd (refuses (reason_is refused is))
+
+  -- what follows a backslash
+  join_fits : after_open_backslash s.mode ≡ true → (offset : ℕ) × Explains breaks_join read c offset
+  join_fits slash = go s.mode slash sound
+    where
+      go : (m : FieldMode) → after_open_backslash m ≡ true → IsFieldSound two_hundred (field_state s.outer s.done s.openers m s.held) read → (offset : ℕ) × Explains breaks_join read c offset
+      go (plain m) is own =
+          let start : List ℕ = before literal s.outer ++ spelled s.done in
+          (byte_len start, record { start = start; after = slash_is_open two_hundred s.outer s.done s.openers m s.held read own is; place = refl })
+      go (opened host) is own = absurd (both_ways _ refl is)
+      go (empty host) is own = absurd (both_ways _ refl is)
+      go (body host place named at) is own = absurd (both_ways _ refl is)
+
+  -- the quote of the string of a specification
+  end_back : (offset : ℕ) → Explains ends_specification read c offset → quotes_specification s.mode c ≡ true
+  end_back offset fits = quoted s.mode (specification_mode s read c sound steps fits.host fits.start fits.inside)
+    where
+      quoted : (m : FieldMode) → InSpecificationOf fits.host m → quotes_specification m c ≡ true
+      quoted (body host specification named at) is = eq-eqb c host.quote (fits.quotes ∙ ap (λ (h : Host). h.quote) (sym is.0))
+      quoted (body host literal named at) is = absurd is
+      quoted (plain m) is = absurd is
+      quoted (opened host) is = absurd is
+      quoted (empty host) is = absurd is
+
+  end_fits : quotes_specification s.mode c ≡ true → (offset : ℕ) × Explains ends_specification read c offset
+  end_fits is = go s.mode is sound
+    where
+      go : (m : FieldMode) → quotes_specification m c ≡ true → IsFieldSound two_hundred (field_state s.outer s.done s.openers m s.held) read → (offset : ℕ) × Explains ends_specification read c offset
+      go (body host specification named at) same own =
+          let found = specification_is_open two_hundred s.outer s.done s.openers host named at s.held read own (no_brace_at s.outer (frames s) s.held host named at own.mode) in
+          (byte_len found.0, record { host = host; start = found.0; inside = found.1; quotes = eqb-true c host.quote same; place = refl })
+      go (body host literal named at) same own = absurd (both_ways _ refl same)
+      go (plain m) same own = absurd (both_ways _ refl same)
+      go (opened host) same own = absurd (both_ways _ refl same)
+      go (empty host) same own = absurd (both_ways _ refl same)
+
+  -- a fault whose cause fits, where none before it does
+  abbrev HasFault : Cause → Type 0
+  HasFault cause = IsCharacterFault (kind_of_cause cause) (read ++ c ∷ after) (cause_place s cause)
+
+  fault_of : (cause : Cause) → (offset : ℕ) × Explains cause read c offset → NoneExplains (causes_before cause) read c → HasFault cause
+  fault_of cause (offset, fits) first =
+      record { cause = cause; before = read; c = c; is = refl; dies = stuck_dies read c after s steps room stuck; fits = subst (Explains cause read c) (place_is cause offset fits) fits; first = first }
+
+  abbrev Misfits : Cause → Type 0
+  Misfits cause = (offset : ℕ) → ¬ (Explains cause read c offset)
+
+  -- the first cause that fits is the one that the state tells
+  pub cause_fits : IsCharacterFault (kind_of_cause (cause_in (frames s) s.mode c)) (read ++ c ∷ after) (cause_place s (cause_in (frames s) s.mode c))
+  cause_fits =
+      cond_both is_deep brace_too_deep _ HasFault (λ deep. fault_of brace_too_deep (brace_fits deep) tt)
+      (λ shallow.
+      let no_brace : Misfits brace_too_deep = λ offset fits. both_ways _ shallow (deep_back offset fits) in
+      cond_both (is_break c) breaks_string _ HasFault (λ break. fault_of breaks_string (break_fits shallow break) (no_brace, tt))
+      (λ no_break.
+      let no_string : Misfits breaks_string = λ offset fits. both_ways _ no_break fits.breaks in
+      cond_both (after_open_backslash s.mode) breaks_join _ HasFault (λ slash. fault_of breaks_join (join_fits slash) (no_brace, (no_string, tt)))
+      (λ no_slash.
+      let no_join : Misfits breaks_join = λ offset fits. both_ways _ no_slash (comes_to read _ s (backslash_comes read fits.start fits.after) steps).0 in
+      cond_both (is_closing c) closes_wrong _ HasFault (λ closing. fault_of closes_wrong (byte_len read, record { closes = closing; place = refl }) (no_brace, (no_string, (no_join, tt))))
+      (λ no_closing.
+      let no_close : Misfits closes_wrong = λ offset fits. both_ways _ no_closing fits.closes in
+      cond_both (is_opening c) opens_too_deep _ HasFault (λ opens. fault_of opens_too_deep (opening_fits shallow no_break no_slash no_closing opens) (no_brace, (no_string, (no_join, (no_close, tt)))))
+      (λ no_opening.
+      let no_limit : Misfits opens_too_deep = λ offset fits. both_ways _ no_opening fits.opens in
+      cond_both (quotes_specification s.mode c) ends_specification begins_nothing HasFault
+      (λ quotes. fault_of ends_specification (end_fits quotes) (no_brace, (no_string, (no_join, (no_close, (no_limit, tt))))))
+      (λ no_quote.
+      let no_end : Misfits ends_specification = λ offset fits. both_ways _ no_quote (end_back offset fits) in
+      fault_of begins_nothing (byte_len read, refl) (no_brace, (no_string, (no_join, (no_close, (no_limit, (no_end, tt))))))))))))

@@ -1,0 +1,283 @@
+-- What is open where a text with fields ends, by the state in which the machine stands.
+use Rattle.std.proofs.Common.{◌≡◌, ℕ, ◌+◌, ◌-◌, ◌<◌, ◌≤◌, Bool, true, false, Option, None, Some, List, [], ◌∷◌, ◌++◌, length, nat_lt, refl, sym, ap, ◌∙◌, subst, inl, inr, ◌⊎◌, append_assoc, append-nil, arith}
+use Rattle.std.specs.Prelude.{if◌then◌else◌}
+use Rattle.std.proofs.lemmas.Bool.{both_ways, cond_both, ltb-true, ltb-false}
+use Rattle.py_lines.specs.Piece.{operator, Piece, spelled}
+use Rattle.py_lines.specs.Balance.{is_opener, depth_after, depth_through}
+use Rattle.py_lines.specs.Fields.{IsShallow}
+use Rattle.py_lines.specs.Faults.{IsFieldDue, OpensBraceTooDeep, InOpenBracket, Unfinished, open_brace, open_short, open_long, open_join, open_bracket, open_inside, IsOpenAtEnd}
+use Rattle.py_lines.specs.OpenFields.{AreBegun, BeginsList, StandsIn, IsPlainShortPrefix, IsPlainLongPrefix, IsOpenLiteral}
+use Rattle.py_lines.specs.LogicalLine.{byte_len}
+use Rattle.py_lines.specs.FieldStrings.{Host, Place, literal, specification, begins_open}
+use Rattle.py_lines.specs.declared.mode.Mode.{Mode}
+use Rattle.py_lines.specs.declared.mode.Mode.TheVariants as modes
+use Rattle.py_lines.specs.Private.Machine.{is_final, in_short, in_long, is_after_backslash}
+use Rattle.py_lines.specs.Private.FieldMachine.{text_place, before, At, after_brace, FieldMode, plain, opened, empty, body, Level, field_state, field_closed, levels_open, may_end, IsFieldFinal}
+use Rattle.py_lines.specs.Private.FieldFlaws.{unfinished_code, unfinished_literal, unfinished_in}
+use Rattle.py_lines.proofs.Pieces.PieceLists.{piece}
+use Rattle.py_lines.proofs.FieldSoundness.OpenLists.{Opens, level, inside, opens-depth}
+use Rattle.py_lines.proofs.FieldSoundness.Holds.{Limit, HoldsAt, HoldsParts, HoldsList, HoldsLevels, IsFieldSound}
+use Rattle.py_lines.proofs.FieldSoundness.Lists.{not_specification}
+use Rattle.py_lines.proofs.FieldSoundness.ListEnds.{EndsList, code_at_end, list_ends}
+use Rattle.py_lines.proofs.FieldSoundness.WholeTexts.{two_hundred}
+use Rattle.py_lines.proofs.FieldSoundness.OpenTexts.{begun_before, parts_at, stands_open, list_begins}
+use Rattle.py_lines.proofs.FieldSoundness.OpenEnds.{stands_map, literal_is_open, opened_is_open, specification_is_open, short_is_open, long_is_open, slash_is_open, code_is_open, brace_is_open}
+
+-- within the limit at most 200 brackets and fields are open
+shallow_through : (depth : ℕ) (ps : List Piece) → depth ≤ 200 → IsShallow depth ps → depth_through depth ps ≤ 200
+shallow_through depth [] room passes = room
+shallow_through depth (p ∷ ps) room passes = shallow_through (depth_after depth p) ps (after (is_opener p) refl) passes.2
+  where
+    after : (b : Bool) → is_opener p ≡ b → depth_after depth p ≤ 200
+    after true opens =
+        let less : depth < 200 = passes.0 opens in
+        let is : depth_after depth p ≡ depth + 1 = rw opens in
+        omega (arith, less, is)
+    after false opens =
+        let fewer : depth_after depth p ≤ depth = rw opens (cond_both _ (depth - 1) depth (λ (n : ℕ). n ≤ depth) (λ h. omega arith) (λ h. omega arith)) in
+        omega (arith, fewer)
+
+levels_few : (place : Place) (outer : List Level) (text : List ℕ) → HoldsLevels two_hundred place outer text → levels_open outer ≤ 200
+levels_few literal [] text h = omega arith
+levels_few specification [] text h = omega arith
+levels_few place (l ∷ ls) text h =
+    let room : length l.openers + levels_open ls < 200 = h.1.room in
+    omega (arith, room)
+
+pub few_frames : (outer : List Level) (done : List Piece) (openers : List ℕ) (m : FieldMode) (held read : List ℕ) → IsFieldSound two_hundred (field_state outer done openers m held) read → length openers + levels_open outer ≤ 200
+few_frames outer done openers m held read sound =
+    let few = shallow_through (levels_open outer) done (levels_few (text_place m) outer _ sound.levels) sound.list.passes in
+    let deep = opens-depth openers done (levels_open outer) sound.list.opens in
+    omega (arith, few, deep)
+
+-- a bracket of the innermost list is open
+bracket_is_open : (limit : Limit) (outer : List Level) (done : List Piece) (o : ℕ) (os : List ℕ) (m : FieldMode) (held read : List ℕ) → IsFieldSound limit (field_state outer done (o ∷ os) m held) read → may_end m ≡ true → (start : List ℕ) × InOpenBracket read start
+bracket_is_open limit outer done o os m held read sound may = go ends.opens
+  where
+    pieces : List Piece
+    pieces = field_closed m done held
+
+    at : text_place m ≡ literal
+    at = code_at_end m may
+
+    ends : EndsList limit outer (o ∷ os) pieces (spelled done ++ held)
+    ends = list_ends limit outer done (o ∷ os) m held read sound may
+
+    list : BeginsList (before literal outer) (spelled pieces) (levels_open outer)
+    list = subst (λ t. BeginsList (before literal outer) t (levels_open outer)) (append-nil (spelled done ++ held) ∙ sym ends.spell)
+        (list_begins limit outer (spelled done ++ held) [] (subst (λ p. HoldsLevels limit p outer (spelled done ++ held)) at sound.levels))
+
+    begun : AreBegun (levels_open outer) pieces []
+    begun = begun_before outer pieces (o ∷ os) [] ends.fit ends.opens ends.in_field
+
+    spell : before literal outer ++ spelled pieces ≡ read
+    spell = ap (λ t. before literal outer ++ t) ends.spell ∙ ap (λ p. before p outer ++ (spelled done ++ held)) (sym at) ∙ sound.spell
+
+    go : Opens (o ∷ os) pieces → (start : List ℕ) × InOpenBracket read start
+    go (level _ _ none within) = absurd (cc)
+    go (inside _ _ c others first inner is shape out opens within) =
+        let opener : Piece = piece operator (c ∷ []) in (
+          before literal outer ++ spelled first,
+          record {
+            outside = before literal outer;
+            depth = levels_open outer;
+            outer = first;
+            opener = opener;
+            inner = inner;
+            list = subst (λ (l : List Piece). BeginsList (before literal outer) (spelled l) (levels_open outer)) shape list;
+            begun = subst (λ (l : List Piece). AreBegun (levels_open outer) l []) shape begun;
+            opens = opens;
+            balanced = within;
+            spell = ap (λ (l : List Piece). before literal outer ++ spelled l) (sym shape) ∙ spell;
+            before = refl;
+          },
+        )
+
+-- a field may open here, in a string that is open up to this text
+pub due_at : (limit : Limit) (outer : List Level) (done : List Piece) (openers : List ℕ) (m : FieldMode) (held read : List ℕ) → IsFieldSound limit (field_state outer done openers m held) read → (host : Host) (place : Place) (text after more : List ℕ) → text_place m ≡ place → text ++ (123 ∷ after) ≡ held ++ more → (place ≡ literal → begins_open after ≡ false) → HoldsParts limit outer (length openers + levels_open outer) host place false text (123 ∷ []) → IsFieldDue place (length openers + levels_open outer) (before place outer ++ (spelled done ++ text)) after
+due_at limit outer done openers m held read sound host place text after more at same single h =
+    let depth = length openers + levels_open outer in
+    let list = subst (λ p. HoldsList limit outer p done openers held) at sound.list in
+    let levels = subst (λ p. HoldsLevels limit p outer (spelled done ++ held)) at sound.levels in
+    let so = stands_open limit place outer done openers host false text (123 ∷ after) held more same list (parts_at limit outer depth host place false text (123 ∷ []) after h) levels in
+    record {
+      outside = so.outside;
+      base = so.base;
+      pieces = so.pieces;
+      front = text;
+      host = host;
+      spot = so.spot;
+      list = so.list;
+      begun = so.begun;
+      string = so.string;
+      may = record { unnamed = so.named_is; single = λ is. single (sym so.place_is ∙ is) };
+      spell = sym (append_assoc so.outside (spelled so.pieces) text) ∙ ap (λ t. t ++ text) (sym so.before_is) ∙ append_assoc (before place outer) (spelled done) text;
+      place_is = so.place_is;
+      deep = so.depth_is;
+    }
+
+-- a field that would open at depth 200, with its `{` at the end
+pub brace_is_due : (limit : Limit) (outer : List Level) (done : List Piece) (openers : List ℕ) (host : Host) (named : Bool) (held read : List ℕ) → IsFieldSound limit (field_state outer done openers (body host literal named after_brace) held) read → length openers + levels_open outer ≡ 200 → (offset : ℕ) × OpensBraceTooDeep read [] offset
+brace_is_due limit outer done openers host named held read sound full = go sound.mode
+  where
+    depth : ℕ
+    depth = length openers + levels_open outer
+
+    go : HoldsAt limit outer depth host literal named after_brace held → (offset : ℕ) × OpensBraceTooDeep read [] offset
+    go (text, is, at, unnamed, h) =
+        let start : List ℕ = before literal outer ++ (spelled done ++ text) in
+        let parts = subst (λ n. HoldsParts limit outer depth host literal n text (123 ∷ [])) unnamed h in
+        let due = due_at limit outer done openers (body host literal named after_brace) held read sound host literal text [] [] refl (sym is ∙ sym (append-nil held)) (λ same. refl) parts in (
+          byte_len start,
+          record {
+            start = start;
+            spell = append_assoc (before literal outer) (spelled done ++ text) (123 ∷ [])
+                ∙ ap (λ t. before literal outer ++ t) (append_assoc (spelled done) text (123 ∷ []) ∙ ap (λ t. spelled done ++ t) (sym is)) ∙ sound.spell;
+            due = subst (λ n. IsFieldDue literal n start []) full due;
+            place = refl;
+          },
+        )
+
+-- a mode in which nothing of the kind is open is one in which the text may end
+final_mode : (m : Mode) → in_short m ≡ false → in_long m ≡ false → is_after_backslash m ≡ false → is_final m ≡ true
+final_mode (modes.Opened q) short long slash = absurd (both_ways _ short refl)
+final_mode (modes.Inside q) short long slash = absurd (both_ways _ short refl)
+final_mode (modes.Escape q) short long slash = absurd (both_ways _ short refl)
+final_mode (modes.EscapeReturn q) short long slash = absurd (both_ways _ short refl)
+final_mode (modes.FieldOpened h) short long slash = absurd (both_ways _ short refl)
+final_mode modes.Fielded short long slash = absurd (both_ways _ long refl)
+final_mode (modes.Long q) short long slash = absurd (both_ways _ long refl)
+final_mode (modes.LongOne q) short long slash = absurd (both_ways _ long refl)
+final_mode (modes.LongTwo q) short long slash = absurd (both_ways _ long refl)
+final_mode (modes.LongEscape q) short long slash = absurd (both_ways _ long refl)
+final_mode modes.Backslash short long slash = absurd (both_ways _ slash refl)
+final_mode m short long slash = refl
+
+-- the machine stands directly after the `{` of a literal part, with 200 brackets and fields open
+abbrev pub IsDeepBrace : List Level → List ℕ → FieldMode → Type 0
+IsDeepBrace outer openers m = (host : Host) × (m ≡ body host literal false after_brace) × (length openers + levels_open outer ≡ 200)
+
+some_same : {A : Type 0} (a b : A) → Some a ≡ Some b → a ≡ b
+some_same a b h = cc
+
+module _ (outer : List Level) (done : List Piece) (openers : List ℕ) (m : FieldMode) (held read : List ℕ) (sound : IsFieldSound two_hundred (field_state outer done openers m held) read) (deep : (place : ℕ) → OpensBraceTooDeep read [] place → IsDeepBrace outer openers m) where
+  abbrev Open : Option Unfinished → Type 0
+  Open o = (what : Unfinished) → o ≡ Some what → (offset : ℕ) × IsOpenAtEnd what read offset
+
+  is_open : (what : Unfinished) → (offset : ℕ) × IsOpenAtEnd what read offset → Open (Some what)
+  is_open what at other same = subst (λ (w : Unfinished). (offset : ℕ) × IsOpenAtEnd w read offset) (some_same what other same) at
+
+  -- where the text may end, brackets and fields aside
+  code_open : may_end m ≡ true → ((place : ℕ) → ¬ (OpensBraceTooDeep read [] place)) → Open (unfinished_code outer openers)
+  code_open may none = go outer openers sound
+    where
+      go : (ls : List Level) (os : List ℕ) → IsFieldSound two_hundred (field_state ls done os m held) read → Open (unfinished_code ls os)
+      go [] [] own = λ what same. absurd (cc)
+      go (l ∷ ls) [] own =
+          let at = code_is_open two_hundred l ls done m held read own may in
+          is_open open_inside (byte_len at.0, (at.0, inl at.1, refl, none))
+      go [] (o ∷ os) own =
+          let at = bracket_is_open two_hundred [] done o os m held read own may in
+          is_open open_bracket (byte_len at.0, (at.0, at.1, refl))
+      go (l ∷ ls) (o ∷ os) own =
+          let at = bracket_is_open two_hundred (l ∷ ls) done o os m held read own may in
+          is_open open_bracket (byte_len at.0, (at.0, at.1, refl))
+
+-- in each mode
+plain_open : (outer : List Level) (done : List Piece) (openers : List ℕ) (m : Mode) (held read : List ℕ) (sound : IsFieldSound two_hundred (field_state outer done openers (plain m) held) read) → ((place : ℕ) → OpensBraceTooDeep read [] place → IsDeepBrace outer openers (plain m)) → (what : Unfinished) → unfinished_in outer openers (plain m) ≡ Some what → (offset : ℕ) × IsOpenAtEnd what read offset
+plain_open outer done openers m held read sound deep what same =
+    let P : Option Unfinished → Type 0 = λ o. (w : Unfinished) → o ≡ Some w → (offset : ℕ) × IsOpenAtEnd w read offset in
+    let start = before literal outer ++ spelled done in
+    let none : (place : ℕ) → ¬ (OpensBraceTooDeep read [] place) = λ place due. not_body (deep place due) in
+    cond_both (in_short m) _ _ P
+    (λ is. is_open outer done openers (plain m) held read sound deep open_short (byte_len start, (start, short_is_open two_hundred outer done openers m held read sound is, refl)))
+    (λ short. cond_both (in_long m) _ _ P
+    (λ is. is_open outer done openers (plain m) held read sound deep open_long (byte_len start, (start, long_is_open two_hundred outer done openers m held read sound is, refl)))
+    (λ long. cond_both (is_after_backslash m) _ _ P
+    (λ is. is_open outer done openers (plain m) held read sound deep open_join (byte_len start, (start, slash_is_open two_hundred outer done openers m held read sound is, refl)))
+    (λ slash. code_open outer done openers (plain m) held read sound deep (final_mode m short long slash) none))) what same
+  where
+    not_body : IsDeepBrace outer openers (plain m) → ⊥
+    not_body (host, at, full) = cc
+
+literal_open : (outer : List Level) (done : List Piece) (openers : List ℕ) (host : Host) (named : Bool) (at : At) (held read : List ℕ) → IsFieldSound two_hundred (field_state outer done openers (body host literal named at) held) read → (at ≡ after_brace → ⊥) → (offset : ℕ) × IsOpenAtEnd (if host.is_long then open_long else open_short) read offset
+literal_open outer done openers host named at held read sound other = go host.is_long (literal_is_open two_hundred outer done openers host named at held read sound other)
+  where
+    start : List ℕ
+    start = before literal outer ++ spelled done
+
+    go : (b : Bool) → StandsIn (IsOpenLiteral b) read start → (offset : ℕ) × IsOpenAtEnd (if b then open_long else open_short) read offset
+    go true own = (byte_len start, (start, stands_map (IsOpenLiteral true) (λ front. IsPlainLongPrefix front ⊎ IsOpenLiteral true front) read start (λ front is. inr is) own, refl))
+    go false own = (byte_len start, (start, stands_map (IsOpenLiteral false) (λ front. IsPlainShortPrefix front ⊎ IsOpenLiteral false front) read start (λ front is. inr is) own, refl))
+
+brace_open : (outer : List Level) (done : List Piece) (openers : List ℕ) (host : Host) (named : Bool) (held read : List ℕ) → IsFieldSound two_hundred (field_state outer done openers (body host literal named after_brace) held) read → ((place : ℕ) → OpensBraceTooDeep read [] place → IsDeepBrace outer openers (body host literal named after_brace)) → (offset : ℕ) × IsOpenAtEnd (unfinished_literal host after_brace (length openers + levels_open outer)) read offset
+brace_open outer done openers host named held read sound deep =
+    let depth = length openers + levels_open outer in
+    cond_both (nat_lt depth 200) open_inside open_brace (λ (w : Unfinished). (offset : ℕ) × IsOpenAtEnd w read offset)
+    (λ less.
+    let at = brace_is_open two_hundred outer done openers host named held read sound in
+    let room = ltb-true depth 200 less in
+    (byte_len at.0, (at.0, inl at.1, refl, λ place due. not_full room (deep place due))))
+    (λ full.
+    let few = few_frames outer done openers (body host literal named after_brace) held read sound in
+    let many = ltb-false depth 200 full in
+    let is : depth ≡ 200 = omega (arith, few, many) in
+    brace_is_due two_hundred outer done openers host named held read sound is)
+  where
+    not_full : length openers + levels_open outer < 200 → IsDeepBrace outer openers (body host literal named after_brace) → ⊥
+    not_full room (other, same, full) = omega (arith, room, full)
+
+specification_at : (outer : List Level) (done : List Piece) (openers : List ℕ) (host : Host) (named : Bool) (at : At) (held read : List ℕ) → IsFieldSound two_hundred (field_state outer done openers (body host specification named at) held) read → ((place : ℕ) → OpensBraceTooDeep read [] place → IsDeepBrace outer openers (body host specification named at)) → (offset : ℕ) × IsOpenAtEnd open_inside read offset
+specification_at outer done openers host named at held read sound deep =
+    let own = specification_is_open two_hundred outer done openers host named at held read sound (other at sound.mode) in
+    (byte_len own.0, (own.0, inr (host, own.1), refl, λ place due. not_literal (deep place due)))
+  where
+    other : (a : At) → HoldsAt two_hundred outer (length openers + levels_open outer) host specification named a held → a ≡ after_brace → ⊥
+    other after_brace h same = absurd (not_specification (sym h.2))
+    other a h same = cc
+
+    not_literal : IsDeepBrace outer openers (body host specification named at) → ⊥
+    not_literal (h, same, full) = cc
+
+pub open_in : (outer : List Level) (done : List Piece) (openers : List ℕ) (m : FieldMode) (held read : List ℕ) (sound : IsFieldSound two_hundred (field_state outer done openers m held) read) → ((place : ℕ) → OpensBraceTooDeep read [] place → IsDeepBrace outer openers m) → (what : Unfinished) → unfinished_in outer openers m ≡ Some what → (offset : ℕ) × IsOpenAtEnd what read offset
+open_in outer done openers (plain m) held read sound deep what same = plain_open outer done openers m held read sound deep what same
+open_in outer done openers (opened host) held read sound deep what same =
+    let start = before literal outer ++ spelled done in
+    is_open outer done openers (opened host) held read sound deep open_short
+    (byte_len start, (start, stands_map (IsOpenLiteral false) (λ front. IsPlainShortPrefix front ⊎ IsOpenLiteral false front) read start (λ front is. inr is) (opened_is_open two_hundred outer done openers host held read sound), refl)) what same
+open_in outer done openers (empty host) held read sound deep what same = code_open outer done openers (empty host) held read sound deep refl (λ place due. not_body (deep place due)) what same
+  where
+    not_body : IsDeepBrace outer openers (empty host) → ⊥
+    not_body (h, at, full) = cc
+open_in outer done openers (body host specification named at) held read sound deep what same =
+    is_open outer done openers (body host specification named at) held read sound deep open_inside (specification_at outer done openers host named at held read sound deep) what same
+open_in outer done openers (body host literal named after_brace) held read sound deep what same =
+    is_open outer done openers (body host literal named after_brace) held read sound deep _ (brace_open outer done openers host named held read sound deep) what same
+open_in outer done openers (body host literal named at) held read sound deep what same =
+    is_open outer done openers (body host literal named at) held read sound deep _ (literal_open outer done openers host named at held read sound (λ is. absurd (cc))) what same
+
+-- and where nothing is open, the text may end
+ends_if_none : (outer : List Level) (openers : List ℕ) → unfinished_code outer openers ≡ None → (outer ≡ []) × (openers ≡ [])
+ends_if_none [] [] is = (refl, refl)
+ends_if_none (l ∷ ls) [] is = absurd (cc)
+ends_if_none [] (o ∷ os) is = absurd (cc)
+ends_if_none (l ∷ ls) (o ∷ os) is = absurd (cc)
+
+pub final_in : (outer : List Level) (done : List Piece) (openers : List ℕ) (m : FieldMode) (held : List ℕ) → unfinished_in outer openers m ≡ None → IsFieldFinal (field_state outer done openers m held)
+final_in outer done openers (plain m) held is =
+    let P : Option Unfinished → Type 0 = λ o. o ≡ None → IsFieldFinal (field_state outer done openers (plain m) held) in
+    cond_both (in_short m) _ _ P (λ h same. absurd (some_none same))
+    (λ short. cond_both (in_long m) _ _ P (λ h same. absurd (some_none same))
+    (λ long. cond_both (is_after_backslash m) _ _ P (λ h same. absurd (some_none same))
+    (λ slash same.
+    let ends = ends_if_none outer openers same in
+    record { outside = ends.0; closed_all = ends.1; ends = final_mode m short long slash }))) is
+  where
+    some_none : {A : Type 0} {a : A} → Some a ≡ None → ⊥
+    some_none h = cc
+final_in outer done openers (opened host) held is = absurd (cc)
+final_in outer done openers (empty host) held is =
+    let ends = ends_if_none outer openers is in
+    record { outside = ends.0; closed_all = ends.1; ends = refl }
+final_in outer done openers (body host literal named at) held is = absurd (cc)
+final_in outer done openers (body host specification named at) held is = absurd (cc)

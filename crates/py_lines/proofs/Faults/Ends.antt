@@ -1,0 +1,183 @@
+-- A live text with fields that has no reading has a fault at its end, and one alone.
+use Rattle.std.proofs.Common.{◌≡◌, ℕ, ◌+◌, ◌<◌, Bool, true, false, Option, None, Some, List, [], ◌∷◌, ◌++◌, ◌⊎◌, inl, inr, length, nat_lt, refl, sym, ap, ◌∙◌, subst, append_assoc, append-nil, arith}
+use Rattle.std.specs.Prelude.{if◌then◌else◌}
+use Rattle.std.proofs.lemmas.Bool.{both_ways, ltb-false}
+use Rattle.py_lines.specs.Piece.{Piece, spelled}
+use Rattle.py_lines.specs.LogicalLine.{byte_len}
+use Rattle.py_lines.specs.FieldStrings.{Host, literal, specification}
+use Rattle.py_lines.specs.Reading.{IsBalancedReading}
+use Rattle.py_lines.specs.Faults.{OpensBraceTooDeep, Unfinished, open_brace, open_short, open_long, open_join, open_bracket, open_inside, kind_of_unfinished, IsOpenAtEnd, IsEndFault}
+use Rattle.py_lines.specs.declared.fault.FaultKind.{FaultKind}
+use Rattle.py_lines.specs.Private.FieldMachine.{text_place, before, after_brace, FieldMode, plain, opened, empty, body, Level, FieldScanned, field_state, field_text_start, field_steps_from, field_pieces, have_room, IsFieldFinal, in_open_short, in_open_long, after_open_backslash, InSpecificationOf, levels_open, may_end, frames}
+use Rattle.py_lines.proofs.FieldMachine.Completeness.{reading_reached}
+use Rattle.py_lines.proofs.FieldMachine.WhatIsOpen.{Comes, comes_to, short_open_comes, long_open_comes, backslash_comes, SpecificationAt, specification_comes}
+use Rattle.py_lines.proofs.FieldMachine.OpenCode.{CodeAt, in_code, at_brace, code_comes, brace_comes}
+use Rattle.py_lines.proofs.FieldMachine.OpenStrings.{HasOpened}
+use Rattle.py_lines.proofs.FieldSoundness.Holds.{IsFieldSound}
+use Rattle.py_lines.proofs.FieldSoundness.HostSteps.{sound_at}
+use Rattle.py_lines.proofs.FieldSoundness.WholeTexts.{two_hundred, rooms_at, final_is_reading}
+use Rattle.py_lines.proofs.FieldSoundness.LiveTexts.{live_goes, goes_live}
+use Rattle.py_lines.proofs.Faults.EndFaults.{IsDeepBrace, few_frames, brace_is_due, open_in, final_in}
+use Rattle.py_lines.specs.Private.FieldFlaws.{unfinished_code, unfinished_in, unfinished_at}
+use Rattle.py_lines.proofs.Faults.EndPlaces.{same_state, opened_text, IsPlaced, one_place, short_unfinished, long_unfinished, join_unfinished, code_unfinished, specification_unfinished, bracket_back}
+
+-- directly after a `{` at depth 200 the machine stands there
+pub deep_state : (characters : List ℕ) (s : FieldScanned) (place : ℕ) → field_steps_from (Some field_text_start) characters ≡ Some s → OpensBraceTooDeep characters [] place → IsDeepBrace s.outer s.openers s.mode
+deep_state characters s place steps deep =
+    let Such : FieldScanned → Type 0 = λ t. (host : Host) × (t.mode ≡ body host literal false after_brace) × (frames t ≡ 200) in
+    comes_to characters Such s (subst (λ t. Comes t Such) deep.spell (brace_comes 200 deep.start [] deep.due)) steps
+
+pub sound_to : (characters : List ℕ) (s : FieldScanned) → field_steps_from (Some field_text_start) characters ≡ Some s → have_room (Some field_text_start) characters ≡ true → IsFieldSound two_hundred s characters
+sound_to characters s steps room = sound_at two_hundred characters s (rooms_at (Some field_text_start) characters room) steps
+
+-- a live text is read, or has a fault at its end
+pub read_or_open : (characters : List ℕ) (s : FieldScanned) → field_steps_from (Some field_text_start) characters ≡ Some s → have_room (Some field_text_start) characters ≡ true → IsBalancedReading (field_pieces s) characters ⊎ ((kind : FaultKind) × (offset : ℕ) × IsEndFault kind characters [] offset)
+read_or_open characters s steps room = go (unfinished_at s) refl
+  where
+    go : (o : Option Unfinished) → unfinished_at s ≡ o → IsBalancedReading (field_pieces s) characters ⊎ ((kind : FaultKind) × (offset : ℕ) × IsEndFault kind characters [] offset)
+    go None none = inl (final_is_reading characters s steps room (final_in s.outer s.done s.openers s.mode s.held none))
+    go (Some what) is =
+        let at = open_in s.outer s.done s.openers s.mode s.held characters (sound_to characters s steps room) (λ place deep. deep_state characters s place steps deep) what is in
+        inr (kind_of_unfinished what, at.0, record { unfinished = what; is = refl; whole = refl; live = goes_live characters s steps room; ends_in = at.1 })
+
+-- the place of a string or a backslash
+pub short_place : (m : FieldMode) → in_open_short m ≡ true → text_place m ≡ literal
+short_place (plain m) is = refl
+short_place (opened host) is = refl
+short_place (empty host) is = refl
+short_place (body host literal named at) is = refl
+short_place (body host specification named at) is = absurd (both_ways _ refl is)
+
+long_place : (m : FieldMode) → in_open_long m ≡ true → text_place m ≡ literal
+long_place (plain m) is = refl
+long_place (opened host) is = refl
+long_place (empty host) is = refl
+long_place (body host literal named at) is = refl
+long_place (body host specification named at) is = absurd (both_ways _ refl is)
+
+pub join_place : (m : FieldMode) → after_open_backslash m ≡ true → text_place m ≡ literal
+join_place (plain m) is = refl
+join_place (opened host) is = refl
+join_place (empty host) is = refl
+join_place (body host place named at) is = absurd (both_ways _ refl is)
+
+pub starts_there : (s : FieldScanned) (start : List ℕ) (offset : ℕ) → text_place s.mode ≡ literal → before literal s.outer ++ spelled s.done ≡ start → offset ≡ byte_len start → offset ≡ byte_len (before (text_place s.mode) s.outer ++ spelled s.done)
+starts_there s start offset at is place = place ∙ ap byte_len (sym is) ∙ ap (λ p. byte_len (before p s.outer ++ spelled s.done)) (sym at)
+
+-- the text up to the `{` of the field
+opened_at_end : (m : FieldMode) (outer : List Level) (characters : List ℕ) → may_end m ≡ true → opened_text m outer characters ≡ before literal outer
+opened_at_end (plain m) outer characters may = refl
+opened_at_end (opened host) outer characters may = refl
+opened_at_end (empty host) outer characters may = refl
+opened_at_end (body host place named at) outer characters may = absurd (both_ways _ refl may)
+
+pub opened_in_specification : (host : Host) (m : FieldMode) (outer : List Level) (characters : List ℕ) → InSpecificationOf host m → (opened_text m outer characters ≡ before literal outer) × (text_place m ≡ specification)
+opened_in_specification host (body own specification named at) outer characters is = (refl, refl)
+opened_in_specification host (body own literal named at) outer characters is = absurd is
+opened_in_specification host (plain m) outer characters is = absurd is
+opened_in_specification host (opened own) outer characters is = absurd is
+opened_in_specification host (empty own) outer characters is = absurd is
+
+code_inside : (outer : List Level) (openers : List ℕ) → 0 < levels_open outer → openers ≡ [] → unfinished_code outer openers ≡ Some open_inside
+code_inside [] openers deep none = absurd (omega arith)
+code_inside (l ∷ ls) openers deep none = ap (unfinished_code (l ∷ ls)) none
+
+module _ (characters : List ℕ) (s : FieldScanned) (steps : field_steps_from (Some field_text_start) characters ≡ Some s) (room : have_room (Some field_text_start) characters ≡ true) where
+  sound : IsFieldSound two_hundred s characters
+  sound = sound_to characters s steps room
+
+  abbrev pub IsNamed : Unfinished → ℕ → Type 0
+  IsNamed what offset = (unfinished_at s ≡ Some what) × IsPlaced what s characters offset
+
+  code_named : (start : List ℕ) (offset : ℕ) → CodeAt start s → offset ≡ byte_len start → ((place : ℕ) → ¬ (OpensBraceTooDeep characters [] place)) → IsNamed open_inside offset
+  code_named start offset (in_code deep none may is) place other = (
+    code_unfinished s.outer s.openers s.mode may ∙ code_inside s.outer s.openers deep none,
+    (start, sym is ∙ sym (opened_at_end s.mode s.outer characters may), place),
+  )
+  code_named start offset (at_brace host mode_is is) place other = go s.mode mode_is sound
+    where
+      go : (m : FieldMode) → m ≡ body host literal false after_brace → IsFieldSound two_hundred (field_state s.outer s.done s.openers m s.held) characters → (unfinished_in s.outer s.openers m ≡ Some open_inside) × ((first : List ℕ) × (first ++ 123 ∷ [] ≡ opened_text m s.outer characters) × (offset ≡ byte_len first))
+      go m same own =
+          let here : IsFieldSound two_hundred (field_state s.outer s.done s.openers (body host literal false after_brace) s.held) characters = subst (λ (x : FieldMode). IsFieldSound two_hundred (field_state s.outer s.done s.openers x s.held) characters) same own in
+          let whole : start ++ 123 ∷ [] ≡ characters = sym is ∙ append_assoc (before literal s.outer) (spelled s.done) s.held ∙ here.spell in
+          subst (λ (x : FieldMode). (unfinished_in s.outer s.openers x ≡ Some open_inside) × ((first : List ℕ) × (first ++ 123 ∷ [] ≡ opened_text x s.outer characters) × (offset ≡ byte_len first))) (sym same)
+          (shallow here (nat_lt (length s.openers + levels_open s.outer) 200) refl, (start, whole, place))
+        where
+          shallow : IsFieldSound two_hundred (field_state s.outer s.done s.openers (body host literal false after_brace) s.held) characters → (b : Bool) → nat_lt (length s.openers + levels_open s.outer) 200 ≡ b → Some (if nat_lt (length s.openers + levels_open s.outer) 200 then open_inside else open_brace) ≡ Some open_inside
+          shallow here true less = rw less
+          shallow here false full =
+              let depth = length s.openers + levels_open s.outer in
+              let few = few_frames s.outer s.done s.openers (body host literal false after_brace) s.held characters here in
+              let many = ltb-false depth 200 full in
+              let count : depth ≡ 200 = omega (arith, few, many) in
+              let due = brace_is_due two_hundred s.outer s.done s.openers host false s.held characters here count in
+              absurd (other due.0 due.1)
+
+  pub specification_named : (host : Host) (start : List ℕ) (offset : ℕ) → SpecificationAt host start s → offset ≡ byte_len start → IsNamed open_inside offset
+  specification_named host start offset at place =
+      let open_text = opened_in_specification host s.mode s.outer characters at.mode_is in
+      let none = sound.list.no_list open_text.1 in
+      (specification_unfinished s.outer s.openers host s.mode at.mode_is, (start, whole s.outer at.string_is at.field_is none.0 ∙ sym open_text.0, place))
+    where
+      whole : (outer : List Level) → before specification outer ++ spelled s.done ≡ at.string → HasOpened specification outer at.field → s.done ≡ [] → start ++ 123 ∷ [] ≡ before literal outer
+      whole [] string_is field_is none = absurd field_is
+      whole (l ∷ ls) string_is field_is none =
+          ap (λ t. t ++ 123 ∷ []) (sym at.before)
+          ∙ append_assoc at.string at.field (123 ∷ [])
+          ∙ ap (λ t. at.string ++ t) (sym field_is)
+          ∙ ap (λ t. t ++ l.front) (sym string_is ∙ ap (λ (p : List Piece). (before l.place ls ++ spelled l.done) ++ spelled p) none ∙ append-nil (before l.place ls ++ spelled l.done))
+          ∙ append_assoc (before l.place ls) (spelled l.done) l.front
+
+  pub named : (what : Unfinished) (offset : ℕ) → IsOpenAtEnd what characters offset → IsNamed what offset
+  named open_brace offset deep =
+      let at = deep_state characters s offset steps deep in
+      (brace_named s.outer s.openers s.mode at, (deep.start, deep.spell, deep.place))
+    where
+      brace_named : (outer : List Level) (openers : List ℕ) (m : FieldMode) → IsDeepBrace outer openers m → unfinished_in outer openers m ≡ Some open_brace
+      brace_named outer openers m (host, is, full) = ap (unfinished_in outer openers) is ∙ ap (λ (n : ℕ). Some (if nat_lt n 200 then open_inside else open_brace)) full
+  named open_short offset (start, is, place) =
+      let own = comes_to characters _ s (short_open_comes characters start is) steps in
+      (short_unfinished s.outer s.openers s.mode own.0, starts_there s start offset (short_place s.mode own.0) own.1 place)
+  named open_long offset (start, is, place) =
+      let own = comes_to characters _ s (long_open_comes characters start is) steps in
+      (long_unfinished s.outer s.openers s.mode own.0, starts_there s start offset (long_place s.mode own.0) own.1 place)
+  named open_join offset (start, is, place) =
+      let own = comes_to characters _ s (backslash_comes characters start is) steps in
+      (join_unfinished s.outer s.openers s.mode own.0, starts_there s start offset (join_place s.mode own.0) own.1 place)
+  named open_bracket offset (start, is, place) =
+      subst (λ (n : ℕ). (unfinished_at s ≡ Some open_bracket) × IsPlaced open_bracket s characters n) (sym place) (bracket_back characters start s is steps)
+  named open_inside offset (start, inl is, place, other) = code_named start offset (comes_to characters (CodeAt start) s (code_comes characters start is) steps) place other
+  named open_inside offset (start, inr (host, is), place, other) = specification_named host start offset (comes_to characters _ s (specification_comes host characters start is) steps).0 place
+
+-- so the fault at the end is one
+some_same : (a b : Unfinished) → Some a ≡ Some b → a ≡ b
+some_same a b h = cc
+
+pub one_end : (characters tail : List ℕ) (kind other : FaultKind) (offset place : ℕ) → IsEndFault kind characters tail offset → IsEndFault other characters tail place → (kind ≡ other) × (offset ≡ place)
+one_end characters tail kind other offset place first second =
+    let run = live_goes characters first.live in
+    let one = named characters run.0 run.1 run.2 first.unfinished offset first.ends_in in
+    let two = named characters run.0 run.1 run.2 second.unfinished place second.ends_in in
+    let same : first.unfinished ≡ second.unfinished = some_same first.unfinished second.unfinished (sym one.0 ∙ two.0) in (
+      first.is ∙ ap kind_of_unfinished same ∙ sym second.is,
+      one_place second.unfinished run.0 characters offset place (subst (λ (w : Unfinished). IsPlaced w run.0 characters offset) same one.1) two.1,
+    )
+
+-- and then the text has no reading
+pub end_unread : (characters tail : List ℕ) (kind : FaultKind) (offset : ℕ) → IsEndFault kind characters tail offset → (pieces : List Piece) → ¬ (IsBalancedReading pieces characters)
+end_unread characters tail kind offset fault pieces reading =
+    let run = live_goes characters fault.live in
+    let whole = reading_reached pieces characters reading in
+    let same = same_state characters whole.to run.0 whole.steps run.1 in
+    let final : IsFieldFinal run.0 = subst IsFieldFinal same whole.final in
+    let open_yet = named characters run.0 run.1 run.2 fault.unfinished offset fault.ends_in in
+    let none : unfinished_at run.0 ≡ None = code_unfinished run.0.outer run.0.openers run.0.mode final.ends ∙ closed run.0.outer run.0.openers final.outside final.closed_all in
+    none_open fault.unfinished (sym none ∙ open_yet.0)
+  where
+    closed : (outer : List Level) (openers : List ℕ) → outer ≡ [] → openers ≡ [] → unfinished_code outer openers ≡ None
+    closed [] [] outside all = refl
+    closed [] (o ∷ os) outside all = absurd (cc)
+    closed (l ∷ ls) openers outside all = absurd (cc)
+
+    none_open : (what : Unfinished) → None ≡ Some what → ⊥
+    none_open what h = cc

@@ -1,0 +1,159 @@
+-- What a character must be, and where the machine with fields stands, if the character is refused, ends a field or opens one.
+use Rattle.std.proofs.Common.{◌≡◌, ℕ, Bool, true, false, not, ◌&&◌, ◌||◌, ◌==◌, List, [], ◌⊎◌, inl, inr, refl, sym, ap, ◌∙◌, subst}
+use Rattle.std.proofs.lemmas.Bool.{both_ways, cond_both, and_parts, and_from, or_parts, or_from, eqb-true, not-true, not_from_false}
+use Rattle.py_lines.specs.Character.{is_mark, is_space, is_word_character, is_quote, is_line_feed, is_return, is_break, is_backslash, is_brace}
+use Rattle.py_lines.specs.FieldStrings.{Host, Place, literal, specification, names}
+use Rattle.py_lines.specs.declared.mode.Mode.{Mode}
+use Rattle.py_lines.specs.declared.mode.Mode.TheVariants as modes
+use Rattle.py_lines.specs.declared.mode.Move.{Move}
+use Rattle.py_lines.specs.declared.mode.Move.TheVariants as moves
+use Rattle.py_lines.specs.Private.Machine.{Holds, move_of, short_move, long_move, is_prefix_spelling, in_short}
+use Rattle.py_lines.specs.Private.FieldMachine.{At, between, after_one, after_two, after_slash, after_return, after_name, after_brace, FieldMode, plain, opened, empty, body, FieldMove, breaks, begins_code, opens_field, ends_field, refused, Level, is_after_two, is_after_brace, closing_move, opening_move, ending_move, is_barred_escape, between_move, escape_move, body_move, field_move, plain_move, begins_host, in_open_short, after_open_backslash, InSpecificationOf}
+use Rattle.py_lines.specs.Private.FieldFlaws.{is_waiting, quotes_specification}
+use Rattle.py_lines.proofs.FieldSoundness.Holds.{Limit, HoldsAt, HoldsMode}
+use Rattle.py_lines.proofs.FieldSoundness.LiveTexts.{quotes_at}
+
+-- a short string is open here, or a specification of one
+abbrev pub IsShortHere : FieldMode → Type 0
+IsShortHere m = (in_open_short m ≡ true) ⊎ ((host : Host) × InSpecificationOf host m × (host.is_long ≡ false))
+
+-- a character that is refused is a line end there, or follows a backslash, or is the quote of the string of a specification
+abbrev pub Refuses : FieldMode → ℕ → Type 0
+Refuses m c =
+    ((is_break c ≡ true) × IsShortHere m)
+    ⊎ (((after_open_backslash m ≡ true) × (is_break c ≡ false)) ⊎ ((quotes_specification m c ≡ true) × (is_quote c ≡ true)))
+
+abbrev pub Reason : FieldMode → ℕ → FieldMove → Type 0
+Reason m c refused = Refuses m c
+Reason m c (begins_code host) = is_waiting m ≡ true
+Reason m c (opens_field host) = c ≡ 123
+Reason m c ends_field = c ≡ 125
+Reason m c other = Unit {0}
+
+not_break : (c : ℕ) → is_line_feed c ≡ false → is_return c ≡ false → is_break c ≡ false
+unfolding is_break is_line_feed is_return
+not_break c feed return = or_from (c == 10) ((c == 13) || false) (or_parts (c == 10) false feed).0 return
+
+-- in a piece without fields
+abbrev PlainReason : Mode → ℕ → Move → Type 0
+PlainReason m c moves.Refused = Refuses (plain m) c
+PlainReason m c other = Unit {0}
+
+short_reason : (m : Mode) (q c : ℕ) → in_short m ≡ true → PlainReason m c (short_move q c)
+unfolding short_move
+short_reason m q c short = cond_both (is_backslash c) _ _ (PlainReason m c) (λ h. tt) (λ h. cond_both (is_break c) moves.Refused _ (PlainReason m c) (λ k. inl (k, inl short)) (λ k. tt))
+
+long_reason : (m : Mode) (q c : ℕ) → PlainReason m c (long_move q c)
+unfolding long_move
+long_reason m q c = cond_both (is_backslash c) _ _ (PlainReason m c) (λ h. tt) (λ h. tt)
+
+plain_reason : (m : Mode) (held : List ℕ) (c : ℕ) → Holds m [] held → PlainReason m c (move_of m c)
+unfolding move_of
+plain_reason modes.Start held c holds = cond_both (is_mark c) moves.Closes moves.Breaks (PlainReason modes.Start c) (λ k. tt) (λ k. tt)
+plain_reason modes.Free held c holds = tt
+plain_reason modes.Space held c holds = cond_both (is_space c) _ moves.Breaks (PlainReason modes.Space c) (λ k. tt) (λ k. tt)
+plain_reason (modes.Word s) held c holds =
+    cond_both (is_word_character c) _ _ (PlainReason (modes.Word s) c) (λ k. tt) (λ k. cond_both (is_prefix_spelling s && is_quote c) _ moves.Breaks (PlainReason (modes.Word s) c) (λ l. tt) (λ l. tt))
+plain_reason modes.Comment held c holds = cond_both (is_break c) moves.Breaks _ (PlainReason modes.Comment c) (λ k. tt) (λ k. tt)
+plain_reason (modes.Opened q) held c holds = cond_both (c == q) _ _ (PlainReason (modes.Opened q) c) (λ k. tt) (λ k. short_reason (modes.Opened q) q c refl)
+plain_reason (modes.Inside q) held c holds = cond_both (c == q) moves.Closes _ (PlainReason (modes.Inside q) c) (λ k. tt) (λ k. short_reason (modes.Inside q) q c refl)
+plain_reason (modes.Escape q) held c holds = cond_both (is_return c) _ _ (PlainReason (modes.Escape q) c) (λ k. tt) (λ k. tt)
+plain_reason (modes.EscapeReturn q) held c holds =
+    cond_both (is_line_feed c) _ _ (PlainReason (modes.EscapeReturn q) c) (λ k. tt)
+    (λ k. cond_both (c == q) moves.Closes _ (PlainReason (modes.EscapeReturn q) c) (λ l. tt) (λ l. short_reason (modes.EscapeReturn q) q c refl))
+plain_reason (modes.Empty q) held c holds = cond_both (c == q) _ moves.Breaks (PlainReason (modes.Empty q) c) (λ k. tt) (λ k. tt)
+plain_reason (modes.Long q) held c holds = cond_both (c == q) _ _ (PlainReason (modes.Long q) c) (λ k. tt) (λ k. long_reason (modes.Long q) q c)
+plain_reason (modes.LongOne q) held c holds = cond_both (c == q) _ _ (PlainReason (modes.LongOne q) c) (λ k. tt) (λ k. long_reason (modes.LongOne q) q c)
+plain_reason (modes.LongTwo q) held c holds = cond_both (c == q) moves.Closes _ (PlainReason (modes.LongTwo q) c) (λ k. tt) (λ k. long_reason (modes.LongTwo q) q c)
+plain_reason (modes.LongEscape q) held c holds = tt
+plain_reason (modes.FieldOpened h) held c holds = absurd holds
+plain_reason (modes.FieldEmpty h) held c holds = absurd holds
+plain_reason modes.Fielded held c holds = absurd holds
+plain_reason modes.Backslash held c holds =
+    cond_both (is_line_feed c) moves.Closes _ (PlainReason modes.Backslash c) (λ k. tt)
+    (λ k. cond_both (is_return c) _ moves.Refused (PlainReason modes.Backslash c) (λ l. tt) (λ l. inr (inl (refl, not_break c k l))))
+plain_reason modes.JoinReturn held c holds = cond_both (is_line_feed c) moves.Closes moves.Breaks (PlainReason modes.JoinReturn c) (λ k. tt) (λ k. tt)
+plain_reason modes.Return held c holds = cond_both (is_line_feed c) moves.Closes moves.Breaks (PlainReason modes.Return c) (λ k. tt) (λ k. tt)
+
+with_reason : (m : Mode) (c : ℕ) (v : Move) → PlainReason m c v → Reason (plain m) c (plain_move v)
+with_reason m c (moves.Grows n) h = tt
+with_reason m c moves.Closes h = tt
+with_reason m c moves.Breaks h = tt
+with_reason m c moves.Refused h = h
+
+-- in a string with fields, of which this is the mode
+module _ (m : FieldMode) (host : Host) (place : Place) (c : ℕ) (short : host.is_long ≡ false → IsShortHere m) (closing : c == host.quote ≡ true → Reason m c (closing_move place)) where
+  opening_reason : (p : Place) → c == 123 ≡ true → Reason m c (opening_move host p)
+  opening_reason literal braces = tt
+  opening_reason specification braces = eqb-true c 123 braces
+
+  ending_reason : (p : Place) (named : Bool) → c == 125 ≡ true → Reason m c (ending_move host p named)
+  ending_reason specification false braces = eqb-true c 125 braces
+  ending_reason specification true braces = tt
+  ending_reason literal named braces = tt
+
+  between_reason : (named : Bool) (at : At) → Reason m c (between_move host place named at c)
+  unfolding between_move
+  between_reason named at =
+      cond_both (c == host.quote) _ _ (Reason m c)
+      (λ same. cond_both (host.is_long && not (is_after_two at)) _ _ (Reason m c) (λ k. tt) (λ k. closing same))
+      (λ other. cond_both (is_backslash c) _ _ (Reason m c) (λ k. tt)
+      (λ k. cond_both (is_break c && not host.is_long) refused _ (Reason m c)
+      (λ l.
+      let parts = and_parts (is_break c) (not host.is_long) l in
+      inl (parts.0, short (not-true host.is_long parts.1)))
+      (λ l. cond_both ((c == 123) && not named) _ _ (Reason m c) (λ n. opening_reason place (and_parts (c == 123) (not named) n).0)
+      (λ n. cond_both (c == 125) _ _ (Reason m c) (λ o. ending_reason place named o) (λ o. tt)))))
+
+-- where no `{` waits, in its body
+short_body : (host : Host) (place : Place) (named : Bool) (at : At) → is_after_brace at ≡ false → host.is_long ≡ false → IsShortHere (body host place named at)
+short_body host literal named at apart short = inl (and_from _ _ (not_from_false (is_after_brace at) apart) (not_from_false host.is_long short))
+short_body host specification named at apart short = inr (host, (refl, apart), short)
+
+closing_reason : (host : Host) (place : Place) (named : Bool) (at : At) (c : ℕ) → is_quote host.quote ≡ true → c == host.quote ≡ true → Reason (body host place named at) c (closing_move place)
+closing_reason host literal named at c quotes same = tt
+closing_reason host specification named at c quotes same = inr (inr (same, ap is_quote (eqb-true c host.quote same) ∙ quotes))
+
+in_body : (host : Host) (place : Place) (named : Bool) (at after : At) (c : ℕ) → is_quote host.quote ≡ true → is_after_brace at ≡ false → Reason (body host place named at) c (between_move host place named after c)
+in_body host place named at after c quotes apart =
+    between_reason (body host place named at) host place c (short_body host place named at apart) (closing_reason host place named at c quotes) named after
+
+escape_reason : (host : Host) (place : Place) (named : Bool) (c : ℕ) → is_quote host.quote ≡ true → Reason (body host place named after_slash) c (escape_move host place named c)
+unfolding escape_move
+escape_reason host place named c quotes =
+    let P : FieldMove → Type 0 = Reason (body host place named after_slash) c in
+    cond_both (is_brace c) _ _ P (λ k. in_body host place named after_slash between c quotes refl)
+    (λ k. cond_both (is_barred_escape host place c) refused _ P (λ l. barred place l)
+    (λ l. cond_both (is_return c) _ _ P (λ n. tt) (λ n. cond_both (names host c) _ _ P (λ o. tt) (λ o. tt))))
+  where
+    barred : (p : Place) → is_barred_escape host p c ≡ true → Refuses (body host p named after_slash) c
+    barred literal is = absurd (both_ways _ refl is)
+    barred specification is =
+        let parts = and_parts (is_break c) (not host.is_long) is in
+        inl (parts.0, inr (host, (refl, refl), not-true host.is_long parts.1))
+
+waits : (host : Host) (place : Place) (named : Bool) → place ≡ literal → is_waiting (body host place named after_brace) ≡ true
+waits host place named at = subst (λ p. is_waiting (body host p named after_brace) ≡ true) (sym at) refl
+
+body_reason : (limit : Limit) (outer : List Level) (depth : ℕ) (host : Host) (place : Place) (named : Bool) (at : At) (held : List ℕ) (c : ℕ) → is_quote host.quote ≡ true → HoldsAt limit outer depth host place named at held → Reason (body host place named at) c (body_move host place named at c)
+unfolding body_move
+body_reason limit outer depth host place named between held c quotes holds = in_body host place named between between c quotes refl
+body_reason limit outer depth host place named after_one held c quotes holds = in_body host place named after_one after_one c quotes refl
+body_reason limit outer depth host place named after_two held c quotes holds = in_body host place named after_two after_two c quotes refl
+body_reason limit outer depth host place named after_slash held c quotes holds = escape_reason host place named c quotes
+body_reason limit outer depth host place named after_return held c quotes holds =
+    cond_both (is_line_feed c) _ _ (Reason (body host place named after_return) c) (λ k. tt) (λ k. in_body host place named after_return between c quotes refl)
+body_reason limit outer depth host place named after_name held c quotes holds =
+    cond_both (c == 123) _ _ (Reason (body host place named after_name) c) (λ k. tt) (λ k. in_body host place named after_name between c quotes refl)
+body_reason limit outer depth host place named after_brace held c quotes holds =
+    cond_both (c == 123) _ _ (Reason (body host place named after_brace) c) (λ k. tt) (λ k. waits host place named holds.2)
+
+-- in each mode
+pub reason : (limit : Limit) (outer : List Level) (depth : ℕ) (m : FieldMode) (held : List ℕ) (c : ℕ) → HoldsMode limit outer depth m held → Reason m c (field_move m held c)
+unfolding field_move body_move
+reason limit outer depth (plain m) held c holds =
+    cond_both (begins_host m held c) _ _ (Reason (plain m) c) (λ h. tt) (λ h. with_reason m c (move_of m c) (plain_reason m held c holds.0))
+reason limit outer depth (opened host) held c holds =
+    cond_both (c == host.quote) _ _ (Reason (opened host) c) (λ h. tt) (λ h. between_reason (opened host) host literal c (λ short. inl refl) (λ same. tt) false between)
+reason limit outer depth (empty host) held c holds = cond_both (c == host.quote) _ breaks (Reason (empty host) c) (λ h. tt) (λ h. tt)
+reason limit outer depth (body host place named at) held c holds = body_reason limit outer depth host place named at held c (quotes_at limit outer depth host place named at held holds) holds

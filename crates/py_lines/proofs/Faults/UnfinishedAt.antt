@@ -1,0 +1,82 @@
+-- Where a live text ends, the state of the machine with fields tells what is open and where its fault stands, or that it is read.
+use Rattle.std.proofs.Common.{◌≡◌, ℕ, ◌+◌, ◌-◌, Bool, true, false, Some, List, [], ◌∷◌, ◌++◌, refl, sym, ap, ◌∙◌, append_assoc, append-nil, length, length-append}
+use Rattle.std.specs.Prelude.{if◌then◌else◌}
+use Rattle.std.proofs.lemmas.Str.{encodes-append}
+use Rattle.py_lines.specs.Piece.{string, Piece, spelled}
+use Rattle.py_lines.specs.Balance as balance
+use Rattle.py_lines.specs.Balance.{is_opener, is_closer, IsBalanced}
+use Rattle.py_lines.specs.Faults.{Unfinished, open_brace, open_short, open_long, open_join, open_bracket, open_inside, kind_of_unfinished, IsEndFault}
+use Rattle.py_lines.specs.LogicalLine.{byte_len}
+use Rattle.py_lines.specs.FieldStrings.{literal}
+use Rattle.py_lines.specs.declared.mode.Mode.TheVariants as modes
+use Rattle.py_lines.specs.Private.Machine.{Bracket, brackets_of, class_of}
+use Rattle.py_lines.specs.Private.FieldMachine.{before, after_brace, FieldMode, plain, body, Level, FieldScanned, field_text_start, field_steps_from, field_closed, have_room}
+use Rattle.py_lines.specs.Private.FieldFlaws.{is_waiting, unfinished_at, unfinished_place, here, field_start}
+use Rattle.py_lines.proofs.Pieces.PieceLists.{piece}
+use Rattle.py_lines.proofs.Pieces.OpenBrackets.{StandsAt, level, inside, stands}
+use Rattle.py_lines.proofs.FieldSoundness.LiveTexts.{goes_live}
+use Rattle.py_lines.proofs.Faults.EndFaults.{open_in}
+use Rattle.py_lines.proofs.Faults.EndPlaces.{IsPlaced, opened_text, one_bracket}
+use Rattle.py_lines.proofs.Faults.Ends.{sound_to, deep_state, named}
+use Rattle.py_lines.proofs.Faults.CauseAt.{brace_last}
+
+-- The fault of what is open stands at this byte. Where that is a bracket, it is the innermost of those that the finished pieces of
+-- the innermost list leave open.
+abbrev pub StandsThere : FieldScanned → Unfinished → ℕ → Type 0
+StandsThere s open_bracket offset = (b : Bracket) (bs : List Bracket) → brackets_of s.done ≡ Some (b ∷ bs) → offset ≡ byte_len (before literal s.outer) + b.place
+StandsThere s what offset = offset ≡ unfinished_place s what
+
+-- a piece that is open is no bracket
+open_other : (m : FieldMode) (done : List Piece) (held : List ℕ) → (more : List Piece) × (field_closed m done held ≡ done ++ more) × IsBalanced more
+open_other (plain modes.Start) done held = ([], sym (append-nil done), balance.none [] refl)
+open_other (plain modes.Free) done held = ([], sym (append-nil done), balance.none [] refl)
+open_other (plain m) done held = (piece (class_of m) held ∷ [], refl, balance.one _ (piece (class_of m) held) refl refl)
+open_other m done held = (piece string held ∷ [], refl, balance.one _ (piece string held) refl refl)
+
+-- so the innermost bracket is that of the finished pieces
+innermost : (done more : List Piece) (outer inner : List Piece) (opener : Piece) (b : Bracket) (bs : List Bracket) → IsBalanced more → done ++ more ≡ outer ++ opener ∷ inner → is_opener opener ≡ true → IsBalanced inner → brackets_of done ≡ Some (b ∷ bs) → b.place ≡ byte_len (spelled outer)
+innermost done more outer inner opener b bs after shape opens within stack = go (stands done (b ∷ bs) stack).at
+  where
+    go : StandsAt (b ∷ bs) done → b.place ≡ byte_len (spelled outer)
+    go (level _ _ none all) = absurd (cc)
+    go (inside _ _ c others first second a is spell out begun kind place all) =
+        let top : b ≡ c = cc in
+        let whole : first ++ a ∷ (second ++ more) ≡ outer ++ opener ∷ inner = sym (append_assoc first (a ∷ second) more) ∙ ap (λ l. l ++ more) (sym spell) ∙ shape in
+        ap (λ (x : Bracket). x.place) top ∙ place
+        ∙ ap (λ l. byte_len (spelled l)) (one_bracket first outer (second ++ more) inner a opener whole begun opens (balance.both (second ++ more) second more refl all after) within)
+
+-- the text up to and with a `{`
+opened_here : (m : FieldMode) (outer : List Level) (read : List ℕ) → opened_text m outer read ≡ (if is_waiting m then read else before literal outer)
+opened_here (body host literal named after_brace) outer read = refl
+opened_here m outer read = refl
+
+module _ (read : List ℕ) (s : FieldScanned) (steps : field_steps_from (Some field_text_start) read ≡ Some s) (room : have_room (Some field_text_start) read ≡ true) where
+  text_is : here s ≡ byte_len read
+  text_is = ap byte_len (sound_to read s steps room).spell
+
+  bytes_are : (waits : Bool) → byte_len (if waits then read else before literal s.outer) - 1 ≡ (if waits then here s - 1 else field_start s)
+  bytes_are true = ap (λ n. n - 1) (sym text_is)
+  bytes_are false = refl
+
+  -- the byte that the definitions name is that of the state
+  there : (what : Unfinished) (offset : ℕ) → IsPlaced what s read offset → StandsThere s what offset
+  there open_brace offset (start, whole, at) = at ∙ brace_last start read whole ∙ ap (λ n. n - 1) (sym text_is)
+  there open_inside offset (start, whole, at) =
+      at ∙ brace_last start (opened_text s.mode s.outer read) whole ∙ ap (λ t. byte_len t - 1) (opened_here s.mode s.outer read) ∙ bytes_are (is_waiting s.mode)
+  there open_short offset at = at
+  there open_long offset at = at
+  there open_join offset at = at
+  there open_bracket offset (outer, opener, inner, shape, opens, within, at) =
+      λ b bs stack.
+      let other = open_other s.mode s.done s.held in
+      let place = innermost s.done other.0 outer inner opener b bs other.2 (sym other.1 ∙ shape) opens within stack in
+      at ∙ ap length (encodes-append (before literal s.outer) (spelled outer)) ∙ length-append _ _ ∙ ap (λ n. byte_len (before literal s.outer) + n) (sym place)
+
+  -- what is open at the end, and where
+  pub unfinished_fits : (what : Unfinished) → unfinished_at s ≡ Some what → (offset : ℕ) × IsEndFault (kind_of_unfinished what) read [] offset × StandsThere s what offset
+  unfinished_fits what is =
+      let found = open_in s.outer s.done s.openers s.mode s.held read (sound_to read s steps room) (λ place deep. deep_state read s place steps deep) what is in (
+        found.0,
+        record { unfinished = what; is = refl; whole = refl; live = goes_live read s steps room; ends_in = found.1 },
+        there what found.0 (named read s steps room what found.0 found.1).1,
+      )

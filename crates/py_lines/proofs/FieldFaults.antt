@@ -1,9 +1,0 @@
--- The faults of texts with fields.
-pub mod EndFaults
-pub mod EndPlaces
-pub mod Ends
-pub mod CharacterPlaces
-pub mod CharacterFaults
-pub mod FaultPrefixes
-pub mod Verdict
-pub mod WorkedRows

@@ -1,0 +1,11 @@
+-- The scan of a string with fields keeps count of the machine with fields.
+pub mod Frames
+pub mod Moves
+pub mod Runs
+pub mod Steps
+pub mod Taking
+pub mod Operators
+pub mod FieldOpenings
+pub mod CodeOperators
+pub mod Flaws
+pub mod FieldAnswers

@@ -1,0 +1,187 @@
+-- What is wrong where a string with fields refuses a character, and where a text ends in one, is what its scan says.
+use Rattle.std.proofs.Common.{◌≡◌, ℕ, Bool, ◌+◌, ◌-◌, ◌≤◌, true, false, ◌==◌, ◌&&◌, Option, Some, List, [], ◌∷◌, ◌++◌, length, refl, sym, ap, ◌∙◌, arith, length-append}
+use Rattle.std.specs.Prelude.{nat_lt, encode_utf8, encode_utf8_all, if◌then◌else◌}
+use Rattle.std.proofs.lemmas.Bool.{both_ways}
+use Rattle.std.proofs.lemmas.Bool.Decides.{nat_tests}
+use Rattle.std.proofs.lemmas.Str.{length-encode, len_utf8_bounds}
+use Rattle.py_lines.specs.Character.{is_break}
+use Rattle.py_lines.specs.Balance.{is_opening, is_closing}
+use Rattle.py_lines.specs.Piece.{Piece, spelled}
+use Rattle.py_lines.specs.LogicalLine.{byte_len}
+use Rattle.py_lines.specs.Faults.{Cause, brace_too_deep, breaks_string, closes_wrong, opens_too_deep, begins_nothing, kind_of_cause, Unfinished, open_brace, open_short, open_long, open_join, open_bracket, open_inside}
+use Rattle.py_lines.specs.FieldStrings.{Host, Place, literal}
+use Rattle.py_lines.specs.declared.fault.FaultKind.{FaultKind}
+use Rattle.py_lines.specs.declared.mode.Mode.{Mode}
+use Rattle.py_lines.specs.declared.mode.Mode.TheVariants as modes
+use Rattle.py_lines.specs.declared.field_scan.OpenField.{OpenField}
+use Rattle.py_lines.specs.declared.field_scan.Frame.{Frame}
+use Rattle.py_lines.specs.declared.field_scan.Frame.TheVariants as frame
+use Rattle.py_lines.specs.declared.field_scan.FieldScan.{FieldScan}
+use Rattle.py_lines.specs.Private.Machine.{Bracket, brackets_of, in_short, in_long, is_after_backslash}
+use Rattle.py_lines.specs.Private.FieldMachine.{At, after_brace, FieldMode, body, Level, FieldScanned, frames, after_open_backslash, before, text_place}
+use Rattle.py_lines.specs.Private.FieldFlaws.{is_waiting, quotes_specification, cause_in, cause_place, here, piece_start, field_start, unfinished_code, unfinished_place}
+use Rattle.py_lines.specs.Private.FieldScan.{innermost_first, bracket_frames, bracket_openers, FramesFollow, none_open, IsInnermostFrame, mode_from, code_mode, Follows, unfinished_with, unfinished_round, IsUnfinishedAt}
+use Rattle.py_lines.specs.Private.ScanMachine.{IsInString}
+use Rattle.py_lines.proofs.FieldScans.Frames.{innermost_first-length, frames-length, InList, list_of, innermost_field}
+use Rattle.py_lines.proofs.LogicalLines.Cuts.{byte_len-append}
+
+-- so many brackets and fields are open
+pub open-length : (scan : FieldScan) (base : ℕ) (t : FieldScanned) → Follows scan base t → length scan.frames.items ≡ frames t
+open-length scan base t f = sym (innermost_first-length scan.frames.items) ∙ frames-length base t.outer t.done t.openers (innermost_first scan.frames.items) f.frames
+
+-- the scan tells whether a `{` stands directly before that would open a field at depth 200
+pub full_in : (scan : FieldScan) (base depth : ℕ) (t : FieldScanned) (full : Bool) → Follows scan base t → full ≡ (is_waiting (mode_from scan.mode) && (depth + length scan.frames.items == 200)) → (is_waiting t.mode && (depth + frames t == 200)) ≡ full
+full_in scan base depth t full f is =
+    sym (is ∙ ap (λ (m : FieldMode). is_waiting m && (depth + length scan.frames.items == 200)) f.mode
+    ∙ ap (λ (n : ℕ). is_waiting t.mode && (depth + n == 200)) (open-length scan base t f))
+
+-- the causes, one after another
+pub first_cause : (depth : ℕ) (m : FieldMode) (c : ℕ) → (is_waiting m && (depth == 200)) ≡ true → cause_in depth m c ≡ brace_too_deep
+first_cause depth m c full = rw full
+
+pub break_cause : (depth : ℕ) (m : FieldMode) (c : ℕ) → (is_waiting m && (depth == 200)) ≡ false → is_break c ≡ true → cause_in depth m c ≡ breaks_string
+break_cause depth m c full breaks = rw (full, breaks)
+
+pub closing_cause : (depth : ℕ) (m : FieldMode) (c : ℕ) → (is_waiting m && (depth == 200)) ≡ false → is_break c ≡ false → after_open_backslash m ≡ false → is_closing c ≡ true → cause_in depth m c ≡ closes_wrong
+closing_cause depth m c full breaks slash closing = rw (full, breaks, slash, closing)
+
+pub opening_cause : (depth : ℕ) (m : FieldMode) (c : ℕ) → (is_waiting m && (depth == 200)) ≡ false → is_break c ≡ false → after_open_backslash m ≡ false → is_closing c ≡ false → is_opening c ≡ true → cause_in depth m c ≡ opens_too_deep
+opening_cause depth m c full breaks slash closing opening = rw (full, breaks, slash, closing, opening)
+
+pub other_cause : (depth : ℕ) (m : FieldMode) (c : ℕ) → (is_waiting m && (depth == 200)) ≡ false → is_break c ≡ false → after_open_backslash m ≡ false → is_closing c ≡ false → is_opening c ≡ false → quotes_specification m c ≡ false → cause_in depth m c ≡ begins_nothing
+other_cause depth m c full breaks slash closing opening quotes = rw (full, breaks, slash, closing, opening, quotes)
+
+-- the flaw is that of the cause
+pub flaw_of : (base depth : ℕ) (t : FieldScanned) (c : ℕ) (cause : Cause) (kind : FaultKind) (place : ℕ) → cause_in (depth + frames t) t.mode c ≡ cause → kind ≡ kind_of_cause cause → place ≡ base + cause_place t cause → (kind ≡ kind_of_cause (cause_in (depth + frames t) t.mode c)) × (place ≡ base + cause_place t (cause_in (depth + frames t) t.mode c))
+flaw_of base depth t c cause kind place is kind_is place_is = (kind_is ∙ ap kind_of_cause (sym is), place_is ∙ ap (λ (x : Cause). base + cause_place t x) (sym is))
+
+-- the field that is open
+field_from : (base : ℕ) (outer : List Level) (done : List Piece) (openers : List ℕ) (fs : List Frame) (field : OpenField) → FramesFollow base outer done openers fs → IsInnermostFrame (Some (frame.Field field)) fs → (field.place ≡ base + (byte_len (before literal outer) - 1)) × (openers ≡ [])
+field_from base [] done openers fs field (none_open _ _ _ _ no_openers no_frames) top = absurd (cc (top.1, no_frames))
+field_from base (l ∷ ls) done openers fs field follow top =
+    let i = list_of base l ls done openers fs follow in
+    let is = innermost_field base l ls done openers fs field i top in
+    (ap (λ (x : OpenField). x.place) is.1 ∙ i.place, is.0)
+
+pub field_in : (scan : FieldScan) (base : ℕ) (t : FieldScanned) (field : OpenField) → Follows scan base t → IsInnermostFrame (Some (frame.Field field)) (innermost_first scan.frames.items) → (field.place ≡ base + field_start t) × (t.openers ≡ [])
+field_in scan base t field f top = field_from base t.outer t.done t.openers (innermost_first scan.frames.items) field f.frames top
+
+-- the bracket that is open
+bracket_from : (base : ℕ) (outer : List Level) (done : List Piece) (openers : List ℕ) (fs : List Frame) (opener at : ℕ) → FramesFollow base outer done openers fs → IsInnermostFrame (Some (frame.Bracket opener at)) fs → (b : Bracket) × (bs : List Bracket) × (brackets_of done ≡ Some (b ∷ bs)) × (at ≡ base + (byte_len (before literal outer) + b.place)) × (openers ≡ b.opener ∷ bracket_openers bs)
+bracket_from base [] done openers fs opener at (none_open _ _ _ _ no_openers no_frames) top = absurd (cc (top.1, no_frames))
+bracket_from base (l ∷ ls) done openers fs opener at follow top = go i.stack i.stacked i.openers_are i.frames_are
+  where
+    i : InList base l ls done openers fs
+    i = list_of base l ls done openers fs follow
+
+    go : (bs : List Bracket) → brackets_of done ≡ Some bs → openers ≡ bracket_openers bs → fs ≡ bracket_frames (base + byte_len (before literal (l ∷ ls))) bs ++ frame.Field i.field ∷ i.others → (b : Bracket) × (cs : List Bracket) × (brackets_of done ≡ Some (b ∷ cs)) × (at ≡ base + (byte_len (before literal (l ∷ ls)) + b.place)) × (openers ≡ b.opener ∷ bracket_openers cs)
+    go [] stacked are is = absurd (cc (top.1, is))
+    go (b ∷ bs) stacked are is =
+        let spot : at ≡ base + byte_len (before literal (l ∷ ls)) + b.place = cc (top.1, is) in
+        (b, bs, stacked, omega (arith, spot), are)
+
+pub bracket_in : (scan : FieldScan) (base : ℕ) (t : FieldScanned) (opener at : ℕ) → Follows scan base t → IsInnermostFrame (Some (frame.Bracket opener at)) (innermost_first scan.frames.items) → (b : Bracket) × (bs : List Bracket) × (brackets_of t.done ≡ Some (b ∷ bs)) × (at ≡ base + (byte_len (before literal t.outer) + b.place)) × (t.openers ≡ b.opener ∷ bracket_openers bs)
+bracket_in scan base t opener at f top = bracket_from base t.outer t.done t.openers (innermost_first scan.frames.items) opener at f.frames top
+
+-- none is open
+none_from : (base : ℕ) (outer : List Level) (done : List Piece) (openers : List ℕ) (fs : List Frame) → FramesFollow base outer done openers fs → fs ≡ [] → outer ≡ []
+none_from base [] done openers fs follow none = refl
+none_from base (l ∷ ls) done openers fs follow none = go (list_of base l ls done openers fs follow)
+  where
+    go : InList base l ls done openers fs → l ∷ ls ≡ []
+    go i = absurd (omega (arith, ap length none, ap length i.frames_are, length-append (bracket_frames (base + byte_len (before literal (l ∷ ls))) i.stack) (frame.Field i.field ∷ i.others)))
+
+pub none_in : (scan : FieldScan) (base : ℕ) (t : FieldScanned) → Follows scan base t → innermost_first scan.frames.items ≡ [] → t.outer ≡ []
+none_in scan base t f none = none_from base t.outer t.done t.openers (innermost_first scan.frames.items) f.frames none
+
+-- where the place of a field is asked for
+pub none_place : (scan : FieldScan) (base : ℕ) (t : FieldScanned) → Follows scan base t → (t.outer ≡ [] → piece_start t ≡ 0) → innermost_first scan.frames.items ≡ [] → scan.start ≡ base + field_start t
+none_place scan base t f first none =
+    let outside = none_in scan base t f none in
+    omega (arith, f.start, first outside, ap (λ (ls : List Level). byte_len (before literal ls) - 1) outside)
+
+pub bracket_place : (scan : FieldScan) (base : ℕ) (t : FieldScanned) (opener at : ℕ) → Follows scan base t → t.openers ≡ [] → IsInnermostFrame (Some (frame.Bracket opener at)) (innermost_first scan.frames.items) → at ≡ base + field_start t
+bracket_place scan base t opener at f none top =
+    let (b, bs, stacked, place, are) = bracket_in scan base t opener at f top in
+    absurd (cc (none, are))
+
+-- a `{` stands directly before where the string waits
+some_bytes : (held : List ℕ) → (held ≡ [] → ⊥) → 1 ≤ byte_len held
+some_bytes [] some = absurd (some refl)
+some_bytes (c ∷ cs) some = omega (arith, length-append (encode_utf8 c) (encode_utf8_all cs), length-encode c, len_utf8_bounds c)
+
+pub waiting_place : (scan : FieldScan) (base : ℕ) (t : FieldScanned) (place : ℕ) → Follows scan base t → is_waiting t.mode ≡ true → place ≡ base + here t → place - 1 ≡ base + (here t - 1)
+waiting_place scan base t place f waits at =
+    let some = some_bytes t.held (f.full waits) in
+    omega (arith, some, at, byte_len-append (before (text_place t.mode) t.outer) (spelled t.done ++ t.held), byte_len-append (spelled t.done) t.held)
+
+full_waits : (b d : Bool) → b && d ≡ true → b ≡ true
+full_waits true d h = refl
+full_waits false d h = h
+
+pub brace_place : (scan : FieldScan) (base depth : ℕ) (t : FieldScanned) (place : ℕ) → Follows scan base t → (is_waiting t.mode && (depth + frames t == 200)) ≡ true → place ≡ base + here t → place - 1 ≡ base + (here t - 1)
+brace_place scan base depth t place f full at = waiting_place scan base t place f (full_waits (is_waiting t.mode) (depth + frames t == 200) full) at
+
+-- where a text ends in a field's code
+code_never : (m : Mode) (host : Host) (place : Place) (named : Bool) (at : At) → code_mode m ≡ body host place named at → ⊥
+code_never (modes.FieldOpened h) host place named at is = cc
+code_never (modes.FieldEmpty h) host place named at is = cc
+code_never m host place named at is = cc
+
+pub code_inside : (m : Mode) (t : FieldScanned) → code_mode m ≡ t.mode → IsInString t → t.outer ≡ [] → ⊥
+code_inside m t is inside outside =
+    let (host, place, named, at, mode) = inside outside in
+    code_never m host place named at (is ∙ mode)
+
+code_alone : (short long slash : Bool) (code : Option Unfinished) → short ≡ false → long ≡ false → slash ≡ false → (if short then Some open_short else (if long then Some open_long else (if slash then Some open_join else code))) ≡ code
+code_alone short long slash code no_short no_long no_slash = rw (no_short, no_long, no_slash)
+
+code_ends : (m : Mode) (depth : ℕ) (outer : List Level) (openers : List ℕ) → in_short m ≡ false → in_long m ≡ false → is_after_backslash m ≡ false → unfinished_with depth outer openers (code_mode m) ≡ unfinished_code outer openers
+code_ends (modes.FieldOpened h) depth outer openers short long slash = absurd (both_ways _ short refl)
+code_ends (modes.FieldEmpty h) depth outer openers short long slash = refl
+code_ends m depth outer openers short long slash = code_alone (in_short m) (in_long m) (is_after_backslash m) (unfinished_code outer openers) short long slash
+
+bracket_ends : (outer : List Level) (openers : List ℕ) (o : ℕ) (os : List ℕ) → openers ≡ o ∷ os → unfinished_code outer openers ≡ Some open_bracket
+bracket_ends [] openers o os is = ap (λ (l : List ℕ). unfinished_code [] l) is
+bracket_ends (l ∷ ls) openers o os is = ap (λ (x : List ℕ). unfinished_code (l ∷ ls) x) is
+
+field_ends : (outer : List Level) (openers : List ℕ) → openers ≡ [] → (outer ≡ [] → ⊥) → unfinished_code outer openers ≡ Some open_inside
+field_ends [] openers is inside = absurd (inside refl)
+field_ends (l ∷ ls) openers is inside = ap (λ (x : List ℕ). unfinished_code (l ∷ ls) x) is
+
+code_waits : (m : Mode) → is_waiting (code_mode m) ≡ false
+code_waits (modes.FieldOpened h) = refl
+code_waits (modes.FieldEmpty h) = refl
+code_waits m = refl
+
+-- in code outside strings
+pub code_round : (m : Mode) (depth : ℕ) (t : FieldScanned) → code_mode m ≡ t.mode → in_short m ≡ false → in_long m ≡ false → is_after_backslash m ≡ false → unfinished_round depth t ≡ unfinished_code t.outer t.openers
+code_round m depth t is short long slash = ap (λ (x : FieldMode). unfinished_with depth t.outer t.openers x) (sym is) ∙ code_ends m depth t.outer t.openers short long slash
+
+pub bracket_end : (scan : FieldScan) (base depth : ℕ) (t : FieldScanned) (m : Mode) (opener at : ℕ) → Follows scan base t → code_mode m ≡ t.mode → in_short m ≡ false → in_long m ≡ false → is_after_backslash m ≡ false → IsInnermostFrame (Some (frame.Bracket opener at)) (innermost_first scan.frames.items) → (unfinished_round depth t ≡ Some open_bracket) × IsUnfinishedAt base t open_bracket at
+bracket_end scan base depth t m opener at f is short long slash top =
+    let (b, bs, stacked, place, are) = bracket_in scan base t opener at f top in
+    (code_round m depth t is short long slash ∙ bracket_ends t.outer t.openers b.opener (bracket_openers bs) are, (b, bs, stacked, place))
+
+pub field_end : (scan : FieldScan) (base depth : ℕ) (t : FieldScanned) (m : Mode) (field : OpenField) → Follows scan base t → code_mode m ≡ t.mode → IsInString t → in_short m ≡ false → in_long m ≡ false → is_after_backslash m ≡ false → IsInnermostFrame (Some (frame.Field field)) (innermost_first scan.frames.items) → (unfinished_round depth t ≡ Some open_inside) × IsUnfinishedAt base t open_inside field.place
+field_end scan base depth t m field f is inside short long slash top =
+    let (place, none) = field_in scan base t field f top in
+    let waits : is_waiting t.mode ≡ false = ap is_waiting (sym is) ∙ code_waits m in (
+      code_round m depth t is short long slash ∙ field_ends t.outer t.openers none (code_inside m t is inside),
+      place ∙ ap (λ (b : Bool). base + (if b then here t - 1 else field_start t)) (sym waits),
+    )
+
+-- after a `{` that would open a field
+pub brace_end : (scan : FieldScan) (base depth : ℕ) (t : FieldScanned) (host : Host) (named room : Bool) → Follows scan base t → t.mode ≡ body host literal named after_brace → room ≡ nat_lt (depth + length scan.frames.items + 1) 201 → unfinished_round depth t ≡ Some (if room then open_inside else open_brace)
+brace_end scan base depth t host named room f is room_is =
+    ap (λ (m : FieldMode). unfinished_with depth t.outer t.openers m) is
+    ∙ ap (λ (b : Bool). Some (if b then open_inside else open_brace)) (less (depth + frames t) ∙ ap (λ (n : ℕ). nat_lt (depth + n + 1) 201) (sym (open-length scan base t f)) ∙ sym room_is)
+  where
+    less : (n : ℕ) → nat_lt n 200 ≡ nat_lt (n + 1) 201
+    less n = grind (arith, nat_tests)
+
+pub brace_end_place : (scan : FieldScan) (base : ℕ) (t : FieldScanned) (host : Host) (named : Bool) (place : ℕ) → Follows scan base t → t.mode ≡ body host literal named after_brace → place ≡ base + here t → (place - 1 ≡ base + unfinished_place t open_inside) × (place - 1 ≡ base + unfinished_place t open_brace)
+brace_end_place scan base t host named place f is at =
+    let waits : is_waiting t.mode ≡ true = ap is_waiting is in
+    let spot = waiting_place scan base t place f waits at in
+    (spot ∙ ap (λ (b : Bool). base + (if b then here t - 1 else field_start t)) (sym waits), spot)

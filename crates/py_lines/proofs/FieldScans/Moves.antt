@@ -1,0 +1,444 @@
+-- What a character does in a string with fields: the code's words say the machine's, and what each move of the machine leaves open.
+use Rattle.std.proofs.Common.{◌≡◌, ℕ, Bool, true, false, not, ◌&&◌, ◌==◌, Some, List, [], ◌∷◌, ◌++◌, refl, sym, ap, ◌∙◌, subst, ⊎_elim, append-nil}
+use Rattle.std.specs.Str.{byte}
+use Rattle.std.proofs.lemmas.Bool.{cond_both, cases_Bool, both_ways, and_right, and_parts}
+use Rattle.py_lines.specs.Character.{is_word_character, is_quote, is_line_feed, is_return, is_break, is_backslash, is_brace}
+use Rattle.py_lines.specs.Piece.{string, Piece, spelled}
+use Rattle.py_lines.specs.FieldStrings.{is_field_prefix, Host, Place, literal, specification, names}
+use Rattle.py_lines.specs.declared.host.Host as known
+use Rattle.py_lines.specs.declared.mode.Spelling.{Spelling}
+use Rattle.py_lines.specs.declared.mode.Mode.{Mode}
+use Rattle.py_lines.specs.declared.mode.Move.{Move}
+use Rattle.py_lines.specs.declared.mode.Mode.TheVariants as modes
+use Rattle.py_lines.specs.declared.mode.Move.TheVariants as moves
+use Rattle.py_lines.specs.declared.mode.Start.TheVariants as starts
+use Rattle.py_lines.specs.declared.field_scan.FieldMode.{FieldMode}
+use Rattle.py_lines.specs.declared.field_scan.FieldMode.TheVariants as field_modes
+use Rattle.py_lines.specs.Private.Machine.{Bracket, brackets_of, Holds, closed, class_of, move_of, start_of, is_prefix_spelling}
+use Rattle.py_lines.specs.Private.FieldMachine as spots
+use Rattle.py_lines.specs.Private.FieldMachine.{At, between, after_one, after_two, after_slash, after_return, after_name, after_brace, plain, opened, empty, body, FieldMove, grows, closes, breaks, begins_code, opens_field, ends_field, refused, host_of, long_host, begins_host, plain_move, between_move, escape_move, body_move, closing_move, opening_move, ending_move, is_after_two, with_quote, is_barred_escape, is_after_brace, field_move, field_closed, field_class_of, text_place}
+use Rattle.py_lines.specs.Private.ScanMachine.{is_field_spelling, is_raw_spelling, host_in, quote_move, meet_of}
+use Rattle.py_lines.specs.Private.FieldScan.{code_mode, mode_from, code_moved, code_move, meets_field, HoldsCode, HasNoList, WaitsInLiteral}
+use Rattle.py_lines.proofs.Pieces.PieceLists.{piece, spelled-push}
+use Rattle.py_lines.proofs.Text.CharacterTests.{excluded, quote-not-word}
+use Rattle.py_lines.proofs.Machine.LiveTexts as live
+use Rattle.py_lines.proofs.Machine.Starts as begun
+use Rattle.py_lines.proofs.FieldSoundness.PlainPieces.{MoveHolds, move_holds, StartHolds, start_holds}
+use Rattle.py_lines.proofs.ScanMachine.Spellings.{Tells, word_tells, other_begins}
+use Rattle.py_lines.proofs.ScanMachine.BodyMoves.{IsBodyMode}
+use Rattle.py_lines.proofs.ScanMachine.Follows.{is_fielded_mode, NoField, grows_plain, host_moves, closing_neutral}
+
+-- a move of the machine without fields is the same in the code's words
+code_plain : (m : Mode) → is_fielded_mode m ≡ false → code_mode m ≡ plain m
+code_plain (modes.FieldOpened h) other = absurd (both_ways _ other refl)
+code_plain (modes.FieldEmpty h) other = absurd (both_ways _ other refl)
+code_plain m other = refl
+
+as_plain : (v : Move) → NoField v → code_moved v ≡ plain_move v
+as_plain (moves.Grows m) other = ap grows (code_plain m other)
+as_plain moves.Closes other = refl
+as_plain moves.Breaks other = refl
+as_plain moves.Refused other = refl
+
+-- a word, before each character
+word_told : (s : Spelling) (held : List ℕ) → Holds (modes.Word s) [] held → Tells held s
+word_told s held (first, others, is, opens, run, spells) =
+    subst (λ (t : List ℕ). Tells t s) (sym is) (subst (λ (x : Spelling). Tells (first ∷ others) x) (sym spells) (word_tells first others))
+
+module _ (s : Spelling) (held : List ℕ) (c : ℕ) (own : Holds (modes.Word s) [] held) where
+  abbrev Same : Type 0
+  Same = code_move (modes.Word s) c ≡ field_move (plain (modes.Word s)) held c
+
+  in_word : is_word_character c ≡ true → Same
+  unfolding code_move meet_of field_move move_of
+  in_word passes =
+      let none : is_field_prefix held && is_quote c ≡ false = and_right (is_field_prefix held) _ (excluded is_word_character is_quote c (quote-not-word c) passes) in
+      rw (none, passes)
+
+  no_quote : is_word_character c ≡ false → is_quote c ≡ false → Same
+  unfolding code_move meet_of field_move move_of
+  no_quote other quotes =
+      let none : is_field_prefix held && is_quote c ≡ false = and_right (is_field_prefix held) _ quotes in
+      let neither : is_prefix_spelling s && is_quote c ≡ false = and_right (is_prefix_spelling s) _ quotes in
+      rw (none, neither, other, quotes)
+
+  field_quote : is_word_character c ≡ false → is_quote c ≡ true → is_field_spelling s ≡ true → Same
+  unfolding code_move meet_of quote_move
+  field_quote other quotes field =
+      let told = word_told s held own in
+      let h : known.Host = record { quote = c; is_long = false; is_raw = is_raw_spelling s } in
+      let host : host_in h ≡ host_of held c = ap (λ (b : Bool). record { quote = c; is_long = false; is_raw = b }) (sym (told.1 field)) in
+      let left : code_move (modes.Word s) c ≡ grows (opened (host_in h)) = rw (other, quotes, field) in
+      left ∙ ap (λ (x : Host). grows (opened x)) host ∙ sym (host_moves s held c (told.0 ∙ field) quotes)
+
+  plain_quote : is_word_character c ≡ false → is_quote c ≡ true → is_field_spelling s ≡ false → Same
+  unfolding code_move meet_of quote_move field_move move_of
+  plain_quote other quotes plain_word =
+      let told = word_told s held own in
+      let none : is_field_prefix held && is_quote c ≡ false = ap (λ b. b && is_quote c) (told.0 ∙ plain_word) in
+      go (is_prefix_spelling s) refl none
+    where
+      go : (b : Bool) → is_prefix_spelling s ≡ b → is_field_prefix held && is_quote c ≡ false → Same
+      go true prefix none = rw (none, other, quotes, plain_word, other_begins s plain_word, prefix)
+      go false prefix none = rw (none, other, quotes, plain_word, other_begins s plain_word, prefix)
+
+  word_meets : Same
+  word_meets =
+      ⊎_elim (λ passes. in_word passes)
+      (λ other. ⊎_elim (λ quotes. ⊎_elim (λ field. field_quote other quotes field) (λ plain_word. plain_quote other quotes plain_word) (cases_Bool (is_field_spelling s))) (λ none. no_quote other none) (cases_Bool (is_quote c)))
+      (cases_Bool (is_word_character c))
+
+-- the code meets a character as the machine does
+pub meets : (m : FieldMode) (held : List ℕ) (c : ℕ) → HoldsCode (mode_from m) held → meets_field m c ≡ field_move (mode_from m) held c
+unfolding code_move meet_of field_move body_move
+meets (field_modes.Body h region named at) held c holds = refl
+meets (field_modes.Code (modes.Word s)) held c holds = word_meets s held c holds
+meets (field_modes.Code (modes.FieldOpened h)) held c holds = refl
+meets (field_modes.Code (modes.FieldEmpty h)) held c holds = refl
+meets (field_modes.Code m) held c holds = as_plain (move_of m c) (grows_plain m c)
+
+-- what a move of a string's body leaves open
+abbrev pub BodyMoved : Host → Place → Bool → At → FieldMove → Type 0
+BodyMoved host place named at (grows n) = (b : Bool) × (a : At) × (n ≡ body host place b a) × (place ≡ specification → is_after_brace a ≡ false)
+BodyMoved host place named at closes = place ≡ literal
+BodyMoved host place named at breaks = ⊥
+BodyMoved host place named at (begins_code h) = (h ≡ host) × (at ≡ after_brace)
+BodyMoved host place named at (opens_field h) = (h ≡ host) × (place ≡ specification) × (named ≡ false)
+BodyMoved host place named at ends_field = (place ≡ specification) × (named ≡ false)
+BodyMoved host place named at refused = Unit {0}
+
+module _ (host : Host) (place : Place) (named : Bool) (own : At) where
+  abbrev P : FieldMove → Type 0
+  P = BodyMoved host place named own
+
+  stays : (b : Bool) (a : At) → is_after_brace a ≡ false → P (grows (body host place b a))
+  stays b a h = (b, a, refl, λ at. h)
+
+  quoted_at : (a : At) → P (grows (body host place named (with_quote a)))
+  quoted_at after_one = stays named after_two refl
+  quoted_at a = stays named after_one refl
+
+closing_moved : (host : Host) (place : Place) (named : Bool) (own : At) → BodyMoved host place named own (closing_move place)
+closing_moved host literal named own = refl
+closing_moved host specification named own = tt
+
+opening_moved : (host : Host) (place : Place) (named : Bool) (own : At) → named ≡ false → BodyMoved host place named own (opening_move host place)
+opening_moved host literal named own none = (false, after_brace, refl, λ at. absurd (cc))
+opening_moved host specification named own none = (refl, refl, none)
+
+ending_moved : (host : Host) (place : Place) (named : Bool) (own : At) → BodyMoved host place named own (ending_move host place named)
+ending_moved host literal named own = stays host literal named own false between refl
+ending_moved host specification true own = stays host specification true own false between refl
+ending_moved host specification false own = (refl, refl)
+
+unnamed : (b : Bool) → not b ≡ true → b ≡ false
+unnamed false h = refl
+unnamed true h = absurd (both_ways _ refl h)
+
+between_moved : (host : Host) (place : Place) (named : Bool) (own a : At) (c : ℕ) → BodyMoved host place named own (between_move host place named a c)
+unfolding between_move
+between_moved host place named own a c =
+    let Q : FieldMove → Type 0 = BodyMoved host place named own in
+    cond_both (c == host.quote) _ _ Q
+    (λ q. cond_both (host.is_long && not (is_after_two a)) (grows (body host place named (with_quote a))) (closing_move place) Q (λ h. quoted_at host place named own a) (λ h. closing_moved host place named own))
+    (λ q. cond_both (is_backslash c) (grows (body host place named after_slash)) _ Q (λ h. stays host place named own named after_slash refl)
+    (λ s. cond_both (is_break c && not host.is_long) refused _ Q (λ h. tt)
+    (λ b. cond_both ((c == byte "{") && not named) (opening_move host place) _ Q (λ h. opening_moved host place named own (unnamed named (and_parts (c == byte "{") (not named) h).1))
+    (λ o. cond_both (c == byte "}") (ending_move host place named) (grows (body host place named between)) Q (λ h. ending_moved host place named own) (λ h. stays host place named own named between refl)))))
+
+escape_moved : (host : Host) (place : Place) (named : Bool) (own : At) (c : ℕ) → BodyMoved host place named own (escape_move host place named c)
+unfolding escape_move
+escape_moved host place named own c =
+    let Q : FieldMove → Type 0 = BodyMoved host place named own in
+    cond_both (is_brace c) (between_move host place named between c) _ Q (λ h. between_moved host place named own between c)
+    (λ b. cond_both (is_barred_escape host place c) refused _ Q (λ h. tt)
+    (λ r. cond_both (is_return c) (grows (body host place named after_return)) _ Q (λ h. stays host place named own named after_return refl)
+    (λ n. cond_both (names host c) (grows (body host place named after_name)) (grows (body host place named between)) Q (λ h. stays host place named own named after_name refl) (λ h. stays host place named own named between refl))))
+
+pub body_moved : (host : Host) (place : Place) (named : Bool) (at : At) (held : List ℕ) (c : ℕ) → BodyMoved host place named at (field_move (body host place named at) held c)
+unfolding field_move body_move
+body_moved host place named after_slash held c = escape_moved host place named after_slash c
+body_moved host place named after_return held c =
+    cond_both (is_line_feed c) (grows (body host place named between)) (between_move host place named between c) (BodyMoved host place named after_return) (λ h. stays host place named after_return named between refl) (λ h. between_moved host place named after_return between c)
+body_moved host place named after_name held c =
+    cond_both (c == byte "{") (grows (body host place true between)) (between_move host place named between c) (BodyMoved host place named after_name) (λ h. stays host place named after_name true between refl) (λ h. between_moved host place named after_name between c)
+body_moved host place named after_brace held c =
+    cond_both (c == byte "{") (grows (body host place named between)) (begins_code host) (BodyMoved host place named after_brace) (λ h. stays host place named after_brace named between refl) (λ h. (refl, refl))
+body_moved host place named between held c = between_moved host place named between between c
+body_moved host place named after_one held c = between_moved host place named after_one after_one c
+body_moved host place named after_two held c = between_moved host place named after_two after_two c
+
+-- what each move says of the open piece and its text
+abbrev pub KeptBy : spots.FieldMode → List ℕ → ℕ → FieldMove → Type 0
+KeptBy m held c (grows n) = (text_place n ≡ text_place m) × HoldsCode n (held ++ c ∷ []) × (IsBodyMode m → IsBodyMode n)
+KeptBy m held c other = Unit {0}
+
+body_kept : (host : Host) (place : Place) (named : Bool) (at : At) (held : List ℕ) (c : ℕ) (v : FieldMove) → BodyMoved host place named at v → KeptBy (body host place named at) held c v
+body_kept host place named at held c (grows n) (b, a, is, fit) =
+    subst (λ (x : spots.FieldMode). KeptBy (body host place named at) held c (grows x)) (sym is) (refl, tt, λ own. (host, place, b, a, refl))
+body_kept host place named at held c v h = tt
+
+opened_kept : (host : Host) (held : List ℕ) (c : ℕ) (v : FieldMove) → BodyMoved host literal false between v → KeptBy (opened host) held c v
+opened_kept host held c (grows n) (b, a, is, fit) =
+    subst (λ (x : spots.FieldMode). KeptBy (opened host) held c (grows x)) (sym is) (refl, tt, λ own. (host, literal, b, a, refl))
+opened_kept host held c v h = tt
+
+plain_no_body : (m : Mode) (n : spots.FieldMode) → IsBodyMode (plain m) → IsBodyMode n
+plain_no_body m n (host, place, named, at, is) = absurd (cc)
+
+plain_kept : (m : Mode) (held : List ℕ) (c : ℕ) (v : Move) → MoveHolds m held c v → KeptBy (plain m) held c (plain_move v)
+plain_kept m held c (moves.Grows n) holds = (refl, holds, plain_no_body m (plain n))
+plain_kept m held c moves.Closes holds = tt
+plain_kept m held c moves.Breaks holds = tt
+plain_kept m held c moves.Refused holds = tt
+
+empty_kept : (host : Host) (held : List ℕ) (c : ℕ) → KeptBy (empty host) held c (grows (body (long_host host) literal false between))
+empty_kept host held c = (refl, tt, λ own. (long_host host, literal, false, between, refl))
+
+opened_again : (host : Host) (held : List ℕ) (c : ℕ) → KeptBy (opened host) held c (grows (empty host))
+opened_again host held c = (refl, tt, no_body)
+  where
+    no_body : IsBodyMode (opened host) → IsBodyMode (empty host)
+    no_body (h, place, named, at, is) = absurd (cc)
+
+pub kept_by : (m : spots.FieldMode) (held : List ℕ) (c : ℕ) → HoldsCode m held → KeptBy m held c (field_move m held c)
+unfolding field_move body_move
+kept_by (plain m) held c holds =
+    cond_both (begins_host m held c) (grows (opened (host_of held c))) (plain_move (move_of m c)) (KeptBy (plain m) held c)
+    (λ h. (refl, tt, plain_no_body m (opened (host_of held c)))) (λ h. plain_kept m held c (move_of m c) (move_holds m held c holds))
+kept_by (opened host) held c holds =
+    cond_both (c == host.quote) (grows (empty host)) (between_move host literal false between c) (KeptBy (opened host) held c)
+    (λ h. opened_again host held c) (λ h. opened_kept host held c (between_move host literal false between c) (between_moved host literal false between between c))
+kept_by (empty host) held c holds =
+    cond_both (c == host.quote) (grows (body (long_host host) literal false between)) breaks (KeptBy (empty host) held c) (λ h. empty_kept host held c) (λ h. tt)
+kept_by (body host place named at) held c holds = body_kept host place named at held c (field_move (body host place named at) held c) (body_moved host place named at held c)
+
+-- a piece that grows stays where it is, and its text stays as its mode has it
+pub keeps : (m n : spots.FieldMode) (held : List ℕ) (c : ℕ) → HoldsCode m held → field_move m held c ≡ grows n → (text_place n ≡ text_place m) × HoldsCode n (held ++ c ∷ []) × (IsBodyMode m → IsBodyMode n)
+keeps m n held c holds is = subst (KeptBy m held c) is (kept_by m held c holds)
+
+-- so in its place, whatever its text is
+abbrev PlacedBy : spots.FieldMode → FieldMove → Type 0
+PlacedBy m (grows n) = text_place n ≡ text_place m
+PlacedBy m other = Unit {0}
+
+body_placed : (m : spots.FieldMode) (host : Host) (place : Place) (named : Bool) (at : At) (v : FieldMove) → text_place m ≡ place → BodyMoved host place named at v → PlacedBy m v
+body_placed m host place named at (grows n) same (b, a, is, fit) = ap text_place is ∙ sym same
+body_placed m host place named at v same h = tt
+
+plain_placed : (m : Mode) (v : Move) → PlacedBy (plain m) (plain_move v)
+plain_placed m (moves.Grows n) = refl
+plain_placed m moves.Closes = tt
+plain_placed m moves.Breaks = tt
+plain_placed m moves.Refused = tt
+
+placed_by : (m : spots.FieldMode) (held : List ℕ) (c : ℕ) → PlacedBy m (field_move m held c)
+unfolding field_move body_move
+placed_by (plain m) held c = cond_both (begins_host m held c) (grows (opened (host_of held c))) (plain_move (move_of m c)) (PlacedBy (plain m)) (λ h. refl) (λ h. plain_placed m (move_of m c))
+placed_by (opened host) held c =
+    cond_both (c == host.quote) (grows (empty host)) (between_move host literal false between c) (PlacedBy (opened host))
+    (λ h. refl) (λ h. body_placed (opened host) host literal false between (between_move host literal false between c) refl (between_moved host literal false between between c))
+placed_by (empty host) held c = cond_both (c == host.quote) (grows (body (long_host host) literal false between)) breaks (PlacedBy (empty host)) (λ h. refl) (λ h. tt)
+placed_by (body host place named at) held c = body_placed (body host place named at) host place named at (field_move (body host place named at) held c) refl (body_moved host place named at held c)
+
+-- no list stands in a specification that goes on
+list_at : (m n : spots.FieldMode) (done : List Piece) (openers : List ℕ) → text_place n ≡ text_place m → HasNoList m done openers → HasNoList n done openers
+list_at (body h specification b a) (body host specification named at) done openers same none = none
+list_at (body h literal b a) (body host specification named at) done openers same none = absurd (cc)
+list_at (plain m) (body host specification named at) done openers same none = absurd (cc)
+list_at (opened h) (body host specification named at) done openers same none = absurd (cc)
+list_at (empty h) (body host specification named at) done openers same none = absurd (cc)
+list_at m (body host literal named at) done openers same none = tt
+list_at m (plain n) done openers same none = tt
+list_at m (opened host) done openers same none = tt
+list_at m (empty host) done openers same none = tt
+
+pub keeps_list : (m n : spots.FieldMode) (held : List ℕ) (c : ℕ) (done : List Piece) (openers : List ℕ) → HasNoList m done openers → field_move m held c ≡ grows n → HasNoList n done openers
+keeps_list m n held c done openers none is = list_at m n done openers (subst (PlacedBy m) is (placed_by m held c)) none
+
+-- a piece that ends before a character
+abbrev EndsBefore : spots.FieldMode → List ℕ → Type 0
+EndsBefore m held =
+    (text_place m ≡ literal) × ((done : List Piece) → spelled (field_closed m done held) ≡ spelled done ++ held)
+    × ((done : List Piece) (st : List Bracket) → brackets_of done ≡ Some st → brackets_of (field_closed m done held) ≡ Some st)
+    × (IsBodyMode m → ⊥)
+
+abbrev BreaksAt : spots.FieldMode → List ℕ → FieldMove → Type 0
+BreaksAt m held breaks = EndsBefore m held
+BreaksAt m held other = Unit {0}
+
+no_body-plain : (m : Mode) → IsBodyMode (plain m) → ⊥
+no_body-plain m (host, place, named, at, is) = cc
+
+no_body-empty : (h : Host) → IsBodyMode (empty h) → ⊥
+no_body-empty h (host, place, named, at, is) = cc
+
+nothing_held : (done : List Piece) (held : List ℕ) → held ≡ [] → spelled done ≡ spelled done ++ held
+nothing_held done held is = sym (append-nil (spelled done)) ∙ ap (λ t. spelled done ++ t) (sym is)
+
+closed_spells : (m : Mode) (held : List ℕ) → Holds m [] held → (done : List Piece) → spelled (closed m done held) ≡ spelled done ++ held
+closed_spells modes.Start held holds done = nothing_held done held holds.1
+closed_spells modes.Free held holds done = nothing_held done held holds
+closed_spells m held holds done = spelled-push done (class_of m) held
+
+plain_breaks : (m : Mode) (held : List ℕ) → Holds m [] held → (v : Move) → BreaksAt (plain m) held (plain_move v)
+plain_breaks m held holds (moves.Grows n) = tt
+plain_breaks m held holds moves.Closes = tt
+plain_breaks m held holds moves.Breaks = (refl, closed_spells m held holds, λ done st stack. live.stack_closed m done held st stack, no_body-plain m)
+plain_breaks m held holds moves.Refused = tt
+
+body_breaks : (m : spots.FieldMode) (held : List ℕ) (host : Host) (place : Place) (named : Bool) (at : At) (v : FieldMove) → BodyMoved host place named at v → BreaksAt m held v
+body_breaks m held host place named at breaks h = absurd h
+body_breaks m held host place named at v h = tt
+
+breaks_by : (m : spots.FieldMode) (held : List ℕ) (c : ℕ) → HoldsCode m held → BreaksAt m held (field_move m held c)
+unfolding field_move body_move
+breaks_by (plain m) held c holds = cond_both (begins_host m held c) (grows (opened (host_of held c))) (plain_move (move_of m c)) (BreaksAt (plain m) held) (λ h. tt) (λ h. plain_breaks m held holds (move_of m c))
+breaks_by (opened host) held c holds =
+    cond_both (c == host.quote) (grows (empty host)) (between_move host literal false between c) (BreaksAt (opened host) held)
+    (λ h. tt) (λ h. body_breaks (opened host) held host literal false between (between_move host literal false between c) (between_moved host literal false between between c))
+breaks_by (empty host) held c holds =
+    cond_both (c == host.quote) (grows (body (long_host host) literal false between)) breaks (BreaksAt (empty host) held)
+    (λ h. tt) (λ h. (refl, λ done. spelled-push done string held, λ done st stack. live.keeps done (piece string held) st refl refl stack, no_body-empty host))
+breaks_by (body host place named at) held c holds = body_breaks (body host place named at) held host place named at (field_move (body host place named at) held c) (body_moved host place named at held c)
+
+pub breaks_at : (m : spots.FieldMode) (held : List ℕ) (c : ℕ) → HoldsCode m held → field_move m held c ≡ breaks → (text_place m ≡ literal) × ((done : List Piece) → spelled (field_closed m done held) ≡ spelled done ++ held) × ((done : List Piece) (st : List Bracket) → brackets_of done ≡ Some st → brackets_of (field_closed m done held) ≡ Some st) × (IsBodyMode m → ⊥)
+breaks_at m held c holds is = subst (BreaksAt m held) is (breaks_by m held c holds)
+
+-- a piece that a character closes: a string's text, or code
+abbrev ClosesBy : spots.FieldMode → List ℕ → ℕ → FieldMove → Type 0
+ClosesBy m held c closes =
+    (text_place m ≡ literal) × ((done : List Piece) (st : List Bracket) → brackets_of done ≡ Some st → brackets_of (done ++ record { class = field_class_of m; text = held ++ c ∷ [] } ∷ []) ≡ Some st)
+ClosesBy m held c other = Unit {0}
+
+plain_closes : (m : Mode) (held : List ℕ) (c : ℕ) (v : Move) → move_of m c ≡ v → ClosesBy (plain m) held c (plain_move v)
+plain_closes m held c (moves.Grows n) is = tt
+plain_closes m held c moves.Closes is =
+    let neutral = closing_neutral m (held ++ c ∷ []) c is in
+    (refl, λ done st stack. live.keeps done (piece (class_of m) (held ++ c ∷ [])) st neutral.0 neutral.1 stack)
+plain_closes m held c moves.Breaks is = tt
+plain_closes m held c moves.Refused is = tt
+
+text_closes : (m : spots.FieldMode) (held : List ℕ) (c : ℕ) (host : Host) (place : Place) (named : Bool) (at : At) (v : FieldMove) → field_class_of m ≡ string → text_place m ≡ place → BodyMoved host place named at v → ClosesBy m held c v
+text_closes m held c host place named at closes class same h = (
+  same ∙ h,
+  λ done st stack. ap (λ k. brackets_of (done ++ piece k (held ++ c ∷ []) ∷ [])) class ∙ live.keeps done (piece string (held ++ c ∷ [])) st refl refl stack,
+)
+text_closes m held c host place named at v class same h = tt
+
+closes_by : (m : spots.FieldMode) (held : List ℕ) (c : ℕ) → ClosesBy m held c (field_move m held c)
+unfolding field_move body_move
+closes_by (plain m) held c = cond_both (begins_host m held c) (grows (opened (host_of held c))) (plain_move (move_of m c)) (ClosesBy (plain m) held c) (λ h. tt) (λ h. plain_closes m held c (move_of m c) refl)
+closes_by (opened host) held c =
+    cond_both (c == host.quote) (grows (empty host)) (between_move host literal false between c) (ClosesBy (opened host) held c)
+    (λ h. tt) (λ h. text_closes (opened host) held c host literal false between (between_move host literal false between c) refl refl (between_moved host literal false between between c))
+closes_by (empty host) held c = cond_both (c == host.quote) (grows (body (long_host host) literal false between)) breaks (ClosesBy (empty host) held c) (λ h. tt) (λ h. tt)
+closes_by (body host place named at) held c = text_closes (body host place named at) held c host place named at (field_move (body host place named at) held c) refl refl (body_moved host place named at held c)
+
+pub closes_neutral : (m : spots.FieldMode) (held : List ℕ) (c : ℕ) → field_move m held c ≡ closes → (done : List Piece) (st : List Bracket) → brackets_of done ≡ Some st → brackets_of (done ++ record { class = field_class_of m; text = held ++ c ∷ [] } ∷ []) ≡ Some st
+closes_neutral m held c is done st stack =
+    let both : ClosesBy m held c closes = subst (ClosesBy m held c) is (closes_by m held c) in
+    both.1 done st stack
+
+pub closes_literal : (m : spots.FieldMode) (held : List ℕ) (c : ℕ) → field_move m held c ≡ closes → text_place m ≡ literal
+closes_literal m held c is =
+    let both : ClosesBy m held c closes = subst (ClosesBy m held c) is (closes_by m held c) in
+    both.0
+
+-- the piece that a character begins
+begun_plain : (c : ℕ) (m : Mode) → begun.StartsSo c (starts.Open m) → code_mode m ≡ plain m
+begun_plain c (modes.FieldOpened h) so = absurd so
+begun_plain c (modes.FieldEmpty h) so = absurd so
+begun_plain c m so = refl
+
+pub starts_so : (c : ℕ) (m : Mode) → start_of c ≡ starts.Open m → HoldsCode (plain m) (c ∷ []) × (code_mode m ≡ plain m)
+starts_so c m is = (subst (StartHolds c) is (start_holds c), begun_plain c m (subst (begun.StartsSo c) is (begun.starts_so c)))
+
+-- what begins a field, opens one in a specification, or ends one
+abbrev FieldBy : spots.FieldMode → FieldMove → Type 0
+FieldBy m (begins_code h) = (place : Place) × (named : Bool) × (m ≡ body h place named after_brace)
+FieldBy m (opens_field h) = (at : At) × (m ≡ body h specification false at)
+FieldBy m ends_field = (host : Host) × (at : At) × (m ≡ body host specification false at)
+FieldBy m other = Unit {0}
+
+body_by : (host : Host) (place : Place) (named : Bool) (at : At) (v : FieldMove) → BodyMoved host place named at v → FieldBy (body host place named at) v
+body_by host place named at (begins_code h) (same, is) = (place, named, ap (λ (x : Host). body x place named at) (sym same) ∙ ap (body h place named) is)
+body_by host place named at (opens_field h) (same, is, none) = (at, ap (λ (x : Host). body x place named at) (sym same) ∙ ap (λ (p : Place). body h p named at) is ∙ ap (λ (b : Bool). body h specification b at) none)
+body_by host place named at ends_field (is, none) = (host, at, ap (λ (p : Place). body host p named at) is ∙ ap (λ (b : Bool). body host specification b at) none)
+body_by host place named at v h = tt
+
+-- the first character after one quote does none of these
+opened_by : (m : spots.FieldMode) (host : Host) (v : FieldMove) → BodyMoved host literal false between v → FieldBy m v
+opened_by m host (begins_code h) (same, is) = absurd (cc)
+opened_by m host (opens_field h) (same, is, none) = absurd (cc)
+opened_by m host ends_field (is, none) = absurd (cc)
+opened_by m host v h = tt
+
+plain_by : (m : Mode) (v : Move) → FieldBy (plain m) (plain_move v)
+plain_by m (moves.Grows n) = tt
+plain_by m moves.Closes = tt
+plain_by m moves.Breaks = tt
+plain_by m moves.Refused = tt
+
+field_by : (m : spots.FieldMode) (held : List ℕ) (c : ℕ) → FieldBy m (field_move m held c)
+unfolding field_move body_move
+field_by (plain m) held c = cond_both (begins_host m held c) (grows (opened (host_of held c))) (plain_move (move_of m c)) (FieldBy (plain m)) (λ h. tt) (λ h. plain_by m (move_of m c))
+field_by (opened host) held c =
+    cond_both (c == host.quote) (grows (empty host)) (between_move host literal false between c) (FieldBy (opened host))
+    (λ h. tt) (λ h. opened_by (opened host) host (between_move host literal false between c) (between_moved host literal false between between c))
+field_by (empty host) held c = cond_both (c == host.quote) (grows (body (long_host host) literal false between)) breaks (FieldBy (empty host)) (λ h. tt) (λ h. tt)
+field_by (body host place named at) held c = body_by host place named at (field_move (body host place named at) held c) (body_moved host place named at held c)
+
+pub waits_after : (m : spots.FieldMode) (held : List ℕ) (c : ℕ) (host : Host) → field_move m held c ≡ begins_code host → (place : Place) × (named : Bool) × (m ≡ body host place named after_brace)
+waits_after m held c host is = subst (FieldBy m) is (field_by m held c)
+
+pub opens_specification : (m : spots.FieldMode) (held : List ℕ) (c : ℕ) (host : Host) → field_move m held c ≡ opens_field host → (at : At) × (m ≡ body host specification false at)
+opens_specification m held c host is = subst (FieldBy m) is (field_by m held c)
+
+pub ends_specification : (m : spots.FieldMode) (held : List ℕ) (c : ℕ) → field_move m held c ≡ ends_field → (host : Host) × (at : At) × (m ≡ body host specification false at)
+ends_specification m held c is = subst (FieldBy m) is (field_by m held c)
+
+-- in a specification no `{` waits for the next character, and that stays so
+literal_waits : (m : spots.FieldMode) → text_place m ≡ literal → WaitsInLiteral m
+literal_waits (body host specification named at) is = absurd (cc)
+literal_waits (body host literal named at) is = tt
+literal_waits (plain m) is = tt
+literal_waits (opened host) is = tt
+literal_waits (empty host) is = tt
+
+abbrev WaitsBy : FieldMove → Type 0
+WaitsBy (grows n) = WaitsInLiteral n
+WaitsBy other = Unit {0}
+
+body_waits : (host : Host) (place : Place) (b : Bool) (a : At) → (place ≡ specification → is_after_brace a ≡ false) → WaitsInLiteral (body host place b a)
+body_waits host literal b a fit = tt
+body_waits host specification b a fit = fit refl
+
+moved_waits : (host : Host) (place : Place) (named : Bool) (at : At) (v : FieldMove) → BodyMoved host place named at v → WaitsBy v
+moved_waits host place named at (grows n) (b, a, is, fit) = subst WaitsInLiteral (sym is) (body_waits host place b a fit)
+moved_waits host place named at v h = tt
+
+placed_waits : (m : spots.FieldMode) (v : FieldMove) → text_place m ≡ literal → PlacedBy m v → WaitsBy v
+placed_waits m (grows n) is same = literal_waits n (same ∙ is)
+placed_waits m v is same = tt
+
+waits_by : (m : spots.FieldMode) (held : List ℕ) (c : ℕ) → WaitsBy (field_move m held c)
+waits_by (body host place named at) held c = moved_waits host place named at (field_move (body host place named at) held c) (body_moved host place named at held c)
+waits_by (plain m) held c = placed_waits (plain m) (field_move (plain m) held c) refl (placed_by (plain m) held c)
+waits_by (opened host) held c = placed_waits (opened host) (field_move (opened host) held c) refl (placed_by (opened host) held c)
+waits_by (empty host) held c = placed_waits (empty host) (field_move (empty host) held c) refl (placed_by (empty host) held c)
+
+pub keeps_waits : (m n : spots.FieldMode) (held : List ℕ) (c : ℕ) → field_move m held c ≡ grows n → WaitsInLiteral n
+keeps_waits m n held c is = subst WaitsBy is (waits_by m held c)
+
+-- so where a `{` waits, it stands in a literal part
+waiting_in : (m : spots.FieldMode) (host : Host) (place : Place) (named : Bool) → WaitsInLiteral m → m ≡ body host place named after_brace → (own : Bool) × (m ≡ body host literal own after_brace)
+waiting_in m host literal named waits is = (named, is)
+waiting_in m host specification named waits is =
+    let there : true ≡ false = subst WaitsInLiteral is waits in
+    absurd (both_ways _ there refl)
+
+pub waits_literal : (m : spots.FieldMode) (held : List ℕ) (c : ℕ) (host : Host) → WaitsInLiteral m → field_move m held c ≡ begins_code host → (named : Bool) × (m ≡ body host literal named after_brace)
+waits_literal m held c host waits is =
+    let at = waits_after m held c host is in
+    waiting_in m host at.0 at.1 waits at.2

@@ -1,0 +1,81 @@
+-- What one more character comes to in a string with fields, by what it does in the machine.
+use Rattle.std.proofs.Common.{◌≡◌, ℕ, ◌+◌, Bool, true, false, None, Some, Ok, List, [], ◌∷◌, ◌++◌, refl, ap, ◌∙◌}
+use Rattle.std.specs.Prelude.{if◌then◌else◌}
+use Rattle.py_lines.specs.Piece.{Piece, spelled}
+use Rattle.py_lines.specs.LogicalLine.{byte_len}
+use Rattle.py_lines.specs.FieldStrings.{literal}
+use Rattle.py_lines.specs.declared.mode.Mode.TheVariants as modes
+use Rattle.py_lines.specs.declared.mode.Move.{Move}
+use Rattle.py_lines.specs.declared.mode.Move.TheVariants as moves
+use Rattle.py_lines.specs.declared.field_scan.Frame.{Frame}
+use Rattle.py_lines.specs.declared.field_scan.FieldScan.{FieldScan}
+use Rattle.py_lines.specs.declared.field_scan.FieldProgress.TheVariants as progress
+use Rattle.py_lines.specs.Private.FieldMachine.{FieldMove, grows, closes, breaks, begins_code, opens_field, ends_field, refused, Level, FieldScanned, field_fresh, field_move, field_moved, before, frames, has_room_at}
+use Rattle.py_lines.specs.Private.ScanMachine.{string_move, fielded_move, IsInString}
+use Rattle.py_lines.specs.Private.FieldScan.{innermost_first, Follows, FramesFollow, freed_at, ComesTo}
+
+-- where a string goes on, or ends
+string_goes : (outer : List Level) (v : FieldMove) (next : FieldScanned) → (outer ≡ [] → v ≡ closes → ⊥) → string_move outer v (Some next) ≡ moves.Grows modes.Fielded
+string_goes [] closes next goes_on = absurd (goes_on refl refl)
+string_goes [] (grows m) next goes_on = refl
+string_goes [] breaks next goes_on = refl
+string_goes [] (begins_code h) next goes_on = refl
+string_goes [] (opens_field h) next goes_on = refl
+string_goes [] ends_field next goes_on = refl
+string_goes [] refused next goes_on = refl
+string_goes (l ∷ ls) v next goes_on = refl
+
+string_stops : (t : FieldScanned) (c : ℕ) (outer : List Level) (v : FieldMove) → field_moved t c v ≡ None → string_move outer v None ≡ moves.Refused
+string_stops t c [] closes none = absurd (cc)
+string_stops t c [] (grows m) none = refl
+string_stops t c [] breaks none = refl
+string_stops t c [] (begins_code h) none = refl
+string_stops t c [] (opens_field h) none = refl
+string_stops t c [] ends_field none = refl
+string_stops t c [] refused none = refl
+string_stops t c (l ∷ ls) v none = refl
+
+module _ (base depth : ℕ) (t : FieldScanned) (c : ℕ) (v : FieldMove) (is : field_move t.mode t.held c ≡ v) where
+  abbrev roomy : Bool → Move → Move
+  roomy b w = if b then w else moves.Refused
+
+  by_move : fielded_move depth (Some t) c ≡ roomy (has_room_at (depth + frames t) c v) (string_move t.outer v (field_moved t c v))
+  by_move = ap (λ w. roomy (has_room_at (depth + frames t) c w) (string_move t.outer w (field_moved t c w))) is
+
+  -- it is taken
+  pub going : (old new : FieldScan) (next : FieldScanned) → has_room_at (depth + frames t) c v ≡ true → field_moved t c v ≡ Some next → (t.outer ≡ [] → v ≡ closes → ⊥) → IsInString next → Follows new base next → ComesTo base depth t c old (Ok progress.Going) new
+  going old new next room comes goes_on inside follow = (
+    next,
+    ap (field_moved t c) is ∙ comes,
+    by_move ∙ ap (λ b. roomy b (string_move t.outer v (field_moved t c v))) room ∙ ap (string_move t.outer v) comes ∙ string_goes t.outer v next goes_on,
+    inside,
+    follow,
+  )
+
+  -- it finds no room
+  pub no_room : (old : FieldScan) → has_room_at (depth + frames t) c v ≡ false → ComesTo base depth t c old (Ok progress.Refused) old
+  no_room old none = (by_move ∙ ap (λ b. roomy b (string_move t.outer v (field_moved t c v))) none, refl)
+
+  -- it closes the string
+  pub comes_closed : v ≡ closes → t.outer ≡ [] → has_room_at (depth + frames t) c v ≡ true → fielded_move depth (Some t) c ≡ moves.Closes
+  comes_closed closing none room =
+      by_move ∙ ap (λ b. roomy b (string_move t.outer v (field_moved t c v))) room
+      ∙ ap (λ w. string_move t.outer w (field_moved t c v)) closing
+      ∙ ap (λ o. string_move o closes (field_moved t c v)) none
+
+  -- it may not stand there
+  pub no_step : (old : FieldScan) → field_moved t c v ≡ None → ComesTo base depth t c old (Ok progress.Refused) old
+  no_step old none =
+      (by_move ∙ ap (λ o. roomy (has_room_at (depth + frames t) c v) (string_move t.outer v o)) none ∙ ap (roomy (has_room_at (depth + frames t) c v)) (string_stops t c t.outer v none) ∙ go (has_room_at (depth + frames t) c v), refl)
+    where
+      go : (b : Bool) → roomy b moves.Refused ≡ moves.Refused
+      go true = refl
+      go false = refl
+
+-- the innermost list goes on at this byte
+pub record Ready (base : ℕ) (outer : List Level) (done : List Piece) (openers : List ℕ) (fs : List Frame) (place : ℕ) : Type 0 where
+  pub follow : FramesFollow base outer done openers fs
+  pub at : place ≡ base + byte_len (before literal outer ++ spelled done)
+
+pub follows_free : (old : FieldScan) (base : ℕ) (outer : List Level) (done : List Piece) (openers : List ℕ) (place : ℕ) → Ready base outer done openers (innermost_first old.frames.items) place → Follows (freed_at old place) base (field_fresh outer done openers)
+follows_free old base outer done openers place ready = record { mode = refl; holds = refl; no_list = tt; waits = tt; full = λ w. absurd (cc); start = ready.at; frames = ready.follow }

@@ -1,0 +1,153 @@
+-- A character in a string with fields that goes on the open piece, closes it, or begins another after it.
+use Rattle.std.proofs.Common.{◌≡◌, ℕ, ◌+◌, true, false, not, ◌||◌, Ok, List, [], ◌∷◌, ◌++◌, length, nat_lt, refl, sym, ap, ◌∙◌, subst, arith, append_assoc}
+use Rattle.std.specs.Char.{len_utf8}
+use Rattle.std.proofs.lemmas.Str.{len_utf8_ascii}
+use Rattle.py_lines.specs.Character.{is_line_feed}
+use Rattle.py_lines.specs.Piece.{Class, line_end, Piece, spelled}
+use Rattle.py_lines.specs.LogicalLine.{byte_len}
+use Rattle.py_lines.specs.Balance.{is_opening, is_opener, is_closer}
+use Rattle.py_lines.specs.FieldStrings.{literal}
+use Rattle.py_lines.specs.declared.mode.Mode.{Mode}
+use Rattle.py_lines.specs.declared.mode.Start.TheVariants as starts
+use Rattle.py_lines.specs.declared.field_scan.Frame.{Frame}
+use Rattle.py_lines.specs.declared.field_scan.FieldMode.{FieldMode}
+use Rattle.py_lines.specs.declared.field_scan.FieldMode.TheVariants as field_modes
+use Rattle.py_lines.specs.declared.field_scan.FieldScan.{FieldScan}
+use Rattle.py_lines.specs.declared.field_scan.FieldProgress.TheVariants as progress
+use Rattle.py_lines.specs.Private.Machine.{start_of}
+use Rattle.py_lines.specs.Private.FieldMachine.{plain, body, grows, closes, breaks, Level, FieldScanned, field_state, field_fresh, field_class_of, field_closed, field_move, field_moved, field_started, before, text_place, frames, has_room_at, levels_open}
+use Rattle.py_lines.specs.Private.FieldMachine as spots
+use Rattle.py_lines.specs.Private.FieldFlaws.{here}
+use Rattle.py_lines.specs.Private.ScanMachine.{IsInString}
+use Rattle.py_lines.specs.Private.FieldScan.{innermost_first, mode_from, Follows, FramesFollow, freed_at, ComesTo}
+use Rattle.py_lines.proofs.Text.CharacterTests.{operator_ascii}
+use Rattle.py_lines.proofs.Pieces.PieceLists.{piece, spelled-push}
+use Rattle.py_lines.proofs.Pieces.OpenBrackets.{stack_push, other_keeps}
+use Rattle.py_lines.proofs.LogicalLines.Cuts.{byte_len-append}
+use Rattle.py_lines.proofs.LineScan.LineCount.{byte_len-one}
+use Rattle.py_lines.proofs.LineScan.NextCharacter.{one_feed}
+use Rattle.py_lines.proofs.Machine.Starts as begun_so
+use Rattle.py_lines.proofs.Machine.Starts.{StartsSo}
+use Rattle.py_lines.proofs.ScanMachine.Follows.{room_grows, room_closes, opens_no}
+use Rattle.py_lines.proofs.FieldScans.Frames.{innermost_first-length, AreOpenAlike, frames_alike, none_outside, none_in}
+use Rattle.py_lines.proofs.FieldScans.Moves.{keeps, keeps_list, keeps_waits, closes_literal, closes_neutral, breaks_at, starts_so}
+use Rattle.py_lines.proofs.FieldScans.Steps.{Ready, follows_free, going, comes_closed}
+
+not_empty : (xs : List ℕ) (c : ℕ) → xs ++ c ∷ [] ≡ [] → ⊥
+not_empty [] c h = cc
+not_empty (x ∷ xs) c h = cc
+
+-- the byte after one more character
+pub place_after : (base place c : ℕ) (text : List ℕ) → place ≡ base + byte_len text → place + len_utf8 c ≡ base + byte_len (text ++ c ∷ [])
+place_after base place c text at = omega (arith, at, byte_len-append text (c ∷ []), byte_len-one c)
+
+-- the byte after one more piece, which is one character of one byte
+pub piece_after : (base place : ℕ) (outer : List Level) (done : List Piece) (class : Class) (c : ℕ) → 1 ≡ byte_len (c ∷ []) → place ≡ base + byte_len (before literal outer ++ spelled done) → place + 1 ≡ base + byte_len (before literal outer ++ spelled (done ++ piece class (c ∷ []) ∷ []))
+piece_after base place outer done class c one at =
+    let written : (before literal outer ++ spelled done) ++ c ∷ [] ≡ before literal outer ++ spelled (done ++ piece class (c ∷ []) ∷ []) = append_assoc (before literal outer) (spelled done) (c ∷ []) ∙ ap (λ x. before literal outer ++ x) (sym (spelled-push done class (c ∷ []))) in
+    omega (arith, at, one, byte_len-append (before literal outer ++ spelled done) (c ∷ []), ap byte_len written)
+
+pub neutral_alike : (done : List Piece) (class : Class) (text : List ℕ) → is_opener (piece class text) ≡ false → is_closer (piece class text) ≡ false → AreOpenAlike done (done ++ piece class text ∷ [])
+neutral_alike done class text opens shuts = λ st stacked. stack_push done (piece class text) st stacked ∙ other_keeps st (byte_len (spelled done)) (piece class text) opens shuts
+
+-- what opens no bracket finds room
+pub no_opening : (depth c : ℕ) → is_opening c ≡ false → has_room_at depth c breaks ≡ true
+unfolding has_room_at
+no_opening depth c none = ap (λ b. not b || nat_lt depth 200) none
+
+feeds : (c : ℕ) → start_of c ≡ starts.LineEnd → is_line_feed c ≡ true
+feeds c is = subst (StartsSo c) is (begun_so.starts_so c)
+
+-- an operator is one byte
+pub one_operator : (c : ℕ) → start_of c ≡ starts.Operator → 1 ≡ byte_len (c ∷ [])
+one_operator c is = sym (byte_len-one c ∙ len_utf8_ascii c (operator_ascii c (subst (StartsSo c) is (begun_so.starts_so c))))
+
+-- the outermost string is open alone where no frame is
+pub outside_of : (old : FieldScan) (base : ℕ) (t : FieldScanned) → Follows old base t → length old.frames.items ≡ 0 → t.outer ≡ []
+outside_of old base t follow none = go (innermost_first old.frames.items) follow.frames (innermost_first-length old.frames.items ∙ none)
+  where
+    go : (fs : List Frame) → FramesFollow base t.outer t.done t.openers fs → length fs ≡ 0 → t.outer ≡ []
+    go [] frames empty = none_outside base t.outer t.done t.openers frames
+    go (f ∷ fs) frames empty = absurd (omega (arith, empty))
+
+pub within_of : (old : FieldScan) (base : ℕ) (t : FieldScanned) → Follows old base t → (length old.frames.items ≡ 0 → ⊥) → t.outer ≡ [] → ⊥
+within_of old base t follow some outside = some (sym (innermost_first-length old.frames.items) ∙ none_in base t.outer t.done t.openers (innermost_first old.frames.items) outside follow.frames)
+
+module _ (old : FieldScan) (base depth : ℕ) (t : FieldScanned) (c place : ℕ) (follow : Follows old base t) (inside : IsInString t) (at : place ≡ base + here t) where
+  -- the open piece grows
+  pub grown : (code : FieldMode) (m : spots.FieldMode) → field_move t.mode t.held c ≡ grows m → mode_from code ≡ m → ComesTo base depth t c old (Ok progress.Going) (record old { mode = code })
+  grown code m is same =
+      let k = keeps t.mode m t.held c follow.holds is in
+      going base depth t c (grows m) is old (record old { mode = code }) (field_state t.outer t.done t.openers m (t.held ++ c ∷ []))
+      (room_grows (depth + frames t) c m) refl (λ none other. absurd (cc)) (λ none. k.2 (inside none))
+      (record {
+        mode = same;
+        holds = k.1;
+        no_list = keeps_list t.mode m t.held c t.done t.openers follow.no_list is;
+        waits = keeps_waits t.mode m t.held c is;
+        full = λ w none. not_empty t.held c none;
+        start = follow.start ∙ ap (λ p. base + byte_len (before p t.outer ++ spelled t.done)) (sym k.0);
+        frames = follow.frames;
+      })
+
+  -- it closes, in a field's code
+  pub closed_in : field_move t.mode t.held c ≡ closes → (t.outer ≡ [] → ⊥) → ComesTo base depth t c old (Ok progress.Going) (freed_at old (place + len_utf8 c))
+  closed_in is within =
+      let done : List Piece = t.done ++ piece (field_class_of t.mode) (t.held ++ c ∷ []) ∷ [] in
+      let text : List ℕ = before literal t.outer ++ (spelled t.done ++ t.held) in
+      let stands : place ≡ base + byte_len text = at ∙ ap (λ p. base + byte_len (before p t.outer ++ (spelled t.done ++ t.held))) (closes_literal t.mode t.held c is) in
+      let written : text ++ c ∷ [] ≡ before literal t.outer ++ spelled done = append_assoc (before literal t.outer) (spelled t.done ++ t.held) (c ∷ []) ∙ ap (λ x. before literal t.outer ++ x) (append_assoc (spelled t.done) t.held (c ∷ []) ∙ sym (spelled-push t.done (field_class_of t.mode) (t.held ++ c ∷ []))) in
+      going base depth t c closes is old (freed_at old (place + len_utf8 c)) (field_fresh t.outer done t.openers)
+      (room_closes (depth + frames t) c) refl (λ none other. within none) (λ none. absurd (within none))
+      (follows_free old base t.outer done t.openers (place + len_utf8 c)
+      (record {
+        follow = frames_alike base t.outer t.done done t.openers (innermost_first old.frames.items) (λ st stacked. closes_neutral t.mode t.held c is t.done st stacked) follow.frames;
+        at = place_after base place c text stands ∙ ap (λ x. base + byte_len x) written;
+      }))
+
+  -- in the string itself it closes the string
+  pub closed_out : field_move t.mode t.held c ≡ closes → t.outer ≡ [] → (new : FieldScan) → ComesTo base depth t c old (Ok progress.Closed) new
+  closed_out is none new = comes_closed base depth t c closes is refl none (room_closes (depth + frames t) c)
+
+  -- the open piece ends before it
+  pub record Broken : Type 0 where
+    pub within : t.outer ≡ [] → ⊥
+    pub ready : Ready base t.outer (field_closed t.mode t.done t.held) t.openers (innermost_first old.frames.items) place
+
+  pub broken : field_move t.mode t.held c ≡ breaks → Broken
+  broken is =
+      let b = breaks_at t.mode t.held c follow.holds is in
+      record {
+        within = λ none. b.3 (inside none);
+        ready = record {
+          follow = frames_alike base t.outer t.done (field_closed t.mode t.done t.held) t.openers (innermost_first old.frames.items) (λ st stacked. b.2 t.done st stacked) follow.frames;
+          at = at ∙ ap (λ p. base + byte_len (before p t.outer ++ (spelled t.done ++ t.held))) b.0 ∙ ap (λ x. base + byte_len (before literal t.outer ++ x)) (sym (b.1 t.done));
+        };
+      }
+
+  -- another piece begins with it
+  pub begun : field_move t.mode t.held c ≡ breaks → (m : Mode) → start_of c ≡ starts.Open m → ComesTo base depth t c old (Ok progress.Going) (record old { mode = field_modes.Code m; start = place })
+  begun is m starts_with =
+      let b = broken is in
+      let s = starts_so c m starts_with in
+      going base depth t c breaks is old (record old { mode = field_modes.Code m; start = place }) (field_state t.outer (field_closed t.mode t.done t.held) t.openers (plain m) (c ∷ []))
+      (no_opening (depth + frames t) c (opens_no c (starts.Open m) starts_with (λ other. absurd (cc))))
+      (ap (field_started t.outer (field_closed t.mode t.done t.held) t.openers c) starts_with)
+      (λ none other. b.within none) (λ none. absurd (b.within none))
+      (record { mode = s.1; holds = s.0; no_list = tt; waits = tt; full = λ w. absurd (cc); start = b.ready.at; frames = b.ready.follow })
+
+  -- it is a line end
+  pub ended_line : field_move t.mode t.held c ≡ breaks → start_of c ≡ starts.LineEnd → ComesTo base depth t c old (Ok progress.Going) (freed_at old (place + 1))
+  ended_line is starts_with =
+      let b = broken is in
+      let closed : List Piece = field_closed t.mode t.done t.held in
+      let done : List Piece = closed ++ piece line_end (c ∷ []) ∷ [] in
+      going base depth t c breaks is old (freed_at old (place + 1)) (field_fresh t.outer done t.openers)
+      (no_opening (depth + frames t) c (opens_no c starts.LineEnd starts_with (λ other. absurd (cc))))
+      (ap (field_started t.outer closed t.openers c) starts_with)
+      (λ none other. b.within none) (λ none. absurd (b.within none))
+      (follows_free old base t.outer done t.openers (place + 1)
+      (record {
+        follow = frames_alike base t.outer closed done t.openers (innermost_first old.frames.items) (neutral_alike closed line_end (c ∷ []) refl refl) b.ready.follow;
+        at = piece_after base place t.outer closed line_end c (one_feed c (feeds c starts_with)) b.ready.at;
+      }))

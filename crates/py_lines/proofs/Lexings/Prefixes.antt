@@ -1,0 +1,199 @@
+-- The longest prefix of a text that is read and ends a line: there is one, and no other. Of each prefix the machine with fields
+-- decides whether it is read.
+use Rattle.std.proofs.Common.{◌≡◌, ℕ, ◌+◌, ◌≤◌, ◌<◌, true, false, ◌==◌, Option, None, Some, List, [], ◌∷◌, ◌++◌, ◌⊎◌, inl, inr, length, refl, sym, ap, ◌∙◌, subst, ⊎_elim, append_assoc, append-nil, length-append, arith}
+use Rattle.std.proofs.lemmas.List.{same_from_push}
+use Rattle.std.proofs.lemmas.Bool.{both_ways, cases_Bool, cases_lt, eqb-true, eq-eqb}
+use Rattle.py_lines.specs.Character.{is_return}
+use Rattle.py_lines.specs.Piece.{Class, line_end, Piece, ends, spelled}
+use Rattle.py_lines.specs.Balance as balance
+use Rattle.py_lines.specs.Balance.{depth_through}
+use Rattle.py_lines.specs.Reading.{EndsLine, IsLongest, IsReadPrefix, IsBalancedReading}
+use Rattle.py_lines.specs.Settled.{EndsForGood, IsSettledPrefix}
+use Rattle.py_lines.specs.Private.FieldMachine.{Level, FieldScanned, field_text_start, field_steps_from, have_room, may_end, field_pieces, IsFieldFinal}
+use Rattle.py_lines.proofs.Fields.OneReading.{one_fielded_reading}
+use Rattle.py_lines.proofs.FieldMachine.Completeness.{reading_reached}
+use Rattle.py_lines.proofs.FieldSoundness.WholeTexts.{final_is_reading}
+
+-- two prefixes of one text that are as long are the same
+same_prefix : (a b x y : List ℕ) → a ++ x ≡ b ++ y → length a ≡ length b → (a ≡ b) × (x ≡ y)
+same_prefix [] [] x y same len = (refl, same)
+same_prefix [] (d ∷ b) x y same len = absurd (omega (arith, len))
+same_prefix (c ∷ a) [] x y same len = absurd (omega (arith, len))
+same_prefix (c ∷ a) (d ∷ b) x y same len =
+    let here : c ≡ d = cc in
+    let later : a ++ x ≡ b ++ y = cc in
+    let rest = same_prefix a b x y later (omega (arith, len)) in
+    (ap (λ e. e ∷ a) here ∙ ap (λ t. d ∷ t) rest.0, rest.1)
+
+-- the longest of the prefixes of a text that are good, where the empty one is, and each can be decided
+pub record LongestGood (Good : List ℕ → List ℕ → Type 0) (characters : List ℕ) (most : ℕ) : Type 0 where
+  pub first : List ℕ
+  pub rest : List ℕ
+  pub spell : first ++ rest ≡ characters
+  pub good : Good first rest
+  pub longest : (others after : List ℕ) → others ++ after ≡ characters → Good others after → length others ≤ most → length others ≤ length first
+
+module _ (Good : List ℕ → List ℕ → Type 0) (decide : (xs ys : List ℕ) → Good xs ys ⊎ ¬ (Good xs ys)) (characters : List ℕ) where
+  one_more : (xs : List ℕ) (c : ℕ) (ys : List ℕ) → xs ++ c ∷ ys ≡ characters → LongestGood Good characters (length xs) → LongestGood Good characters (length (xs ++ c ∷ []))
+  one_more xs c ys spell best = go (decide (xs ++ c ∷ []) ys)
+    where
+      more : length (xs ++ c ∷ []) ≡ length xs + 1
+      more = length-append xs (c ∷ []) ∙ omega arith
+
+      whole : (xs ++ c ∷ []) ++ ys ≡ characters
+      whole = append_assoc xs (c ∷ []) ys ∙ spell
+
+      go : Good (xs ++ c ∷ []) ys ⊎ ¬ (Good (xs ++ c ∷ []) ys) → LongestGood Good characters (length (xs ++ c ∷ []))
+      go (inl good) = record { first = xs ++ c ∷ []; rest = ys; spell = whole; good = good; longest = λ others after same is few. few }
+      go (inr bad) = record {
+        first = best.first;
+        rest = best.rest;
+        spell = best.spell;
+        good = best.good;
+        longest = λ others after same is few.
+            ⊎_elim
+            (λ (less : length others < length (xs ++ c ∷ [])). best.longest others after same is (omega (arith, less, more)))
+            (λ (all : length (xs ++ c ∷ []) ≤ length others).
+            let cut = same_prefix others (xs ++ c ∷ []) after ys (same ∙ sym whole) (omega (arith, few, all)) in
+            absurd (bad (subst (Good (xs ++ c ∷ [])) cut.1 (subst (λ t. Good t after) cut.0 is)))) (cases_lt (length others) (length (xs ++ c ∷ [])));
+      }
+
+  all_more : (ys xs : List ℕ) → xs ++ ys ≡ characters → LongestGood Good characters (length xs) → LongestGood Good characters (length characters)
+  all_more [] xs spell best = subst (λ t. LongestGood Good characters (length t)) (sym (append-nil xs) ∙ spell) best
+  all_more (c ∷ ys) xs spell best = all_more ys (xs ++ c ∷ []) (append_assoc xs (c ∷ []) ys ∙ spell) (one_more xs c ys spell best)
+
+  pub longest_good : Good [] characters → LongestGood Good characters (length characters)
+  longest_good none = all_more characters [] refl (record { first = []; rest = characters; spell = refl; good = none; longest = λ others after same is few. few })
+
+-- whether a text is read
+abbrev IsRead : List ℕ → Type 0
+IsRead xs = (pieces : List Piece) × IsBalancedReading pieces xs
+
+same_state : (xs : List ℕ) (s t : FieldScanned) → field_steps_from (Some field_text_start) xs ≡ Some s → field_steps_from (Some field_text_start) xs ≡ Some t → s ≡ t
+same_state xs s t one two = cc
+
+no_levels : (outer : List Level) → (outer ≡ []) ⊎ ¬ (outer ≡ [])
+no_levels [] = inl refl
+no_levels (l ∷ ls) = inr (λ h. cc)
+
+no_openers : (openers : List ℕ) → (openers ≡ []) ⊎ ¬ (openers ≡ [])
+no_openers [] = inl refl
+no_openers (o ∷ os) = inr (λ h. cc)
+
+final_or_not : (s : FieldScanned) → IsFieldFinal s ⊎ ¬ (IsFieldFinal s)
+final_or_not s = go (no_levels s.outer) (no_openers s.openers) (cases_Bool (may_end s.mode))
+  where
+    go : (s.outer ≡ []) ⊎ ¬ (s.outer ≡ []) → (s.openers ≡ []) ⊎ ¬ (s.openers ≡ []) → (may_end s.mode ≡ true) ⊎ (may_end s.mode ≡ false) → IsFieldFinal s ⊎ ¬ (IsFieldFinal s)
+    go (inl one) (inl two) (inl may) = inl (record { outside = one; closed_all = two; ends = may })
+    go (inr one) two may = inr (λ final. one final.outside)
+    go (inl one) (inr two) may = inr (λ final. two final.closed_all)
+    go (inl one) (inl two) (inr may) = inr (λ final. both_ways _ may final.ends)
+
+pub read_or_not : (xs : List ℕ) → IsRead xs ⊎ ¬ (IsRead xs)
+read_or_not xs = go (field_steps_from (Some field_text_start) xs) refl
+  where
+    start : Option FieldScanned
+    start = Some field_text_start
+
+    at : (s : FieldScanned) → field_steps_from start xs ≡ Some s → (have_room start xs ≡ true) ⊎ (have_room start xs ≡ false) → IsFieldFinal s ⊎ ¬ (IsFieldFinal s) → IsRead xs ⊎ ¬ (IsRead xs)
+    at s steps (inl room) (inl final) = inl (field_pieces s, final_is_reading xs s steps room final)
+    at s steps (inr full) final = inr (λ is. both_ways _ full (reading_reached is.0 xs is.1).room)
+    at s steps (inl room) (inr open_yet) = inr (λ is.
+        let whole = reading_reached is.0 xs is.1 in
+        open_yet (subst IsFieldFinal (same_state xs whole.to s whole.steps steps) whole.final))
+
+    go : (o : Option FieldScanned) → field_steps_from start xs ≡ o → IsRead xs ⊎ ¬ (IsRead xs)
+    go None none = inr (λ is.
+        let whole = reading_reached is.0 xs is.1 in
+        let stuck : None ≡ Some whole.to = sym none ∙ whole.steps in
+        absurd (cc))
+    go (Some s) steps = at s steps (cases_Bool (have_room start xs)) (final_or_not s)
+
+-- whether pieces end a line
+last_of : (p : Piece) (ps : List Piece) → (body : List Piece) × (last : Piece) × (p ∷ ps ≡ body ++ last ∷ [])
+last_of p [] = ([], p, refl)
+last_of p (q ∷ ps) =
+    let others = last_of q ps in
+    (p ∷ others.0, others.1, ap (λ l. p ∷ l) others.2)
+
+line_end_class : (class : Class) → (class ≡ line_end) ⊎ ¬ (class ≡ line_end)
+line_end_class line_end = inl refl
+line_end_class other = inr (λ h. cc)
+
+pub ends_line_or_not : (pieces : List Piece) → EndsLine pieces ⊎ ¬ (EndsLine pieces)
+ends_line_or_not [] = inl (inl refl)
+ends_line_or_not (p ∷ ps) = go (last_of p ps)
+  where
+    go : (body : List Piece) × (last : Piece) × (p ∷ ps ≡ body ++ last ∷ []) → EndsLine (p ∷ ps) ⊎ ¬ (EndsLine (p ∷ ps))
+    go (body, last, is) = by (line_end_class last.class) (cases_Bool (depth_through 0 body == 0))
+      where
+        by : (last.class ≡ line_end) ⊎ ¬ (last.class ≡ line_end) → (depth_through 0 body == 0 ≡ true) ⊎ (depth_through 0 body == 0 ≡ false) → EndsLine (p ∷ ps) ⊎ ¬ (EndsLine (p ∷ ps))
+        by (inl class) (inl level) = inl (inr (body, last, is, class, eqb-true (depth_through 0 body) 0 level))
+        by (inr other) level = inr (other_class other)
+          where
+            other_class : ¬ (last.class ≡ line_end) → EndsLine (p ∷ ps) → ⊥
+            other_class apart (inl none) = absurd (cc)
+            other_class apart (inr (front, end, so, class, deep)) =
+                let same = same_from_push body front last end (sym is ∙ so) in
+                apart (ap (λ (x : Piece). x.class) same.1 ∙ class)
+        by (inl class) (inr deep) = inr deeper
+          where
+            deeper : EndsLine (p ∷ ps) → ⊥
+            deeper (inl none) = absurd (cc)
+            deeper (inr (front, end, so, also, level)) =
+                let same = same_from_push body front last end (sym is ∙ so) in
+                both_ways _ deep (eq-eqb (depth_through 0 body) 0 (ap (depth_through 0) same.0 ∙ level))
+
+pub ends_for_good_or_not : (pieces : List Piece) (rest : List ℕ) → EndsForGood pieces rest ⊎ ¬ (EndsForGood pieces rest)
+ends_for_good_or_not pieces rest = go rest (ends_line_or_not pieces) (cases_Bool (ends is_return (spelled pieces)))
+  where
+    go : (r : List ℕ) → EndsLine pieces ⊎ ¬ (EndsLine pieces) → (ends is_return (spelled pieces) ≡ true) ⊎ (ends is_return (spelled pieces) ≡ false) → EndsForGood pieces r ⊎ ¬ (EndsForGood pieces r)
+    go r (inr other) cr = inr (λ is. other is.0)
+    go r (inl is) (inr other) = inl (is, λ none. other)
+    go [] (inl is) (inl returns) = inr (λ good. both_ways _ (good.1 refl) returns)
+    go (c ∷ cs) (inl is) (inl returns) = inl (is, λ none. absurd (cc))
+
+-- the longest prefix that is read and ends so
+good_or_not : (EndSo : List Piece → List ℕ → Type 0) → ((pieces : List Piece) (rest : List ℕ) → EndSo pieces rest ⊎ ¬ (EndSo pieces rest)) → (xs ys : List ℕ) → ((pieces : List Piece) × IsBalancedReading pieces xs × EndSo pieces ys) ⊎ ¬ ((pieces : List Piece) × IsBalancedReading pieces xs × EndSo pieces ys)
+good_or_not EndSo decide xs ys = go (read_or_not xs)
+  where
+    go : IsRead xs ⊎ ¬ (IsRead xs) → ((pieces : List Piece) × IsBalancedReading pieces xs × EndSo pieces ys) ⊎ ¬ ((pieces : List Piece) × IsBalancedReading pieces xs × EndSo pieces ys)
+    go (inr unread) = inr (λ is. unread (is.0, is.1))
+    go (inl (pieces, reading)) =
+        ⊎_elim (λ (ended : EndSo pieces ys). inl (pieces, reading, ended))
+        (λ (other : ¬ (EndSo pieces ys)). inr (λ is. other (subst (λ (l : List Piece). EndSo l ys) (one_fielded_reading is.0 pieces xs is.1.reads reading.reads) is.2))) (decide pieces ys)
+
+longest_exists : (EndSo : List Piece → List ℕ → Type 0) → ((pieces : List Piece) (rest : List ℕ) → EndSo pieces rest ⊎ ¬ (EndSo pieces rest)) → (characters : List ℕ) → EndSo [] characters → (pieces : List Piece) × IsLongest EndSo pieces characters
+longest_exists EndSo decide characters none =
+    let found = longest_good _ (good_or_not EndSo decide) characters ([], nothing_read, none) in
+    let pieces = found.good.0 in
+    let reading = found.good.1 in
+    let same : spelled pieces ≡ found.first = reading.reads.spell in (
+      pieces,
+      record {
+        rest = found.rest;
+        spell = ap (λ t. t ++ found.rest) same ∙ found.spell;
+        reading = subst (IsBalancedReading pieces) (sym same) reading;
+        ended = found.good.2;
+        longest = λ others after spell read ended.
+            subst (λ t. length (spelled others) ≤ length t) (sym same)
+            (found.longest (spelled others) after spell (others, read, ended) (omega (arith, ap length (sym spell) ∙ length-append (spelled others) after)));
+      },
+    )
+  where
+    nothing_read : IsBalancedReading [] []
+    nothing_read = record { reads = record { spell = refl; fit = tt }; balanced = balance.none [] refl; shallow = tt }
+
+pub read_prefix_exists : (characters : List ℕ) → (pieces : List Piece) × IsReadPrefix pieces characters
+read_prefix_exists characters = longest_exists _ (λ pieces rest. ends_line_or_not pieces) characters (inl refl)
+
+pub settled_prefix_exists : (characters tail : List ℕ) → (pieces : List Piece) × IsSettledPrefix pieces characters tail
+settled_prefix_exists characters tail = longest_exists _ (λ pieces rest. ends_for_good_or_not pieces (rest ++ tail)) characters (inl refl, λ none. refl)
+
+-- and it is one
+pub one_longest : (EndSo : List Piece → List ℕ → Type 0) (pieces others : List Piece) (characters : List ℕ) → IsLongest EndSo pieces characters → IsLongest EndSo others characters → pieces ≡ others
+one_longest EndSo pieces others characters one two =
+    let shorter = one.longest others two.rest two.spell two.reading two.ended in
+    let longer = two.longest pieces one.rest one.spell one.reading one.ended in
+    let cut = same_prefix (spelled pieces) (spelled others) one.rest two.rest (one.spell ∙ sym two.spell) (omega (arith, shorter, longer)) in
+    one_fielded_reading pieces others (spelled others) (subst (λ t. IsBalancedReading pieces t) cut.0 one.reading).reads two.reading.reads

@@ -1,0 +1,179 @@
+-- A string with fields holds something, after one quote or two: its scan begins.
+use Rattle.std.proofs.Common.{◌≡◌, ℕ, ◌+◌, ◌==◌, true, false, ◌&&◌, Result, Ok, Err, Some, List, [], ◌∷◌, ◌++◌, refl, sym, ap, ◌∙◌, subst, ⊎_elim}
+use Rattle.std.specs.Prelude.{if◌then◌else◌}
+use Rattle.std.specs.Str.{byte}
+use Rattle.std.specs.declared.alloc.AllocError.{AllocError}
+use Rattle.std.proofs.lemmas.Bool.{cond_both}
+use Rattle.py_lines.specs.Character.{is_mark, is_space, is_word_character, is_quote, is_line_feed, is_return, is_break, is_backslash}
+use Rattle.py_lines.specs.Piece.{Piece, spelled}
+use Rattle.py_lines.specs.LogicalLine.{byte_len}
+use Rattle.py_lines.specs.FieldStrings.{Host, literal}
+use Rattle.py_lines.specs.declared.host.Host as known
+use Rattle.py_lines.specs.declared.mode.Spelling.{Spelling}
+use Rattle.py_lines.specs.declared.mode.Mode.{Mode}
+use Rattle.py_lines.specs.declared.mode.Mode.TheVariants as modes
+use Rattle.py_lines.specs.declared.mode.Move.{Move}
+use Rattle.py_lines.specs.declared.mode.Move.TheVariants as moves
+use Rattle.py_lines.specs.declared.field_scan.FieldScan.{FieldScan}
+use Rattle.py_lines.specs.declared.scan.Progress.{Progress}
+use Rattle.py_lines.specs.declared.scan.Progress.TheVariants as progress
+use Rattle.py_lines.specs.declared.scan.Scan.{Scan}
+use Rattle.py_lines.specs.Private.Machine.{Scanned, moved, move_of, short_move, long_move}
+use Rattle.py_lines.specs.Private.FieldMachine.{between, FieldMode, opened, empty, body, FieldMove, grows, closes, breaks, begins_code, opens_field, ends_field, refused, FieldScanned, field_state, field_move, field_moved, field_step, body_move, between_move, long_host}
+use Rattle.py_lines.specs.Private.FieldScan.{FollowsBody}
+use Rattle.py_lines.specs.Private.ScanMachine.{begins_string, host_in, is_field_spelling, meet_of, opened_move, quote_move, IsScanSound, fielded_move}
+use Rattle.py_lines.specs.Private.Scan.{Tallies, IsStacked, EndsNoLine, StandsInString, GoesOnInString, TakesInString, Takes, in_mode, with_character, with_field_scan, depth_of}
+use Rattle.py_lines.proofs.LogicalLines.Cuts.{byte_len-append}
+use Rattle.py_lines.proofs.Machine.PieceSteps.{scanned}
+use Rattle.py_lines.proofs.LineScan.NextCharacter.{counts_read}
+use Rattle.py_lines.proofs.LineScan.PieceEnd.{tallies_of}
+use Rattle.py_lines.proofs.LineScan.StringSteps.{string_grows, string_more}
+
+-- after another piece no string with fields holds something at once
+abbrev Elsewhere : Move → Type 0
+Elsewhere v = v ≡ moves.Grows modes.Fielded → ⊥
+
+short_elsewhere : (q c : ℕ) → Elsewhere (short_move q c)
+unfolding short_move
+short_elsewhere q c = cond_both (is_backslash c) _ _ Elsewhere (λ _ e. cc) (λ _. cond_both (is_break c) _ _ Elsewhere (λ _ e. cc) (λ _ e. cc))
+
+long_elsewhere : (q c : ℕ) → Elsewhere (long_move q c)
+unfolding long_move
+long_elsewhere q c = cond_both (is_backslash c) _ _ Elsewhere (λ _ e. cc) (λ _ e. cc)
+
+quote_elsewhere : (s : Spelling) (c : ℕ) → Elsewhere (quote_move s c)
+unfolding quote_move
+quote_elsewhere s c = cond_both (is_field_spelling s) _ _ Elsewhere (λ _ e. cc) (λ _. cond_both (begins_string s) _ _ Elsewhere (λ _ e. cc) (λ _ e. cc))
+
+pub enters_after : (m : Mode) (c : ℕ) → ((h : known.Host) → m ≡ modes.FieldOpened h → ⊥) → ((h : known.Host) → m ≡ modes.FieldEmpty h → ⊥) → meet_of m c ≡ moves.Grows modes.Fielded → ⊥
+unfolding meet_of move_of
+enters_after modes.Start c one two = cond_both (is_mark c) _ _ Elsewhere (λ _ e. cc) (λ _ e. cc)
+enters_after modes.Free c one two = λ e. cc
+enters_after modes.Space c one two = cond_both (is_space c) _ _ Elsewhere (λ _ e. cc) (λ _ e. cc)
+enters_after (modes.Word s) c one two = cond_both (is_word_character c) _ _ Elsewhere (λ _ e. cc) (λ _. cond_both (is_quote c) _ _ Elsewhere (λ _. quote_elsewhere s c) (λ _ e. cc))
+enters_after modes.Comment c one two = cond_both (is_break c) _ _ Elsewhere (λ _ e. cc) (λ _ e. cc)
+enters_after (modes.Opened q) c one two = cond_both (c == q) _ _ Elsewhere (λ _ e. cc) (λ _. short_elsewhere q c)
+enters_after (modes.Inside q) c one two = cond_both (c == q) _ _ Elsewhere (λ _ e. cc) (λ _. short_elsewhere q c)
+enters_after (modes.Escape q) c one two = cond_both (is_return c) _ _ Elsewhere (λ _ e. cc) (λ _ e. cc)
+enters_after (modes.EscapeReturn q) c one two = cond_both (is_line_feed c) _ _ Elsewhere (λ _ e. cc) (λ _. cond_both (c == q) _ _ Elsewhere (λ _ e. cc) (λ _. short_elsewhere q c))
+enters_after (modes.Empty q) c one two = cond_both (c == q) _ _ Elsewhere (λ _ e. cc) (λ _ e. cc)
+enters_after (modes.Long q) c one two = cond_both (c == q) _ _ Elsewhere (λ _ e. cc) (λ _. long_elsewhere q c)
+enters_after (modes.LongOne q) c one two = cond_both (c == q) _ _ Elsewhere (λ _ e. cc) (λ _. long_elsewhere q c)
+enters_after (modes.LongTwo q) c one two = cond_both (c == q) _ _ Elsewhere (λ _ e. cc) (λ _. long_elsewhere q c)
+enters_after (modes.LongEscape q) c one two = λ e. cc
+enters_after (modes.FieldOpened h) c one two = absurd (one h refl)
+enters_after (modes.FieldEmpty h) c one two = absurd (two h refl)
+enters_after modes.Fielded c one two = λ e. cc
+enters_after modes.Backslash c one two = cond_both (is_line_feed c) _ _ Elsewhere (λ _ e. cc) (λ _. cond_both (is_return c) _ _ Elsewhere (λ _ e. cc) (λ _ e. cc))
+enters_after modes.JoinReturn c one two = cond_both (is_line_feed c) _ _ Elsewhere (λ _ e. cc) (λ _ e. cc)
+enters_after modes.Return c one two = cond_both (is_line_feed c) _ _ Elsewhere (λ _ e. cc) (λ _ e. cc)
+
+-- after one quote: what comes is neither the quote nor a line end
+first_of_body : (h : known.Host) (c : ℕ) → meet_of (modes.FieldOpened h) c ≡ moves.Grows modes.Fielded → (c == h.quote ≡ false) × (is_break c ≡ false)
+unfolding meet_of opened_move
+first_of_body h c move =
+    let P : Move → Type 0 = λ v. v ≡ moves.Grows modes.Fielded → (c == h.quote ≡ false) × (is_break c ≡ false) in
+    cond_both (c == h.quote) _ _ P (λ _ e. absurd (cc)) (λ one. cond_both (is_break c) _ _ P (λ _ e. absurd (cc)) (λ two e. (one, two))) move
+
+abbrev Grown : FieldMove → Type 0
+Grown v = (m : FieldMode) × (v ≡ grows m)
+
+body_grows : (host : Host) (c : ℕ) → c == host.quote ≡ false → is_break c ≡ false → Grown (body_move host literal false between c)
+unfolding body_move between_move
+body_grows host c other none =
+    let next : FieldMode → FieldMove = grows in
+    rw (other, none)
+    (cond_both (is_backslash c) _ _ Grown (λ _. (_, refl))
+    (λ _. cond_both ((c == byte "{") && true) _ _ Grown (λ _. (_, refl))
+    (λ _. cond_both (c == byte "}") _ _ Grown (λ _. (_, refl)) (λ _. (_, refl)))))
+
+-- the machine with fields goes on as from the body of the string
+as_body : (host : Host) (held : List ℕ) (c : ℕ) (v : FieldMove) → field_moved (field_state [] [] [] (opened host) held) c v ≡ field_moved (field_state [] [] [] (body host literal false between) held) c v
+as_body host held c (grows m) = refl
+as_body host held c closes = refl
+as_body host held c breaks = refl
+as_body host held c (begins_code h) = refl
+as_body host held c (opens_field h) = refl
+as_body host held c ends_field = refl
+as_body host held c refused = refl
+
+opened_as_body : (host : Host) (held : List ℕ) (c : ℕ) → c == host.quote ≡ false → field_step (field_state [] [] [] (opened host) held) c ≡ field_step (field_state [] [] [] (body host literal false between) held) c
+unfolding field_move
+opened_as_body host held c other =
+    ap (λ b. field_moved (field_state [] [] [] (opened host) held) c (if b then grows (empty host) else body_move host literal false between c)) other
+    ∙ as_body host held c (body_move host literal false between c)
+
+module _ (old new : Scan) (f : FieldScan) (done : List Piece) (held read : List ℕ) (c : ℕ) (none : EndsNoLine 0 done) where
+  module _ (h : known.Host) (sound : IsScanSound (scanned done (modes.FieldOpened h) held) read) (tallies : Tallies old (scanned done (modes.FieldOpened h) held)) (stacked : IsStacked old (scanned done (modes.FieldOpened h) held)) (move : meet_of (modes.FieldOpened h) c ≡ moves.Grows modes.Fielded) (follows : FollowsBody f h old.piece.start) where
+    stands : StandsInString (with_field_scan old f) (field_state [] [] [] (body (host_in h) literal false between) held)
+    stands = record {
+      follows = follows held;
+      inside = λ at. (host_in h, literal, false, between, refl);
+      stop = tallies.stop ∙ byte_len-append (spelled done) held ∙ ap (λ n. n + byte_len held) (sym tallies.start);
+    }
+
+    goes_so : fielded_move (depth_of old.brackets) (Some (field_state [] [] [] (body (host_in h) literal false between) held)) c ≡ moves.Grows modes.Fielded
+    unfolding field_move
+    goes_so =
+        let parts = first_of_body h c move in
+        let grown = body_grows (host_in h) c parts.0 parts.1 in
+        string_grows (depth_of old.brackets) (field_state [] [] [] (body (host_in h) literal false between) held) grown.0 c grown.1
+
+    opened_goes : GoesOnInString (with_field_scan old f) (field_state [] [] [] (body (host_in h) literal false between) held) c new → Takes old (scanned done (modes.FieldOpened h) held) c (Ok progress.Going) new
+    opened_goes goes =
+        let s : Scanned = scanned done (modes.FieldOpened h) held in
+        subst (Takes old s c (Ok progress.Going)) (sym goes.same) (
+          record {
+            next = scanned done modes.Fielded (held ++ c ∷ []);
+            goes = ap (moved s c) move;
+            tallies = tallies_of (counts_read old new.fields s c modes.Fielded tallies) (goes.next, string_more held c _ sound.holds ∙ opened_as_body (host_in h) held c (first_of_body h c move).0 ∙ goes.goes, goes.follows);
+            stacked = stacked;
+            one_line = none;
+          },
+          refl,
+        )
+
+    pub takes_first : (r : Result Progress AllocError) → ((t : FieldScanned) → StandsInString (with_field_scan old f) t → TakesInString (with_field_scan old f) t c r new) → Takes old (scanned done (modes.FieldOpened h) held) c r new
+    takes_first (Ok progress.Going) takes =
+        ⊎_elim opened_goes (λ shut. absurd (let clash = sym goes_so ∙ shut.move in cc)) (takes (field_state [] [] [] (body (host_in h) literal false between) held) stands)
+    takes_first (Ok (progress.LineEnded len)) takes = absurd (takes (field_state [] [] [] (body (host_in h) literal false between) held) stands)
+    takes_first (Ok progress.Refused) takes =
+        let stuck = takes (field_state [] [] [] (body (host_in h) literal false between) held) stands in
+        absurd (let clash = sym goes_so ∙ stuck.0 in cc)
+    takes_first (Err e) takes = tt
+
+  -- after two quotes
+  module _ (h : known.Host) (sound : IsScanSound (scanned done (modes.FieldEmpty h) held) read) (tallies : Tallies old (scanned done (modes.FieldEmpty h) held)) (stacked : IsStacked old (scanned done (modes.FieldEmpty h) held)) (move : meet_of (modes.FieldEmpty h) c ≡ moves.Grows modes.Fielded) (follows : FollowsBody f (record { quote = h.quote; is_long = true; is_raw = h.is_raw }) old.piece.start) where
+    third_quote : field_step (field_state [] [] [] (empty (host_in h)) held) c ≡ Some (field_state [] [] [] (body (long_host (host_in h)) literal false between) (held ++ c ∷ []))
+    unfolding field_move meet_of
+    third_quote =
+        let P : Move → Type 0 = λ v. v ≡ moves.Grows modes.Fielded → c == h.quote ≡ true in
+        let third : c == h.quote ≡ true = cond_both (c == h.quote) (moves.Grows modes.Fielded) moves.Breaks P (λ is e. is) (λ _ e. absurd (cc)) move in
+        ap (λ b. field_moved (field_state [] [] [] (empty (host_in h)) held) c (if b then grows (body (long_host (host_in h)) literal false between) else breaks)) third
+
+    pub takes_third : new ≡ in_mode (with_character (with_field_scan old f) c) modes.Fielded → Takes old (scanned done (modes.FieldEmpty h) held) c (Ok progress.Going) new
+    takes_third is =
+        let s : Scanned = scanned done (modes.FieldEmpty h) held in
+        subst (Takes old s c (Ok progress.Going)) (sym is) (
+          record {
+            next = scanned done modes.Fielded (held ++ c ∷ []);
+            goes = ap (moved s c) move;
+            tallies = tallies_of (counts_read old f s c modes.Fielded tallies) (_, string_more held c _ sound.holds ∙ third_quote, follows (held ++ c ∷ []));
+            stacked = stacked;
+            one_line = none;
+          },
+          refl,
+        )
+
+-- so wherever the machine stands
+pub takes_opened : (old new : Scan) (f : FieldScan) (done : List Piece) (m : Mode) (held read : List ℕ) (c : ℕ) (h : known.Host) (r : Result Progress AllocError) → m ≡ modes.FieldOpened h → meet_of m c ≡ moves.Grows modes.Fielded → FollowsBody f h old.piece.start → ((t : FieldScanned) → StandsInString (with_field_scan old f) t → TakesInString (with_field_scan old f) t c r new) → IsScanSound (scanned done m held) read → EndsNoLine 0 done → Tallies old (scanned done m held) → IsStacked old (scanned done m held) → Takes old (scanned done m held) c r new
+takes_opened old new f done (modes.FieldOpened k) held read c h r is move follows takes sound none tallies stacked =
+    let same : h ≡ k = cc in
+    takes_first old new f done held read c none k sound tallies stacked move (subst (λ (x : known.Host). FollowsBody f x old.piece.start) same follows) r takes
+takes_opened old new f done m held read c h r is move follows takes sound none tallies stacked = absurd (cc)
+
+pub takes_emptied : (old new : Scan) (f : FieldScan) (done : List Piece) (m : Mode) (held read : List ℕ) (c : ℕ) (h : known.Host) → m ≡ modes.FieldEmpty h → meet_of m c ≡ moves.Grows modes.Fielded → FollowsBody f (record { quote = h.quote; is_long = true; is_raw = h.is_raw }) old.piece.start → new ≡ in_mode (with_character (with_field_scan old f) c) modes.Fielded → IsScanSound (scanned done m held) read → EndsNoLine 0 done → Tallies old (scanned done m held) → IsStacked old (scanned done m held) → Takes old (scanned done m held) c (Ok progress.Going) new
+takes_emptied old new f done (modes.FieldEmpty k) held read c h is move follows grown sound none tallies stacked =
+    let same : h ≡ k = cc in
+    takes_third old new f done held read c none k sound tallies stacked move (subst (λ (x : known.Host). FollowsBody f (record { quote = x.quote; is_long = true; is_raw = x.is_raw }) old.piece.start) same follows) grown
+takes_emptied old new f done m held read c h is move follows grown sound none tallies stacked = absurd (cc)

@@ -1,0 +1,150 @@
+-- A string with fields in the scan of a line: what is read of it is told by the machine with fields.
+use Rattle.std.proofs.Common.{◌≡◌, ℕ, zero, suc, ◌+◌, Option, None, Some, Ok, List, [], ◌∷◌, ◌++◌, refl, sym, ap, ◌∙◌, subst}
+use Rattle.py_lines.specs.Piece.{Piece, spelled}
+use Rattle.py_lines.specs.LogicalLine.{byte_len}
+use Rattle.py_lines.specs.declared.mode.Mode.{Mode}
+use Rattle.py_lines.specs.declared.mode.Mode.TheVariants as modes
+use Rattle.std.specs.Prelude.{if◌then◌else◌}
+use Rattle.py_lines.specs.declared.mode.Move.{Move}
+use Rattle.py_lines.specs.declared.mode.Move.TheVariants as moves
+use Rattle.py_lines.specs.declared.field_scan.FieldScan.{FieldScan}
+use Rattle.py_lines.specs.declared.field_scan.FieldProgress.{FieldProgress}
+use Rattle.py_lines.specs.declared.field_scan.FieldProgress.TheVariants as progress
+use Rattle.py_lines.specs.declared.scan.Flaw.{Flaw}
+use Rattle.py_lines.specs.declared.scan.Scan.{Scan}
+use Rattle.py_lines.specs.declared.mode.Start.TheVariants as starts
+use Rattle.py_lines.specs.Private.Machine.{start_of, character_kind}
+use Rattle.py_lines.specs.Private.FieldScan.{Follows, ComesTo, PushesField, RefusesField, EndsField}
+use Rattle.py_lines.specs.Private.FieldMachine.{FieldMode, Level, FieldScanned, grows, field_state, field_move, field_moved, frames, has_room_at, field_text_start, field_step, field_steps_from}
+use Rattle.py_lines.specs.Private.FieldFlaws.{here}
+use Rattle.py_lines.specs.Private.ScanMachine.{string_state, string_move, fielded_move, move_at, IsInString, IsScanSound}
+use Rattle.py_lines.specs.Private.LineState.{first_mode}
+use Rattle.py_lines.specs.Private.Scan.{refused_place, IsRefusal, IsRefusalIn, IsUnfinished, IsUnfinishedIn, IsPlainUnfinished, FieldsFollow, StandsInString, GoesOnInString, ClosesString, Closes, in_mode, with_character, with_field_scan, Tallies, IsStacked, stack_of, depth_of}
+use Rattle.py_lines.proofs.FieldSoundness.HostSteps.{sound_at}
+use Rattle.py_lines.proofs.FieldSoundness.WholeTexts.{no_limit, any_rooms}
+use Rattle.py_lines.proofs.LogicalLines.Cuts.{byte_len-append}
+use Rattle.py_lines.proofs.Machine.PieceSteps.{scanned}
+use Rattle.py_lines.proofs.Machine.Starts.{StartsSo, starts_so}
+use Rattle.py_lines.proofs.Pieces.OpenBrackets.{stands}
+
+-- no string with fields is open
+pub no_fields : (scan : Scan) (m : Mode) (held : List ℕ) → (m ≡ modes.Fielded → ⊥) → FieldsFollow scan m held
+no_fields scan modes.Fielded held other = absurd (other refl)
+no_fields scan m held other = tt
+
+pub fields_same : (a b : Scan) (m : Mode) (held : List ℕ) → a.fields ≡ b.fields → a.piece.start ≡ b.piece.start → FieldsFollow a m held → FieldsFollow b m held
+fields_same a b modes.Fielded held same at (t, steps, follows) = (t, steps, subst (λ n. Follows b.fields n t) at (subst (λ f. Follows f a.piece.start t) same follows))
+fields_same a b m held same at fields = tt
+
+-- no character opens one where no piece is open
+pub opens_plain : (c : ℕ) (m : Mode) → start_of c ≡ starts.Open m → m ≡ modes.Fielded → ⊥
+opens_plain c m opens is =
+    let begins : start_of c ≡ starts.Open modes.Fielded = opens ∙ ap (λ n. starts.Open n) is in
+    subst (StartsSo c) begins (starts_so c)
+
+-- the state of a string after more of its text
+pub steps_more : (o : Option FieldScanned) (a b : List ℕ) → field_steps_from o (a ++ b) ≡ field_steps_from (field_steps_from o a) b
+steps_more None a b = refl
+steps_more (Some t) [] b = refl
+steps_more (Some t) (c ∷ a) b = steps_more (field_step t c) a b
+
+one_step : (o : Option FieldScanned) → field_steps_from o [] ≡ o
+one_step None = refl
+one_step (Some t) = refl
+
+pub string_more : (held : List ℕ) (c : ℕ) (t : FieldScanned) → string_state held ≡ Some t → string_state (held ++ c ∷ []) ≡ field_step t c
+string_more held c t is = steps_more (Some field_text_start) held (c ∷ []) ∙ ap (λ o. field_steps_from o (c ∷ [])) is ∙ one_step (field_step t c)
+
+-- how far it goes
+pub here_at : (held : List ℕ) (t : FieldScanned) → string_state held ≡ Some t → here t ≡ byte_len held
+here_at held t is = ap byte_len (sound_at no_limit held t (any_rooms (Some field_text_start) held) is).spell
+
+-- the string that is open
+pub record InString (scan : Scan) (held : List ℕ) : Type 0 where
+  pub state : FieldScanned
+  pub steps : string_state held ≡ Some state
+  pub stands : StandsInString scan state
+
+pub in_string : (scan : Scan) (done : List Piece) (held read : List ℕ) → IsScanSound (scanned done modes.Fielded held) read → Tallies scan (scanned done modes.Fielded held) → InString scan held
+in_string scan done held read sound tallies =
+    let t = tallies.fields.0 in
+    let same : Some sound.holds.state ≡ Some t = sym sound.holds.steps ∙ tallies.fields.1 in
+    let one : sound.holds.state ≡ t = cc in
+    record {
+      state = t;
+      steps = tallies.fields.1;
+      stands = record {
+        follows = tallies.fields.2;
+        inside = subst IsInString one sound.holds.inside;
+        stop = tallies.stop ∙ byte_len-append (spelled done) held ∙ ap (λ n. n + byte_len held) (sym tallies.start) ∙ ap (λ n. scan.piece.start + n) (sym (here_at held t tallies.fields.1));
+      };
+    }
+
+-- a character by which its open piece grows goes on in the string
+grows_on : (outer : List Level) (m : FieldMode) (next : FieldScanned) → string_move outer (grows m) (Some next) ≡ moves.Grows modes.Fielded
+grows_on [] m next = refl
+grows_on (l ∷ ls) m next = refl
+
+pub string_grows : (depth : ℕ) (t : FieldScanned) (m : FieldMode) (c : ℕ) → field_move t.mode t.held c ≡ grows m → fielded_move depth (Some t) c ≡ moves.Grows modes.Fielded
+unfolding has_room_at
+string_grows depth t m c move =
+    ap (λ v. if has_room_at (depth + frames t) c v then string_move t.outer v (field_moved t c v) else moves.Refused) move ∙ grows_on t.outer m (field_state t.outer t.done t.openers m (t.held ++ c ∷ []))
+
+-- what a character does to it, as the scan knows it
+pub string_move_is : (scan : Scan) (done : List Piece) (held : List ℕ) (t : FieldScanned) (c : ℕ) (v : Move) → IsStacked scan (scanned done modes.Fielded held) → string_state held ≡ Some t → fielded_move (depth_of scan.brackets) (Some t) c ≡ v → move_at (scanned done modes.Fielded held) c ≡ v
+string_move_is scan done held t c v stacked is move =
+    ap (λ d. fielded_move d (string_state held) c) (stands done (stack_of scan.brackets) stacked).depth ∙ ap (λ o. fielded_move (depth_of scan.brackets) o c) is ∙ move
+
+-- what its scan says of a character, of the string that is open
+module _ (old : Scan) (f : FieldScan) (c depth : ℕ) (p : FieldProgress) (same : depth ≡ depth_of old.brackets) (pushes : PushesField old.fields c old.stop depth (Ok p) f) (t : FieldScanned) (stands : StandsInString old t) where
+  came_to : (q : FieldProgress) → p ≡ q → ComesTo old.piece.start (depth_of old.brackets) t c old.fields (Ok q) f
+  came_to q is =
+      subst (λ (r : FieldProgress). ComesTo old.piece.start (depth_of old.brackets) t c old.fields (Ok r) f) is
+      (subst (λ d. ComesTo old.piece.start d t c old.fields (Ok p) f) same (pushes old.piece.start t stands.follows stands.inside stands.stop))
+
+  pub goes_on : (new : Scan) → p ≡ progress.Going → new ≡ in_mode (with_character (with_field_scan old f) c) modes.Fielded → GoesOnInString old t c new
+  goes_on new going is =
+      let (next, goes, move, inside, follows) = came_to progress.Going going in
+      let scans : new.fields ≡ f = ap (λ (s : Scan). s.fields) is in
+      record {
+        next = next;
+        goes = goes;
+        move = move;
+        inside = inside;
+        follows = subst (λ (g : FieldScan). Follows g old.piece.start next) (sym scans) follows;
+        same = is ∙ ap (λ (g : FieldScan). in_mode (with_character (with_field_scan old g) c) modes.Fielded) (sym scans);
+      }
+
+  pub closes_it : (new : Scan) → p ≡ progress.Closed → Closes (with_character (with_field_scan old f) c) new → ClosesString old t c new
+  closes_it new closed closes = record { fields = f; move = came_to progress.Closed closed; closes = closes }
+
+  pub refuses_it : p ≡ progress.Refused → (fielded_move (depth_of old.brackets) (Some t) c ≡ moves.Refused) × (with_field_scan old f ≡ old)
+  refuses_it refused =
+      let (move, is) = came_to progress.Refused refused in
+      (move, ap (with_field_scan old) is)
+
+-- a line begins in none
+pub first_plain : (n : ℕ) → first_mode n ≡ modes.Fielded → ⊥
+first_plain zero is = cc
+first_plain (suc n) is = cc
+
+-- what is wrong in the string that is open, and elsewhere
+pub refusal_in : (scan : Scan) (c depth : ℕ) (flaw : Flaw) → scan.piece.mode ≡ modes.Fielded → depth ≡ depth_of scan.brackets → RefusesField scan.fields c scan.stop depth flaw → IsRefusal scan c flaw
+refusal_in scan c depth flaw here same refuses = subst (λ m. IsRefusalIn m scan c flaw) (sym here) (λ t stands stuck. subst (λ d. RefusesField scan.fields c scan.stop d flaw) same refuses scan.piece.start t stands.follows stands.inside stands.stop stuck)
+
+pub refusal_elsewhere : (scan : Scan) (c : ℕ) (flaw : Flaw) → (scan.piece.mode ≡ modes.Fielded → ⊥) → flaw.kind ≡ character_kind scan.piece.mode c → flaw.place ≡ refused_place scan → IsRefusal scan c flaw
+refusal_elsewhere scan c flaw other kind place = go scan.piece.mode other kind
+  where
+    go : (m : Mode) → (m ≡ modes.Fielded → ⊥) → flaw.kind ≡ character_kind m c → IsRefusalIn m scan c flaw
+    go modes.Fielded other' kind' = absurd (other' refl)
+    go m other' kind' = (kind', place)
+
+pub unfinished_in : (scan : Scan) (depth : ℕ) (flaw : Flaw) → scan.piece.mode ≡ modes.Fielded → depth ≡ depth_of scan.brackets → EndsField scan.fields scan.stop depth flaw → IsUnfinished scan (Some flaw)
+unfinished_in scan depth flaw here same ends = subst (λ m. IsUnfinishedIn m scan (Some flaw)) (sym here) (λ t stands. subst (λ d. EndsField scan.fields scan.stop d flaw) same ends scan.piece.start t stands.follows stands.inside stands.stop)
+
+pub unfinished_elsewhere : (scan : Scan) (flaw : Option Flaw) → (scan.piece.mode ≡ modes.Fielded → ⊥) → IsPlainUnfinished scan flaw → IsUnfinished scan flaw
+unfinished_elsewhere scan flaw other holds = go scan.piece.mode other
+  where
+    go : (m : Mode) → (m ≡ modes.Fielded → ⊥) → IsUnfinishedIn m scan flaw
+    go modes.Fielded other' = absurd (other' refl)
+    go m other' = holds

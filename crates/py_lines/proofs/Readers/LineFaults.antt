@@ -1,0 +1,273 @@
+-- The fault that the scan of a line names is that of the whole text, whatever lines stand before it; and it stands in the line.
+use Rattle.std.proofs.Common.{◌≡◌, ℕ, zero, suc, ◌+◌, ◌<◌, Bool, true, false, ◌||◌, Option, None, Some, List, [], ◌∷◌, ◌++◌, ◌⊎◌, inl, inr, length, refl, sym, ap, ◌∙◌, subst, append_assoc, append-nil, length-append, arith}
+use Rattle.std.specs.Prelude.{if◌then◌else◌}
+use Rattle.std.proofs.lemmas.Bool.{cond_both}
+use Rattle.std.proofs.lemmas.List.{append_cancel_left}
+use Rattle.py_lines.specs.Character.{is_return}
+use Rattle.py_lines.specs.Piece.{line_end, string, Piece, spelled}
+use Rattle.py_lines.specs.PieceGrammar.{feed}
+use Rattle.py_lines.specs.Fields.{AreReadBefore}
+use Rattle.py_lines.specs.Faults.{kind_of_cause, Unfinished, open_brace, open_short, open_long, open_join, open_bracket, open_inside, IsCharacterFault, IsEndFault, at_end}
+use Rattle.py_lines.specs.LogicalLine.{byte_len}
+use Rattle.py_lines.specs.declared.fault.FaultKind.{FaultKind}
+use Rattle.py_lines.specs.declared.mode.Mode.{Mode}
+use Rattle.py_lines.specs.declared.mode.Mode.TheVariants as modes
+use Rattle.py_lines.specs.declared.mode.Move.{Move}
+use Rattle.py_lines.specs.declared.mode.Move.TheVariants as moves
+use Rattle.py_lines.specs.declared.scan.Flaw.{Flaw}
+use Rattle.py_lines.specs.declared.scan.Scan.{Scan}
+use Rattle.py_lines.specs.Private.Machine.{Scanned, moved, in_short, is_after_backslash, is_final, character_kind, end_kind, end_place, top_place, Bracket, brackets_after, brackets_of}
+use Rattle.py_lines.specs.Private.FieldMachine.{FieldMove, closes, Level, FieldScanned, frames}
+use Rattle.py_lines.specs.Private.FieldFlaws.{cause_in, cause_place}
+use Rattle.py_lines.specs.Private.FieldScan.{unfinished_round, IsUnfinishedAt}
+use Rattle.py_lines.specs.Private.ScanMachine.{string_state, string_move, fielded_move, has_room_in, scan_step, StringsFit, IsScanSound}
+use Rattle.py_lines.specs.Private.LineState.{first_mode}
+use Rattle.py_lines.specs.Private.Scan.{IsUnderWay, Tallies, stack_of, depth_of, stack_if, refused_place, IsRefusalIn, IsRefusal, IsOpenFrom, IsPlainUnfinished, IsUnfinishedIn, IsUnfinished}
+use Rattle.py_lines.proofs.Text.Splits.{Either, either}
+use Rattle.py_lines.proofs.Pieces.PieceLists.{piece, spelled-append}
+use Rattle.py_lines.proofs.Machine.PieceSteps.{scanned}
+use Rattle.py_lines.proofs.Machine.LiveTexts.{keeps}
+use Rattle.py_lines.proofs.Machine.EarlierPieces.{after_pieces, shift, shift_if, length-shift, stack-after}
+use Rattle.py_lines.proofs.LogicalLines.Cuts.{byte_len-append}
+use Rattle.py_lines.proofs.Faults.FaultPrefixes.{PrefixTo, explained, field_fault_prefix}
+use Rattle.py_lines.proofs.LineScan.LineSteps.{sound_steps, way_stop}
+use Rattle.py_lines.proofs.LineScan.StringSteps.{InString, in_string, string_move_is}
+use Rattle.py_lines.proofs.LineScan.TextSteps.{begun_sound, Base, way_goes, Joined, joined, refused_at}
+use Rattle.py_lines.proofs.Readers.StateFaults.{refused_plain, refused_fielded, ends_plain, ends_fielded}
+
+-- a place in what was scanned
+pub record Within (read : List ℕ) (offset : ℕ) : Type 0 where
+  pub prefix : List ℕ
+  pub later : List ℕ
+  pub split : prefix ++ later ≡ read
+  pub size : offset ≡ byte_len prefix
+
+pub same_kind : (m n : Mode) (c : ℕ) → in_short m ≡ in_short n → is_after_backslash m ≡ is_after_backslash n → character_kind m c ≡ character_kind n c
+same_kind m n c short slash = rw (short, slash) refl
+
+-- outside strings with fields
+refusal_plain : (m : Mode) (scan : Scan) (c : ℕ) (flaw : Flaw) → (m ≡ modes.Fielded → ⊥) → IsRefusalIn m scan c flaw → (flaw.kind ≡ character_kind m c) × (flaw.place ≡ refused_place scan)
+refusal_plain modes.Fielded scan c flaw other is = absurd (other refl)
+refusal_plain m scan c flaw other is = is
+
+unfinished_plain : (m : Mode) (scan : Scan) (flaw : Flaw) → (m ≡ modes.Fielded → ⊥) → IsUnfinishedIn m scan (Some flaw) → IsPlainUnfinished scan (Some flaw)
+unfinished_plain modes.Fielded scan flaw other is = absurd (other refl)
+unfinished_plain m scan flaw other is = is
+
+-- a text that may end there
+pub finished : (scan : Scan) → IsUnfinished scan None → (is_final scan.piece.mode ≡ true) × (stack_of scan.brackets ≡ [])
+finished scan is = go scan.piece.mode is
+  where
+    go : (m : Mode) → IsUnfinishedIn m scan None → (is_final scan.piece.mode ≡ true) × (stack_of scan.brackets ≡ [])
+    go modes.Fielded h = absurd h
+    go m h = h
+
+place_by : (b : Bool) (k start stop done whole : ℕ) → (b ≡ true → done ≡ k + start) → whole ≡ k + stop → k + (if b then start else stop) ≡ (if b then done else whole)
+place_by true k start stop done whole first second = sym (first refl)
+place_by false k start stop done whole first second = sym second
+
+-- a string that refuses a character
+no_break : (outer : List Level) (move : FieldMove) (next : Option FieldScanned) → string_move outer move next ≡ moves.Breaks → ⊥
+no_break [] closes next is = cc
+no_break outer move None is = cc
+no_break outer move (Some next) is = cc
+
+never_breaks : (depth : ℕ) (u : FieldScanned) (c : ℕ) → fielded_move depth (Some u) c ≡ moves.Breaks → ⊥
+never_breaks depth u c = cond_both (has_room_in depth u c) _ moves.Refused (λ v. v ≡ moves.Breaks → ⊥) (λ h is. no_break u.outer _ _ is) (λ h is. cc)
+
+some_none : {A : Type 0} {a : A} → Some a ≡ None → ⊥
+some_none h = cc
+
+refused_string : (scan : Scan) (done : List Piece) (held : List ℕ) (u : FieldScanned) (c : ℕ) → brackets_of done ≡ Some (stack_of scan.brackets) → string_state held ≡ Some u → stack_if (scan_step (scanned done modes.Fielded held) c) ≡ None → fielded_move (depth_of scan.brackets) (Some u) c ≡ moves.Refused
+refused_string scan done held u c stacked at refuses = go (fielded_move (depth_of scan.brackets) (Some u) c) refl
+  where
+    step_is : (v : Move) → fielded_move (depth_of scan.brackets) (Some u) c ≡ v → stack_if (moved (scanned done modes.Fielded held) c v) ≡ None
+    step_is v is = ap (λ w. stack_if (moved (scanned done modes.Fielded held) c w)) (sym (string_move_is scan done held u c v stacked at is)) ∙ refuses
+
+    go : (v : Move) → fielded_move (depth_of scan.brackets) (Some u) c ≡ v → fielded_move (depth_of scan.brackets) (Some u) c ≡ moves.Refused
+    go (moves.Grows m) is = absurd (some_none (sym stacked ∙ step_is (moves.Grows m) is))
+    go moves.Closes is = absurd (some_none (sym (keeps done (piece string (held ++ c ∷ [])) (stack_of scan.brackets) refl refl stacked) ∙ step_is moves.Closes is))
+    go moves.Breaks is = absurd (never_breaks (depth_of scan.brackets) u c is)
+    go moves.Refused is = is
+
+unfinished_shift : (k start : ℕ) (u : FieldScanned) (what : Unfinished) (place : ℕ) → IsUnfinishedAt start u what place → IsUnfinishedAt (k + start) u what (k + place)
+unfinished_shift k start u open_bracket place (b, others, stack, at) = (b, others, stack, omega (arith, at))
+unfinished_shift k start u open_brace place at = omega (arith, at)
+unfinished_shift k start u open_short place at = omega (arith, at)
+unfinished_shift k start u open_long place at = omega (arith, at)
+unfinished_shift k start u open_join place at = omega (arith, at)
+unfinished_shift k start u open_inside place at = omega (arith, at)
+
+fielded_or : (m : Mode) → (m ≡ modes.Fielded) ⊎ (m ≡ modes.Fielded → ⊥)
+fielded_or modes.Fielded = inl refl
+fielded_or m = inr (λ h. cc)
+
+-- a line under way, after pieces that end a line
+module _ (n : ℕ) (base : List Piece) (level : brackets_of base ≡ Some []) (strings : StringsFit 0 base) (is : Base n base) (scan : Scan) (read : List ℕ) (way : IsUnderWay (first_mode n) scan read) where
+  sound : IsScanSound way.state read
+  sound = sound_steps (first_mode n) read way.state (begun_sound n) way.steps
+
+  string_in : way.state.mode ≡ modes.Fielded → InString scan way.state.held
+  string_in fielded =
+      in_string scan way.state.done way.state.held read (subst (λ m. IsScanSound (scanned way.state.done m way.state.held) read) fielded sound) (subst (λ m. Tallies scan (scanned way.state.done m way.state.held)) fielded way.tallies)
+
+  done_bytes : byte_len (spelled (base ++ way.state.done)) ≡ byte_len (spelled base) + scan.piece.start
+  done_bytes = ap byte_len (spelled-append base way.state.done) ∙ byte_len-append (spelled base) (spelled way.state.done) ∙ ap (λ k. byte_len (spelled base) + k) (sym way.tallies.start)
+
+  stack_is : (t : Scanned) (st : List Bracket) → t ≡ after_pieces base way.state → brackets_of t.done ≡ Some st → length st ≡ depth_of scan.brackets
+  stack_is t st at stack =
+      let both : Some st ≡ Some (shift (byte_len (spelled base)) (stack_of scan.brackets)) = sym stack ∙ ap (λ (x : Scanned). brackets_of x.done) at ∙ stack-after base way.state.done level ∙ ap (shift_if (byte_len (spelled base))) way.stacked in
+      let one : st ≡ shift (byte_len (spelled base)) (stack_of scan.brackets) = cc in
+      ap length one ∙ length-shift (byte_len (spelled base)) (stack_of scan.brackets)
+
+  -- the next character is refused
+  module _ (c : ℕ) (after : List ℕ) (fit : AreReadBefore base (read ++ c ∷ after)) (refuses : stack_if (scan_step way.state c) ≡ None) (flaw : Flaw) (is_flaw : IsRefusal scan c flaw) where
+    abbrev HasFault : Type 0
+    HasFault = IsCharacterFault flaw.kind ((spelled base ++ read) ++ c ∷ after) (byte_len (spelled base) + flaw.place)
+
+    has_fault : (kind : FaultKind) (place : ℕ) → flaw.kind ≡ kind → byte_len (spelled base) + flaw.place ≡ place → IsCharacterFault kind ((spelled base ++ read) ++ c ∷ after) place → HasFault
+    has_fault kind place same at fault = subst (λ k. IsCharacterFault k ((spelled base ++ read) ++ c ∷ after) (byte_len (spelled base) + flaw.place)) (sym same) (subst (λ o. IsCharacterFault kind ((spelled base ++ read) ++ c ∷ after) o) (sym at) fault)
+
+    here : Joined base read way.state (stack_of scan.brackets) (c ∷ after)
+    here = joined n base (c ∷ after) level strings read way.state (stack_of scan.brackets) fit is (way_goes way)
+
+    elsewhere : (j : Joined base read way.state (stack_of scan.brackets) (c ∷ after)) → (way.state.mode ≡ modes.Fielded → ⊥) → HasFault
+    elsewhere j other =
+        let own = refusal_plain scan.piece.mode scan c flaw (λ h. other (sym way.tallies.mode ∙ h)) is_flaw in
+        let stopped = refused_at base read (c ∷ after) after way.state (stack_of scan.brackets) c j level refl refuses in
+        let flags : in_short scan.piece.mode || is_after_backslash scan.piece.mode ≡ in_short way.state.mode || is_after_backslash way.state.mode = ap (λ (m : Mode). in_short m || is_after_backslash m) way.tallies.mode in
+        let state_flags : in_short way.state.mode || is_after_backslash way.state.mode ≡ in_short j.state.mode || is_after_backslash j.state.mode = ap (λ (b : Bool). b || is_after_backslash way.state.mode) (sym j.short) ∙ ap (λ (b : Bool). in_short j.state.mode || b) (sym j.slash) in
+        has_fault _ _ (own.0 ∙ ap (λ m. character_kind m c) way.tallies.mode ∙ same_kind way.state.mode j.state.mode c (sym j.short) (sym j.slash))
+        (ap (λ k. byte_len (spelled base) + k) own.1
+        ∙ ap (λ (b : Bool). byte_len (spelled base) + (if b then scan.piece.start else scan.stop)) flags
+        ∙ place_by (in_short way.state.mode || is_after_backslash way.state.mode) (byte_len (spelled base)) scan.piece.start scan.stop (byte_len (spelled j.state.done)) (byte_len (spelled base ++ read))
+        (λ h. j.start h ∙ ap (λ k. byte_len (spelled base) + k) (sym way.tallies.start))
+        (byte_len-append (spelled base) read ∙ ap (λ k. byte_len (spelled base) + k) (sym (way_stop (first_mode n) scan read way (begun_sound n))))
+        ∙ ap (λ (b : Bool). if b then byte_len (spelled j.state.done) else byte_len (spelled base ++ read)) state_flags)
+        (refused_plain (spelled base ++ read) j.state j.st j.steps c after stopped (j.plain other))
+
+    inside : (j : Joined base read way.state (stack_of scan.brackets) (c ∷ after)) → way.state.mode ≡ modes.Fielded → HasFault
+    inside j fielded =
+        let own = string_in fielded in
+        let u = own.state in
+        let at = j.inside fielded in
+        let stopped = refused_at base read (c ∷ after) after way.state (stack_of scan.brackets) c j level refl refuses in
+        let stuck = refused_string scan way.state.done way.state.held u c way.stacked own.steps (subst (λ m. stack_if (scan_step (scanned way.state.done m way.state.held) c) ≡ None) fielded refuses) in
+        let told = subst (λ m. IsRefusalIn m scan c flaw) (way.tallies.mode ∙ fielded) is_flaw in
+        let named = told u own.stands stuck in
+        let depth : length j.st ≡ depth_of scan.brackets = stack_is j.state j.st at j.steps.stack in
+        let cause_same = ap (λ k. cause_in (k + frames u) u.mode c) (sym depth) in
+        has_fault _ _ (named.0 ∙ ap kind_of_cause cause_same)
+        (omega (arith, named.1, ap (cause_place u) cause_same, ap (λ (x : Scanned). byte_len (spelled x.done)) at, done_bytes))
+        (refused_fielded (spelled base ++ read) j.state j.st j.steps c after stopped (ap (λ (x : Scanned). x.mode) at ∙ fielded) u (ap (λ (x : Scanned). string_state x.held) at ∙ own.steps))
+
+    pub refused_fault : HasFault
+    refused_fault = go (fielded_or way.state.mode)
+      where
+        go : (way.state.mode ≡ modes.Fielded) ⊎ (way.state.mode ≡ modes.Fielded → ⊥) → HasFault
+        go (inl fielded) = inside here fielded
+        go (inr other) = elsewhere here other
+
+  -- the text ends there, where something is open
+  module _ (fit : AreReadBefore base (read ++ [])) (some : 0 < byte_len read) (flaw : Flaw) (is_flaw : IsUnfinished scan (Some flaw)) where
+    abbrev EndsSo : Type 0
+    EndsSo = IsEndFault flaw.kind (spelled base ++ read) [] (byte_len (spelled base) + flaw.place)
+
+    ends_so : (kind : FaultKind) (place : ℕ) → flaw.kind ≡ kind → byte_len (spelled base) + flaw.place ≡ place → IsEndFault kind (spelled base ++ read) [] place → EndsSo
+    ends_so kind place same at fault = subst (λ k. IsEndFault k (spelled base ++ read) [] (byte_len (spelled base) + flaw.place)) (sym same) (subst (λ o. IsEndFault kind (spelled base ++ read) [] o) (sym at) fault)
+
+    ending : Joined base read way.state (stack_of scan.brackets) []
+    ending = joined n base [] level strings read way.state (stack_of scan.brackets) fit is (way_goes way)
+
+    open_from : (j : Joined base read way.state (stack_of scan.brackets) []) → IsOpenFrom scan flaw.place → ((is_final j.state.mode ≡ false) ⊎ ((b : Bracket) × (others : List Bracket) × (j.st ≡ b ∷ others))) × (byte_len (spelled base) + flaw.place ≡ end_place j.state j.st)
+    open_from j (inl (unfinal, at)) =
+        let both = j.same some in
+        let end_is : is_final j.state.mode ≡ false = ap (λ (x : Scanned). is_final x.mode) both.0 ∙ ap is_final (sym way.tallies.mode) ∙ unfinal in
+        (inl end_is, omega (arith, at, done_bytes, ap (λ (x : Scanned). byte_len (spelled x.done)) both.0) ∙ sym (ap (λ (b : Bool). if b then top_place j.st else byte_len (spelled j.state.done)) end_is))
+    open_from j (inr (final, (b, others, top, at))) =
+        let both = j.same some in
+        let k = byte_len (spelled base) in
+        let end_is : is_final j.state.mode ≡ true = ap (λ (x : Scanned). is_final x.mode) both.0 ∙ ap is_final (sym way.tallies.mode) ∙ final in
+        let stack : j.st ≡ shift k (b ∷ others) = both.1 ∙ ap (shift k) top in
+        (inr (record { opener = b.opener; place = k + b.place }, shift k others, stack), ap (λ p. k + p) at ∙ sym (ap (λ (x : Bool). if x then top_place j.st else byte_len (spelled j.state.done)) end_is ∙ ap top_place stack))
+
+    ends_elsewhere : (j : Joined base read way.state (stack_of scan.brackets) []) → (way.state.mode ≡ modes.Fielded → ⊥) → EndsSo
+    ends_elsewhere j other =
+        let own = unfinished_plain scan.piece.mode scan flaw (λ h. other (sym way.tallies.mode ∙ h)) is_flaw in
+        let found = open_from j own.1 in
+        ends_so _ _ (own.0 ∙ ap end_kind way.tallies.mode ∙ sym (ap (λ (x : Scanned). end_kind x.mode) (j.same some).0)) found.1
+        (ends_plain (spelled base ++ read) j.state j.st j.steps (j.plain other) found.0)
+
+    ends_inside : (j : Joined base read way.state (stack_of scan.brackets) []) → way.state.mode ≡ modes.Fielded → EndsSo
+    ends_inside j fielded =
+        let own = string_in fielded in
+        let u = own.state in
+        let at = j.inside fielded in
+        let told = subst (λ m. IsUnfinishedIn m scan (Some flaw)) (way.tallies.mode ∙ fielded) is_flaw in
+        let named = told u own.stands in
+        let depth : length j.st ≡ depth_of scan.brackets = stack_is j.state j.st at j.steps.stack in
+        let start : byte_len (spelled base) + scan.piece.start ≡ byte_len (spelled j.state.done) = sym done_bytes ∙ sym (ap (λ (x : Scanned). byte_len (spelled x.done)) at) in
+        ends_so _ _ named.2 refl
+        (ends_fielded (spelled base ++ read) j.state j.st j.steps (ap (λ (x : Scanned). x.mode) at ∙ fielded) u (ap (λ (x : Scanned). string_state x.held) at ∙ own.steps) named.0
+        (ap (λ k. unfinished_round k u) depth ∙ named.1) (byte_len (spelled base) + flaw.place)
+        (subst (λ k. IsUnfinishedAt k u named.0 (byte_len (spelled base) + flaw.place)) start (unfinished_shift (byte_len (spelled base)) scan.piece.start u named.0 flaw.place named.3)))
+
+    pub unfinished_fault : EndsSo
+    unfinished_fault = go (fielded_or way.state.mode)
+      where
+        go : (way.state.mode ≡ modes.Fielded) ⊎ (way.state.mode ≡ modes.Fielded → ⊥) → EndsSo
+        go (inl fielded) = ends_inside ending fielded
+        go (inr other) = ends_elsewhere ending other
+
+-- a fault at a character stands before it
+before_character : (read : List ℕ) (c : ℕ) (kind : FaultKind) (offset : ℕ) → IsCharacterFault kind (read ++ c ∷ []) offset → PrefixTo read offset
+before_character read c kind offset fault = go (either fault.before (fault.c ∷ fault.dies.after) read (c ∷ []) fault.dies.spell)
+  where
+    p : PrefixTo fault.before offset
+    p = explained fault.cause fault.before [] fault.before fault.c offset (append-nil fault.before) fault.fits
+
+    go : Either fault.before read (c ∷ []) → PrefixTo read offset
+    go (Either.shorter k one) = record { prefix = p.prefix; rest = p.rest ++ k; spell = sym (append_assoc p.prefix p.rest k) ∙ ap (λ t. t ++ k) p.spell ∙ sym one; place = p.place }
+    go (Either.longer d k later one two) =
+        absurd (omega (arith, ap length fault.dies.spell, length-append fault.before (fault.c ∷ fault.dies.after), length-append read (c ∷ []), ap length one, length-append read (d ∷ k)))
+
+-- a place after the lines given is one in the line
+within_line : (first read : List ℕ) (place : ℕ) → PrefixTo (first ++ read) (byte_len first + place) → Within read place
+within_line first read place p = go (either p.prefix p.rest first read p.spell)
+  where
+    go : Either p.prefix first read → Within read place
+    go (Either.shorter k one) = record { prefix = []; later = read; split = refl; size = omega (arith, p.place, ap byte_len one, byte_len-append p.prefix k) }
+    go (Either.longer d k later one two) = record {
+      prefix = d ∷ k;
+      later = p.rest;
+      split = append_cancel_left first ((d ∷ k) ++ p.rest) read (sym (append_assoc first (d ∷ k) p.rest) ∙ ap (λ t. t ++ p.rest) (sym one) ∙ p.spell);
+      size = omega (arith, p.place, ap byte_len one, byte_len-append first (d ∷ k));
+    }
+
+-- some lines that may stand before
+record Before (n : ℕ) : Type 0 where
+  base : List Piece
+  level : brackets_of base ≡ Some []
+  strings : StringsFit 0 base
+  is : Base n base
+  fit : (rest : List ℕ) → AreReadBefore base rest
+
+before : (n : ℕ) → Before n
+unfolding brackets_after is_return
+before zero = record { base = []; level = refl; strings = tt; is = Base.bare refl refl; fit = λ rest. tt }
+before (suc n) =
+    let end = piece line_end (10 ∷ []) in
+    record { base = end ∷ []; level = refl; strings = ((λ h. cc), tt); is = Base.lined [] end refl refl (λ rest. tt) refl; fit = λ rest. (feed refl, refl, refl, tt) }
+
+-- the fault of a character that is refused stands in the line, and so does that of the text's end
+pub refused_within : (n : ℕ) (scan : Scan) (read : List ℕ) (way : IsUnderWay (first_mode n) scan read) (c : ℕ) → stack_if (scan_step way.state c) ≡ None → (flaw : Flaw) → IsRefusal scan c flaw → Within read flaw.place
+refused_within n scan read way c refuses flaw is_flaw =
+    let b = before n in
+    within_line (spelled b.base) read flaw.place
+    (before_character (spelled b.base ++ read) c flaw.kind (byte_len (spelled b.base) + flaw.place) (refused_fault n b.base b.level b.strings b.is scan read way c [] (b.fit (read ++ c ∷ [])) refuses flaw is_flaw))
+
+pub unfinished_within : (n : ℕ) (scan : Scan) (read : List ℕ) (way : IsUnderWay (first_mode n) scan read) → 0 < byte_len read → (flaw : Flaw) → IsUnfinished scan (Some flaw) → Within read flaw.place
+unfinished_within n scan read way some flaw is_flaw =
+    let b = before n in
+    within_line (spelled b.base) read flaw.place
+    (field_fault_prefix flaw.kind (spelled b.base ++ read) [] (byte_len (spelled b.base) + flaw.place) (at_end (unfinished_fault n b.base b.level b.strings b.is scan read way (b.fit (read ++ [])) some flaw is_flaw)))

@@ -1,0 +1,14 @@
+-- The machine that reads for the readers, in which a string with fields is one open piece: its steps, and its tie to the
+-- machine with fields.
+pub mod Spellings
+pub mod Steps
+pub mod Advance
+pub mod EarlierPieces
+pub mod Rebased
+pub mod BodyMoves
+pub mod Rooms
+pub mod Follows
+pub mod Soundness
+pub mod Runs
+pub mod LiveTexts
+pub mod Reaching

@@ -1,0 +1,526 @@
+-- The scanning machine and the machine with fields go alike through a text from its start: with the brackets that are open, the state of the
+-- one gives that of the other.
+use Rattle.std.proofs.Common.{◌≡◌, ℕ, ◌+◌, Bool, true, false, not, ◌&&◌, ◌||◌, ◌==◌, Option, None, Some, List, [], ◌∷◌, ◌++◌, length, nat_lt, refl, sym, ap, ◌∙◌, subst, ⊎_elim, arith}
+use Rattle.std.specs.Prelude.{if◌then◌else◌}
+use Rattle.std.specs.Str.{byte}
+use Rattle.std.specs.List.{list_all, list_any}
+use Rattle.std.proofs.lemmas.Bool.{cond_both, cases_Bool, both_ways, and_right, and_parts, and_from}
+use Rattle.py_lines.specs.Character.{is_mark, is_space, is_word_character, is_quote, is_line_feed, is_return, is_break, is_backslash, is_r}
+use Rattle.py_lines.specs.Piece.{operator, line_end, Piece, spelled}
+use Rattle.py_lines.specs.Balance.{is_opening, is_closing, closing_of, is_opener, is_closer, depth_through}
+use Rattle.py_lines.specs.FieldStrings.{is_field_prefix, Host, literal}
+use Rattle.py_lines.specs.declared.host.Host as known
+use Rattle.py_lines.specs.declared.mode.Spelling.{Spelling}
+use Rattle.py_lines.specs.declared.mode.Mode.{Mode}
+use Rattle.py_lines.specs.declared.mode.Mode.TheVariants as modes
+use Rattle.py_lines.specs.declared.mode.Move.{Move}
+use Rattle.py_lines.specs.declared.mode.Move.TheVariants as moves
+use Rattle.py_lines.specs.declared.mode.Start.{Start}
+use Rattle.py_lines.specs.declared.mode.Start.TheVariants as starts
+use Rattle.py_lines.specs.Private.Machine.{Scanned, fresh, class_of, closed, started, moved, move_of, short_move, long_move, start_of, Holds, is_prefix_spelling, first_spelling, spelling_with, Bracket, brackets_after, brackets_of}
+use Rattle.py_lines.specs.Private.FieldMachine.{between, after_slash, after_brace, FieldMode, plain, opened, empty, body, FieldMove, grows, closes, breaks, refused, Level, FieldScanned, field_state, field_fresh, field_text_start, begins_host, host_of, long_host, plain_move, field_move, field_moved, field_step, field_steps_from, field_started, field_closed, openers_with, after_operator, levels_open, frames, has_room, has_room_at, between_move, body_move}
+use Rattle.py_lines.specs.Private.ScanMachine.{is_field_spelling, is_raw_spelling, host_in, quote_move, opened_move, meet_of, string_state, move_in, move_at, scan_step, IsInString}
+use Rattle.py_lines.proofs.Pieces.PieceLists.{piece}
+use Rattle.py_lines.proofs.Pieces.OpenBrackets.{stack_push}
+use Rattle.py_lines.specs.LogicalLine.{byte_len}
+use Rattle.py_lines.proofs.Machine.PieceSteps.{scanned}
+use Rattle.py_lines.proofs.Machine.LiveTexts.{keeps, stack_closed}
+use Rattle.py_lines.proofs.Machine.Starts.{StartsSo, starts_so, start-operator}
+use Rattle.py_lines.proofs.Text.CharacterTests.{excluded, quote-not-word, slash-not-break}
+use Rattle.py_lines.proofs.Machine.Spellings.{spelling_on-push}
+use Rattle.py_lines.proofs.Machine.OpenStrings.{start-not-mark}
+use Rattle.py_lines.proofs.FieldMachine.Runs.{NoLimit, steps_of}
+use Rattle.py_lines.proofs.FieldSoundness.LiveTexts.{steps-append}
+use Rattle.py_lines.proofs.FieldMachine.PieceRuns.{opening_operator, word_goes}
+use Rattle.py_lines.proofs.FieldMachine.PlainSteps.{plain_moves, is_word_mode, NoWord, no_word}
+use Rattle.py_lines.proofs.ScanMachine.Spellings.{word_tells, other_begins}
+use Rattle.py_lines.proofs.ScanMachine.Advance.{kept, kept_if}
+use Rattle.py_lines.proofs.ScanMachine.Rebased.{rebased, rebased_if}
+use Rattle.py_lines.proofs.ScanMachine.BodyMoves.{IsBodyMode}
+
+-- the openers of the brackets that are open
+abbrev pub openers_of : List Bracket → List ℕ
+openers_of [] = []
+openers_of (b ∷ bs) = b.opener ∷ openers_of bs
+
+pub openers-length : (st : List Bracket) → length (openers_of st) ≡ length st
+openers-length [] = refl
+openers-length (b ∷ bs) = omega (arith, openers-length bs)
+
+-- the state of the machine with fields, where the other has these pieces, brackets and this open piece
+abbrev pub flat : Mode → List Piece → List ℕ → List ℕ → Option FieldScanned
+flat (modes.FieldOpened h) done os held = Some (field_state [] done os (opened (host_in h)) held)
+flat (modes.FieldEmpty h) done os held = Some (field_state [] done os (empty (host_in h)) held)
+flat modes.Fielded done os held = rebased_if done os (string_state held)
+flat m done os held = Some (field_state [] done os (plain m) held)
+
+-- whether a string with fields is open
+abbrev pub is_fielded_mode : Mode → Bool
+is_fielded_mode (modes.FieldOpened h) = true
+is_fielded_mode (modes.FieldEmpty h) = true
+is_fielded_mode modes.Fielded = true
+is_fielded_mode other = false
+
+-- such a string, open and by itself
+pub record IsAlone (held : List ℕ) : Type 0 where
+  pub state : FieldScanned
+  pub steps : string_state held ≡ Some state
+  pub inside : IsInString state
+  pub bare : state ≡ rebased [] [] state
+
+-- what the text of the open piece says by itself
+abbrev pub Own : Mode → List ℕ → Type 0
+Own (modes.Word s) held = Holds (modes.Word s) [] held
+Own (modes.FieldOpened h) held = (string_state held ≡ Some (field_state [] [] [] (opened (host_in h)) held)) × (h.is_long ≡ false)
+Own (modes.FieldEmpty h) held = string_state held ≡ Some (field_state [] [] [] (empty (host_in h)) held)
+Own modes.Fielded held = IsAlone held
+Own other held = Unit {0}
+
+-- the states of the two machines belong together
+pub record IsTied (t : FieldScanned) (s : Scanned) (st : List Bracket) : Type 0 where
+  pub stack : brackets_of s.done ≡ Some st
+  pub flat_is : flat s.mode s.done (openers_of st) s.held ≡ Some t
+  pub own : Own s.mode s.held
+
+-- a state, if there is room for what led to it
+abbrev pub roomy : Bool → Option FieldScanned → Option FieldScanned
+roomy true o = o
+roomy false o = None
+
+-- both machines go on, to states that belong together, or neither does
+abbrev pub Alike : Option Scanned → Option FieldScanned → Type 0
+Alike None None = Unit {0}
+Alike None (Some t) = ⊥
+Alike (Some s) None = ⊥
+Alike (Some s) (Some t) = (st : List Bracket) × IsTied t s st
+
+pub alike_kept : (u : Scanned) (t : FieldScanned) (st : List Bracket) → IsTied t u st → Alike (kept_if (Some u)) (Some t)
+alike_kept u t st tied = subst (λ b. Alike (kept u b) (Some t)) (sym tied.stack) (st, tied)
+
+pub some_is : {A : Type 0} (a b : A) → Some a ≡ Some b → a ≡ b
+some_is a b h = cc
+
+-- modes without fields
+plain_flat : (m : Mode) (done : List Piece) (os held : List ℕ) → is_fielded_mode m ≡ false → flat m done os held ≡ Some (field_state [] done os (plain m) held)
+plain_flat (modes.FieldOpened h) done os held other = absurd (both_ways _ other refl)
+plain_flat (modes.FieldEmpty h) done os held other = absurd (both_ways _ other refl)
+plain_flat modes.Fielded done os held other = absurd (both_ways _ other refl)
+plain_flat m done os held other = refl
+
+pub plain_own : (m : Mode) (held : List ℕ) → is_fielded_mode m ≡ false → is_word_mode m ≡ false → Own m held
+plain_own (modes.Word s) held other word = absurd (both_ways _ word refl)
+plain_own (modes.FieldOpened h) held other word = absurd (both_ways _ other refl)
+plain_own (modes.FieldEmpty h) held other word = absurd (both_ways _ other refl)
+plain_own modes.Fielded held other word = absurd (both_ways _ other refl)
+plain_own m held other word = tt
+
+pub plain_meets : (m : Mode) (depth : ℕ) (held : List ℕ) (c : ℕ) → is_fielded_mode m ≡ false → is_word_mode m ≡ false → move_in m depth held c ≡ move_of m c
+unfolding meet_of
+plain_meets (modes.Word s) depth held c other word = absurd (both_ways _ word refl)
+plain_meets (modes.FieldOpened h) depth held c other word = absurd (both_ways _ other refl)
+plain_meets (modes.FieldEmpty h) depth held c other word = absurd (both_ways _ other refl)
+plain_meets modes.Fielded depth held c other word = absurd (both_ways _ other refl)
+plain_meets m depth held c other word = refl
+
+pub no_host : (m : Mode) (held : List ℕ) (c : ℕ) → is_word_mode m ≡ false → begins_host m held c ≡ false
+no_host (modes.Word s) held c word = absurd (both_ways _ word refl)
+no_host m held c word = refl
+
+tied_plain : (n : Mode) (done : List Piece) (st : List Bracket) (held : List ℕ) → is_fielded_mode n ≡ false → Own n held → brackets_of done ≡ Some st → IsTied (field_state [] done (openers_of st) (plain n) held) (scanned done n held) st
+tied_plain n done st held other own stack = record { stack = stack; flat_is = plain_flat n done (openers_of st) held other; own = own }
+
+-- a piece that is closed
+pub tied_fresh : (done : List Piece) (p : Piece) (st : List Bracket) → is_opener p ≡ false → is_closer p ≡ false → brackets_of done ≡ Some st → IsTied (field_fresh [] (done ++ p ∷ []) (openers_of st)) (fresh (done ++ p ∷ [])) st
+tied_fresh done p st no_opener no_closer stack = record { stack = keeps done p st no_opener no_closer stack; flat_is = refl; own = tt }
+
+-- what is no operator opens no bracket
+pub opens_no : (c : ℕ) (x : Start) → start_of c ≡ x → (x ≡ starts.Operator → ⊥) → is_opening c ≡ false
+opens_no c x is other = go (is_opening c) refl
+  where
+    go : (b : Bool) → is_opening c ≡ b → is_opening c ≡ false
+    go false h = h
+    go true h = absurd (other (sym is ∙ start-operator c (opening_operator c h)))
+
+-- an operator meets the brackets of both machines alike
+met : (done : List Piece) (st next : List Bracket) (c : ℕ) → brackets_of (done ++ piece operator (c ∷ []) ∷ []) ≡ Some next → Alike (Some (fresh (done ++ piece operator (c ∷ []) ∷ []))) (Some (field_fresh [] (done ++ piece operator (c ∷ []) ∷ []) (openers_of next)))
+met done st next c stack = (next, record { stack = stack; flat_is = refl; own = tt })
+
+operator_alike : (done : List Piece) (st : List Bracket) (c : ℕ) → brackets_of done ≡ Some st → Alike (kept_if (Some (fresh (done ++ piece operator (c ∷ []) ∷ [])))) (roomy (not (is_opening c) || nat_lt (length (openers_of st)) 200) (after_operator [] done c (openers_with (openers_of st) c)))
+unfolding brackets_after openers_with
+operator_alike done st c stack = go (is_opening c) (is_closing c) refl refl
+  where
+    p : Piece
+    p = piece operator (c ∷ [])
+
+    u : Scanned
+    u = fresh (done ++ p ∷ [])
+
+    at : brackets_of (done ++ p ∷ []) ≡ brackets_after st (byte_len (spelled done)) p
+    at = stack_push done p st stack
+
+    -- with the brackets that come of it
+    by : (next : Option (List Bracket)) (o : Option FieldScanned) → brackets_after st (byte_len (spelled done)) p ≡ next → Alike (kept u next) o → Alike (kept_if (Some u)) o
+    by next o is alike = subst (λ b. Alike (kept u b) o) (sym (at ∙ is)) alike
+
+    opening : (room : Bool) → nat_lt (length st) 200 ≡ room → is_opening c ≡ true → Alike (kept_if (Some u)) (roomy room (Some (field_fresh [] (done ++ p ∷ []) (c ∷ openers_of st))))
+    opening true room opens =
+        let next : brackets_after st (byte_len (spelled done)) p ≡ Some (record { opener = c; place = byte_len (spelled done) } ∷ st) = rw (opens, room) in
+        by _ _ next (met done st (record { opener = c; place = byte_len (spelled done) } ∷ st) c (at ∙ next))
+    opening false room opens =
+        let next : brackets_after st (byte_len (spelled done)) p ≡ None = rw (opens, room) in
+        by _ _ next tt
+
+    opened_with : (bs : List ℕ) → is_opening c ≡ true → openers_with bs c ≡ Some (c ∷ bs)
+    opened_with [] opens = rw opens
+    opened_with (b ∷ bs) opens = rw opens
+
+    kept_with : (bs : List ℕ) → is_opening c ≡ false → is_closing c ≡ false → openers_with bs c ≡ Some bs
+    kept_with [] opens shuts = rw (opens, shuts)
+    kept_with (b ∷ bs) opens shuts = rw (opens, shuts)
+
+    closing : (bs : List Bracket) → bs ≡ st → is_opening c ≡ false → is_closing c ≡ true → Alike (kept_if (Some u)) (after_operator [] done c (openers_with (openers_of bs) c))
+    closing [] is opens shuts =
+        let next : brackets_after st (byte_len (spelled done)) p ≡ None = ap (λ b. brackets_after b (byte_len (spelled done)) p) (sym is) ∙ rw (opens, shuts) in
+        let none : openers_with [] c ≡ None = rw (opens, shuts) in
+        subst (λ o. Alike (kept_if (Some u)) (after_operator [] done c o)) (sym none) (by None None next tt)
+    closing (b ∷ bs) is opens shuts = pick (c == closing_of b.opener) refl
+      where
+        first : (x : Bool) → c == closing_of b.opener ≡ x → brackets_after st (byte_len (spelled done)) p ≡ (if x then Some bs else None)
+        first x same = ap (λ l. brackets_after l (byte_len (spelled done)) p) (sym is) ∙ rw (opens, shuts, same)
+
+        second : (x : Bool) → c == closing_of b.opener ≡ x → openers_with (b.opener ∷ openers_of bs) c ≡ (if x then Some (openers_of bs) else None)
+        second x same = rw (opens, shuts, same)
+
+        pick : (x : Bool) → c == closing_of b.opener ≡ x → Alike (kept_if (Some u)) (after_operator [] done c (openers_with (b.opener ∷ openers_of bs) c))
+        pick true same = subst (λ o. Alike (kept_if (Some u)) (after_operator [] done c o)) (sym (second true same)) (by (Some bs) _ (first true same) (met done st bs c (at ∙ first true same)))
+        pick false same = subst (λ o. Alike (kept_if (Some u)) (after_operator [] done c o)) (sym (second false same)) (by None None (first false same) tt)
+
+    go : (opens shuts : Bool) → is_opening c ≡ opens → is_closing c ≡ shuts → Alike (kept_if (Some u)) (roomy (not (is_opening c) || nat_lt (length (openers_of st)) 200) (after_operator [] done c (openers_with (openers_of st) c)))
+    go true shuts opens closing_is =
+        subst (λ b. Alike (kept_if (Some u)) (roomy (not b || nat_lt (length (openers_of st)) 200) (after_operator [] done c (openers_with (openers_of st) c)))) (sym opens)
+        (subst (λ o. Alike (kept_if (Some u)) (roomy (nat_lt (length (openers_of st)) 200) (after_operator [] done c o))) (sym (opened_with (openers_of st) opens))
+        (subst (λ n. Alike (kept_if (Some u)) (roomy (nat_lt n 200) (Some (field_fresh [] (done ++ p ∷ []) (c ∷ openers_of st))))) (sym (openers-length st)) (opening (nat_lt (length st) 200) refl opens)))
+    go false true opens closing_is =
+        subst (λ b. Alike (kept_if (Some u)) (roomy (not b || nat_lt (length (openers_of st)) 200) (after_operator [] done c (openers_with (openers_of st) c)))) (sym opens) (closing st refl opens closing_is)
+    go false false opens closing_is =
+        let next : brackets_after st (byte_len (spelled done)) p ≡ Some st = rw (opens, closing_is) in
+        subst (λ b. Alike (kept_if (Some u)) (roomy (not b || nat_lt (length (openers_of st)) 200) (after_operator [] done c (openers_with (openers_of st) c)))) (sym opens)
+        (subst (λ o. Alike (kept_if (Some u)) (after_operator [] done c o)) (sym (kept_with (openers_of st) opens closing_is)) (by (Some st) _ next (met done st st c (at ∙ next))))
+
+-- a character that begins a piece, after pieces with these brackets open
+started_with : (done : List Piece) (st : List Bracket) (c : ℕ) (x : Start) → start_of c ≡ x → brackets_of done ≡ Some st → StartsSo c x → Alike (kept_if (started done c x)) (roomy (not (is_opening c) || nat_lt (length (openers_of st)) 200) (field_started [] done (openers_of st) c x))
+started_with done st c starts.Operator is stack so = operator_alike done st c stack
+started_with done st c starts.LineEnd is stack so =
+    subst (λ b. Alike (kept_if (Some (fresh (done ++ piece line_end (c ∷ []) ∷ [])))) (roomy (not b || nat_lt (length (openers_of st)) 200) (Some (field_fresh [] (done ++ piece line_end (c ∷ []) ∷ []) (openers_of st))))) (sym (opens_no c starts.LineEnd is (λ e. cc)))
+    (alike_kept (fresh (done ++ piece line_end (c ∷ []) ∷ [])) (field_fresh [] (done ++ piece line_end (c ∷ []) ∷ []) (openers_of st)) st (tied_fresh done (piece line_end (c ∷ [])) st refl refl stack))
+started_with done st c starts.Nothing is stack so = nothing_there (not (is_opening c) || nat_lt (length (openers_of st)) 200)
+  where
+    nothing_there : (b : Bool) → Alike None (roomy b None)
+    nothing_there true = tt
+    nothing_there false = tt
+started_with done st c (starts.Open n) is stack so =
+    subst (λ b. Alike (kept_if (Some (scanned done n (c ∷ [])))) (roomy (not b || nat_lt (length (openers_of st)) 200) (Some (field_state [] done (openers_of st) (plain n) (c ∷ []))))) (sym (opens_no c (starts.Open n) is (λ e. cc)))
+    (alike_kept (scanned done n (c ∷ [])) (field_state [] done (openers_of st) (plain n) (c ∷ [])) st (tied_plain n done st (c ∷ []) (begun_plain n so).0 (begun_plain n so).1 stack))
+  where
+    begun_plain : (m : Mode) → StartsSo c (starts.Open m) → (is_fielded_mode m ≡ false) × Own m (c ∷ [])
+    begun_plain modes.Space s = (refl, tt)
+    begun_plain (modes.Word w) s = (refl, (c, [], refl, s.0, refl, s.1))
+    begun_plain modes.Comment s = (refl, tt)
+    begun_plain (modes.Opened q) s = (refl, tt)
+    begun_plain modes.Return s = (refl, tt)
+    begun_plain modes.Backslash s = (refl, tt)
+    begun_plain m s = absurd s
+
+-- a character breaks the open piece in both machines
+pub room_breaks : (depth c : ℕ) (n : ℕ) → depth ≡ n → has_room_at depth c breaks ≡ (not (is_opening c) || nat_lt n 200)
+unfolding has_room_at
+room_breaks depth c n is = ap (λ (d : ℕ). not (is_opening c) || nat_lt d 200) is
+
+broken : (s : Scanned) (t : FieldScanned) (st : List Bracket) (c : ℕ) → t.outer ≡ [] → t.openers ≡ openers_of st → field_closed t.mode t.done t.held ≡ closed s.mode s.done s.held → brackets_of s.done ≡ Some st → Alike (kept_if (moved s c moves.Breaks)) (roomy (has_room_at (frames t) c breaks) (field_moved t c breaks))
+broken s t st c outside openers pieces stack =
+    let done : List Piece = closed s.mode s.done s.held in
+    let begun = started_with done st c (start_of c) refl (stack_closed s.mode s.done s.held st stack) (starts_so c) in
+    let deep : frames t ≡ length (openers_of st) = ap (λ (l : List Level). length t.openers + levels_open l) outside ∙ ap (λ (l : List ℕ). length l + 0) openers ∙ omega arith in
+    let room = room_breaks (frames t) c (length (openers_of st)) deep in
+    let same : field_started t.outer (field_closed t.mode t.done t.held) t.openers c (start_of c) ≡ field_started [] done (openers_of st) c (start_of c)
+    = ap (λ (l : List Level). field_started l (field_closed t.mode t.done t.held) t.openers c (start_of c)) outside
+    ∙ ap (λ (l : List Piece). field_started [] l t.openers c (start_of c)) pieces
+    ∙ ap (λ (l : List ℕ). field_started [] done l c (start_of c)) openers in
+    subst (λ (o : Option FieldScanned). Alike (kept_if (started done c (start_of c))) (roomy (has_room_at (frames t) c breaks) o)) (sym same)
+    (subst (λ (b : Bool). Alike (kept_if (started done c (start_of c))) (roomy b (field_started [] done (openers_of st) c (start_of c)))) (sym room) begun)
+
+pub none_alike : (b : Bool) → Alike None (roomy b None)
+none_alike true = tt
+none_alike false = tt
+
+-- what the machine without fields does, where no word is open
+abbrev pub NoField : Move → Type 0
+NoField (moves.Grows n) = is_fielded_mode n ≡ false
+NoField other = Unit {0}
+
+free_never : (c : ℕ) → move_of modes.Free c ≡ moves.Closes → ⊥
+unfolding move_of
+free_never c h = cc
+
+pub closing_neutral : (m : Mode) (text : List ℕ) (c : ℕ) → move_of m c ≡ moves.Closes → (is_opener (piece (class_of m) text) ≡ false) × (is_closer (piece (class_of m) text) ≡ false)
+closing_neutral modes.Free text c h = absurd (free_never c h)
+closing_neutral m text c h = (refl, refl)
+
+-- the modes that a move of the machine without fields leads to
+short_plain : (q c : ℕ) → NoField (short_move q c)
+unfolding short_move
+short_plain q c = cond_both (is_backslash c) _ _ NoField (λ h. refl) (λ h. cond_both (is_break c) moves.Refused (moves.Grows (modes.Inside q)) NoField (λ k. tt) (λ k. refl))
+
+long_plain : (q c : ℕ) → NoField (long_move q c)
+unfolding long_move
+long_plain q c = cond_both (is_backslash c) (moves.Grows (modes.LongEscape q)) (moves.Grows (modes.Long q)) NoField (λ h. refl) (λ h. refl)
+
+pub grows_plain : (m : Mode) (c : ℕ) → NoField (move_of m c)
+unfolding move_of
+grows_plain modes.Start c = cond_both (is_mark c) moves.Closes moves.Breaks NoField (λ k. tt) (λ k. tt)
+grows_plain modes.Free c = tt
+grows_plain modes.Space c = cond_both (is_space c) (moves.Grows modes.Space) moves.Breaks NoField (λ k. refl) (λ k. tt)
+grows_plain (modes.Word s) c =
+    cond_both (is_word_character c) (moves.Grows (modes.Word (spelling_with s c))) _ NoField (λ h. refl) (λ h. cond_both (is_prefix_spelling s && is_quote c) (moves.Grows (modes.Opened c)) moves.Breaks NoField (λ k. refl) (λ k. tt))
+grows_plain modes.Comment c = cond_both (is_break c) moves.Breaks (moves.Grows modes.Comment) NoField (λ k. tt) (λ k. refl)
+grows_plain (modes.Opened q) c = cond_both (c == q) (moves.Grows (modes.Empty q)) (short_move q c) NoField (λ k. refl) (λ k. short_plain q c)
+grows_plain (modes.Inside q) c = cond_both (c == q) moves.Closes (short_move q c) NoField (λ k. tt) (λ k. short_plain q c)
+grows_plain (modes.Escape q) c = cond_both (is_return c) (moves.Grows (modes.EscapeReturn q)) (moves.Grows (modes.Inside q)) NoField (λ k. refl) (λ k. refl)
+grows_plain (modes.EscapeReturn q) c =
+    cond_both (is_line_feed c) (moves.Grows (modes.Inside q)) _ NoField (λ k. refl) (λ k. cond_both (c == q) moves.Closes (short_move q c) NoField (λ l. tt) (λ l. short_plain q c))
+grows_plain (modes.Empty q) c = cond_both (c == q) (moves.Grows (modes.Long q)) moves.Breaks NoField (λ k. refl) (λ k. tt)
+grows_plain (modes.Long q) c = cond_both (c == q) (moves.Grows (modes.LongOne q)) (long_move q c) NoField (λ k. refl) (λ k. long_plain q c)
+grows_plain (modes.LongOne q) c = cond_both (c == q) (moves.Grows (modes.LongTwo q)) (long_move q c) NoField (λ k. refl) (λ k. long_plain q c)
+grows_plain (modes.LongTwo q) c = cond_both (c == q) moves.Closes (long_move q c) NoField (λ k. tt) (λ k. long_plain q c)
+grows_plain (modes.LongEscape q) c = refl
+grows_plain (modes.FieldOpened h) c = tt
+grows_plain (modes.FieldEmpty h) c = tt
+grows_plain modes.Fielded c = tt
+grows_plain modes.Backslash c = cond_both (is_line_feed c) moves.Closes _ NoField (λ k. tt) (λ k. cond_both (is_return c) (moves.Grows modes.JoinReturn) moves.Refused NoField (λ l. refl) (λ l. tt))
+grows_plain modes.JoinReturn c = cond_both (is_line_feed c) moves.Closes moves.Breaks NoField (λ k. tt) (λ k. tt)
+grows_plain modes.Return c = cond_both (is_line_feed c) moves.Closes moves.Breaks NoField (λ k. tt) (λ k. tt)
+
+pub room_grows : (depth c : ℕ) (n : FieldMode) → has_room_at depth c (grows n) ≡ true
+unfolding has_room_at
+room_grows depth c n = refl
+
+pub room_closes : (depth c : ℕ) → has_room_at depth c closes ≡ true
+unfolding has_room_at
+room_closes depth c = refl
+
+-- both machines take the same move of the machine without fields, in a list of the outermost text
+plain_moved : (m : Mode) (done : List Piece) (held : List ℕ) (st : List Bracket) (c : ℕ) (v : Move) → move_of m c ≡ v → brackets_of done ≡ Some st → ((n : Mode) → v ≡ moves.Grows n → Own n (held ++ c ∷ [])) → Alike (kept_if (moved (scanned done m held) c v)) (roomy (has_room_at (frames (field_state [] done (openers_of st) (plain m) held)) c (plain_move v)) (field_moved (field_state [] done (openers_of st) (plain m) held) c (plain_move v)))
+plain_moved m done held st c (moves.Grows n) is stack own =
+    let t : FieldScanned = field_state [] done (openers_of st) (plain m) held in
+    subst (λ (b : Bool). Alike (kept_if (Some (scanned done n (held ++ c ∷ [])))) (roomy b (Some (field_state [] done (openers_of st) (plain n) (held ++ c ∷ []))))) (sym (room_grows (frames t) c (plain n)))
+    (alike_kept (scanned done n (held ++ c ∷ [])) (field_state [] done (openers_of st) (plain n) (held ++ c ∷ [])) st (tied_plain n done st (held ++ c ∷ []) (subst NoField is (grows_plain m c)) (own n refl) stack))
+plain_moved m done held st c moves.Closes is stack own =
+    let t : FieldScanned = field_state [] done (openers_of st) (plain m) held in
+    let p : Piece = piece (class_of m) (held ++ c ∷ []) in
+    let neutral = closing_neutral m (held ++ c ∷ []) c is in
+    subst (λ (b : Bool). Alike (kept_if (Some (fresh (done ++ p ∷ [])))) (roomy b (Some (field_fresh [] (done ++ p ∷ []) (openers_of st))))) (sym (room_closes (frames t) c))
+    (alike_kept (fresh (done ++ p ∷ [])) (field_fresh [] (done ++ p ∷ []) (openers_of st)) st (tied_fresh done p st neutral.0 neutral.1 stack))
+plain_moved m done held st c moves.Breaks is stack own = broken (scanned done m held) (field_state [] done (openers_of st) (plain m) held) st c refl refl refl stack
+plain_moved m done held st c moves.Refused is stack own = none_alike (has_room_at (frames (field_state [] done (openers_of st) (plain m) held)) c refused)
+
+-- one character, where the moves of both machines are known
+abbrev pub StepsAlike : Scanned → FieldScanned → ℕ → Type 0
+StepsAlike s t c = Alike (kept_if (scan_step s c)) (roomy (has_room t c) (field_step t c))
+
+by_moves : (s : Scanned) (t : FieldScanned) (c : ℕ) (v : Move) (w : FieldMove) → move_at s c ≡ v → field_move t.mode t.held c ≡ w → Alike (kept_if (moved s c v)) (roomy (has_room_at (frames t) c w) (field_moved t c w)) → StepsAlike s t c
+by_moves s t c v w one two alike =
+    subst (λ (x : Move). Alike (kept_if (moved s c x)) (roomy (has_room_at (frames t) c (field_move t.mode t.held c)) (field_moved t c (field_move t.mode t.held c)))) (sym one)
+    (subst (λ (x : FieldMove). Alike (kept_if (moved s c v)) (roomy (has_room_at (frames t) c x) (field_moved t c x))) (sym two) alike)
+
+-- where no word and no string with fields is open
+pub plain_steps : (m : Mode) (done : List Piece) (held : List ℕ) (st : List Bracket) (c : ℕ) → is_fielded_mode m ≡ false → is_word_mode m ≡ false → brackets_of done ≡ Some st → StepsAlike (scanned done m held) (field_state [] done (openers_of st) (plain m) held) c
+plain_steps m done held st c other word stack =
+    by_moves (scanned done m held) (field_state [] done (openers_of st) (plain m) held) c (move_of m c) (plain_move (move_of m c)) (plain_meets m (depth_through 0 done) held c other word) (plain_moves m held c (no_host m held c word))
+    (plain_moved m done held st c (move_of m c) refl stack (λ n is. plain_own n (held ++ c ∷ []) (subst NoField is (grows_plain m c)) (subst NoWord is (no_word m c word)).1))
+
+-- a word that goes on
+pub word_on : (s : Spelling) (held : List ℕ) (c : ℕ) → Holds (modes.Word s) [] held → is_word_character c ≡ true → Holds (modes.Word (spelling_with s c)) [] (held ++ c ∷ [])
+word_on s held c (first, others, is, opens, run, spells) passes =
+    (first, others ++ c ∷ [], ap (λ t. t ++ c ∷ []) is, opens, all-push others run, ap (λ x. spelling_with x c) spells ∙ sym (spelling_on-push (first_spelling first) others c))
+  where
+    all-push : (ws : List ℕ) → list_all is_word_character ws ≡ true → list_all is_word_character (ws ++ c ∷ []) ≡ true
+    all-push [] h = and_from _ _ passes refl
+    all-push (w ∷ ws) h =
+        let parts = and_parts (is_word_character w) (list_all is_word_character ws) h in
+        and_from _ _ parts.0 (all-push ws parts.1)
+
+start_stops : (a : ℕ) → is_mark a ≡ false → field_move (plain modes.Start) [] a ≡ breaks
+unfolding field_move move_of
+start_stops a h = rw h
+
+-- its text, by itself
+word_state : (s : Spelling) (held : List ℕ) → Holds (modes.Word s) [] held → string_state held ≡ Some (field_state [] [] [] (plain (modes.Word s)) held)
+word_state s held (first, others, is, opens, run, spells) =
+    let at = word_goes NoLimit field_text_start first others [] opens run (start_stops first (start-not-mark first opens)) in
+    ap string_state is ∙ steps_of NoLimit field_text_start _ (first ∷ others) at ∙ ap (λ x. Some (field_state [] [] [] (plain (modes.Word x)) (first ∷ others))) (sym spells) ∙ ap (λ t. Some (field_state [] [] [] (plain (modes.Word s)) t)) (sym is)
+
+-- one character more of a text by itself
+pub state_more : (held : List ℕ) (c : ℕ) (t : FieldScanned) (m : FieldMode) → string_state held ≡ Some t → field_move t.mode t.held c ≡ grows m → string_state (held ++ c ∷ []) ≡ Some (field_state t.outer t.done t.openers m (t.held ++ c ∷ []))
+state_more held c t m steps move = steps-append (Some field_text_start) held (c ∷ []) ∙ ap (λ o. field_steps_from o (c ∷ [])) steps ∙ ap (λ v. field_steps_from (field_moved t c v) []) move
+
+pub host_moves : (s : Spelling) (held : List ℕ) (c : ℕ) → is_field_prefix held ≡ true → is_quote c ≡ true → field_move (plain (modes.Word s)) held c ≡ grows (opened (host_of held c))
+unfolding field_move
+host_moves s held c field quotes = rw (field, quotes)
+
+-- a word, in both machines
+module _ (s : Spelling) (done : List Piece) (held : List ℕ) (st : List Bracket) (c : ℕ) (own : Holds (modes.Word s) [] held) (stack : brackets_of done ≡ Some st) where
+  tells : (is_field_prefix held ≡ is_field_spelling s) × (is_field_spelling s ≡ true → list_any is_r held ≡ is_raw_spelling s)
+  tells =
+      let word = word_tells own.0 own.1 in (
+        ap is_field_prefix own.2 ∙ word.0 ∙ ap is_field_spelling (sym own.5),
+        λ h. ap (list_any is_r) own.2 ∙ word.1 (ap is_field_spelling (sym own.5) ∙ h) ∙ ap is_raw_spelling (sym own.5),
+      )
+
+  abbrev T : FieldScanned
+  T = field_state [] done (openers_of st) (plain (modes.Word s)) held
+
+  abbrev S : Scanned
+  S = scanned done (modes.Word s) held
+
+  -- where the machine without fields says what happens
+  word_plain : (v : Move) → move_of (modes.Word s) c ≡ v → move_at S c ≡ v → begins_host (modes.Word s) held c ≡ false → ((n : Mode) → v ≡ moves.Grows n → Own n (held ++ c ∷ [])) → StepsAlike S T c
+  word_plain v is at none more = by_moves S T c v (plain_move v) at (plain_moves (modes.Word s) held c none ∙ ap plain_move is) (plain_moved (modes.Word s) done held st c v is stack more)
+
+  in_word : is_word_character c ≡ true → StepsAlike S T c
+  unfolding meet_of move_of
+  in_word passes =
+      let n : Mode = modes.Word (spelling_with s c) in
+      word_plain (moves.Grows n) (rw passes) (rw passes) (and_right _ _ (excluded is_word_character is_quote c (quote-not-word c) passes))
+      (λ m is. subst (λ (x : Mode). Own x (held ++ c ∷ [])) (grown_is n m is) (word_on s held c own passes))
+    where
+      grown_is : (a b : Mode) → moves.Grows a ≡ moves.Grows b → a ≡ b
+      grown_is a b h = cc
+
+  no_quote : is_word_character c ≡ false → is_quote c ≡ false → StepsAlike S T c
+  unfolding meet_of move_of
+  no_quote other none = word_plain moves.Breaks (rw (other, and_right (is_prefix_spelling s) _ none)) (rw (other, none)) (and_right (is_field_prefix held) _ none) (λ n is. absurd (cc))
+
+  plain_quote : is_word_character c ≡ false → is_quote c ≡ true → is_field_spelling s ≡ false → StepsAlike S T c
+  unfolding meet_of move_of quote_move
+  plain_quote other quotes plain_word = go (is_prefix_spelling s) refl
+    where
+      none : begins_host (modes.Word s) held c ≡ false
+      none = ap (λ b. b && is_quote c) (tells.0 ∙ plain_word)
+
+      go : (b : Bool) → is_prefix_spelling s ≡ b → StepsAlike S T c
+      go true prefix = word_plain (moves.Grows (modes.Opened c)) (rw (other, prefix, quotes)) (rw (other, quotes, plain_word, other_begins s plain_word, prefix)) none (λ n is. subst (λ (x : Mode). Own x (held ++ c ∷ [])) (opened_is n is) tt)
+        where
+          opened_is : (n : Mode) → moves.Grows (modes.Opened c) ≡ moves.Grows n → modes.Opened c ≡ n
+          opened_is n h = cc
+      go false prefix = word_plain moves.Breaks (rw (other, prefix)) (rw (other, quotes, plain_word, other_begins s plain_word, prefix)) none (λ n is. absurd (cc))
+
+  field_quote : is_word_character c ≡ false → is_quote c ≡ true → is_field_spelling s ≡ true → StepsAlike S T c
+  unfolding meet_of quote_move
+  field_quote other quotes field =
+      let h : known.Host = record { quote = c; is_long = false; is_raw = is_raw_spelling s } in
+      let host : host_in h ≡ host_of held c = ap (λ (b : Bool). record { quote = c; is_long = false; is_raw = b }) (sym (tells.1 field)) in
+      let move : field_move (plain (modes.Word s)) held c ≡ grows (opened (host_in h)) = host_moves s held c (tells.0 ∙ field) quotes ∙ ap (λ (x : Host). grows (opened x)) (sym host) in
+      by_moves S T c (moves.Grows (modes.FieldOpened h)) (grows (opened (host_in h))) (rw (other, quotes, field)) move
+      (subst (λ (b : Bool). Alike (kept_if (Some (scanned done (modes.FieldOpened h) (held ++ c ∷ [])))) (roomy b (Some (field_state [] done (openers_of st) (opened (host_in h)) (held ++ c ∷ []))))) (sym (room_grows (frames T) c (opened (host_in h))))
+      (alike_kept (scanned done (modes.FieldOpened h) (held ++ c ∷ [])) (field_state [] done (openers_of st) (opened (host_in h)) (held ++ c ∷ [])) st
+      (record { stack = stack; flat_is = refl; own = (state_more held c (field_state [] [] [] (plain (modes.Word s)) held) (opened (host_in h)) (word_state s held own) move, refl) })))
+
+  pub word_steps : StepsAlike S T c
+  word_steps =
+      ⊎_elim (λ passes. in_word passes)
+      (λ other. ⊎_elim (λ quotes. ⊎_elim (λ field. field_quote other quotes field) (λ plain_word. plain_quote other quotes plain_word) (cases_Bool (is_field_spelling s))) (λ none. no_quote other none) (cases_Bool (is_quote c)))
+      (cases_Bool (is_word_character c))
+
+-- one quote of a string with fields
+pub quote_again : (host : Host) (held : List ℕ) (c : ℕ) → c == host.quote ≡ true → field_move (opened host) held c ≡ grows (empty host)
+unfolding field_move
+quote_again host held c is = rw is
+
+pub first_move : (host : Host) (held : List ℕ) (c : ℕ) → c == host.quote ≡ false → field_move (opened host) held c ≡ between_move host literal false between c
+unfolding field_move body_move
+first_move host held c is = rw is
+
+break_refused : (host : Host) (c : ℕ) → host.is_long ≡ false → c == host.quote ≡ false → is_break c ≡ true → between_move host literal false between c ≡ refused
+unfolding between_move
+break_refused host c short other breaks_line = rw (other, slash-not-break c breaks_line, breaks_line, short)
+
+pub record GrowsBody (host : Host) (c : ℕ) : Type 0 where
+  pub mode : FieldMode
+  pub is : between_move host literal false between c ≡ grows mode
+  pub stays : IsBodyMode mode
+
+pub first_grows : (host : Host) (c : ℕ) → c == host.quote ≡ false → is_break c ≡ false → GrowsBody host c
+unfolding between_move
+first_grows host c other unbroken = go (is_backslash c) (c == byte "{") (c == byte "}") refl refl refl
+  where
+    go : (slash brace shuts : Bool) → is_backslash c ≡ slash → c == byte "{" ≡ brace → c == byte "}" ≡ shuts → GrowsBody host c
+    go true brace shuts h k l = record { mode = body host literal false after_slash; is = rw (other, h); stays = (host, literal, false, after_slash, refl) }
+    go false true shuts h k l = record { mode = body host literal false after_brace; is = rw (other, h, unbroken, k); stays = (host, literal, false, after_brace, refl) }
+    go false false true h k l = record { mode = body host literal false between; is = rw (other, h, unbroken, k, l); stays = (host, literal, false, between, refl) }
+    go false false false h k l = record { mode = body host literal false between; is = rw (other, h, unbroken, k, l); stays = (host, literal, false, between, refl) }
+
+-- a string that has just got some text
+tied_begun : (done : List Piece) (held : List ℕ) (st : List Bracket) (m : FieldMode) → brackets_of done ≡ Some st → string_state held ≡ Some (field_state [] [] [] m held) → IsBodyMode m → IsTied (field_state [] done (openers_of st) m held) (scanned done modes.Fielded held) st
+tied_begun done held st m stack steps stays = record {
+  stack = stack;
+  flat_is = ap (rebased_if done (openers_of st)) steps;
+  own = record { state = field_state [] [] [] m held; steps = steps; inside = λ is. stays; bare = refl };
+}
+
+module _ (h : known.Host) (done : List Piece) (held : List ℕ) (st : List Bracket) (c : ℕ) (own : Own (modes.FieldOpened h) held) (stack : brackets_of done ≡ Some st) where
+  abbrev SO : Scanned
+  SO = scanned done (modes.FieldOpened h) held
+
+  abbrev TO : FieldScanned
+  TO = field_state [] done (openers_of st) (opened (host_in h)) held
+
+  opened_steps_go : (same ends_line : Bool) → c == h.quote ≡ same → is_break c ≡ ends_line → StepsAlike SO TO c
+  unfolding meet_of opened_move
+  opened_steps_go true ends_line is break =
+      let move = quote_again (host_in h) held c is in
+      by_moves SO TO c (moves.Grows (modes.FieldEmpty h)) (grows (empty (host_in h))) (rw is) move
+      (subst (λ (b : Bool). Alike (kept_if (Some (scanned done (modes.FieldEmpty h) (held ++ c ∷ [])))) (roomy b (Some (field_state [] done (openers_of st) (empty (host_in h)) (held ++ c ∷ []))))) (sym (room_grows (frames TO) c (empty (host_in h))))
+      (alike_kept (scanned done (modes.FieldEmpty h) (held ++ c ∷ [])) (field_state [] done (openers_of st) (empty (host_in h)) (held ++ c ∷ [])) st
+      (record { stack = stack; flat_is = refl; own = state_more held c (field_state [] [] [] (opened (host_in h)) held) (empty (host_in h)) own.0 move })))
+  opened_steps_go false true is break =
+      by_moves SO TO c moves.Refused refused (rw (is, break)) (first_move (host_in h) held c is ∙ break_refused (host_in h) c own.1 is break) (none_alike (has_room_at (frames TO) c refused))
+  opened_steps_go false false is break =
+      let first = first_grows (host_in h) c is break in
+      let move = first_move (host_in h) held c is ∙ first.is in
+      by_moves SO TO c (moves.Grows modes.Fielded) (grows first.mode) (rw (is, break)) move
+      (subst (λ (b : Bool). Alike (kept_if (Some (scanned done modes.Fielded (held ++ c ∷ [])))) (roomy b (Some (field_state [] done (openers_of st) first.mode (held ++ c ∷ []))))) (sym (room_grows (frames TO) c first.mode))
+      (alike_kept (scanned done modes.Fielded (held ++ c ∷ [])) (field_state [] done (openers_of st) first.mode (held ++ c ∷ [])) st
+      (tied_begun done (held ++ c ∷ []) st first.mode stack (state_more held c (field_state [] [] [] (opened (host_in h)) held) first.mode own.0 move) first.stays)))
+
+  pub opened_steps : StepsAlike SO TO c
+  opened_steps = opened_steps_go (c == h.quote) (is_break c) refl refl
+
+-- two quotes
+pub third_quote : (host : Host) (held : List ℕ) (c : ℕ) → c == host.quote ≡ true → field_move (empty host) held c ≡ grows (body (long_host host) literal false between)
+unfolding field_move
+third_quote host held c is = rw is
+
+pub empty_breaks : (host : Host) (held : List ℕ) (c : ℕ) → c == host.quote ≡ false → field_move (empty host) held c ≡ breaks
+unfolding field_move
+empty_breaks host held c is = rw is
+
+module _ (h : known.Host) (done : List Piece) (held : List ℕ) (st : List Bracket) (c : ℕ) (own : Own (modes.FieldEmpty h) held) (stack : brackets_of done ≡ Some st) where
+  abbrev SE : Scanned
+  SE = scanned done (modes.FieldEmpty h) held
+
+  abbrev TE : FieldScanned
+  TE = field_state [] done (openers_of st) (empty (host_in h)) held
+
+  empty_steps_go : (same : Bool) → c == h.quote ≡ same → StepsAlike SE TE c
+  unfolding meet_of
+  empty_steps_go true is =
+      let m : FieldMode = body (long_host (host_in h)) literal false between in
+      let move = third_quote (host_in h) held c is in
+      by_moves SE TE c (moves.Grows modes.Fielded) (grows m) (rw is) move
+      (subst (λ (b : Bool). Alike (kept_if (Some (scanned done modes.Fielded (held ++ c ∷ [])))) (roomy b (Some (field_state [] done (openers_of st) m (held ++ c ∷ []))))) (sym (room_grows (frames TE) c m))
+      (alike_kept (scanned done modes.Fielded (held ++ c ∷ [])) (field_state [] done (openers_of st) m (held ++ c ∷ [])) st
+      (tied_begun done (held ++ c ∷ []) st m stack (state_more held c (field_state [] [] [] (empty (host_in h)) held) m own move) (long_host (host_in h), literal, false, between, refl))))
+  empty_steps_go false is = by_moves SE TE c moves.Breaks breaks (rw is) (empty_breaks (host_in h) held c is) (broken SE TE st c refl refl refl stack)
+
+  pub empty_steps : StepsAlike SE TE c
+  empty_steps = empty_steps_go (c == h.quote) refl

@@ -1,0 +1,101 @@
+-- Inside a string the machine with fields does not look at the pieces before the string in the outermost list, nor at the brackets that
+-- are open there: it goes alike whatever they are.
+use Rattle.std.proofs.Common.{◌≡◌, ℕ, ◌+◌, Bool, true, false, ◌==◌, Option, None, Some, List, [], ◌∷◌, ◌++◌, length, refl, arith}
+use Rattle.std.specs.Prelude.{if◌then◌else◌}
+use Rattle.std.specs.Str.{byte}
+use Rattle.py_lines.specs.Piece.{Piece, spelled}
+use Rattle.py_lines.specs.FieldStrings.{literal, specification}
+use Rattle.py_lines.specs.declared.mode.Start.{Start}
+use Rattle.py_lines.specs.declared.mode.Start.TheVariants as starts
+use Rattle.py_lines.specs.Private.Machine.{start_of}
+use Rattle.py_lines.specs.Private.FieldMachine.{between, FieldMode, body, FieldMove, grows, closes, breaks, begins_code, opens_field, ends_field, refused, Level, FieldScanned, field_state, field_move, field_moved, field_step, field_started, field_operator, field_closed, code_operator, after_operator, openers_with, opened_level, field_ended, levels_open, frames}
+
+module _ (done : List Piece) (os : List ℕ) where
+  -- the levels, with these pieces and brackets before the outermost string
+  abbrev pub based : Level → List Level → List Level
+  based l [] = record l { done = done; openers = os } ∷ []
+  based l (k ∷ ks) = l ∷ based k ks
+
+  -- a state in a string, with these before it
+  abbrev pub rebased_in : List Level → List Piece → List ℕ → FieldMode → List ℕ → FieldScanned
+  rebased_in [] ps bs m held = field_state [] done os m held
+  rebased_in (l ∷ ls) ps bs m held = field_state (based l ls) ps bs m held
+
+  abbrev pub rebased : FieldScanned → FieldScanned
+  rebased t = rebased_in t.outer t.done t.openers t.mode t.held
+
+  abbrev pub rebased_if : Option FieldScanned → Option FieldScanned
+  rebased_if None = None
+  rebased_if (Some t) = Some (rebased t)
+
+  if_alike : (b : Bool) (x y u v : Option FieldScanned) → x ≡ rebased_if u → y ≡ rebased_if v → (if b then x else y) ≡ rebased_if (if b then u else v)
+  if_alike true x y u v first second = first
+  if_alike false x y u v first second = second
+
+  -- an operator in a field
+  after_alike : (l : Level) (ls : List Level) (ps : List Piece) (c : ℕ) (o : Option (List ℕ)) → after_operator (based l ls) ps c o ≡ rebased_if (after_operator (l ∷ ls) ps c o)
+  after_alike l ls ps c None = refl
+  after_alike l ls ps c (Some bs) = refl
+
+  operator_alike : (l : Level) (ls : List Level) (ps : List Piece) (bs : List ℕ) (c : ℕ) → field_operator (based l ls) ps bs c ≡ rebased_if (field_operator (l ∷ ls) ps bs c)
+  unfolding code_operator
+  operator_alike l [] ps [] c =
+      if_alike (c == byte "}") _ _ (Some (field_ended l [] (l.front ++ (spelled ps ++ c ∷ [])))) _ refl
+      (if_alike (c == byte ":") _ _ (Some (field_state (l ∷ []) [] [] (body l.host specification false between) (l.front ++ (spelled ps ++ c ∷ [])))) (after_operator (l ∷ []) ps c (openers_with [] c)) refl (after_alike l [] ps c (openers_with [] c)))
+  operator_alike l (k ∷ ks) ps [] c =
+      if_alike (c == byte "}") _ _ (Some (field_ended l (k ∷ ks) (l.front ++ (spelled ps ++ c ∷ [])))) _ refl
+      (if_alike (c == byte ":") _ _ (Some (field_state (l ∷ k ∷ ks) [] [] (body l.host specification false between) (l.front ++ (spelled ps ++ c ∷ [])))) (after_operator (l ∷ k ∷ ks) ps c (openers_with [] c)) refl (after_alike l (k ∷ ks) ps c (openers_with [] c)))
+  operator_alike l [] ps (b ∷ bs) c = after_alike l [] ps c (openers_with (b ∷ bs) c)
+  operator_alike l (k ∷ ks) ps (b ∷ bs) c = after_alike l (k ∷ ks) ps c (openers_with (b ∷ bs) c)
+
+  started_alike : (l : Level) (ls : List Level) (ps : List Piece) (bs : List ℕ) (c : ℕ) (st : Start) → field_started (based l ls) ps bs c st ≡ rebased_if (field_started (l ∷ ls) ps bs c st)
+  started_alike l ls ps bs c (starts.Open m) = refl
+  started_alike l ls ps bs c starts.Operator = operator_alike l ls ps bs c
+  started_alike l ls ps bs c starts.LineEnd = refl
+  started_alike l ls ps bs c starts.Nothing = refl
+
+  -- moves other than those that end the outermost string
+  abbrev pub IsInner : List Level → FieldMove → Type 0
+  IsInner [] closes = ⊥
+  IsInner [] breaks = ⊥
+  IsInner outer move = Unit {0}
+
+  pub moved_alike : (outer : List Level) (ps : List Piece) (bs : List ℕ) (m : FieldMode) (held : List ℕ) (c : ℕ) (v : FieldMove) → IsInner outer v → field_moved (rebased_in outer ps bs m held) c v ≡ rebased_if (field_moved (field_state outer ps bs m held) c v)
+  moved_alike [] ps bs m held c (grows n) inner = refl
+  moved_alike [] ps bs m held c closes inner = absurd inner
+  moved_alike [] ps bs m held c breaks inner = absurd inner
+  moved_alike [] ps bs m held c (begins_code host) inner = started_alike (opened_level (field_state [] ps bs m held) host literal held) [] [] [] c (start_of c)
+  moved_alike [] ps bs m held c (opens_field host) inner = refl
+  moved_alike [] ps bs m held c ends_field inner = refl
+  moved_alike [] ps bs m held c refused inner = refl
+  moved_alike (l ∷ ls) ps bs m held c (grows n) inner = refl
+  moved_alike (l ∷ ls) ps bs m held c closes inner = refl
+  moved_alike (l ∷ ls) ps bs m held c breaks inner = started_alike l ls (field_closed m ps held) bs c (start_of c)
+  moved_alike (l ∷ ls) ps bs m held c (begins_code host) inner = started_alike (opened_level (field_state (l ∷ ls) ps bs m held) host literal held) (l ∷ ls) [] [] c (start_of c)
+  moved_alike (l ∷ ls) ps bs m held c (opens_field host) inner = refl
+  moved_alike (l ∷ []) ps bs m held c ends_field inner = refl
+  moved_alike (l ∷ k ∷ ks) ps bs m held c ends_field inner = refl
+  moved_alike (l ∷ ls) ps bs m held c refused inner = refl
+
+  pub step_alike : (t : FieldScanned) (c : ℕ) → IsInner t.outer (field_move t.mode t.held c) → field_step (rebased t) c ≡ rebased_if (field_step t c)
+  step_alike t c inner = go t.outer inner
+    where
+      go : (outer : List Level) → IsInner outer (field_move t.mode t.held c) → field_step (rebased_in outer t.done t.openers t.mode t.held) c ≡ rebased_if (field_step (field_state outer t.done t.openers t.mode t.held) c)
+      go [] h = moved_alike [] t.done t.openers t.mode t.held c (field_move t.mode t.held c) h
+      go (l ∷ ls) h = moved_alike (l ∷ ls) t.done t.openers t.mode t.held c (field_move t.mode t.held c) h
+
+-- the brackets before it count in the depth
+levels_more : (done : List Piece) (os : List ℕ) (l : Level) (ls : List Level) → levels_open (based done os l ls) ≡ length os + levels_open (based [] [] l ls)
+levels_more done os l [] = omega arith
+levels_more done os l (k ∷ ks) =
+    let later = levels_more done os k ks in
+    omega (arith, later)
+
+pub frames_more : (done : List Piece) (os : List ℕ) (t : FieldScanned) → frames (rebased done os t) ≡ length os + frames (rebased [] [] t)
+frames_more done os t = go t.outer
+  where
+    go : (outer : List Level) → frames (rebased_in done os outer t.done t.openers t.mode t.held) ≡ length os + frames (rebased_in [] [] outer t.done t.openers t.mode t.held)
+    go [] = omega arith
+    go (l ∷ ls) =
+        let later = levels_more done os l ls in
+        omega (arith, later)

@@ -1,0 +1,193 @@
+-- In a string with fields the two machines go alike too, so they do through every text.
+use Rattle.std.proofs.Common.{◌≡◌, ℕ, ◌+◌, Bool, true, false, Option, None, Some, List, [], ◌∷◌, ◌++◌, length, refl, sym, ap, ◌∙◌, subst}
+use Rattle.std.specs.Prelude.{if◌then◌else◌}
+use Rattle.py_lines.specs.Piece.{string, Piece, spelled}
+use Rattle.py_lines.specs.Balance.{depth_through}
+use Rattle.py_lines.specs.FieldStrings.{Place, literal, specification}
+use Rattle.py_lines.specs.declared.mode.Mode.{Mode}
+use Rattle.py_lines.specs.declared.mode.Mode.TheVariants as modes
+use Rattle.py_lines.specs.declared.mode.Move.{Move}
+use Rattle.py_lines.specs.declared.mode.Move.TheVariants as moves
+use Rattle.py_lines.specs.Private.Machine.{Scanned, fresh, moved, Bracket, brackets_of}
+use Rattle.py_lines.specs.Private.FieldMachine.{FieldMode, FieldMove, grows, closes, breaks, begins_code, opens_field, ends_field, refused, Level, FieldScanned, field_state, field_fresh, field_text_start, field_class_of, field_move, field_moved, field_step, field_steps_from, frames, has_room, has_room_at, text_place, before}
+use Rattle.py_lines.specs.Private.ScanMachine.{string_state, string_move, has_room_in, fielded_move, move_at, IsInString}
+use Rattle.py_lines.proofs.Pieces.PieceLists.{piece}
+use Rattle.py_lines.proofs.Pieces.OpenBrackets.{stands}
+use Rattle.py_lines.proofs.Machine.PieceSteps.{scanned}
+use Rattle.py_lines.proofs.FieldSoundness.HostSteps.{sound_at}
+use Rattle.py_lines.proofs.FieldSoundness.WholeTexts.{no_limit, any_rooms}
+use Rattle.py_lines.proofs.FieldSoundness.LiveTexts.{steps-append}
+use Rattle.py_lines.proofs.ScanMachine.Advance.{kept_if, advance, goes}
+use Rattle.py_lines.proofs.ScanMachine.Rebased.{rebased, rebased_in, rebased_if, IsInner, step_alike, frames_more}
+use Rattle.py_lines.proofs.ScanMachine.BodyMoves.{IsBodyMode, StaysBody, body_stays, KeepsString, moved_inside, InStringIf}
+use Rattle.py_lines.proofs.ScanMachine.Follows.{openers_of, openers-length, flat, IsAlone, Own, IsTied, roomy, Alike, alike_kept, some_is, tied_fresh, StepsAlike, plain_steps, word_steps, opened_steps, empty_steps}
+
+-- a state keeps its mode and the text of its open piece, whatever stands before it
+same_mode : (done : List Piece) (os : List ℕ) (outer : List Level) (ps : List Piece) (bs : List ℕ) (m : FieldMode) (held : List ℕ) (c : ℕ) → field_move (rebased_in done os outer ps bs m held).mode (rebased_in done os outer ps bs m held).held c ≡ field_move m held c
+same_mode done os [] ps bs m held c = refl
+same_mode done os (l ∷ ls) ps bs m held c = refl
+
+-- what comes of a move that does not end the string
+stays_refused : (outer : List Level) (v : FieldMove) → IsInner [] [] outer v → string_move outer v None ≡ moves.Refused
+stays_refused [] (grows m) inner = refl
+stays_refused [] closes inner = absurd inner
+stays_refused [] breaks inner = absurd inner
+stays_refused [] (begins_code host) inner = refl
+stays_refused [] (opens_field host) inner = refl
+stays_refused [] ends_field inner = refl
+stays_refused [] refused inner = refl
+stays_refused (l ∷ ls) v inner = refl
+
+stays_fielded : (outer : List Level) (v : FieldMove) (n : FieldScanned) → IsInner [] [] outer v → string_move outer v (Some n) ≡ moves.Grows modes.Fielded
+stays_fielded [] (grows m) n inner = refl
+stays_fielded [] closes n inner = absurd inner
+stays_fielded [] breaks n inner = absurd inner
+stays_fielded [] (begins_code host) n inner = refl
+stays_fielded [] (opens_field host) n inner = refl
+stays_fielded [] ends_field n inner = refl
+stays_fielded [] refused n inner = refl
+stays_fielded (l ∷ ls) v n inner = refl
+
+before_none : (p : Place) → before p [] ≡ []
+before_none literal = refl
+before_none specification = refl
+
+module _ (done : List Piece) (held : List ℕ) (st : List Bracket) (c : ℕ) (stack : brackets_of done ≡ Some st) (t : FieldScanned) (steps : string_state held ≡ Some t) (inside : IsInString t) (bare : t ≡ rebased [] [] t) where
+  abbrev S : Scanned
+  S = scanned done modes.Fielded held
+
+  abbrev os : List ℕ
+  os = openers_of st
+
+  abbrev T : FieldScanned
+  T = rebased done os t
+
+  abbrev v : FieldMove
+  v = field_move t.mode t.held c
+
+  deep : depth_through 0 done ≡ length os
+  deep = (stands done st stack).depth ∙ sym (openers-length st)
+
+  room_same : has_room T c ≡ has_room_in (depth_through 0 done) t c
+  room_same =
+      ap (has_room_at (frames T) c) (same_mode done os t.outer t.done t.openers t.mode t.held c)
+      ∙ ap (λ (n : ℕ). has_room_at n c v) (frames_more done os t ∙ ap (λ (x : FieldScanned). length os + frames x) (sym bare) ∙ ap (λ (n : ℕ). n + frames t) (sym deep))
+
+  scan_move : (b : Bool) → has_room_in (depth_through 0 done) t c ≡ b → move_at S c ≡ (if b then string_move t.outer v (field_step t c) else moves.Refused)
+  scan_move b room = ap (λ (o : Option FieldScanned). fielded_move (depth_through 0 done) o c) steps ∙ ap (λ (x : Bool). if x then string_move t.outer v (field_step t c) else moves.Refused) room
+
+  -- both moves are known
+  both : (w : Move) (b : Bool) (o : Option FieldScanned) → move_at S c ≡ w → has_room T c ≡ b → field_step T c ≡ o → Alike (kept_if (moved S c w)) (roomy b o) → StepsAlike S T c
+  both w b o one two three alike =
+      subst (λ (x : Move). Alike (kept_if (moved S c x)) (roomy (has_room T c) (field_step T c))) (sym one)
+      (subst (λ (x : Bool). Alike (kept_if (moved S c w)) (roomy x (field_step T c))) (sym two)
+      (subst (λ (x : Option FieldScanned). Alike (kept_if (moved S c w)) (roomy b x)) (sym three) alike))
+
+  no_room : has_room_in (depth_through 0 done) t c ≡ false → StepsAlike S T c
+  no_room room = both moves.Refused false (field_step T c) (scan_move false room) (room_same ∙ room) refl tt
+
+  -- the string goes on, or refuses the character
+  goes_on : has_room_in (depth_through 0 done) t c ≡ true → IsInner [] [] t.outer v → KeepsString t.outer v → StepsAlike S T c
+  goes_on room inner stays = by (field_step t c) refl
+    where
+      inner_at : (ds : List Piece) (bs : List ℕ) (outer : List Level) (w : FieldMove) → IsInner [] [] outer w → IsInner ds bs outer w
+      inner_at ds bs [] (grows m) h = tt
+      inner_at ds bs [] closes h = h
+      inner_at ds bs [] breaks h = h
+      inner_at ds bs [] (begins_code host) h = tt
+      inner_at ds bs [] (opens_field host) h = tt
+      inner_at ds bs [] ends_field h = tt
+      inner_at ds bs [] refused h = tt
+      inner_at ds bs (l ∷ ls) w h = tt
+
+      field : field_step T c ≡ rebased_if done os (field_step t c)
+      field = step_alike done os t c (inner_at done os t.outer v inner)
+
+      alone : field_step t c ≡ rebased_if [] [] (field_step t c)
+      alone = ap (λ (x : FieldScanned). field_step x c) bare ∙ step_alike [] [] t c inner
+
+      still : InStringIf (field_step t c)
+      still = moved_inside t.outer t.done t.openers t.mode t.held c v stays
+
+      by : (o : Option FieldScanned) → field_step t c ≡ o → StepsAlike S T c
+      by None is =
+          both moves.Refused true None (scan_move true room ∙ ap (string_move t.outer v) is ∙ stays_refused t.outer v inner) (room_same ∙ room) (field ∙ ap (rebased_if done os) is) tt
+      by (Some n) is =
+          let more : string_state (held ++ c ∷ []) ≡ Some n = steps-append (Some field_text_start) held (c ∷ []) ∙ ap (λ o. field_steps_from o (c ∷ [])) steps ∙ ap (λ o. field_steps_from o []) is in
+          let own : IsAlone (held ++ c ∷ []) = record { state = n; steps = more; inside = subst InStringIf is still; bare = some_is n (rebased [] [] n) (sym is ∙ alone ∙ ap (rebased_if [] []) is) } in
+          both (moves.Grows modes.Fielded) true (Some (rebased done os n)) (scan_move true room ∙ ap (string_move t.outer v) is ∙ stays_fielded t.outer v n inner) (room_same ∙ room) (field ∙ ap (rebased_if done os) is)
+          (alike_kept (scanned done modes.Fielded (held ++ c ∷ [])) (rebased done os n) st (record { stack = stack; flat_is = ap (rebased_if done os) more; own = own }))
+
+  -- a state with no field open
+  outside_is : t.outer ≡ [] → t.held ≡ held
+  outside_is none =
+      let sound = sound_at no_limit held t (any_rooms (Some field_text_start) held) steps in
+      let nothing : t.done ≡ [] = ap (λ (x : FieldScanned). x.done) bare ∙ ap (λ (l : List Level). (rebased_in [] [] l t.done t.openers t.mode t.held).done) none in
+      sym (ap (λ (l : List Level). before (text_place t.mode) l ++ (spelled t.done ++ t.held)) none ∙ ap (λ x. x ++ (spelled t.done ++ t.held)) (before_none (text_place t.mode)) ∙ ap (λ (l : List Piece). spelled l ++ t.held) nothing) ∙ sound.spell
+
+  -- the string closes
+  closing : has_room_in (depth_through 0 done) t c ≡ true → t.outer ≡ [] → v ≡ closes → IsBodyMode t.mode → StepsAlike S T c
+  closing room none is at =
+      let p : Piece = piece string (held ++ c ∷ []) in
+      let class : field_class_of t.mode ≡ string = ap field_class_of at.4 in
+      let whole : T ≡ field_state [] done os t.mode t.held = ap (λ (l : List Level). rebased_in done os l t.done t.openers t.mode t.held) none in
+      let field : field_step T c ≡ Some (field_fresh [] (done ++ p ∷ []) os)
+      = ap (λ (x : FieldScanned). field_step x c) whole ∙ ap (field_moved (field_state [] done os t.mode t.held) c) is
+      ∙ ap (λ k. Some (field_fresh [] (done ++ piece k (t.held ++ c ∷ []) ∷ []) os)) class ∙ ap (λ x. Some (field_fresh [] (done ++ piece string (x ++ c ∷ []) ∷ []) os)) (outside_is none) in
+      both moves.Closes true (Some (field_fresh [] (done ++ p ∷ []) os)) (scan_move true room ∙ ap (λ (l : List Level). string_move l v (field_step t c)) none ∙ ap (λ (w : FieldMove). string_move [] w (field_step t c)) is) (room_same ∙ room) field
+      (alike_kept (fresh (done ++ p ∷ [])) (field_fresh [] (done ++ p ∷ []) os) st (tied_fresh done p st refl refl stack))
+
+  body_at : IsBodyMode t.mode → StaysBody v
+  body_at (host, place, named, at, is) = subst (λ (m : FieldMode). StaysBody (field_move m t.held c)) (sym is) (body_stays host place named at t.held c)
+
+  fielded_in : has_room_in (depth_through 0 done) t c ≡ true → (outer : List Level) → t.outer ≡ outer → (w : FieldMove) → v ≡ w → StepsAlike S T c
+  fielded_in room (l ∷ ls) is w move = goes_on room (subst (λ x. IsInner [] [] x v) (sym is) tt) (subst (λ x. KeepsString x v) (sym is) tt)
+  fielded_in room [] is w move = by w move (subst StaysBody move (body_at (inside is)))
+    where
+      inner : (x : FieldMove) → v ≡ x → IsInner [] [] [] x → IsInner [] [] t.outer v
+      inner x same h = subst (λ l. IsInner [] [] l v) (sym is) (subst (IsInner [] [] []) (sym same) h)
+
+      stays : (x : FieldMove) → v ≡ x → KeepsString [] x → KeepsString t.outer v
+      stays x same h = subst (λ l. KeepsString l v) (sym is) (subst (KeepsString []) (sym same) h)
+
+      by : (x : FieldMove) → v ≡ x → StaysBody x → StepsAlike S T c
+      by (grows m) same h = goes_on room (inner (grows m) same tt) (stays (grows m) same h)
+      by closes same h = closing room is same (inside is)
+      by breaks same h = absurd h
+      by (begins_code host) same h = goes_on room (inner (begins_code host) same tt) (stays (begins_code host) same tt)
+      by (opens_field host) same h = goes_on room (inner (opens_field host) same tt) (stays (opens_field host) same tt)
+      by ends_field same h = goes_on room (inner ends_field same tt) (stays ends_field same tt)
+      by refused same h = goes_on room (inner refused same tt) (stays refused same tt)
+
+  fielded_steps : StepsAlike S T c
+  fielded_steps = go (has_room_in (depth_through 0 done) t c) refl
+    where
+      go : (b : Bool) → has_room_in (depth_through 0 done) t c ≡ b → StepsAlike S T c
+      go true room = fielded_in room t.outer refl v refl
+      go false room = no_room room
+
+-- one character, wherever the two machines stand together
+tied_mode : (m : Mode) (done : List Piece) (held : List ℕ) (st : List Bracket) (t : FieldScanned) (c : ℕ) → brackets_of done ≡ Some st → flat m done (openers_of st) held ≡ Some t → Own m held → StepsAlike (scanned done m held) t c
+tied_mode (modes.Word s) done held st t c stack is own = subst (λ x. StepsAlike (scanned done (modes.Word s) held) x c) (some_is _ t is) (word_steps s done held st c own stack)
+tied_mode (modes.FieldOpened h) done held st t c stack is own = subst (λ x. StepsAlike (scanned done (modes.FieldOpened h) held) x c) (some_is _ t is) (opened_steps h done held st c own stack)
+tied_mode (modes.FieldEmpty h) done held st t c stack is own = subst (λ x. StepsAlike (scanned done (modes.FieldEmpty h) held) x c) (some_is _ t is) (empty_steps h done held st c own stack)
+tied_mode modes.Fielded done held st t c stack is own =
+    subst (λ x. StepsAlike (scanned done modes.Fielded held) x c) (some_is (rebased done (openers_of st) own.state) t (sym (ap (rebased_if done (openers_of st)) own.steps) ∙ is))
+    (fielded_steps done held st c stack own.state own.steps own.inside own.bare)
+tied_mode m done held st t c stack is own = subst (λ x. StepsAlike (scanned done m held) x c) (some_is _ t is) (plain_steps m done held st c refl refl stack)
+
+pub tied_step : (t : FieldScanned) (s : Scanned) (st : List Bracket) (c : ℕ) → IsTied t s st → StepsAlike s t c
+tied_step t s st c tied = tied_mode s.mode s.done s.held st t c tied.stack tied.flat_is tied.own
+
+-- characters, one after another, while each has room
+abbrev pub roomy_steps : Option FieldScanned → List ℕ → Option FieldScanned
+roomy_steps None cs = None
+roomy_steps (Some t) [] = Some t
+roomy_steps (Some t) (c ∷ cs) = roomy_steps (roomy (has_room t c) (field_step t c)) cs
+
+pub tied_runs : (cs : List ℕ) (o : Option Scanned) (p : Option FieldScanned) → Alike o p → Alike (goes o cs) (roomy_steps p cs)
+tied_runs cs None None alike = tt
+tied_runs cs None (Some t) alike = absurd alike
+tied_runs cs (Some s) None alike = absurd alike
+tied_runs [] (Some s) (Some t) alike = alike
+tied_runs (c ∷ cs) (Some s) (Some t) (st, tied) = tied_runs cs (advance s c) (roomy (has_room t c) (field_step t c)) (tied_step t s st c tied)

@@ -1,0 +1,33 @@
+use Rattle.std.proofs.Common.{◌≡◌, ap, sym, ◌∙◌, Bool, Some}
+use Rattle.std.specs.Prelude.{if◌then◌else◌}
+use Rattle.py_lines.specs.Faults.{open_inside, open_brace}
+use Rattle.py_lines.specs.FieldStrings.{literal}
+use Rattle.py_lines.specs.declared.field_scan.Region.{Region}
+use Rattle.py_lines.specs.declared.field_scan.Region.TheVariants as regions
+use Rattle.py_lines.specs.declared.field_scan.At.{At}
+use Rattle.py_lines.specs.declared.field_scan.At.TheVariants as ats
+use Rattle.py_lines.specs.Private.FieldMachine.{body, after_brace}
+use Rattle.py_lines.specs.Private.FieldScan.{mode_from, region_in, at_in}
+use Rattle.py_lines.specs.Private.ScanMachine.{host_in}
+use Rattle.py_lines.proofs.FieldScans.Flaws.{brace_end, brace_end_place}
+use Rattle.py_lines.proofs.field_scan.FieldScan.unfinished.Goals as goal
+use Rattle.py_lines.proofs.field_scan.FieldScan.unfinished.Goals.{then-has_room, else-has_room}
+
+-- A `{` stands directly before: it would open a field, if there is room.
+pub returns-after-has_room : goal.returns-after-has_room
+returns-after-has_room c = λ base t f inside at.
+    let w = c.in-Body-default-Literal-default-AfterBrace in
+    let region : w.field-1 ≡ regions.Literal = cc (w.is, w.field-1-is) in
+    let spot : w.field-3 ≡ ats.AfterBrace = cc (w.is, w.field-3-is) in
+    let mode : t.mode ≡ body (host_in w.field-0) literal w.field-2 after_brace =
+    sym f.mode ∙ ap mode_from w.is
+    ∙ ap (λ (r : Region). body (host_in w.field-0) (region_in r) w.field-2 (at_in w.field-3)) region
+    ∙ ap (λ (a : At). body (host_in w.field-0) literal w.field-2 (at_in a)) spot in
+    let end = brace_end c.args.self.now base c.args.depth t (host_in w.field-0) w.field-2 c.has_room.result f mode c.has_room.ensures in
+    let places = brace_end_place c.args.self.now base t (host_in w.field-0) w.field-2 c.args.place f mode at in
+    elim c.if-has_room.branch [
+      | then-has_room v ↦
+          (open_inside, end ∙ ap (λ (b : Bool). Some (if b then open_inside else open_brace)) v.if-has_room.true, v.kind-is, c.saturating_sub.ensures ∙ places.0)
+      | else-has_room v ↦
+          (open_brace, end ∙ ap (λ (b : Bool). Some (if b then open_inside else open_brace)) v.if-has_room.false, v.kind-is, c.saturating_sub.ensures ∙ places.1)
+    ]

@@ -1,0 +1,271 @@
+-- What the scan of a string with fields keeps, in the words of the machine with fields. It serves the contracts of private
+-- functions.
+use Rattle.std.specs.Prelude.{◌≡◌, ℕ, ◌+◌, ◌-◌, ◌==◌, ◌&&◌, not, nat_lt, Bool, true, false, Option, None, Some, Result, Ok, Err, List, [], ◌∷◌, ◌++◌, length, drop, encode_utf8_all, if◌then◌else◌}
+use Rattle.std.specs.Str.{all_scalars}
+use Rattle.std.specs.declared.alloc.AllocError.{AllocError}
+use Rattle.py_lines.specs.Character.{is_backslash, is_brace, is_break, is_space, is_word_character}
+use Rattle.py_lines.specs.Balance.{is_opening}
+use Rattle.py_lines.specs.LogicalLine.{byte_len}
+use Rattle.py_lines.specs.Faults.{kind_of_cause, Unfinished, open_bracket, kind_of_unfinished}
+use Rattle.py_lines.specs.Piece.{Piece, spelled}
+use Rattle.py_lines.specs.FieldStrings.{Place, literal, specification}
+use Rattle.py_lines.specs.declared.mode.Spelling.TheVariants as spellings
+use Rattle.py_lines.specs.declared.mode.Mode.{Mode}
+use Rattle.py_lines.specs.declared.mode.Move.{Move}
+use Rattle.py_lines.specs.declared.mode.Mode.TheVariants as modes
+use Rattle.py_lines.specs.declared.mode.Move.TheVariants as moves
+use Rattle.py_lines.specs.declared.host.Host as known
+use Rattle.py_lines.specs.declared.scan.Flaw.{Flaw}
+use Rattle.py_lines.specs.declared.field_scan.Region.{Region}
+use Rattle.py_lines.specs.declared.field_scan.Region.TheVariants as regions
+use Rattle.py_lines.specs.declared.field_scan.At.{At}
+use Rattle.py_lines.specs.declared.field_scan.At.TheVariants as ats
+use Rattle.py_lines.specs.declared.field_scan.FieldMode.{FieldMode}
+use Rattle.py_lines.specs.declared.field_scan.FieldMode.TheVariants as field_modes
+use Rattle.py_lines.specs.declared.field_scan.FieldMove.{FieldMove}
+use Rattle.py_lines.specs.declared.field_scan.FieldMove.TheVariants as field_moves
+use Rattle.py_lines.specs.declared.field_scan.OpenField.{OpenField}
+use Rattle.py_lines.specs.declared.field_scan.Frame.{Frame}
+use Rattle.py_lines.specs.declared.field_scan.Frame.TheVariants as frame
+use Rattle.py_lines.specs.declared.field_scan.FieldScan.{FieldScan}
+use Rattle.py_lines.specs.declared.field_scan.FieldProgress.{FieldProgress}
+use Rattle.py_lines.specs.declared.field_scan.FieldProgress.TheVariants as progress
+use Rattle.py_lines.specs.Private.Machine.{Bracket, brackets_of, Holds}
+use Rattle.py_lines.specs.Private.FieldMachine as spots
+use Rattle.py_lines.specs.Private.FieldMachine.{between, after_one, after_two, after_slash, after_return, after_name, after_brace, plain, opened, empty, body, grows, closes, breaks, begins_code, opens_field, ends_field, refused, long_host, between_move, body_move, Level, FieldScanned, field_state, field_move, field_step, before, levels_open, frames, is_after_brace}
+use Rattle.py_lines.specs.Private.FieldFlaws.{is_waiting, here, piece_start, field_start, cause_in, cause_place, unfinished_literal, unfinished_in, unfinished_place}
+use Rattle.py_lines.specs.Private.ScanMachine.{host_in, meet_of, fielded_move, IsInString}
+
+-- what the code's words are in the machine's
+abbrev pub region_in : Region → Place
+region_in regions.Literal = literal
+region_in regions.Specification = specification
+
+abbrev pub at_in : At → spots.At
+at_in ats.Between = between
+at_in ats.AfterOne = after_one
+at_in ats.AfterTwo = after_two
+at_in ats.AfterSlash = after_slash
+at_in ats.AfterReturn = after_return
+at_in ats.AfterName = after_name
+at_in ats.AfterBrace = after_brace
+
+abbrev pub code_mode : Mode → spots.FieldMode
+code_mode (modes.FieldOpened h) = opened (host_in h)
+code_mode (modes.FieldEmpty h) = empty (host_in h)
+code_mode m = plain m
+
+abbrev pub mode_from : FieldMode → spots.FieldMode
+mode_from (field_modes.Code m) = code_mode m
+mode_from (field_modes.Body h region named at) = body (host_in h) (region_in region) named (at_in at)
+
+abbrev pub move_from : FieldMove → spots.FieldMove
+move_from (field_moves.Grows m) = grows (mode_from m)
+move_from field_moves.Closes = closes
+move_from field_moves.Breaks = breaks
+move_from (field_moves.BeginsCode h) = begins_code (host_in h)
+move_from (field_moves.OpensField h) = opens_field (host_in h)
+move_from field_moves.EndsField = ends_field
+move_from field_moves.Refused = refused
+
+-- a move of a piece of code
+abbrev pub code_moved : Move → spots.FieldMove
+code_moved (moves.Grows m) = grows (code_mode m)
+code_moved moves.Closes = closes
+code_moved moves.Breaks = breaks
+code_moved moves.Refused = refused
+
+-- what a character does to the piece of code that is open
+unfoldable pub code_move : Mode → ℕ → spots.FieldMove
+code_move (modes.FieldOpened h) c = if c == h.quote then grows (empty (host_in h)) else between_move (host_in h) literal false between c
+code_move (modes.FieldEmpty h) c = if c == h.quote then grows (body (long_host (host_in h)) literal false between) else breaks
+code_move m c = code_moved (meet_of m c)
+
+-- what it does in a string with fields
+abbrev pub meets_field : FieldMode → ℕ → spots.FieldMove
+meets_field (field_modes.Code m) c = code_move m c
+meets_field (field_modes.Body h region named at) c = body_move (host_in h) (region_in region) named (at_in at) c
+
+-- whether it leaves the piece that is open as it is, where it ends no line
+abbrev pub stays_code : Mode → ℕ → Bool
+stays_code (modes.Inside q) c = not (c == q) && not (is_backslash c)
+stays_code (modes.Long q) c = not (c == q) && not (is_backslash c)
+stays_code (modes.Word spellings.Number) c = is_word_character c
+stays_code (modes.Word spellings.Name) c = is_word_character c
+stays_code modes.Space c = is_space c
+stays_code modes.Comment c = true
+stays_code other c = false
+
+abbrev pub stays_field : FieldMode → ℕ → Bool
+stays_field (field_modes.Code m) c = stays_code m c
+stays_field (field_modes.Body h region named ats.Between) c = not (c == h.quote) && (not (is_backslash c) && not (is_brace c))
+stays_field other c = false
+
+-- whether a byte is a character that does so, of ASCII, and ends no line
+abbrev pub keeps_byte : FieldMode → ℕ → Bool
+keeps_byte m b = nat_lt b 128 && (not (is_break b) && stays_field m b)
+
+-- the frames, the innermost first
+abbrev pub innermost_first : List Frame → List Frame
+innermost_first [] = []
+innermost_first (f ∷ fs) = innermost_first fs ++ f ∷ []
+
+-- the frames of brackets, where their list starts at this byte
+abbrev pub bracket_frames : ℕ → List Bracket → List Frame
+bracket_frames start [] = []
+bracket_frames start (b ∷ bs) = frame.Bracket b.opener (start + b.place) ∷ bracket_frames start bs
+
+abbrev pub bracket_openers : List Bracket → List ℕ
+bracket_openers [] = []
+bracket_openers (b ∷ bs) = b.opener ∷ bracket_openers bs
+
+-- no list stands within a specification
+abbrev pub NoListAt : Place → List Piece → List ℕ → Type 0
+NoListAt literal done openers = Unit {0}
+NoListAt specification done openers = (done ≡ []) × (openers ≡ [])
+
+abbrev pub HasNoList : spots.FieldMode → List Piece → List ℕ → Type 0
+HasNoList (body host place named at) done openers = NoListAt place done openers
+HasNoList other done openers = Unit {0}
+
+-- The frames of a state, the innermost first: the brackets of its innermost list, the field in which that stands, and the frames
+-- round that field's string. The string starts at byte `base`.
+pub data FramesFollow : ℕ → List Level → List Piece → List ℕ → List Frame → Type 0 where
+  none_open : (base : ℕ) (done : List Piece) (openers : List ℕ) (fs : List Frame) → openers ≡ [] → fs ≡ [] → FramesFollow base [] done openers fs
+  in_list : (base : ℕ) (l : Level) (ls : List Level) (done : List Piece) (openers : List ℕ) (fs : List Frame) (brackets : List Bracket)
+      (field : OpenField) (others : List Frame)
+      → brackets_of done ≡ Some brackets → openers ≡ bracket_openers brackets
+      → fs ≡ bracket_frames (base + byte_len (before literal (l ∷ ls))) brackets ++ frame.Field field ∷ others
+      → field.place ≡ base + (byte_len (before literal (l ∷ ls)) - 1) → host_in field.host ≡ l.host → region_in field.region ≡ l.place
+      → field.start ≡ base + byte_len (before l.place ls ++ spelled l.done) → NoListAt l.place l.done l.openers
+      → FramesFollow base ls l.done l.openers others → FramesFollow base (l ∷ ls) done openers fs
+
+-- what the open piece of code spells, where it isn't a string with fields
+abbrev pub HoldsCode : spots.FieldMode → List ℕ → Type 0
+HoldsCode (plain m) held = Holds m [] held
+HoldsCode other held = Unit {0}
+
+-- in a specification no `{` waits for the next character, as there it opens a field at once
+abbrev pub WaitsInLiteral : spots.FieldMode → Type 0
+WaitsInLiteral (body host specification named at) = is_after_brace at ≡ false
+WaitsInLiteral other = Unit {0}
+
+-- the scan of a string that starts at this byte keeps count of the machine
+pub record Follows (scan : FieldScan) (base : ℕ) (t : FieldScanned) : Type 0 where
+  pub mode : mode_from scan.mode ≡ t.mode
+  pub holds : HoldsCode t.mode t.held
+  pub no_list : HasNoList t.mode t.done t.openers
+  pub waits : WaitsInLiteral t.mode
+  pub full : is_waiting t.mode ≡ true → t.held ≡ [] → ⊥
+  pub start : scan.start ≡ base + piece_start t
+  pub frames : FramesFollow base t.outer t.done t.openers (innermost_first scan.frames.items)
+
+-- it begins in the body of a string, of which nothing is read
+abbrev pub FollowsBody : FieldScan → known.Host → ℕ → Type 0
+FollowsBody scan host base = (held : List ℕ) → Follows scan base (field_state [] [] [] (body (host_in host) literal false between) held)
+
+-- what one more character comes to where the machine stands so, and so many brackets are open round the string
+abbrev pub ComesTo : ℕ → ℕ → FieldScanned → ℕ → FieldScan → Result FieldProgress AllocError → FieldScan → Type 0
+ComesTo base depth t c old (Ok progress.Going) new =
+    (next : FieldScanned) × (field_step t c ≡ Some next) × (fielded_move depth (Some t) c ≡ moves.Grows modes.Fielded)
+    × IsInString next × Follows new base next
+ComesTo base depth t c old (Ok progress.Closed) new = fielded_move depth (Some t) c ≡ moves.Closes
+ComesTo base depth t c old (Ok progress.Refused) new = (fielded_move depth (Some t) c ≡ moves.Refused) × (new ≡ old)
+ComesTo base depth t c old (Err e) new = Unit {0}
+
+-- so wherever the machine stands that the scan keeps count of, if the character stands at this byte
+abbrev pub PushesField : FieldScan → ℕ → ℕ → ℕ → Result FieldProgress AllocError → FieldScan → Type 0
+PushesField old c place depth result new =
+    (base : ℕ) (t : FieldScanned) → Follows old base t → IsInString t → place ≡ base + here t → ComesTo base depth t c old result new
+
+-- these characters leave a string as it is but for its text, and end no line
+abbrev pub StaysIn : FieldScanned → List ℕ → Type 0
+StaysIn t [] = Unit {0}
+StaysIn t (c ∷ cs) =
+    (field_move t.mode t.held c ≡ grows t.mode) × (is_break c ≡ false)
+    × StaysIn (field_state t.outer t.done t.openers t.mode (t.held ++ c ∷ [])) cs
+
+-- the state with more of its text
+abbrev pub with_text : FieldScanned → List ℕ → FieldScanned
+with_text t run = field_state t.outer t.done t.openers t.mode (t.held ++ run)
+
+-- the first bytes are such characters, so many of them, and the scan follows over them
+pub record HoldsField (scan : FieldScan) (bytes : List ℕ) (len : ℕ) : Type 0 where
+  pub run : List ℕ
+  pub spell : encode_utf8_all run ++ drop len bytes ≡ bytes
+  pub scalars : all_scalars run ≡ true
+  pub size : byte_len run ≡ len
+  pub stay : (base : ℕ) (t : FieldScanned) → Follows scan base t → IsInString t → StaysIn t run × Follows scan base (with_text t run)
+
+-- what is wrong where such a string refuses a character
+abbrev pub IsFieldFlaw : ℕ → ℕ → FieldScanned → ℕ → Flaw → Type 0
+IsFieldFlaw base depth t c flaw =
+    let cause = cause_in (depth + frames t) t.mode c in
+    (flaw.kind ≡ kind_of_cause cause) × (flaw.place ≡ base + cause_place t cause)
+
+abbrev pub RefusesField : FieldScan → ℕ → ℕ → ℕ → Flaw → Type 0
+RefusesField scan c place depth flaw =
+    (base : ℕ) (t : FieldScanned) → Follows scan base t → IsInString t → place ≡ base + here t
+    → fielded_move depth (Some t) c ≡ moves.Refused → IsFieldFlaw base depth t c flaw
+
+-- what is open at the end of such a string, where so many brackets are open round it
+abbrev pub unfinished_with : ℕ → List Level → List ℕ → spots.FieldMode → Option Unfinished
+unfinished_with depth outer openers (body host literal named at) = Some (unfinished_literal host at (depth + (length openers + levels_open outer)))
+unfinished_with depth outer openers other = unfinished_in outer openers other
+
+abbrev pub unfinished_round : ℕ → FieldScanned → Option Unfinished
+unfinished_round depth t = unfinished_with depth t.outer t.openers t.mode
+
+-- the byte of the fault of a text that ends there
+abbrev pub IsUnfinishedAt : ℕ → FieldScanned → Unfinished → ℕ → Type 0
+IsUnfinishedAt base t open_bracket place =
+    (b : Bracket) × (others : List Bracket) × (brackets_of t.done ≡ Some (b ∷ others))
+    × (place ≡ base + (byte_len (before literal t.outer) + b.place))
+IsUnfinishedAt base t what place = place ≡ base + unfinished_place t what
+
+-- what is wrong where the text ends in such a string
+abbrev pub IsFieldEnd : ℕ → ℕ → FieldScanned → Flaw → Type 0
+IsFieldEnd base depth t flaw =
+    (what : Unfinished) × (unfinished_round depth t ≡ Some what) × (flaw.kind ≡ kind_of_unfinished what)
+    × IsUnfinishedAt base t what flaw.place
+
+abbrev pub EndsField : FieldScan → ℕ → ℕ → Flaw → Type 0
+EndsField scan place depth flaw =
+    (base : ℕ) (t : FieldScanned) → Follows scan base t → IsInString t → place ≡ base + here t → IsFieldEnd base depth t flaw
+
+-- the field that is open stands at this byte, where no bracket is open in it
+abbrev pub PlacesField : FieldScan → ℕ → Type 0
+PlacesField scan place =
+    (base : ℕ) (t : FieldScanned) → Follows scan base t → t.openers ≡ [] → (t.outer ≡ [] → piece_start t ≡ 0) → place ≡ base + field_start t
+
+-- what is wrong where the text ends in this piece of a field's code
+abbrev pub EndsCode : FieldScan → Mode → Flaw → Type 0
+EndsCode scan m flaw =
+    (base depth : ℕ) (t : FieldScanned) → Follows scan base t → code_mode m ≡ t.mode → IsInString t → IsFieldEnd base depth t flaw
+
+-- the scan with no piece open at this byte of the code
+abbrev pub freed_at : FieldScan → ℕ → FieldScan
+freed_at old place = record old { mode = field_modes.Code modes.Free; start = place }
+
+-- the scan back in the string round a field
+abbrev pub ended_in : FieldScan → OpenField → FieldScan
+ended_in old field = record old { mode = field_modes.Body field.host field.region false ats.Between; start = field.start }
+
+-- what was opened last
+abbrev pub IsInnermostFrame : Option Frame → List Frame → Type 0
+IsInnermostFrame None fs = fs ≡ []
+IsInnermostFrame (Some f) fs = (others : List Frame) × (fs ≡ f ∷ others)
+
+-- what a character comes to that does this
+abbrev pub TakesMove : FieldScan → ℕ → ℕ → ℕ → spots.FieldMove → Result FieldProgress AllocError → FieldScan → Type 0
+TakesMove old c place depth move result new =
+    (base : ℕ) (t : FieldScanned) → Follows old base t → IsInString t → place ≡ base + here t → field_move t.mode t.held c ≡ move
+    → ComesTo base depth t c old result new
+
+-- how many brackets and fields open with the first character of a field's code
+abbrev pub opened_with : ℕ → ℕ
+opened_with c = if is_opening c then 2 else 1
+
+-- the field whose `{` stands directly before this byte, in the literal part of the string that is open
+abbrev pub waiting_field : FieldScan → known.Host → ℕ → OpenField
+waiting_field old host place = record { place = place - 1; host = host; region = regions.Literal; start = old.start }

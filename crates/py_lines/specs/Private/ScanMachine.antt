@@ -1,0 +1,163 @@
+-- The machine that reads for `Lines` and `Scanner`, one character at a time. It is that of Machine.antt, except that a string with
+-- fields is one open piece, however much code stands in it: how far it has come, the machine of FieldMachine.antt says, which
+-- goes through the string's text alone.
+use Rattle.std.specs.Prelude.{◌≡◌, ℕ, ◌+◌, Bool, true, false, ◌==◌, ◌&&◌, Option, None, Some, List, [], ◌∷◌, ◌++◌, if◌then◌else◌}
+use Rattle.std.specs.List.{list_any}
+use Rattle.py_lines.specs.Character.{is_word_character, is_quote, is_break}
+use Rattle.py_lines.specs.Piece.{string, Piece, spelled}
+use Rattle.py_lines.specs.PieceGrammar.{AreReadIn}
+use Rattle.py_lines.specs.Balance.{depth_after, depth_through}
+use Rattle.py_lines.specs.Fields.{fielded, ShallowFields}
+use Rattle.py_lines.specs.FieldStrings.{is_field_prefix, Host, Place, with_fields}
+use Rattle.py_lines.specs.declared.host.Host as known
+use Rattle.py_lines.specs.declared.mode.Spelling.{Spelling}
+use Rattle.py_lines.specs.declared.mode.Spelling.TheVariants as spellings
+use Rattle.py_lines.specs.declared.mode.Mode.{Mode}
+use Rattle.py_lines.specs.declared.mode.Mode.TheVariants as modes
+use Rattle.py_lines.specs.declared.mode.Move.{Move}
+use Rattle.py_lines.specs.declared.mode.Move.TheVariants as moves
+use Rattle.py_lines.specs.Private.Machine.{Scanned, moved, move_of, spelling_with, Holds}
+use Rattle.py_lines.specs.Private.FieldMachine.{At, opened, empty, body, FieldMove, closes, Level, FieldScanned, field_state, field_text_start, field_move, field_step, field_steps_from, frames, has_room_at}
+
+-- whether the word is the prefix of a string with fields
+abbrev pub is_field_spelling : Spelling → Bool
+is_field_spelling spellings.F = true
+is_field_spelling spellings.Fr = true
+is_field_spelling spellings.T = true
+is_field_spelling spellings.Tr = true
+is_field_spelling other = false
+
+-- whether it has `r` besides
+abbrev pub is_raw_spelling : Spelling → Bool
+is_raw_spelling spellings.Fr = true
+is_raw_spelling spellings.Tr = true
+is_raw_spelling other = false
+
+-- whether the word is the prefix of a string, with fields or without
+abbrev pub begins_string : Spelling → Bool
+begins_string spellings.Number = false
+begins_string spellings.Name = false
+begins_string other = true
+
+-- the string with fields that the code has met
+abbrev pub host_in : known.Host → Host
+host_in h = record { quote = h.quote; is_long = h.is_long; is_raw = h.is_raw }
+
+-- what a quote does after a word
+unfoldable pub quote_move : Spelling → ℕ → Move
+quote_move s q =
+    if is_field_spelling s then moves.Grows (modes.FieldOpened (record { quote = q; is_long = false; is_raw = is_raw_spelling s }))
+    else (if begins_string s then moves.Grows (modes.Opened q) else moves.Breaks)
+
+-- what a character does after one quote of a string with fields
+unfoldable pub opened_move : known.Host → ℕ → Move
+opened_move h c =
+    if c == h.quote then moves.Grows (modes.FieldEmpty h)
+    else (if is_break c then moves.Refused else moves.Grows modes.Fielded)
+
+-- what a character does to the piece that is open, where that is no string with fields that holds something
+unfoldable pub meet_of : Mode → ℕ → Move
+meet_of (modes.Word s) c =
+    if is_word_character c then moves.Grows (modes.Word (spelling_with s c)) else (if is_quote c then quote_move s c else moves.Breaks)
+meet_of (modes.FieldOpened h) c = opened_move h c
+meet_of (modes.FieldEmpty h) c = if c == h.quote then moves.Grows modes.Fielded else moves.Breaks
+meet_of other c = move_of other c
+
+-- how far a string with fields has come, by its text alone
+abbrev pub string_state : List ℕ → Option FieldScanned
+string_state held = field_steps_from (Some field_text_start) held
+
+-- what a character comes to in such a string, where these fields are open: it closes the string, may not stand there, or goes on in it
+abbrev pub string_move : List Level → FieldMove → Option FieldScanned → Move
+string_move [] closes next = moves.Closes
+string_move outer move None = moves.Refused
+string_move outer move (Some next) = moves.Grows modes.Fielded
+
+-- whether a character opens no bracket and no field at depth 200 in such a string, which stands at this depth
+abbrev pub has_room_in : ℕ → FieldScanned → ℕ → Bool
+has_room_in depth t c = has_room_at (depth + frames t) c (field_move t.mode t.held c)
+
+-- so for all characters of a text
+abbrev pub have_room_in : ℕ → Option FieldScanned → List ℕ → Bool
+have_room_in depth None cs = true
+have_room_in depth (Some t) [] = true
+have_room_in depth (Some t) (c ∷ cs) = has_room_in depth t c && have_room_in depth (field_step t c) cs
+
+-- what a character does to such a string
+abbrev pub fielded_move : ℕ → Option FieldScanned → ℕ → Move
+fielded_move depth None c = moves.Refused
+fielded_move depth (Some t) c =
+    if has_room_in depth t c then string_move t.outer (field_move t.mode t.held c) (field_step t c) else moves.Refused
+
+-- what a character does to the piece that is open, at this depth of brackets
+abbrev pub move_in : Mode → ℕ → List ℕ → ℕ → Move
+move_in modes.Fielded depth held c = fielded_move depth (string_state held) c
+move_in m depth held c = meet_of m c
+
+abbrev pub move_at : Scanned → ℕ → Move
+move_at s c = move_in s.mode (depth_through 0 s.done) s.held c
+
+-- one character
+abbrev pub scan_step : Scanned → ℕ → Option Scanned
+scan_step s c = moved s c (move_at s c)
+
+-- characters, one after another
+abbrev pub scan_steps : Option Scanned → List ℕ → Option Scanned
+scan_steps None cs = None
+scan_steps (Some s) [] = Some s
+scan_steps (Some s) (c ∷ cs) = scan_steps (scan_step s c) cs
+
+-- a string without fields begins so: its prefix has neither `f` nor `t`
+pub record BeginsPlain (text : List ℕ) : Type 0 where
+  pub prefix : List ℕ
+  pub quote : ℕ
+  pub body : List ℕ
+  pub spell : text ≡ prefix ++ quote ∷ body
+  pub none : list_any is_quote prefix ≡ false
+  pub opens : is_quote quote ≡ true
+  pub plain : is_field_prefix prefix ≡ false
+
+-- the machine is in the body of a string with fields, or in a field of it
+abbrev pub IsInString : FieldScanned → Type 0
+IsInString t = t.outer ≡ [] → (host : Host) × (place : Place) × (named : Bool) × (at : At) × (t.mode ≡ body host place named at)
+
+-- no piece stands before the outermost string, and no bracket is open there
+abbrev pub IsBare : List Level → List Piece → List ℕ → Type 0
+IsBare [] done openers = (done ≡ []) × (openers ≡ [])
+IsBare (l ∷ ls) done openers = IsBare ls l.done l.openers
+
+-- a string with fields is open, alone, and has come so far
+pub record HoldsFields (depth : ℕ) (held : List ℕ) : Type 0 where
+  pub state : FieldScanned
+  pub steps : string_state held ≡ Some state
+  pub room : have_room_in depth (Some field_text_start) held ≡ true
+  pub inside : IsInString state
+  pub bare : IsBare state.outer state.done state.openers
+
+-- what the open piece spells, in each mode
+abbrev pub HoldsOpen : Mode → List Piece → List ℕ → Type 0
+HoldsOpen (modes.Opened q) done held = Holds (modes.Opened q) done held × BeginsPlain held
+HoldsOpen (modes.Inside q) done held = Holds (modes.Inside q) done held × BeginsPlain held
+HoldsOpen (modes.Escape q) done held = Holds (modes.Escape q) done held × BeginsPlain held
+HoldsOpen (modes.EscapeReturn q) done held = Holds (modes.EscapeReturn q) done held × BeginsPlain held
+HoldsOpen (modes.Empty q) done held = Holds (modes.Empty q) done held × BeginsPlain held
+HoldsOpen (modes.Long q) done held = Holds (modes.Long q) done held × BeginsPlain held
+HoldsOpen (modes.LongOne q) done held = Holds (modes.LongOne q) done held × BeginsPlain held
+HoldsOpen (modes.LongTwo q) done held = Holds (modes.LongTwo q) done held × BeginsPlain held
+HoldsOpen (modes.LongEscape q) done held = Holds (modes.LongEscape q) done held × BeginsPlain held
+HoldsOpen (modes.FieldOpened h) done held = string_state held ≡ Some (field_state [] [] [] (opened (host_in h)) held)
+HoldsOpen (modes.FieldEmpty h) done held = string_state held ≡ Some (field_state [] [] [] (empty (host_in h)) held)
+HoldsOpen modes.Fielded done held = HoldsFields (depth_through 0 done) held
+HoldsOpen other done held = Holds other done held
+
+-- no string among pieces, which begin at this depth, opens a bracket or a field at depth 200
+abbrev pub StringsFit : ℕ → List Piece → Type 0
+StringsFit depth [] = Unit {0}
+StringsFit depth (p ∷ ps) = (p.class ≡ string → (with_fields (ShallowFields depth)).IsString p.text) × StringsFit (depth_after depth p) ps
+
+-- the machine has read these characters, and stands so
+pub record IsScanSound (s : Scanned) (read : List ℕ) : Type 0 where
+  pub spell : spelled s.done ++ s.held ≡ read
+  pub holds : HoldsOpen s.mode s.done s.held
+  pub fit : (more : List ℕ) → AreReadIn fielded s.done (s.held ++ more)
+  pub strings : StringsFit 0 s.done
