@@ -3,6 +3,8 @@ pub mod Frames
 pub mod Moves
 pub mod Runs
 pub mod Steps
+pub mod Texts
+pub mod TextLengths
 pub mod Taking
 pub mod Operators
 pub mod FieldOpenings

@@ -47,7 +47,9 @@
 -- is scanned from its own start.
 --
 -- The scan of a string with fields (proofs/FieldScans): what it keeps is the mode, the place and the frames of that machine's
--- state (`Follows`, specs/Private/FieldScan), and each character keeps it so.
+-- state (`Follows`, specs/Private/FieldScan), and each character keeps it so. Simple text, with whole fields, leads the machine from
+-- one place of a string to another (`Leads`, specs/Private/FieldText; FieldScans/Texts and TextLengths), whatever was open before: so a
+-- string is taken whole (LineScan/WholeStrings), and a part of one as a run (FieldScans/Runs).
 --
 -- The reader (proofs/Readers) puts these together for one call: a line, a fault or the end.
 --

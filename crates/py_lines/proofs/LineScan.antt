@@ -11,6 +11,7 @@ pub mod Increments
 pub mod Runs
 pub mod Spans
 pub mod ShortPieces
+pub mod WholeStrings
 pub mod EarlyEnds
 pub mod ByteTable
 pub mod FirstBytes

@@ -5,6 +5,7 @@ pub mod FieldMachine
 pub mod ScanMachine
 pub mod FieldFlaws
 pub mod FieldScan
+pub mod FieldText
 pub mod Scan
 pub mod LineState
 pub mod Source

@@ -11,13 +11,14 @@ ghost use Rattle.py_lines.specs.Private.FieldScan.{at_in, region_in, mode_from, 
 ghost use Rattle.py_lines.specs.Private.ScanMachine.{host_in};
 
 use crate::character::{
-    is_backslash, is_brace, is_break, is_closing, is_line_feed, is_opening, is_return, is_space,
-    is_word_character,
+    is_backslash, is_brace, is_break, is_closing, is_line_feed, is_opening, is_quote, is_return,
+    is_space, is_word_character,
 };
 use crate::fault::FaultKind;
 use crate::host::Host;
 use crate::mode::{Mode, Move, Spelling, Start};
 use crate::scan::Flaw;
+use crate::whole_strings::text_len;
 use std::alloc::{AllocError, Global};
 
 /// How many brackets and fields may be open at once.
@@ -366,7 +367,7 @@ impl FieldScan {
     ghost use Rattle.std.specs.Prelude.{ℕ, false, Some, Ok, IfOk};
     ghost use Rattle.py_lines.specs.Private.Machine.{start_of};
     ghost use Rattle.py_lines.specs.Private.FieldMachine.{closes, breaks, begins_code, opens_field, ends_field};
-    ghost use Rattle.py_lines.specs.Private.FieldScan.{EndsCode, EndsField, FollowsBody, HoldsField, IsInnermostFrame, PlacesField, PushesField, RefusesField, TakesMove, ended_in, freed_at, innermost_first, waiting_field};
+    ghost use Rattle.py_lines.specs.Private.FieldScan.{EndsCode, EndsField, FollowsBody, HoldsField, IsInnermostFrame, PlacesField, PushesField, RefusesField, StandsInText, TakesMove, ended_in, freed_at, innermost_first, waiting_field};
     ghost use Rattle.py_lines.specs.declared.mode.Start.TheVariants.{Operator};
     ghost use Rattle.py_lines.specs.declared.field_scan.Frame.{Frame};
 
@@ -685,15 +686,38 @@ impl FieldScan {
         }
     }
 
-    /// How many bytes of whole characters leave the string as it is but for its text, and end no line: as many as are ASCII.
-    pub fn hold(&self, bytes: &[u8]) -> usize
-        ensures { HoldsField self.now bytes.now result }
+    /// How many bytes of ASCII leave the open piece as it is but for its text, and end no line.
+    fn keep(&self, depth: usize, bytes: &[u8]) -> usize
+        ensures { HoldsField self.now depth bytes.now result }
     {
         let mut len = 0;
         while len < bytes.len() && self.mode.keeps(bytes[len]) {
             len += 1;
         }
         len
+    }
+
+    /// Whether the literal part is open, between two parts of it, and there is room for all that simple text opens. The string's
+    /// quote then.
+    fn open_text(&self, depth: usize) -> Option<u8>
+        ensures { StandsInText self.now depth result }
+    {
+        match self.mode {
+            FieldMode::Body(host, Region::Literal, false, At::Between)
+                if is_quote(host.quote) && self.has_room(depth, 100) => Some(host.quote as u8),
+            _ => None,
+        }
+    }
+
+    /// How many bytes of ASCII leave the scan as it is, and end no line, where so many brackets are open round the string: those
+    /// that leave the open piece as it is but for its text, or simple text with whole fields.
+    pub fn hold(&self, depth: usize, bytes: &[u8]) -> usize
+        ensures { HoldsField self.now depth bytes.now result }
+    {
+        match self.open_text(depth) {
+            Some(quote) => text_len(quote, bytes),
+            None => self.keep(depth, bytes),
+        }
     }
 
     /// Whether as much is open as may be, where so many brackets are open round the string.

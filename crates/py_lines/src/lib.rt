@@ -20,6 +20,7 @@ mod token;
 mod unit;
 mod utf8;
 mod whole_pieces;
+mod whole_strings;
 
 pub use fault::{Fault, FaultKind, LexError};
 pub use lines::Lines;

@@ -156,7 +156,7 @@ impl Spelling {
     }
 
     /// Whether the word spells the prefix of a string with fields.
-    fn has_fields(self) -> bool
+    pub fn has_fields(self) -> bool
         ensures { result ≡ is_field_spelling self }
     {
         matches!(

@@ -3,9 +3,9 @@
 ghost use Rattle.std.specs.Prelude.{◌≡◌, ◌<◌, ◌≤◌, ◌==◌, ℕ, Bool, true, List, length};
 ghost use Rattle.py_lines.specs.Character.{is_space};
 ghost use Rattle.py_lines.specs.declared.mode.Mode.TheVariants.{Word};
-ghost use Rattle.py_lines.specs.Private.Run.{BeginsSo, CountsSet, HasAsciiQuote, HasRun, IsRunOf, IsWholeComment, IsWordBeforeMore, Marks, Spans, is_between, is_in_run, is_ascii_word, is_comment_byte, is_body_byte, is_text_byte, is_remark_byte, stays};
+ghost use Rattle.py_lines.specs.Private.Run.{BeginsSo, CountsSet, HasAsciiQuote, HasRun, IsRunOf, IsWholeComment, IsWordBeforeMore, Marks, Spans, is_between, is_in_run, is_ascii_word, is_comment_byte, is_body_byte, is_text_byte, is_literal_byte, is_code_byte, is_code_sign, is_remark_byte, stays};
 
-use crate::character::is_break;
+use crate::character::{is_brace, is_break};
 use crate::mode::{Mode, Spelling};
 use crate::run::FirstByte::{
     Backslash as K, Bracket as B, Hash as H, LineFeed as L, Operator as O, Other as X, Quote as Q,
@@ -84,6 +84,28 @@ fn is_text_byte(quote: u8, b: u8) -> bool
     is_body_byte(quote, b) && b < 128
 }
 
+/// The same in a string with fields, where the byte is no brace either.
+fn is_literal_byte(quote: u8, b: u8) -> bool
+    ensures { result ≡ is_literal_byte quote b }
+{
+    is_text_byte(quote, b) && !is_brace(b as char)
+}
+
+/// Whether the byte is a space or one of the operators `!`, `=` and those from `*` to `/`, which code in fields has mostly.
+#[tactic(auto, unfolding(crate::specs::Private::Run::is_code_sign))]
+fn is_code_sign(b: u8) -> bool
+    ensures { result ≡ is_code_sign b }
+{
+    matches!(b, b'*'..=b'/' | b' '..=b'!' | b'=')
+}
+
+/// The same, or a byte of words.
+fn is_code_byte(b: u8) -> bool
+    ensures { result ≡ is_code_byte b }
+{
+    is_ascii_word(b) || is_code_sign(b)
+}
+
 /// Whether the byte is ASCII, and ends no line.
 fn is_remark_byte(b: u8) -> bool
     ensures { result ≡ is_remark_byte b }
@@ -150,6 +172,32 @@ fn text(quote: u8, lanes: u8x16) -> u8x16
     body(quote, lanes) & ascii
 }
 
+/// The lanes of the text of a string with fields, where it is ASCII.
+#[inline(always)]
+fn literal(quote: u8, lanes: u8x16) -> u8x16
+    ensures { Marks (is_literal_byte quote) lanes result }
+{
+    let braces = equal(lanes, b'{') | equal(lanes, b'}');
+    text(quote, lanes) & equal(braces, 0)
+}
+
+/// The lanes that hold spaces, or operators that code in fields has mostly.
+#[inline(always)]
+fn code_signs(lanes: u8x16) -> u8x16
+    ensures { Marks is_code_sign lanes result }
+{
+    let others = between(lanes, b' ', b'!') | equal(lanes, b'=');
+    between(lanes, b'*', b'/') | others
+}
+
+/// The lanes of code in fields.
+#[inline(always)]
+fn code(lanes: u8x16) -> u8x16
+    ensures { Marks is_code_byte lanes result }
+{
+    words(lanes) | code_signs(lanes)
+}
+
 /// The lanes of a comment, where it is ASCII.
 #[inline(always)]
 fn remark(lanes: u8x16) -> u8x16
@@ -185,6 +233,10 @@ pub enum ByteRun {
     Body(u8),
     /// The same, as far as it is ASCII.
     Text(u8),
+    /// The text of a string with fields of this quote, up to a brace too.
+    Literal(u8),
+    /// Code in a field: words, spaces and the operators that it has mostly.
+    Code,
     /// A comment, as far as it is ASCII.
     Remark,
 }
@@ -199,6 +251,8 @@ impl ByteRun {
             ByteRun::Space => is_space_byte(b),
             ByteRun::Body(quote) => is_body_byte(quote, b),
             ByteRun::Text(quote) => is_text_byte(quote, b),
+            ByteRun::Literal(quote) => is_literal_byte(quote, b),
+            ByteRun::Code => is_code_byte(b),
             ByteRun::Remark => is_remark_byte(b),
         }
     }
@@ -213,6 +267,8 @@ impl ByteRun {
             ByteRun::Space => spaces(lanes),
             ByteRun::Body(quote) => body(quote, lanes),
             ByteRun::Text(quote) => text(quote, lanes),
+            ByteRun::Literal(quote) => literal(quote, lanes),
+            ByteRun::Code => code(lanes),
             ByteRun::Remark => remark(lanes),
         }
     }

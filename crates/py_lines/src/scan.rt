@@ -474,7 +474,7 @@ impl Scan {
         ensures { HeldIn self.now bytes.now result }
     {
         if matches!(self.piece.mode, Mode::Fielded) {
-            self.fields.hold(bytes)
+            self.fields.hold(self.brackets.len(), bytes)
         } else {
             characters_in(self.piece.mode, bytes)
         }

@@ -4,7 +4,7 @@ ghost use Rattle.std.specs.Prelude.{◌≡◌, ◌+◌, ◌<◌, ◌^◌, true, 
 ghost use Rattle.py_lines.specs.Character.{is_hash, is_operator, is_quote, is_return, is_space};
 ghost use Rattle.py_lines.specs.Piece.{begins};
 ghost use Rattle.py_lines.specs.Private.Scan.{stack_of};
-ghost use Rattle.py_lines.specs.Private.Run.{WhereverReached, is_free, opened, AddsTokens, IsSpaceAfter, IsWholeWord, MeetsToken, TakesTokens, follows_space, AddsToken, TakesRun, TakesText, TakesBracket, TakesLineFeed, TakesReturn, TakesPiece, TakesRemark, line_ended, word_mode, space_mode, IsNoLonger, LeavesOff, is_ascii_word, follows, may_begin};
+ghost use Rattle.py_lines.specs.Private.Run.{WhereverReached, is_free, opened, AddsTokens, FindsToken, IsSpaceAfter, IsWholeWord, MeetsToken, TakesTokens, follows_space, AddsToken, TakesRun, TakesText, TakesBracket, TakesFields, TakesLineFeed, TakesReturn, TakesPiece, TakesRemark, line_ended, word_mode, space_mode, IsNoLonger, LeavesOff, is_ascii_word, follows, may_begin};
 ghost use Rattle.py_lines.specs.Token.{is_comment};
 
 use crate::character::is_line_feed;
@@ -13,6 +13,7 @@ use crate::run::{ByteRun, FirstByte, whole_comment, word_before_more};
 use crate::scan::{OpenPiece, Scan};
 use crate::token::{TokKind, Token};
 use crate::unit::UnitKind;
+use crate::whole_strings::{whole_string, whole_text};
 use std::alloc::AllocError;
 
 /// `add_tokens` looks for a token where more bytes than these stand, so that it needn't ask for each byte whether there is one.
@@ -172,14 +173,27 @@ impl Scan {
         requires begins { begins is_quote bytes.now ≡ true }
         ensures { TakesText self.old bytes.now result self.new }
     {
-        let quote = bytes[0];
-        let body = &bytes[1..];
-        let len = ByteRun::Text(quote).len_in(body);
-        if len == 0 || len == body.len() || body[len] != quote {
+        let Some(len) = whole_text(bytes) else {
+            return Ok(Taken::Nothing);
+        };
+        self.add(TokKind::Str, len)?;
+        Ok(Taken::Bytes(len))
+    }
+
+    /// Takes the string with fields that the bytes begin with, after closed pieces: where it is short and its text is simple, and
+    /// there is room for all that such a text opens.
+    fn take_string_with_fields(&mut self, bytes: &[u8]) -> Result<Taken, AllocError>
+        requires bytes { self.old.stop + length bytes.now < 2 ^ 64 }
+        ensures { TakesFields self.old bytes.now result self.new }
+    {
+        let Some(len) = whole_string(bytes) else {
+            return Ok(Taken::Nothing);
+        };
+        if self.brackets.len() > 100 {
             return Ok(Taken::Nothing);
         }
-        self.add(TokKind::Str, len + 2)?;
-        Ok(Taken::Bytes(len + 2))
+        self.add(TokKind::Str, len)?;
+        Ok(Taken::Bytes(len))
     }
 
     /// Takes the bracket that the bytes begin with, after closed pieces, if it may stand there.
@@ -329,7 +343,46 @@ impl Scan {
         }
     }
 
-    /// The token that the bytes begin with at this byte of the line, after closed pieces, and its length: a word, or
+    /// The string that the bytes begin with, and its length, if it is whole and more than one byte follows.
+    #[inline(always)]
+    fn find_text(&self, bytes: &[u8]) -> Option<(TokKind, usize)>
+        requires begins { begins is_quote bytes.now ≡ true }
+        ensures { FindsToken self.now bytes.now result }
+    {
+        let len = whole_text(bytes)?;
+        if bytes.len() - len < 2 {
+            return None;
+        }
+        Some((TokKind::Str, len))
+    }
+
+    /// The string with fields that the bytes begin with, and its length, if it is whole and more than one byte follows, and there is
+    /// room for all that such a text opens.
+    fn find_string_with_fields(&self, bytes: &[u8]) -> Option<(TokKind, usize)>
+        ensures { FindsToken self.now bytes.now result }
+    {
+        let len = whole_string(bytes)?;
+        if bytes.len() - len < 2 || self.brackets.len() > 100 {
+            return None;
+        }
+        Some((TokKind::Str, len))
+    }
+
+    /// The word that the bytes begin with, or the string with fields whose prefix it is, and its length.
+    #[inline(always)]
+    fn find_word(&self, first: u8, bytes: &[u8]) -> Option<(TokKind, usize)>
+        requires bytes { 17 < length bytes.now }
+        requires first { first ≡ slice_index bytes.now 0 }
+        requires begins { begins is_ascii_word bytes.now ≡ true }
+        ensures { FindsToken self.now bytes.now result }
+    {
+        match self.whole_word(first, bytes) {
+            Some(word) => Some(word),
+            None => self.find_string_with_fields(bytes),
+        }
+    }
+
+    /// The token that the bytes begin with at this byte of the line, after closed pieces, and its length: a word, a string, or
     /// an operator that may stand there. Its brackets have met then.
     #[inline(always)]
     fn meet_token(
@@ -342,7 +395,8 @@ impl Scan {
     {
         let first = bytes[0];
         match FirstByte::of(first) {
-            FirstByte::Word => Ok(self.whole_word(first, bytes)),
+            FirstByte::Word => Ok(self.find_word(first, bytes)),
+            FirstByte::Quote => Ok(self.find_text(bytes)),
             FirstByte::Operator => Ok(Some((TokKind::Op(first), 1))),
             FirstByte::Bracket => {
                 if !self.brackets.meet(first as char, place)? {
@@ -400,7 +454,19 @@ impl Scan {
         Ok(len)
     }
 
-    /// Takes the word or operator that the bytes begin with, after closed pieces.
+    /// Takes the word that the bytes begin with, after closed pieces, or the string with fields whose prefix it is.
+    fn take_word_or_string(&mut self, bytes: &[u8]) -> Result<Taken, AllocError>
+        requires bytes { self.old.stop + length bytes.now < 2 ^ 64 }
+        requires begins { begins is_ascii_word bytes.now ≡ true }
+        ensures { TakesPiece self.old bytes.now result self.new }
+    {
+        match self.take_string_with_fields(bytes)? {
+            Taken::Nothing => Ok(Taken::Bytes(self.take_word(bytes)?)),
+            taken => Ok(taken),
+        }
+    }
+
+    /// Takes the word, the string with fields or the operator that the bytes begin with, after closed pieces.
     fn take_token(&mut self, bytes: &[u8]) -> Result<Taken, AllocError>
         requires bytes { self.old.stop + length bytes.now < 2 ^ 64 }
         requires some { 0 < length bytes.now }
@@ -408,7 +474,7 @@ impl Scan {
     {
         let first = bytes[0];
         match FirstByte::of(first) {
-            FirstByte::Word => Ok(Taken::Bytes(self.take_word(bytes)?)),
+            FirstByte::Word => self.take_word_or_string(bytes),
             FirstByte::Operator => {
                 self.add(TokKind::Op(first), 1)?;
                 Ok(Taken::Bytes(1))
@@ -418,7 +484,7 @@ impl Scan {
         }
     }
 
-    /// Takes the words and operators that the bytes begin with, after closed pieces: all that follow one another, or one.
+    /// Takes the tokens that the bytes begin with, after closed pieces: all that follow one another, or one.
     #[inline(always)]
     fn take_tokens_or_one(&mut self, bytes: &[u8]) -> Result<Taken, AllocError>
         requires free { is_free self.old.piece.mode ≡ true }

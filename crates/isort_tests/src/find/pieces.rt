@@ -215,6 +215,21 @@ const ROWS: &[Row<'static>] = &[
     Row(b"f\"{{{x}}}\"", ALL, "end\nat 10, 0\n"),
     Row(b"f\"{{\" f\"}}\"", ALL, "end\nat 11, 0\n"),
     Row(b"f'{\n1}'\nimport a\n", ALL, "3 import a\nend\nat 17, 1\n"),
+    Row(
+        b"rF'{a.b(c, d)[0] + e!r:>9} {{}} }{}'\nimport a\n",
+        ALL,
+        "2 import a\nend\nat 46, 1\n",
+    ),
+    Row(
+        b"f\"\\t{', '.join(x)}\\\"{b'}'}\"\nimport a\n",
+        ALL,
+        "2 import a\nend\nat 37, 1\n",
+    ),
+    Row(
+        b"f'{a(b]}'",
+        ALL,
+        "F5 closing bracket without its opening, 6, 1\nat 0, 0\n",
+    ),
     Row(b"f\"{x", ALL, "F10 field not closed, 2, 1\nat 0, 0\n"),
     Row(b"f\"{x:\"", ALL, "F10 field not closed, 2, 1\nat 0, 0\n"),
     Row(b"f\"{\"", ALL, "F3 string not closed, 3, 1\nat 0, 0\n"),

@@ -193,6 +193,21 @@ const ROWS: &[Lexed] = &[
         "(Code, 0, 1, 0, 1) (Str, \"f'{\\n1}'\", 1); (Code, 8, 3, 0, 1) (Name, \"import\", 3) (Name, \"a\", 3); end",
         (17, 4),
     ),
+    Lexed(
+        b"rF'{a.b(c, d)[0] + e!r:>9} {{}} }{}'\nimport a\n",
+        "(Code, 0, 1, 0, 1) (Str, \"rF'{a.b(c, d)[0] + e!r:>9} {{}} }{}'\", 1); (Code, 37, 2, 0, 1) (Name, \"import\", 2) (Name, \"a\", 2); end",
+        (46, 3),
+    ),
+    Lexed(
+        b"f\"\\t{', '.join(x)}\\\"{b'}'}\"\nimport a\n",
+        "(Code, 0, 1, 0, 1) (Str, \"f\\\"\\\\t{', '.join(x)}\\\\\\\"{b'}'}\\\"\", 1); (Code, 28, 2, 0, 1) (Name, \"import\", 2) (Name, \"a\", 2); end",
+        (37, 3),
+    ),
+    Lexed(
+        b"f'{a(b]}'",
+        "6 line 1: F5 closing bracket without its opening",
+        (0, 1),
+    ),
     Lexed(b"f\"{x", "2 line 1: F10 field not closed", (0, 1)),
     Lexed(b"f\"{x:\"", "2 line 1: F10 field not closed", (0, 1)),
     Lexed(b"f\"{\"", "3 line 1: F3 string not closed", (0, 1)),

@@ -25,16 +25,16 @@ pub code_moves : (host : Host) (named : Bool) (held : List ℕ) (c : ℕ) → c 
 unfolding field_move body_move
 code_moves host named held c other = rw other
 
-end_no_quote : is_quote 125 ≡ false
+pub end_no_quote : is_quote 125 ≡ false
 unfolding is_quote
 end_no_quote = refl
 
 -- the `}` of a specification
-end_moves : (host : Host) (at : At) → is_quote host.quote ≡ true → between_move host specification false at 125 ≡ ends_field
+pub end_moves : (host : Host) (at : At) → is_quote host.quote ≡ true → between_move host specification false at 125 ≡ ends_field
 unfolding between_move is_backslash is_break
 end_moves host at quotes = rw (not_quote 125 host.quote quotes end_no_quote)
 
-brace_ends : (level : Level) (outer : List Level) (done : List Piece) → code_operator level outer done 125 ≡ Some (field_ended level outer (level.front ++ (spelled done ++ 125 ∷ [])))
+pub brace_ends : (level : Level) (outer : List Level) (done : List Piece) → code_operator level outer done 125 ≡ Some (field_ended level outer (level.front ++ (spelled done ++ 125 ∷ [])))
 unfolding code_operator
 brace_ends level outer done = refl
 
@@ -42,7 +42,7 @@ pub colon_opens : (level : Level) (outer : List Level) (done : List Piece) → c
 unfolding code_operator
 colon_opens level outer done = refl
 
-brace_starts : start_of 125 ≡ starts.Operator
+pub brace_starts : start_of 125 ≡ starts.Operator
 unfolding is_operator
 brace_starts = start-operator 125 refl
 
@@ -50,7 +50,7 @@ pub colon_starts : start_of 58 ≡ starts.Operator
 unfolding is_operator
 colon_starts = start-operator 58 refl
 
-brace_opens_none : is_opening 125 ≡ false
+pub brace_opens_none : is_opening 125 ≡ false
 unfolding is_opening
 brace_opens_none = refl
 

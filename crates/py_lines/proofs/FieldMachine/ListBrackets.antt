@@ -20,11 +20,11 @@ unfolding openers_with
 opening_pushes [] c h = rw h
 opening_pushes (o ∷ os) c h = rw h
 
-closing_pops : (o : ℕ) (os : List ℕ) (c : ℕ) → is_closing c ≡ true → c == closing_of o ≡ true → openers_with (o ∷ os) c ≡ Some os
+pub closing_pops : (o : ℕ) (os : List ℕ) (c : ℕ) → is_closing c ≡ true → c == closing_of o ≡ true → openers_with (o ∷ os) c ≡ Some os
 unfolding openers_with
 closing_pops o os c h kind = rw (closing-not-opening c h, h, kind)
 
-others_keep : (os : List ℕ) (c : ℕ) → is_opening c ≡ false → is_closing c ≡ false → openers_with os c ≡ Some os
+pub others_keep : (os : List ℕ) (c : ℕ) → is_opening c ≡ false → is_closing c ≡ false → openers_with os c ≡ Some os
 unfolding openers_with
 others_keep [] c h k = rw (h, k)
 others_keep (o ∷ os) c h k = rw (h, k)

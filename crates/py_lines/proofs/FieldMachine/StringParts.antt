@@ -165,7 +165,7 @@ name_escaped : (host : Host) (place : Place) (named : Bool) (held : List ℕ) (c
 unfolding escape_move
 name_escaped host place named held c no_brace may other is_name = escape_moves host place named held c ∙ rw (no_brace, may_escape host place c may, other, is_name)
 
-other_escaped : (host : Host) (place : Place) (named : Bool) (held : List ℕ) (c : ℕ) → is_brace c ≡ false → may_be_escaped host place c ≡ true → is_return c ≡ false → names host c ≡ false → field_move (body host place named after_slash) held c ≡ grows (body host place named between)
+pub other_escaped : (host : Host) (place : Place) (named : Bool) (held : List ℕ) (c : ℕ) → is_brace c ≡ false → may_be_escaped host place c ≡ true → is_return c ≡ false → names host c ≡ false → field_move (body host place named after_slash) held c ≡ grows (body host place named between)
 unfolding escape_move
 other_escaped host place named held c no_brace may other no_name = escape_moves host place named held c ∙ rw (no_brace, may_escape host place c may, other, no_name)
 
@@ -177,7 +177,7 @@ brace_after_name : (host : Host) (place : Place) (named : Bool) (held : List ℕ
 unfolding field_move body_move
 brace_after_name host place named held = refl
 
-second_brace : (host : Host) (place : Place) (named : Bool) (held : List ℕ) → field_move (body host place named after_brace) held 123 ≡ grows (body host place named between)
+pub second_brace : (host : Host) (place : Place) (named : Bool) (held : List ℕ) → field_move (body host place named after_brace) held 123 ≡ grows (body host place named between)
 unfolding field_move body_move
 second_brace host place named held = refl
 

@@ -1,6 +1,6 @@
 -- Characters that leave the open piece of a string with fields as it is are held in one step.
-use Rattle.std.proofs.Common.{◌≡◌, ℕ, suc, ◌<◌, ◌≤◌, Bool, true, false, not, ◌||◌, ◌&&◌, ◌==◌, List, [], ◌∷◌, ◌++◌, length, take, drop, slice_index, refl, sym, ap, ◌∙◌, subst, append_assoc, append-nil, arith, length-append, take-append-drop}
-use Rattle.std.specs.Prelude.{encode_utf8_all, nat_lt}
+use Rattle.std.proofs.Common.{◌≡◌, ℕ, suc, ◌+◌, ◌<◌, ◌≤◌, Bool, true, false, not, ◌||◌, ◌&&◌, ◌==◌, List, [], ◌∷◌, ◌++◌, length, take, drop, slice_index, refl, sym, ap, ◌∙◌, subst, append_assoc, append-nil, arith, length-append, take-append-drop}
+use Rattle.std.specs.Prelude.{encode_utf8_all, nat_lt, Some}
 use Rattle.std.specs.Str.{all_scalars, byte, IsAscii}
 use Rattle.std.specs.Char.{IsScalar}
 use Rattle.std.specs.List.{list_all}
@@ -9,8 +9,9 @@ use Rattle.std.proofs.lemmas.Bool.Decides.{nat_tests}
 use Rattle.std.proofs.lemmas.List.{length-take-le, get_or-take}
 use Rattle.std.proofs.lemmas.Str.{encodes-IsAscii}
 use Rattle.std.proofs.lemmas.Str.Ascii.{IsAscii-nil, IsAscii-cons}
-use Rattle.py_lines.specs.Character.{is_backslash, is_brace, is_break}
-use Rattle.py_lines.specs.FieldStrings.{Host, Place}
+use Rattle.py_lines.specs.Character.{is_backslash, is_brace, is_break, is_quote}
+use Rattle.py_lines.specs.FieldStrings.{Host, Place, literal}
+use Rattle.py_lines.specs.declared.host.Host as known
 use Rattle.py_lines.specs.declared.mode.Spelling.TheVariants as spellings
 use Rattle.py_lines.specs.declared.mode.Mode.{Mode}
 use Rattle.py_lines.specs.declared.mode.Mode.TheVariants as modes
@@ -18,13 +19,17 @@ use Rattle.py_lines.specs.declared.mode.Move.TheVariants as moves
 use Rattle.py_lines.specs.declared.field_scan.FieldMode.{FieldMode}
 use Rattle.py_lines.specs.declared.field_scan.FieldMode.TheVariants as field_modes
 use Rattle.py_lines.specs.declared.field_scan.At.TheVariants as ats
+use Rattle.py_lines.specs.declared.field_scan.Region.TheVariants as regions
 use Rattle.py_lines.specs.declared.field_scan.FieldScan.{FieldScan}
 use Rattle.py_lines.specs.Private.Machine.{move_of, short_move, long_move, spelling_with, Holds}
-use Rattle.py_lines.specs.Private.FieldMachine.{body, between, grows, FieldScanned, field_state, field_move, body_move, between_move}
-use Rattle.py_lines.specs.Private.FieldScan.{region_in, mode_from, code_mode, code_move, meets_field, stays_code, stays_field, keeps_byte, HoldsCode, Follows, StaysIn, with_text, HoldsField}
+use Rattle.py_lines.specs.Private.FieldMachine.{body, between, grows, Level, FieldScanned, field_state, field_move, field_moved, body_move, between_move, levels_open}
+use Rattle.py_lines.specs.Private.FieldScan.{region_in, mode_from, code_mode, code_move, meets_field, stays_code, stays_field, keeps_byte, HoldsCode, innermost_first, Follows, GoesOn, HoldsField, StandsInText}
+use Rattle.py_lines.specs.Private.FieldText.{HasText}
 use Rattle.py_lines.specs.Private.ScanMachine.{host_in, meet_of}
 use Rattle.py_lines.proofs.FieldSoundness.PlainPieces.{MoveHolds, move_holds}
 use Rattle.py_lines.proofs.FieldScans.Moves.{meets}
+use Rattle.py_lines.proofs.FieldScans.Frames.{frames-length, innermost_first-length}
+use Rattle.py_lines.proofs.LineScan.StringSteps.{string_grows}
 
 -- what a character is that passes
 record Keeps (m : FieldMode) (c : ℕ) : Type 0 where
@@ -32,7 +37,7 @@ record Keeps (m : FieldMode) (c : ℕ) : Type 0 where
   none : is_break c ≡ false
   stays : stays_field m c ≡ true
 
-no_longer : (b : Bool) → not b ≡ true → b ≡ false
+pub no_longer : (b : Bool) → not b ≡ true → b ≡ false
 no_longer true h = sym h
 no_longer false h = refl
 
@@ -45,7 +50,7 @@ keeps_parts m c h =
     under : nat_lt c 128 ≡ true → c < 128
     under is = grind (arith, nat_tests)
 
-two_false : (a b : Bool) → not a && not b ≡ true → (a ≡ false) × (b ≡ false)
+pub two_false : (a b : Bool) → not a && not b ≡ true → (a ≡ false) × (b ≡ false)
 two_false a b h = let parts = and_parts (not a) (not b) h in (no_longer a parts.0, no_longer b parts.1)
 
 -- it grows the open piece of code, in its mode
@@ -79,7 +84,7 @@ brace_parts c h = go (c == 123) (c == 125) h
     go false true e = absurd (both_ways _ e refl)
     go false false e = (refl, refl)
 
-text_stays : (h : Host) (place : Place) (named : Bool) (c : ℕ) → c == h.quote ≡ false → is_backslash c ≡ false → is_break c ≡ false → is_brace c ≡ false → body_move h place named between c ≡ grows (body h place named between)
+pub text_stays : (h : Host) (place : Place) (named : Bool) (c : ℕ) → c == h.quote ≡ false → is_backslash c ≡ false → is_break c ≡ false → is_brace c ≡ false → body_move h place named between c ≡ grows (body h place named between)
 unfolding body_move between_move
 text_stays h place named c quote slash none brace = let braces = brace_parts c brace in rw (quote, slash, none, braces.0, braces.1) refl
 
@@ -108,6 +113,10 @@ field_holds (field_modes.Body h region named ats.Between) held c stays none hold
     body_holds place = tt
 field_holds m held c h none holds = absurd (both_ways _ refl h)
 
+-- the state with more of its text
+abbrev with_text : FieldScanned → List ℕ → FieldScanned
+with_text t run = field_state t.outer t.done t.openers t.mode (t.held ++ run)
+
 -- the scan keeps count over such a character
 follows_on : (scan : FieldScan) (base : ℕ) (t : FieldScanned) (c : ℕ) → keeps_byte scan.mode c ≡ true → Follows scan base t → (field_move t.mode t.held c ≡ grows t.mode) × Follows scan base (with_text t (c ∷ []))
 follows_on scan base t c keeps follows =
@@ -126,14 +135,18 @@ follows_on scan base t c keeps follows =
     )
 
 -- and over a run of them
-follows_run : (scan : FieldScan) (base : ℕ) (t : FieldScanned) (run : List ℕ) → list_all (keeps_byte scan.mode) run ≡ true → Follows scan base t → StaysIn t run × Follows scan base (with_text t run)
-follows_run scan base t [] all follows = (tt, subst (λ held. Follows scan base (field_state t.outer t.done t.openers t.mode held)) (sym (append-nil t.held)) follows)
-follows_run scan base t (c ∷ cs) all follows =
+follows_run : (scan : FieldScan) (base depth : ℕ) (t : FieldScanned) (run : List ℕ) → list_all (keeps_byte scan.mode) run ≡ true → Follows scan base t → GoesOn depth t run (with_text t run) × Follows scan base (with_text t run)
+follows_run scan base depth t [] all follows =
+    let same : t ≡ with_text t [] = ap (λ held. field_state t.outer t.done t.openers t.mode held) (sym (append-nil t.held)) in
+    (same, subst (Follows scan base) same follows)
+follows_run scan base depth t (c ∷ cs) all follows =
     let parts = and_parts (keeps_byte scan.mode c) (list_all (keeps_byte scan.mode) cs) all in
+    let own = keeps_parts scan.mode c parts.0 in
     let on = follows_on scan base t c parts.0 follows in
-    let later = follows_run scan base (with_text t (c ∷ [])) cs parts.1 on.1 in (
-      (on.0, (keeps_parts scan.mode c parts.0).none, later.0),
-      subst (λ held. Follows scan base (field_state t.outer t.done t.openers t.mode held)) (append_assoc t.held (c ∷ []) cs) later.1,
+    let later = follows_run scan base depth (with_text t (c ∷ [])) cs parts.1 on.1 in
+    let same : with_text (with_text t (c ∷ [])) cs ≡ with_text t (c ∷ cs) = ap (λ held. field_state t.outer t.done t.openers t.mode held) (append_assoc t.held (c ∷ []) cs) in (
+      subst (GoesOn depth t (c ∷ cs)) same (own.low, own.none, string_grows depth t t.mode c on.0, with_text t (c ∷ []), ap (field_moved t c) on.0, later.0),
+      subst (Follows scan base) same later.1,
     )
 
 -- the first bytes are such characters
@@ -161,8 +174,8 @@ low_ascii (c ∷ cs) all = let parts = and_parts (nat_lt c 128) (list_all (λ d.
     under : nat_lt c 128 ≡ true → c < 128
     under is = grind (arith, nat_tests)
 
-pub holds_field : (scan : FieldScan) (bytes : List ℕ) (n : ℕ) → n ≤ length bytes → ((i : ℕ) → i < n → keeps_byte scan.mode (slice_index bytes i) ≡ true) → HoldsField scan bytes n
-holds_field scan bytes n within each =
+pub holds_field : (scan : FieldScan) (depth : ℕ) (bytes : List ℕ) (n : ℕ) → n ≤ length bytes → ((i : ℕ) → i < n → keeps_byte scan.mode (slice_index bytes i) ≡ true) → HoldsField scan depth bytes n
+holds_field scan depth bytes n within each =
     let size : length (take n bytes) ≡ n = length-take-le n bytes within in
     let all : list_all (keeps_byte scan.mode) (take n bytes) ≡ true = all_pass (keeps_byte scan.mode) (take n bytes) (λ i less.
     let short : i < n = omega (arith, less, size) in
@@ -174,5 +187,50 @@ holds_field scan bytes n within each =
       spell = ap (λ (t : List ℕ). t ++ drop n bytes) same ∙ take-append-drop n bytes;
       scalars = low_scalars (take n bytes) low;
       size = ap length same ∙ size;
-      stay = λ base t follows inside. follows_run scan base t (take n bytes) all follows;
+      stay = λ base t follows inside. let (goes, on) = follows_run scan base depth t (take n bytes) all follows in (with_text t (take n bytes), goes, on);
+    }
+
+-- text of which the machine knows where it leads
+pub goes_low : (depth : ℕ) (t : FieldScanned) (run : List ℕ) (u : FieldScanned) → GoesOn depth t run u → list_all (λ c. nat_lt c 128) run ≡ true
+goes_low depth t [] u goes = refl
+goes_low depth t (c ∷ cs) u (low, none, move, next, step, others) = and_from (nat_lt c 128) (list_all (λ d. nat_lt d 128) cs) (tested low) (goes_low depth next cs u others)
+  where
+    tested : c < 128 → nat_lt c 128 ≡ true
+    tested is = grind (arith, nat_tests)
+
+-- a string of this quote, of which nothing is read
+abbrev begun_level : ℕ → Level
+begun_level quote = record { done = []; openers = []; host = record { quote = quote; is_long = false; is_raw = false }; place = literal; front = [] }
+
+text_low : (quote : ℕ) (bytes : List ℕ) (n : ℕ) → is_quote quote ≡ true → HasText quote bytes n → list_all (λ c. nat_lt c 128) (take n bytes) ≡ true
+text_low quote bytes n quotes text =
+    let t : FieldScanned = field_state [] [] [] (body (begun_level quote).host literal false between) [] in
+    let far = text.1 [] (begun_level quote) 0 t refl quotes (omega arith) ([], refl) in
+    goes_low 0 t (take n bytes) far.0 far.1
+
+-- the scan follows over it
+text_follows : (scan : FieldScan) (base depth quote : ℕ) (bytes : List ℕ) (n : ℕ) (t : FieldScanned) → (h : known.Host) → scan.mode ≡ field_modes.Body h regions.Literal false ats.Between → h.quote ≡ quote → is_quote quote ≡ true → depth + length scan.frames.items ≤ 100 → HasText quote bytes n → Follows scan base t → (u : FieldScanned) × GoesOn depth t (take n bytes) u × Follows scan base u
+text_follows scan base depth quote bytes n t h mode same quotes room text follows =
+    let at : List ℕ → FieldScanned = λ held. field_state t.outer t.done t.openers (body (host_in h) literal false between) held in
+    let is : t ≡ at t.held = ap (λ m. field_state t.outer t.done t.openers m t.held) (sym follows.mode ∙ ap mode_from mode) in
+    let l : Level = record { done = t.done; openers = t.openers; host = host_in h; place = literal; front = [] } in
+    let few : depth + (length t.openers + levels_open t.outer) ≤ 100 = omega (arith, room, frames-length base t.outer t.done t.openers (innermost_first scan.frames.items) follows.frames, innermost_first-length scan.frames.items) in
+    let (u, goes, (held, ends)) = text.1 t.outer l depth t same quotes few (t.held, is) in
+    let own = subst (Follows scan base) is follows in (
+      u,
+      goes,
+      subst (Follows scan base) (sym ends) (record { mode = own.mode; holds = tt; no_list = own.no_list; waits = own.waits; full = λ w. absurd (cc); start = own.start; frames = own.frames }),
+    )
+
+pub holds_text : (scan : FieldScan) (depth quote : ℕ) (bytes : List ℕ) (n : ℕ) → StandsInText scan depth (Some quote) → HasText quote bytes n → HoldsField scan depth bytes n
+holds_text scan depth quote bytes n (h, mode, same, quotes, room) text =
+    let low = text_low quote bytes n quotes text in
+    let size : length (take n bytes) ≡ n = length-take-le n bytes text.0 in
+    let spelled_so : encode_utf8_all (take n bytes) ≡ take n bytes = encodes-IsAscii (take n bytes) (low_ascii (take n bytes) low) in
+    record {
+      run = take n bytes;
+      spell = ap (λ (t : List ℕ). t ++ drop n bytes) spelled_so ∙ take-append-drop n bytes;
+      scalars = low_scalars (take n bytes) low;
+      size = ap length spelled_so ∙ size;
+      stay = λ base t follows inside. text_follows scan base depth quote bytes n t h mode same quotes room text follows;
     }

@@ -42,12 +42,17 @@ module _ (base depth : ℕ) (t : FieldScanned) (c : ℕ) (v : FieldMove) (is : f
   by_move : fielded_move depth (Some t) c ≡ roomy (has_room_at (depth + frames t) c v) (string_move t.outer v (field_moved t c v))
   by_move = ap (λ w. roomy (has_room_at (depth + frames t) c w) (string_move t.outer w (field_moved t c w))) is
 
+  -- the string goes on
+  pub goes_through : (next : FieldScanned) → has_room_at (depth + frames t) c v ≡ true → field_moved t c v ≡ Some next → (t.outer ≡ [] → v ≡ closes → ⊥) → fielded_move depth (Some t) c ≡ moves.Grows modes.Fielded
+  goes_through next room comes goes_on =
+      by_move ∙ ap (λ b. roomy b (string_move t.outer v (field_moved t c v))) room ∙ ap (string_move t.outer v) comes ∙ string_goes t.outer v next goes_on
+
   -- it is taken
   pub going : (old new : FieldScan) (next : FieldScanned) → has_room_at (depth + frames t) c v ≡ true → field_moved t c v ≡ Some next → (t.outer ≡ [] → v ≡ closes → ⊥) → IsInString next → Follows new base next → ComesTo base depth t c old (Ok progress.Going) new
   going old new next room comes goes_on inside follow = (
     next,
     ap (field_moved t c) is ∙ comes,
-    by_move ∙ ap (λ b. roomy b (string_move t.outer v (field_moved t c v))) room ∙ ap (string_move t.outer v) comes ∙ string_goes t.outer v next goes_on,
+    goes_through next room comes goes_on,
     inside,
     follow,
   )

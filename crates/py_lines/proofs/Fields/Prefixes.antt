@@ -33,7 +33,7 @@ letter c h =
     (or_cases (is_r c || is_f c) (is_t c) h)
 
 -- Booleans
-third_of : (a b c : Bool) → b || c ≡ true → a || b || c ≡ true
+pub third_of : (a b c : Bool) → b || c ≡ true → a || b || c ≡ true
 third_of true b c h = refl
 third_of false b c h = h
 
@@ -41,10 +41,10 @@ first_of : (a b c : Bool) → a ≡ true → a || b || c ≡ true
 first_of true b c h = refl
 first_of false b c h = absurd (both_ways _ refl h)
 
-abbrev IsLetter : ℕ → Type 0
+abbrev pub IsLetter : ℕ → Type 0
 IsLetter c = is_r c || is_f c || is_t c ≡ true
 
-letters : (a b : ℕ) → is_field_prefix (a ∷ b ∷ []) ≡ true → IsLetter a × IsLetter b
+pub letters : (a b : ℕ) → is_field_prefix (a ∷ b ∷ []) ≡ true → IsLetter a × IsLetter b
 letters a b h =
     ⊎_elim
     (λ one. let parts = and_parts _ _ one in (first_of (is_r a) (is_f a) (is_t a) parts.0, third_of (is_r b) (is_f b) (is_t b) parts.1))

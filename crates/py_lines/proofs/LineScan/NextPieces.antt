@@ -21,6 +21,7 @@ use Rattle.py_lines.proofs.LineScan.Comments.{comment_goes, comment_reached}
 use Rattle.py_lines.proofs.LineScan.LineStops.{ShutsTo, StopsNow, TakesTo, goes_character, stops_line}
 use Rattle.py_lines.proofs.LineScan.Runs.{space_low, word_byte_low}
 use Rattle.py_lines.proofs.LineScan.ShortPieces.{Goes, ascii_scalar, free_is, operator_goes, operator_reached, run_goes, shut_from, space_reached, string_goes, string_reached, word_reached}
+use Rattle.py_lines.proofs.LineScan.WholeStrings.{fields_goes, fields_reached}
 
 -- LF, as the bytes spell it
 feed_spell : (bytes : List ℕ) → BeginsWithFeed bytes → 10 ∷ drop 1 bytes ≡ bytes
@@ -64,7 +65,9 @@ module _ (first : Scan) (text : List ℕ) (old new : Scan) (bytes : List ℕ) (f
       (λ line_end. ⊎_elim
       (λ (feeds, feed). feed_goes len feeds feed m at whole start r)
       (λ returns. return_goes first text old bytes free shuts new len returns m at whole start r) line_end)
-      (λ (some, tokens). tokens.leads m at whole start before) sixth) fifth) fourth) third) second) takes
+      (λ seventh. ⊎_elim
+      (λ fields. fields_reached m at whole old new bytes len is before start fields)
+      (λ (some, tokens). tokens.leads m at whole start before) seventh) sixth) fifth) fourth) third) second) takes
 
   -- where nothing was taken
   pub none_goes : TakesPiece old bytes (Ok taken.Nothing) new → ShutsTo first text new bytes
@@ -108,4 +111,6 @@ piece_far old new bytes len takes =
     (λ remark. comment_goes old new bytes len remark)
     (λ sixth. ⊎_elim
     (λ line_end. ⊎_elim (λ (feeds, feed). feed_far old new bytes len feeds feed) (λ returns. return_far old new bytes len returns) line_end)
-    (λ (some, tokens). record { stop = tokens.stop; some = some; within = tokens.within; lines = omega (arith, tokens.line) }) sixth) fifth) fourth) third) second) takes
+    (λ seventh. ⊎_elim
+    (λ fields. fields_goes old new bytes len fields)
+    (λ (some, tokens). record { stop = tokens.stop; some = some; within = tokens.within; lines = omega (arith, tokens.line) }) seventh) sixth) fifth) fourth) third) second) takes

@@ -17,24 +17,25 @@ use Rattle.py_lines.specs.declared.mode.Mode.TheVariants as modes
 use Rattle.py_lines.specs.declared.mode.Move.TheVariants as moves
 use Rattle.py_lines.specs.declared.scan.Scan.{Scan}
 use Rattle.py_lines.specs.Private.Machine.{Scanned, move_of, short_move, long_move, spelling_with, IsFull}
-use Rattle.py_lines.specs.Private.ScanMachine.{HoldsOpen, IsScanSound, fielded_move, meet_of, move_at, move_in, scan_steps, string_state}
-use Rattle.py_lines.specs.Private.Scan.{FieldsFollow, Tallies, IsStacked, IsUnderWay, line_start, stack_of, counts_after, Takes}
+use Rattle.py_lines.specs.Private.ScanMachine.{HoldsOpen, IsScanSound, fielded_move, meet_of, move_in, scan_steps, string_state}
+use Rattle.py_lines.specs.Private.Scan.{FieldsFollow, Tallies, IsStacked, depth_of, IsUnderWay, line_start, stack_of, counts_after, Takes}
 use Rattle.py_lines.specs.Balance.{depth_through}
-use Rattle.py_lines.specs.Private.FieldMachine.{FieldScanned, field_state, field_moved}
-use Rattle.py_lines.specs.Private.FieldScan.{HoldsField, StaysIn, with_text}
+use Rattle.py_lines.specs.Private.FieldMachine.{FieldScanned}
+use Rattle.py_lines.specs.Private.FieldScan.{GoesOn, HoldsField}
 use Rattle.py_lines.specs.Private.Run.{is_ascii_word, is_body_byte, stays, Stay, HeldIn, Holds, with_bytes, HasAsciiQuote, Reached}
 use Rattle.unicode_ident.proofs.IdentLemmas.{is_xid_continue-ascii, is_xid_start-ascii}
 use Rattle.py_lines.proofs.Text.CharacterTests.{none_of, excluded}
 use Rattle.py_lines.proofs.LineScan.Increments.{line_ends-step}
 use Rattle.py_lines.proofs.LineScan.LineCount.{ends-last}
 use Rattle.py_lines.proofs.LineScan.PieceEnd.{Counts, tallies_of}
-use Rattle.py_lines.proofs.LineScan.StringSteps.{in_string, string_grows, string_more}
+use Rattle.py_lines.proofs.LineScan.StringSteps.{in_string, string_more}
 use Rattle.py_lines.proofs.LineScan.LineSteps.{sound_steps, under_way}
 use Rattle.py_lines.specs.declared.scan.Progress.TheVariants as progress
 use Rattle.py_lines.proofs.Text.Utf8Prefixes.{all_scalars-append, scalars_more, spell_more}
 use Rattle.py_lines.proofs.LogicalLines.Cuts.{byte_len-append}
 use Rattle.py_lines.proofs.Machine.PieceSteps.{scanned, longer, all_held}
 use Rattle.py_lines.proofs.ScanMachine.Steps.{scan_steps-append, grown}
+use Rattle.py_lines.proofs.Pieces.OpenBrackets.{stands}
 
 -- a byte of words continues a word
 pub word_byte_low : (c : ℕ) → is_ascii_word c ≡ true → c < 128
@@ -184,7 +185,7 @@ held_in scan text n prefix quote other within each =
     stay_in scan modes.Fielded run other all = absurd (other refl)
     stay_in scan m run other all = all
 
-pub string_held : (scan : Scan) (text : List ℕ) (n : ℕ) → scan.piece.mode ≡ modes.Fielded → HoldsField scan.fields text n → HeldIn scan text n
+pub string_held : (scan : Scan) (text : List ℕ) (n : ℕ) → scan.piece.mode ≡ modes.Fielded → HoldsField scan.fields (depth_of scan.brackets) text n → HeldIn scan text n
 string_held scan text n here held = record {
   run = held.run;
   spell = held.spell;
@@ -262,21 +263,18 @@ counts_run old s run all full tallies =
       tokens = tallies.tokens;
     }
 
--- a string with fields over a run that leaves it as it is
-pub string_run : (done : List Piece) (held run : List ℕ) (t : FieldScanned) → string_state held ≡ Some t → StaysIn t run → (scan_steps (Some (scanned done modes.Fielded held)) run ≡ Some (scanned done modes.Fielded (held ++ run))) × (string_state (held ++ run) ≡ Some (with_text t run))
-string_run done held [] t is stay = (all_held done modes.Fielded held, ap string_state (append-nil held) ∙ is ∙ ap (λ u. Some (field_state t.outer t.done t.openers t.mode u)) (sym (append-nil t.held)))
-string_run done held (c ∷ cs) t is (stay, none, others) =
-    let next = with_text t (c ∷ []) in
-    let more : string_state (held ++ c ∷ []) ≡ Some next = string_more held c t is ∙ ap (field_moved t c) stay in
-    let later = string_run done (held ++ c ∷ []) cs next more others in
-    let move : move_at (scanned done modes.Fielded held) c ≡ moves.Grows modes.Fielded = ap (λ o. fielded_move (depth_through 0 done) o c) is ∙ string_grows (depth_through 0 done) t t.mode c stay in (
-      grown done modes.Fielded modes.Fielded held c cs move ∙ later.0 ∙ longer done modes.Fielded held c cs,
-      ap string_state (sym (append_assoc held (c ∷ []) cs)) ∙ later.1 ∙ ap (λ u. Some (field_state t.outer t.done t.openers t.mode u)) (append_assoc t.held (c ∷ []) cs),
+-- a string with fields that goes on over a run
+pub string_run : (done : List Piece) (held run : List ℕ) (t u : FieldScanned) → string_state held ≡ Some t → GoesOn (depth_through 0 done) t run u → (scan_steps (Some (scanned done modes.Fielded held)) run ≡ Some (scanned done modes.Fielded (held ++ run))) × (string_state (held ++ run) ≡ Some u)
+string_run done held [] t u is goes = (all_held done modes.Fielded held, ap string_state (append-nil held) ∙ is ∙ ap Some goes)
+string_run done held (c ∷ cs) t u is (low, none, move, next, step, others) =
+    let later = string_run done (held ++ c ∷ []) cs next u (string_more held c t is ∙ step) others in (
+      grown done modes.Fielded modes.Fielded held c cs (ap (λ o. fielded_move (depth_through 0 done) o c) is ∙ move) ∙ later.0 ∙ longer done modes.Fielded held c cs,
+      ap string_state (sym (append_assoc held (c ∷ []) cs)) ∙ later.1,
     )
 
-string_no_break : (t : FieldScanned) (run : List ℕ) → StaysIn t run → list_all (λ d. not (is_break d)) run ≡ true
-string_no_break t [] stay = refl
-string_no_break t (c ∷ cs) (stay, none, others) = and_from (not (is_break c)) (list_all (λ d. not (is_break d)) cs) (ap not none) (string_no_break (with_text t (c ∷ [])) cs others)
+pub string_no_break : (depth : ℕ) (t : FieldScanned) (run : List ℕ) (u : FieldScanned) → GoesOn depth t run u → list_all (λ d. not (is_break d)) run ≡ true
+string_no_break depth t [] u goes = refl
+string_no_break depth t (c ∷ cs) u (low, none, move, next, step, others) = and_from (not (is_break c)) (list_all (λ d. not (is_break d)) cs) (ap not none) (string_no_break depth next cs u others)
 
 -- what a run comes to, in each mode
 record RunsOn (old : Scan) (s : Scanned) (run : List ℕ) : Type 0 where
@@ -284,13 +282,14 @@ record RunsOn (old : Scan) (s : Scanned) (run : List ℕ) : Type 0 where
   none : list_all (λ d. not (is_break d)) run ≡ true
   fields : FieldsFollow (with_bytes old (byte_len run)) s.mode (s.held ++ run)
 
-runs_on : (old : Scan) (done : List Piece) (m : Mode) (held read run : List ℕ) → IsScanSound (scanned done m held) read → Tallies old (scanned done m held) → Stay m old run → RunsOn old (scanned done m held) run
-runs_on old done modes.Fielded held read run sound tallies stay =
+runs_on : (old : Scan) (done : List Piece) (m : Mode) (held read run : List ℕ) → IsScanSound (scanned done m held) read → Tallies old (scanned done m held) → IsStacked old (scanned done m held) → Stay m old run → RunsOn old (scanned done m held) run
+runs_on old done modes.Fielded held read run sound tallies stacked stay =
     let i = in_string old done held read sound tallies in
-    let stays = stay i.state i.stands.follows i.stands.inside in
-    let ran = string_run done held run i.state i.steps stays.0 in
-    record { steps = ran.0; none = string_no_break i.state run stays.0; fields = (with_text i.state run, ran.1, stays.1) }
-runs_on old done m held read run sound tallies stay = record { steps = held_run done m held run stay; none = all_no_break m run stay; fields = tt }
+    let (u, through, follows) = stay i.state i.stands.follows i.stands.inside in
+    let goes = subst (λ d. GoesOn d i.state run u) (sym (stands done (stack_of old.brackets) stacked).depth) through in
+    let ran = string_run done held run i.state u i.steps goes in
+    record { steps = ran.0; none = string_no_break (depth_through 0 done) i.state run u goes; fields = (u, ran.1, follows) }
+runs_on old done m held read run sound tallies stacked stay = record { steps = held_run done m held run stay; none = all_no_break m run stay; fields = tt }
 
 -- and follows the machine
 pub way_held : (m : Mode) (old new : Scan) (read text rest : List ℕ) (way : IsUnderWay m old read) → IsScanSound (line_start m) [] → (holds : Holds old text rest new) → IsUnderWay m new (read ++ holds.run)
@@ -306,7 +305,7 @@ way_held m old new read text rest way start holds =
     (λ some.
     let s = way.state in
     let stay : Stay s.mode old holds.run = subst (λ (n : Mode). Stay n old holds.run) way.tallies.mode holds.stay in
-    let on = runs_on old s.done s.mode s.held read holds.run (sound_steps m read s start way.steps) way.tallies stay in
+    let on = runs_on old s.done s.mode s.held read holds.run (sound_steps m read s start way.steps) way.tallies way.stacked stay in
     record {
       state = scanned s.done s.mode (s.held ++ holds.run);
       steps = scan_steps-append (Some (line_start m)) read holds.run ∙ ap (λ o. scan_steps o holds.run) way.steps ∙ on.steps;

@@ -33,7 +33,7 @@ use Rattle.py_lines.specs.Private.Machine.{fresh, closed, moved, started, token_
 use Rattle.py_lines.specs.Private.ScanMachine.{IsScanSound, meet_of, move_in, scan_steps}
 use Rattle.py_lines.specs.Balance.{depth_through}
 use Rattle.py_lines.specs.Private.Scan.{Closes, Meets, Begins, ClosesAndAdds, Tallies, line_start, stack_of, none_open, is_return_mode, indent_closed, with_brackets, tokens_with, kind_through, in_mode, counts_after, freed, closed_with, with_character}
-use Rattle.py_lines.specs.Private.Run.{IsRunOf, is_ascii_word, may_stand, follows, is_free, word_spelling, word_mode, space_mode, opened, with_bytes, AddsToken, TakesRun, TakesOperator, Reached, ReachedShut, is_apart, may_begin, is_text_byte, is_body_byte, TakesString}
+use Rattle.py_lines.specs.Private.Run.{IsRunOf, is_ascii_word, may_stand, follows, is_free, word_spelling, word_mode, space_mode, opened, with_bytes, AddsToken, TakesRun, TakesOperator, Reached, ReachedShut, is_apart, may_begin, is_text_byte, is_body_byte, IsWholeText, TakesString}
 use Rattle.py_lines.proofs.Text.CharacterTests.{operator_ascii, none_of, the_one}
 use Rattle.py_lines.proofs.Machine.PieceSteps.{scanned}
 use Rattle.py_lines.proofs.ScanMachine.Steps.{scan_steps-append, steps_word, steps_space, grown, breaks_in}
@@ -54,7 +54,7 @@ pub record RunOf (passes : ℕ → Bool) (bytes : List ℕ) (len : ℕ) : Type 0
   pub all : list_all passes (take len bytes) ≡ true
   pub ends : begins passes (drop len bytes) ≡ false
 
-all_pass : (passes : ℕ → Bool) (bytes : List ℕ) (n : ℕ) → n ≤ length bytes → ((i : ℕ) → i < n → passes (slice_index bytes i) ≡ true) → list_all passes (take n bytes) ≡ true
+pub all_pass : (passes : ℕ → Bool) (bytes : List ℕ) (n : ℕ) → n ≤ length bytes → ((i : ℕ) → i < n → passes (slice_index bytes i) ≡ true) → list_all passes (take n bytes) ≡ true
 all_pass passes bytes zero within each = refl
 all_pass passes [] (suc n) within each = refl
 all_pass passes (b ∷ bs) (suc n) within each = and_from (passes b) (list_all passes (take n bs)) (each 0 (omega arith)) (all_pass passes bs n (omega (arith, within)) (λ i less. each (suc i) (omega (arith, less))))
@@ -157,7 +157,7 @@ pub ascii_scalar : (c : ℕ) → c < 128 → IsScalar c
 ascii_scalar c low = low_scalar c (omega (arith, low))
 
 -- the characters of a run of bytes
-low_encodes : (passes : ℕ → Bool) (run : List ℕ) → ((c : ℕ) → passes c ≡ true → c < 128) → list_all passes run ≡ true → (encode_utf8_all run ≡ run) × (all_scalars run ≡ true)
+pub low_encodes : (passes : ℕ → Bool) (run : List ℕ) → ((c : ℕ) → passes c ≡ true → c < 128) → list_all passes run ≡ true → (encode_utf8_all run ≡ run) × (all_scalars run ≡ true)
 low_encodes passes [] low all = (refl, refl)
 low_encodes passes (c ∷ cs) low all =
     let parts = and_parts (passes c) (list_all passes cs) all in
@@ -296,7 +296,7 @@ operator-not-quote : (c : ℕ) → is_operator c ≡ true → is_quote c ≡ fal
 unfolding is_operator is_quote
 operator-not-quote c h = none_of is_quote (codes "+-*/%@&|^~<>=!()[]{},:.;") c refl h
 
-space-not-quote : (c : ℕ) → is_space c ≡ true → is_quote c ≡ false
+pub space-not-quote : (c : ℕ) → is_space c ≡ true → is_quote c ≡ false
 unfolding is_space is_quote
 space-not-quote c h = none_of is_quote (codes " \t" ++ 0x0C ∷ []) c refl h
 
@@ -405,23 +405,23 @@ operator_reached m at text scan new bytes len free r start takes =
     (record { unshut = new; reached = reached_character m at text before new (c ∷ takes.after) takes.after c meet.reached (ascii_scalar c (operator_ascii c takes.passes)) spelled_so took; how = inl refl })
 
 -- a string after closed pieces
-quote-no_break : (c : ℕ) → is_quote c ≡ true → is_break c ≡ false
+pub quote-no_break : (c : ℕ) → is_quote c ≡ true → is_break c ≡ false
 unfolding is_quote is_break
 quote-no_break c h = none_of is_break (codes "'\"") c refl h
 
 text_body : (q c : ℕ) → is_text_byte q c ≡ true → is_body_byte q c ≡ true
 text_body q c h = (and_parts (is_body_byte q c) (nat_lt c 128) h).0
 
-abbrev is_low : ℕ → Bool
+abbrev pub is_low : ℕ → Bool
 is_low c = nat_lt c 128
 
 text_low : (q c : ℕ) → is_text_byte q c ≡ true → nat_lt c 128 ≡ true
 text_low q c h = (and_parts (is_body_byte q c) (nat_lt c 128) h).1
 
-low_is : (c : ℕ) → nat_lt c 128 ≡ true → c < 128
+pub low_is : (c : ℕ) → nat_lt c 128 ≡ true → c < 128
 low_is c h = grind (arith, nat_tests)
 
-is_low_from : (c : ℕ) → c < 128 → nat_lt c 128 ≡ true
+pub is_low_from : (c : ℕ) → c < 128 → nat_lt c 128 ≡ true
 is_low_from c h = grind (arith, nat_tests)
 
 opened_grows : (q c : ℕ) → is_body_byte q c ≡ true → meet_of (modes.Opened q) c ≡ moves.Grows (modes.Inside q)
@@ -448,32 +448,32 @@ inside_other m q is returns = let clash = is ∙ returns in cc
 
 pub string_reached : (m : Mode) (at : ℕ) (text : List ℕ) (scan new : Scan) (bytes : List ℕ) (len : ℕ) → scan.piece.mode ≡ modes.Free → ReachedShut m at text scan bytes → IsScanSound (line_start m) [] → TakesString scan bytes len new → ReachedShut m at text new (drop len bytes)
 string_reached m at text scan new bytes len free r start takes =
-    let q = takes.q in
-    let run = takes.run in
+    let q = takes.whole.q in
+    let run = takes.whole.run in
     let n = length (q ∷ run) in
-    let meet = meets m at text scan q (run ++ q ∷ takes.after) free (subst (ReachedShut m at text scan) (sym takes.spell) r) in
-    let whole : list_all (λ d. not (is_break d)) (q ∷ run) ≡ true = and_from _ _ (ap not (quote-no_break q takes.quote)) (list_all_more (is_text_byte q) (λ d. not (is_break d)) (λ d h. ap not (stays-no_break (modes.Inside q) d (text_body q d h))) run takes.all) in
-    let low = low_encodes is_low (q ∷ run) low_is (and_from _ _ (is_low_from q (quote_ascii q takes.quote)) (list_all_more (is_text_byte q) is_low (text_low q) run takes.all)) in
-    let inside = opens_reached m at text scan q run (q ∷ takes.after) (modes.Opened q) (modes.Inside q) meet start (start-quote q takes.quote) (string_runs q run takes.full takes.all) (λ is. cc) whole low in
+    let meet = meets m at text scan q (run ++ q ∷ takes.whole.after) free (subst (ReachedShut m at text scan) (sym takes.whole.spell) r) in
+    let whole : list_all (λ d. not (is_break d)) (q ∷ run) ≡ true = and_from _ _ (ap not (quote-no_break q takes.whole.quote)) (list_all_more (is_text_byte q) (λ d. not (is_break d)) (λ d h. ap not (stays-no_break (modes.Inside q) d (text_body q d h))) run takes.whole.all) in
+    let low = low_encodes is_low (q ∷ run) low_is (and_from _ _ (is_low_from q (quote_ascii q takes.whole.quote)) (list_all_more (is_text_byte q) is_low (text_low q) run takes.whole.all)) in
+    let inside = opens_reached m at text scan q run (q ∷ takes.whole.after) (modes.Opened q) (modes.Inside q) meet start (start-quote q takes.whole.quote) (string_runs q run takes.whole.full takes.whole.all) (λ is. cc) whole low in
     let way = inside.way in
     let s = way.state in
-    let size : n + 1 ≡ len = omega (arith, takes.size) in
+    let size : n + 1 ≡ len = omega (arith, takes.whole.size) in
     let closes : Closes (opened scan (modes.Inside q) (n + 1)) new = subst (λ (k : ℕ). Closes (opened scan (modes.Inside q) k) new) (sym size) (token_closes scan new (modes.Inside q) kind.Str len refl refl (λ e. cc) takes.adds) in
-    let took = takes_closed (opened scan (modes.Inside q) n) new s inside.read q (ap (λ k. move_in k (depth_through 0 s.done) s.held q) (sym way.tallies.mode) ∙ inside_closes q) (inside_other s.mode q way.tallies.mode) (sound_steps m inside.read s start way.steps) way.tallies way.stacked way.one_line (subst (λ (x : Scan). Closes x new) (quote_reads scan q n takes.quote) closes) in
-    let spelled_so : q ∷ takes.after ≡ encode_utf8 q ++ takes.after = sym (ap (λ t. t ++ takes.after) (encode_ascii q (quote_ascii q takes.quote))) in
-    let all_size : length (q ∷ run ++ q ∷ []) ≡ len = omega (arith, takes.size, length-append run (q ∷ [])) in
-    let dropped : drop len bytes ≡ takes.after = ap (drop len) (sym takes.spell ∙ ap (λ t. q ∷ t) (sym (append_assoc run (q ∷ []) takes.after))) ∙ ap (λ (k : ℕ). drop k ((q ∷ run ++ q ∷ []) ++ takes.after)) (sym all_size) ∙ drop-append_seam (q ∷ run ++ q ∷ []) takes.after in
+    let took = takes_closed (opened scan (modes.Inside q) n) new s inside.read q (ap (λ k. move_in k (depth_through 0 s.done) s.held q) (sym way.tallies.mode) ∙ inside_closes q) (inside_other s.mode q way.tallies.mode) (sound_steps m inside.read s start way.steps) way.tallies way.stacked way.one_line (subst (λ (x : Scan). Closes x new) (quote_reads scan q n takes.whole.quote) closes) in
+    let spelled_so : q ∷ takes.whole.after ≡ encode_utf8 q ++ takes.whole.after = sym (ap (λ t. t ++ takes.whole.after) (encode_ascii q (quote_ascii q takes.whole.quote))) in
+    let all_size : length (q ∷ run ++ q ∷ []) ≡ len = omega (arith, takes.whole.size, length-append run (q ∷ [])) in
+    let dropped : drop len bytes ≡ takes.whole.after = ap (drop len) (sym takes.whole.spell ∙ ap (λ t. q ∷ t) (sym (append_assoc run (q ∷ []) takes.whole.after))) ∙ ap (λ (k : ℕ). drop k ((q ∷ run ++ q ∷ []) ++ takes.whole.after)) (sym all_size) ∙ drop-append_seam (q ∷ run ++ q ∷ []) takes.whole.after in
     subst (ReachedShut m at text new) (sym dropped)
-    (record { unshut = new; reached = reached_character m at text (opened scan (modes.Inside q) n) new (q ∷ takes.after) takes.after q inside (ascii_scalar q (quote_ascii q takes.quote)) spelled_so took; how = inl refl })
+    (record { unshut = new; reached = reached_character m at text (opened scan (modes.Inside q) n) new (q ∷ takes.whole.after) takes.whole.after q inside (ascii_scalar q (quote_ascii q takes.whole.quote)) spelled_so took; how = inl refl })
 
-split_at : (body : List ℕ) (n : ℕ) → n < length body → take n body ++ slice_index body n ∷ drop (suc n) body ≡ body
+pub split_at : (body : List ℕ) (n : ℕ) → n < length body → take n body ++ slice_index body n ∷ drop (suc n) body ≡ body
 split_at [] n within = absurd (omega (arith, within))
 split_at (b ∷ bs) zero within = refl
 split_at (b ∷ bs) (suc n) within = ap (λ t. b ∷ t) (split_at bs n (omega (arith, within)))
 
-pub string_taken : (old new : Scan) (bytes : List ℕ) (q n : ℕ) → begins is_quote bytes ≡ true → q ≡ slice_index bytes 0 → IsRunOf (is_text_byte q) (drop 1 bytes) n → 0 < n → n < length (drop 1 bytes) → slice_index (drop 1 bytes) n ≡ q → AddsToken old kind.Str (n + 2) new → TakesString old bytes (n + 2) new
-string_taken old new [] q n begins_so first run some within closing adds = absurd (both_ways _ refl begins_so)
-string_taken old new (b ∷ body) q n begins_so first run some within closing adds = record {
+pub text_whole : (bytes : List ℕ) (q n : ℕ) → begins is_quote bytes ≡ true → q ≡ slice_index bytes 0 → IsRunOf (is_text_byte q) (drop 1 bytes) n → 0 < n → n < length (drop 1 bytes) → slice_index (drop 1 bytes) n ≡ q → IsWholeText bytes (n + 2)
+text_whole [] q n begins_so first run some within closing = absurd (both_ways _ refl begins_so)
+text_whole (b ∷ body) q n begins_so first run some within closing = record {
   q = q;
   run = take n body;
   after = drop (suc n) body;
@@ -482,8 +482,14 @@ string_taken old new (b ∷ body) q n begins_so first run some within closing ad
   quote = ap is_quote first ∙ begins_so;
   full = full_take body n some within;
   all = all_pass (is_text_byte q) body n run.within run.each;
-  adds = adds;
 }
+
+-- its length
+pub text_size : (bytes : List ℕ) (len : ℕ) → IsWholeText bytes len → (0 < len) × (len ≤ length bytes)
+text_size bytes len is = (
+  omega (arith, is.size),
+  omega (arith, is.size, ap length is.spell, length-append is.run (is.q ∷ is.after)),
+)
 
 pub free_is : (m : Mode) → is_free m ≡ true → m ≡ modes.Free
 free_is modes.Free h = refl
@@ -527,17 +533,17 @@ operator_goes old new bytes len takes = record {
 
 pub string_goes : (old new : Scan) (bytes : List ℕ) (len : ℕ) → TakesString old bytes len new → Goes old bytes len new
 string_goes old new bytes len takes =
-    let q = takes.q in
-    let run = takes.run in
-    let size : length (q ∷ run ++ q ∷ []) ≡ len = omega (arith, takes.size, length-append run (q ∷ [])) in
-    let spell : (q ∷ run ++ q ∷ []) ++ takes.after ≡ bytes = ap (λ t. q ∷ t) (append_assoc run (q ∷ []) takes.after) ∙ takes.spell in
-    let quote_low = is_low_from q (quote_ascii q takes.quote) in
-    let body_low = list_all_more (is_text_byte q) is_low (text_low q) run takes.all in
+    let q = takes.whole.q in
+    let run = takes.whole.run in
+    let size : length (q ∷ run ++ q ∷ []) ≡ len = omega (arith, takes.whole.size, length-append run (q ∷ [])) in
+    let spell : (q ∷ run ++ q ∷ []) ++ takes.whole.after ≡ bytes = ap (λ t. q ∷ t) (append_assoc run (q ∷ []) takes.whole.after) ∙ takes.whole.spell in
+    let quote_low = is_low_from q (quote_ascii q takes.whole.quote) in
+    let body_low = list_all_more (is_text_byte q) is_low (text_low q) run takes.whole.all in
     let low = low_encodes is_low (q ∷ run ++ q ∷ []) low_is (and_from _ _ quote_low (list_all-append is_low run (q ∷ []) ∙ and_from _ _ body_low (and_from _ _ quote_low refl))) in
     record {
       stop = ap (λ (s : Scan). s.stop) takes.adds.same;
-      some = omega (arith, takes.size);
-      within = omega (arith, size, ap length spell, length-append (q ∷ run ++ q ∷ []) takes.after);
+      some = omega (arith, takes.whole.size);
+      within = omega (arith, size, ap length spell, length-append (q ∷ run ++ q ∷ []) takes.whole.after);
       lines = omega (arith, ap (λ (s : Scan). s.count.line) takes.adds.same);
     }
 

@@ -97,7 +97,7 @@ as_body host held c (opens_field h) = refl
 as_body host held c ends_field = refl
 as_body host held c refused = refl
 
-opened_as_body : (host : Host) (held : List ℕ) (c : ℕ) → c == host.quote ≡ false → field_step (field_state [] [] [] (opened host) held) c ≡ field_step (field_state [] [] [] (body host literal false between) held) c
+pub opened_as_body : (host : Host) (held : List ℕ) (c : ℕ) → c == host.quote ≡ false → field_step (field_state [] [] [] (opened host) held) c ≡ field_step (field_state [] [] [] (body host literal false between) held) c
 unfolding field_move
 opened_as_body host held c other =
     ap (λ b. field_moved (field_state [] [] [] (opened host) held) c (if b then grows (empty host) else body_move host literal false between c)) other

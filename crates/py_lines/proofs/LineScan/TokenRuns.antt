@@ -15,12 +15,14 @@ use Rattle.py_lines.specs.declared.scan.Scan.{Scan}
 use Rattle.py_lines.specs.declared.token.TokKind.{TokKind}
 use Rattle.py_lines.specs.declared.token.TokKind.TheVariants as kind
 use Rattle.py_lines.specs.Private.Machine.{Bracket}
-use Rattle.py_lines.specs.Private.Scan.{Closes, Meets, stack_of, with_brackets}
+use Rattle.py_lines.specs.Private.Scan.{Closes, Meets, depth_of, stack_of, with_brackets}
 use Rattle.py_lines.specs.declared.run.FirstByte.TheVariants as first
 use Rattle.std.proofs.lemmas.Bool.{both_ways}
 use Rattle.py_lines.proofs.LineScan.FirstBytes.{alone_taken}
-use Rattle.py_lines.proofs.LineScan.ShortPieces.{free_is, operator_reached, operator_taken, space_closes, space_reached, takes_run, takes_word, word_reached}
-use Rattle.py_lines.specs.Private.Run.{BeginsSo, HasAdded, HasTaken, IsRunOf, LeadsTo, IsSpaceAfter, IsWholeWord, IsNextToken, MeetsToken, TakesSpace, AddsToken, coded, coded_if, follows, follows_space, is_ascii_word, is_free, may_begin, opened, space_mode}
+use Rattle.py_lines.proofs.LineScan.ShortPieces.{free_is, operator_reached, operator_taken, space_closes, space_reached, string_reached, takes_run, takes_word, text_size, word_reached}
+use Rattle.py_lines.proofs.LineScan.WholeStrings.{fields_reached, string_size}
+use Rattle.py_lines.specs.Private.FieldText.{IsWholeString}
+use Rattle.py_lines.specs.Private.Run.{BeginsSo, HasAdded, IsWholeText, HasTaken, IsRunOf, LeadsTo, IsSpaceAfter, IsWholeWord, IsNextToken, MeetsToken, TakesSpace, AddsToken, coded, coded_if, follows, follows_space, is_ascii_word, is_free, may_begin, opened, space_mode}
 
 -- a run of at least one byte
 run_some : (passes : ℕ → Bool) (bytes : List ℕ) (len : ℕ) → IsRunOf passes bytes len → begins passes bytes ≡ true → 0 < len
@@ -74,7 +76,7 @@ operator_met scan place (b ∷ bs) some so = (
   omega arith,
   some,
   λ old new brackets stop adds.
-      inr (alone_taken old new (b ∷ bs) b refl so (subst (λ (x : Brackets). AddsToken (with_brackets old x) (kind.Op b) 1 new) (sym brackets) adds)),
+      inr (inl (alone_taken old new (b ∷ bs) b refl so (subst (λ (x : Brackets). AddsToken (with_brackets old x) (kind.Op b) 1 new) (sym brackets) adds))),
 )
 
 -- a bracket that its brackets have met
@@ -86,7 +88,31 @@ bracket_met scan new place bytes met may room is begun meets so = (
   λ old later brackets stop adds.
       let at_stop : Meets old.brackets (slice_index bytes 0) old.stop (Ok may) met = subst (λ (x : Brackets). Meets x (slice_index bytes 0) old.stop (Ok may) met) (sym brackets) (subst (λ (n : ℕ). Meets scan.brackets (slice_index bytes 0) n (Ok may) met) (sym stop) meets) in
       let met_is : new.brackets ≡ met = ap (λ (s : Scan). s.brackets) is in
-      inr (operator_taken old later bytes met may begun at_stop so (subst (λ (x : Brackets). AddsToken (with_brackets old x) (kind.Op (slice_index bytes 0)) 1 later) met_is adds)),
+      inr (inl (operator_taken old later bytes met may begun at_stop so (subst (λ (x : Brackets). AddsToken (with_brackets old x) (kind.Op (slice_index bytes 0)) 1 later) met_is adds))),
+)
+
+-- a string
+pub text_met : (scan : Scan) (place : ℕ) (bytes : List ℕ) (len : ℕ) → IsWholeText bytes len → len + 1 < length bytes → MeetsToken scan place bytes (Ok (Some (kind.Str, len))) scan
+text_met scan place bytes len whole short = (
+  refl,
+  (text_size bytes len whole).0,
+  short,
+  λ old new brackets stop adds.
+      inr (inr (inl (record { whole = whole; adds = subst (λ (x : Brackets). AddsToken (with_brackets old x) kind.Str len new) (sym brackets) adds }))),
+)
+
+-- a string with fields
+pub fields_met : (scan : Scan) (place : ℕ) (bytes : List ℕ) (len : ℕ) → IsWholeString bytes len → len + 1 < length bytes → depth_of scan.brackets ≤ 100 → MeetsToken scan place bytes (Ok (Some (kind.Str, len))) scan
+fields_met scan place bytes len whole short room = (
+  refl,
+  (string_size bytes len whole).0,
+  short,
+  λ old new brackets stop adds.
+      inr (inr (inr (record {
+        whole = whole;
+        room = subst (λ (x : Brackets). depth_of x ≤ 100) (sym brackets) room;
+        adds = subst (λ (x : Brackets). AddsToken (with_brackets old x) kind.Str len new) (sym brackets) adds;
+      }))),
 )
 
 -- where the tokens and the space between them have brought the scan
@@ -138,7 +164,11 @@ token_leads first scan met bytes rest n len place tokens k free is same next pus
     let is_free_there = free_coded b scan n free in
     ⊎_elim
     (λ word. word_reached m at whole old new rest len is_free_there before start word)
+    (λ others. ⊎_elim
     (λ stands. operator_reached m at whole old new rest len is_free_there before start stands)
+    (λ strings. ⊎_elim
+    (λ string. string_reached m at whole old new rest len is_free_there before start string)
+    (λ fields. fields_reached m at whole old new rest len is_free_there before start fields) strings) others)
     (next old new (brackets_coded b scan n) (stop_coded b scan n (not_some n) ∙ sym is) adds)
 
 -- after the space that may follow it

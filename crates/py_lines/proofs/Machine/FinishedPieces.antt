@@ -1,5 +1,5 @@
 -- Finished pieces stay where the machine goes on.
-use Rattle.std.proofs.Common.{◌≡◌, ℕ, Option, None, Some, List, [], ◌∷◌, ◌++◌, refl, sym, ap, ◌∙◌, subst, append_assoc, append-nil}
+use Rattle.std.proofs.Common.{◌≡◌, ℕ, Option, None, Some, List, [], ◌∷◌, ◌++◌, refl, sym, ap, ◌∙◌, append_assoc, append-nil}
 use Rattle.py_lines.specs.Piece.{operator, line_end, Piece}
 use Rattle.py_lines.specs.declared.mode.Mode.{Mode}
 use Rattle.py_lines.specs.declared.mode.Mode.TheVariants as modes
@@ -7,10 +7,8 @@ use Rattle.py_lines.specs.declared.mode.Move.{Move}
 use Rattle.py_lines.specs.declared.mode.Move.TheVariants as moves
 use Rattle.py_lines.specs.declared.mode.Start.{Start}
 use Rattle.py_lines.specs.declared.mode.Start.TheVariants as starts
-use Rattle.py_lines.specs.Private.Machine.{Scanned, text_start, class_of, closed, started, moved, step, steps_from, move_of, start_of, Bracket, brackets_of}
+use Rattle.py_lines.specs.Private.Machine.{Scanned, class_of, closed, started, moved, step, steps_from, move_of, start_of}
 use Rattle.py_lines.proofs.Pieces.PieceLists.{piece}
-use Rattle.py_lines.proofs.Pieces.OpenBrackets.{stack_before}
-use Rattle.py_lines.proofs.Machine.PieceSteps.{steps_from-append}
 
 abbrev pub GrowsIf : List Piece → Option Scanned → Type 0
 GrowsIf done None = Unit {0}
@@ -27,7 +25,7 @@ started_grows all done ps c starts.Operator is = (ps ++ piece operator (c ∷ []
 started_grows all done ps c starts.LineEnd is = (ps ++ piece line_end (c ∷ []) ∷ [], ap (λ l. l ++ piece line_end (c ∷ []) ∷ []) is ∙ append_assoc done ps (piece line_end (c ∷ []) ∷ []))
 started_grows all done ps c starts.Nothing is = tt
 
-moved_grows : (s : Scanned) (c : ℕ) (v : Move) → GrowsIf s.done (moved s c v)
+pub moved_grows : (s : Scanned) (c : ℕ) (v : Move) → GrowsIf s.done (moved s c v)
 moved_grows s c (moves.Grows m) = ([], sym (append-nil s.done))
 moved_grows s c moves.Closes = (piece (class_of s.mode) (s.held ++ c ∷ []) ∷ [], refl)
 moved_grows s c moves.Breaks =
@@ -35,7 +33,7 @@ moved_grows s c moves.Breaks =
     started_grows (closed s.mode s.done s.held) s.done first.0 c (start_of c) first.1
 moved_grows s c moves.Refused = tt
 
-grows_on : (done : List Piece) (s : Scanned) (o : Option Scanned) → GrowsIf done (Some s) → GrowsIf s.done o → GrowsIf done o
+pub grows_on : (done : List Piece) (s : Scanned) (o : Option Scanned) → GrowsIf done (Some s) → GrowsIf s.done o → GrowsIf done o
 grows_on done s None first second = tt
 grows_on done s (Some t) first second = (first.0 ++ second.0, second.1 ∙ ap (λ l. l ++ second.0) first.1 ∙ append_assoc done first.0 second.0)
 

@@ -10,12 +10,12 @@ use Rattle.py_lines.specs.declared.mode.Mode.TheVariants as modes
 use Rattle.py_lines.specs.declared.mode.Move.{Move}
 use Rattle.py_lines.specs.declared.mode.Start.{Start}
 use Rattle.py_lines.specs.declared.mode.Start.TheVariants as starts
-use Rattle.py_lines.specs.Private.Machine.{IsSound, Holds, HoldsItems, HoldsSome, HoldsQuotes, HoldsPrefix, HoldsLong, Scanned, fresh, text_start, closed, started, moved, step, steps_from, move_of, short_move, long_move, start_of, first_spelling, spelling_with, is_prefix_spelling, is_final}
+use Rattle.py_lines.specs.Private.Machine.{IsSound, Holds, HoldsItems, HoldsSome, HoldsQuotes, HoldsPrefix, HoldsLong, Scanned, fresh, closed, started, moved, step, move_of, short_move, long_move, start_of, first_spelling, spelling_with, is_prefix_spelling, is_final}
 use Rattle.py_lines.proofs.Pieces.PieceLists.{piece, spelled-push, AreReadPlain-push, MayFollow, follows_any}
 use Rattle.py_lines.proofs.Machine.Starts.{StartsSo, starts_so}
 use Rattle.py_lines.proofs.Machine.Spellings.{spelling_on-push, prefix_spelling}
 use Rattle.py_lines.proofs.Text.CharacterTests.{feed_is, return_is, barred, feed-not-return}
-use Rattle.py_lines.proofs.Machine.PieceSteps.{scanned, pieces_at}
+use Rattle.py_lines.proofs.Machine.PieceSteps.{scanned}
 use Rattle.py_lines.proofs.Machine.OpenPieces.{list_all-push, list_any-push, push, same_quotes, something, long_something, items_push, prefix_push, opening_none, opening_one, opening_two, opened_items, opened_long, one_more_quote, short_string, long_string}
 
 abbrev pub SoundIf : Option Scanned → List ℕ → Type 0

@@ -1,13 +1,10 @@
 -- A character and what it does to the open brackets, in one step: the machine, its stack with it.
-use Rattle.std.proofs.Common.{◌≡◌, ℕ, Option, None, Some, List, [], ◌∷◌, ◌++◌, refl, sym, ap, ◌∙◌, subst, append_assoc, append-nil}
+use Rattle.std.proofs.Common.{◌≡◌, ℕ, Option, None, Some, List, [], ◌∷◌, ◌++◌, refl, sym, ap, ◌∙◌, subst, append-nil}
 use Rattle.py_lines.specs.Piece.{Piece}
-use Rattle.py_lines.specs.declared.mode.Move.{Move}
-use Rattle.py_lines.specs.declared.mode.Move.TheVariants as moves
-use Rattle.py_lines.specs.Private.Machine.{Scanned, text_start, class_of, closed, moved, start_of, Bracket, brackets_of}
+use Rattle.py_lines.specs.Private.Machine.{Scanned, text_start, Bracket, brackets_of}
 use Rattle.py_lines.specs.Private.ScanMachine.{move_at, scan_step, scan_steps}
-use Rattle.py_lines.proofs.Pieces.PieceLists.{piece}
 use Rattle.py_lines.proofs.Pieces.OpenBrackets.{stack_before}
-use Rattle.py_lines.proofs.Machine.FinishedPieces.{GrowsIf, closed_grows, started_grows}
+use Rattle.py_lines.proofs.Machine.FinishedPieces.{GrowsIf, grows_on, moved_grows}
 use Rattle.py_lines.proofs.ScanMachine.Steps.{scan_steps-append}
 
 -- a state whose brackets pair, as far as they go
@@ -39,18 +36,6 @@ abbrev pub RunsTo : List ℕ → Scanned → List Bracket → Type 0
 RunsTo characters to brackets = GoesTo text_start characters to brackets
 
 -- finished pieces stay
-moved_grows : (s : Scanned) (c : ℕ) (v : Move) → GrowsIf s.done (moved s c v)
-moved_grows s c (moves.Grows m) = ([], sym (append-nil s.done))
-moved_grows s c moves.Closes = (piece (class_of s.mode) (s.held ++ c ∷ []) ∷ [], refl)
-moved_grows s c moves.Breaks =
-    let first = closed_grows s.mode s.done s.held in
-    started_grows (closed s.mode s.done s.held) s.done first.0 c (start_of c) first.1
-moved_grows s c moves.Refused = tt
-
-grows_on : (done : List Piece) (s : Scanned) (o : Option Scanned) → GrowsIf done (Some s) → GrowsIf s.done o → GrowsIf done o
-grows_on done s None first second = tt
-grows_on done s (Some t) first second = (first.0 ++ second.0, second.1 ∙ ap (λ l. l ++ second.0) first.1 ∙ append_assoc done first.0 second.0)
-
 pub run_grows : (cs : List ℕ) (o : Option Scanned) (done : List Piece) → GrowsIf done o → GrowsIf done (scan_steps o cs)
 run_grows cs None done grows = tt
 run_grows [] (Some s) done grows = grows

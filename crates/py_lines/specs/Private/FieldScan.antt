@@ -1,9 +1,9 @@
 -- What the scan of a string with fields keeps, in the words of the machine with fields. It serves the contracts of private
 -- functions.
-use Rattle.std.specs.Prelude.{◌≡◌, ℕ, ◌+◌, ◌-◌, ◌==◌, ◌&&◌, not, nat_lt, Bool, true, false, Option, None, Some, Result, Ok, Err, List, [], ◌∷◌, ◌++◌, length, drop, encode_utf8_all, if◌then◌else◌}
+use Rattle.std.specs.Prelude.{◌≡◌, ℕ, ◌+◌, ◌-◌, ◌<◌, ◌≤◌, ◌==◌, ◌&&◌, not, nat_lt, Bool, true, false, Option, None, Some, Result, Ok, Err, List, [], ◌∷◌, ◌++◌, length, drop, encode_utf8_all, if◌then◌else◌}
 use Rattle.std.specs.Str.{all_scalars}
 use Rattle.std.specs.declared.alloc.AllocError.{AllocError}
-use Rattle.py_lines.specs.Character.{is_backslash, is_brace, is_break, is_space, is_word_character}
+use Rattle.py_lines.specs.Character.{is_backslash, is_brace, is_break, is_quote, is_space, is_word_character}
 use Rattle.py_lines.specs.Balance.{is_opening}
 use Rattle.py_lines.specs.LogicalLine.{byte_len}
 use Rattle.py_lines.specs.Faults.{kind_of_cause, Unfinished, open_bracket, kind_of_unfinished}
@@ -178,24 +178,30 @@ abbrev pub PushesField : FieldScan → ℕ → ℕ → ℕ → Result FieldProgr
 PushesField old c place depth result new =
     (base : ℕ) (t : FieldScanned) → Follows old base t → IsInString t → place ≡ base + here t → ComesTo base depth t c old result new
 
--- these characters leave a string as it is but for its text, and end no line
-abbrev pub StaysIn : FieldScanned → List ℕ → Type 0
-StaysIn t [] = Unit {0}
-StaysIn t (c ∷ cs) =
-    (field_move t.mode t.held c ≡ grows t.mode) × (is_break c ≡ false)
-    × StaysIn (field_state t.outer t.done t.openers t.mode (t.held ++ c ∷ [])) cs
+-- The machine goes from one state to another through these characters, where so many brackets are open round the string: they are
+-- ASCII, none of them ends a line, and the string goes on over each.
+abbrev pub GoesOn : ℕ → FieldScanned → List ℕ → FieldScanned → Type 0
+GoesOn depth t [] u = t ≡ u
+GoesOn depth t (c ∷ cs) u =
+    (c < 128) × (is_break c ≡ false) × (fielded_move depth (Some t) c ≡ moves.Grows modes.Fielded)
+    × (next : FieldScanned) × (field_step t c ≡ Some next) × GoesOn depth next cs u
 
--- the state with more of its text
-abbrev pub with_text : FieldScanned → List ℕ → FieldScanned
-with_text t run = field_state t.outer t.done t.openers t.mode (t.held ++ run)
-
--- the first bytes are such characters, so many of them, and the scan follows over them
-pub record HoldsField (scan : FieldScan) (bytes : List ℕ) (len : ℕ) : Type 0 where
+-- so the machine goes through the first bytes, so many of them, and the scan follows without a change
+pub record HoldsField (scan : FieldScan) (depth : ℕ) (bytes : List ℕ) (len : ℕ) : Type 0 where
   pub run : List ℕ
   pub spell : encode_utf8_all run ++ drop len bytes ≡ bytes
   pub scalars : all_scalars run ≡ true
   pub size : byte_len run ≡ len
-  pub stay : (base : ℕ) (t : FieldScanned) → Follows scan base t → IsInString t → StaysIn t run × Follows scan base (with_text t run)
+  pub stay : (base : ℕ) (t : FieldScanned) → Follows scan base t → IsInString t
+      → (u : FieldScanned) × GoesOn depth t run u × Follows scan base u
+
+-- wherever the scan follows, the machine stands between two parts of the literal part of a string of this quote, and at most a
+-- hundred brackets and fields are open
+abbrev pub StandsInText : FieldScan → ℕ → Option ℕ → Type 0
+StandsInText scan depth None = Unit {0}
+StandsInText scan depth (Some quote) =
+    (h : known.Host) × (scan.mode ≡ field_modes.Body h regions.Literal false ats.Between) × (h.quote ≡ quote) × (is_quote quote ≡ true)
+    × (depth + length scan.frames.items ≤ 100)
 
 -- what is wrong where such a string refuses a character
 abbrev pub IsFieldFlaw : ℕ → ℕ → FieldScanned → ℕ → Flaw → Type 0

@@ -1,9 +1,9 @@
 -- Runs of bytes that a text begins with, which leave the open piece as it is.
-use Rattle.std.specs.Prelude.{◌&&◌, is_some, Option, None, Some, Result, Ok, Err, ◌≡◌, ℕ, ◌+◌, ◌<◌, ◌≤◌, ◌⊎◌, Bool, true, false, ◌==◌, ◌||◌, not, nat_lt, nat_le, if◌then◌else◌, map, List, [], ◌∷◌, ◌++◌, length, take, drop, slice_index, codes, encode_utf8, encode_utf8_all}
+use Rattle.std.specs.Prelude.{◌&&◌, is_some, Option, None, Some, Result, Ok, Err, ◌≡◌, ℕ, ◌+◌, ◌-◌, ◌<◌, ◌≤◌, ◌⊎◌, Bool, true, false, ◌==◌, ◌||◌, not, nat_lt, nat_le, if◌then◌else◌, map, List, [], ◌∷◌, ◌++◌, length, take, drop, slice_index, codes, encode_utf8, encode_utf8_all}
 use Rattle.std.specs.Str.{all_scalars, byte, IsUtf8}
 use Rattle.std.specs.Char.{is_ascii_alphanumeric, is_ascii_digit, len_utf8, IsScalar}
 use Rattle.std.specs.List.{list_all, prefix_len}
-use Rattle.py_lines.specs.Character.{is_one_of, is_space, is_break, is_operator, is_hash, is_backslash, is_quote, is_line_feed, is_return}
+use Rattle.py_lines.specs.Character.{is_one_of, is_brace, is_space, is_break, is_operator, is_hash, is_backslash, is_quote, is_line_feed, is_return}
 use Rattle.py_lines.specs.Balance.{is_opening, is_closing}
 use Rattle.py_lines.specs.LogicalLine.{byte_len, token}
 use Rattle.std.specs.declared.alloc.AllocError.{AllocError}
@@ -11,8 +11,9 @@ use Rattle.py_lines.specs.Piece.{operator, begins}
 use Rattle.py_lines.specs.Private.Machine.{Bracket, brackets_after, IsFull, first_spelling, spelling_on}
 use Rattle.py_lines.specs.Private.ScanMachine.{IsInString, IsScanSound, meet_of}
 use Rattle.py_lines.specs.Private.FieldMachine.{FieldScanned}
-use Rattle.py_lines.specs.Private.FieldScan.{Follows, StaysIn, with_text}
-use Rattle.py_lines.specs.Private.Scan.{Begins, Closes, freed, IsUnderWay, ScansIn, line_start, stack_of, none_open, with_brackets, is_return_mode, stack_with}
+use Rattle.py_lines.specs.Private.FieldScan.{Follows, GoesOn}
+use Rattle.py_lines.specs.Private.FieldText.{IsWholeString}
+use Rattle.py_lines.specs.Private.Scan.{Begins, Closes, depth_of, freed, IsUnderWay, ScansIn, line_start, stack_of, none_open, with_brackets, is_return_mode, stack_with}
 use Rattle.py_lines.specs.declared.brackets.Brackets.{Brackets}
 use Rattle.py_lines.specs.declared.token.Token.{Token}
 use Rattle.py_lines.specs.declared.token.TokKind.{TokKind}
@@ -76,6 +77,18 @@ is_body_byte quote c = not ((c == quote) || is_one_of (codes "\\\n\r") c)
 abbrev pub is_text_byte : ℕ → ℕ → Bool
 is_text_byte quote c = is_body_byte quote c && nat_lt c 128
 
+-- the same in a string with fields, where it is no brace either
+abbrev pub is_literal_byte : ℕ → ℕ → Bool
+is_literal_byte quote c = is_text_byte quote c && not (is_brace c)
+
+-- a space, or one of the operators that code in fields has mostly: `!`, `=`, and those from `*` to `/`
+unfoldable pub is_code_sign : ℕ → Bool
+is_code_sign c = is_between 42 47 c || (is_between 32 33 c || (c == byte "="))
+
+-- the same, or what stands in words
+abbrev pub is_code_byte : ℕ → Bool
+is_code_byte c = is_ascii_word c || is_code_sign c
+
 -- what stands in a comment
 abbrev pub is_comment_byte : ℕ → Bool
 is_comment_byte c = not (is_break c)
@@ -95,6 +108,8 @@ is_in_run runs.Word = is_ascii_word
 is_in_run runs.Space = is_space
 is_in_run (runs.Body q) = is_body_byte q
 is_in_run (runs.Text q) = is_text_byte q
+is_in_run (runs.Literal q) = is_literal_byte q
+is_in_run runs.Code = is_code_byte
 is_in_run runs.Remark = is_remark_byte
 
 -- whether a byte, or a character, leaves the open piece as it is, and ends no line
@@ -121,7 +136,7 @@ with_bytes old len = record old { stop = old.stop + len; count = record { line =
 abbrev pub Stay : Mode → Scan → List ℕ → Type 0
 Stay modes.Fielded scan run =
     (t : FieldScanned) → Follows scan.fields scan.piece.start t → IsInString t
-    → StaysIn t run × Follows scan.fields scan.piece.start (with_text t run)
+    → (u : FieldScanned) × GoesOn (depth_of scan.brackets) t run u × Follows scan.fields scan.piece.start u
 Stay m scan run = list_all (stays m) run ≡ true
 
 -- the first bytes are such characters, so many of them
@@ -247,8 +262,8 @@ pub record TakesOperator (old : Scan) (bytes : List ℕ) (len : ℕ) (new : Scan
   pub stands : stack_with old.brackets old.stop c ≡ Some (stack_of met)
   pub adds : AddsToken (with_brackets old met) (kind.Op c) 1 new
 
--- a string between single quotes, of ASCII and with no escape in it, came whole after closed pieces
-pub record TakesString (old : Scan) (bytes : List ℕ) (len : ℕ) (new : Scan) : Type 0 where
+-- the bytes begin with a string between single quotes, of ASCII and with no escape in it, which has so many of them
+pub record IsWholeText (bytes : List ℕ) (len : ℕ) : Type 0 where
   pub q : ℕ
   pub run : List ℕ
   pub after : List ℕ
@@ -257,6 +272,26 @@ pub record TakesString (old : Scan) (bytes : List ℕ) (len : ℕ) (new : Scan) 
   pub quote : is_quote q ≡ true
   pub full : IsFull run
   pub all : list_all (is_text_byte q) run ≡ true
+
+abbrev pub HasWholeText : List ℕ → Option ℕ → Type 0
+HasWholeText bytes None = Unit {0}
+HasWholeText bytes (Some len) = IsWholeText bytes len
+
+-- a string without a prefix begins at this byte: a quote, after no letter, digit or underscore
+pub record BeginsText (bytes : List ℕ) (at : ℕ) : Type 0 where
+  pub within : at < length bytes
+  pub quote : is_quote (slice_index bytes at) ≡ true
+  pub apart : (at ≡ 0) ⊎ (is_ascii_word (slice_index bytes (at - 1)) ≡ false)
+
+-- such a string came whole after closed pieces
+pub record TakesString (old : Scan) (bytes : List ℕ) (len : ℕ) (new : Scan) : Type 0 where
+  pub whole : IsWholeText bytes len
+  pub adds : AddsToken old kind.Str len new
+
+-- a string with fields, whose text is simple, came whole after closed pieces, where there is room for what opens in it
+pub record TakesStringWithFields (old : Scan) (bytes : List ℕ) (len : ℕ) (new : Scan) : Type 0 where
+  pub whole : IsWholeString bytes len
+  pub room : depth_of old.brackets ≤ 100
   pub adds : AddsToken old kind.Str len new
 
 -- so many bytes were taken, of which this holds, and they end no line; or nothing was taken
@@ -269,6 +304,9 @@ TakesOrNot Takes old (Err e) new = Unit {0}
 -- such a string came, or nothing was taken
 abbrev pub TakesText : Scan → List ℕ → Result Taken AllocError → Scan → Type 0
 TakesText old bytes = TakesOrNot (TakesString old bytes) old
+
+abbrev pub TakesFields : Scan → List ℕ → Result Taken AllocError → Scan → Type 0
+TakesFields old bytes = TakesOrNot (TakesStringWithFields old bytes) old
 
 -- an operator came, or nothing was taken
 abbrev pub TakesBracket : Scan → List ℕ → Result Taken AllocError → Scan → Type 0
@@ -395,7 +433,7 @@ abbrev pub TakesBytes : Scan → List ℕ → ℕ → Scan → Type 0
 TakesBytes old bytes len new =
     TakesWord old bytes len new ⊎ (TakesSpace old bytes len new ⊎ (TakesOperator old bytes len new ⊎ (TakesString old bytes len new
     ⊎ (TakesComment old bytes len new ⊎ (TakesLineEnd old bytes (taken.Bytes len) new
-    ⊎ ((0 < len) × HasTaken old bytes len new))))))
+    ⊎ (TakesStringWithFields old bytes len new ⊎ ((0 < len) × HasTaken old bytes len new)))))))
 
 -- so does what may stand after a space: no space, and what may begin a piece
 abbrev pub follows_space : List Bracket → ℕ → Type 0
@@ -425,7 +463,8 @@ IsWholeWord st bytes (Some (k, len)) =
 abbrev pub IsNextToken : Brackets → Brackets → ℕ → List ℕ → TokKind → ℕ → Type 0
 IsNextToken before after place bytes k len =
     (old new : Scan) → old.brackets ≡ before → old.stop ≡ place → AddsToken (with_brackets old after) k len new
-    → TakesWord old bytes len new ⊎ TakesOperator old bytes len new
+    → TakesWord old bytes len new
+    ⊎ (TakesOperator old bytes len new ⊎ (TakesString old bytes len new ⊎ TakesStringWithFields old bytes len new))
 
 -- such a token was met, or the scan is as it was
 abbrev pub MeetsToken : Scan → ℕ → List ℕ → Result (Option (TokKind × ℕ)) AllocError → Scan → Type 0
@@ -433,6 +472,10 @@ MeetsToken old place bytes (Ok None) new = new ≡ old
 MeetsToken old place bytes (Ok (Some (k, len))) new =
     (new ≡ with_brackets old new.brackets) × (0 < len) × (len + 1 < length bytes) × IsNextToken old.brackets new.brackets place bytes k len
 MeetsToken old place bytes (Err e) new = Unit {0}
+
+-- so at each byte, where no bracket is met
+abbrev pub FindsToken : Scan → List ℕ → Option (TokKind × ℕ) → Type 0
+FindsToken scan bytes found = (place : ℕ) → MeetsToken scan place bytes (Ok found) scan
 
 -- a piece came after closed ones, or nothing was taken
 abbrev pub TakesPiece : Scan → List ℕ → Result Taken AllocError → Scan → Type 0

@@ -1,8 +1,8 @@
-use Rattle.py_lines.proofs.FieldScans.Runs.{holds_field}
+use Rattle.std.proofs.Common.{ℕ, Option, subst}
+use Rattle.py_lines.specs.Private.FieldScan.{StandsInText}
+use Rattle.py_lines.proofs.FieldScans.Runs.{holds_text}
 use Rattle.py_lines.proofs.field_scan.FieldScan.hold.Goals as goal
 
-pub returns-else-keeps : goal.returns-else-keeps
-returns-else-keeps c = holds_field c.args.self.now c.args.bytes.now c.loop-len.len c.loop-len.invariant.within c.loop-len.invariant.each
-
-pub returns-after-loop-len : goal.returns-after-loop-len
-returns-after-loop-len c = holds_field c.args.self.now c.args.bytes.now c.loop-len.len c.loop-len.invariant.within c.loop-len.invariant.each
+pub returns-in-Some : goal.returns-in-Some
+returns-in-Some c =
+    holds_text c.args.self.now c.args.depth c.in-Some.quote c.args.bytes.now c.text_len.result (subst (λ (o : Option ℕ). StandsInText c.args.self.now c.args.depth o) c.in-Some.is c.open_text.ensures) c.text_len.ensures

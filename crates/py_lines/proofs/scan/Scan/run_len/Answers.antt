@@ -1,4 +1,5 @@
-use Rattle.std.proofs.Common.{◌≡◌}
+use Rattle.std.proofs.Common.{◌≡◌, ℕ, subst}
+use Rattle.py_lines.specs.Private.FieldScan.{HoldsField}
 use Rattle.std.proofs.lemmas.Bool.{both_ways}
 use Rattle.py_lines.specs.declared.mode.Mode.TheVariants as modes
 use Rattle.py_lines.proofs.LineScan.Runs.{held_in, string_held}
@@ -8,7 +9,7 @@ use Rattle.py_lines.proofs.scan.Scan.run_len.Goals as goal
 pub returns-then-matches : goal.returns-then-matches
 returns-then-matches c =
     let here : c.args.self.now.piece.mode ≡ modes.Fielded = elim c.match-matches.branch [ in-Fielded w ↦ w.in-Fielded.is | in_default w ↦ absurd (both_ways c.match-matches.matches w.matches-is c.if-matches.true) ] in
-    string_held c.args.self.now c.args.bytes.now c.hold.result here c.hold.ensures
+    string_held c.args.self.now c.args.bytes.now c.hold.result here (subst (λ (n : ℕ). HoldsField c.args.self.now.fields n c.args.bytes.now c.hold.result) c.len.ensures c.hold.ensures)
 
 pub returns-else-matches : goal.returns-else-matches
 returns-else-matches c =

@@ -1,6 +1,6 @@
 use Rattle.std.proofs.Common.{◌≡◌, ℕ, ◌-◌, ◌<◌, ◌≤◌, length, slice_index, true}
 use Rattle.py_lines.specs.Private.FieldScan.{keeps_byte}
-use Rattle.py_lines.proofs.field_scan.FieldScan.hold.Given as goal
+use Rattle.py_lines.proofs.field_scan.FieldScan.keep.Given as goal
 
 abbrev pub invariant-loop-len : goal.invariant-loop-len
 invariant-loop-len l = record {

@@ -1,0 +1,576 @@
+-- Simple text of a string with fields: the machine goes through it, from one place to another.
+use Rattle.std.proofs.Common.{◌≡◌, ℕ, zero, suc, ◌+◌, ◌<◌, ◌≤◌, Bool, true, false, not, ◌&&◌, ◌||◌, ◌==◌, Some, List, [], ◌∷◌, ◌++◌, length, refl, sym, ap, ◌∙◌, subst, append_assoc, append-nil, arith, ◌⊎◌, inl, inr, ⊎_elim}
+use Rattle.std.specs.Prelude.{nat_le, nat_lt, codes}
+use Rattle.std.proofs.lemmas.Bool.Decides.{nat_tests}
+use Rattle.std.specs.List.{list_all}
+use Rattle.std.proofs.lemmas.Bool.{and_parts, and_right, or_cases, both_ways, eq-eqb}
+use Rattle.py_lines.specs.Character.{is_one_of, is_space, is_word_character, is_quote, is_operator, is_break, is_backslash, is_brace}
+use Rattle.py_lines.specs.Piece.{Piece, spelled, operator, string}
+use Rattle.py_lines.specs.Balance.{is_opening, is_closing, closing_of}
+use Rattle.py_lines.specs.FieldStrings.{is_field_prefix, names, Host, Place, literal, specification}
+use Rattle.py_lines.specs.declared.mode.Mode.{Mode}
+use Rattle.py_lines.specs.declared.mode.Mode.TheVariants as modes
+use Rattle.py_lines.specs.declared.mode.Move.TheVariants as moves
+use Rattle.py_lines.specs.declared.mode.Start.TheVariants as starts
+use Rattle.py_lines.specs.Private.Machine.{IsFull, short_move, move_of, start_of, first_spelling, spelling_with, is_prefix_spelling}
+use Rattle.py_lines.specs.Private.FieldMachine.{between, after_brace, after_slash, plain, body, FieldMove, grows, closes, breaks, begins_code, ends_field, Level, FieldScanned, field_state, field_fresh, field_ended, field_pieces, begins_host, plain_move, between_move, body_move, field_move, field_moved, field_started, code_operator, openers_with, levels_open, frames, has_room_at}
+use Rattle.py_lines.specs.Private.FieldScan.{GoesOn}
+use Rattle.py_lines.specs.Private.FieldText.{is_apart_mode, is_escaped, InText, AtBrace, AtCode, InCode, StandsInCode, AtSpecification, Leads, level_after, is_code_mode, is_code_bracket}
+use Rattle.py_lines.specs.Private.Run.{is_between, is_ascii_word, is_text_byte, is_body_byte, is_literal_byte, is_code_sign, is_code_byte}
+use Rattle.py_lines.proofs.Pieces.PieceLists.{piece}
+use Rattle.py_lines.proofs.Text.CharacterTests.{each_of, none_of, not_quote, operator_ascii, excluded, quote-not-word}
+use Rattle.py_lines.proofs.Machine.Starts.{start-word, start-space, start-operator, start-quote}
+use Rattle.py_lines.proofs.FieldMachine.Runs.{room_at, stops-fresh}
+use Rattle.py_lines.proofs.FieldMachine.PlainSteps.{plain_moves}
+use Rattle.py_lines.proofs.FieldMachine.PieceRuns.{IsNoColon, operator_stays}
+use Rattle.py_lines.proofs.FieldMachine.ListBrackets.{opening_pushes, closing_pops, others_keep}
+use Rattle.py_lines.proofs.FieldMachine.StringParts.{open_moves, other_escaped, second_brace, slash_grows}
+use Rattle.py_lines.proofs.FieldMachine.FieldRuns.{brace_ends, code_moves, colon_opens, end_moves, end_no_quote}
+use Rattle.py_lines.proofs.ScanMachine.Follows.{room_closes, room_grows}
+use Rattle.py_lines.proofs.FieldScans.Runs.{no_longer, text_stays, two_false}
+use Rattle.py_lines.proofs.FieldScans.Steps.{goes_through}
+use Rattle.py_lines.proofs.LineScan.ShortPieces.{low_is, quote-no_break, space-not-quote}
+use Rattle.py_lines.proofs.LineScan.Runs.{break-return, body_parts, quote_ascii, space_low, word_byte_continues, word_byte_low, word_byte_starts}
+
+-- one character
+one_step : (depth : ℕ) (t next : FieldScanned) (c : ℕ) (v : FieldMove) → c < 128 → is_break c ≡ false → field_move t.mode t.held c ≡ v → (t.outer ≡ [] → v ≡ closes → ⊥) → has_room_at (depth + frames t) c v ≡ true → field_moved t c v ≡ Some next → GoesOn depth t (c ∷ []) next
+one_step depth t next c v low none is goes_on room comes = (low, none, goes_through 0 depth t c v is next room comes goes_on, next, ap (field_moved t c) is ∙ comes, refl)
+
+-- over two runs, one after the other
+pub goes_on-append : (depth : ℕ) (t u v : FieldScanned) (a b : List ℕ) → GoesOn depth t a u → GoesOn depth u b v → GoesOn depth t (a ++ b) v
+goes_on-append depth t u v [] b first second = subst (λ x. GoesOn depth x b v) (sym first) second
+goes_on-append depth t u v (c ∷ a) b (low, none, move, next, step, others) second = (low, none, move, next, step, goes_on-append depth next u v a b others second)
+
+pub leads-append : (quote : ℕ) (P Q R : List Level → Level → FieldScanned → Type 0) (a b : List ℕ) → Leads quote P a Q → Leads quote Q b R → Leads quote P (a ++ b) R
+leads-append quote P Q R a b first second outer l depth t same quotes room at =
+    let one = first outer l depth t same quotes room at in
+    let two = second outer l depth one.0 same quotes room one.2 in
+    (two.0, goes_on-append depth t one.0 two.0 a b one.1 two.1, two.2)
+
+pub leads-none : (quote : ℕ) (P : List Level → Level → FieldScanned → Type 0) → Leads quote P [] P
+leads-none quote P outer l depth t same quotes room at = (t, refl, at)
+
+-- a run of characters each of which leads back
+leads-run : (passes : ℕ → Bool) (quote : ℕ) (P : List Level → Level → FieldScanned → Type 0) → ((c : ℕ) → passes c ≡ true → Leads quote P (c ∷ []) P) → (run : List ℕ) → list_all passes run ≡ true → Leads quote P run P
+leads-run passes quote P each [] all = leads-none quote P
+leads-run passes quote P each (c ∷ cs) all =
+    let parts = and_parts (passes c) (list_all passes cs) all in
+    leads-append quote P P P (c ∷ []) cs (each c parts.0) (leads-run passes quote P each cs parts.1)
+
+-- what a character of text is
+pub record IsLiteral (quote c : ℕ) : Type 0 where
+  pub low : c < 128
+  pub other : c == quote ≡ false
+  pub slash : is_backslash c ≡ false
+  pub none : is_break c ≡ false
+  pub brace : is_brace c ≡ false
+
+pub literal_parts : (quote c : ℕ) → is_literal_byte quote c ≡ true → IsLiteral quote c
+literal_parts quote c h =
+    let both = and_parts (is_text_byte quote c) (not (is_brace c)) h in
+    let text = and_parts (is_body_byte quote c) (nat_lt c 128) both.0 in
+    let parts = body_parts quote c text.0 in
+    record { low = low_is c text.1; other = parts.0; slash = parts.1; none = parts.2; brace = no_longer (is_brace c) both.1 }
+
+pub text_grows : (h : Host) (quote c : ℕ) → h.quote ≡ quote → IsLiteral quote c → (held : List ℕ) → (place : Place) → field_move (body h place false between) held c ≡ grows (body h place false between)
+unfolding field_move
+text_grows h quote c same is held place = text_stays h place false c (ap (λ (q : ℕ). c == q) same ∙ is.other) is.slash is.none is.brace
+
+brace_stays : (host : Host) (held : List ℕ) → is_quote host.quote ≡ true → field_move (body host literal false between) held 125 ≡ grows (body host literal false between)
+unfolding field_move body_move between_move is_backslash is_break
+brace_stays host held quotes = rw (not_quote 125 host.quote quotes end_no_quote)
+
+brace_opens : (host : Host) (held : List ℕ) → is_quote host.quote ≡ true → field_move (body host literal false between) held 123 ≡ grows (body host literal false after_brace)
+unfolding field_move body_move
+brace_opens host held quotes = open_moves host literal between quotes
+
+open_no_break : is_break 123 ≡ false
+unfolding is_break
+open_no_break = refl
+
+end_no_break : is_break 125 ≡ false
+unfolding is_break
+end_no_break = refl
+
+-- in the text of a string
+module _ (quote : ℕ) (outer : List Level) (l : Level) (depth : ℕ) (same : l.host.quote ≡ quote) (quotes : is_quote quote ≡ true) where
+  abbrev quoted : is_quote l.host.quote ≡ true
+  quoted = ap is_quote same ∙ quotes
+
+  abbrev S : List ℕ → FieldScanned
+  S held = field_state outer l.done l.openers (body l.host literal false between) held
+
+  grown_by : (c : ℕ) (held : List ℕ) → c < 128 → is_break c ≡ false → field_move (body l.host literal false between) held c ≡ grows (body l.host literal false between) → (u : FieldScanned) × GoesOn depth (S held) (c ∷ []) u × InText outer l u
+  grown_by c held low none move = (
+    S (held ++ c ∷ []),
+    one_step depth (S held) (S (held ++ c ∷ [])) c (grows (body l.host literal false between)) low none move (λ o e. cc) (room_grows (depth + frames (S held)) c (body l.host literal false between)) refl,
+    (held ++ c ∷ [], refl),
+  )
+
+from_text : (quote : ℕ) (run : List ℕ) (Q : List Level → Level → FieldScanned → Type 0) → ((outer : List Level) (l : Level) (depth : ℕ) (held : List ℕ) → l.host.quote ≡ quote → is_quote quote ≡ true → depth + (length l.openers + levels_open outer) ≤ 100 → (u : FieldScanned) × GoesOn depth (field_state outer l.done l.openers (body l.host literal false between) held) run u × Q outer l u) → Leads quote InText run Q
+from_text quote run Q from outer l depth t same quotes room (held, is) = subst (λ x. (u : FieldScanned) × GoesOn depth x run u × Q outer l u) (sym is) (from outer l depth held same quotes room)
+
+text_leads : (quote c : ℕ) → is_literal_byte quote c ≡ true → Leads quote InText (c ∷ []) InText
+text_leads quote c h =
+    let is = literal_parts quote c h in
+    from_text quote (c ∷ []) InText (λ outer l depth held same quotes room. grown_by quote outer l depth same quotes c held is.low is.none (text_grows l.host quote c same is held literal))
+
+pub texts_lead : (quote : ℕ) (run : List ℕ) → list_all (is_literal_byte quote) run ≡ true → Leads quote InText run InText
+texts_lead quote = leads-run (is_literal_byte quote) quote InText (text_leads quote)
+
+-- `}` and `{{`
+pub brace_leads : (quote : ℕ) → Leads quote InText (125 ∷ []) InText
+brace_leads quote =
+    from_text quote (125 ∷ []) InText (λ outer l depth held same quotes room. grown_by quote outer l depth same quotes 125 held (omega arith) end_no_break (brace_stays l.host held (ap is_quote same ∙ quotes)))
+
+pub open_leads : (quote : ℕ) → Leads quote InText (123 ∷ []) AtBrace
+open_leads quote =
+    from_text quote (123 ∷ []) AtBrace (λ outer l depth held same quotes room. (
+      field_state outer l.done l.openers (body l.host literal false after_brace) (held ++ 123 ∷ []),
+      one_step depth (field_state outer l.done l.openers (body l.host literal false between) held) (field_state outer l.done l.openers (body l.host literal false after_brace) (held ++ 123 ∷ [])) 123 (grows (body l.host literal false after_brace)) (omega arith) open_no_break (brace_opens l.host held (ap is_quote same ∙ quotes)) (λ o e. cc) (room_grows _ 123 (body l.host literal false after_brace)) refl,
+      (held ++ 123 ∷ [], refl),
+    ))
+
+-- a backslash and a character
+slash_opens : (host : Host) (held : List ℕ) → is_quote host.quote ≡ true → field_move (body host literal false between) held 92 ≡ grows (body host literal false after_slash)
+unfolding field_move body_move is_backslash
+slash_opens host held quotes = slash_grows host literal false between 92 quotes refl
+
+slash_no_break : is_break 92 ≡ false
+unfolding is_break
+slash_no_break = refl
+
+pub escape_leads : (quote c : ℕ) → is_escaped c ≡ true → Leads quote InText (92 ∷ c ∷ []) InText
+escape_leads quote c h =
+    let low = and_parts (nat_lt c 128) (not (is_break c) && (not (is_brace c) && not (c == 78))) h in
+    let none = and_parts (not (is_break c)) (not (is_brace c) && not (c == 78)) low.1 in
+    let others = two_false (is_brace c) (c == 78) none.1 in
+    let unbroken : is_break c ≡ false = no_longer (is_break c) none.0 in
+    from_text quote (92 ∷ c ∷ []) InText (λ outer l depth held same quotes room.
+    let S : FieldScanned = field_state outer l.done l.openers (body l.host literal false between) held in
+    let slashed : FieldScanned = field_state outer l.done l.openers (body l.host literal false after_slash) (held ++ 92 ∷ []) in
+    let ended : FieldScanned = field_state outer l.done l.openers (body l.host literal false between) ((held ++ 92 ∷ []) ++ c ∷ []) in
+    let unnamed : names l.host c ≡ false = ap (λ b. b && not l.host.is_raw) others.1 in (
+      ended,
+      goes_on-append depth S slashed ended (92 ∷ []) (c ∷ [])
+          (one_step depth S slashed 92 (grows (body l.host literal false after_slash)) (omega arith) slash_no_break (slash_opens l.host held (ap is_quote same ∙ quotes)) (λ o e. cc) (room_grows _ 92 (body l.host literal false after_slash)) refl)
+          (one_step depth slashed ended c (grows (body l.host literal false between)) (low_is c low.0) unbroken (other_escaped l.host literal false (held ++ 92 ∷ []) c others.0 refl (break-return c unbroken) unnamed) (λ o e. cc) (room_grows _ c (body l.host literal false between)) refl),
+      ((held ++ 92 ∷ []) ++ c ∷ [], refl),
+    ))
+
+second_leads : (quote : ℕ) → Leads quote AtBrace (123 ∷ []) InText
+second_leads quote outer l depth t same quotes room (held, is) =
+    subst (λ x. (u : FieldScanned) × GoesOn depth x (123 ∷ []) u × InText outer l u) (sym is) (
+      field_state outer l.done l.openers (body l.host literal false between) (held ++ 123 ∷ []),
+      one_step depth (field_state outer l.done l.openers (body l.host literal false after_brace) held) (field_state outer l.done l.openers (body l.host literal false between) (held ++ 123 ∷ [])) 123 (grows (body l.host literal false between)) (omega arith) open_no_break (second_brace l.host literal false held) (λ o e. cc) (room_grows _ 123 (body l.host literal false between)) refl,
+      (held ++ 123 ∷ [], refl),
+    )
+
+pub two_lead : (quote : ℕ) → Leads quote InText (123 ∷ 123 ∷ []) InText
+two_lead quote = leads-append quote InText AtBrace InText (123 ∷ []) (123 ∷ []) (open_leads quote) (second_leads quote)
+
+-- after `{`, code begins with what is no brace of that kind
+pub code_after : (quote : ℕ) (Q : List Level → Level → FieldScanned → Type 0) (c : ℕ) (cs : List ℕ) → c == 123 ≡ false → Leads quote (AtCode []) (c ∷ cs) Q → Leads quote AtBrace (c ∷ cs) Q
+code_after quote Q c cs other leads outer l depth t same quotes room (held, is) =
+    subst (λ x. (u : FieldScanned) × GoesOn depth x (c ∷ cs) u × Q outer l u) (sym is) (go (leads outer l depth F same quotes room code))
+  where
+    T : FieldScanned
+    T = field_state outer l.done l.openers (body l.host literal false after_brace) held
+
+    F : FieldScanned
+    F = field_fresh (level_after l held ∷ outer) [] []
+
+    code : AtCode [] outer l F
+    code = record { front = held; done = []; mode = modes.Free; held = []; is = refl; simple = refl }
+
+    free : has_room_at (depth + frames T) c (begins_code l.host) ≡ true
+    free = room_at (depth + frames T) c (begins_code l.host) (omega (arith, room), λ opens. omega (arith, room))
+
+    go : (u : FieldScanned) × GoesOn depth F (c ∷ cs) u × Q outer l u → (u : FieldScanned) × GoesOn depth T (c ∷ cs) u × Q outer l u
+    go (u, (low, none, move, next, step, others), to) =
+        let begins : field_move (body l.host literal false after_brace) held c ≡ begins_code l.host = code_moves l.host false held c other in
+        let comes : field_moved T c (begins_code l.host) ≡ Some next = sym (ap (field_moved F c) (stops-fresh (c ∷ []))) ∙ step in
+        (u, (low, none, goes_through 0 depth T c (begins_code l.host) begins next free comes (λ o e. cc), next, ap (field_moved T c) begins ∙ comes, others), to)
+
+-- what a character does to a word, to space, and where no piece is open
+module _ (quote : ℕ) (outer : List Level) (l : Level) (depth : ℕ) (front : List ℕ) (done : List Piece) (os : List ℕ) (held : List ℕ) where
+  abbrev L : Level
+  L = level_after l front
+
+  abbrev C : Mode → FieldScanned
+  C m = field_state (L ∷ outer) done os (plain m) held
+
+  code_grows : (passes : Mode → Bool) (m n : Mode) (c : ℕ) → c < 128 → is_break c ≡ false → field_move (plain m) held c ≡ grows (plain n) → passes n ≡ true → (u : FieldScanned) × GoesOn depth (C m) (c ∷ []) u × StandsInCode passes os outer l u
+  code_grows passes m n c low none move simple = (
+    field_state (L ∷ outer) done os (plain n) (held ++ c ∷ []),
+    one_step depth (C m) (field_state (L ∷ outer) done os (plain n) (held ++ c ∷ [])) c (grows (plain n)) low none move (λ o. absurd (cc)) (room_grows _ c (plain n)) refl,
+    record { front = front; done = done; mode = n; held = held ++ c ∷ []; is = refl; simple = simple },
+  )
+
+  -- a character that begins a piece
+  code_breaks : (m : Mode) (c : ℕ) (next : FieldScanned) → c < 128 → is_break c ≡ false → field_move (plain m) held c ≡ breaks → has_room_at (depth + frames (C m)) c breaks ≡ true → field_started (L ∷ outer) (field_pieces (C m)) os c (start_of c) ≡ Some next → GoesOn depth (C m) (c ∷ []) next
+  code_breaks m c next low none move room starts_so = one_step depth (C m) next c breaks low none move (λ o. absurd (cc)) room starts_so
+
+  code_opens : (passes : Mode → Bool) (m n : Mode) (c : ℕ) → c < 128 → is_break c ≡ false → field_move (plain m) held c ≡ breaks → has_room_at (depth + frames (C m)) c breaks ≡ true → start_of c ≡ starts.Open n → passes n ≡ true → (u : FieldScanned) × GoesOn depth (C m) (c ∷ []) u × StandsInCode passes os outer l u
+  code_opens passes m n c low none move room opens simple =
+      let next : FieldScanned = field_state (L ∷ outer) (field_pieces (C m)) os (plain n) (c ∷ []) in (
+        next,
+        code_breaks m c next low none move room (ap (field_started (L ∷ outer) (field_pieces (C m)) os c) opens),
+        record { front = front; done = field_pieces (C m); mode = n; held = c ∷ []; is = refl; simple = simple },
+      )
+
+  code_operates : (m : Mode) (after : List ℕ) (c : ℕ) → c < 128 → is_break c ≡ false → field_move (plain m) held c ≡ breaks → has_room_at (depth + frames (C m)) c breaks ≡ true → start_of c ≡ starts.Operator → openers_with os c ≡ Some after → IsNoColon (L ∷ outer) os c → (u : FieldScanned) × GoesOn depth (C m) (c ∷ []) u × AtCode after outer l u
+  code_operates m after c low none move room opens stands no_colon =
+      let ps = field_pieces (C m) in
+      let next : FieldScanned = field_fresh (L ∷ outer) (ps ++ piece operator (c ∷ []) ∷ []) after in (
+        next,
+        code_breaks m c next low none move room (ap (field_started (L ∷ outer) ps os c) opens ∙ operator_stays (L ∷ outer) ps os after c stands no_colon),
+        record { front = front; done = ps ++ piece operator (c ∷ []) ∷ []; mode = modes.Free; held = []; is = refl; simple = refl },
+      )
+
+-- wherever the code stands
+from_code : (passes : Mode → Bool) (os : List ℕ) (quote : ℕ) (run : List ℕ) (Q : List Level → Level → FieldScanned → Type 0) → ((outer : List Level) (l : Level) (depth : ℕ) (front : List ℕ) (done : List Piece) (held : List ℕ) (m : Mode) → passes m ≡ true → depth + (length l.openers + levels_open outer) ≤ 100 → l.host.quote ≡ quote → is_quote quote ≡ true → (u : FieldScanned) × GoesOn depth (field_state (level_after l front ∷ outer) done os (plain m) held) run u × Q outer l u) → Leads quote (StandsInCode passes os) run Q
+from_code passes os quote run Q from outer l depth t same quotes room at =
+    subst (λ x. (u : FieldScanned) × GoesOn depth x run u × Q outer l u) (sym at.is) (from outer l depth at.front at.done at.held at.mode at.simple room same quotes)
+
+-- no string begins with what is no quote
+plain_move_is : (m : Mode) (held : List ℕ) (c : ℕ) → is_code_mode m ≡ true → is_quote c ≡ false → field_move (plain m) held c ≡ plain_move (move_of m c)
+plain_move_is (modes.Word s) held c simple none = plain_moves (modes.Word s) held c (and_right (is_field_prefix held) _ none)
+plain_move_is m held c simple none = plain_moves m held c (other m simple)
+  where
+    other : (m : Mode) → is_code_mode m ≡ true → begins_host m held c ≡ false
+    other modes.Free h = refl
+    other modes.Space h = refl
+    other (modes.Word s) h = and_right (is_field_prefix held) _ none
+    other n h = absurd (both_ways _ refl h)
+
+no_more : (m : Mode) (held : List ℕ) (c : ℕ) → is_code_mode m ≡ true → is_word_character c ≡ false → is_space c ≡ false → is_quote c ≡ false → field_move (plain m) held c ≡ breaks
+unfolding move_of
+no_more modes.Free held c simple word space none = plain_move_is modes.Free held c refl none
+no_more modes.Space held c simple word space none = plain_move_is modes.Space held c refl none ∙ rw space refl
+no_more (modes.Word s) held c simple word space none =
+    let neither : is_prefix_spelling s && is_quote c ≡ false = and_right (is_prefix_spelling s) _ none in
+    plain_move_is (modes.Word s) held c refl none ∙ rw (word, neither) refl
+no_more m held c simple word space none = absurd (both_ways _ refl simple)
+
+-- a letter, digit or underscore
+word_no_quote : (c : ℕ) → is_word_character c ≡ true → is_quote c ≡ false
+word_no_quote c h = excluded is_word_character is_quote c (quote-not-word c) h
+
+space-not-word : (c : ℕ) → is_space c ≡ true → is_ascii_word c ≡ false
+unfolding is_space is_ascii_word
+space-not-word c h = none_of is_ascii_word (32 ∷ 9 ∷ 12 ∷ []) c refl h
+
+break-not-word : (c : ℕ) → is_break c ≡ true → is_ascii_word c ≡ false
+unfolding is_break is_ascii_word
+break-not-word c h = none_of is_ascii_word (10 ∷ 13 ∷ []) c refl h
+
+opening-not-word : (c : ℕ) → is_opening c ≡ true → is_ascii_word c ≡ false
+unfolding is_opening is_ascii_word
+opening-not-word c h = none_of is_ascii_word (40 ∷ 91 ∷ 123 ∷ []) c refl h
+
+operator-not-word : (c : ℕ) → is_operator c ≡ true → is_ascii_word c ≡ false
+unfolding is_operator is_ascii_word
+operator-not-word c h = none_of is_ascii_word (codes "+-*/%@&|^~<>=!()[]{},:.;") c refl h
+
+word_no_space : (c : ℕ) → is_ascii_word c ≡ true → is_space c ≡ false
+word_no_space c h = excluded is_ascii_word is_space c (space-not-word c) h
+
+word_no_break : (c : ℕ) → is_ascii_word c ≡ true → is_break c ≡ false
+word_no_break c h = excluded is_ascii_word is_break c (break-not-word c) h
+
+word_opens_none : (c : ℕ) → is_ascii_word c ≡ true → is_opening c ≡ false
+word_opens_none c h = excluded is_ascii_word is_opening c (opening-not-word c) h
+
+-- room for what opens nothing
+free_room : (n c : ℕ) → is_opening c ≡ false → has_room_at n c breaks ≡ true
+unfolding has_room_at
+free_room n c none = rw none refl
+
+-- what a character does to a word, to space, and where no piece is open: it begins such a piece, or goes on in one
+abbrev BeginsOrGrows : (Mode → Bool) → ℕ → Mode → List ℕ → Type 0
+BeginsOrGrows passes c m held = (field_move (plain m) held c ≡ breaks) ⊎ ((n : Mode) × (field_move (plain m) held c ≡ grows (plain n)) × (passes n ≡ true))
+
+piece_leads : (passes : Mode → Bool) (os : List ℕ) (quote c : ℕ) (begun : Mode) → c < 128 → is_break c ≡ false → is_opening c ≡ false → start_of c ≡ starts.Open begun → passes begun ≡ true → ((m : Mode) (held : List ℕ) → is_code_mode m ≡ true → BeginsOrGrows passes c m held) → Leads quote (InCode os) (c ∷ []) (StandsInCode passes os)
+piece_leads passes os quote c begun low none opens_none opens simple each =
+    from_code is_code_mode os quote (c ∷ []) (StandsInCode passes os) (λ outer l depth front done held m code room same quotes.
+    ⊎_elim
+    (λ move. code_opens quote outer l depth front done os held passes m begun c low none move (free_room _ c opens_none) opens simple)
+    (λ (n, move, more). code_grows quote outer l depth front done os held passes m n c low none move more) (each m held code))
+
+word_leads : (os : List ℕ) (quote c : ℕ) → is_ascii_word c ≡ true → Leads quote (InCode os) (c ∷ []) (InCode os)
+unfolding move_of
+word_leads os quote c h = piece_leads is_code_mode os quote c (modes.Word (first_spelling c)) low (word_no_break c h) (word_opens_none c h) (start-word c (word_byte_starts c low ∙ h)) refl each
+  where
+    low : c < 128
+    low = word_byte_low c h
+
+    word : is_word_character c ≡ true
+    word = word_byte_continues c low ∙ h
+
+    each : (m : Mode) (held : List ℕ) → is_code_mode m ≡ true → BeginsOrGrows is_code_mode c m held
+    each modes.Free held simple = inl (plain_move_is modes.Free held c refl (word_no_quote c word))
+    each modes.Space held simple = inl (plain_move_is modes.Space held c refl (word_no_quote c word) ∙ rw (word_no_space c h) refl)
+    each (modes.Word s) held simple = inr (modes.Word (spelling_with s c), plain_move_is (modes.Word s) held c refl (word_no_quote c word) ∙ rw word refl, refl)
+    each m held simple = absurd (both_ways _ refl simple)
+
+-- a space
+space_no_word : (c : ℕ) → is_space c ≡ true → is_word_character c ≡ false
+space_no_word c h = word_byte_continues c (space_low c h) ∙ space-not-word c h
+
+space_others : (c : ℕ) → is_space c ≡ true → (is_quote c ≡ false) × (is_break c ≡ false) × (is_opening c ≡ false)
+unfolding is_space is_quote is_break is_opening
+space_others c h = (none_of is_quote (32 ∷ 9 ∷ 12 ∷ []) c refl h, none_of is_break (32 ∷ 9 ∷ 12 ∷ []) c refl h, none_of is_opening (32 ∷ 9 ∷ 12 ∷ []) c refl h)
+
+space_leads : (os : List ℕ) (quote c : ℕ) → is_space c ≡ true → Leads quote (InCode os) (c ∷ []) (AtCode os)
+unfolding move_of
+space_leads os quote c h = let others = space_others c h in piece_leads is_apart_mode os quote c modes.Space (space_low c h) others.1 others.2 (start-space c h) refl (each others.0)
+  where
+    each : is_quote c ≡ false → (m : Mode) (held : List ℕ) → is_code_mode m ≡ true → BeginsOrGrows is_apart_mode c m held
+    each none modes.Free held simple = inl (plain_move_is modes.Free held c refl none)
+    each none modes.Space held simple = inr (modes.Space, plain_move_is modes.Space held c refl none ∙ rw h refl, refl)
+    each none (modes.Word s) held simple =
+        let neither : is_prefix_spelling s && is_quote c ≡ false = and_right (is_prefix_spelling s) _ none in
+        inl (plain_move_is (modes.Word s) held c refl none ∙ rw (space_no_word c h, neither) refl)
+    each none m held simple = absurd (both_ways _ refl simple)
+
+-- an operator
+operator_no_word : (c : ℕ) → is_operator c ≡ true → is_word_character c ≡ false
+operator_no_word c h = word_byte_continues c (operator_ascii c h) ∙ operator-not-word c h
+
+operator_others : (c : ℕ) → is_operator c ≡ true → (is_space c ≡ false) × (is_quote c ≡ false) × (is_break c ≡ false)
+unfolding is_operator is_space is_quote is_break
+operator_others c h = (none_of is_space (codes "+-*/%@&|^~<>=!()[]{},:.;") c refl h, none_of is_quote (codes "+-*/%@&|^~<>=!()[]{},:.;") c refl h, none_of is_break (codes "+-*/%@&|^~<>=!()[]{},:.;") c refl h)
+
+operator_breaks : (m : Mode) (held : List ℕ) (c : ℕ) → is_code_mode m ≡ true → is_operator c ≡ true → field_move (plain m) held c ≡ breaks
+operator_breaks m held c simple h = let others = operator_others c h in no_more m held c simple (operator_no_word c h) others.0 others.1
+
+operator_leads : (os after : List ℕ) (quote c : ℕ) → is_operator c ≡ true → openers_with os c ≡ Some after → (c == 58) && (length os == 0) ≡ false → ((n : ℕ) → n ≤ 101 → has_room_at (n + length os) c breaks ≡ true) → Leads quote (InCode os) (c ∷ []) (AtCode after)
+operator_leads os after quote c h stands no_colon rooms =
+    from_code is_code_mode os quote (c ∷ []) (AtCode after) (λ outer l depth front done held m simple room same quotes.
+    let n = depth + (length l.openers + levels_open outer + 1) in
+    let deep : n + length os ≡ depth + (length os + (length l.openers + levels_open outer + 1)) = omega arith in
+    code_operates quote outer l depth front done os held m after c (operator_ascii c h) (operator_others c h).2 (operator_breaks m held c simple h)
+    (subst (λ (k : ℕ). has_room_at k c breaks ≡ true) deep (rooms n (omega (arith, room)))) (start-operator c h) stands no_colon)
+
+-- the operators that code has mostly
+from : ℕ → ℕ → List ℕ
+from low zero = low ∷ []
+from low (suc n) = low ∷ from (low + 1) n
+
+in_range : (low n c : ℕ) → low ≤ c → c ≤ low + n → is_one_of (from low n) c ≡ true
+unfolding from
+in_range low zero c least most = ap (λ b. b || false) (eq-eqb c low (omega (arith, least, most)))
+in_range low (suc n) c least most = go (c == low) refl (λ more. in_range (low + 1) n c more (omega (arith, most)))
+  where
+    go : (b : Bool) → c == low ≡ b → (low + 1 ≤ c → is_one_of (from (low + 1) n) c ≡ true) → (c == low) || is_one_of (from (low + 1) n) c ≡ true
+    go true is later = ap (λ b. b || is_one_of (from (low + 1) n) c) is
+    go false is later =
+        let other : c ≡ low → ⊥ = λ same. both_ways _ is (eq-eqb c low same) in
+        ap (λ b. b || is_one_of (from (low + 1) n) c) is ∙ later (omega (arith, least, other))
+
+range_of : (low n c : ℕ) → is_between low (low + n) c ≡ true → is_one_of (from low n) c ≡ true
+range_of low n c h =
+    let parts = and_parts (nat_le low c) (nat_le c (low + n)) h in
+    in_range low n c (grind (arith, nat_tests, parts.0)) (grind (arith, nat_tests, parts.1))
+
+sign_among : (c : ℕ) → is_code_sign c ≡ true → is_one_of (codes " !=*+,-./") c ≡ true
+unfolding is_code_sign from
+sign_among c h =
+    let P : ℕ → Type 0 = λ x. is_one_of (codes " !=*+,-./") x ≡ true in
+    ⊎_elim (λ products. each_of P (from 42 5) c (refl, (refl, (refl, (refl, (refl, (refl, tt)))))) (range_of 42 5 c products))
+    (λ others. ⊎_elim (λ first. each_of P (from 32 1) c (refl, (refl, tt)) (range_of 32 1 c first)) (λ equals. each_of P (61 ∷ []) c (refl, tt) (ap (λ b. b || false) equals)) (or_cases (is_between 32 33 c) (c == 61) others))
+    (or_cases (is_between 42 47 c) (is_between 32 33 c || (c == 61)) h)
+
+sign_cases : (P : Type 0) (c : ℕ) → is_code_sign c ≡ true → (is_space c ≡ true → P) → (is_operator c ≡ true → is_opening c ≡ false → is_closing c ≡ false → c == 58 ≡ false → P) → P
+unfolding is_space is_operator is_opening is_closing
+sign_cases P c h space sign =
+    ⊎_elim (λ is. space (ap (λ b. b || is_one_of (9 ∷ 12 ∷ []) c) is))
+    (λ others. sign (among c others) (none_of is_opening (codes "!=*+,-./") c refl others) (none_of is_closing (codes "!=*+,-./") c refl others) (none_of (λ d. d == 58) (codes "!=*+,-./") c refl others))
+    (or_cases (c == 32) (is_one_of (codes "!=*+,-./") c) (sign_among c h))
+  where
+    among : (d : ℕ) → is_one_of (codes "!=*+,-./") d ≡ true → is_operator d ≡ true
+    among d k = each_of (λ x. is_operator x ≡ true) (codes "!=*+,-./") d (refl, (refl, (refl, (refl, (refl, (refl, (refl, (refl, tt)))))))) k
+
+-- a place where no word is open is one where a word may be
+apart_code : (m : Mode) → is_apart_mode m ≡ true → is_code_mode m ≡ true
+apart_code modes.Free h = refl
+apart_code modes.Space h = refl
+apart_code m h = absurd (both_ways _ refl h)
+
+in_code : (os : List ℕ) (outer : List Level) (l : Level) (t : FieldScanned) → AtCode os outer l t → InCode os outer l t
+in_code os outer l t at = record { front = at.front; done = at.done; mode = at.mode; held = at.held; is = at.is; simple = apart_code at.mode at.simple }
+
+pub leads_from_code : (os : List ℕ) (quote : ℕ) (run : List ℕ) (Q : List Level → Level → FieldScanned → Type 0) → Leads quote (InCode os) run Q → Leads quote (AtCode os) run Q
+leads_from_code os quote run Q leads outer l depth t same quotes room at = leads outer l depth t same quotes room (in_code os outer l t at)
+
+pub leads_to_code : (os : List ℕ) (quote : ℕ) (P : List Level → Level → FieldScanned → Type 0) (run : List ℕ) → Leads quote P run (AtCode os) → Leads quote P run (InCode os)
+leads_to_code os quote P run leads outer l depth t same quotes room at =
+    let (u, goes, to) = leads outer l depth t same quotes room at in
+    (u, goes, in_code os outer l u to)
+
+pub sign_leads : (os : List ℕ) (quote c : ℕ) → is_code_sign c ≡ true → Leads quote (InCode os) (c ∷ []) (AtCode os)
+sign_leads os quote c h =
+    sign_cases (Leads quote (InCode os) (c ∷ []) (AtCode os)) c h (space_leads os quote c)
+    (λ is opens shuts colon. operator_leads os os quote c is (others_keep os c opens shuts) (ap (λ b. b && (length os == 0)) colon) (λ n few. free_room (n + length os) c opens))
+
+code_leads : (os : List ℕ) (quote c : ℕ) → is_code_byte c ≡ true → Leads quote (InCode os) (c ∷ []) (InCode os)
+code_leads os quote c h = ⊎_elim (word_leads os quote c) (λ sign. leads_to_code os quote (InCode os) (c ∷ []) (sign_leads os quote c sign)) (or_cases (is_ascii_word c) (is_code_sign c) h)
+
+pub codes_lead : (os : List ℕ) (quote : ℕ) (run : List ℕ) → list_all is_code_byte run ≡ true → Leads quote (InCode os) run (InCode os)
+codes_lead os quote = leads-run is_code_byte quote (InCode os) (code_leads os quote)
+
+-- a string without a prefix
+module _ (quote : ℕ) (outer : List Level) (l : Level) (depth : ℕ) (front : List ℕ) (os : List ℕ) (q : ℕ) (quotes : is_quote q ≡ true) where
+  abbrev open_in : List Piece → Mode → List ℕ → FieldScanned
+  open_in ps m held = field_state (level_after l front ∷ outer) ps os (plain m) held
+
+  -- it grows over a character
+  text_on : (ps : List Piece) (m : Mode) (held : List ℕ) (c : ℕ) → begins_host m held c ≡ false → move_of m c ≡ moves.Grows (modes.Inside q) → is_text_byte q c ≡ true → GoesOn depth (open_in ps m held) (c ∷ []) (open_in ps (modes.Inside q) (held ++ c ∷ []))
+  text_on ps m held c none move passes =
+      let parts = and_parts (is_body_byte q c) (nat_lt c 128) passes in
+      one_step depth (open_in ps m held) (open_in ps (modes.Inside q) (held ++ c ∷ [])) c (grows (plain (modes.Inside q))) (low_is c parts.1) (body_parts q c parts.0).2 (plain_moves m held c none ∙ ap plain_move move) (λ o. absurd (cc)) (room_grows _ c (plain (modes.Inside q))) refl
+
+  inside_grows : (c : ℕ) → is_text_byte q c ≡ true → move_of (modes.Inside q) c ≡ moves.Grows (modes.Inside q)
+  unfolding move_of short_move
+  inside_grows c passes = let parts = body_parts q c (and_parts (is_body_byte q c) (nat_lt c 128) passes).0 in rw (parts.0, parts.1, parts.2) refl
+
+  opened_grows : (c : ℕ) → is_text_byte q c ≡ true → move_of (modes.Opened q) c ≡ moves.Grows (modes.Inside q)
+  unfolding move_of short_move
+  opened_grows c passes = let parts = body_parts q c (and_parts (is_body_byte q c) (nat_lt c 128) passes).0 in rw (parts.0, parts.1, parts.2) refl
+
+  -- and over a run
+  texts_on : (ps : List Piece) (held run : List ℕ) → list_all (is_text_byte q) run ≡ true → GoesOn depth (open_in ps (modes.Inside q) held) run (open_in ps (modes.Inside q) (held ++ run))
+  texts_on ps held [] all = ap (open_in ps (modes.Inside q)) (sym (append-nil held))
+  texts_on ps held (c ∷ cs) all =
+      let parts = and_parts (is_text_byte q c) (list_all (is_text_byte q) cs) all in
+      subst (λ x. GoesOn depth (open_in ps (modes.Inside q) held) (c ∷ cs) (open_in ps (modes.Inside q) x)) (append_assoc held (c ∷ []) cs)
+      (goes_on-append depth (open_in ps (modes.Inside q) held) (open_in ps (modes.Inside q) (held ++ c ∷ [])) (open_in ps (modes.Inside q) ((held ++ c ∷ []) ++ cs)) (c ∷ []) cs
+      (text_on ps (modes.Inside q) held c refl (inside_grows c parts.0) parts.0) (texts_on ps (held ++ c ∷ []) cs parts.1))
+
+  inside_closes : (held : List ℕ) → field_move (plain (modes.Inside q)) held q ≡ closes
+  unfolding move_of
+  inside_closes held = plain_moves (modes.Inside q) held q refl ∙ rw (eq-eqb q q refl) refl
+
+  closed_in : List Piece → List ℕ → FieldScanned
+  closed_in ps held = field_fresh (level_after l front ∷ outer) (ps ++ piece string (held ++ q ∷ []) ∷ []) os
+
+  text_ends : (ps : List Piece) (held : List ℕ) → GoesOn depth (open_in ps (modes.Inside q) held) (q ∷ []) (closed_in ps held)
+  unfolding closed_in
+  text_ends ps held = one_step depth (open_in ps (modes.Inside q) held) (closed_in ps held) q closes (quote_ascii q quotes) (quote-no_break q quotes) (inside_closes held) (λ o. absurd (cc)) (room_closes _ q) refl
+
+  -- from its first quote to its last
+  text_goes : (ps : List Piece) (d : ℕ) (ds : List ℕ) → list_all (is_text_byte q) (d ∷ ds) ≡ true → GoesOn depth (open_in ps (modes.Opened q) (q ∷ [])) ((d ∷ ds) ++ q ∷ []) (closed_in ps ((q ∷ d ∷ []) ++ ds))
+  text_goes ps d ds all =
+      let parts = and_parts (is_text_byte q d) (list_all (is_text_byte q) ds) all in
+      let one = open_in ps (modes.Inside q) (q ∷ d ∷ []) in
+      let two = open_in ps (modes.Inside q) ((q ∷ d ∷ []) ++ ds) in
+      goes_on-append depth (open_in ps (modes.Opened q) (q ∷ [])) two (closed_in ps ((q ∷ d ∷ []) ++ ds)) (d ∷ ds) (q ∷ [])
+      (goes_on-append depth (open_in ps (modes.Opened q) (q ∷ [])) one two (d ∷ []) ds (text_on ps (modes.Opened q) (q ∷ []) d refl (opened_grows d parts.0) parts.0) (texts_on ps (q ∷ d ∷ []) ds parts.1))
+      (text_ends ps ((q ∷ d ∷ []) ++ ds))
+
+quote_opens_none : (q : ℕ) → is_quote q ≡ true → is_opening q ≡ false
+unfolding is_quote is_opening
+quote_opens_none q h = none_of is_opening (codes "'\"") q refl h
+
+-- no word is open where it begins
+quote_breaks : (m : Mode) (held : List ℕ) (q : ℕ) → is_apart_mode m ≡ true → is_quote q ≡ true → field_move (plain m) held q ≡ breaks
+unfolding move_of
+quote_breaks modes.Free held q apart quotes = plain_moves modes.Free held q refl
+quote_breaks modes.Space held q apart quotes = plain_moves modes.Space held q refl ∙ rw (excluded is_quote is_space q (space-not-quote q) quotes) refl
+quote_breaks m held q apart quotes = absurd (both_ways _ refl apart)
+
+pub string_leads : (os : List ℕ) (quote q : ℕ) (run : List ℕ) → is_quote q ≡ true → IsFull run → list_all (is_text_byte q) run ≡ true → Leads quote (AtCode os) (q ∷ (run ++ q ∷ [])) (AtCode os)
+unfolding closed_in
+string_leads os quote q [] quotes full all = absurd full
+string_leads os quote q (d ∷ ds) quotes full all =
+    from_code is_apart_mode os quote (q ∷ ((d ∷ ds) ++ q ∷ [])) (AtCode os) (λ outer l depth front done held m apart room same own.
+    let C : FieldScanned = field_state (level_after l front ∷ outer) done os (plain m) held in
+    let ps = field_pieces C in
+    let opened : FieldScanned = open_in quote outer l depth front os q quotes ps (modes.Opened q) (q ∷ []) in
+    let ended : FieldScanned = closed_in quote outer l depth front os q quotes ps ((q ∷ d ∷ []) ++ ds) in (
+      ended,
+      goes_on-append depth C opened ended (q ∷ []) ((d ∷ ds) ++ q ∷ [])
+          (one_step depth C opened q breaks (quote_ascii q quotes) (quote-no_break q quotes) (quote_breaks m held q apart quotes) (λ o. absurd (cc)) (free_room _ q (quote_opens_none q quotes)) (ap (field_started (level_after l front ∷ outer) ps os q) (start-quote q quotes)))
+          (text_goes quote outer l depth front os q quotes ps d ds all),
+      record { front = front; done = ps ++ piece string (((q ∷ d ∷ []) ++ ds) ++ q ∷ []) ∷ []; mode = modes.Free; held = []; is = refl; simple = refl },
+    ))
+
+-- a bracket, and the one that closes it
+bracket_is : (c : ℕ) → is_code_bracket c ≡ true → (is_operator c ≡ true) × (is_opening c ≡ true) × (c == 58 ≡ false) × (is_operator (closing_of c) ≡ true) × (is_closing (closing_of c) ≡ true)
+unfolding is_code_bracket is_operator is_opening is_closing
+bracket_is c h = each_of (λ x. (is_operator x ≡ true) × (is_opening x ≡ true) × (x == 58 ≡ false) × (is_operator (closing_of x) ≡ true) × (is_closing (closing_of x) ≡ true)) (40 ∷ 91 ∷ []) c ((refl, refl, refl, refl, refl), ((refl, refl, refl, refl, refl), tt)) h
+
+open_room : (n c : ℕ) → n ≤ 101 → has_room_at (n + length {A = ℕ} []) c breaks ≡ true
+open_room n c few = room_at (n + length {A = ℕ} []) c breaks (λ opens. omega (arith, few))
+
+pub opening_leads : (quote c : ℕ) → is_code_bracket c ≡ true → Leads quote (InCode []) (c ∷ []) (AtCode (c ∷ []))
+opening_leads quote c h =
+    let is = bracket_is c h in
+    operator_leads [] (c ∷ []) quote c is.0 (opening_pushes [] c is.1) (ap (λ b. b && true) is.2) (λ n few. open_room n c few)
+
+pub closing_leads : (quote o c : ℕ) → is_code_bracket o ≡ true → c ≡ closing_of o → Leads quote (InCode (o ∷ [])) (c ∷ []) (AtCode [])
+closing_leads quote o c h same =
+    subst (λ (x : ℕ). Leads quote (InCode (o ∷ [])) (x ∷ []) (AtCode [])) (sym same) (
+    let is = bracket_is o h in
+    operator_leads (o ∷ []) [] quote (closing_of o) is.3 (closing_pops o [] (closing_of o) is.4 (eq-eqb (closing_of o) (closing_of o) refl)) (and_right (closing_of o == 58) _ refl) (λ n few. room_at (n + 1) (closing_of o) breaks (λ opens. omega (arith, few)))
+    )
+
+-- the end of the code
+end_leads : (quote c : ℕ) (Q : List Level → Level → FieldScanned → Type 0) (to : Level → List Level → List Piece → FieldScanned) → is_operator c ≡ true → is_opening c ≡ false → ((level : Level) (outer : List Level) (ps : List Piece) → code_operator level outer ps c ≡ Some (to level outer ps)) → ((outer : List Level) (l : Level) (front : List ℕ) (ps : List Piece) → Q outer l (to (level_after l front) outer ps)) → Leads quote (InCode []) (c ∷ []) Q
+end_leads quote c Q to h opens ends there =
+    from_code is_code_mode [] quote (c ∷ []) Q (λ outer l depth front done held m simple room same quotes.
+    let level = level_after l front in
+    let C : FieldScanned = field_state (level ∷ outer) done [] (plain m) held in
+    let ps = field_pieces C in (
+      to level outer ps,
+      one_step depth C (to level outer ps) c breaks (operator_ascii c h) (operator_others c h).2 (operator_breaks m held c simple h) (λ o. absurd (cc)) (free_room _ c opens)
+          (ap (field_started (level ∷ outer) ps [] c) (start-operator c h) ∙ ends level outer ps),
+      there outer l front ps,
+    ))
+
+operator_is : (c : ℕ) → is_one_of (codes "}:") c ≡ true → (is_operator c ≡ true) × (is_opening c ≡ false)
+unfolding is_operator is_opening
+operator_is c h = each_of (λ x. (is_operator x ≡ true) × (is_opening x ≡ false)) (codes "}:") c ((refl, refl), ((refl, refl), tt)) h
+
+pub field_ends : (quote : ℕ) → Leads quote (InCode []) (125 ∷ []) InText
+field_ends quote =
+    let is = operator_is 125 refl in
+    end_leads quote 125 InText (λ level outer ps. field_ended level outer (level.front ++ (spelled ps ++ 125 ∷ []))) is.0 is.1 brace_ends (λ outer l front ps. (front ++ (spelled ps ++ 125 ∷ []), refl))
+
+pub specification_begins : (quote : ℕ) → Leads quote (InCode []) (58 ∷ []) AtSpecification
+specification_begins quote =
+    let is = operator_is 58 refl in
+    end_leads quote 58 AtSpecification (λ level outer ps. field_state (level ∷ outer) [] [] (body level.host specification false between) (level.front ++ (spelled ps ++ 58 ∷ []))) is.0 is.1 colon_opens (λ outer l front ps. (front, front ++ (spelled ps ++ 58 ∷ []), refl))
+
+-- a specification
+specified_leads : (quote c : ℕ) → is_literal_byte quote c ≡ true → Leads quote AtSpecification (c ∷ []) AtSpecification
+specified_leads quote c h outer l depth t same quotes room (front, held, is) =
+    let own = literal_parts quote c h in
+    let S : List ℕ → FieldScanned = λ x. field_state (level_after l front ∷ outer) [] [] (body l.host specification false between) x in
+    subst (λ x. (u : FieldScanned) × GoesOn depth x (c ∷ []) u × AtSpecification outer l u) (sym is) (
+      S (held ++ c ∷ []),
+      one_step depth (S held) (S (held ++ c ∷ [])) c (grows (body l.host specification false between)) own.low own.none (text_grows l.host quote c same own held specification) (λ o. absurd (cc)) (room_grows _ c (body l.host specification false between)) refl,
+      (front, held ++ c ∷ [], refl),
+    )
+
+pub specifications_lead : (quote : ℕ) (run : List ℕ) → list_all (is_literal_byte quote) run ≡ true → Leads quote AtSpecification run AtSpecification
+specifications_lead quote = leads-run (is_literal_byte quote) quote AtSpecification (specified_leads quote)
+
+specification_moves : (host : Host) (held : List ℕ) → is_quote host.quote ≡ true → field_move (body host specification false between) held 125 ≡ ends_field
+unfolding field_move body_move
+specification_moves host held quotes = end_moves host between quotes
+
+ends_room : (n c : ℕ) → has_room_at n c ends_field ≡ true
+unfolding has_room_at
+ends_room n c = refl
+
+pub specification_ends : (quote : ℕ) → Leads quote AtSpecification (125 ∷ []) InText
+specification_ends quote outer l depth t same quotes room (front, held, is) =
+    let S : FieldScanned = field_state (level_after l front ∷ outer) [] [] (body l.host specification false between) held in
+    let ended : FieldScanned = field_state outer l.done l.openers (body l.host literal false between) (held ++ 125 ∷ []) in
+    subst (λ x. (u : FieldScanned) × GoesOn depth x (125 ∷ []) u × InText outer l u) (sym is) (
+      ended,
+      one_step depth S ended 125 ends_field (omega arith) end_no_break (specification_moves l.host held (ap is_quote same ∙ quotes)) (λ o. absurd (cc)) (ends_room _ 125) refl,
+      (held ++ 125 ∷ [], refl),
+    )

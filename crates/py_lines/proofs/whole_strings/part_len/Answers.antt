@@ -1,0 +1,21 @@
+use Rattle.std.proofs.Common.{ℕ, List, drop, sym, ◌∙◌, subst, arith}
+use Rattle.py_lines.specs.Private.FieldText.{AtBrace, InText, LeadsBy}
+use Rattle.py_lines.proofs.FieldScans.TextLengths.{brace_part, double_part, escape_part, field_part, rest_is, some_bytes}
+use Rattle.py_lines.proofs.whole_strings.part_len.Goals as goal
+
+pub returns-in-125 : goal.returns-in-125
+returns-in-125 c = (omega arith, brace_part c.args.quote c.args.bytes.now (some_bytes c.args.bytes.now (sym c.if-is_empty.ensures)) c.in-125.is)
+
+pub returns-in-92 : goal.returns-in-92
+returns-in-92 c = (omega arith, escape_part c.args.quote c.args.bytes.now c.if-bytes-gt1.true c.in-92.is (sym c.is_escaped.ensures ∙ c.if-is_escaped.true))
+
+pub returns-in-123 : goal.returns-in-123
+returns-in-123 c = (omega arith, double_part c.args.quote c.args.bytes.now c.if-bytes-gt1-2.true c.in-123.is c.if-bytes-eq123.true)
+
+pub returns-in_ok-field-in-123-2 : goal.returns-in_ok-field-in-123-2
+returns-in_ok-field-in-123-2 c =
+    let bytes = c.args.bytes.now in
+    let q = c.args.quote in
+    let n = c.in_ok-field-in-123-2.field in
+    let field : LeadsBy q AtBrace (drop 1 bytes) n InText = subst (λ (t : List ℕ). LeadsBy q AtBrace t n InText) (rest_is bytes 1) c.in_ok-field-in-123-2.ensures in
+    (omega arith, field_part q bytes n (some_bytes bytes (sym c.if-is_empty.ensures)) c.in-123.is field)

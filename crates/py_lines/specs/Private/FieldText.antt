@@ -1,0 +1,139 @@
+-- The text of a string with fields that is simple enough to be taken at once: the machine with fields goes through it. It serves the
+-- contracts of private functions.
+use Rattle.std.specs.Prelude.{◌≡◌, ℕ, ◌+◌, ◌<◌, ◌≤◌, ◌==◌, ◌&&◌, not, nat_lt, Bool, true, false, Option, None, Some, List, [], ◌∷◌, ◌++◌, length, take, slice_index, codes}
+use Rattle.std.specs.Str.{byte}
+use Rattle.py_lines.specs.Character.{is_brace, is_break, is_one_of, is_quote}
+use Rattle.py_lines.specs.Piece.{Piece}
+use Rattle.py_lines.specs.FieldStrings.{is_field_prefix, literal, specification}
+use Rattle.py_lines.specs.declared.mode.Mode.{Mode}
+use Rattle.py_lines.specs.declared.mode.Mode.TheVariants as modes
+use Rattle.py_lines.specs.Private.Machine.{IsFull}
+use Rattle.py_lines.specs.Private.FieldMachine.{between, after_brace, plain, body, Level, FieldScanned, field_state, levels_open}
+use Rattle.py_lines.specs.Private.FieldScan.{GoesOn}
+
+-- Where the machine stands in a string: `outer` are the fields round the string, and `l` says what stands before it in its list,
+-- and which string it is. It is between two parts of the literal part.
+abbrev pub InText : List Level → Level → FieldScanned → Type 0
+InText outer l t = (held : List ℕ) × (t ≡ field_state outer l.done l.openers (body l.host literal false between) held)
+
+-- or after a `{` of it
+abbrev pub AtBrace : List Level → Level → FieldScanned → Type 0
+AtBrace outer l t = (held : List ℕ) × (t ≡ field_state outer l.done l.openers (body l.host literal false after_brace) held)
+
+-- the field that opens after this text of the string
+abbrev pub level_after : Level → List ℕ → Level
+level_after l front = record { done = l.done; openers = l.openers; host = l.host; place = literal; front = front }
+
+-- whether no piece is open, or space, or a word
+abbrev pub is_code_mode : Mode → Bool
+is_code_mode modes.Free = true
+is_code_mode modes.Space = true
+is_code_mode (modes.Word s) = true
+is_code_mode other = false
+
+-- the same, but for words
+abbrev pub is_apart_mode : Mode → Bool
+is_apart_mode modes.Free = true
+is_apart_mode modes.Space = true
+is_apart_mode other = false
+
+-- or in the code of such a field, where these brackets are open, and a piece that passes
+pub record StandsInCode (passes : Mode → Bool) (openers : List ℕ) (outer : List Level) (l : Level) (t : FieldScanned) : Type 0 where
+  pub front : List ℕ
+  pub done : List Piece
+  pub mode : Mode
+  pub held : List ℕ
+  pub is : t ≡ field_state (level_after l front ∷ outer) done openers (plain mode) held
+  pub simple : passes mode ≡ true
+
+abbrev pub InCode : List ℕ → List Level → Level → FieldScanned → Type 0
+InCode = StandsInCode is_code_mode
+
+-- so that a quote begins a string without a prefix
+abbrev pub AtCode : List ℕ → List Level → Level → FieldScanned → Type 0
+AtCode = StandsInCode is_apart_mode
+
+-- or in its specification
+abbrev pub AtSpecification : List Level → Level → FieldScanned → Type 0
+AtSpecification outer l t =
+    (front : List ℕ) × (held : List ℕ) × (t ≡ field_state (level_after l front ∷ outer) [] [] (body l.host specification false between) held)
+
+-- characters lead from one such place to another in each string of this quote, where at most a hundred brackets and fields are open
+-- round it
+abbrev pub Leads : ℕ → (List Level → Level → FieldScanned → Type 0) → List ℕ → (List Level → Level → FieldScanned → Type 0) → Type 0
+Leads quote From run To =
+    (outer : List Level) (l : Level) (depth : ℕ) (t : FieldScanned) → l.host.quote ≡ quote → is_quote quote ≡ true
+    → depth + (length l.openers + levels_open outer) ≤ 100 → From outer l t → (u : FieldScanned) × GoesOn depth t run u × To outer l u
+
+-- so do the first bytes, so many of them
+abbrev pub LeadsBy : ℕ → (List Level → Level → FieldScanned → Type 0) → List ℕ → ℕ → (List Level → Level → FieldScanned → Type 0) → Type 0
+LeadsBy quote From bytes len To = (len ≤ length bytes) × Leads quote From (take len bytes) To
+
+-- and so they do in strings of every quote
+abbrev pub LeadsAlways : (List Level → Level → FieldScanned → Type 0) → List ℕ → ℕ → (List Level → Level → FieldScanned → Type 0) → Type 0
+LeadsAlways From bytes len To = (len ≤ length bytes) × ((quote : ℕ) → Leads quote From (take len bytes) To)
+
+-- the brackets that are looked for in a field's code
+unfoldable pub is_code_bracket : ℕ → Bool
+is_code_bracket = is_one_of (codes "([")
+
+-- what may stand after a backslash and takes no more: no line end, no brace, and no `N`
+abbrev pub is_escaped : ℕ → Bool
+is_escaped c = nat_lt c 128 && (not (is_break c) && (not (is_brace c) && not (c == byte "N")))
+
+-- what the bytes begin with, if it is simple: code with strings, but no brackets; code within a bracket with the one that closes it, a field's code, its specification
+-- from the `:` on, the field after its `{`, and a part of a string's text that is none of its characters
+pub record HasSimpleCode (bytes : List ℕ) (len : ℕ) : Type 0 where
+  pub within : len ≤ length bytes
+  pub leads : (openers : List ℕ) (quote : ℕ) → Leads quote (AtCode openers) (take len bytes) (InCode openers)
+
+abbrev pub HasBracketed : ℕ → List ℕ → Option ℕ → Type 0
+HasBracketed opener bytes None = Unit {0}
+HasBracketed opener bytes (Some len) = LeadsAlways (AtCode (opener ∷ [])) bytes len (AtCode [])
+
+abbrev pub HasCode : List ℕ → Option ℕ → Type 0
+HasCode bytes None = Unit {0}
+HasCode bytes (Some len) = LeadsAlways (AtCode []) bytes len (InCode [])
+
+abbrev pub HasSpecification : ℕ → List ℕ → Option ℕ → Type 0
+HasSpecification quote bytes None = Unit {0}
+HasSpecification quote bytes (Some len) = (0 < len) × LeadsBy quote (InCode []) bytes len InText
+
+abbrev pub HasField : ℕ → List ℕ → Option ℕ → Type 0
+HasField quote bytes None = Unit {0}
+HasField quote bytes (Some len) = LeadsBy quote AtBrace bytes len InText
+
+abbrev pub HasPart : ℕ → List ℕ → Option ℕ → Type 0
+HasPart quote bytes None = Unit {0}
+HasPart quote bytes (Some len) = (0 < len) × LeadsBy quote InText bytes len InText
+
+-- the text of a string that the bytes begin with, as far as it is simple
+abbrev pub HasText : ℕ → List ℕ → ℕ → Type 0
+HasText quote bytes len = LeadsBy quote InText bytes len InText
+
+-- the prefix of a string with fields, and the quote after it
+pub record HasPrefix (bytes : List ℕ) (len : ℕ) : Type 0 where
+  pub within : len + 1 < length bytes
+  pub begun : is_field_prefix (take len bytes) ≡ true
+  pub quote : is_quote (slice_index bytes len) ≡ true
+
+abbrev pub HasPrefixOrNot : List ℕ → Option ℕ → Type 0
+HasPrefixOrNot bytes None = Unit {0}
+HasPrefixOrNot bytes (Some len) = HasPrefix bytes len
+
+-- a short string with fields whose text is simple, with so many bytes
+pub record IsWholeString (bytes : List ℕ) (len : ℕ) : Type 0 where
+  pub prefix : List ℕ
+  pub q : ℕ
+  pub run : List ℕ
+  pub after : List ℕ
+  pub spell : prefix ++ q ∷ (run ++ q ∷ after) ≡ bytes
+  pub size : length prefix + (length run + 2) ≡ len
+  pub begun : is_field_prefix prefix ≡ true
+  pub quote : is_quote q ≡ true
+  pub full : IsFull run
+  pub text : Leads q InText run InText
+
+abbrev pub HasWholeString : List ℕ → Option ℕ → Type 0
+HasWholeString bytes None = Unit {0}
+HasWholeString bytes (Some len) = IsWholeString bytes len

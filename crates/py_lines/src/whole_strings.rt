@@ -1,0 +1,208 @@
+//! Strings that bytes hold whole, where they are short and simple: the machine need not go through them.
+
+ghost use Rattle.std.specs.Prelude.{◌≡◌, ◌==◌, false, true};
+ghost use Rattle.std.specs.Str.{byte};
+ghost use Rattle.py_lines.specs.Balance.{closing_of};
+ghost use Rattle.py_lines.specs.FieldStrings.{begins_open};
+ghost use Rattle.py_lines.specs.Character.{is_quote};
+ghost use Rattle.py_lines.specs.Piece.{begins};
+ghost use Rattle.py_lines.specs.Private.Run.{BeginsText, HasWholeText};
+ghost use Rattle.py_lines.specs.Private.FieldText.{HasSimpleCode, HasBracketed, HasCode, HasField, HasPart, HasPrefixOrNot, HasSpecification, HasText, HasWholeString, is_code_bracket, is_escaped};
+
+use crate::character::{is_brace, is_break, is_quote};
+use crate::mode::Spelling;
+use crate::run::{ByteRun, is_ascii_word};
+
+/// How many bytes the string has that the bytes begin with, where it has no prefix, is short, holds something, and is ASCII with no
+/// escape.
+#[inline(always)]
+pub fn whole_text(bytes: &[u8]) -> Option<usize>
+    requires begins { begins is_quote bytes.now ≡ true }
+    ensures { HasWholeText bytes.now result }
+{
+    let quote = bytes[0];
+    let body = &bytes[1..];
+    let len = ByteRun::Text(quote).len_in(body);
+    if len == 0 || len == body.len() || body[len] != quote {
+        return None;
+    }
+    Some(len + 2)
+}
+
+/// Whether the byte is a bracket that is looked for in a field's code.
+#[tactic(auto, unfolding(crate::specs::Private::FieldText::is_code_bracket))]
+fn is_code_bracket(b: u8) -> bool
+    ensures { result ≡ is_code_bracket b }
+{
+    matches!(b, b'(' | b'[')
+}
+
+/// The bracket that closes an opening one.
+fn closing_of(opener: u8) -> u8
+    ensures { result ≡ closing_of opener }
+{
+    match opener {
+        b'(' => b')',
+        b'[' => b']',
+        _ => b'}',
+    }
+}
+
+/// Whether a string without a prefix begins at this byte.
+fn begins_text(bytes: &[u8], at: usize) -> bool
+    ensures { result ≡ true → BeginsText bytes.now at }
+{
+    if at >= bytes.len() || !is_quote(bytes[at] as char) {
+        return false;
+    }
+    at == 0 || !is_ascii_word(bytes[at - 1])
+}
+
+/// How many bytes of code outside brackets the bytes begin with: words, the signs that code in fields has mostly, and whole
+/// strings without a prefix.
+fn simple_code_len(bytes: &[u8]) -> usize
+    ensures { HasSimpleCode bytes.now result }
+{
+    let mut len = ByteRun::Code.len_in(bytes);
+    while begins_text(bytes, len) {
+        let Some(text) = whole_text(&bytes[len..]) else {
+            return len;
+        };
+        len += text;
+        len += ByteRun::Code.len_in(&bytes[len..]);
+    }
+    len
+}
+
+/// How many bytes the code has within a bracket, with the one that closes it.
+fn bracketed_len(opener: u8, bytes: &[u8]) -> Option<usize>
+    requires { is_code_bracket opener ≡ true }
+    ensures { HasBracketed opener bytes.now result }
+{
+    let len = simple_code_len(bytes);
+    if len == bytes.len() || bytes[len] != closing_of(opener) {
+        return None;
+    }
+    Some(len + 1)
+}
+
+/// How many bytes a field's code has, up to what is no code or may end it. Brackets hold none.
+fn code_len(bytes: &[u8]) -> Option<usize>
+    ensures { HasCode bytes.now result }
+{
+    let mut len = simple_code_len(bytes);
+    while len < bytes.len() && is_code_bracket(bytes[len]) {
+        let inside = bracketed_len(bytes[len], &bytes[len + 1..])?;
+        len += 1 + inside;
+        len += simple_code_len(&bytes[len..]);
+    }
+    Some(len)
+}
+
+/// How many bytes a field's specification has, with the `:` before it and the `}` after it. It holds no field.
+fn specification_len(quote: u8, bytes: &[u8]) -> Option<usize>
+    requires { begins (λ c. c == byte ":") bytes.now ≡ true }
+    ensures { HasSpecification quote bytes.now result }
+{
+    let len = 1 + ByteRun::Literal(quote).len_in(&bytes[1..]);
+    if len == bytes.len() || bytes[len] != b'}' {
+        return None;
+    }
+    Some(len + 1)
+}
+
+/// How many bytes a field has after its `{`.
+fn field_len(quote: u8, bytes: &[u8]) -> Option<usize>
+    requires { begins_open bytes.now ≡ false }
+    ensures { HasField quote bytes.now result }
+{
+    let len = code_len(bytes)?;
+    if len == bytes.len() {
+        return None;
+    }
+    match bytes[len] {
+        b'}' => Some(len + 1),
+        b':' => {
+            let specification = specification_len(quote, &bytes[len..])?;
+            Some(len + specification)
+        }
+        _ => None,
+    }
+}
+
+/// Whether the byte stands for itself after a backslash: ASCII that is no line end, no brace and no `N`.
+fn is_escaped(b: u8) -> bool
+    ensures { result ≡ is_escaped b }
+{
+    b < 128 && !is_break(b as char) && !is_brace(b as char) && b != b'N'
+}
+
+/// How many bytes the part has that a string goes on with: `}`, an escape, `{{` or a field.
+fn part_len(quote: u8, bytes: &[u8]) -> Option<usize>
+    ensures { HasPart quote bytes.now result }
+{
+    if bytes.is_empty() {
+        return None;
+    }
+    match bytes[0] {
+        b'}' => Some(1),
+        b'\\' if bytes.len() > 1 && is_escaped(bytes[1]) => Some(2),
+        b'{' if bytes.len() > 1 && bytes[1] == b'{' => Some(2),
+        b'{' => {
+            let field = field_len(quote, &bytes[1..])?;
+            Some(1 + field)
+        }
+        _ => None,
+    }
+}
+
+/// How many bytes of its text a string with fields goes on with, as far as that is simple: ASCII with no line end and no name in braces,
+/// and fields whose code and specification are so.
+pub fn text_len(quote: u8, bytes: &[u8]) -> usize
+    ensures { HasText quote bytes.now result }
+{
+    let mut len = ByteRun::Literal(quote).len_in(bytes);
+    while len < bytes.len() {
+        let Some(part) = part_len(quote, &bytes[len..]) else {
+            return len;
+        };
+        len += part;
+        len += ByteRun::Literal(quote).len_in(&bytes[len..]);
+    }
+    len
+}
+
+/// How many bytes the prefix has that a string with fields begins with.
+#[inline(always)]
+fn prefix_len(bytes: &[u8]) -> Option<usize>
+    ensures { HasPrefixOrNot bytes.now result }
+{
+    if bytes.len() < 4 {
+        return None;
+    }
+    let len = if is_quote(bytes[1] as char) {
+        1
+    } else if is_quote(bytes[2] as char) {
+        2
+    } else {
+        return None;
+    };
+    if !Spelling::of_word(&bytes[..len]).has_fields() {
+        return None;
+    }
+    Some(len)
+}
+
+/// How many bytes a string with fields has that the bytes begin with, where it is short, holds something, and its text is simple.
+pub fn whole_string(bytes: &[u8]) -> Option<usize>
+    ensures { HasWholeString bytes.now result }
+{
+    let prefix = prefix_len(bytes)?;
+    let quote = bytes[prefix];
+    let text = &bytes[prefix + 1..];
+    let len = text_len(quote, text);
+    if len == 0 || len == text.len() || text[len] != quote {
+        return None;
+    }
+    Some(prefix + len + 2)
+}
