@@ -86,7 +86,7 @@ fn bracketed_len(opener: u8, bytes: &[u8]) -> Option<usize>
     Some(len + 1)
 }
 
-/// How many bytes a field's code has, up to what is no code or may end it. Brackets hold none.
+/// How many bytes a field's code has, up to what is no code or may end it. No bracket stands in another.
 fn code_len(bytes: &[u8]) -> Option<usize>
     ensures { HasCode bytes.now result }
 {

@@ -81,12 +81,13 @@ is_code_bracket = is_one_of (codes "([")
 abbrev pub is_escaped : ℕ → Bool
 is_escaped c = nat_lt c 128 && (not (is_break c) && (not (is_brace c) && not (c == byte "N")))
 
--- what the bytes begin with, if it is simple: code with strings, but no brackets; code within a bracket with the one that closes it, a field's code, its specification
--- from the `:` on, the field after its `{`, and a part of a string's text that is none of its characters
+-- the bytes begin with code that has so many of them: words, signs and strings without a prefix
 pub record HasSimpleCode (bytes : List ℕ) (len : ℕ) : Type 0 where
   pub within : len ≤ length bytes
   pub leads : (openers : List ℕ) (quote : ℕ) → Leads quote (AtCode openers) (take len bytes) (InCode openers)
 
+-- What they begin with, if it is simple: the code within this bracket, with the one that closes it; a field's code; its specification
+-- with the `:` before it and the `}` after it; a field after its `{`; and a part of a string's text that is none of its characters.
 abbrev pub HasBracketed : ℕ → List ℕ → Option ℕ → Type 0
 HasBracketed opener bytes None = Unit {0}
 HasBracketed opener bytes (Some len) = LeadsAlways (AtCode (opener ∷ [])) bytes len (AtCode [])
