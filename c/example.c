@@ -153,6 +153,7 @@ int main(int argc, char **argv) {
     fihroste_answer answer = fihroste_check(code.bytes, code.size, settings.bytes, settings.size, FIHROSTE_NO_PROFILE);
     if (answer.status == FIHROSTE_SAME) printf("sorted\n");
     if (answer.status == FIHROSTE_CHANGED) printf("not sorted\n");
+    if (answer.status == FIHROSTE_SKIPPED) printf("left as it is\n");
     int status = list(code, settings) | sort(code, settings);
     free(code.bytes);
     free(settings.bytes);

@@ -111,8 +111,8 @@ typedef struct fihroste_answer {
 fihroste_answer fihroste_sort(const uint8_t *text, size_t text_size, const uint8_t *settings, size_t settings_size,
                               uint32_t profile, uint8_t *out, size_t room);
 
-/* Whether the text is its own sorted text: FIHROSTE_SAME, or FIHROSTE_CHANGED, or what else fihroste_sort answers. It is
-   FIHROSTE_SAME too where the text asks to be left as it is. No size. */
+/* What fihroste_sort answers, with no size: FIHROSTE_SAME says that the text is its own sorted text, FIHROSTE_CHANGED that
+   it isn't. */
 fihroste_answer fihroste_check(const uint8_t *text, size_t text_size, const uint8_t *settings, size_t settings_size,
                                uint32_t profile);
 

@@ -267,11 +267,9 @@ def _sorted(text: _Text, config: Config, file_path: Optional[_Path]) -> Optional
 def _is_sorted(text: _Text, config: Config, file_path: Optional[_Path]) -> bool:
     answer = _answered(_fihroste.check, file_path, text, config._toml, config._profile)
     _expect_no_fault(answer, file_path)
-    if answer[0] == _CHANGED:
-        return False
-    # A check doesn't tell whether the text asks to be left as it is: that takes these words.
-    may_skip = "skip_file" in text if isinstance(text, str) else b"skip_file" in text
-    return not may_skip or _sorted(text, config, file_path) is None
+    if answer[0] == _SKIPPED:
+        raise FileSkipComment(file_path)
+    return answer[0] != _CHANGED
 
 
 def _found(

@@ -1,7 +1,9 @@
 -- What sorting and checking answer.
-use Rattle.std.specs.Prelude.{◌≡◌, Bool, true, false, ℕ, List, length, Result, Ok, Err, string_bytes}
+use Rattle.std.specs.Prelude.{◌≡◌, ℕ, List, length, Result, Ok, Err, string_bytes}
 use Rattle.isort_settings.specs.Values.{Values}
-use Rattle.isort_sort.specs.Answers.{Sorts, Checks}
+use Rattle.isort_sort.specs.Answers.{Sorts, TellsOutcome}
+use Rattle.isort_sort.specs.declared.answer.Outcome.{Outcome}
+use Rattle.isort_sort.specs.declared.answer.Outcome.TheVariants as outcome
 use Rattle.isort_sort.specs.declared.answer.Sorted.{Sorted}
 use Rattle.isort_sort.specs.declared.answer.Sorted.TheVariants as sorted
 use Rattle.isort_sort.specs.declared.answer.SortError.{SortError}
@@ -36,13 +38,14 @@ AnswersSort text (Ok (v, unknown)) answer old new =
     (r : Result Sorted SortError) × Sorts text v r × (answer ≡ sort_answer r) × (new ≡ left_by r old)
 AnswersSort text (Err refused) answer old new = IsUnlessMemory refused answer × (new ≡ old)
 
--- the answer of a check
-abbrev pub check_answer : Result Bool SortError → Answer
-check_answer (Ok true) = plain_answer SAME
-check_answer (Ok false) = plain_answer CHANGED
+-- the answer of a check: that of a sort, with no size
+abbrev pub check_answer : Result Outcome SortError → Answer
+check_answer (Ok outcome.Same) = plain_answer SAME
+check_answer (Ok outcome.Changed) = plain_answer CHANGED
+check_answer (Ok outcome.Skipped) = plain_answer SKIPPED
 check_answer (Err e) = sort_error_answer e
 
 -- a check under what the settings stand for
 abbrev pub AnswersCheck : List ℕ → Result (Values × List (List ℕ)) Answer → Answer → Type 0
-AnswersCheck text (Ok (v, unknown)) answer = (r : Result Bool SortError) × Checks text v r × (answer ≡ check_answer r)
+AnswersCheck text (Ok (v, unknown)) answer = (r : Result Outcome SortError) × TellsOutcome text v r × (answer ≡ check_answer r)
 AnswersCheck text (Err refused) answer = IsUnlessMemory refused answer

@@ -6,7 +6,7 @@ ghost use Rattle.isort_c.specs.Sorting.{sort_error_answer, sort_answer, left_by,
 use crate::answer::{Answer, CHANGED, MEMORY, SAME, SKIPPED};
 use crate::buffer::fill;
 use crate::settings::read;
-use isort_sort::{SortError, Sorted, check_code, sort_code};
+use isort_sort::{Outcome, SortError, Sorted, sort_code, sort_outcome};
 use std::alloc::Global;
 
 /// The answer at an error of sorting.
@@ -58,8 +58,8 @@ pub extern "C" fn fihroste_sort(
     }
 }
 
-/// Whether the text is its own sorted text: `SAME` or `CHANGED`, with no size, or what else `fihroste_sort` answers. A
-/// text that asks to be left as it is is its own sorted text.
+/// What `fihroste_sort` answers, with no size: `SAME` says that the text is its own sorted text, `CHANGED` that it isn't, and
+/// `SKIPPED` that it asks to be left as it is.
 #[unsafe(no_mangle)]
 pub extern "C" fn fihroste_check(
     alloc: Global,
@@ -70,9 +70,10 @@ pub extern "C" fn fihroste_check(
     ensures { AnswersCheck text.now (reading settings.now profile) result }
 {
     match read(alloc, settings, profile) {
-        Ok((settings, _unknown)) => match check_code(alloc, text, &settings) {
-            Ok(true) => Answer::plain(SAME),
-            Ok(false) => Answer::plain(CHANGED),
+        Ok((settings, _unknown)) => match sort_outcome(alloc, text, &settings) {
+            Ok(Outcome::Same) => Answer::plain(SAME),
+            Ok(Outcome::Changed) => Answer::plain(CHANGED),
+            Ok(Outcome::Skipped) => Answer::plain(SKIPPED),
             Err(error) => at_error(error),
         },
         Err(answer) => answer,

@@ -94,7 +94,8 @@ pub struct Settings {
 }
 
 impl Settings {
-    ghost use Rattle.std.specs.Prelude.{◌≡◌, ◌≢◌, ◌≤◌, ◌↔◌, IsOk, IfOk, IfErr, IsOkAnd, OnOk, OnErr, IsOkUnless, Ok, Err, Some, None, map, Option, option_map, string_bytes};
+    ghost use Rattle.std.specs.Prelude.{◌≡◌, ◌≢◌, ◌≤◌, ◌↔◌, IsOk, IfOk, IfErr, IsOkAnd, OnOk, OnErr, IsOkUnless, Ok};
+    ghost use Rattle.std.specs.Prelude.{Err, Some, None, map, Option, option_map, string_bytes};
     ghost use Rattle.toml.specs.View.{view, table_view};
     ghost use Rattle.isort_settings.specs.Keys.{row_of, Ascends};
     ghost use Rattle.isort_settings.specs.declared.profile.Profile.{Profile};

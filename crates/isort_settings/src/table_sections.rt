@@ -6,7 +6,8 @@ ghost use Rattle.isort_settings.specs.declared.error.SettingsError.TheVariants.{
 ghost use Rattle.isort_settings.specs.declared.key.SettingKey.TheVariants.{Sections};
 ghost use Rattle.isort_settings.specs.OwnLists.{modules_of_lists};
 ghost use Rattle.isort_settings.specs.SectionNames.{five_alone, sections_of};
-ghost use Rattle.isort_settings.specs.TableSections.{section_table, sections_in, own_names_in, entries_under, own_list, first_refused, sections_refused};
+ghost use Rattle.isort_settings.specs.TableSections.{section_table, sections_in, own_names_in, entries_under, own_list};
+ghost use Rattle.isort_settings.specs.TableSections.{first_refused, sections_refused};
 ghost use Rattle.isort_settings.specs.TableSections.Steps.{listed_value, lists_refused, bad_key, earliest};
 
 use crate::key::SettingKey;

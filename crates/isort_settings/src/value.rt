@@ -1,5 +1,6 @@
 //! A reader for each kind of value that a key may have.
-ghost use Rattle.std.specs.Prelude.{◌≡◌, ◌≢◌, ◌≤◌, [], IfOk, IfErr, Ok, Err, length, map, option_and_then, option_copied, option_map, string_bytes};
+ghost use Rattle.std.specs.Prelude.{◌≡◌, ◌≢◌, ◌≤◌, [], IfOk, IfErr, Ok, Err, length, map, option_and_then};
+ghost use Rattle.std.specs.Prelude.{option_copied, option_map, string_bytes};
 ghost use Rattle.std.specs.List.{list_any};
 ghost use Rattle.toml.specs.Data.{as_array};
 ghost use Rattle.toml.specs.View.{view};

@@ -6,6 +6,8 @@ use Rattle.isort_settings.specs.Values.{Values}
 use Rattle.isort_sort.specs.Blocks.{run_rows, Cut, rest, block, members_of}
 use Rattle.isort_sort.specs.Sorted.{texts_of, mark_of, HasFault, IsSkipped, HasBlocks, IsLaidOut, IsSorted}
 use Rattle.isort_sort.specs.declared.answer.Block.{Block}
+use Rattle.isort_sort.specs.declared.answer.Outcome.{Outcome}
+use Rattle.isort_sort.specs.declared.answer.Outcome.TheVariants as outcome
 use Rattle.isort_sort.specs.declared.answer.Sorted.{Sorted}
 use Rattle.isort_sort.specs.declared.answer.Sorted.TheVariants as sorted
 use Rattle.isort_sort.specs.declared.answer.SortError.{SortError}
@@ -28,6 +30,17 @@ Sorts text v (Err e) = IsRefused text e
 abbrev pub StaysSorted : Values → Sorted → Type 0
 StaysSorted v (sorted.Changed s) = Sorts (string_bytes s) v (Ok sorted.Same)
 StaysSorted v _ = Unit {0}
+
+-- the sorted text, with what the outcome says of it
+abbrev pub IsSortedAs : List ℕ → Values → Outcome → List ℕ → Type 0
+IsSortedAs text v outcome.Same sorted = IsLaidOut text v sorted × (sorted ≡ text)
+IsSortedAs text v outcome.Changed sorted = IsLaidOut text v sorted × (sorted ≢ text)
+IsSortedAs text v outcome.Skipped sorted = IsSkipped text × (sorted ≡ text)
+
+-- what sorting comes to
+abbrev pub TellsOutcome : List ℕ → Values → Result Outcome SortError → Type 0
+TellsOutcome text v (Ok outcome) = (sorted : List ℕ) × IsSortedAs text v outcome sorted
+TellsOutcome text v (Err e) = IsRefused text e
 
 -- whether the sorted text is the text
 abbrev pub Checks : List ℕ → Values → Result Bool SortError → Type 0

@@ -1,10 +1,10 @@
 -- What sorting to a writer leaves in it.
-use Rattle.std.specs.Prelude.{◌≡◌, ◌≢◌, ℕ, List, Option, ◌++◌}
+use Rattle.std.specs.Prelude.{◌≡◌, ℕ, List, Option, ◌++◌}
 use Rattle.std.specs.Io.KnownBytes.{Appends, Keeps}
 use Rattle.isort_settings.specs.Values.{Values}
-use Rattle.isort_sort.specs.Sorted.{HasFault, IsSkipped, IsLaidOut, IsSorted}
+use Rattle.isort_sort.specs.Sorted.{HasFault, IsSorted}
+use Rattle.isort_sort.specs.Answers.{IsSortedAs}
 use Rattle.isort_sort.specs.declared.answer.Outcome.{Outcome}
-use Rattle.isort_sort.specs.declared.answer.Outcome.TheVariants as outcome
 use Rattle.isort_sort.specs.declared.answer.SortError.{SortError}
 use Rattle.isort_sort.specs.declared.answer.SortError.TheVariants as error
 
@@ -14,12 +14,6 @@ pub record AppendsPrefix (old new : Option (List ℕ)) (bytes : List ℕ) : Type
   pub rest : List ℕ
   pub split : front ++ rest ≡ bytes
   pub appended : Appends old new front
-
--- the sorted text, with what the outcome says of it
-abbrev pub IsSortedAs : List ℕ → Values → Outcome → List ℕ → Type 0
-IsSortedAs text v outcome.Same sorted = IsLaidOut text v sorted × (sorted ≡ text)
-IsSortedAs text v outcome.Changed sorted = IsLaidOut text v sorted × (sorted ≢ text)
-IsSortedAs text v outcome.Skipped sorted = IsSkipped text × (sorted ≡ text)
 
 -- the sorted text was written whole; sorted again under the same settings, it stays as it is
 pub record WritesSorted (text : List ℕ) (v : Values) (outcome : Outcome) (old new : Option (List ℕ)) : Type 0 where

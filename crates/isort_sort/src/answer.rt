@@ -30,7 +30,7 @@ pub enum Sorted {
     Skipped,
 }
 
-/// What writing a sorted text came to.
+/// What sorting a text came to.
 #[derive(Clone, Copy, Debug, PartialEq, Eq)]
 pub enum Outcome {
     /// The text is sorted as it is.

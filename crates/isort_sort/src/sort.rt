@@ -1,7 +1,7 @@
 //! Sorting a text, in memory or to a writer.
 ghost use Rattle.std.specs.Prelude.{◌≡◌, ◌≢◌, IfOk, IfErr, map};
 ghost use Rattle.isort_settings.specs.Values.{values};
-ghost use Rattle.isort_sort.specs.Answers.{AreBlocksOf, Checks, IsRefused, Sorts, StaysSorted};
+ghost use Rattle.isort_sort.specs.Answers.{AreBlocksOf, Checks, IsRefused, Sorts, StaysSorted, TellsOutcome};
 ghost use Rattle.isort_sort.specs.Private.Found.{span_of};
 ghost use Rattle.isort_sort.specs.Private.FoundValues.{found_value};
 ghost use Rattle.isort_sort.specs.Metered.{inner_of, last_of, IsGivenUp};
@@ -74,26 +74,42 @@ pub fn sort_code(alloc: Global, text: &[u8], settings: &Settings) -> Result<Sort
     })
 }
 
-/// Whether the text is its own sorted text. It stops at the first block that isn't, and makes no text of its own.
+/// What sorting the text comes to, without the sorted text. It stops at the first block that isn't sorted, and makes no text
+/// of its own.
 ///
 /// The errors are those of `sort_code`.
-pub fn check_code(alloc: Global, text: &[u8], settings: &Settings) -> Result<bool, SortError>
-    ensures { Checks text.now (values settings.now) result }
+pub fn sort_outcome(alloc: Global, text: &[u8], settings: &Settings) -> Result<Outcome, SortError>
+    ensures { TellsOutcome text.now (values settings.now) result }
 {
     modules_are_totally_ordered();
     names_are_totally_ordered();
     let FoundText::Blocks(found) = find_blocks(alloc, text)? else {
-        return Ok(true);
+        return Ok(Outcome::Skipped);
     };
     let mut parts = Parts::new(text, settings, found);
     let mut left = text;
     'parts: while let Some(part) = parts.next(alloc)? {
         match part.cut_off(left) {
             Some(rest) => left = rest,
-            None => return Ok(false),
+            None => return Ok(Outcome::Changed),
         }
     }
-    Ok(left == parts.rest())
+    if left == parts.rest() {
+        return Ok(Outcome::Same);
+    }
+    Ok(Outcome::Changed)
+}
+
+/// Whether the text is its own sorted text, as a text is that asks to be left as it is.
+///
+/// The errors are those of `sort_code`.
+pub fn check_code(alloc: Global, text: &[u8], settings: &Settings) -> Result<bool, SortError>
+    ensures { Checks text.now (values settings.now) result }
+{
+    match sort_outcome(alloc, text, settings)? {
+        Outcome::Same | Outcome::Skipped => Ok(true),
+        Outcome::Changed => Ok(false),
+    }
 }
 
 /// Writes the sorted text to `writer`, also where it is the text itself: its unchanged parts as they stand in the text,

@@ -1,5 +1,6 @@
 //! What the import statements of a logical line bind.
-ghost use Rattle.std.specs.Prelude.{◌≡◌, ◌<◌, ◌+◌, Some, false, [], ◌∷◌, ◌++◌, length, map, slice_get, codes, IfOk, OnOk, IfErr, string_bytes};
+ghost use Rattle.std.specs.Prelude.{◌≡◌, ◌<◌, ◌+◌, Some, false, [], ◌∷◌, ◌++◌, length, map, slice_get, codes, IfOk};
+ghost use Rattle.std.specs.Prelude.{OnOk, IfErr, string_bytes};
 ghost use Rattle.std.specs.List.{list_any};
 ghost use Rattle.std.specs.Str.{bytes_eq};
 ghost use Rattle.py_lines.specs.Lines.{line_in};
@@ -10,7 +11,8 @@ ghost use Rattle.py_imports.specs.Statement.{TokenPlace};
 ghost use Rattle.py_imports.specs.Binds.{terminal_in, Binds, Refuses};
 ghost use Rattle.py_imports.specs.Bound.{bound_of, bound_at};
 ghost use Rattle.py_imports.specs.Private.Items.{item_imported, AreLeft};
-ghost use Rattle.py_imports.specs.Private.Bindings.{is_first_word, statement_fault, BindsOne, RefusesItems, BindsMoreAt, RefusesAt, IsPlaceAt};
+ghost use Rattle.py_imports.specs.Private.Bindings.{is_first_word, statement_fault, BindsOne, RefusesItems};
+ghost use Rattle.py_imports.specs.Private.Bindings.{BindsMoreAt, RefusesAt, IsPlaceAt};
 
 use crate::binding::{Binding, copy_of_text};
 use crate::error::ImportError;
@@ -109,21 +111,22 @@ fn bind_statement(
 
 /// Whether a word has the length of `import` or `from`, and begins as one of them. Its length rules out most words.
 #[inline(always)]
-fn may_be_first_word(word: &str) -> bool
+fn may_be_first_word(word: &[u8]) -> bool
     ensures import { result ≡ false → bytes_eq word.now (codes "import") ≡ false }
     ensures from { result ≡ false → bytes_eq word.now (codes "from") ≡ false }
 {
-    let bytes = word.as_bytes();
-    matches!(bytes.len(), 4 | 6) && matches!(bytes[0], b'i' | b'f')
+    matches!(word.len(), 4 | 6) && matches!(word[0], b'i' | b'f')
 }
 
 /// Whether the token at `place` is spelled as the first word of an import statement.
+#[inline(always)]
 fn is_first_word(unit: &Unit<'_>, place: usize) -> bool
     requires { place < length unit.now.tokens.now }
     ensures { (t : Token) → slice_get unit.now.tokens.now place ≡ Some t → result ≡ is_first_word unit.now.text.now t }
 {
-    let word = unit.word(place);
-    may_be_first_word(word) && form_of(unit.tokens[place].kind, word).is_some()
+    let token = unit.tokens[place];
+    may_be_first_word(&unit.text.as_bytes()[token.start..token.stop])
+        && form_of(token.kind, unit.word(place)).is_some()
 }
 
 /// Whether a token of the logical line is spelled as the first word of an import statement, `import` or `from`. Few lines

@@ -1,10 +1,12 @@
 //! The items of an import statement, one after another.
-ghost use Rattle.std.specs.Prelude.{◌≡◌, ◌≢◌, ◌≤◌, ◌-◌, ◌++◌, List, [], ◌∷◌, false, None, length, map, take, drop, codes, string_bytes, OnOk, IfSome, MatchOption};
+ghost use Rattle.std.specs.Prelude.{◌≡◌, ◌≢◌, ◌≤◌, ◌-◌, ◌++◌, List, [], ◌∷◌, false, None, length, map, take, drop};
+ghost use Rattle.std.specs.Prelude.{codes, string_bytes, OnOk, IfSome, MatchOption};
 ghost use Rattle.py_imports.specs.Statement.{significant};
 ghost use Rattle.py_imports.specs.Binds.{terminal_in};
 ghost use Rattle.py_imports.specs.Private.Lexemes.{unread_of, terminals_between};
 ghost use Rattle.py_imports.specs.Private.Items.{with_first_word, BeginsForm};
-ghost use Rattle.py_imports.specs.Grammar.{Terminal, from_word, terminal_of, begins_import, modules, identifiers, AreItems, AreBracketed, AreNames, whole_module, attribute_of, IsImport};
+ghost use Rattle.py_imports.specs.Grammar.{Terminal, from_word, terminal_of, begins_import, modules, identifiers};
+ghost use Rattle.py_imports.specs.Grammar.{AreItems, AreBracketed, AreNames, whole_module, attribute_of, IsImport};
 
 use crate::lexeme::Lexeme;
 use crate::lexemes::Lexemes;
@@ -110,7 +112,9 @@ pub(crate) struct ImportItems<'u> {
 }
 
 impl<'u> ImportItems<'u> {
-    ghost use Rattle.py_imports.specs.Private.Items.{ReadsStar, ListsFrom, ListsOf, AreLeft, most_left, AreSameLists, IsFirstOfLists, IsNext, GetFewer, FollowsItem, FollowsBracketed, TellsWhether};
+    ghost use Rattle.py_imports.specs.Private.Items.{ReadsStar, ListsFrom, ListsOf, AreLeft, most_left, AreSameLists};
+    ghost use Rattle.py_imports.specs.Private.Items.{IsFirstOfLists, IsNext, GetFewer, FollowsItem, FollowsBracketed};
+    ghost use Rattle.py_imports.specs.Private.Items.{TellsWhether};
 
     /// The items of the statement whose first word stands directly before the token at `place`, and which ends before
     /// the token at `end`.

@@ -1,5 +1,6 @@
 //! The tokens of an import statement, read from left to right.
-ghost use Rattle.std.specs.Prelude.{◌≡◌, ◌≢◌, ◌≤◌, ◌-◌, ◌++◌, ℕ, [], false, None, Some, length, map, take, drop, MatchBool, MatchOption, List};
+ghost use Rattle.std.specs.Prelude.{◌≡◌, ◌≢◌, ◌≤◌, ◌-◌, ◌++◌, ℕ, [], false, None, Some, length, map, take, drop};
+ghost use Rattle.std.specs.Prelude.{MatchBool, MatchOption, List};
 ghost use Rattle.std.specs.Option.{option_map};
 ghost use Rattle.py_imports.specs.Statement.{significant};
 ghost use Rattle.py_imports.specs.Binds.{terminal_in};
@@ -23,7 +24,8 @@ pub(crate) struct Lexemes<'u> {
 }
 
 impl<'u> Lexemes<'u> {
-    ghost use Rattle.py_imports.specs.Private.Lexemes.{lexeme_then, unread_of, terminals_between, IsFurther, ReadsPath, ReadsAlias, ReadsName, begins_import_word, PassesDots};
+    ghost use Rattle.py_imports.specs.Private.Lexemes.{lexeme_then, unread_of, terminals_between, IsFurther, ReadsPath};
+    ghost use Rattle.py_imports.specs.Private.Lexemes.{ReadsAlias, ReadsName, begins_import_word, PassesDots};
 
     /// The tokens from `place` up to `end`, of which none was read.
     pub(crate) fn new(unit: &'u Unit<'u>, place: usize, end: usize) -> Lexemes<'u>

@@ -7,13 +7,17 @@ use Rattle.py_lines.specs.declared.fault.Fault.{Fault}
 use Rattle.py_lines.specs.Reading.{Decodes, IsBalancedReading, IsReadPrefix}
 use Rattle.py_lines.specs.Faults.{IsLexicalFault}
 
--- the text has a balanced reading, and these are its logical lines
-pub record IsLexedWhole (text : List ℕ) (lines : List LogicalLine) : Type 0 where
+-- the text has such a reading, and these are its logical lines
+pub record IsLexedBy (IsReading : List Piece → List ℕ → Type 0) (text : List ℕ) (lines : List LogicalLine) : Type 0 where
   pub characters : List ℕ
   pub pieces : List Piece
   pub decodes : Decodes text characters []
-  pub reading : IsBalancedReading pieces characters
+  pub reading : IsReading pieces characters
   pub cut : lines ≡ lines_of pieces
+
+-- the text has a balanced reading, and these are its logical lines
+abbrev pub IsLexedWhole : List ℕ → List LogicalLine → Type 0
+IsLexedWhole = IsLexedBy IsBalancedReading
 
 -- The text has this fault, and these are the logical lines of its longest prefix that has a balanced reading and ends
 -- a line.

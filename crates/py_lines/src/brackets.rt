@@ -9,6 +9,17 @@ use std::alloc::{AllocError, Global};
 /// How many brackets may be open at once.
 const DEPTH: usize = 200;
 
+/// The bracket that closes an opening one.
+pub fn closing_of(opener: char) -> char
+    ensures { result ≡ closing_of opener }
+{
+    match opener {
+        '(' => ')',
+        '[' => ']',
+        _ => '}',
+    }
+}
+
 /// An open bracket, and the byte where it stands.
 #[derive(Clone, Copy)]
 pub struct OpenBracket {
@@ -21,11 +32,7 @@ impl OpenBracket {
     fn closer(self) -> char
         ensures { result ≡ closing_of self.opener }
     {
-        match self.opener {
-            '(' => ')',
-            '[' => ']',
-            _ => '}',
-        }
+        closing_of(self.opener)
     }
 }
 

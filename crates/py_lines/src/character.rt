@@ -1,7 +1,9 @@
 //! Which characters the pieces of a text are made of (Python Language Reference, 2.1 to 2.6).
 
 ghost use Rattle.std.specs.Prelude.{◌≡◌};
-ghost use Rattle.py_lines.specs.Character.{is_mark, is_space, is_word_character, is_word_start, is_digit, is_quote, is_operator, is_line_feed, is_return, is_break, is_hash, is_backslash, is_brace, is_r, is_b, is_f, is_t, is_u};
+ghost use Rattle.py_lines.specs.Character.{is_mark, is_space, is_word_character, is_word_start, is_digit, is_quote};
+ghost use Rattle.py_lines.specs.Character.{is_operator, is_line_feed, is_return, is_break, is_hash, is_backslash};
+ghost use Rattle.py_lines.specs.Character.{is_brace, is_r, is_b, is_f, is_t, is_u};
 ghost use Rattle.py_lines.specs.Balance.{is_opening, is_closing};
 
 use crate::run::is_ascii_word;

@@ -83,7 +83,9 @@ impl Feed {
     ghost use Rattle.py_lines.specs.ScannerState.View.{ready_of, scanning_of};
     ghost use Rattle.py_lines.specs.UnitLine.{line_in};
     ghost use Rattle.py_lines.specs.Private.Scan.{is_returned};
-    ghost use Rattle.py_lines.specs.Private.Feed.{HasRoom, IsOpen, FailsAt, ClosesLine, ScansCharacters, ScansHeld, StopsHeld, whole_end, GivesBack, TakesChunk, HasScannedNext, IsScanned, IsReady, IsSoundFeed, FeedsSo, EndsHeld, EndsText, LetsGo};
+    ghost use Rattle.py_lines.specs.Private.Feed.{HasRoom, IsOpen, FailsAt, ClosesLine, ScansCharacters, ScansHeld};
+    ghost use Rattle.py_lines.specs.Private.Feed.{StopsHeld, whole_end, GivesBack, TakesChunk, HasScannedNext};
+    ghost use Rattle.py_lines.specs.Private.Feed.{IsScanned, IsReady, IsSoundFeed, FeedsSo, EndsHeld, EndsText, LetsGo};
 
     /// At this byte of a text, which is on this line. Nothing was fed.
     pub fn at(alloc: Global, place: u64, line: u64) -> Feed

@@ -3,13 +3,16 @@
 ghost use Rattle.std.specs.Prelude.{◌≡◌, ◌==◌, ◌&&◌, ◌+◌, ◌<◌, ◌^◌, true, length, nat_lt, OnOk};
 ghost use Rattle.std.specs.Char.{len_utf8};
 ghost use Rattle.py_lines.specs.FieldStrings.{names};
-ghost use Rattle.py_lines.specs.Private.FieldMachine.{is_barred_escape, is_after_two, with_quote, closing_move, opening_move, ending_move, between_move, escape_move, body_move};
-ghost use Rattle.py_lines.specs.Balance.{is_opening, closing_of};
+ghost use Rattle.py_lines.specs.Private.FieldMachine.{is_barred_escape, is_after_two, with_quote, closing_move};
+ghost use Rattle.py_lines.specs.Private.FieldMachine.{opening_move, ending_move, between_move, escape_move, body_move};
+ghost use Rattle.py_lines.specs.Balance.{is_opening};
 ghost use Rattle.py_lines.specs.Private.FieldFlaws.{is_waiting, quotes_specification};
 ghost use Rattle.py_lines.specs.Private.FieldMachine.{after_open_backslash};
-ghost use Rattle.py_lines.specs.Private.FieldScan.{at_in, region_in, mode_from, move_from, code_moved, code_move, keeps_byte, meets_field, opened_with, stays_field};
+ghost use Rattle.py_lines.specs.Private.FieldScan.{at_in, region_in, mode_from, move_from, code_moved, code_move};
+ghost use Rattle.py_lines.specs.Private.FieldScan.{keeps_byte, meets_field, opened_with, stays_field};
 ghost use Rattle.py_lines.specs.Private.ScanMachine.{host_in};
 
+use crate::brackets::closing_of;
 use crate::character::{
     is_backslash, is_brace, is_break, is_closing, is_line_feed, is_opening, is_quote, is_return,
     is_space, is_word_character,
@@ -123,17 +126,6 @@ impl At {
             At::AfterOne => At::AfterTwo,
             _ => At::AfterOne,
         }
-    }
-}
-
-/// The bracket that closes an opening one.
-fn closing_of(opener: char) -> char
-    ensures { result ≡ closing_of opener }
-{
-    match opener {
-        '(' => ')',
-        '[' => ']',
-        _ => '}',
     }
 }
 
@@ -367,7 +359,9 @@ impl FieldScan {
     ghost use Rattle.std.specs.Prelude.{ℕ, false, Some, Ok, IfOk};
     ghost use Rattle.py_lines.specs.Private.Machine.{start_of};
     ghost use Rattle.py_lines.specs.Private.FieldMachine.{closes, breaks, begins_code, opens_field, ends_field};
-    ghost use Rattle.py_lines.specs.Private.FieldScan.{EndsCode, EndsField, FollowsBody, HoldsField, IsInnermostFrame, PlacesField, PushesField, RefusesField, StandsInText, TakesMove, ended_in, freed_at, innermost_first, waiting_field};
+    ghost use Rattle.py_lines.specs.Private.FieldScan.{EndsCode, EndsField, FollowsBody, HoldsField, IsInnermostFrame};
+    ghost use Rattle.py_lines.specs.Private.FieldScan.{PlacesField, PushesField, RefusesField, StandsInText, TakesMove};
+    ghost use Rattle.py_lines.specs.Private.FieldScan.{ended_in, freed_at, innermost_first, waiting_field};
     ghost use Rattle.py_lines.specs.declared.mode.Start.TheVariants.{Operator};
     ghost use Rattle.py_lines.specs.declared.field_scan.Frame.{Frame};
 

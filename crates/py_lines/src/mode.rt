@@ -1,7 +1,8 @@
 //! The machine that reads a text one character at a time.
 
 ghost use Rattle.std.specs.Prelude.{◌≡◌, ◌<◌, ◌==◌, ◌||◌, ◌&&◌, length};
-ghost use Rattle.py_lines.specs.Private.Machine.{first_spelling, spelling_with, token_of, short_move, long_move, start_of, in_short, in_long, is_after_backslash};
+ghost use Rattle.py_lines.specs.Private.Machine.{first_spelling, spelling_with, token_of, short_move, long_move};
+ghost use Rattle.py_lines.specs.Private.Machine.{start_of, in_short, in_long, is_after_backslash};
 ghost use Rattle.py_lines.specs.Private.ScanMachine.{is_field_spelling, is_raw_spelling, begins_string, quote_move, opened_move, meet_of};
 ghost use Rattle.py_lines.specs.Private.Run.{word_spelling, is_free};
 ghost use Rattle.py_lines.specs.Private.Scan.{is_join_mode, is_return_mode, holds_nothing};

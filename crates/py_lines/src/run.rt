@@ -3,7 +3,10 @@
 ghost use Rattle.std.specs.Prelude.{◌≡◌, ◌<◌, ◌≤◌, ◌==◌, ℕ, Bool, true, List, length};
 ghost use Rattle.py_lines.specs.Character.{is_space};
 ghost use Rattle.py_lines.specs.declared.mode.Mode.TheVariants.{Word};
-ghost use Rattle.py_lines.specs.Private.Run.{BeginsSo, CountsSet, HasAsciiQuote, HasRun, IsRunOf, IsWholeComment, IsWordBeforeMore, Marks, Spans, is_between, is_in_run, is_ascii_word, is_comment_byte, is_body_byte, is_text_byte, is_literal_byte, is_code_byte, is_code_sign, is_remark_byte, stays};
+ghost use Rattle.py_lines.specs.Private.Run.{BeginsSo, CountsSet, HasAsciiQuote, HasRun, IsRunOf, IsWholeComment};
+ghost use Rattle.py_lines.specs.Private.Run.{IsWordBeforeMore, Marks, Spans, is_between, is_in_run, is_ascii_word};
+ghost use Rattle.py_lines.specs.Private.Run.{is_comment_byte, is_body_byte, is_text_byte, is_literal_byte};
+ghost use Rattle.py_lines.specs.Private.Run.{is_code_byte, is_code_sign, is_remark_byte, stays};
 
 use crate::character::{is_brace, is_break};
 use crate::mode::{Mode, Spelling};

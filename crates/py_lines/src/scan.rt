@@ -7,7 +7,10 @@ ghost use Rattle.py_lines.specs.Piece.{begins};
 ghost use Rattle.py_lines.specs.Private.Machine.{start_of, character_kind};
 ghost use Rattle.py_lines.specs.Private.FieldMachine.{FieldScanned};
 ghost use Rattle.py_lines.specs.Private.ScanMachine.{IsScanSound, meet_of};
-ghost use Rattle.py_lines.specs.Private.Scan.{TakesNext, AddsTo, Emits, Closes, with_character, Begins, Tallies, IsStacked, Scans, ScansIn, line_start, is_returned, none_open, stack_of, line_end_progress, ClosesAndAdds, freed, refused_place, IsRefusal, IsUnfinished, IsPlainUnfinished, StandsInString, TakesInString, in_mode};
+ghost use Rattle.py_lines.specs.Private.Scan.{TakesNext, AddsTo, Emits, Closes, with_character, Begins, Tallies};
+ghost use Rattle.py_lines.specs.Private.Scan.{IsStacked, Scans, ScansIn, line_start, is_returned, none_open, stack_of};
+ghost use Rattle.py_lines.specs.Private.Scan.{line_end_progress, ClosesAndAdds, freed, refused_place, IsRefusal};
+ghost use Rattle.py_lines.specs.Private.Scan.{IsUnfinished, IsPlainUnfinished, StandsInString, TakesInString, in_mode};
 ghost use Rattle.py_lines.specs.Private.Run.{WhereverReached, is_free, Holds, HeldIn, HasAsciiQuote, StandsBefore};
 ghost use Rattle.py_lines.specs.declared.token.TokKind.TheVariants.{Op};
 ghost use Rattle.py_lines.specs.declared.mode.Mode.{Mode};
@@ -189,6 +192,16 @@ impl Scan {
             start: self.stop,
             line: self.count.line,
         };
+    }
+
+    /// The same, where none was open.
+    #[inline(always)]
+    pub fn stay_free(&mut self)
+        requires { is_free self.old.piece.mode ≡ true }
+        ensures { self.new ≡ freed self.old }
+    {
+        self.piece.start = self.stop;
+        self.piece.line = self.count.line;
     }
 
     /// Ends the open piece where it stops.

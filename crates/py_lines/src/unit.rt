@@ -43,7 +43,8 @@ impl<'s> Unit<'s> {
     #[tactic(auto, using(std::proofs::lemmas::Option::get_or_from_slice_get))]
     pub fn word(&self, i: usize) -> &'s str
         requires { i < length self.now.tokens.now }
-        ensures { (t : Token) → slice_get self.now.tokens.now i ≡ Some t → result.now ≡ slice_range self.now.text.now t.start t.stop }
+        ensures { (t : Token) → slice_get self.now.tokens.now i ≡ Some t
+            → result.now ≡ slice_range self.now.text.now t.start t.stop }
     {
         let token = self.tokens[i];
         &self.text[token.start..token.stop]

@@ -4,7 +4,11 @@ ghost use Rattle.std.specs.Prelude.{◌≡◌, ◌+◌, ◌<◌, ◌^◌, true, 
 ghost use Rattle.py_lines.specs.Character.{is_hash, is_operator, is_quote, is_return, is_space};
 ghost use Rattle.py_lines.specs.Piece.{begins};
 ghost use Rattle.py_lines.specs.Private.Scan.{stack_of};
-ghost use Rattle.py_lines.specs.Private.Run.{WhereverReached, is_free, opened, AddsTokens, FindsToken, IsSpaceAfter, IsWholeWord, MeetsToken, TakesTokens, follows_space, AddsToken, TakesRun, TakesText, TakesBracket, TakesFields, TakesLineFeed, TakesReturn, TakesPiece, TakesRemark, line_ended, word_mode, space_mode, IsNoLonger, LeavesOff, is_ascii_word, follows, may_begin};
+ghost use Rattle.py_lines.specs.Private.Run.{WhereverReached, is_free, opened, AddsTokens, FindsToken, IsSpaceAfter};
+ghost use Rattle.py_lines.specs.Private.Run.{IsWholeWord, MeetsToken, TakesTokens, follows_space, AddsToken, TakesRun};
+ghost use Rattle.py_lines.specs.Private.Run.{TakesText, TakesBracket, TakesFields, TakesLineFeed, TakesReturn};
+ghost use Rattle.py_lines.specs.Private.Run.{TakesPiece, TakesRemark, line_ended, word_mode, space_mode, IsNoLonger};
+ghost use Rattle.py_lines.specs.Private.Run.{LeavesOff, is_ascii_word, follows, may_begin};
 ghost use Rattle.py_lines.specs.Token.{is_comment};
 
 use crate::character::is_line_feed;
@@ -13,7 +17,7 @@ use crate::run::{ByteRun, FirstByte, whole_comment, word_before_more};
 use crate::scan::{OpenPiece, Scan};
 use crate::token::{TokKind, Token};
 use crate::unit::UnitKind;
-use crate::whole_strings::{whole_string, whole_text};
+use crate::whole_strings::{whole_plain_string, whole_string_with_fields};
 use std::alloc::AllocError;
 
 /// `add_tokens` looks for a token where more bytes than these stand, so that it needn't ask for each byte whether there is one.
@@ -173,7 +177,7 @@ impl Scan {
         requires begins { begins is_quote bytes.now ≡ true }
         ensures { TakesText self.old bytes.now result self.new }
     {
-        let Some(len) = whole_text(bytes) else {
+        let Some(len) = whole_plain_string(bytes) else {
             return Ok(Taken::Nothing);
         };
         self.add(TokKind::Str, len)?;
@@ -186,7 +190,7 @@ impl Scan {
         requires bytes { self.old.stop + length bytes.now < 2 ^ 64 }
         ensures { TakesFields self.old bytes.now result self.new }
     {
-        let Some(len) = whole_string(bytes) else {
+        let Some(len) = whole_string_with_fields(bytes) else {
             return Ok(Taken::Nothing);
         };
         if self.brackets.len() > 100 {
@@ -234,7 +238,7 @@ impl Scan {
     {
         self.read('\n');
         self.margin = false;
-        self.free();
+        self.stay_free();
         if self.ends_line() {
             Taken::LineEnd(1)
         } else {
@@ -345,11 +349,11 @@ impl Scan {
 
     /// The string that the bytes begin with, and its length, if it is whole and more than one byte follows.
     #[inline(always)]
-    fn find_text(&self, bytes: &[u8]) -> Option<(TokKind, usize)>
+    fn find_plain_string(&self, bytes: &[u8]) -> Option<(TokKind, usize)>
         requires begins { begins is_quote bytes.now ≡ true }
         ensures { FindsToken self.now bytes.now result }
     {
-        let len = whole_text(bytes)?;
+        let len = whole_plain_string(bytes)?;
         if bytes.len() - len < 2 {
             return None;
         }
@@ -361,7 +365,7 @@ impl Scan {
     fn find_string_with_fields(&self, bytes: &[u8]) -> Option<(TokKind, usize)>
         ensures { FindsToken self.now bytes.now result }
     {
-        let len = whole_string(bytes)?;
+        let len = whole_string_with_fields(bytes)?;
         if bytes.len() - len < 2 || self.brackets.len() > 100 {
             return None;
         }
@@ -396,7 +400,7 @@ impl Scan {
         let first = bytes[0];
         match FirstByte::of(first) {
             FirstByte::Word => Ok(self.find_word(first, bytes)),
-            FirstByte::Quote => Ok(self.find_text(bytes)),
+            FirstByte::Quote => Ok(self.find_plain_string(bytes)),
             FirstByte::Operator => Ok(Some((TokKind::Op(first), 1))),
             FirstByte::Bracket => {
                 if !self.brackets.meet(first as char, place)? {
@@ -449,7 +453,7 @@ impl Scan {
             self.count.after_return = false;
             self.margin = false;
             self.kind = UnitKind::Code;
-            self.free();
+            self.stay_free();
         }
         Ok(len)
     }

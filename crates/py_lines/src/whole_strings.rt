@@ -2,13 +2,15 @@
 
 ghost use Rattle.std.specs.Prelude.{◌≡◌, ◌==◌, false, true};
 ghost use Rattle.std.specs.Str.{byte};
-ghost use Rattle.py_lines.specs.Balance.{closing_of};
 ghost use Rattle.py_lines.specs.FieldStrings.{begins_open};
 ghost use Rattle.py_lines.specs.Character.{is_quote};
 ghost use Rattle.py_lines.specs.Piece.{begins};
-ghost use Rattle.py_lines.specs.Private.Run.{BeginsText, HasWholeText};
-ghost use Rattle.py_lines.specs.Private.FieldText.{HasSimpleCode, HasBracketed, HasCode, HasField, HasPart, HasPrefixOrNot, HasSpecification, HasText, HasWholeString, is_code_bracket, is_escaped};
+ghost use Rattle.py_lines.specs.Private.Run.{BeginsPlainString, HasWholePlainString};
+ghost use Rattle.py_lines.specs.Private.FieldText.{HasSimpleCode, HasBracketed, HasCode, HasField, HasPart};
+ghost use Rattle.py_lines.specs.Private.FieldText.{HasPrefixOrNot, HasSpecification, HasText, HasWholeStringWithFields};
+ghost use Rattle.py_lines.specs.Private.FieldText.{is_code_bracket, is_escaped};
 
+use crate::brackets::closing_of;
 use crate::character::{is_brace, is_break, is_quote};
 use crate::mode::Spelling;
 use crate::run::{ByteRun, is_ascii_word};
@@ -16,9 +18,9 @@ use crate::run::{ByteRun, is_ascii_word};
 /// How many bytes the string has that the bytes begin with, where it has no prefix, is short, holds something, and is ASCII with no
 /// escape.
 #[inline(always)]
-pub fn whole_text(bytes: &[u8]) -> Option<usize>
+pub fn whole_plain_string(bytes: &[u8]) -> Option<usize>
     requires begins { begins is_quote bytes.now ≡ true }
-    ensures { HasWholeText bytes.now result }
+    ensures { HasWholePlainString bytes.now result }
 {
     let quote = bytes[0];
     let body = &bytes[1..];
@@ -37,20 +39,9 @@ fn is_code_bracket(b: u8) -> bool
     matches!(b, b'(' | b'[')
 }
 
-/// The bracket that closes an opening one.
-fn closing_of(opener: u8) -> u8
-    ensures { result ≡ closing_of opener }
-{
-    match opener {
-        b'(' => b')',
-        b'[' => b']',
-        _ => b'}',
-    }
-}
-
 /// Whether a string without a prefix begins at this byte.
-fn begins_text(bytes: &[u8], at: usize) -> bool
-    ensures { result ≡ true → BeginsText bytes.now at }
+fn begins_plain_string(bytes: &[u8], at: usize) -> bool
+    ensures { result ≡ true → BeginsPlainString bytes.now at }
 {
     if at >= bytes.len() || !is_quote(bytes[at] as char) {
         return false;
@@ -64,8 +55,8 @@ fn simple_code_len(bytes: &[u8]) -> usize
     ensures { HasSimpleCode bytes.now result }
 {
     let mut len = ByteRun::Code.len_in(bytes);
-    while begins_text(bytes, len) {
-        let Some(text) = whole_text(&bytes[len..]) else {
+    while begins_plain_string(bytes, len) {
+        let Some(text) = whole_plain_string(&bytes[len..]) else {
             return len;
         };
         len += text;
@@ -80,7 +71,7 @@ fn bracketed_len(opener: u8, bytes: &[u8]) -> Option<usize>
     ensures { HasBracketed opener bytes.now result }
 {
     let len = simple_code_len(bytes);
-    if len == bytes.len() || bytes[len] != closing_of(opener) {
+    if len == bytes.len() || bytes[len] as char != closing_of(opener as char) {
         return None;
     }
     Some(len + 1)
@@ -194,8 +185,8 @@ fn prefix_len(bytes: &[u8]) -> Option<usize>
 }
 
 /// How many bytes a string with fields has that the bytes begin with, where it is short, holds something, and its text is simple.
-pub fn whole_string(bytes: &[u8]) -> Option<usize>
-    ensures { HasWholeString bytes.now result }
+pub fn whole_string_with_fields(bytes: &[u8]) -> Option<usize>
+    ensures { HasWholeStringWithFields bytes.now result }
 {
     let prefix = prefix_len(bytes)?;
     let quote = bytes[prefix];

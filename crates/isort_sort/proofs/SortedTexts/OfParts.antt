@@ -1,5 +1,5 @@
 -- A sorted text in parts is the text of its parts.
-use Rattle.std.proofs.Common.{◌≡◌, ◌≢◌, ℕ, ◌+◌, ◌<◌, ◌≤◌, Bool, true, false, MatchBool, Option, None, Some, MatchOption, IfSome, Result, Ok, Err, OnErr, List, [], ◌∷◌, ◌++◌, length, take, drop, get_or, flat_map, inr, sym, ap, ◌∙◌, append_assoc, append-nil, Bor}
+use Rattle.std.proofs.Common.{◌≡◌, ◌≢◌, ◌⊎◌, inl, inr, ℕ, ◌+◌, ◌<◌, ◌≤◌, Bool, true, false, MatchBool, Option, None, Some, MatchOption, IfSome, Result, Ok, Err, OnErr, List, [], ◌∷◌, ◌++◌, length, take, drop, get_or, flat_map, sym, ap, ◌∙◌, append_assoc, append-nil, Bor}
 use Rattle.std.specs.Cmp.Lexicographic.{bytes_decides, pointwise}
 use Rattle.std.specs.Io.KnownBytes.{Appends}
 use Rattle.std.specs.Str.{IsUtf8}
@@ -10,7 +10,9 @@ use Rattle.std.proofs.lemmas.List.{append_cancel_left, drop_all, drop_more, take
 use Rattle.std.proofs.lemmas.List.Concat.{flat_map-append}
 use Rattle.isort_settings.specs.Values.{Values}
 use Rattle.isort_sort.specs.Private.Parts.{part_text, AreTexts, HasMade}
-use Rattle.isort_sort.specs.Sorted.{IsSorted}
+use Rattle.isort_sort.specs.Answers.{Checks, IsSortedAs, TellsOutcome}
+use Rattle.isort_sort.specs.declared.answer.Outcome.{Outcome}
+use Rattle.isort_sort.specs.declared.answer.Outcome.TheVariants as outcome
 use Rattle.isort_sort.specs.Written.{AppendsPrefix}
 use Rattle.isort_sort.specs.declared.answer.SortError.{SortError}
 use Rattle.isort_sort.specs.declared.parts.SortedPart.{SortedPart}
@@ -68,10 +70,22 @@ same_or_not text sorted done left rest true split is e = is ∙ ap (λ (t : List
 same_or_not text sorted done left rest false split is e = differs text sorted done left rest split is (λ equal. let yes : pointwise eqb left rest ≡ true = (bytes_decides left rest).1 equal in cc)
 
 -- the text goes on in another way than with the next part
-pub checked_early : (text : List ℕ) (v : Values) (p : Parts) (out left part : List ℕ) → AreOrders v → text ≡ out ++ left → HasMade text v p (out ++ part) → ((rest : List ℕ) → left ≡ part ++ rest → ⊥) → (sorted : List ℕ) × IsSorted text v sorted × (sorted ≢ text)
+pub checked_early : (text : List ℕ) (v : Values) (p : Parts) (out left part : List ℕ) → AreOrders v → text ≡ out ++ left → HasMade text v p (out ++ part) → ((rest : List ℕ) → left ≡ part ++ rest → ⊥) → (sorted : List ℕ) × IsSortedAs text v outcome.Changed sorted
 checked_early text v p out left part orders split made other =
     let s = goes_on_sorted text v p (out ++ part) orders made in
-    ((out ++ part) ++ s.0, inr s.1, differs text ((out ++ part) ++ s.0) out left (part ++ s.0) split (append_assoc out part s.0) (other s.0))
+    ((out ++ part) ++ s.0, (s.1, differs text ((out ++ part) ++ s.0) out left (part ++ s.0) split (append_assoc out part s.0) (other s.0)))
+
+-- what sorting comes to tells whether the text is its own sorted text
+pub unchanged_is_sorted : (text : List ℕ) (v : Values) (o : Outcome) → (o ≡ outcome.Same) ⊎ (o ≡ outcome.Skipped) → TellsOutcome text v (Ok o) → Checks text v (Ok true)
+unchanged_is_sorted text v outcome.Same is (sorted, told) = (sorted, inr told.0, told.1)
+unchanged_is_sorted text v outcome.Skipped is (sorted, told) = (sorted, inl told, told.1)
+unchanged_is_sorted text v outcome.Changed (inl is) told = absurd (cc)
+unchanged_is_sorted text v outcome.Changed (inr is) told = absurd (cc)
+
+pub changed_is_unsorted : (text : List ℕ) (v : Values) (o : Outcome) → o ≡ outcome.Changed → TellsOutcome text v (Ok o) → Checks text v (Ok false)
+changed_is_unsorted text v outcome.Changed is (sorted, told) = (sorted, inr told.0, told.1)
+changed_is_unsorted text v outcome.Same is told = absurd (cc)
+changed_is_unsorted text v outcome.Skipped is told = absurd (cc)
 
 -- a prefix of what is left was written
 pub appends_front : (old mid new : Option (List ℕ)) (all done bytes more : List ℕ) → Appends old mid done → AppendsPrefix mid new bytes → all ≡ done ++ (bytes ++ more) → AppendsPrefix old new all

@@ -3,7 +3,7 @@ use crate::harness::cases::{SettingsCase, all_are_so, each_holds_with};
 use crate::settings::pyproject::OWN;
 use crate::sort::writing::is_written;
 use isort_settings::Settings;
-use isort_sort::{Outcome, SortError, Sorted, blocks, check_code, sort_code};
+use isort_sort::{Outcome, SortError, Sorted, blocks, check_code, sort_code, sort_outcome};
 use py_lines::{Fault, FaultKind};
 use std::alloc::Global;
 use std::test::Fail;
@@ -607,6 +607,7 @@ impl SettingsCase for Answered {
     fn holds_under(&self, alloc: Global, settings: &Settings) -> bool {
         let is_same = self.1 != Outcome::Changed;
         self.is_sorted_so(alloc, settings)
+            && sort_outcome(alloc, self.0.as_bytes(), settings) == Ok(self.1)
             && check_code(alloc, self.0.as_bytes(), settings) == Ok(is_same)
             && self.has_such_blocks(alloc)
     }
@@ -667,6 +668,7 @@ impl SettingsCase for Faulty {
         let text = self.0.as_bytes();
         is_written(alloc, settings, self.0, Err(want), b"")
             && sort_code(alloc, text, settings).err() == Some(want)
+            && sort_outcome(alloc, text, settings) == Err(want)
             && check_code(alloc, text, settings) == Err(want)
             && blocks(alloc, text).err() == Some(want)
     }

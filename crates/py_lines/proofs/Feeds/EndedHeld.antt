@@ -45,7 +45,7 @@ module _ (f : Feed) (read rest : List ℕ) (o : IsOpen f read rest) where
   whole_at text lines ends = ends.whole ∙ ap (λ l. f.state.place + length l) (sym o.spell)
 
   open_yet : is_returned f.state.scan ≡ false → o.way.state.mode ≡ modes.Return → none_open (stack_of f.state.scan.brackets) ≡ false
-  open_yet not_yet = end_return o.way.state.mode (stack_of f.state.scan.brackets) (ap (λ (m : Mode). is_return_mode m && none_open (stack_of f.state.scan.brackets)) (sym o.way.tallies.mode) ∙ not_yet)
+  open_yet not_yet = end_return o.way.state.mode (stack_of f.state.scan.brackets) (ap (λ (m : Mode). is_return_mode m && none_open (stack_of f.state.scan.brackets)) (sym o.way.tallies.counts.mode) ∙ not_yet)
 
   -- bytes that begin no character are left
   pub ends_in_bytes : (new : Feed) (fault : Fault) → StartsWithNoChar rest → 0 < length rest → is_returned f.state.scan ≡ false → FailsAt f BadUtf8 f.state.scan.stop (lex.Fault fault) new → f.ready ≡ None → IsEndFault f fault new
@@ -113,7 +113,7 @@ module _ (f : Feed) (read rest : List ℕ) (o : IsOpen f read rest) where
         lexed = λ text lines ends.
             let k = known_at text lines ends some in
             subst (λ (l : LogicalLine). IsLexed text (lines ++ l ∷ []) None) (sym is)
-            (ended_line text f.state.place f.state.line lines read rest k (whole_at text lines ends) none o.way.state (subst (GoesTo (line_start (first_mode f.state.place)) read o.way.state) empty (way_goes o.way)) (ap is_final (sym o.way.tallies.mode) ∙ final) line.some line.whole);
+            (ended_line text f.state.place f.state.line lines read rest k (whole_at text lines ends) none o.way.state (subst (GoesTo (line_start (first_mode f.state.place)) read o.way.state) empty (way_goes o.way)) (ap is_final (sym o.way.tallies.counts.mode) ∙ final) line.some line.whole);
       }
 
   closed_tallies : (new : Feed) → Closes f.state.scan new.state.scan → Tallies new.state.scan (fresh (pieces_at o.way.state))
@@ -124,7 +124,7 @@ module _ (f : Feed) (read rest : List ℕ) (o : IsOpen f read rest) where
   ends_plain new none some not_yet unfinished keeps fault ready closes =
       let (final, empty) = finished f.state.scan unfinished in
       last_line new 0 none some keeps fault ready (ap (λ (s : Scan). s.line) closes.same) final empty
-      (line_at_text_end (first_mode f.state.place) f.state.scan new.state.scan read o.way (open_sound f read rest o) (ap is_final (sym o.way.tallies.mode) ∙ final) (open_yet not_yet) (closed_tallies new closes) empty (read_some none some))
+      (line_at_text_end (first_mode f.state.place) f.state.scan new.state.scan read o.way (open_sound f read rest o) (ap is_final (sym o.way.tallies.counts.mode) ∙ final) (open_yet not_yet) (closed_tallies new closes) empty (read_some none some))
 
   -- the last line, which CR closes
   pub ends_returned_line : (new : Feed) → rest ≡ [] → 0 < length f.held.items → is_returned f.state.scan ≡ true → KeepsText f new → new.state.fault ≡ f.state.fault → new.ready ≡ Some 1 → Closes f.state.scan new.state.scan → IsLastLine f new

@@ -71,7 +71,7 @@ by_character f new read rest o fault c after scalar is r text lines first goes =
     let same : fault ≡ fails.keeps.fault = (let e = fails.keeps.error_is in cc) in
     let w = refused_within f.state.place f.state.scan read way c r.refuses r.flaw r.is_flaw in
     let taken : take r.flaw.place f.held.items ≡ encode_utf8_all w.prefix = (within_held f read rest o r.flaw.place w).1 in
-    let not_yet : (is_return_mode way.state.mode && none_open (stack_of f.state.scan.brackets)) && not (is_line_feed c) ≡ false = ap (λ (m : Mode). (is_return_mode m && none_open (stack_of f.state.scan.brackets)) && not (is_line_feed c)) (sym way.tallies.mode) ∙ r.not_yet in
+    let not_yet : (is_return_mode way.state.mode && none_open (stack_of f.state.scan.brackets)) && not (is_line_feed c) ≡ false = ap (λ (m : Mode). (is_return_mode m && none_open (stack_of f.state.scan.brackets)) && not (is_line_feed c)) (sym way.tallies.counts.mode) ∙ r.not_yet in
     let both = decided_character text f.state.place f.state.line lines read c k f.state.scan way r.refuses not_yet r.flaw r.is_flaw fault
     (ap (λ (x : Fault). x.kind) same ∙ fails.keeps.at.is)
     (ap (λ (x : Fault). x.offset) same ∙ fails.keeps.at.place)
@@ -89,7 +89,7 @@ by_bytes f new read rest o fault way hopeless open_yet fails text lines first go
     let stop = open_stop f read rest o in
     let w : Within read f.state.scan.stop = record { prefix = read; later = []; split = append-nil read; size = stop } in
     let taken : take f.state.scan.stop f.held.items ≡ encode_utf8_all read = (within_held f read rest o f.state.scan.stop w).1 in
-    let returned : is_return_mode way.state.mode && none_open (stack_of f.state.scan.brackets) ≡ false = ap (λ (m : Mode). is_return_mode m && none_open (stack_of f.state.scan.brackets)) (sym way.tallies.mode) ∙ open_yet in
+    let returned : is_return_mode way.state.mode && none_open (stack_of f.state.scan.brackets) ≡ false = ap (λ (m : Mode). is_return_mode m && none_open (stack_of f.state.scan.brackets)) (sym way.tallies.counts.mode) ∙ open_yet in
     let both = decided_bytes text f.state.place f.state.line lines read rest k way.state (stack_of f.state.scan.brackets) (way_goes way) way.one_line (end_return way.state.mode (stack_of f.state.scan.brackets) returned) d ds is hopeless fault
     (ap (λ (x : Fault). x.kind) same ∙ fails.keeps.at.is)
     (ap (λ (x : Fault). x.offset) same ∙ fails.keeps.at.place ∙ ap (λ (n : ℕ). f.state.place + n) stop)

@@ -55,7 +55,7 @@ module _ (text : List ℕ) (f : Feed) (lines : List LogicalLine) (first : AreFir
       let o = s.2 in
       let part = s.3 in
       let k = is_known text f.state.place f.state.line lines s.0 s.1 first o.scalars (subst (GoesOnWith text f.state.place) (sym o.spell) goes) (omega (arith, some, ap length o.spell)) in
-      let last : MayGetFeed o.way.state.mode (stack_of f.state.scan.brackets) s.1 = may_get o.way.state.mode (stack_of f.state.scan.brackets) s.1 (λ h. part.last (ap (λ (m : Mode). is_return_mode m && none_open (stack_of f.state.scan.brackets)) o.way.tallies.mode ∙ h)) in
+      let last : MayGetFeed o.way.state.mode (stack_of f.state.scan.brackets) s.1 = may_get o.way.state.mode (stack_of f.state.scan.brackets) s.1 (λ h. part.last (ap (λ (m : Mode). is_return_mode m && none_open (stack_of f.state.scan.brackets)) o.way.tallies.counts.mode ∙ h)) in
       subst (λ l. IsSettled (take (f.state.place + length l) text) lines) o.spell (settled_open text f.state.place f.state.line lines s.0 s.1 k o.way.state (stack_of f.state.scan.brackets) (way_goes o.way) o.way.one_line part.none (omega (arith, some, ap length o.spell)) last)
 
   pub undecided_scanned : 0 < length f.held.items → (fault : Fault) → ¬ (Decides (take (f.state.place + length f.held.items) text) fault)

@@ -38,7 +38,7 @@ module _ (m : Mode) (scan : Scan) (bytes all after : List ℕ) (end_len : ℕ) (
   line_ended = line_at_end m scan all [] end_len (at [] (λ returned. refl)) [] refl
 
   line_returned : scan.count.after_return ≡ ends is_return all
-  line_returned = let line = at [] (λ returned. refl) in line.tallies.after ∙ ap (ends is_return) (append-nil (spelled (line.body ++ line.last ∷ [])) ∙ line.spell)
+  line_returned = let line = at [] (λ returned. refl) in line.tallies.counts.after ∙ ap (ends is_return) (append-nil (spelled (line.body ++ line.last ∷ [])) ∙ line.spell)
 
   -- where it ends, with the byte after CR
   end_is : ((whole_end scan ≡ byte_len all) × (ends is_return all ≡ false)) ⊎ ((whole_end scan ≡ byte_len all + 1) × (ends is_return all ≡ true))

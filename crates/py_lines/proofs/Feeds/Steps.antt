@@ -72,7 +72,7 @@ ends_returned old new read (b ∷ more) o some none is keeps closes =
       ended = record {
         scalars = o.scalars;
         spell = o.spell ∙ ap (λ (v : Vec ℕ). v.items) (sym keeps.held);
-        at = λ after h. subst (λ (n : ℕ). IsAtLineEnd (first_mode n) new.state.scan read (encode_utf8_all after) 1) (sym keeps.place) (returned (first_mode old.state.place) old.state.scan new.state.scan read (encode_utf8_all after) o.way (begun_sound old.state.place) parts.0 parts.1 closes (λ a spells. ap (begins is_line_feed) (encodes_same a after spells) ∙ h (return_ends o.way.state read (open_sound old read (b ∷ more) o) (ap is_return_mode (sym o.way.tallies.mode) ∙ parts.0))));
+        at = λ after h. subst (λ (n : ℕ). IsAtLineEnd (first_mode n) new.state.scan read (encode_utf8_all after) 1) (sym keeps.place) (returned (first_mode old.state.place) old.state.scan new.state.scan read (encode_utf8_all after) o.way (begun_sound old.state.place) parts.0 parts.1 closes (λ a spells. ap (begins is_line_feed) (encodes_same a after spells) ∙ h (return_ends o.way.state read (open_sound old read (b ∷ more) o) (ap is_return_mode (sym o.way.tallies.counts.mode) ∙ parts.0))));
         number = ap (λ (s : Scan). s.line) closes.same ∙ o.number ∙ sym keeps.line;
       };
       whole = inr (b, more, refl, no_feed b more none);

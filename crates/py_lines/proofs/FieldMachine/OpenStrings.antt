@@ -141,7 +141,7 @@ string_runs from host spot front rest (in_specification _ round _ _ opening insi
       done = [];
       openers = [];
       mode = mode;
-      goes = goes-to NoLimit from last _ (opening ++ (123 ∷ code)) all (ap (field_state outer [] [] mode) held_is);
+      goes = goes-to NoLimit from last (field_state outer [] [] mode (opening ++ (123 ∷ code))) (opening ++ (123 ∷ code)) all (ap (field_state outer [] [] mode) held_is);
       stands = in_part run.to refl run.on;
       start_is = append-nil _ ∙ inner.start_is;
       depth_is =

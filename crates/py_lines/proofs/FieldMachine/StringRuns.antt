@@ -3,13 +3,13 @@ use Rattle.std.proofs.Common.{◌≡◌, ℕ, Bool, true, false, not, ◌&&◌, 
 use Rattle.std.specs.List.{list_all, list_any}
 use Rattle.std.proofs.lemmas.Bool.{and_parts, or_parts, both_ways, eq-eqb, eqb-true, false_from_ne_true}
 use Rattle.py_lines.specs.Character.{is_word_character, is_word_start, is_quote, is_r}
-use Rattle.py_lines.specs.Piece.{string, begins}
+use Rattle.py_lines.specs.Piece.{Piece, string, begins}
 use Rattle.py_lines.specs.PieceGrammar.{begins_triple, has_triple, joined, is_prefix, MayPrecedeIn}
 use Rattle.py_lines.specs.FieldStrings.{is_field_prefix, Host, Place, literal, quotes_of, IsPart, bare, slash, escape, escaped_end, name, double, field, named_through, AreParts, IsFieldString, with_fields}
 use Rattle.py_lines.specs.declared.mode.Spelling.{Spelling}
 use Rattle.py_lines.specs.declared.mode.Mode.TheVariants as modes
 use Rattle.py_lines.specs.Private.Machine.{first_spelling, spelling_on}
-use Rattle.py_lines.specs.Private.FieldMachine.{At, between, after_one, after_two, after_slash, after_return, after_name, after_brace, FieldMode, plain, opened, empty, body, FieldMove, grows, closes, breaks, begins_code, opens_field, ends_field, refused, FieldScanned, field_state, field_fresh, host_of, long_host, is_after_two, between_move, field_move, field_pieces, field_moved, frames}
+use Rattle.py_lines.specs.Private.FieldMachine.{Level, At, between, after_one, after_two, after_slash, after_return, after_name, after_brace, FieldMode, plain, opened, empty, body, FieldMove, grows, closes, breaks, begins_code, opens_field, ends_field, refused, FieldScanned, field_state, field_fresh, host_of, long_host, is_after_two, between_move, field_move, field_pieces, field_moved, frames}
 use Rattle.py_lines.proofs.Pieces.PieceLists.{piece}
 use Rattle.py_lines.proofs.Fields.Prefixes.{field_letters}
 use Rattle.py_lines.proofs.Fields.Parts.{BeginOpen}
@@ -84,6 +84,16 @@ pub data IsInLiteral (host : Host) (named : Bool) (mode : FieldMode) (text rest 
   at_quote : (prefix : List ℕ) → mode ≡ opened host → text ≡ prefix ++ host.quote ∷ [] → is_field_prefix prefix ≡ true → host.is_long ≡ false → named ≡ false
       → IsInLiteral host named mode text rest tail
 
+-- after one quote, what isn't a second one is read as between parts
+pub moved_between : (outer : List Level) (done : List Piece) (openers : List ℕ) (host : Host) (held : List ℕ) (c : ℕ) (v : FieldMove) → field_moved (field_state outer done openers (opened host) held) c v ≡ field_moved (field_state outer done openers (body host literal false between) held) c v
+moved_between outer done openers host held c (grows m) = refl
+moved_between outer done openers host held c closes = refl
+moved_between outer done openers host held c breaks = refl
+moved_between outer done openers host held c (begins_code h) = refl
+moved_between outer done openers host held c (opens_field h) = refl
+moved_between outer done openers host held c ends_field = refl
+moved_between outer done openers host held c refused = refl
+
 module _ (Room : ℕ → Type 0) (from : FieldScanned) where
   -- the string is open after the pieces before
   abbrev inside : FieldMode → List ℕ → FieldScanned
@@ -103,16 +113,6 @@ module _ (Room : ℕ → Type 0) (from : FieldScanned) where
       head : {x y : ℕ} {xs ys : List ℕ} → x ∷ xs ≡ y ∷ ys → y ≡ x
       head h = cc
 
-  -- after one quote, what isn't a second one is read as between parts
-  moved_same : (host : Host) (held : List ℕ) (c : ℕ) (v : FieldMove) → field_moved (inside (opened host) held) c v ≡ field_moved (inside (body host literal false between) held) c v
-  moved_same host held c (grows m) = refl
-  moved_same host held c closes = refl
-  moved_same host held c breaks = refl
-  moved_same host held c (begins_code h) = refl
-  moved_same host held c (opens_field h) = refl
-  moved_same host held c ends_field = refl
-  moved_same host held c refused = refl
-
   opened_moves : (host : Host) (held : List ℕ) (c : ℕ) → eqb c host.quote ≡ false → field_move (opened host) held c ≡ field_move (body host literal false between) held c
   unfolding field_move
   opened_moves host held c other = rw other
@@ -120,7 +120,7 @@ module _ (Room : ℕ → Type 0) (from : FieldScanned) where
   pub opened_goes : (host : Host) (held : List ℕ) (c : ℕ) (cs : List ℕ) (t : FieldScanned) → eqb c host.quote ≡ false → Goes Room (inside (body host literal false between) held) (c ∷ cs) t → Goes Room (inside (opened host) held) (c ∷ cs) t
   opened_goes host held c cs t other (next, step, room, others) = (
     next,
-    ap (field_moved (inside (opened host) held) c) (opened_moves host held c other) ∙ moved_same host held c (field_move (body host literal false between) held c) ∙ step,
+    ap (field_moved (inside (opened host) held) c) (opened_moves host held c other) ∙ moved_between from.outer (field_pieces from) from.openers host held c (field_move (body host literal false between) held c) ∙ step,
     subst (HasRoomFor Room (frames (inside (opened host) held)) c) (sym (opened_moves host held c other)) room,
     others,
   )

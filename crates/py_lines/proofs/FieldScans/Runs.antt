@@ -23,7 +23,7 @@ use Rattle.py_lines.specs.declared.field_scan.Region.TheVariants as regions
 use Rattle.py_lines.specs.declared.field_scan.FieldScan.{FieldScan}
 use Rattle.py_lines.specs.Private.Machine.{move_of, short_move, long_move, spelling_with, Holds}
 use Rattle.py_lines.specs.Private.FieldMachine.{body, between, grows, Level, FieldScanned, field_state, field_move, field_moved, body_move, between_move, levels_open}
-use Rattle.py_lines.specs.Private.FieldScan.{region_in, mode_from, code_mode, code_move, meets_field, stays_code, stays_field, keeps_byte, HoldsCode, innermost_first, Follows, GoesOn, HoldsField, StandsInText}
+use Rattle.py_lines.specs.Private.FieldScan.{region_in, mode_from, code_mode, code_move, code_moved, meets_field, stays_code, stays_field, keeps_byte, HoldsCode, innermost_first, Follows, GoesOn, HoldsField, StandsInText}
 use Rattle.py_lines.specs.Private.FieldText.{HasText}
 use Rattle.py_lines.specs.Private.ScanMachine.{host_in, meet_of}
 use Rattle.py_lines.proofs.FieldSoundness.PlainPieces.{MoveHolds, move_holds}
@@ -65,13 +65,13 @@ code_stays modes.Comment c h none = rw none refl
 code_stays m c h none = absurd (both_ways _ refl h)
 
 met_stays : (m : Mode) (c : ℕ) → stays_code m c ≡ true → is_break c ≡ false → code_move m c ≡ grows (code_mode m)
-unfolding code_move meet_of move_of short_move long_move spelling_with
-met_stays (modes.Inside q) c h none = let parts = two_false (c == q) (is_backslash c) h in rw (parts.0, parts.1, none) refl
-met_stays (modes.Long q) c h none = let parts = two_false (c == q) (is_backslash c) h in rw (parts.0, parts.1) refl
+unfolding code_move meet_of spelling_with
+met_stays (modes.Inside q) c h none = ap code_moved (code_stays (modes.Inside q) c h none)
+met_stays (modes.Long q) c h none = ap code_moved (code_stays (modes.Long q) c h none)
 met_stays (modes.Word spellings.Number) c h none = rw h refl
 met_stays (modes.Word spellings.Name) c h none = rw h refl
-met_stays modes.Space c h none = rw h refl
-met_stays modes.Comment c h none = rw none refl
+met_stays modes.Space c h none = ap code_moved (code_stays modes.Space c h none)
+met_stays modes.Comment c h none = ap code_moved (code_stays modes.Comment c h none)
 met_stays m c h none = absurd (both_ways _ refl h)
 
 -- and the text of a string

@@ -12,8 +12,8 @@ use Rattle.py_lines.specs.Private.Machine.{IsFull}
 use Rattle.py_lines.specs.Private.ScanMachine.{is_field_spelling}
 use Rattle.py_lines.proofs.ScanMachine.Spellings.{word_tells}
 use Rattle.py_lines.specs.Private.FieldMachine.{Level, FieldScanned}
-use Rattle.py_lines.specs.Private.FieldText.{AtBrace, AtCode, HasSimpleCode, InCode, AtSpecification, InText, IsWholeString, HasPrefix, HasText, Leads, LeadsAlways, LeadsBy, is_code_bracket, is_escaped}
-use Rattle.py_lines.specs.Private.Run.{BeginsText, IsRunOf, IsWholeText, is_ascii_word, is_code_byte, is_code_sign, is_literal_byte, word_spelling}
+use Rattle.py_lines.specs.Private.FieldText.{AtBrace, AtCode, HasSimpleCode, InCode, AtSpecification, InText, IsWholeStringWithFields, HasPrefix, HasText, Leads, LeadsAlways, LeadsBy, is_code_bracket, is_escaped}
+use Rattle.py_lines.specs.Private.Run.{BeginsPlainString, IsRunOf, IsWholePlainString, is_ascii_word, is_code_byte, is_code_sign, is_literal_byte, word_spelling}
 use Rattle.py_lines.proofs.LineScan.ShortPieces.{all_pass, full_take, split_at, text_size}
 use Rattle.py_lines.proofs.FieldScans.Texts.{escape_leads, leads_from_code, sign_leads, string_leads, brace_leads, closing_leads, code_after, codes_lead, field_ends, leads-append, leads-none, open_leads, opening_leads, specification_begins, specification_ends, specifications_lead, texts_lead, two_lead}
 
@@ -122,14 +122,14 @@ code_counted bytes n run = record {
 }
 
 -- a string after it, and more code
-text_taken : (bytes : List ℕ) (m : ℕ) → (is : IsWholeText bytes m) → take m bytes ≡ is.q ∷ (is.run ++ is.q ∷ [])
+text_taken : (bytes : List ℕ) (m : ℕ) → (is : IsWholePlainString bytes m) → take m bytes ≡ is.q ∷ (is.run ++ is.q ∷ [])
 text_taken bytes m is =
     let spelled_so : List ℕ = is.q ∷ (is.run ++ is.q ∷ []) in
     let far : length spelled_so ≡ m = omega (arith, is.size, length-append is.run (is.q ∷ [])) in
     let spell : spelled_so ++ is.after ≡ bytes = ap (λ t. is.q ∷ t) (append_assoc is.run (is.q ∷ []) is.after) ∙ is.spell in
     ap (take m) (sym spell) ∙ ap (λ (k : ℕ). take k (spelled_so ++ is.after)) (sym far) ∙ take-append_seam spelled_so is.after
 
-pub code_counted_on : (bytes : List ℕ) (n m k : ℕ) → IsCodeCounted bytes n → BeginsText bytes n → IsWholeText (drop n bytes) m → IsRunOf is_code_byte (drop (n + m) bytes) k → IsCodeCounted bytes (n + m + k)
+pub code_counted_on : (bytes : List ℕ) (n m k : ℕ) → IsCodeCounted bytes n → BeginsPlainString bytes n → IsWholePlainString (drop n bytes) m → IsRunOf is_code_byte (drop (n + m) bytes) k → IsCodeCounted bytes (n + m + k)
 code_counted_on bytes n m k so_far begins_so text run = record {
   code = record { within = (whole_code [] 0).0; leads = λ openers quote. (whole_code openers quote).1 };
   apart = λ is openers quote. (both is openers quote).1;
@@ -273,7 +273,7 @@ prefix_of bytes n some within spells quotes = record {
 }
 
 -- a whole string
-pub whole_fields : (bytes : List ℕ) (prefix n : ℕ) → HasPrefix bytes prefix → HasText (slice_index bytes prefix) (drop (prefix + 1) bytes) n → 0 < n → prefix + 1 + n < length bytes → slice_index bytes (prefix + 1 + n) ≡ slice_index bytes prefix → IsWholeString bytes (prefix + n + 2)
+pub whole_fields : (bytes : List ℕ) (prefix n : ℕ) → HasPrefix bytes prefix → HasText (slice_index bytes prefix) (drop (prefix + 1) bytes) n → 0 < n → prefix + 1 + n < length bytes → slice_index bytes (prefix + 1 + n) ≡ slice_index bytes prefix → IsWholeStringWithFields bytes (prefix + n + 2)
 whole_fields bytes prefix n is text some within closes =
     let q = slice_index bytes prefix in
     let body = drop (prefix + 1) bytes in

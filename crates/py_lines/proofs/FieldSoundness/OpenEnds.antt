@@ -157,7 +157,7 @@ specification_is_open limit outer done openers host named at held read sound oth
     ((before specification outer ++ spelled done) ++ own.spot.field, record { string = before specification outer ++ spelled done; spot = own.spot; stands = own.stands; place = own.place_is; before = refl })
 
 -- a string without fields, or a backslash
-short_class : (m : Mode) → in_short m ≡ true → class_of m ≡ string
+pub short_class : (m : Mode) → in_short m ≡ true → class_of m ≡ string
 short_class (modes.Opened q) is = refl
 short_class (modes.Inside q) is = refl
 short_class (modes.Escape q) is = refl

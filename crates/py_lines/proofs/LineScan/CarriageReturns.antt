@@ -75,7 +75,7 @@ feed_takes : (old : Scan) (p : Progress) → p ≡ line_end_progress (none_open 
 feed_takes old p is = record {
   begun = λ is. absurd (both_ways _ refl is);
   taken = λ other s read sound none not_yet tallies stacked.
-      takes_returned (with_end old 1) (line_ended old 2) s.done s.mode s.held read 10 p (ap is_return_mode (sym tallies.mode)) (ap (λ m. meet_of m 10) (sym tallies.mode) ∙ feed_move) sound tallies stacked none (subst (λ (s : Scan). Closes s (line_ended old 2)) (feed_reads old) (end_closes old 2)) is;
+      takes_returned (with_end old 1) (line_ended old 2) s.done s.mode s.held read 10 p (ap is_return_mode (sym tallies.counts.mode)) (ap (λ m. meet_of m 10) (sym tallies.counts.mode) ∙ feed_move) sound tallies stacked none (subst (λ (s : Scan). Closes s (line_ended old 2)) (feed_reads old) (end_closes old 2)) is;
 }
 
 -- a character that ended no line before it

@@ -98,7 +98,7 @@ module _ (m : Mode) (at : ℕ) (text before : List ℕ) (c : ℕ) (p : Progress)
       record {
         from = from;
         reached = o;
-        takes = takes_broken from new s.done s.mode s.held o.read c (ap (λ n. meet_of n c) (sym way.tallies.mode) ∙ breaks) (sound_steps m o.read s start way.steps) way.one_line not_yet way.tallies way.stacked (Ok p) begun;
+        takes = takes_broken from new s.done s.mode s.held o.read c (ap (λ n. meet_of n c) (sym way.tallies.counts.mode) ∙ breaks) (sound_steps m o.read s start way.steps) way.one_line not_yet way.tallies way.stacked (Ok p) begun;
         not_yet = not_yet;
       }
 

@@ -98,7 +98,7 @@ returned_as m old new read rest s steps sound tallies stacked none n is returns 
 
 pub returned : (m : Mode) (old new : Scan) (read rest : List ℕ) (way : IsUnderWay m old read) → IsScanSound (line_start m) [] → is_return_mode old.piece.mode ≡ true → none_open (stack_of old.brackets) ≡ true → Closes old new → ((after : List ℕ) → encode_utf8_all after ≡ rest → begins is_line_feed after ≡ false) → IsAtLineEnd m new read rest 1
 returned m old new read rest way start returns empty closes follows =
-    returned_as m old new read rest way.state way.steps (sound_steps m read way.state start way.steps) way.tallies way.stacked way.one_line old.piece.mode way.tallies.mode returns empty closes follows
+    returned_as m old new read rest way.state way.steps (sound_steps m read way.state start way.steps) way.tallies way.stacked way.one_line old.piece.mode way.tallies.counts.mode returns empty closes follows
 
 -- what follows begins with another character, or is nothing
 pub follows_nothing : (rest after : List ℕ) → rest ≡ [] → encode_utf8_all after ≡ rest → begins is_line_feed after ≡ false
@@ -106,10 +106,10 @@ follows_nothing rest after none spells = ap (begins is_line_feed) (encodes_same 
 
 -- where the scan of a line under way stands
 pub way_order : (scan : Scan) (s : Scanned) → Tallies scan s → scan.piece.start ≤ scan.stop
-way_order scan s tallies = omega (arith, tallies.start, tallies.stop, byte_len-append (spelled s.done) s.held)
+way_order scan s tallies = omega (arith, tallies.counts.start, tallies.counts.stop, byte_len-append (spelled s.done) s.held)
 
 pub way_stop : (m : Mode) (scan : Scan) (read : List ℕ) (way : IsUnderWay m scan read) → IsScanSound (line_start m) [] → scan.stop ≡ byte_len read
-way_stop m scan read way start = way.tallies.stop ∙ ap byte_len (sound_steps m read way.state start way.steps).spell
+way_stop m scan read way start = way.tallies.counts.stop ∙ ap byte_len (sound_steps m read way.state start way.steps).spell
 
 pub way_here : (m : Mode) (scan : Scan) (read : List ℕ) (way : IsUnderWay m scan read) → IsScanSound (line_start m) [] → scan.count.line ≡ scan.line + line_ends read
-way_here m scan read way start = way.tallies.here ∙ ap (λ t. scan.line + line_ends t) (sound_steps m read way.state start way.steps).spell
+way_here m scan read way start = way.tallies.counts.here ∙ ap (λ t. scan.line + line_ends t) (sound_steps m read way.state start way.steps).spell

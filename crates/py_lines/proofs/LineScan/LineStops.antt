@@ -132,7 +132,7 @@ module _ (first : Scan) (text : List ℕ) (old : Scan) (before : List ℕ) (shut
   stops_before new ended apart_from_it closes m line whole start r =
       let parts = and_parts _ _ ended in
       let o = open_reached m line whole old before (return_open old.piece.mode parts.0) (shuts m line whole start r) in
-      let returns = return_ends o.way.state o.read (sound_steps m o.read o.way.state start o.way.steps) (ap is_return_mode (sym o.way.tallies.mode) ∙ parts.0) in
+      let returns = return_ends o.way.state o.read (sound_steps m o.read o.way.state start o.way.steps) (ap is_return_mode (sym o.way.tallies.counts.mode) ∙ parts.0) in
       record {
         read = o.read;
         rest = before;

@@ -25,7 +25,7 @@ use Rattle.py_lines.specs.declared.scan.Scan.{Scan}
 use Rattle.py_lines.specs.Private.FieldMachine.{FieldScanned}
 use Rattle.py_lines.specs.Private.Machine.{Scanned, fresh, class_of, closed, token_of, moved, started, move_of, start_of, Bracket, brackets_after, brackets_of}
 use Rattle.py_lines.specs.Private.ScanMachine.{HoldsOpen, IsScanSound, begins_string, is_field_spelling, meet_of, move_at, move_in, quote_move, scan_step}
-use Rattle.py_lines.specs.Private.Scan.{tokens_with, kind_through, Closes, with_character, count_with, AddsPiece, ClosesAndAdds, ClosesAndOpens, Operates, Begins, Tallies, IsStacked, EndsNoLine, Takes, stack_if, stack_of, none_open, is_returned, is_return_mode, in_mode, with_brackets, with_field_scan, line_end_progress, FieldsFollow, StandsInString, GoesOnInString, ClosesString, TakesInString}
+use Rattle.py_lines.specs.Private.Scan.{Counts, tokens_with, kind_through, Closes, with_character, count_with, AddsPiece, ClosesAndAdds, ClosesAndOpens, Operates, Begins, Tallies, IsStacked, EndsNoLine, Takes, stack_if, stack_of, none_open, is_returned, is_return_mode, in_mode, with_brackets, with_field_scan, line_end_progress, FieldsFollow, StandsInString, GoesOnInString, ClosesString, TakesInString}
 use Rattle.py_lines.proofs.Pieces.PieceLists.{piece, spelled-push, AreReadBefore-first}
 use Rattle.py_lines.proofs.Text.CharacterTests.{feed_is, return_is}
 use Rattle.py_lines.proofs.Machine.Starts.{starts_so, StartsSo}
@@ -39,35 +39,35 @@ use Rattle.py_lines.proofs.LineScan.Increments.{stack_push, EndsNoLine-push}
 use Rattle.py_lines.proofs.LineScan.LineCount.{byte_len-push, byte_len-one, counted_push}
 use Rattle.py_lines.proofs.LineScan.BracketStack.{none_length}
 use Rattle.py_lines.proofs.LineScan.StringSteps.{InString, in_string, fields_same, no_fields, opens_plain, string_more, string_move_is}
-use Rattle.py_lines.proofs.LineScan.PieceEnd.{Counts, counts, tallies_of, closed_text, shut_as, closes_shut, margin_push, indent_other, no_bracket, tokens_push, kind_operator, kind_line_end}
+use Rattle.py_lines.proofs.LineScan.PieceEnd.{closed_text, shut_as, closes_shut, margin_push, indent_other, no_bracket, tokens_push, kind_operator, kind_line_end}
 
 -- one more character in the piece that is open
 pub counts_read : (old : Scan) (f : FieldScan) (s : Scanned) (c : ℕ) (m : Mode) → Tallies old s → Counts (in_mode (with_character (with_field_scan old f) c) m) (scanned s.done m (s.held ++ c ∷ []))
 counts_read old f s c m tallies =
     let longer : (spelled s.done ++ s.held) ++ c ∷ [] ≡ spelled s.done ++ (s.held ++ c ∷ []) = append_assoc (spelled s.done) s.held (c ∷ []) in
-    let counted = counted_push old.line old.count (spelled s.done ++ s.held) c (record { here = tallies.here; after = tallies.after }) in
+    let counted = counted_push old.line old.count (spelled s.done ++ s.held) c (record { here = tallies.counts.here; after = tallies.counts.after }) in
     record {
       mode = refl;
-      start = tallies.start;
-      stop = ap (λ (n : ℕ). n + len_utf8 c) tallies.stop ∙ sym (byte_len-push (spelled s.done ++ s.held) c) ∙ ap byte_len longer;
-      piece_line = tallies.piece_line;
+      start = tallies.counts.start;
+      stop = ap (λ (n : ℕ). n + len_utf8 c) tallies.counts.stop ∙ sym (byte_len-push (spelled s.done ++ s.held) c) ∙ ap byte_len longer;
+      piece_line = tallies.counts.piece_line;
       here = counted.here ∙ ap (λ t. old.line + line_ends t) longer;
       after = counted.after ∙ ap (ends is_return) longer;
-      margin = tallies.margin;
-      indent = tallies.indent;
-      kind = tallies.kind;
-      tokens = tallies.tokens;
+      margin = tallies.counts.margin;
+      indent = tallies.counts.indent;
+      kind = tallies.counts.kind;
+      tokens = tallies.counts.tokens;
     }
 
 pub tallies_read : (old : Scan) (s : Scanned) (c : ℕ) (m : Mode) → Tallies old s → FieldsFollow (in_mode (with_character old c) m) m (s.held ++ c ∷ []) → Tallies (in_mode (with_character old c) m) (scanned s.done m (s.held ++ c ∷ []))
-tallies_read old s c m tallies fields = tallies_of (counts_read old old.fields s c m tallies) fields
+tallies_read old s c m tallies fields = record { counts = counts_read old old.fields s c m tallies; fields = fields }
 
 -- what is counted says nothing of the brackets, and of the mode that it is the machine's
 counts_in : (scan : Scan) (s : Scanned) (m n : Mode) (b : Brackets) → m ≡ n → Counts scan s → Counts (with_brackets (in_mode scan m) b) (scanned s.done n s.held)
 counts_in scan s m n b same t = record { mode = same; start = t.start; stop = t.stop; piece_line = t.piece_line; here = t.here; after = t.after; margin = t.margin; indent = t.indent; kind = t.kind; tokens = t.tokens }
 
 pub tallies_in : (scan : Scan) (s : Scanned) (m n : Mode) (b : Brackets) → m ≡ n → Tallies scan s → FieldsFollow scan n s.held → Tallies (with_brackets (in_mode scan m) b) (scanned s.done n s.held)
-tallies_in scan s m n b same t fields = tallies_of (counts_in scan s m n b same (counts t)) (fields_same scan (with_brackets (in_mode scan m) b) n s.held refl refl fields)
+tallies_in scan s m n b same t fields = record { counts = counts_in scan s m n b same t.counts; fields = fields_same scan (with_brackets (in_mode scan m) b) n s.held refl refl fields }
 
 -- what closes with a character has its class's token
 closing_token : (m : Mode) (depth : ℕ) (open_text : List ℕ) (c : ℕ) → move_in m depth open_text c ≡ moves.Closes → (m ≡ modes.Free → ⊥) × ((held : List ℕ) (start stop line : ℕ) → tokens_of_piece start stop line (class_of m) held ≡ tokens_with (token_of m) start stop line)
@@ -87,7 +87,7 @@ start_done m done held holds is = absurd (cc)
 tallies_closed : (old new : Scan) (f : FieldScan) (s : Scanned) (read : List ℕ) (c : ℕ) → move_at s c ≡ moves.Closes → IsScanSound s read → Tallies old s → Closes (with_character (with_field_scan old f) c) new → Tallies new (fresh (s.done ++ piece (class_of s.mode) (s.held ++ c ∷ []) ∷ []))
 tallies_closed old new f s read c move sound tallies closes =
     let token = closing_token s.mode (depth_through 0 s.done) s.held c move in
-    let reads = counts_in (in_mode (with_character (with_field_scan old f) c) s.mode) (scanned s.done s.mode (s.held ++ c ∷ [])) old.piece.mode s.mode old.brackets tallies.mode (counts_read old f s c s.mode tallies) in
+    let reads = counts_in (in_mode (with_character (with_field_scan old f) c) s.mode) (scanned s.done s.mode (s.held ++ c ∷ [])) old.piece.mode s.mode old.brackets tallies.counts.mode (counts_read old f s c s.mode tallies) in
     shut_as (with_character (with_field_scan old f) c) new s.done s.mode (s.held ++ c ∷ []) (s.held ++ []) closes (sound.fit []) reads (token.1 (s.held ++ c ∷ [])) (start_done s.mode s.done s.held sound.holds) token.0
 
 -- the depth says whether a bracket is open
@@ -155,7 +155,7 @@ module _ (old new : Scan) (done : List Piece) (held read : List ℕ) (c : ℕ) (
         record {
           next = scanned done modes.Fielded (held ++ c ∷ []);
           goes = ap (moved s c) move;
-          tallies = tallies_of (counts_read old new.fields s c modes.Fielded tallies) (goes.next, string_more held c i.state i.steps ∙ goes.goes, goes.follows);
+          tallies = record { counts = counts_read old new.fields s c modes.Fielded tallies; fields = (goes.next, string_more held c i.state i.steps ∙ goes.goes, goes.follows) };
           stacked = stacked;
           one_line = none;
         },
@@ -187,7 +187,7 @@ takes_fielded old new done m held read c r is sound none tallies stacked takes =
 
 -- what the code's mode says of the machine, where no string with fields holds something
 pub met_so : (old : Scan) (s : Scanned) (c : ℕ) (v : Move) → (old.piece.mode ≡ modes.Fielded → ⊥) → Tallies old s → v ≡ meet_of old.piece.mode c → move_at s c ≡ v
-met_so old s c v other tallies is = meets s.mode (depth_through 0 s.done) s.held c (λ here. other (tallies.mode ∙ here)) ∙ ap (λ m. meet_of m c) (sym tallies.mode) ∙ sym is
+met_so old s c v other tallies is = meets s.mode (depth_through 0 s.done) s.held c (λ here. other (tallies.counts.mode ∙ here)) ∙ ap (λ m. meet_of m c) (sym tallies.counts.mode) ∙ sym is
 
 -- LF after CR
 return_feeds : (c : ℕ) → meet_of modes.Return c ≡ moves.Closes → is_line_feed c ≡ true
@@ -225,24 +225,26 @@ tallies_standing : (mid new : Scan) (pieces : List Piece) (c : ℕ) (class : Cla
 tallies_standing mid new pieces c class k rest token kinds no_space unmarked fit tallies stands =
     let p : Piece = piece class (c ∷ []) in
     let spells = spelled-push pieces class (c ∷ []) in
-    let before : mid.stop ≡ byte_len (spelled pieces) = tallies.stop ∙ ap byte_len (append-nil (spelled pieces)) in
+    let before : mid.stop ≡ byte_len (spelled pieces) = tallies.counts.stop ∙ ap byte_len (append-nil (spelled pieces)) in
     let stop : mid.stop + len_utf8 c ≡ byte_len (spelled pieces ++ c ∷ []) = ap (λ (n : ℕ). n + len_utf8 c) before ∙ sym (byte_len-push (spelled pieces) c) in
-    let counted = counted_push mid.line mid.count (spelled pieces ++ []) c (record { here = tallies.here; after = tallies.after }) in
+    let counted = counted_push mid.line mid.count (spelled pieces ++ []) c (record { here = tallies.counts.here; after = tallies.counts.after }) in
     let whole : (spelled pieces ++ []) ++ c ∷ [] ≡ spelled (pieces ++ p ∷ []) = ap (λ t. t ++ c ∷ []) (append-nil (spelled pieces)) ∙ sym spells in
     let here : (count_with mid.count c).line ≡ mid.line + line_ends (spelled (pieces ++ p ∷ [])) = counted.here ∙ ap (λ t. mid.line + line_ends t) whole in
     let in_line : tokens_from 0 mid.line (pieces ++ p ∷ []) ≡ tokens_from 0 mid.line pieces ++ tokens_of_piece (byte_len (spelled pieces)) (byte_len (spelled pieces) + len_utf8 c) (mid.line + line_ends (spelled pieces)) class (c ∷ [])
     = tokens_push mid.line pieces p rest fit ∙ rw (byte_len-one c) refl in
     subst (λ (s : Scan). Tallies s (fresh (pieces ++ p ∷ []))) (sym stands.same) (record {
-      mode = refl;
-      start = stop ∙ ap byte_len (sym spells);
-      stop = stop ∙ ap byte_len (sym spells ∙ sym (append-nil _));
-      piece_line = here;
-      here = here ∙ ap (λ t. mid.line + line_ends t) (sym (append-nil _));
-      after = counted.after ∙ ap (ends is_return) (whole ∙ sym (append-nil _));
-      margin = sym (margin_push pieces p unmarked);
-      indent = tallies.indent ∙ sym (indent_other pieces p no_space);
-      kind = ap (λ u. kind_through u k) tallies.kind ∙ sym kinds;
-      tokens = stands.tokens ∙ rw (tallies.tokens, tallies.start, before, tallies.piece_line) (ap (λ l. tokens_from 0 mid.line pieces ++ l) (sym (token _ _ _)) ∙ sym in_line);
+      counts = record {
+        mode = refl;
+        start = stop ∙ ap byte_len (sym spells);
+        stop = stop ∙ ap byte_len (sym spells ∙ sym (append-nil _));
+        piece_line = here;
+        here = here ∙ ap (λ t. mid.line + line_ends t) (sym (append-nil _));
+        after = counted.after ∙ ap (ends is_return) (whole ∙ sym (append-nil _));
+        margin = sym (margin_push pieces p unmarked);
+        indent = tallies.counts.indent ∙ sym (indent_other pieces p no_space);
+        kind = ap (λ u. kind_through u k) tallies.counts.kind ∙ sym kinds;
+        tokens = stands.tokens ∙ rw (tallies.counts.tokens, tallies.counts.start, before, tallies.counts.piece_line) (ap (λ l. tokens_from 0 mid.line pieces ++ l) (sym (token _ _ _)) ∙ sym in_line);
+      };
       fields = tt;
     })
 
@@ -284,10 +286,10 @@ module _ (old new : Scan) (done : List Piece) (m : Mode) (held read : List ℕ) 
   closed_stack = stack_closed m done held (stack_of old.brackets) stacked
 
   closed_line : EndsNoLine 0 (closed m done held)
-  closed_line = closed_one_line m done held (stack_of old.brackets) stacked none (return_breaks m c (stack_of old.brackets) breaks (ap (λ (n : Mode). (is_return_mode n && none_open (stack_of old.brackets)) && not (is_line_feed c)) (sym tallies.mode) ∙ not_yet))
+  closed_line = closed_one_line m done held (stack_of old.brackets) stacked none (return_breaks m c (stack_of old.brackets) breaks (ap (λ (n : Mode). (is_return_mode n && none_open (stack_of old.brackets)) && not (is_line_feed c)) (sym tallies.counts.mode) ∙ not_yet))
 
   place : old.stop ≡ byte_len (spelled (closed m done held))
-  place = tallies.stop ∙ ap byte_len (sym (closed_text m done held sound.holds))
+  place = tallies.counts.stop ∙ ap byte_len (sym (closed_text m done held sound.holds))
 
   operator_stack : brackets_of (closed m done held ++ piece operator (c ∷ []) ∷ []) ≡ brackets_after (stack_of old.brackets) old.stop (piece operator (c ∷ []))
   operator_stack = stack_push (closed m done held) (piece operator (c ∷ [])) (stack_of old.brackets) closed_stack ∙ ap (λ (n : ℕ). brackets_after (stack_of old.brackets) n (piece operator (c ∷ []))) (sym place)
@@ -310,7 +312,7 @@ module _ (old new : Scan) (done : List Piece) (m : Mode) (held read : List ℕ) 
   takes_operator : (r : Result Progress AllocError) → start_of c ≡ starts.Operator → Operates old c r new → Takes old (scanned done m held) c r new
   takes_operator (Ok progress.Going) starts_as (met, is, adds) =
       let fit = AreReadBefore-first (closed m done held) (piece operator (c ∷ []) ∷ []) [] ((next_sound starts.Operator starts_as).fit []) in
-      let shut = closes_shut (with_brackets old met) adds.mid done m held read adds.closes sound (tallies_in old (scanned done m held) old.piece.mode m met tallies.mode tallies tallies.fields) in (
+      let shut = closes_shut (with_brackets old met) adds.mid done m held read adds.closes sound (tallies_in old (scanned done m held) old.piece.mode m met tallies.counts.mode tallies tallies.fields) in (
         record {
           next = fresh (closed m done held ++ piece operator (c ∷ []) ∷ []);
           goes = goes_as starts.Operator starts_as;

@@ -17,9 +17,9 @@ use Rattle.py_lines.specs.declared.mode.Spelling.TheVariants as spellings
 use Rattle.py_lines.specs.declared.mode.Mode.{Mode}
 use Rattle.py_lines.specs.declared.mode.Mode.TheVariants as modes
 use Rattle.py_lines.specs.declared.scan.Scan.{Scan}
-use Rattle.py_lines.specs.Private.Machine.{Scanned, fresh, class_of, closed, token_of, brackets_of}
+use Rattle.py_lines.specs.Private.Machine.{fresh, class_of, closed, token_of, brackets_of}
 use Rattle.py_lines.specs.Private.ScanMachine.{HoldsOpen, IsScanSound}
-use Rattle.py_lines.specs.Private.Scan.{kind_with, tokens_with, kind_closed, indent_closed, holds_nothing, is_margin, Closes, ClosesAndAdds, FieldsFollow, Tallies, freed, with_character}
+use Rattle.py_lines.specs.Private.Scan.{Counts, kind_with, tokens_with, kind_closed, indent_closed, holds_nothing, is_margin, Closes, ClosesAndAdds, Tallies, freed, with_character}
 use Rattle.py_lines.proofs.Pieces.PieceLists.{piece, spelled-push}
 use Rattle.py_lines.proofs.Machine.WordTokens.{word_token}
 use Rattle.py_lines.proofs.Machine.PieceSteps.{scanned}
@@ -152,44 +152,27 @@ tokens_push line done p rest fit =
     tokens_from-append 0 line done (p ∷ [])
     ∙ rw (zero-add (byte_len (spelled done)), sym (line_ends-spelled done rest fit)) (ap (λ l. tokens_from 0 line done ++ l) (append-nil _))
 
--- what the scan counts, where the machine with fields may be elsewhere
-pub record Counts (scan : Scan) (s : Scanned) : Type 0 where
-  pub mode : scan.piece.mode ≡ s.mode
-  pub start : scan.piece.start ≡ byte_len (spelled s.done)
-  pub stop : scan.stop ≡ byte_len (spelled s.done ++ s.held)
-  pub piece_line : scan.piece.line ≡ scan.line + line_ends (spelled s.done)
-  pub here : scan.count.line ≡ scan.line + line_ends (spelled s.done ++ s.held)
-  pub after : scan.count.after_return ≡ ends is_return (spelled s.done ++ s.held)
-  pub margin : scan.margin ≡ is_margin s.done
-  pub indent : scan.indent ≡ indent_of s.done
-  pub kind : scan.kind ≡ kind_of s.done
-  pub tokens : scan.tokens.items ≡ tokens_from 0 scan.line s.done
-
-pub counts : {scan : Scan} {s : Scanned} → Tallies scan s → Counts scan s
-counts t = record { mode = t.mode; start = t.start; stop = t.stop; piece_line = t.piece_line; here = t.here; after = t.after; margin = t.margin; indent = t.indent; kind = t.kind; tokens = t.tokens }
-
-pub tallies_of : {scan : Scan} {s : Scanned} → Counts scan s → FieldsFollow scan s.mode s.held → Tallies scan s
-tallies_of t fields = record { mode = t.mode; start = t.start; stop = t.stop; piece_line = t.piece_line; here = t.here; after = t.after; margin = t.margin; indent = t.indent; kind = t.kind; tokens = t.tokens; fields = fields }
-
 -- the scan follows where the open piece is closed, with the token of its class
 pub shut_as : (old new : Scan) (done : List Piece) (m : Mode) (held rest : List ℕ) → Closes old new → AreReadBefore done rest → Counts old (scanned done m held) → ((start stop line : ℕ) → tokens_of_piece start stop line (class_of m) held ≡ tokens_with (token_of m) start stop line) → (m ≡ modes.Start → done ≡ []) → (m ≡ modes.Free → ⊥) → Tallies new (fresh (done ++ piece (class_of m) held ∷ []))
-shut_as old new done m held rest closes fit tallies token starts other =
+shut_as old new done m held rest closes fit counts token starts other =
     let spells = spelled-push done (class_of m) held in
     let whole : spelled done ++ held ≡ spelled (done ++ piece (class_of m) held ∷ []) ++ [] = sym (append-nil _ ∙ spells) in
-    let size : old.stop - old.piece.start ≡ byte_len held = omega (arith, tallies.start, tallies.stop, byte_len-append (spelled done) held) in
+    let size : old.stop - old.piece.start ≡ byte_len held = omega (arith, counts.start, counts.stop, byte_len-append (spelled done) held) in
     let in_line : tokens_from 0 old.line (done ++ piece (class_of m) held ∷ []) ≡ tokens_from 0 old.line done ++ tokens_of_piece (byte_len (spelled done)) (byte_len (spelled done ++ held)) (old.line + line_ends (spelled done)) (class_of m) held
     = tokens_push old.line done (piece (class_of m) held) rest fit ∙ rw (sym (byte_len-append (spelled done) held)) refl in
     subst (λ (s : Scan). Tallies s (fresh (done ++ piece (class_of m) held ∷ []))) (sym closes.same) (record {
-      mode = refl;
-      start = tallies.stop ∙ ap byte_len (sym spells);
-      stop = tallies.stop ∙ ap byte_len whole;
-      piece_line = tallies.here ∙ ap (λ t. old.line + line_ends t) (sym spells);
-      here = tallies.here ∙ ap (λ t. old.line + line_ends t) whole;
-      after = tallies.after ∙ ap (ends is_return) whole;
-      margin = rw (tallies.margin, tallies.mode) (sym (margin_shut m done held starts other));
-      indent = rw (size, tallies.indent, tallies.mode, tallies.margin) (sym (indent_shut m done held other));
-      kind = rw (tallies.kind, tallies.mode) (sym (kind_shut done m held other));
-      tokens = closes.tokens ∙ rw (tallies.tokens, tallies.mode, tallies.start, tallies.stop, tallies.piece_line) (ap (λ l. tokens_from 0 old.line done ++ l) (sym (token _ _ _)) ∙ sym in_line);
+      counts = record {
+        mode = refl;
+        start = counts.stop ∙ ap byte_len (sym spells);
+        stop = counts.stop ∙ ap byte_len whole;
+        piece_line = counts.here ∙ ap (λ t. old.line + line_ends t) (sym spells);
+        here = counts.here ∙ ap (λ t. old.line + line_ends t) whole;
+        after = counts.after ∙ ap (ends is_return) whole;
+        margin = rw (counts.margin, counts.mode) (sym (margin_shut m done held starts other));
+        indent = rw (size, counts.indent, counts.mode, counts.margin) (sym (indent_shut m done held other));
+        kind = rw (counts.kind, counts.mode) (sym (kind_shut done m held other));
+        tokens = closes.tokens ∙ rw (counts.tokens, counts.mode, counts.start, counts.stop, counts.piece_line) (ap (λ l. tokens_from 0 old.line done ++ l) (sym (token _ _ _)) ∙ sym in_line);
+      };
       fields = tt;
     })
 
@@ -198,16 +181,18 @@ shut_nothing : (old new : Scan) (done : List Piece) (m : Mode) (held : List ℕ)
 shut_nothing old new done m held closes tallies none nothing token same indents =
     let whole : spelled done ++ held ≡ spelled done ++ [] = ap (λ t. spelled done ++ t) none in
     subst (λ (s : Scan). Tallies s (fresh done)) (sym closes.same) (record {
-      mode = refl;
-      start = tallies.stop ∙ ap byte_len (whole ∙ append-nil _);
-      stop = tallies.stop ∙ ap byte_len whole;
-      piece_line = tallies.here ∙ ap (λ t. old.line + line_ends t) (whole ∙ append-nil _);
-      here = tallies.here ∙ ap (λ t. old.line + line_ends t) whole;
-      after = tallies.after ∙ ap (ends is_return) whole;
-      margin = rw (tallies.margin, tallies.mode, nothing) (all_true (is_margin done));
-      indent = rw (tallies.indent, tallies.mode) (indents _ _ _);
-      kind = rw (tallies.kind, tallies.mode) same;
-      tokens = closes.tokens ∙ rw (tallies.mode, token) (append-nil _ ∙ tallies.tokens);
+      counts = record {
+        mode = refl;
+        start = tallies.counts.stop ∙ ap byte_len (whole ∙ append-nil _);
+        stop = tallies.counts.stop ∙ ap byte_len whole;
+        piece_line = tallies.counts.here ∙ ap (λ t. old.line + line_ends t) (whole ∙ append-nil _);
+        here = tallies.counts.here ∙ ap (λ t. old.line + line_ends t) whole;
+        after = tallies.counts.after ∙ ap (ends is_return) whole;
+        margin = rw (tallies.counts.margin, tallies.counts.mode, nothing) (all_true (is_margin done));
+        indent = rw (tallies.counts.indent, tallies.counts.mode) (indents _ _ _);
+        kind = rw (tallies.counts.kind, tallies.counts.mode) same;
+        tokens = closes.tokens ∙ rw (tallies.counts.mode, token) (append-nil _ ∙ tallies.counts.tokens);
+      };
       fields = tt;
     })
   where
@@ -219,7 +204,7 @@ shut_nothing old new done m held closes tallies none nothing token same indents 
 pub closes_shut : (old new : Scan) (done : List Piece) (m : Mode) (held read : List ℕ) → Closes old new → IsScanSound (scanned done m held) read → Tallies old (scanned done m held) → Tallies new (fresh (closed m done held))
 closes_shut old new done modes.Start held read closes sound tallies = shut_nothing old new done modes.Start held closes tallies sound.holds.1 refl refl refl (λ a b c. refl)
 closes_shut old new done modes.Free held read closes sound tallies = shut_nothing old new done modes.Free held closes tallies sound.holds refl refl refl (λ a b c. refl)
-closes_shut old new done m held read closes sound tallies = shut_as old new done m held (held ++ []) closes (sound.fit []) (counts tallies) (λ start stop line. class_token m done held start stop line sound.holds (λ e. cc)) (λ e. absurd (cc)) (λ e. cc)
+closes_shut old new done m held read closes sound tallies = shut_as old new done m held (held ++ []) closes (sound.fit []) tallies.counts (λ start stop line. class_token m done held start stop line sound.holds (λ e. cc)) (λ e. absurd (cc)) (λ e. cc)
 
 -- the closed pieces spell what is read
 pub closed_text : (m : Mode) (done : List Piece) (held : List ℕ) → HoldsOpen m done held → spelled (closed m done held) ≡ spelled done ++ held

@@ -18,7 +18,7 @@ use Rattle.py_lines.specs.declared.mode.Move.TheVariants as moves
 use Rattle.py_lines.specs.declared.scan.Scan.{Scan}
 use Rattle.py_lines.specs.Private.Machine.{Scanned, move_of, short_move, long_move, spelling_with, IsFull}
 use Rattle.py_lines.specs.Private.ScanMachine.{HoldsOpen, IsScanSound, fielded_move, meet_of, move_in, scan_steps, string_state}
-use Rattle.py_lines.specs.Private.Scan.{FieldsFollow, Tallies, IsStacked, depth_of, IsUnderWay, line_start, stack_of, counts_after, Takes}
+use Rattle.py_lines.specs.Private.Scan.{Counts, FieldsFollow, Tallies, IsStacked, depth_of, IsUnderWay, line_start, stack_of, counts_after, Takes}
 use Rattle.py_lines.specs.Balance.{depth_through}
 use Rattle.py_lines.specs.Private.FieldMachine.{FieldScanned}
 use Rattle.py_lines.specs.Private.FieldScan.{GoesOn, HoldsField}
@@ -27,7 +27,6 @@ use Rattle.unicode_ident.proofs.IdentLemmas.{is_xid_continue-ascii, is_xid_start
 use Rattle.py_lines.proofs.Text.CharacterTests.{none_of, excluded}
 use Rattle.py_lines.proofs.LineScan.Increments.{line_ends-step}
 use Rattle.py_lines.proofs.LineScan.LineCount.{ends-last}
-use Rattle.py_lines.proofs.LineScan.PieceEnd.{Counts, tallies_of}
 use Rattle.py_lines.proofs.LineScan.StringSteps.{in_string, string_more}
 use Rattle.py_lines.proofs.LineScan.LineSteps.{sound_steps, under_way}
 use Rattle.py_lines.specs.declared.scan.Progress.TheVariants as progress
@@ -251,16 +250,16 @@ pub counts_run : (old : Scan) (s : Scanned) (run : List ℕ) → list_all (λ d.
 counts_run old s run all full tallies =
     let longer : (spelled s.done ++ s.held) ++ run ≡ spelled s.done ++ (s.held ++ run) = append_assoc (spelled s.done) s.held run in
     record {
-      mode = tallies.mode;
-      start = tallies.start;
-      stop = ap (λ (n : ℕ). n + byte_len run) tallies.stop ∙ sym (byte_len-append (spelled s.done ++ s.held) run) ∙ ap byte_len longer;
-      piece_line = tallies.piece_line;
-      here = tallies.here ∙ ap (λ (n : ℕ). old.line + n) (sym (line_ends-run (spelled s.done ++ s.held) run all) ∙ ap line_ends longer);
+      mode = tallies.counts.mode;
+      start = tallies.counts.start;
+      stop = ap (λ (n : ℕ). n + byte_len run) tallies.counts.stop ∙ sym (byte_len-append (spelled s.done ++ s.held) run) ∙ ap byte_len longer;
+      piece_line = tallies.counts.piece_line;
+      here = tallies.counts.here ∙ ap (λ (n : ℕ). old.line + n) (sym (line_ends-run (spelled s.done ++ s.held) run all) ∙ ap line_ends longer);
       after = sym (ends-run (spelled s.done ++ s.held) run full all) ∙ ap (ends is_return) longer;
-      margin = tallies.margin;
-      indent = tallies.indent;
-      kind = tallies.kind;
-      tokens = tallies.tokens;
+      margin = tallies.counts.margin;
+      indent = tallies.counts.indent;
+      kind = tallies.counts.kind;
+      tokens = tallies.counts.tokens;
     }
 
 -- a string with fields that goes on over a run
@@ -304,12 +303,12 @@ way_held m old new read text rest way start holds =
     })
     (λ some.
     let s = way.state in
-    let stay : Stay s.mode old holds.run = subst (λ (n : Mode). Stay n old holds.run) way.tallies.mode holds.stay in
+    let stay : Stay s.mode old holds.run = subst (λ (n : Mode). Stay n old holds.run) way.tallies.counts.mode holds.stay in
     let on = runs_on old s.done s.mode s.held read holds.run (sound_steps m read s start way.steps) way.tallies way.stacked stay in
     record {
       state = scanned s.done s.mode (s.held ++ holds.run);
       steps = scan_steps-append (Some (line_start m)) read holds.run ∙ ap (λ o. scan_steps o holds.run) way.steps ∙ on.steps;
-      tallies = subst (λ (n : Scan). Tallies n (scanned s.done s.mode (s.held ++ holds.run))) (sym some.1) (tallies_of (counts_run old s holds.run on.none some.0 way.tallies) on.fields);
+      tallies = subst (λ (n : Scan). Tallies n (scanned s.done s.mode (s.held ++ holds.run))) (sym some.1) (record { counts = counts_run old s holds.run on.none some.0 way.tallies; fields = on.fields });
       stacked = way.stacked ∙ ap (λ (n : Scan). Some (stack_of n.brackets)) (sym some.1);
       one_line = way.one_line;
     }) holds.reads
@@ -326,7 +325,7 @@ reached_run m at text old new mid rest r start holds = record {
 
 -- the mode's quote is one byte on the way
 pub way_quote : (m : Mode) (scan : Scan) (read : List ℕ) (way : IsUnderWay m scan read) → IsScanSound (line_start m) [] → HasAsciiQuote scan.piece.mode
-way_quote m scan read way start = subst HasAsciiQuote (sym way.tallies.mode) (sound_quote way.state.mode way.state.done way.state.held (sound_steps m read way.state start way.steps).holds)
+way_quote m scan read way start = subst HasAsciiQuote (sym way.tallies.counts.mode) (sound_quote way.state.mode way.state.done way.state.held (sound_steps m read way.state start way.steps).holds)
 
 -- and over a character
 pub reached_character : (m : Mode) (at : ℕ) (text : List ℕ) (old new : Scan) (before rest : List ℕ) (c : ℕ) (r : Reached m at text old before) → IsScalar c → before ≡ encode_utf8 c ++ rest → Takes old r.way.state c (Ok progress.Going) new → Reached m at text new rest

@@ -33,14 +33,14 @@ use Rattle.py_lines.specs.Private.Machine.{fresh, closed, moved, started, token_
 use Rattle.py_lines.specs.Private.ScanMachine.{IsScanSound, meet_of, move_in, scan_steps}
 use Rattle.py_lines.specs.Balance.{depth_through}
 use Rattle.py_lines.specs.Private.Scan.{Closes, Meets, Begins, ClosesAndAdds, Tallies, line_start, stack_of, none_open, is_return_mode, indent_closed, with_brackets, tokens_with, kind_through, in_mode, counts_after, freed, closed_with, with_character}
-use Rattle.py_lines.specs.Private.Run.{IsRunOf, is_ascii_word, may_stand, follows, is_free, word_spelling, word_mode, space_mode, opened, with_bytes, AddsToken, TakesRun, TakesOperator, Reached, ReachedShut, is_apart, may_begin, is_text_byte, is_body_byte, IsWholeText, TakesString}
+use Rattle.py_lines.specs.Private.Run.{IsRunOf, is_ascii_word, may_stand, follows, is_free, word_spelling, word_mode, space_mode, opened, with_bytes, AddsToken, TakesRun, TakesOperator, Reached, ReachedShut, is_apart, may_begin, is_text_byte, is_body_byte, IsWholePlainString, TakesString}
 use Rattle.py_lines.proofs.Text.CharacterTests.{operator_ascii, none_of, the_one}
 use Rattle.py_lines.proofs.Machine.PieceSteps.{scanned}
 use Rattle.py_lines.proofs.ScanMachine.Steps.{scan_steps-append, steps_word, steps_space, grown, breaks_in}
 use Rattle.py_lines.proofs.Machine.Starts.{start-word, start-space, start-operator, start-quote}
 use Rattle.py_lines.proofs.Machine.WordTokens.{word_token}
 use Rattle.py_lines.proofs.Machine.LiveTexts.{stack_closed}
-use Rattle.py_lines.proofs.LineScan.PieceEnd.{closes_shut, tallies_of, to_code}
+use Rattle.py_lines.proofs.LineScan.PieceEnd.{closes_shut, to_code}
 use Rattle.py_lines.proofs.LineScan.StringSteps.{no_fields}
 use Rattle.py_lines.proofs.LineScan.NextCharacter.{closed_one_line, takes_broken, takes_closed, tallies_in}
 use Rattle.py_lines.proofs.LineScan.LineSteps.{sound_steps}
@@ -223,11 +223,11 @@ opens_reached m at text scan c cs after first last meet start opens steps plain 
     let read = meet.reached.read in
     let sound = sound_steps m read s start way.steps in
     let pieces = closed s.mode s.done s.held in
-    let breaks : meet_of s.mode c ≡ moves.Breaks = ap (λ n. meet_of n c) (sym way.tallies.mode) ∙ meet.breaks in
+    let breaks : meet_of s.mode c ≡ moves.Breaks = ap (λ n. meet_of n c) (sym way.tallies.counts.mode) ∙ meet.breaks in
     let shut : Tallies (settled scan) (fresh pieces) = closes_shut meet.unshut (settled scan) s.done s.mode s.held read meet.closes sound way.tallies in
     let size : byte_len (c ∷ cs) ≡ length (c ∷ cs) = ap length low.0 in
     let read_all : Tallies (with_bytes (settled scan) (length (c ∷ cs))) (scanned pieces modes.Free (c ∷ cs))
-    = subst (λ (n : ℕ). Tallies (with_bytes (settled scan) n) (scanned pieces modes.Free (c ∷ cs))) size (tallies_of (counts_run (settled scan) (fresh pieces) (c ∷ cs) all tt shut) tt) in
+    = subst (λ (n : ℕ). Tallies (with_bytes (settled scan) n) (scanned pieces modes.Free (c ∷ cs))) size (record { counts = counts_run (settled scan) (fresh pieces) (c ∷ cs) all tt shut; fields = tt }) in
     let stepped : scan_steps (Some (line_start m)) (read ++ c ∷ cs) ≡ Some (scanned pieces last (c ∷ cs))
     = scan_steps-append (Some (line_start m)) read (c ∷ cs) ∙ ap (λ o. scan_steps o (c ∷ cs)) way.steps
     ∙ ap (λ v. scan_steps (moved s c v) cs) (breaks_in s.mode (depth_through 0 s.done) s.held c breaks) ∙ ap (λ st. scan_steps (started pieces c st) cs) opens ∙ steps pieces in
@@ -238,7 +238,7 @@ opens_reached m at text scan c cs after first last meet start opens steps plain 
         steps = stepped;
         tallies = tallies_in (with_bytes (settled scan) (length (c ∷ cs))) (scanned pieces modes.Free (c ∷ cs)) last last scan.brackets refl read_all (no_fields (with_bytes (settled scan) (length (c ∷ cs))) last (c ∷ cs) plain);
         stacked = stack_closed s.mode s.done s.held (stack_of meet.unshut.brackets) way.stacked ∙ ap (λ (x : Scan). Some (stack_of x.brackets)) (sym meet.closes.same);
-        one_line = closed_one_line s.mode s.done s.held (stack_of meet.unshut.brackets) way.stacked way.one_line (λ is. absurd (both_ways _ meet.unreturned (ap is_return_mode (way.tallies.mode ∙ is))));
+        one_line = closed_one_line s.mode s.done s.held (stack_of meet.unshut.brackets) way.stacked way.one_line (λ is. absurd (both_ways _ meet.unreturned (ap is_return_mode (way.tallies.counts.mode ∙ is))));
       };
       spell = ap (λ t. t ++ after) (encodes-append read (c ∷ cs)) ∙ append_assoc (encode_utf8_all read) (encode_utf8_all (c ∷ cs)) after ∙ ap (λ t. encode_utf8_all read ++ (t ++ after)) low.0 ∙ meet.reached.spell;
       scalars = all_scalars-append read (c ∷ cs) meet.reached.scalars low.1;
@@ -393,7 +393,7 @@ operator_reached m at text scan new bytes len free r start takes =
     let way = meet.reached.way in
     let s = way.state in
     let before = meet.unshut in
-    let breaks : meet_of s.mode c ≡ moves.Breaks = ap (λ n. meet_of n c) (sym way.tallies.mode) ∙ meet.breaks in
+    let breaks : meet_of s.mode c ≡ moves.Breaks = ap (λ n. meet_of n c) (sym way.tallies.counts.mode) ∙ meet.breaks in
     let not_yet : (is_return_mode before.piece.mode && none_open (stack_of before.brackets)) && not (is_line_feed c) ≡ false = ap (λ (b : Bool). (b && none_open (stack_of before.brackets)) && not (is_line_feed c)) meet.unreturned in
     let stands : brackets_after (stack_of before.brackets) before.stop (piece operator (c ∷ [])) ≡ Some (stack_of takes.met)
     = ap (λ (x : Scan). brackets_after (stack_of x.brackets) x.stop (piece operator (c ∷ []))) (sym meet.closes.same) ∙ takes.stands in
@@ -459,7 +459,7 @@ string_reached m at text scan new bytes len free r start takes =
     let s = way.state in
     let size : n + 1 ≡ len = omega (arith, takes.whole.size) in
     let closes : Closes (opened scan (modes.Inside q) (n + 1)) new = subst (λ (k : ℕ). Closes (opened scan (modes.Inside q) k) new) (sym size) (token_closes scan new (modes.Inside q) kind.Str len refl refl (λ e. cc) takes.adds) in
-    let took = takes_closed (opened scan (modes.Inside q) n) new s inside.read q (ap (λ k. move_in k (depth_through 0 s.done) s.held q) (sym way.tallies.mode) ∙ inside_closes q) (inside_other s.mode q way.tallies.mode) (sound_steps m inside.read s start way.steps) way.tallies way.stacked way.one_line (subst (λ (x : Scan). Closes x new) (quote_reads scan q n takes.whole.quote) closes) in
+    let took = takes_closed (opened scan (modes.Inside q) n) new s inside.read q (ap (λ k. move_in k (depth_through 0 s.done) s.held q) (sym way.tallies.counts.mode) ∙ inside_closes q) (inside_other s.mode q way.tallies.counts.mode) (sound_steps m inside.read s start way.steps) way.tallies way.stacked way.one_line (subst (λ (x : Scan). Closes x new) (quote_reads scan q n takes.whole.quote) closes) in
     let spelled_so : q ∷ takes.whole.after ≡ encode_utf8 q ++ takes.whole.after = sym (ap (λ t. t ++ takes.whole.after) (encode_ascii q (quote_ascii q takes.whole.quote))) in
     let all_size : length (q ∷ run ++ q ∷ []) ≡ len = omega (arith, takes.whole.size, length-append run (q ∷ [])) in
     let dropped : drop len bytes ≡ takes.whole.after = ap (drop len) (sym takes.whole.spell ∙ ap (λ t. q ∷ t) (sym (append_assoc run (q ∷ []) takes.whole.after))) ∙ ap (λ (k : ℕ). drop k ((q ∷ run ++ q ∷ []) ++ takes.whole.after)) (sym all_size) ∙ drop-append_seam (q ∷ run ++ q ∷ []) takes.whole.after in
@@ -471,7 +471,7 @@ split_at [] n within = absurd (omega (arith, within))
 split_at (b ∷ bs) zero within = refl
 split_at (b ∷ bs) (suc n) within = ap (λ t. b ∷ t) (split_at bs n (omega (arith, within)))
 
-pub text_whole : (bytes : List ℕ) (q n : ℕ) → begins is_quote bytes ≡ true → q ≡ slice_index bytes 0 → IsRunOf (is_text_byte q) (drop 1 bytes) n → 0 < n → n < length (drop 1 bytes) → slice_index (drop 1 bytes) n ≡ q → IsWholeText bytes (n + 2)
+pub text_whole : (bytes : List ℕ) (q n : ℕ) → begins is_quote bytes ≡ true → q ≡ slice_index bytes 0 → IsRunOf (is_text_byte q) (drop 1 bytes) n → 0 < n → n < length (drop 1 bytes) → slice_index (drop 1 bytes) n ≡ q → IsWholePlainString bytes (n + 2)
 text_whole [] q n begins_so first run some within closing = absurd (both_ways _ refl begins_so)
 text_whole (b ∷ body) q n begins_so first run some within closing = record {
   q = q;
@@ -485,7 +485,7 @@ text_whole (b ∷ body) q n begins_so first run some within closing = record {
 }
 
 -- its length
-pub text_size : (bytes : List ℕ) (len : ℕ) → IsWholeText bytes len → (0 < len) × (len ≤ length bytes)
+pub text_size : (bytes : List ℕ) (len : ℕ) → IsWholePlainString bytes len → (0 < len) × (len ≤ length bytes)
 text_size bytes len is = (
   omega (arith, is.size),
   omega (arith, is.size, ap length is.spell, length-append is.run (is.q ∷ is.after)),

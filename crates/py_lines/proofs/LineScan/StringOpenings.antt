@@ -19,14 +19,14 @@ use Rattle.py_lines.specs.declared.scan.Progress.{Progress}
 use Rattle.py_lines.specs.declared.scan.Progress.TheVariants as progress
 use Rattle.py_lines.specs.declared.scan.Scan.{Scan}
 use Rattle.py_lines.specs.Private.Machine.{Scanned, moved, move_of, short_move, long_move}
-use Rattle.py_lines.specs.Private.FieldMachine.{between, FieldMode, opened, empty, body, FieldMove, grows, closes, breaks, begins_code, opens_field, ends_field, refused, FieldScanned, field_state, field_move, field_moved, field_step, body_move, between_move, long_host}
+use Rattle.py_lines.specs.Private.FieldMachine.{between, FieldMode, opened, empty, body, FieldMove, grows, breaks, FieldScanned, field_state, field_move, field_moved, field_step, body_move, between_move, long_host}
 use Rattle.py_lines.specs.Private.FieldScan.{FollowsBody}
 use Rattle.py_lines.specs.Private.ScanMachine.{begins_string, host_in, is_field_spelling, meet_of, opened_move, quote_move, IsScanSound, fielded_move}
 use Rattle.py_lines.specs.Private.Scan.{Tallies, IsStacked, EndsNoLine, StandsInString, GoesOnInString, TakesInString, Takes, in_mode, with_character, with_field_scan, depth_of}
+use Rattle.py_lines.proofs.FieldMachine.StringRuns.{moved_between}
 use Rattle.py_lines.proofs.LogicalLines.Cuts.{byte_len-append}
 use Rattle.py_lines.proofs.Machine.PieceSteps.{scanned}
 use Rattle.py_lines.proofs.LineScan.NextCharacter.{counts_read}
-use Rattle.py_lines.proofs.LineScan.PieceEnd.{tallies_of}
 use Rattle.py_lines.proofs.LineScan.StringSteps.{string_grows, string_more}
 
 -- after another piece no string with fields holds something at once
@@ -88,20 +88,11 @@ body_grows host c other none =
     (λ _. cond_both (c == byte "}") _ _ Grown (λ _. (_, refl)) (λ _. (_, refl)))))
 
 -- the machine with fields goes on as from the body of the string
-as_body : (host : Host) (held : List ℕ) (c : ℕ) (v : FieldMove) → field_moved (field_state [] [] [] (opened host) held) c v ≡ field_moved (field_state [] [] [] (body host literal false between) held) c v
-as_body host held c (grows m) = refl
-as_body host held c closes = refl
-as_body host held c breaks = refl
-as_body host held c (begins_code h) = refl
-as_body host held c (opens_field h) = refl
-as_body host held c ends_field = refl
-as_body host held c refused = refl
-
 pub opened_as_body : (host : Host) (held : List ℕ) (c : ℕ) → c == host.quote ≡ false → field_step (field_state [] [] [] (opened host) held) c ≡ field_step (field_state [] [] [] (body host literal false between) held) c
 unfolding field_move
 opened_as_body host held c other =
     ap (λ b. field_moved (field_state [] [] [] (opened host) held) c (if b then grows (empty host) else body_move host literal false between c)) other
-    ∙ as_body host held c (body_move host literal false between c)
+    ∙ moved_between [] [] [] host held c (body_move host literal false between c)
 
 module _ (old new : Scan) (f : FieldScan) (done : List Piece) (held read : List ℕ) (c : ℕ) (none : EndsNoLine 0 done) where
   module _ (h : known.Host) (sound : IsScanSound (scanned done (modes.FieldOpened h) held) read) (tallies : Tallies old (scanned done (modes.FieldOpened h) held)) (stacked : IsStacked old (scanned done (modes.FieldOpened h) held)) (move : meet_of (modes.FieldOpened h) c ≡ moves.Grows modes.Fielded) (follows : FollowsBody f h old.piece.start) where
@@ -109,7 +100,7 @@ module _ (old new : Scan) (f : FieldScan) (done : List Piece) (held read : List 
     stands = record {
       follows = follows held;
       inside = λ at. (host_in h, literal, false, between, refl);
-      stop = tallies.stop ∙ byte_len-append (spelled done) held ∙ ap (λ n. n + byte_len held) (sym tallies.start);
+      stop = tallies.counts.stop ∙ byte_len-append (spelled done) held ∙ ap (λ n. n + byte_len held) (sym tallies.counts.start);
     }
 
     goes_so : fielded_move (depth_of old.brackets) (Some (field_state [] [] [] (body (host_in h) literal false between) held)) c ≡ moves.Grows modes.Fielded
@@ -126,7 +117,7 @@ module _ (old new : Scan) (f : FieldScan) (done : List Piece) (held read : List 
           record {
             next = scanned done modes.Fielded (held ++ c ∷ []);
             goes = ap (moved s c) move;
-            tallies = tallies_of (counts_read old new.fields s c modes.Fielded tallies) (goes.next, string_more held c _ sound.holds ∙ opened_as_body (host_in h) held c (first_of_body h c move).0 ∙ goes.goes, goes.follows);
+            tallies = record { counts = counts_read old new.fields s c modes.Fielded tallies; fields = (goes.next, string_more held c _ sound.holds ∙ opened_as_body (host_in h) held c (first_of_body h c move).0 ∙ goes.goes, goes.follows) };
             stacked = stacked;
             one_line = none;
           },
@@ -158,7 +149,7 @@ module _ (old new : Scan) (f : FieldScan) (done : List Piece) (held read : List 
           record {
             next = scanned done modes.Fielded (held ++ c ∷ []);
             goes = ap (moved s c) move;
-            tallies = tallies_of (counts_read old f s c modes.Fielded tallies) (_, string_more held c _ sound.holds ∙ third_quote, follows (held ++ c ∷ []));
+            tallies = record { counts = counts_read old f s c modes.Fielded tallies; fields = (_, string_more held c _ sound.holds ∙ third_quote, follows (held ++ c ∷ [])) };
             stacked = stacked;
             one_line = none;
           },

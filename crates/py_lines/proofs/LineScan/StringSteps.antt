@@ -76,7 +76,7 @@ in_string scan done held read sound tallies =
       stands = record {
         follows = tallies.fields.2;
         inside = subst IsInString one sound.holds.inside;
-        stop = tallies.stop ∙ byte_len-append (spelled done) held ∙ ap (λ n. n + byte_len held) (sym tallies.start) ∙ ap (λ n. scan.piece.start + n) (sym (here_at held t tallies.fields.1));
+        stop = tallies.counts.stop ∙ byte_len-append (spelled done) held ∙ ap (λ n. n + byte_len held) (sym tallies.counts.start) ∙ ap (λ n. scan.piece.start + n) (sym (here_at held t tallies.fields.1));
       };
     }
 

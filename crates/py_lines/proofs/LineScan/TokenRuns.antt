@@ -21,8 +21,8 @@ use Rattle.std.proofs.lemmas.Bool.{both_ways}
 use Rattle.py_lines.proofs.LineScan.FirstBytes.{alone_taken}
 use Rattle.py_lines.proofs.LineScan.ShortPieces.{free_is, operator_reached, operator_taken, space_closes, space_reached, string_reached, takes_run, takes_word, text_size, word_reached}
 use Rattle.py_lines.proofs.LineScan.WholeStrings.{fields_reached, string_size}
-use Rattle.py_lines.specs.Private.FieldText.{IsWholeString}
-use Rattle.py_lines.specs.Private.Run.{BeginsSo, HasAdded, IsWholeText, HasTaken, IsRunOf, LeadsTo, IsSpaceAfter, IsWholeWord, IsNextToken, MeetsToken, TakesSpace, AddsToken, coded, coded_if, follows, follows_space, is_ascii_word, is_free, may_begin, opened, space_mode}
+use Rattle.py_lines.specs.Private.FieldText.{IsWholeStringWithFields}
+use Rattle.py_lines.specs.Private.Run.{BeginsSo, HasAdded, IsWholePlainString, HasTaken, IsRunOf, LeadsTo, IsSpaceAfter, IsWholeWord, IsNextToken, MeetsToken, TakesSpace, AddsToken, coded, coded_if, follows, follows_space, is_ascii_word, is_free, may_begin, opened, space_mode}
 
 -- a run of at least one byte
 run_some : (passes : ℕ → Bool) (bytes : List ℕ) (len : ℕ) → IsRunOf passes bytes len → begins passes bytes ≡ true → 0 < len
@@ -92,7 +92,7 @@ bracket_met scan new place bytes met may room is begun meets so = (
 )
 
 -- a string
-pub text_met : (scan : Scan) (place : ℕ) (bytes : List ℕ) (len : ℕ) → IsWholeText bytes len → len + 1 < length bytes → MeetsToken scan place bytes (Ok (Some (kind.Str, len))) scan
+pub text_met : (scan : Scan) (place : ℕ) (bytes : List ℕ) (len : ℕ) → IsWholePlainString bytes len → len + 1 < length bytes → MeetsToken scan place bytes (Ok (Some (kind.Str, len))) scan
 text_met scan place bytes len whole short = (
   refl,
   (text_size bytes len whole).0,
@@ -102,7 +102,7 @@ text_met scan place bytes len whole short = (
 )
 
 -- a string with fields
-pub fields_met : (scan : Scan) (place : ℕ) (bytes : List ℕ) (len : ℕ) → IsWholeString bytes len → len + 1 < length bytes → depth_of scan.brackets ≤ 100 → MeetsToken scan place bytes (Ok (Some (kind.Str, len))) scan
+pub fields_met : (scan : Scan) (place : ℕ) (bytes : List ℕ) (len : ℕ) → IsWholeStringWithFields bytes len → len + 1 < length bytes → depth_of scan.brackets ≤ 100 → MeetsToken scan place bytes (Ok (Some (kind.Str, len))) scan
 fields_met scan place bytes len whole short room = (
   refl,
   (string_size bytes len whole).0,

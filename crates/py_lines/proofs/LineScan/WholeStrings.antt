@@ -23,7 +23,7 @@ use Rattle.py_lines.specs.Private.Machine.{Scanned, fresh, closed, moved, starte
 use Rattle.py_lines.specs.Private.FieldMachine as spots
 use Rattle.py_lines.specs.Private.FieldMachine.{between, body, grows, closes, FieldMove, Level, FieldScanned, field_state, field_text_start, field_move, field_step, field_moved, body_move, between_move, host_of, frames, has_room_at}
 use Rattle.py_lines.specs.Private.FieldScan.{GoesOn}
-use Rattle.py_lines.specs.Private.FieldText.{InText, IsWholeString, Leads}
+use Rattle.py_lines.specs.Private.FieldText.{InText, IsWholeStringWithFields, Leads}
 use Rattle.py_lines.specs.Private.ScanMachine.{IsScanSound, fielded_move, host_in, is_field_spelling, is_raw_spelling, meet_of, opened_move, quote_move, scan_step, scan_steps, string_state}
 use Rattle.py_lines.specs.Private.Scan.{Tallies, line_start, stack_of, is_return_mode, depth_of}
 use Rattle.py_lines.specs.Private.Run.{AddsToken, Reached, ReachedShut, TakesStringWithFields, opened, with_bytes}
@@ -44,7 +44,7 @@ use Rattle.py_lines.proofs.FieldScans.Runs.{goes_low}
 use Rattle.py_lines.proofs.FieldScans.Steps.{comes_closed}
 use Rattle.py_lines.proofs.LineScan.LineSteps.{sound_steps}
 use Rattle.py_lines.proofs.LineScan.NextCharacter.{closed_one_line, tallies_in}
-use Rattle.py_lines.proofs.LineScan.PieceEnd.{closes_shut, counts, shut_as, tallies_of}
+use Rattle.py_lines.proofs.LineScan.PieceEnd.{closes_shut, shut_as}
 use Rattle.py_lines.proofs.LineScan.Runs.{counts_run, quote_ascii, string_no_break, string_run}
 use Rattle.py_lines.proofs.LineScan.StringOpenings.{opened_as_body}
 use Rattle.py_lines.proofs.LineScan.StringSteps.{no_fields, string_more}
@@ -193,7 +193,7 @@ module _ (m : Mode) (at : ℕ) (text : List ℕ) (scan new : Scan) (c : ℕ) (cs
 
   first_step : scan_steps (Some (line_start m)) (read ++ c ∷ []) ≡ Some first
   first_step =
-      let breaks : meet_of state.mode c ≡ moves.Breaks = ap (λ n. meet_of n c) (sym meet.reached.way.tallies.mode) ∙ meet.breaks in
+      let breaks : meet_of state.mode c ≡ moves.Breaks = ap (λ n. meet_of n c) (sym meet.reached.way.tallies.counts.mode) ∙ meet.breaks in
       let letters_are = field_letters (c ∷ cs) begun in
       let same : letters_are.first ≡ c = cc letters_are.is in
       scan_steps-append (Some (line_start m)) read (c ∷ []) ∙ ap (λ o. scan_steps o (c ∷ [])) meet.reached.way.steps
@@ -213,11 +213,11 @@ module _ (m : Mode) (at : ℕ) (text : List ℕ) (scan new : Scan) (c : ℕ) (cs
         let shut : Tallies (settled scan) (fresh pieces) = closes_shut unread (settled scan) state.done state.mode state.held read meet.closes sound meet.reached.way.tallies in
         let bytes : byte_len whole ≡ len = ap length low.0 ∙ size in
         let passed : Tallies (with_bytes (settled scan) len) (scanned pieces modes.Free whole)
-        = subst (λ (n : ℕ). Tallies (with_bytes (settled scan) n) (scanned pieces modes.Free whole)) bytes (tallies_of (counts_run (settled scan) (fresh pieces) whole plain tt shut) tt) in
+        = subst (λ (n : ℕ). Tallies (with_bytes (settled scan) n) (scanned pieces modes.Free whole)) bytes (record { counts = counts_run (settled scan) (fresh pieces) whole plain tt shut; fields = tt }) in
         let inside : Tallies (opened scan (modes.Inside q) len) (scanned pieces (modes.Inside q) whole)
         = tallies_in (with_bytes (settled scan) len) (scanned pieces modes.Free whole) (modes.Inside q) (modes.Inside q) scan.brackets refl passed (no_fields (with_bytes (settled scan) len) (modes.Inside q) whole (λ is. cc)) in
         shut_as (opened scan (modes.Inside q) len) new pieces (modes.Inside q) whole ((c ∷ []) ++ []) (token_closes scan new (modes.Inside q) kind.Str len refl refl (λ e. cc) adds)
-        ((sound_steps m (read ++ c ∷ []) first start first_step).fit []) (counts inside) (λ a b l. refl) (λ e. absurd (cc)) (λ e. cc)
+        ((sound_steps m (read ++ c ∷ []) first start first_step).fit []) inside.counts (λ a b l. refl) (λ e. absurd (cc)) (λ e. cc)
 
     pub whole_reached : Reached m at text new after
     whole_reached = record {
@@ -228,7 +228,7 @@ module _ (m : Mode) (at : ℕ) (text : List ℕ) (scan new : Scan) (c : ℕ) (cs
         tallies = tallies;
         stacked = stack_closed (modes.Inside q) pieces whole (stack_of scan.brackets) stacked ∙ ap (λ (x : Scan). Some (stack_of x.brackets)) (sym adds.same);
         one_line = closed_one_line (modes.Inside q) pieces whole (stack_of scan.brackets) stacked
-            (closed_one_line state.mode state.done state.held (stack_of unread.brackets) meet.reached.way.stacked meet.reached.way.one_line (λ is. absurd (both_ways _ meet.unreturned (ap is_return_mode (meet.reached.way.tallies.mode ∙ is)))))
+            (closed_one_line state.mode state.done state.held (stack_of unread.brackets) meet.reached.way.stacked meet.reached.way.one_line (λ is. absurd (both_ways _ meet.unreturned (ap is_return_mode (meet.reached.way.tallies.counts.mode ∙ is)))))
             (λ is. absurd (cc));
       };
       spell = ap (λ t. t ++ after) (encodes-append read whole) ∙ append_assoc (encode_utf8_all read) (encode_utf8_all whole) after ∙ ap (λ t. encode_utf8_all read ++ (t ++ after)) low.0
@@ -297,7 +297,7 @@ fields_reached m at text scan new bytes len free r start takes = go takes.whole.
         (shut_from m at text new after (from_first m at text scan new c cs q run after len start meet begun takes.whole.quote takes.room takes.adds takes.whole.full takes.whole.text far))
 
 -- how far it goes
-pub string_size : (bytes : List ℕ) (len : ℕ) → IsWholeString bytes len → (0 < len) × (len ≤ length bytes)
+pub string_size : (bytes : List ℕ) (len : ℕ) → IsWholeStringWithFields bytes len → (0 < len) × (len ≤ length bytes)
 string_size bytes len is =
     let far = whole_size is.prefix is.q is.run len is.size in
     let spell = whole_spell is.prefix is.q is.run is.after ∙ is.spell in (

@@ -98,7 +98,7 @@ prefix_push q held item before is other = record {
   begun = before.begun;
   opens = before.opens;
   each = list_all-push is_item before.items item before.each is;
-  open_yet = ap (has_triple q) (append_assoc before.items (item ∷ []) ((q ∷ []) ∷ (q ∷ []) ∷ [])) ∙ triple-other q before.items item ((q ∷ []) ∷ (q ∷ []) ∷ []) other before.open_yet refl;
+  open_yet = ap (has_triple q) (append_assoc before.items (item ∷ []) ((q ∷ []) ∷ (q ∷ []) ∷ [])) ∙ triple-other q before.items item ((q ∷ []) ∷ (q ∷ []) ∷ []) other (ap (has_triple q) (sym (append-nil before.items)) ∙ before.open_yet) refl;
 }
 
 -- a quote is an item of a long string
@@ -118,7 +118,7 @@ opening_none q held long = record {
   begun = long.begun;
   opens = long.opens;
   each = long.each;
-  open_yet = triple-left q long.items ((q ∷ []) ∷ (q ∷ []) ∷ []) long.open_yet;
+  open_yet = ap (has_triple q) (append-nil long.items) ∙ triple-left q long.items ((q ∷ []) ∷ (q ∷ []) ∷ []) long.open_yet;
 }
 
 pub opening_one : (q : ℕ) (held : List ℕ) → HoldsLong q held → HoldsPrefix q (held ++ q ∷ [])
@@ -129,7 +129,7 @@ opening_one q held long = record {
   begun = long.begun;
   opens = long.opens;
   each = list_all-push is_item long.items (q ∷ []) long.each (quote_item q long.opens);
-  open_yet = triple-left q (long.items ++ (q ∷ []) ∷ []) ((q ∷ []) ∷ []) (ap (has_triple q) (append_assoc long.items ((q ∷ []) ∷ []) ((q ∷ []) ∷ [])) ∙ long.open_yet);
+  open_yet = ap (has_triple q) (append-nil (long.items ++ (q ∷ []) ∷ [])) ∙ triple-left q (long.items ++ (q ∷ []) ∷ []) ((q ∷ []) ∷ []) (ap (has_triple q) (append_assoc long.items ((q ∷ []) ∷ []) ((q ∷ []) ∷ [])) ∙ long.open_yet);
 }
 
 pub opening_two : (q : ℕ) (held : List ℕ) → HoldsLong q held → HoldsPrefix q (held ++ q ∷ q ∷ [])
@@ -140,7 +140,7 @@ opening_two q held long = record {
   begun = long.begun;
   opens = long.opens;
   each = list_all-append is_item long.items ((q ∷ []) ∷ (q ∷ []) ∷ []) ∙ and_from _ _ long.each (and_from _ _ (quote_item q long.opens) (and_from _ _ (quote_item q long.opens) refl));
-  open_yet = long.open_yet;
+  open_yet = ap (has_triple q) (append-nil (long.items ++ (q ∷ []) ∷ (q ∷ []) ∷ [])) ∙ long.open_yet;
 }
 
 -- after the opening quote of a short string

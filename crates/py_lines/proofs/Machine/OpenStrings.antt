@@ -46,7 +46,7 @@ long_open q before last held escapes = record {
   begun = held.begun;
   opens = held.opens;
   each = held.each;
-  open_yet = held.open_yet;
+  open_yet = ap (has_triple q) (sym (append-nil held.items)) ∙ held.open_yet;
   escapes = escapes;
 }
 

@@ -88,11 +88,11 @@ line_at_close m old mid read way sound final t empty some end_len whole ends =
       whole = whole;
       stacked = stack_closed s.mode s.done s.held (stack_of old.brackets) way.stacked ∙ ap (λ l. Some l) empty;
       strings = (end_sound s.done s.mode s.held read sound final).strings;
-      stop = t.stop ∙ ap byte_len plain;
-      here = t.here ∙ ap (λ l. mid.line + line_ends l) plain;
-      tokens = t.tokens;
-      kind = t.kind;
-      indent = t.indent;
+      stop = t.counts.stop ∙ ap byte_len plain;
+      here = t.counts.here ∙ ap (λ l. mid.line + line_ends l) plain;
+      tokens = t.counts.tokens;
+      kind = t.counts.kind;
+      indent = t.counts.indent;
       ends = ends;
       some = some;
     }
@@ -118,15 +118,15 @@ returned_final m returned = absurd (both_ways _ refl returned)
 pub line_at_return : (m : Mode) (old mid : Scan) (read : List ℕ) (way : IsUnderWay m old read) → IsScanSound way.state read → is_return_mode old.piece.mode ≡ true → Tallies mid (fresh (pieces_at way.state)) → stack_of old.brackets ≡ [] → 0 < byte_len read → IsScannedLine (line_start m) mid read 1 (pieces_at way.state)
 line_at_return m old mid read way sound returned t empty some =
     let s = way.state in
-    let both = return_pieces s.mode s.done s.held read sound (ap is_return_mode (sym way.tallies.mode) ∙ returned) way.one_line (stands s.done [] (way.stacked ∙ ap (λ l. Some l) empty)).depth in
-    line_at_close m old mid read way sound (returned_final s.mode (ap is_return_mode (sym way.tallies.mode) ∙ returned)) t empty some 1 both.0 both.1
+    let both = return_pieces s.mode s.done s.held read sound (ap is_return_mode (sym way.tallies.counts.mode) ∙ returned) way.one_line (stands s.done [] (way.stacked ∙ ap (λ l. Some l) empty)).depth in
+    line_at_close m old mid read way sound (returned_final s.mode (ap is_return_mode (sym way.tallies.counts.mode) ∙ returned)) t empty some 1 both.0 both.1
 
 module _ (old : Source) (has : HasScanned old stops.TextEnd) where
   stop : Stop
   stop = stops.TextEnd
 
   open_yet : has.scans.stops.0.state.mode ≡ modes.Return → none_open (stack_of old.state.scan.brackets) ≡ false
-  open_yet = end_return has.scans.stops.0.state.mode (stack_of old.state.scan.brackets) (ap (λ (m : Mode). is_return_mode m && none_open (stack_of old.state.scan.brackets)) (sym has.scans.stops.0.tallies.mode) ∙ has.scans.stops.2)
+  open_yet = end_return has.scans.stops.0.state.mode (stack_of old.state.scan.brackets) (ap (λ (m : Mode). is_return_mode m && none_open (stack_of old.state.scan.brackets)) (sym has.scans.stops.0.tallies.counts.mode) ∙ has.scans.stops.2)
 
   pub stop_size : old.state.scan.stop ≡ byte_len has.scans.read
   stop_size = way_stop (first_mode old.state.place) old.state.scan has.scans.read has.scans.stops.0 (start_sound old stops.TextEnd has)
@@ -212,4 +212,4 @@ module _ (old : Source) (has : HasScanned old stops.TextEnd) where
   few_lines_text mid closes =
       let way = has.scans.stops.0 in
       let sound = sound_steps (first_mode old.state.place) has.scans.read way.state (start_sound old stops.TextEnd has) way.steps in
-      omega (arith, ap (λ (s : Scan). s.count.line) closes.same, ap (λ (s : Scan). s.stop) closes.same, stop_size, way.tallies.here, ap line_ends sound.spell, line_ends-bytes has.scans.read, has.line, old.few_lines)
+      omega (arith, ap (λ (s : Scan). s.count.line) closes.same, ap (λ (s : Scan). s.stop) closes.same, stop_size, way.tallies.counts.here, ap line_ends sound.spell, line_ends-bytes has.scans.read, has.line, old.few_lines)

@@ -159,11 +159,11 @@ line_at_end m scan read rest len at after is =
       whole = one_line 0 at.body at.last at.are.one_line at.are.class at.are.level;
       stacked = no_class_bracket at.body at.last at.are.class at.are.paired;
       strings = at.strings;
-      stop = t.stop ∙ ap byte_len spell;
-      here = t.here ∙ ap (λ l. scan.line + line_ends l) spell;
-      tokens = t.tokens;
-      kind = t.kind;
-      indent = t.indent;
+      stop = t.counts.stop ∙ ap byte_len spell;
+      here = t.counts.here ∙ ap (λ l. scan.line + line_ends l) spell;
+      tokens = t.counts.tokens;
+      kind = t.counts.kind;
+      indent = t.counts.indent;
       ends = at.are.size ∙ sym (end_len-push at.body at.last at.are.class);
       some = omega (arith, ap byte_len (sym at.spell ∙ spelled-append at.body (at.last ∷ [])), byte_len-append (spelled at.body) (at.last.text ++ []), ap byte_len (append-nil at.last.text), first_bytes at.last at.are.class (AreReadBefore-second at.body (at.last ∷ []) after (at.fit after is)).0);
     }

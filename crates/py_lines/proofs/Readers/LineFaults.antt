@@ -1,5 +1,5 @@
 -- The fault that the scan of a line names is that of the whole text, whatever lines stand before it; and it stands in the line.
-use Rattle.std.proofs.Common.{◌≡◌, ℕ, zero, suc, ◌+◌, ◌<◌, Bool, true, false, ◌||◌, Option, None, Some, List, [], ◌∷◌, ◌++◌, ◌⊎◌, inl, inr, length, refl, sym, ap, ◌∙◌, subst, append_assoc, append-nil, length-append, arith}
+use Rattle.std.proofs.Common.{◌≡◌, ℕ, zero, suc, ◌+◌, ◌<◌, Bool, true, false, ◌||◌, Option, None, Some, List, [], ◌∷◌, ◌++◌, ◌⊎◌, ⊎_elim, inl, inr, length, refl, sym, ap, ◌∙◌, subst, append_assoc, append-nil, length-append, arith}
 use Rattle.std.specs.Prelude.{if◌then◌else◌}
 use Rattle.std.proofs.lemmas.Bool.{cond_both}
 use Rattle.std.proofs.lemmas.List.{append_cancel_left}
@@ -112,7 +112,7 @@ module _ (n : ℕ) (base : List Piece) (level : brackets_of base ≡ Some []) (s
       in_string scan way.state.done way.state.held read (subst (λ m. IsScanSound (scanned way.state.done m way.state.held) read) fielded sound) (subst (λ m. Tallies scan (scanned way.state.done m way.state.held)) fielded way.tallies)
 
   done_bytes : byte_len (spelled (base ++ way.state.done)) ≡ byte_len (spelled base) + scan.piece.start
-  done_bytes = ap byte_len (spelled-append base way.state.done) ∙ byte_len-append (spelled base) (spelled way.state.done) ∙ ap (λ k. byte_len (spelled base) + k) (sym way.tallies.start)
+  done_bytes = ap byte_len (spelled-append base way.state.done) ∙ byte_len-append (spelled base) (spelled way.state.done) ∙ ap (λ k. byte_len (spelled base) + k) (sym way.tallies.counts.start)
 
   stack_is : (t : Scanned) (st : List Bracket) → t ≡ after_pieces base way.state → brackets_of t.done ≡ Some st → length st ≡ depth_of scan.brackets
   stack_is t st at stack =
@@ -133,15 +133,15 @@ module _ (n : ℕ) (base : List Piece) (level : brackets_of base ≡ Some []) (s
 
     elsewhere : (j : Joined base read way.state (stack_of scan.brackets) (c ∷ after)) → (way.state.mode ≡ modes.Fielded → ⊥) → HasFault
     elsewhere j other =
-        let own = refusal_plain scan.piece.mode scan c flaw (λ h. other (sym way.tallies.mode ∙ h)) is_flaw in
+        let own = refusal_plain scan.piece.mode scan c flaw (λ h. other (sym way.tallies.counts.mode ∙ h)) is_flaw in
         let stopped = refused_at base read (c ∷ after) after way.state (stack_of scan.brackets) c j level refl refuses in
-        let flags : in_short scan.piece.mode || is_after_backslash scan.piece.mode ≡ in_short way.state.mode || is_after_backslash way.state.mode = ap (λ (m : Mode). in_short m || is_after_backslash m) way.tallies.mode in
+        let flags : in_short scan.piece.mode || is_after_backslash scan.piece.mode ≡ in_short way.state.mode || is_after_backslash way.state.mode = ap (λ (m : Mode). in_short m || is_after_backslash m) way.tallies.counts.mode in
         let state_flags : in_short way.state.mode || is_after_backslash way.state.mode ≡ in_short j.state.mode || is_after_backslash j.state.mode = ap (λ (b : Bool). b || is_after_backslash way.state.mode) (sym j.short) ∙ ap (λ (b : Bool). in_short j.state.mode || b) (sym j.slash) in
-        has_fault _ _ (own.0 ∙ ap (λ m. character_kind m c) way.tallies.mode ∙ same_kind way.state.mode j.state.mode c (sym j.short) (sym j.slash))
+        has_fault _ _ (own.0 ∙ ap (λ m. character_kind m c) way.tallies.counts.mode ∙ same_kind way.state.mode j.state.mode c (sym j.short) (sym j.slash))
         (ap (λ k. byte_len (spelled base) + k) own.1
         ∙ ap (λ (b : Bool). byte_len (spelled base) + (if b then scan.piece.start else scan.stop)) flags
         ∙ place_by (in_short way.state.mode || is_after_backslash way.state.mode) (byte_len (spelled base)) scan.piece.start scan.stop (byte_len (spelled j.state.done)) (byte_len (spelled base ++ read))
-        (λ h. j.start h ∙ ap (λ k. byte_len (spelled base) + k) (sym way.tallies.start))
+        (λ h. j.start h ∙ ap (λ k. byte_len (spelled base) + k) (sym way.tallies.counts.start))
         (byte_len-append (spelled base) read ∙ ap (λ k. byte_len (spelled base) + k) (sym (way_stop (first_mode n) scan read way (begun_sound n))))
         ∙ ap (λ (b : Bool). if b then byte_len (spelled j.state.done) else byte_len (spelled base ++ read)) state_flags)
         (refused_plain (spelled base ++ read) j.state j.st j.steps c after stopped (j.plain other))
@@ -153,7 +153,7 @@ module _ (n : ℕ) (base : List Piece) (level : brackets_of base ≡ Some []) (s
         let at = j.inside fielded in
         let stopped = refused_at base read (c ∷ after) after way.state (stack_of scan.brackets) c j level refl refuses in
         let stuck = refused_string scan way.state.done way.state.held u c way.stacked own.steps (subst (λ m. stack_if (scan_step (scanned way.state.done m way.state.held) c) ≡ None) fielded refuses) in
-        let told = subst (λ m. IsRefusalIn m scan c flaw) (way.tallies.mode ∙ fielded) is_flaw in
+        let told = subst (λ m. IsRefusalIn m scan c flaw) (way.tallies.counts.mode ∙ fielded) is_flaw in
         let named = told u own.stands stuck in
         let depth : length j.st ≡ depth_of scan.brackets = stack_is j.state j.st at j.steps.stack in
         let cause_same = ap (λ k. cause_in (k + frames u) u.mode c) (sym depth) in
@@ -162,11 +162,7 @@ module _ (n : ℕ) (base : List Piece) (level : brackets_of base ≡ Some []) (s
         (refused_fielded (spelled base ++ read) j.state j.st j.steps c after stopped (ap (λ (x : Scanned). x.mode) at ∙ fielded) u (ap (λ (x : Scanned). string_state x.held) at ∙ own.steps))
 
     pub refused_fault : HasFault
-    refused_fault = go (fielded_or way.state.mode)
-      where
-        go : (way.state.mode ≡ modes.Fielded) ⊎ (way.state.mode ≡ modes.Fielded → ⊥) → HasFault
-        go (inl fielded) = inside here fielded
-        go (inr other) = elsewhere here other
+    refused_fault = ⊎_elim (inside here) (elsewhere here) (fielded_or way.state.mode)
 
   -- the text ends there, where something is open
   module _ (fit : AreReadBefore base (read ++ [])) (some : 0 < byte_len read) (flaw : Flaw) (is_flaw : IsUnfinished scan (Some flaw)) where
@@ -182,20 +178,20 @@ module _ (n : ℕ) (base : List Piece) (level : brackets_of base ≡ Some []) (s
     open_from : (j : Joined base read way.state (stack_of scan.brackets) []) → IsOpenFrom scan flaw.place → ((is_final j.state.mode ≡ false) ⊎ ((b : Bracket) × (others : List Bracket) × (j.st ≡ b ∷ others))) × (byte_len (spelled base) + flaw.place ≡ end_place j.state j.st)
     open_from j (inl (unfinal, at)) =
         let both = j.same some in
-        let end_is : is_final j.state.mode ≡ false = ap (λ (x : Scanned). is_final x.mode) both.0 ∙ ap is_final (sym way.tallies.mode) ∙ unfinal in
+        let end_is : is_final j.state.mode ≡ false = ap (λ (x : Scanned). is_final x.mode) both.0 ∙ ap is_final (sym way.tallies.counts.mode) ∙ unfinal in
         (inl end_is, omega (arith, at, done_bytes, ap (λ (x : Scanned). byte_len (spelled x.done)) both.0) ∙ sym (ap (λ (b : Bool). if b then top_place j.st else byte_len (spelled j.state.done)) end_is))
     open_from j (inr (final, (b, others, top, at))) =
         let both = j.same some in
         let k = byte_len (spelled base) in
-        let end_is : is_final j.state.mode ≡ true = ap (λ (x : Scanned). is_final x.mode) both.0 ∙ ap is_final (sym way.tallies.mode) ∙ final in
+        let end_is : is_final j.state.mode ≡ true = ap (λ (x : Scanned). is_final x.mode) both.0 ∙ ap is_final (sym way.tallies.counts.mode) ∙ final in
         let stack : j.st ≡ shift k (b ∷ others) = both.1 ∙ ap (shift k) top in
         (inr (record { opener = b.opener; place = k + b.place }, shift k others, stack), ap (λ p. k + p) at ∙ sym (ap (λ (x : Bool). if x then top_place j.st else byte_len (spelled j.state.done)) end_is ∙ ap top_place stack))
 
     ends_elsewhere : (j : Joined base read way.state (stack_of scan.brackets) []) → (way.state.mode ≡ modes.Fielded → ⊥) → EndsSo
     ends_elsewhere j other =
-        let own = unfinished_plain scan.piece.mode scan flaw (λ h. other (sym way.tallies.mode ∙ h)) is_flaw in
+        let own = unfinished_plain scan.piece.mode scan flaw (λ h. other (sym way.tallies.counts.mode ∙ h)) is_flaw in
         let found = open_from j own.1 in
-        ends_so _ _ (own.0 ∙ ap end_kind way.tallies.mode ∙ sym (ap (λ (x : Scanned). end_kind x.mode) (j.same some).0)) found.1
+        ends_so _ _ (own.0 ∙ ap end_kind way.tallies.counts.mode ∙ sym (ap (λ (x : Scanned). end_kind x.mode) (j.same some).0)) found.1
         (ends_plain (spelled base ++ read) j.state j.st j.steps (j.plain other) found.0)
 
     ends_inside : (j : Joined base read way.state (stack_of scan.brackets) []) → way.state.mode ≡ modes.Fielded → EndsSo
@@ -203,7 +199,7 @@ module _ (n : ℕ) (base : List Piece) (level : brackets_of base ≡ Some []) (s
         let own = string_in fielded in
         let u = own.state in
         let at = j.inside fielded in
-        let told = subst (λ m. IsUnfinishedIn m scan (Some flaw)) (way.tallies.mode ∙ fielded) is_flaw in
+        let told = subst (λ m. IsUnfinishedIn m scan (Some flaw)) (way.tallies.counts.mode ∙ fielded) is_flaw in
         let named = told u own.stands in
         let depth : length j.st ≡ depth_of scan.brackets = stack_is j.state j.st at j.steps.stack in
         let start : byte_len (spelled base) + scan.piece.start ≡ byte_len (spelled j.state.done) = sym done_bytes ∙ sym (ap (λ (x : Scanned). byte_len (spelled x.done)) at) in
@@ -213,11 +209,7 @@ module _ (n : ℕ) (base : List Piece) (level : brackets_of base ≡ Some []) (s
         (subst (λ k. IsUnfinishedAt k u named.0 (byte_len (spelled base) + flaw.place)) start (unfinished_shift (byte_len (spelled base)) scan.piece.start u named.0 flaw.place named.3)))
 
     pub unfinished_fault : EndsSo
-    unfinished_fault = go (fielded_or way.state.mode)
-      where
-        go : (way.state.mode ≡ modes.Fielded) ⊎ (way.state.mode ≡ modes.Fielded → ⊥) → EndsSo
-        go (inl fielded) = ends_inside ending fielded
-        go (inr other) = ends_elsewhere ending other
+    unfinished_fault = ⊎_elim (ends_inside ending) (ends_elsewhere ending) (fielded_or way.state.mode)
 
 -- a fault at a character stands before it
 before_character : (read : List ℕ) (c : ℕ) (kind : FaultKind) (offset : ℕ) → IsCharacterFault kind (read ++ c ∷ []) offset → PrefixTo read offset

@@ -21,6 +21,7 @@ use Rattle.py_lines.specs.Private.FieldMachine.{At, after_brace, FieldMode, plai
 use Rattle.py_lines.specs.Private.FieldFlaws.{is_waiting, quotes_specification, cause_in, cause_place, here, piece_start, field_start, unfinished_code, unfinished_literal, unfinished_in, unfinished_at, unfinished_place}
 use Rattle.py_lines.specs.Private.ScanMachine.{string_state, meet_of, opened_move, IsInString}
 use Rattle.py_lines.specs.Private.FieldScan.{unfinished_with, unfinished_round, IsUnfinishedAt}
+use Rattle.py_lines.proofs.FieldSoundness.OpenEnds.{short_class}
 use Rattle.py_lines.proofs.Pieces.PieceLists.{piece}
 use Rattle.py_lines.proofs.Machine.LiveTexts.{keeps}
 use Rattle.py_lines.proofs.LogicalLines.Cuts.{byte_len-append}
@@ -92,14 +93,6 @@ takes_short m c short unbroken = absurd (both_ways _ refl short)
 no_fielded : (m : Mode) → in_short m ≡ true → m ≡ modes.Fielded → ⊥
 no_fielded modes.Fielded short is = both_ways _ refl short
 no_fielded m short is = cc
-
-class_short : (m : Mode) → in_short m ≡ true → class_of m ≡ string
-class_short (modes.Opened q) short = refl
-class_short (modes.Inside q) short = refl
-class_short (modes.Escape q) short = refl
-class_short (modes.EscapeReturn q) short = refl
-class_short (modes.FieldOpened h) short = refl
-class_short m short = absurd (both_ways _ refl short)
 
 -- the causes, and what each says, by what the character and the mode are
 cause_by : (deep break slash shuts opens quotes : Bool) → Cause
@@ -347,7 +340,7 @@ module _ (read : List ℕ) (s : Scanned) (st : List Bracket) (t : FieldScanned) 
 
     short_stops : in_short s.mode ≡ true → is_break c ≡ false → ⊥
     short_stops short unbroken =
-        goes_on (meet_of s.mode c) (class_short s.mode short) (takes_short s.mode c short unbroken)
+        goes_on (meet_of s.mode c) (short_class s.mode short) (takes_short s.mode c short unbroken)
         (sym (ap (λ v. kept_if (moved s c v)) (meets s.mode _ s.held c (no_fielded s.mode short))) ∙ refused)
 
     -- outside strings with fields

@@ -89,23 +89,20 @@ limit_from depth = record {
 }
 
 -- the room of each character, as the machine says it
+room_map : (R S : ℕ → Type 0) (m n c : ℕ) (v : FieldMove) → (R m → S n) → (R (m + 1) → S (n + 1)) → HasRoomFor R m c v → HasRoomFor S n c v
+room_map R S m n c breaks now more room = λ opens. now (room opens)
+room_map R S m n c (begins_code host) now more room = (now room.0, λ opens. more (room.1 opens))
+room_map R S m n c (opens_field host) now more room = now room
+room_map R S m n c (grows k) now more room = tt
+room_map R S m n c closes now more room = tt
+room_map R S m n c ends_field now more room = tt
+room_map R S m n c refused now more room = tt
+
 room_from : (depth n c : ℕ) (v : FieldMove) → HasRoomFor (λ d. d < 200) (depth + n) c v → HasRoomFor (RoomFrom depth) n c v
-room_from depth n c breaks room = room
-room_from depth n c (begins_code host) room = (room.0, λ opens. let free = room.1 opens in omega (arith, free))
-room_from depth n c (opens_field host) room = room
-room_from depth n c (grows m) room = tt
-room_from depth n c closes room = tt
-room_from depth n c ends_field room = tt
-room_from depth n c refused room = tt
+room_from depth n c v room = room_map (λ d. d < 200) (RoomFrom depth) (depth + n) n c v (λ free. free) (λ free. omega (arith, free)) room
 
 room_for : (depth n c : ℕ) (v : FieldMove) → HasRoomFor (RoomFrom depth) n c v → HasRoomFor (λ d. d < 200) (depth + n) c v
-room_for depth n c breaks room = room
-room_for depth n c (begins_code host) room = (room.0, λ opens. let free = room.1 opens in omega (arith, free))
-room_for depth n c (opens_field host) room = room
-room_for depth n c (grows m) room = tt
-room_for depth n c closes room = tt
-room_for depth n c ends_field room = tt
-room_for depth n c refused room = tt
+room_for depth n c v room = room_map (RoomFrom depth) (λ d. d < 200) n (depth + n) c v (λ free. free) (λ free. omega (arith, free)) room
 
 pub rooms_from : (depth : ℕ) (o : Option FieldScanned) (cs : List ℕ) → have_room_in depth o cs ≡ true → HaveRoom (limit_from depth) o cs
 rooms_from depth None cs h = tt

@@ -123,7 +123,7 @@ HasPrefixOrNot bytes None = Unit {0}
 HasPrefixOrNot bytes (Some len) = HasPrefix bytes len
 
 -- a short string with fields whose text is simple, with so many bytes
-pub record IsWholeString (bytes : List ℕ) (len : ℕ) : Type 0 where
+pub record IsWholeStringWithFields (bytes : List ℕ) (len : ℕ) : Type 0 where
   pub prefix : List ℕ
   pub q : ℕ
   pub run : List ℕ
@@ -135,6 +135,6 @@ pub record IsWholeString (bytes : List ℕ) (len : ℕ) : Type 0 where
   pub full : IsFull run
   pub text : Leads q InText run InText
 
-abbrev pub HasWholeString : List ℕ → Option ℕ → Type 0
-HasWholeString bytes None = Unit {0}
-HasWholeString bytes (Some len) = IsWholeString bytes len
+abbrev pub HasWholeStringWithFields : List ℕ → Option ℕ → Type 0
+HasWholeStringWithFields bytes None = Unit {0}
+HasWholeStringWithFields bytes (Some len) = IsWholeStringWithFields bytes len

@@ -303,25 +303,23 @@ pub record HoldsQuotes (quotes : List ℕ) (q : ℕ) (held : List ℕ) : Type 0 
   pub begun : IsPrefix prefix
   pub opens : is_quote q ≡ true
 
--- a prefix, three quotes, and whole items of a long string that isn't closed
-pub record HoldsPrefix (q : ℕ) (held : List ℕ) : Type 0 where
+-- a prefix, three quotes, and whole items of a long string, which these items after them don't close
+pub record HoldsItemsBefore (after : List (List ℕ)) (q : ℕ) (held : List ℕ) : Type 0 where
   pub prefix : List ℕ
   pub items : List (List ℕ)
   pub spell : held ≡ prefix ++ (q ∷ q ∷ q ∷ joined items)
   pub begun : IsPrefix prefix
   pub opens : is_quote q ≡ true
   pub each : list_all is_item items ≡ true
-  pub open_yet : has_triple q items ≡ false
+  pub open_yet : has_triple q (items ++ after) ≡ false
 
--- the same, not after a quote: two more quotes don't close it
-pub record HoldsLong (q : ℕ) (held : List ℕ) : Type 0 where
-  pub prefix : List ℕ
-  pub items : List (List ℕ)
-  pub spell : held ≡ prefix ++ (q ∷ q ∷ q ∷ joined items)
-  pub begun : IsPrefix prefix
-  pub opens : is_quote q ≡ true
-  pub each : list_all is_item items ≡ true
-  pub open_yet : has_triple q (items ++ (q ∷ []) ∷ (q ∷ []) ∷ []) ≡ false
+-- the long string isn't closed
+abbrev pub HoldsPrefix : ℕ → List ℕ → Type 0
+HoldsPrefix q = HoldsItemsBefore [] q
+
+-- and it isn't after a quote: two more quotes don't close it
+abbrev pub HoldsLong : ℕ → List ℕ → Type 0
+HoldsLong q = HoldsItemsBefore ((q ∷ []) ∷ (q ∷ []) ∷ []) q
 
 -- what the open piece spells, in each mode
 abbrev pub Holds : Mode → List Piece → List ℕ → Type 0

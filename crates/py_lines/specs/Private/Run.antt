@@ -12,7 +12,7 @@ use Rattle.py_lines.specs.Private.Machine.{Bracket, brackets_after, IsFull, firs
 use Rattle.py_lines.specs.Private.ScanMachine.{IsInString, IsScanSound, meet_of}
 use Rattle.py_lines.specs.Private.FieldMachine.{FieldScanned}
 use Rattle.py_lines.specs.Private.FieldScan.{Follows, GoesOn}
-use Rattle.py_lines.specs.Private.FieldText.{IsWholeString}
+use Rattle.py_lines.specs.Private.FieldText.{IsWholeStringWithFields}
 use Rattle.py_lines.specs.Private.Scan.{Begins, Closes, depth_of, freed, IsUnderWay, ScansIn, line_start, stack_of, none_open, with_brackets, is_return_mode, stack_with}
 use Rattle.py_lines.specs.declared.brackets.Brackets.{Brackets}
 use Rattle.py_lines.specs.declared.token.Token.{Token}
@@ -263,7 +263,7 @@ pub record TakesOperator (old : Scan) (bytes : List ℕ) (len : ℕ) (new : Scan
   pub adds : AddsToken (with_brackets old met) (kind.Op c) 1 new
 
 -- the bytes begin with a string between single quotes, of ASCII and with no escape in it, which has so many of them
-pub record IsWholeText (bytes : List ℕ) (len : ℕ) : Type 0 where
+pub record IsWholePlainString (bytes : List ℕ) (len : ℕ) : Type 0 where
   pub q : ℕ
   pub run : List ℕ
   pub after : List ℕ
@@ -273,24 +273,24 @@ pub record IsWholeText (bytes : List ℕ) (len : ℕ) : Type 0 where
   pub full : IsFull run
   pub all : list_all (is_text_byte q) run ≡ true
 
-abbrev pub HasWholeText : List ℕ → Option ℕ → Type 0
-HasWholeText bytes None = Unit {0}
-HasWholeText bytes (Some len) = IsWholeText bytes len
+abbrev pub HasWholePlainString : List ℕ → Option ℕ → Type 0
+HasWholePlainString bytes None = Unit {0}
+HasWholePlainString bytes (Some len) = IsWholePlainString bytes len
 
 -- a string without a prefix begins at this byte: a quote, after no letter, digit or underscore
-pub record BeginsText (bytes : List ℕ) (at : ℕ) : Type 0 where
+pub record BeginsPlainString (bytes : List ℕ) (at : ℕ) : Type 0 where
   pub within : at < length bytes
   pub quote : is_quote (slice_index bytes at) ≡ true
   pub apart : (at ≡ 0) ⊎ (is_ascii_word (slice_index bytes (at - 1)) ≡ false)
 
 -- such a string came whole after closed pieces
 pub record TakesString (old : Scan) (bytes : List ℕ) (len : ℕ) (new : Scan) : Type 0 where
-  pub whole : IsWholeText bytes len
+  pub whole : IsWholePlainString bytes len
   pub adds : AddsToken old kind.Str len new
 
 -- a string with fields, whose text is simple, came whole after closed pieces, where there is room for what opens in it
 pub record TakesStringWithFields (old : Scan) (bytes : List ℕ) (len : ℕ) (new : Scan) : Type 0 where
-  pub whole : IsWholeString bytes len
+  pub whole : IsWholeStringWithFields bytes len
   pub room : depth_of old.brackets ≤ 100
   pub adds : AddsToken old kind.Str len new
 

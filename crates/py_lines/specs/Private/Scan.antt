@@ -244,7 +244,7 @@ FieldsFollow scan modes.Fielded held = (t : FieldScanned) × (string_state held 
 FieldsFollow scan other held = Unit {0}
 
 -- the scan keeps count of what the machine has found in its line
-pub record Tallies (scan : Scan) (s : Scanned) : Type 0 where
+pub record Counts (scan : Scan) (s : Scanned) : Type 0 where
   pub mode : scan.piece.mode ≡ s.mode
   pub start : scan.piece.start ≡ byte_len (spelled s.done)
   pub stop : scan.stop ≡ byte_len (spelled s.done ++ s.held)
@@ -255,6 +255,10 @@ pub record Tallies (scan : Scan) (s : Scanned) : Type 0 where
   pub indent : scan.indent ≡ indent_of s.done
   pub kind : scan.kind ≡ kind_of s.done
   pub tokens : scan.tokens.items ≡ tokens_from 0 scan.line s.done
+
+-- and follows the machine with fields within a string
+pub record Tallies (scan : Scan) (s : Scanned) : Type 0 where
+  pub counts : Counts scan s
   pub fields : FieldsFollow scan s.mode s.held
 
 -- and it keeps the machine's open brackets

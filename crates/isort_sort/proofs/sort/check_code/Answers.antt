@@ -1,41 +1,10 @@
-use Rattle.std.proofs.Common.{◌++◌, ◌∙◌, ap, refl, inr, subst, List, ℕ}
+-- The text is sorted where sorting doesn't change it.
 use Rattle.isort_settings.specs.Values.{values}
-use Rattle.isort_sort.specs.Private.Parts.{part_text, Makes}
-use Rattle.isort_sort.proofs.SortedTexts.OfParts.{regrouped, same_or_not, checked_early}
-use Rattle.isort_sort.proofs.Orders.Statements.{AreOrders}
+use Rattle.isort_sort.proofs.SortedTexts.OfParts.{unchanged_is_sorted, changed_is_unsorted}
 use Rattle.isort_sort.proofs.sort.check_code.Goals as goal
 
-pub returns-in-None : goal.returns-in-None
-returns-in-None c =
-    let v = values c.args.settings.now in
-    let i = c.parts.invariant in
-    let o : AreOrders v = record { modules = c.modules_are_totally_ordered.ensures.total v; exact_modules = c.modules_are_totally_ordered.ensures.equal v; names = c.names_are_totally_ordered.ensures.total v; exact_names = c.names_are_totally_ordered.ensures.equal v } in
-    let makes = subst (λ p. Makes c.parts.parts p c.next.new.self) c.in-Some.is c.in_ok-part.ensures in
-    checked_early c.args.text.now v c.next.new.self i.out c.parts.left.now (part_text c.in-Some.part) o i.split (makes.1 c.args.text.now v i.out i.made).1 (c.in-None.ensures.none refl)
+pub returns-in-Same : goal.returns-in-Same
+returns-in-Same c = unchanged_is_sorted c.args.text.now (values c.args.settings.now) c.in_ok-sort_outcome.field-0 c.in-Same.is c.in_ok-sort_outcome.ensures
 
-pub parts-preserved : goal.parts-preserved
-parts-preserved c =
-    let v = values c.args.settings.now in
-    let i = c.parts.invariant in
-    let part = part_text c.in-Some.part in
-    let makes = subst (λ p. Makes c.parts.parts p c.next.new.self) c.in-Some.is c.in_ok-part.ensures in
-    record {
-      out = i.out ++ part;
-      made = (makes.1 c.args.text.now v i.out i.made).1;
-      split = regrouped c.args.text.now i.out part c.in-Some-cut_off.rest.now (i.split ∙ ap (λ (t : List ℕ). i.out ++ t) c.in-Some-cut_off.ensures.some);
-    }
-
-pub returns : goal.returns
-returns c =
-    let v = values c.args.settings.now in
-    let i = c.parts.invariant in
-    let makes = subst (λ p. Makes c.parts.parts p c.next.new.self) c.in_default-2.is c.in_ok-part.ensures in
-    let laid = c.rest.ensures.laid c.args.text.now v i.out (makes.1 c.args.text.now v i.out i.made) makes.0 in
-    (i.out ++ c.rest.result.now, inr laid, same_or_not c.args.text.now (i.out ++ c.rest.result.now) i.out c.parts.left.now c.rest.result.now c.eq.result i.split refl c.eq.ensures)
-
-pub rest-requires : goal.rest-requires
-rest-requires c =
-    let v = values c.args.settings.now in
-    let i = c.parts.invariant in
-    let makes = subst (λ p. Makes c.parts.parts p c.next.new.self) c.in_default-2.is c.in_ok-part.ensures in
-    (c.args.text.now, v, i.out, makes.1 c.args.text.now v i.out i.made)
+pub returns-in-Changed : goal.returns-in-Changed
+returns-in-Changed c = changed_is_unsorted c.args.text.now (values c.args.settings.now) c.in_ok-sort_outcome.field-0 c.in-Changed.is c.in_ok-sort_outcome.ensures

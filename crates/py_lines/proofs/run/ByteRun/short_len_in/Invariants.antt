@@ -1,12 +1,9 @@
-use Rattle.std.proofs.Common.{◌≡◌, ℕ, ◌-◌, ◌<◌, ◌≤◌, length, slice_index, true}
-use Rattle.py_lines.specs.Private.Run.{is_in_run}
+use Rattle.std.proofs.Common.{◌-◌, length}
+use Rattle.py_lines.specs.Private.Run.{HasRun, is_in_run}
 use Rattle.py_lines.proofs.run.ByteRun.short_len_in.Given as goal
 
 abbrev pub invariant-loop-len : goal.invariant-loop-len
-invariant-loop-len l = record {
-  within : l.len ≤ length l.bytes;
-  each : (i : ℕ) → i < l.len → is_in_run l.self (slice_index l.bytes i) ≡ true;
-}
+invariant-loop-len l = HasRun (is_in_run l.self) l.bytes l.len
 
 abbrev pub decreases-loop-len : goal.decreases-loop-len
 decreases-loop-len l = length l.bytes - l.len

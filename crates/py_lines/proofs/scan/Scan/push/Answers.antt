@@ -14,7 +14,7 @@ use Rattle.py_lines.proofs.scan.Scan.push.Goals as goal
 pub returns-then-matches : goal.returns-then-matches
 returns-then-matches c = λ s read sound none not_yet tallies stacked.
     let here : c.args.self.now.piece.mode ≡ modes.Fielded = elim c.match-matches.branch [ in-Fielded w ↦ w.in-Fielded.is | in_default w ↦ absurd (both_ways c.match-matches.matches w.matches-is c.if-matches.true) ] in
-    takes_fielded c.args.self.now c.push_in_string.new.self s.done s.mode s.held read c.args.c c.push_in_string.result (sym tallies.mode ∙ here) sound none tallies stacked c.push_in_string.ensures
+    takes_fielded c.args.self.now c.push_in_string.new.self s.done s.mode s.held read c.args.c c.push_in_string.result (sym tallies.counts.mode ∙ here) sound none tallies stacked c.push_in_string.ensures
 
 pub returns-else-matches-2 : goal.returns-else-matches-2
 returns-else-matches-2 c = λ s read sound none not_yet tallies stacked.
@@ -25,16 +25,16 @@ returns-else-matches-2 c = λ s read sound none not_yet tallies stacked.
 
 pub returns-in-Breaks : goal.returns-in-Breaks
 returns-in-Breaks c = λ s read sound none not_yet tallies stacked.
-    takes_broken c.args.self.now c.begin.new.self s.done s.mode s.held read c.args.c (ap (λ (m : Mode). meet_of m c.args.c) (sym tallies.mode) ∙ sym c.in-Breaks.ensures) sound none not_yet tallies stacked c.begin.result c.begin.ensures
+    takes_broken c.args.self.now c.begin.new.self s.done s.mode s.held read c.args.c (ap (λ (m : Mode). meet_of m c.args.c) (sym tallies.counts.mode) ∙ sym c.in-Breaks.ensures) sound none not_yet tallies stacked c.begin.result c.begin.ensures
 
 pub returns-then-returned : goal.returns-then-returned
 returns-then-returned c = λ s read sound none not_yet tallies stacked.
-    let move = ap (λ (m : Mode). meet_of m c.args.c) (sym tallies.mode) ∙ sym c.in-Closes.ensures in
-    let returns = ap is_return_mode (sym tallies.mode) ∙ sym c.is_return-returned.ensures ∙ c.if-returned.true in
+    let move = ap (λ (m : Mode). meet_of m c.args.c) (sym tallies.counts.mode) ∙ sym c.in-Closes.ensures in
+    let returns = ap is_return_mode (sym tallies.counts.mode) ∙ sym c.is_return-returned.ensures ∙ c.if-returned.true in
     takes_returned c.args.self.now c.close.new.self s.done s.mode s.held read c.args.c c.line_end.result returns move sound tallies stacked none (subst (λ (x : Scan). Closes x c.close.new.self) c.read.ensures c.in_ok-close-in-Closes.ensures) c.line_end.ensures
 
 pub returns-else-returned : goal.returns-else-returned
 returns-else-returned c = λ s read sound none not_yet tallies stacked.
     let elsewhere : c.args.self.now.piece.mode ≡ modes.Fielded → ⊥ = λ here. elim c.match-matches.branch [ in-Fielded w ↦ both_ways c.match-matches.matches c.if-matches.false w.matches-is | in_default w ↦ w.in_default.not-Fielded here ] in
-    let returns : is_return_mode s.mode ≡ false = ap is_return_mode (sym tallies.mode) ∙ sym c.is_return-returned.ensures ∙ c.if-returned.false in
+    let returns : is_return_mode s.mode ≡ false = ap is_return_mode (sym tallies.counts.mode) ∙ sym c.is_return-returned.ensures ∙ c.if-returned.false in
     takes_closed c.args.self.now c.close.new.self s read c.args.c (met_so c.args.self.now s c.args.c moves.Closes elsewhere tallies c.in-Closes.ensures) (λ is. both_ways _ returns (ap is_return_mode is)) sound tallies stacked none (subst (λ (x : Scan). Closes x c.close.new.self) c.read.ensures c.in_ok-close-in-Closes.ensures)

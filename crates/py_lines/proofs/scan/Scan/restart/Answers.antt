@@ -19,15 +19,17 @@ returns-clause-start c =
       fields = c.clear-3.new.self;
     } in
     record {
-      mode = search rules;
-      start = search rules;
-      stop = search rules;
-      piece_line = search rules;
-      here = search rules;
-      after = search rules;
-      margin = search rules;
-      indent = search rules;
-      kind = search rules;
-      tokens = search rules;
+      counts = record {
+        mode = search rules;
+        start = search rules;
+        stop = search rules;
+        piece_line = search rules;
+        here = search rules;
+        after = search rules;
+        margin = search rules;
+        indent = search rules;
+        kind = search rules;
+        tokens = search rules;
+      };
       fields = no_fields scan c.args.mode [] c.requires;
     }

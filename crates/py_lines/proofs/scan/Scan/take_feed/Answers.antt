@@ -16,11 +16,11 @@ same_brackets old read new reads is = ap (λ (s : Scan). none_open (stack_of s.b
 pub returns-then-ends_line : goal.returns-then-ends_line
 returns-then-ends_line c =
     let old = c.args.self.now in
-    let same = same_brackets old c.read.new.self c.free.new.self c.read.ensures c.free.ensures in
-    (ap (λ b. Ok (line_end_progress b 1)) (sym c.if-ends_line.true ∙ c.ends_line.ensures ∙ same), adds old c.read.new.self c.free.new.self c.requires.free c.read.ensures c.free.ensures)
+    let same = same_brackets old c.read.new.self c.stay_free.new.self c.read.ensures c.stay_free.ensures in
+    (ap (λ b. Ok (line_end_progress b 1)) (sym c.if-ends_line.true ∙ c.ends_line.ensures ∙ same), adds old c.read.new.self c.stay_free.new.self c.requires.free c.read.ensures c.stay_free.ensures)
 
 pub returns-else-ends_line : goal.returns-else-ends_line
 returns-else-ends_line c =
     let old = c.args.self.now in
-    let same = same_brackets old c.read.new.self c.free.new.self c.read.ensures c.free.ensures in
-    (refl, (ap (λ b. Ok (line_end_progress b 1)) (sym c.if-ends_line.false ∙ c.ends_line.ensures ∙ same), adds old c.read.new.self c.free.new.self c.requires.free c.read.ensures c.free.ensures))
+    let same = same_brackets old c.read.new.self c.stay_free.new.self c.read.ensures c.stay_free.ensures in
+    (refl, (ap (λ b. Ok (line_end_progress b 1)) (sym c.if-ends_line.false ∙ c.ends_line.ensures ∙ same), adds old c.read.new.self c.stay_free.new.self c.requires.free c.read.ensures c.stay_free.ensures))

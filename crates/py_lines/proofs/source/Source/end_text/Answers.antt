@@ -60,4 +60,4 @@ pub returns : goal.returns
 returns c =
     let s = c.args.self.now in
     let done = finished s.state.scan c.in_default.ensures.1 in
-    continues_text s c.requires _ c.give.new.self (ap (λ (m : Mode). is_final m) (sym c.requires.scans.stops.0.tallies.mode) ∙ done.0) done.1 c.in_ok-close.ensures refl refl refl refl (omega (arith, c.in_default.ensures.0)) c.give.ensures
+    continues_text s c.requires _ c.give.new.self (ap (λ (m : Mode). is_final m) (sym c.requires.scans.stops.0.tallies.counts.mode) ∙ done.0) done.1 c.in_ok-close.ensures refl refl refl refl (omega (arith, c.in_default.ensures.0)) c.give.ensures

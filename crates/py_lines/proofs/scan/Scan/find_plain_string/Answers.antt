@@ -1,7 +1,7 @@
 use Rattle.std.proofs.Common.{◌+◌, ◌<◌, length, arith}
 use Rattle.py_lines.proofs.LineScan.ShortPieces.{text_size}
 use Rattle.py_lines.proofs.LineScan.TokenRuns.{text_met}
-use Rattle.py_lines.proofs.scan.Scan.find_text.Goals as goal
+use Rattle.py_lines.proofs.scan.Scan.find_plain_string.Goals as goal
 
 pub returns : goal.returns
 returns c =

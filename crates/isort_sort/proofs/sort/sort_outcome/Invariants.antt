@@ -2,7 +2,7 @@
 use Rattle.std.proofs.Common.{◌≡◌, ◌++◌, ℕ, List, length}
 use Rattle.isort_settings.specs.Values.{values}
 use Rattle.isort_sort.specs.Private.Parts.{parts_left, HasMade}
-use Rattle.isort_sort.proofs.sort.check_code.Given as goal
+use Rattle.isort_sort.proofs.sort.sort_outcome.Given as goal
 
 abbrev pub invariant-parts : goal.invariant-parts
 invariant-parts l = record {

@@ -1,7 +1,7 @@
 use Rattle.std.proofs.Common.{◌≡◌, ℕ, ◌+◌, ◌-◌, ◌<◌, List, length, take, drop, slice_index, sym, ap, ◌∙◌, subst, arith, length-drop}
 use Rattle.py_lines.specs.Private.FieldText.{HasText}
 use Rattle.py_lines.proofs.FieldScans.TextLengths.{later, rest_is, whole_fields}
-use Rattle.py_lines.proofs.whole_strings.whole_string.Goals as goal
+use Rattle.py_lines.proofs.whole_strings.whole_string_with_fields.Goals as goal
 
 pub returns : goal.returns
 returns c =
