@@ -8,6 +8,7 @@ pub mod Finding
 pub mod FoundValues
 pub mod LineRole
 pub mod Silence
+pub mod FirstWords
 pub mod Reading
 pub mod Arranged
 pub mod Arranging

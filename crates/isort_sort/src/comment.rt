@@ -3,8 +3,9 @@ ghost use Rattle.std.specs.Prelude.{◌≡◌, ◌++◌, IfOk, IsTrue, OnOk, map
 ghost use Rattle.std.specs.List.{list_any};
 ghost use Rattle.py_lines.specs.Lines.{line_in};
 ghost use Rattle.py_imports.specs.ActionComment.{says};
+ghost use Rattle.py_imports.specs.Statement.{is_comment};
 ghost use Rattle.isort_sort.specs.Line.{comment_texts, own_comments, stripped, without_hash};
-ghost use Rattle.isort_sort.specs.Private.Silence.{IsSilent, content_of};
+ghost use Rattle.isort_sort.specs.Private.Silence.{IsSilent, SaysNothing, content_of};
 
 use crate::texts::push_copy;
 use memchr::memmem;
@@ -47,6 +48,20 @@ pub(crate) fn comments_say(unit: &Unit<'_>, action: ActionComment) -> bool
         }
     }
     false
+}
+
+/// Whether the line has a comment.
+fn has_comment(unit: &Unit<'_>) -> bool
+    ensures { result ≡ list_any (λ t. is_comment t.kind) (line_in unit.now).tokens }
+{
+    unit.tokens.iter().any(|token| token.kind.is_comment())
+}
+
+/// Whether no comment of the line says an action, since it has none, or `isort:` stands nowhere in it.
+pub(crate) fn says_nothing(unit: &Unit<'_>) -> bool
+    ensures { IsTrue result → SaysNothing (line_in unit.now) }
+{
+    !has_comment(unit) || is_silent(unit.text.as_bytes())
 }
 
 /// Puts what a comment says after `comments`, if it says something.

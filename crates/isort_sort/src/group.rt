@@ -114,6 +114,10 @@ impl Gathered {
 fn each_once(alloc: Global, texts: Vec<String>) -> Result<Vec<String>, AllocError>
     ensures { IfOk result (λ kept. map string_bytes kept.items ≡ first_texts (map string_bytes texts.items)) }
 {
+    // Most statements have no comment, or one.
+    if texts.len() < 2 {
+        return Ok(texts);
+    }
     let kept: IndexSet<String> = texts.into_iter().collect(alloc)?;
     kept.into_iter().collect(alloc)
 }

@@ -5,6 +5,7 @@ mod answer;
 mod arrange;
 mod comment;
 mod finder;
+mod first_words;
 mod group;
 pub mod laws;
 mod layout;

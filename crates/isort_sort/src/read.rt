@@ -6,18 +6,21 @@ ghost use Rattle.py_lines.specs.LogicalLine.{LogicalLine};
 ghost use Rattle.py_imports.specs.Binds.{Binds};
 ghost use Rattle.py_imports.specs.Bound.{bound_of};
 ghost use Rattle.isort_sort.specs.Answers.{IsRefused};
+ghost use Rattle.isort_sort.specs.Private.FirstWords.{StandsIn};
 ghost use Rattle.isort_sort.specs.Private.FoundValues.{finding_value, IsCounted};
-ghost use Rattle.isort_sort.specs.Private.Silence.{IsSilent};
-ghost use Rattle.isort_sort.specs.Private.Reading.{FindsLine, IsReadSoFar, ReadsLine, IsReadBefore, IsWholeRead, IsFoundIn};
+ghost use Rattle.isort_sort.specs.Private.Reading.{FindsLine, IsReadSoFar, ReadsLine, PassesOver};
+ghost use Rattle.isort_sort.specs.Private.Reading.{IsReadBefore, IsWholeRead, IsFoundIn};
 ghost use Rattle.isort_sort.specs.Row.{mark_after};
 
 use crate::answer::SortError;
-use crate::comment::{comment_texts, is_silent, own_comments};
+use crate::comment::{comment_texts, own_comments, says_nothing};
 use crate::finder::{BlockFinder, FoundBlock, LineStop};
+use crate::first_words::FirstWords;
 use crate::member::Member;
 use crate::row::{Role, indentation, is_off_after, role_of};
 use crate::skip::SkipReader;
-use py_imports::{Binding, bindings_of, has_first_word, mark_len};
+use py_imports::laws::lines_without_first_words_bind_nothing;
+use py_imports::{Binding, bindings_of, mark_len};
 use py_lines::{Lines, Unit};
 use std::alloc::{AllocError, Global};
 
@@ -66,16 +69,50 @@ impl LineReader {
         ensures ok { OnOk result (IsWholeRead text.now self.new) }
         ensures err { IfErr result (λ e. IsRefused text.now e) }
     {
-        let silent = is_silent(text);
+        let mut words = FirstWords::new(text);
         let mut lines = Lines::new(alloc, text)?;
-        'lines: while let Some(unit) = lines.next_unit()? {
-            if self.pass(&unit, silent) {
+        'lines: loop {
+            if self.pass_line(&mut lines, &mut words)? {
+                continue;
+            }
+            let Some(unit) = lines.next_unit()? else {
+                return Ok(());
+            };
+            if self.pass(&unit, &mut words) {
                 continue;
             }
             let bindings = bindings_of(alloc, &unit)?;
             self.push(alloc, &unit, bindings)?;
         }
-        Ok(())
+    }
+
+    /// Passes over the next line without its tokens, where it is simple, neither `import` nor `from` stands in it, and no block may go
+    /// on. The result is whether it was passed over, as most lines are.
+    #[inline(always)]
+    fn pass_line(
+        &mut self,
+        lines: &mut Lines<'_>,
+        words: &mut FirstWords<'_>,
+    ) -> Result<bool, AllocError>
+        requires text { words.old ≡ lines.old.text }
+        requires within { lines.old.place ≤ length lines.old.text }
+        requires counted { IsCounted (finding_value self.old.blocks) }
+        requires place { (finding_value self.old.blocks).place ≤ lines.old.place }
+        ensures passes { PassesOver lines.old self.old result lines.new self.new }
+        ensures counted { IsCounted (finding_value self.new.blocks) }
+        ensures place { (finding_value self.new.blocks).place ≤ lines.new.place }
+        ensures text { words.new ≡ words.old }
+    {
+        if !self.begun || !self.skip.begun || self.blocks.is_open() {
+            return Ok(false);
+        }
+        lines_without_first_words_bind_nothing();
+        let clear = words.clear_up_to(lines.offset() as usize);
+        let Some(len) = lines.pass_line(clear)? else {
+            return Ok(false);
+        };
+        self.blocks.pass(len);
+        Ok(true)
     }
 
     /// Reads one more line, which binds `bindings`.
@@ -101,12 +138,11 @@ impl LineReader {
         Ok(())
     }
 
-    /// Passes over the line, where no block needs it: it has no import statement and holds no `isort:`, as each line of a
-    /// silent text, and no block may go on. The text's first line and the string that the text may begin with are read.
-    /// Most lines are passed over. The result is whether this one was.
+    /// Passes over the line, where no block needs it: it has no import statement, no comment says an action, and no block may go on.
+    /// The text's first line and the string that the text may begin with are read. The result is whether it was passed over.
     #[inline(always)]
-    fn pass(&mut self, unit: &Unit<'_>, silent: bool) -> bool
-        requires silent { IsTrue silent → IsSilent (line_in unit.now).text }
+    fn pass(&mut self, unit: &Unit<'_>, words: &mut FirstWords<'_>) -> bool
+        requires stands { StandsIn words.old (line_in unit.now) }
         requires counted { IsCounted (finding_value self.old.blocks) }
         requires fits { (finding_value self.old.blocks).place + length (line_in unit.now).text < 2 ^ 64 }
         ensures on { IsTrue result → ReadsLine (line_in unit.now) self.old self.new }
@@ -115,19 +151,17 @@ impl LineReader {
         ensures place { IsTrue result → (finding_value self.new.blocks).place
             ≤ (finding_value self.old.blocks).place + length (line_in unit.now).text }
         ensures same { result ≡ false → self.new ≡ self.old }
+        ensures same_text { words.new ≡ words.old }
     {
         if !self.begun
             || self.blocks.is_open()
             || self.skip.begins_by(unit)
-            || has_first_word(unit)
+            || !words.none_in(unit)
+            || !says_nothing(unit)
         {
             return false;
         }
-        let text = unit.text.as_bytes();
-        if !silent && !is_silent(text) {
-            return false;
-        }
-        self.blocks.pass(text.len());
+        self.blocks.pass(unit.text.as_bytes().len());
         true
     }
 

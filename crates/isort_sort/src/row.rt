@@ -1,12 +1,15 @@
 //! What a logical line is to sorting.
-ghost use Rattle.std.specs.Prelude.{◌≡◌};
+ghost use Rattle.std.specs.Prelude.{◌≡◌, List};
 ghost use Rattle.py_lines.specs.Lines.{line_in};
+ghost use Rattle.py_lines.specs.declared.unit.UnitKind.TheVariants as unit_kind;
+ghost use Rattle.py_imports.specs.Binds.{Binds};
+ghost use Rattle.py_imports.specs.Bound.{Bound};
 ghost use Rattle.py_imports.specs.Shape.{IsSortable};
 ghost use Rattle.isort_sort.specs.Private.LineRole.{before_of, IsOfRole, turned};
 ghost use Rattle.isort_sort.specs.Row.{before_line, indentation_of, is_comment_kind, parts_blocks, says_alone};
 
 use crate::comment::comments_say;
-use py_imports::{ActionComment, Shape, is_declaration, mark_len, shape_of};
+use py_imports::{ActionComment, Shape, is_declaration, mark_len, shape_of_bound};
 use py_lines::{Unit, UnitKind};
 
 /// What a line asks of the blank lines between a block and itself.
@@ -72,28 +75,43 @@ fn parts_blocks(unit: &Unit<'_>) -> bool
         || says_alone(unit, ActionComment::Split)
 }
 
-/// What a line asks of the blank lines between a block and itself, where it is neither a member nor between members.
+/// What a line of code asks of the blank lines between a block and itself, where it is no member.
 fn blank_lines_before(unit: &Unit<'_>, shape: Shape) -> BlankLines
+    requires { unit.now.kind ≡ unit_kind.Code }
     ensures { before_of result ≡ before_line (line_in unit.now) shape }
 {
     if is_declaration(unit) {
         BlankLines::Two
-    } else if is_comment_kind(unit.kind) || shape == Shape::Pinned {
+    } else if shape == Shape::Pinned {
         BlankLines::AsMany
     } else {
         BlankLines::One
     }
 }
 
-/// What the line is to sorting; `off` says whether sorting is off before it.
-pub(crate) fn role_of(unit: &Unit<'_>, off: bool) -> Role
+/// What a line of code is to sorting; `off` says whether sorting is off before it.
+fn role_of_code(unit: &Unit<'_>, off: bool) -> Role
+    requires code { unit.now.kind ≡ unit_kind.Code }
+    requires binds { (bounds : List Bound) × Binds (line_in unit.now) bounds }
     ensures { IsOfRole off (line_in unit.now) result }
 {
-    let shape = shape_of(unit);
+    let shape = shape_of_bound(unit);
+    if !off && shape == Shape::Sortable {
+        Role::Member
+    } else {
+        Role::Other(blank_lines_before(unit, shape))
+    }
+}
+
+/// What the line is to sorting; `off` says whether sorting is off before it.
+pub(crate) fn role_of(unit: &Unit<'_>, off: bool) -> Role
+    requires { (bounds : List Bound) × Binds (line_in unit.now) bounds }
+    ensures { IsOfRole off (line_in unit.now) result }
+{
     match unit.kind {
         UnitKind::Blank => Role::Blank,
         UnitKind::Comment if !parts_blocks(unit) => Role::Comments,
-        UnitKind::Code if !off && shape == Shape::Sortable => Role::Member,
-        _ => Role::Other(blank_lines_before(unit, shape)),
+        UnitKind::Comment => Role::Other(BlankLines::AsMany),
+        UnitKind::Code => role_of_code(unit, off),
     }
 }

@@ -89,7 +89,7 @@ const ERRORS: &[Shown] = &[
 
 #[test]
 fn displays_errors(rt: HostRuntime) -> Result<(), Fail> {
-    each_holds_again(rt.alloc(), ERRORS)
+    each_holds_again(rt.alloc(), "ERRORS", ERRORS)
 }
 
 /// Whether this line tells of the error.
@@ -145,7 +145,7 @@ const RUN_ERRORS: &[ErrorLine] = &[
 
 #[test]
 fn tells_errors(rt: HostRuntime) -> Result<(), Fail> {
-    each_holds_again(rt.alloc(), RUN_ERRORS)
+    each_holds_again(rt.alloc(), "RUN_ERRORS", RUN_ERRORS)
 }
 
 /// Lines of settings that are refused, the text of the error, and the line that tells of it.
@@ -219,5 +219,5 @@ fn tells_of_memory(alloc: Global) -> bool {
 fn tells_of_settings(rt: HostRuntime) -> Result<(), Fail> {
     let alloc = rt.alloc();
     all_are_so(&[tells_of_memory(alloc) || tells_of_memory(alloc)])?;
-    each_holds_again(alloc, REFUSALS)
+    each_holds_again(alloc, "REFUSALS", REFUSALS)
 }

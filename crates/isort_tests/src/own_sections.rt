@@ -1,20 +1,22 @@
-//! Own sections: settings, sections, sorted texts and runs.
+//! Own sections: settings, sections and sorted texts.
 use crate::harness::cases::{Case, SettingsCase, each_holds_again, each_holds_with, table_of};
-use crate::settings::pyproject::{Sectioned, is_read_so, is_refused};
+use crate::settings::pyproject::{Refused, Sectioned, is_read_so};
 use crate::sort::sorted::Under;
-use isort_cmd::{Metered, sort_run};
 use isort_settings::{Section, Settings};
-use isort_sort::Outcome;
 use std::alloc::Global;
 use std::test::Fail;
 
-/// A Django project, a text, and what it is sorted to.
-const DJANGO: &str =
+/// Lines of `[tool.isort]` of a Django project.
+pub(crate) const DJANGO: &str =
     "sections = [\"FUTURE\", \"STDLIB\", \"Django\", \"THIRDPARTY\"]\nknown_django = [\"django\"]\n";
 
-const UNSORTED: &str = "import requests\nimport django.db\nimport os\nfrom . import z\n";
+/// A text that is not sorted under these settings.
+pub(crate) const DJANGO_UNSORTED: &str =
+    "import requests\nimport django.db\nimport os\nfrom . import z\n";
 
-const SORTED: &str = "import os\n\nimport django.db\n\nimport requests\n\nfrom . import z\n";
+/// The same text, sorted under them.
+pub(crate) const DJANGO_SORTED: &str =
+    "import os\n\nimport django.db\n\nimport requests\n\nfrom . import z\n";
 
 /// Two own sections before the five, the second of which comes first by its name.
 const TWO: &str =
@@ -23,85 +25,97 @@ const TWO: &str =
 /// How bad names of sections are refused.
 const BAD: &str = "bad value for sections";
 
-/// Lines of `[tool.isort]`, and how they are refused.
-struct Unfit(&'static str, &'static str);
-
-impl Case for Unfit {
-    fn holds(&self, alloc: Global) -> bool {
-        match table_of(alloc, self.0, "") {
-            Some(table) => is_refused(alloc, table.as_bytes(), None, self.1),
-            None => false,
-        }
-    }
-}
-
-const UNFIT: &[Unfit] = &[
-    Unfit("sections = [\"A\", \"a\"]", BAD),
-    Unfit("sections = [\"1a\"]", BAD),
-    Unfit("sections = [\"stdlib\"]", BAD),
-    Unfit("sections = [\"First_Party\"]", BAD),
-    Unfit(
-        "sections = [\"A00\", \"A01\", \"A02\", \"A03\", \"A04\", \"A05\", \"A06\", \"A07\", \
+const UNFIT: &[Refused] = &[
+    Refused(b"[tool.isort]\nsections = [\"A\", \"a\"]", None, BAD),
+    Refused(b"[tool.isort]\nsections = [\"1a\"]", None, BAD),
+    Refused(b"[tool.isort]\nsections = [\"stdlib\"]", None, BAD),
+    Refused(b"[tool.isort]\nsections = [\"First_Party\"]", None, BAD),
+    Refused(
+        b"[tool.isort]\nsections = [\"A00\", \"A01\", \"A02\", \"A03\", \"A04\", \"A05\", \"A06\", \"A07\", \
           \"A08\", \"A09\", \"A10\", \"A11\", \"A12\", \"A13\", \"A14\", \"A15\", \"A16\", \"A17\", \"A18\", \
           \"A19\", \"A20\", \"A21\", \"A22\", \"A23\", \"A24\", \"A25\", \"A26\", \"A27\", \"A28\", \"A29\", \
           \"A30\", \"A31\", \"A32\", \"A33\", \"A34\", \"A35\", \"A36\", \"A37\", \"A38\", \"A39\", \"A40\", \
           \"A41\", \"A42\", \"A43\", \"A44\", \"A45\", \"A46\", \"A47\", \"A48\", \"A49\", \"A50\", \"A51\", \
           \"A52\", \"A53\", \"A54\", \"A55\", \"A56\", \"A57\", \"A58\", \"A59\", \"A60\", \"A61\", \"A62\", \
           \"A63\", \"A64\"]",
+        None,
         BAD,
     ),
-    Unfit("sections = [\"A\"]\nknown_a = 1", "bad value for known_a"),
-    Unfit(
-        "sections = [\"1a\"]\ndefault_section = \"1a\"",
+    Refused(
+        b"[tool.isort]\nsections = [\"A\"]\nknown_a = 1",
+        None,
+        "bad value for known_a",
+    ),
+    Refused(
+        b"[tool.isort]\nsections = [\"1a\"]\ndefault_section = \"1a\"",
+        None,
         "bad value for default_section",
     ),
     // A name twice, names that are no words, and the five in other capitals.
-    Unfit("sections = [\"STDLIB\", \"STDLIB\"]", BAD),
-    Unfit("sections = [\"\"]", BAD),
-    Unfit("sections = [\"_a\"]", BAD),
-    Unfit("sections = [\"a-b\"]", BAD),
-    Unfit("sections = [\"\u{e9}\"]", BAD),
-    Unfit("sections = [\"Future\"]", BAD),
-    Unfit("sections = [\"thirdparty\"]", BAD),
+    Refused(
+        b"[tool.isort]\nsections = [\"STDLIB\", \"STDLIB\"]",
+        None,
+        BAD,
+    ),
+    Refused(b"[tool.isort]\nsections = [\"\"]", None, BAD),
+    Refused(b"[tool.isort]\nsections = [\"_a\"]", None, BAD),
+    Refused(b"[tool.isort]\nsections = [\"a-b\"]", None, BAD),
+    Refused(b"[tool.isort]\nsections = [\"\xc3\xa9\"]", None, BAD),
+    Refused(b"[tool.isort]\nsections = [\"Future\"]", None, BAD),
+    Refused(b"[tool.isort]\nsections = [\"thirdparty\"]", None, BAD),
     // Names whose list would be a key of the table.
-    Unfit("sections = [\"standard_library\"]", BAD),
-    Unfit("sections = [\"Third_Party\"]", BAD),
-    Unfit("sections = [\"LOCAL_FOLDER\"]", BAD),
-    Unfit("sections = [\"Future_Library\"]", BAD),
+    Refused(
+        b"[tool.isort]\nsections = [\"standard_library\"]",
+        None,
+        BAD,
+    ),
+    Refused(b"[tool.isort]\nsections = [\"Third_Party\"]", None, BAD),
+    Refused(b"[tool.isort]\nsections = [\"LOCAL_FOLDER\"]", None, BAD),
+    Refused(b"[tool.isort]\nsections = [\"Future_Library\"]", None, BAD),
     // Values that are no lists of texts.
-    Unfit("sections = \"A\"", BAD),
-    Unfit("sections = [\"A\", 1]", BAD),
-    Unfit(
-        "sections = [\"A\"]\nknown_a = [\"b\", \"c*\"]",
+    Refused(b"[tool.isort]\nsections = \"A\"", None, BAD),
+    Refused(b"[tool.isort]\nsections = [\"A\", 1]", None, BAD),
+    Refused(
+        b"[tool.isort]\nsections = [\"A\"]\nknown_a = [\"b\", \"c*\"]",
+        None,
         "bad value for known_a",
     ),
     // The first refusal by the bytes of the keys. Where `sections` is refused, no own list is judged.
-    Unfit("sections = [\"1a\"]\nknown_1a = 1", BAD),
-    Unfit(
-        "sections = [\"A\", \"a\"]\nknown_a = 1\nuse_parentheses = 1",
+    Refused(
+        b"[tool.isort]\nsections = [\"1a\"]\nknown_1a = 1",
+        None,
         BAD,
     ),
-    Unfit(
-        "sections = [\"A\"]\nknown_a = 1\nline_length = 0",
+    Refused(
+        b"[tool.isort]\nsections = [\"A\", \"a\"]\nknown_a = 1\nuse_parentheses = 1",
+        None,
+        BAD,
+    ),
+    Refused(
+        b"[tool.isort]\nsections = [\"A\"]\nknown_a = 1\nline_length = 0",
+        None,
         "bad value for known_a",
     ),
-    Unfit(
-        "sections = [\"A\"]\nknown_a = 1\nknown_third_party = 1",
+    Refused(
+        b"[tool.isort]\nsections = [\"A\"]\nknown_a = 1\nknown_third_party = 1",
+        None,
         "bad value for known_a",
     ),
-    Unfit(
-        "sections = [\"A\"]\nknown_a = 1\ndefault_section = \"B\"",
+    Refused(
+        b"[tool.isort]\nsections = [\"A\"]\nknown_a = 1\ndefault_section = \"B\"",
+        None,
         "bad value for default_section",
     ),
-    Unfit(
-        "sections = [\"A\"]\ndefault_section = \"a\"",
+    Refused(
+        b"[tool.isort]\nsections = [\"A\"]\ndefault_section = \"a\"",
+        None,
         "bad value for default_section",
     ),
 ];
 
 #[test]
 fn refuses_sections(rt: HostRuntime) -> Result<(), Fail> {
-    each_holds_again(rt.alloc(), UNFIT)
+    each_holds_again(rt.alloc(), "UNFIT", UNFIT)
 }
 
 /// Lines of `[tool.isort]`, and its unknown keys.
@@ -145,7 +159,7 @@ const ACCEPTED: &[Accepted] = &[
 
 #[test]
 fn accepts_sections(rt: HostRuntime) -> Result<(), Fail> {
-    each_holds_again(rt.alloc(), ACCEPTED)
+    each_holds_again(rt.alloc(), "ACCEPTED", ACCEPTED)
 }
 
 const SECTIONS: &[Sectioned] = &[
@@ -190,7 +204,7 @@ const SECTIONS: &[Sectioned] = &[
 
 #[test]
 fn finds_own_sections(rt: HostRuntime) -> Result<(), Fail> {
-    each_holds_with(rt.alloc(), "", SECTIONS)
+    each_holds_with(rt.alloc(), "SECTIONS", "", SECTIONS)
 }
 
 /// Lines of `[tool.isort]`, and the sections in their order.
@@ -261,11 +275,11 @@ const RANKS: &[Ranked] = &[
 
 #[test]
 fn ranks_sections(rt: HostRuntime) -> Result<(), Fail> {
-    each_holds_with(rt.alloc(), "", RANKS)
+    each_holds_with(rt.alloc(), "RANKS", "", RANKS)
 }
 
 const STATEMENTS: &[Under] = &[
-    Under(DJANGO, UNSORTED, SORTED),
+    Under(DJANGO, DJANGO_UNSORTED, DJANGO_SORTED),
     Under(
         TWO,
         "import requests\nimport m.n\nfrom flask import g\nimport os\nfrom __future__ import annotations\nimport m\n",
@@ -291,28 +305,5 @@ const STATEMENTS: &[Under] = &[
 
 #[test]
 fn orders_statements_by_own_sections(rt: HostRuntime) -> Result<(), Fail> {
-    each_holds_with(rt.alloc(), "", STATEMENTS)
-}
-
-/// Lines of `[tool.isort]`, a text, and what a run sorts it to under these settings.
-struct Run(&'static str, &'static str, &'static str);
-
-impl SettingsCase for Run {
-    fn lines(&self) -> &str {
-        self.0
-    }
-
-    fn holds_under(&self, alloc: Global, settings: &Settings) -> bool {
-        let mut reader = Metered::new(self.1.as_bytes());
-        let mut writer = Metered::new(Vec::new(alloc));
-        let got = sort_run(alloc, &mut reader, &mut writer, settings, 1000);
-        got == Ok(Outcome::Changed) && writer.into_inner().as_slice() == self.2.as_bytes()
-    }
-}
-
-const RUNS: &[Run] = &[Run(DJANGO, UNSORTED, SORTED)];
-
-#[test]
-fn sorts_a_run_by_own_sections(rt: HostRuntime) -> Result<(), Fail> {
-    each_holds_with(rt.alloc(), "", RUNS)
+    each_holds_with(rt.alloc(), "STATEMENTS", "", STATEMENTS)
 }

@@ -20,6 +20,13 @@ pub(crate) const SKIPPED: &str = "\"\"\"isort: skip_file\"\"\"\nimport b\nimport
 /// A text with a fault at byte 22, in line 3.
 pub(crate) const BROKEN: &str = "import b\nimport a\nx = )";
 
+/// Imports that are alike: of one package, module or attribute.
+pub(crate) const ALIKE: &[u8] =
+    b"import a.b\nfrom a import c\nfrom .a import d\nfrom a import c as e\n";
+
+/// A text with a declaration after two imports, and a fault after it.
+pub(crate) const DECLARED: &[u8] = b"import a\nif a:\n    def f(): pass\n    import b\n@d\nx = (\n";
+
 /// 201 brackets that open, and 200 that close.
 pub(crate) fn brackets() -> [u8; 401] {
     let mut text = [b'('; 401];

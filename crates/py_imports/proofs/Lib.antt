@@ -23,14 +23,15 @@
 -- depth 0.
 --
 -- Shapes (proofs/ShapeLemmas, ActionLemmas, SortableLemmas): a loop over tokens or bytes has seen all places up to its
--- own. The tests of a line tell, one after another, whether it can be sorted. proofs/ShapeRows has rows worked out by
--- hand.
+-- own. A line that binds a list is in the grammar where it is one import statement, so only its other tests are made.
+-- proofs/ShapeRows has rows worked out by hand.
 --
 -- One logical line (proofs/BindingLemmas): after each token, what starts before it was bound, and the depth and the
 -- flag for a start are those of the tokens before.
 --
 -- A line without an import (proofs/FirstWordLemmas): where no token is spelled `import` or `from`, no statement is an
--- import statement, and the line binds nothing.
+-- import statement, and the line binds nothing. A token is a part of the text, so none is spelled so where the text has no
+-- such part.
 --
 -- Laws (proofs/OneListLemmas, DecidingLemmas, OneFaultLemmas): a statement binds one list. Parsing decides of every
 -- statement whether the grammar has it, so each logical line binds a list or has a fault. Two ways to find a first bad

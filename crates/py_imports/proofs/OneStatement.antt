@@ -48,8 +48,12 @@ all_taken (p ∷ ps) h =
     let e : 1 + prefix_len (λ q. not (is_end q)) ps ≡ suc (prefix_len (λ q. not (is_end q)) ps) = omega arith in
     ap (λ (b : Bool). take (cond (not b) (1 + prefix_len (λ q. not (is_end q)) ps) 0) (p ∷ ps)) parts.0 ∙ ap (λ (n : ℕ). take n (p ∷ ps)) e ∙ ap (λ l. p ∷ l) (all_taken ps parts.1)
 
+-- a statement has all tokens where no `;` stands outside brackets
+pub undivided_statement : (t : Token) (ts : List Token) → list_any is_end (places_from [] (t ∷ ts)) ≡ false → statement_at (record { before = []; token = t; after = ts }) ≡ t ∷ ts
+undivided_statement t ts h = ap (map (λ p. p.token)) (all_taken (places_from [] (t ∷ ts)) h) ∙ tokens_again [] (t ∷ ts)
+
 whole_statement : (t : Token) (ts : List Token) → list_any (λ u. is_divider u.kind) (t ∷ ts) ≡ false → statement_at (record { before = []; token = t; after = ts }) ≡ t ∷ ts
-whole_statement t ts h = ap (map (λ p. p.token)) (all_taken (places_from [] (t ∷ ts)) (no_end_in [] (t ∷ ts) h)) ∙ tokens_again [] (t ∷ ts)
+whole_statement t ts h = undivided_statement t ts (no_end_in [] (t ∷ ts) h)
 
 -- what the one statement of a line imports, the line binds
 pub binds_its_imports : (line : LogicalLine) (t : Token) (ts : List Token) (is : List Imported) → significant line.tokens ≡ t ∷ ts → list_any (λ u. is_divider u.kind) (t ∷ ts) ≡ false → begins_import (terminals_of line) ≡ true → IsImport (terminals_of line) is → Binds line (map (bound_at t.line (nat_lt 0 line.indent)) is)

@@ -3,6 +3,7 @@ pub mod ActionComment
 pub mod Binds
 pub mod Bound
 pub mod Declaration
+pub mod FirstWords
 pub mod Grammar
 pub mod Names
 pub mod Private

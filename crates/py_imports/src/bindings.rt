@@ -21,6 +21,9 @@ use crate::statement::{depth_past, divides, statement_end};
 use py_lines::{Fault, FaultKind, Unit};
 use std::alloc::{AllocError, Global};
 
+/// Most modules have no more bytes than this, so their text is written without growing.
+const USUAL_MODULE_LEN: usize = 24;
+
 /// What the bindings of one statement have in common.
 #[derive(Clone, Copy)]
 struct Head {
@@ -40,7 +43,7 @@ fn push_binding(
     ensures { OnOk result (map bound_of bindings.new.items
         ≡ map bound_of bindings.old.items ++ bound_at head.line head.indented (item_imported item.entry) ∷ []) }
 {
-    let mut module_name = String::new(alloc);
+    let mut module_name = String::with_capacity(alloc, USUAL_MODULE_LEN)?;
     item.module.push_onto(&mut module_name)?;
     bindings.push(Binding {
         line: head.line,

@@ -1,6 +1,6 @@
 //! Laws of the definitions, which the checker proves as contracts of functions that do nothing.
 
-ghost use Rattle.std.specs.Prelude.{◌≡◌, ◌∷◌, ◌++◌, ◌⊎◌, ℕ, List, true, false, codes, map, nat_lt};
+ghost use Rattle.std.specs.Prelude.{◌≡◌, ◌∷◌, ◌++◌, ◌⊎◌, ℕ, List, [], true, false, codes, map, nat_lt};
 ghost use Rattle.std.specs.List.{list_any};
 ghost use Rattle.std.specs.Str.{all_scalars};
 ghost use Rattle.py_lines.specs.LogicalLine.{LogicalLine, line_of};
@@ -15,7 +15,8 @@ ghost use Rattle.py_imports.specs.Names.{AreNamed, HaveNames, terminals_in};
 ghost use Rattle.py_imports.specs.Shape.{terminals_of};
 ghost use Rattle.py_imports.specs.Statement.{is_divider, significant};
 ghost use Rattle.py_imports.specs.ActionComment.{says};
-ghost use Rattle.py_imports.specs.Binds.{Binds, IsBadAt, BindsOrIsBad};
+ghost use Rattle.py_imports.specs.Binds.{terminal_in, Binds, IsBadAt, BindsOrIsBad};
+ghost use Rattle.py_imports.specs.FirstWords.{LacksFirstWords};
 ghost use Rattle.py_imports.specs.declared.action_comment.ActionComment.{ActionComment};
 
 use py_lines::laws::tokens_are_words;
@@ -57,6 +58,13 @@ pub fn one_statement_binds_its_imports()
         → significant line.tokens ≡ token ∷ tokens → list_any (λ t. is_divider t.kind) (token ∷ tokens) ≡ false
         → begins_import (terminals_of line) ≡ true → IsImport (terminals_of line) is
         → Binds line (map (bound_at token.line (nat_lt 0 line.indent)) is) }
+{}
+
+/// A logical line in whose text neither `import` nor `from` stands has no token that is spelled so, and binds nothing.
+pub fn lines_without_first_words_bind_nothing()
+    ensures word { (line : LogicalLine) → LacksFirstWords line.text
+        → list_any (λ t. begins_import (terminal_in line.text t ∷ [])) line.tokens ≡ false }
+    ensures none { (line : LogicalLine) → LacksFirstWords line.text → Binds line [] }
 {}
 
 /// Two texts with `; ` between them say no action that neither of them says. So what comments say when they are joined, one

@@ -1,11 +1,12 @@
 //! Tokens as the import grammar sees them.
 ghost use Rattle.std.specs.Prelude.{◌≡◌, List, ◌∷◌};
+ghost use Rattle.std.specs.Str.{bytes_eq};
 ghost use Rattle.py_imports.specs.Grammar.{Terminal, terminal_of, terminal_of_word, terminal_of_operator, is_keyword};
 
 use py_lines::TokKind;
 
 /// The keywords (Python Language Reference, 2.3.1), by their length in bytes.
-const KEYWORDS: [&[&str]; 9] = [
+static KEYWORDS: [&[&str]; 9] = [
     &[],
     &[],
     &["as", "if", "in", "is", "or"],
@@ -19,12 +20,19 @@ const KEYWORDS: [&[&str]; 9] = [
     &["continue", "nonlocal"],
 ];
 
-/// A word is compared with the keywords of its own length alone, since most words are names.
+/// Whether two words are the same. Their first bytes tell most of them apart.
+fn are_same(word: &str, other: &str) -> bool
+    ensures { result ≡ bytes_eq word.now other.now }
+{
+    word.as_bytes().first() == other.as_bytes().first() && word == other
+}
+
+/// A word is compared with the keywords of its own length and first byte alone, since most words are names.
 fn is_keyword(word: &str) -> bool
     ensures { result ≡ is_keyword word.now }
 {
     match KEYWORDS.get(word.len()) {
-        Some(keywords) => keywords.contains(&word),
+        Some(keywords) => keywords.iter().any(|keyword| are_same(keyword, word)),
         None => false,
     }
 }

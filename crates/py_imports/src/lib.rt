@@ -18,4 +18,4 @@ pub use binding::Binding;
 pub use bindings::{bindings_of, has_first_word};
 pub use declaration::is_declaration;
 pub use error::ImportError;
-pub use shape::{Shape, mark_len, shape_of};
+pub use shape::{Shape, mark_len, shape_of, shape_of_bound};

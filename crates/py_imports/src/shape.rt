@@ -1,11 +1,14 @@
 //! Whether a logical line can be sorted.
-ghost use Rattle.std.specs.Prelude.{◌≡◌, ◌<◌, ◌+◌, ◌==◌, ◌||◌, not, false, Some, [], MatchBool, MatchOption, length, position, slice_get};
+ghost use Rattle.std.specs.Prelude.{◌≡◌, ◌<◌, ◌+◌, ◌==◌, ◌||◌, not, false, Some, List, [], length, position, slice_get};
+ghost use Rattle.std.specs.Prelude.{MatchBool, MatchOption};
 ghost use Rattle.std.specs.List.{list_any, list_all};
 ghost use Rattle.py_lines.specs.Lines.{line_in};
 ghost use Rattle.py_lines.specs.declared.token.Token.{Token};
 ghost use Rattle.py_imports.specs.Statement.{is_comment, significant, places_from, is_end};
 ghost use Rattle.py_imports.specs.Shape.{mark_len, begins_so, is_parenthesis, stands_well, says_skip, IsSortable, HasShape};
-ghost use Rattle.py_imports.specs.Private.Places.{BeginsAt, begins_line};
+ghost use Rattle.py_imports.specs.Binds.{Binds};
+ghost use Rattle.py_imports.specs.Bound.{Bound};
+ghost use Rattle.py_imports.specs.Private.Places.{IsFirstCode, BeginsAt, IsMovable, begins_line};
 
 use crate::action_comment::{ActionComment, says};
 use crate::items::{Form, ImportItems, form_of};
@@ -112,17 +115,24 @@ fn stands_first(unit: &Unit<'_>, place: usize) -> bool
     mark <= start && start - mark == unit.indent
 }
 
+/// Whether the line can be moved whose import statement begins at `place`, if that is in the grammar.
+fn is_movable(unit: &Unit<'_>, place: usize) -> bool
+    requires { IsFirstCode unit.now.tokens.now place }
+    ensures { MatchBool result (IsMovable (line_in unit.now)) (¬ (IsMovable (line_in unit.now))) }
+{
+    stands_first(unit, place)
+        && !is_divided(unit.tokens)
+        && comments_stand_well(unit.tokens)
+        && !says_skip(unit)
+}
+
 /// Whether the line can be sorted whose import statement begins at `place`.
 fn is_sortable(unit: &Unit<'_>, place: usize, form: Form) -> bool
     requires { BeginsAt (line_in unit.now) place form }
     ensures { MatchBool result (IsSortable (line_in unit.now)) (¬ (IsSortable (line_in unit.now))) }
 {
     let items = ImportItems::new(unit, form, place + 1, unit.tokens.len());
-    stands_first(unit, place)
-        && !is_divided(unit.tokens)
-        && items.is_in_grammar()
-        && comments_stand_well(unit.tokens)
-        && !says_skip(unit)
+    is_movable(unit, place) && items.is_in_grammar()
 }
 
 /// The shape of a logical line (Python Language Reference, 7.11; isort documentation, "Action Comments").
@@ -138,6 +148,19 @@ pub fn shape_of(unit: &Unit<'_>) -> Shape
     match started_by_word(unit) {
         None => Shape::Other,
         Some((place, form)) if is_sortable(unit, place, form) => Shape::Sortable,
+        Some(_) => Shape::Pinned,
+    }
+}
+
+/// The shape of a logical line that binds a list, as [`shape_of`] answers it. The import statement of such a line is in the
+/// grammar, so it isn't read again.
+pub fn shape_of_bound(unit: &Unit<'_>) -> Shape
+    requires { (bounds : List Bound) × Binds (line_in unit.now) bounds }
+    ensures { HasShape (line_in unit.now) result }
+{
+    match started_by_word(unit) {
+        None => Shape::Other,
+        Some((place, _)) if is_movable(unit, place) => Shape::Sortable,
         Some(_) => Shape::Pinned,
     }
 }

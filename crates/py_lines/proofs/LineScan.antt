@@ -19,4 +19,5 @@ pub mod Comments
 pub mod CarriageReturns
 pub mod TokenRuns
 pub mod NextPieces
+pub mod WholeLines
 pub mod LineStops

@@ -129,13 +129,7 @@ ends_so line_end text s = apart (ends is_return text)
 
 no_mark : (class : Class) → is_simple class ≡ true → is_mark_class class ≡ false
 no_mark mark s = absurd (cc)
-no_mark string s = refl
-no_mark operator s = refl
-no_mark space s = refl
-no_mark word s = refl
-no_mark comment s = refl
-no_mark join s = refl
-no_mark line_end s = refl
+no_mark other s = refl
 
 pub neighbours_read : (ps : List Piece) → AreSimple ps → MayTouch ps → AreReadBefore ps []
 neighbours_read [] s t = tt

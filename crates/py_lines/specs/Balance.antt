@@ -51,7 +51,15 @@ abbrev pub depth_through : ℕ → List Piece → ℕ
 depth_through depth [] = depth
 depth_through depth (p ∷ ps) = depth_through (depth_after depth p) ps
 
+-- this holds of each piece at its depth, where the first stands at that one
+abbrev pub EachAtDepth : (ℕ → Piece → Type 0) → ℕ → List Piece → Type 0
+EachAtDepth Passes depth [] = Unit {0}
+EachAtDepth Passes depth (p ∷ ps) = Passes depth p × EachAtDepth Passes (depth_after depth p) ps
+
+-- a piece at this depth opens no bracket at depth 200
+abbrev pub OpensShallow : ℕ → Piece → Type 0
+OpensShallow depth p = is_opener p ≡ true → depth < 200
+
 -- no bracket opens at depth 200
 abbrev pub IsShallowPlain : ℕ → List Piece → Type 0
-IsShallowPlain depth [] = Unit {0}
-IsShallowPlain depth (p ∷ ps) = (is_opener p ≡ true → depth < 200) × IsShallowPlain (depth_after depth p) ps
+IsShallowPlain depth pieces = EachAtDepth OpensShallow depth pieces

@@ -14,30 +14,28 @@ use Rattle.py_lines.specs.FieldStrings.{is_field_prefix, Host, Place, literal, s
 abbrev pub IsUnescaped : List ℕ → Type 0
 IsUnescaped last = (last ≡ []) ⊎ ((slash : ℕ) × (last ≡ slash ∷ []) × (is_backslash slash ≡ true))
 
--- the beginning of a short string, up to where it is still open (2.4.1)
-pub record IsShortPrefix (text : List ℕ) : Type 0 where
+-- The beginning of a string, up to where it is still open (2.4.1): after its prefix, the quotes that open it and whole items,
+-- which it may hold.
+pub record IsOpenPrefix (opening : ℕ → List ℕ) (MayHold : ℕ → List (List ℕ) → Type 0) (text : List ℕ) : Type 0 where
   pub prefix : List ℕ
   pub quote : ℕ
   pub items : List (List ℕ)
   pub last : List ℕ
-  pub spell : text ≡ prefix ++ (quote ∷ joined items ++ last)
+  pub spell : text ≡ prefix ++ (opening quote ++ joined items ++ last)
   pub begun : IsPrefix prefix
   pub opens : is_quote quote ≡ true
-  pub each : list_all (is_short_item quote) items ≡ true
+  pub holds : MayHold quote items
   pub escapes : IsUnescaped last
 
--- the beginning of a long string, up to where it is still open (2.4.1)
-pub record IsLongPrefix (text : List ℕ) : Type 0 where
-  pub prefix : List ℕ
-  pub quote : ℕ
-  pub items : List (List ℕ)
-  pub last : List ℕ
-  pub spell : text ≡ prefix ++ (quote ∷ quote ∷ quote ∷ joined items ++ last)
-  pub begun : IsPrefix prefix
-  pub opens : is_quote quote ≡ true
-  pub each : list_all is_item items ≡ true
-  pub open_yet : has_triple quote items ≡ false
-  pub escapes : IsUnescaped last
+-- of a short string
+abbrev pub IsShortPrefix : List ℕ → Type 0
+IsShortPrefix text = IsOpenPrefix (λ quote. quote ∷ []) (λ quote items. list_all (is_short_item quote) items ≡ true) text
+
+-- of a long string
+abbrev pub IsLongPrefix : List ℕ → Type 0
+IsLongPrefix text =
+    IsOpenPrefix (λ quote. quote ∷ quote ∷ quote ∷ [])
+    (λ quote items. (list_all is_item items ≡ true) × (has_triple quote items ≡ false)) text
 
 -- one backslash
 abbrev pub IsSlash : List ℕ → Type 0

@@ -10,4 +10,5 @@ pub mod Scan
 pub mod LineState
 pub mod Source
 pub mod Run
+pub mod WholeLines
 pub mod Feed

@@ -1,6 +1,9 @@
 -- The state of a reader of logical lines: the text, how far it has been given, on which line, and its fault once met.
 pub mod View
-use Rattle.std.specs.Prelude.{◌≡◌, ℕ, ◌+◌, ◌<◌, ◌≤◌, Option, None, Some, List, [], ◌∷◌, ◌++◌, length}
+use Rattle.std.specs.Prelude.{◌≡◌, ℕ, ◌+◌, ◌<◌, ◌≤◌, false, Option, None, Some, List, [], ◌∷◌, ◌++◌, length, slice_range}
+use Rattle.std.specs.List.{list_any}
+use Rattle.std.specs.Str.{IsUtf8}
+use Rattle.py_lines.specs.Token.{is_comment}
 use Rattle.py_lines.specs.LogicalLine.{LogicalLine}
 use Rattle.py_lines.specs.Lexed.{IsLexed, BeginsLexing}
 use Rattle.py_lines.specs.Given.{AreFirstLines}
@@ -41,6 +44,16 @@ pub record Continues (old : Reader) (line : LogicalLine) (new : Reader) : Type 0
   pub within : new.place ≤ length new.text
   pub fault : old.fault ≡ None
   pub no_fault : new.fault ≡ None
+
+-- One more logical line is given, of so many bytes, which are the text's from the place before to the place after. None of its
+-- tokens is a comment.
+pub record PassesLine (old : Reader) (len : ℕ) (new : Reader) : Type 0 where
+  pub line : LogicalLine
+  pub continues : Continues old line new
+  pub size : length line.text ≡ len
+  pub text : line.text ≡ slice_range old.text old.place new.place
+  pub bare : list_any (λ t. is_comment t.kind) line.tokens ≡ false
+  pub utf8 : IsUtf8 line.text
 
 -- all logical lines were given, and the text has no fault
 pub record Ends (old new : Reader) : Type 0 where

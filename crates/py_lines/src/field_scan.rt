@@ -426,9 +426,9 @@ impl FieldScan {
     }
 
     /// Closes the open piece with a character that ends before this byte. In a field's code it goes on.
-    fn close(&mut self, c: char, place: usize, depth: usize) -> FieldProgress
+    fn close(&mut self, c: char, place: usize) -> FieldProgress
         requires bytes { place + len_utf8 c < 2 ^ 64 }
-        ensures { TakesMove self.old c place depth closes (Ok result) self.new }
+        ensures { (depth : ℕ) → TakesMove self.old c place depth closes (Ok result) self.new }
     {
         if self.frames.is_empty() {
             return FieldProgress::Closed;
@@ -458,18 +458,12 @@ impl FieldScan {
     }
 
     /// Takes another operator inside brackets of a field's code.
-    fn take_in_bracket(
-        &mut self,
-        c: char,
-        opener: char,
-        place: usize,
-        depth: usize,
-    ) -> FieldProgress
+    fn take_in_bracket(&mut self, c: char, opener: char, place: usize) -> FieldProgress
         requires bytes { place + len_utf8 c < 2 ^ 64 }
         requires operator { start_of c ≡ Operator }
         requires other { is_opening c ≡ false }
         requires innermost { (at : ℕ) × IsInnermostFrame (Some (Frame.Bracket opener at)) (innermost_first self.old.frames.items) }
-        ensures { TakesMove self.old c place depth breaks (Ok result) self.new }
+        ensures { (depth : ℕ) → TakesMove self.old c place depth breaks (Ok result) self.new }
     {
         if is_closing(c) {
             if c != closing_of(opener) {
@@ -482,18 +476,12 @@ impl FieldScan {
     }
 
     /// Takes another operator outside brackets of a field's code: `}` ends the field, and `:` begins its specification.
-    fn take_in_field(
-        &mut self,
-        c: char,
-        field: OpenField,
-        place: usize,
-        depth: usize,
-    ) -> FieldProgress
+    fn take_in_field(&mut self, c: char, field: OpenField, place: usize) -> FieldProgress
         requires bytes { place + len_utf8 c < 2 ^ 64 }
         requires operator { start_of c ≡ Operator }
         requires other { is_opening c ≡ false }
         requires innermost { IsInnermostFrame (Some (Frame.Field field)) (innermost_first self.old.frames.items) }
-        ensures { TakesMove self.old c place depth breaks (Ok result) self.new }
+        ensures { (depth : ℕ) → TakesMove self.old c place depth breaks (Ok result) self.new }
     {
         if c == '}' {
             self.frames.pop();
@@ -524,8 +512,8 @@ impl FieldScan {
             return self.open_bracket(c, place, depth);
         }
         match self.innermost() {
-            Some(Frame::Bracket(opener, _)) => Ok(self.take_in_bracket(c, opener, place, depth)),
-            Some(Frame::Field(field)) => Ok(self.take_in_field(c, field, place, depth)),
+            Some(Frame::Bracket(opener, _)) => Ok(self.take_in_bracket(c, opener, place)),
+            Some(Frame::Field(field)) => Ok(self.take_in_field(c, field, place)),
             None => Ok(FieldProgress::Refused),
         }
     }
@@ -561,13 +549,12 @@ impl FieldScan {
         field: OpenField,
         c: char,
         place: usize,
-        depth: usize,
     ) -> Result<FieldProgress, AllocError>
         requires bytes { place + len_utf8 c < 2 ^ 64 }
         requires operator { start_of c ≡ Operator }
         requires field { field ≡ waiting_field self.old field.host place }
-        requires room { nat_lt (depth + length self.old.frames.items + opened_with c) 201 ≡ true }
-        ensures { TakesMove self.old c place depth (begins_code (host_in field.host)) result self.new }
+        ensures { (depth : ℕ) → nat_lt (depth + length self.old.frames.items + opened_with c) 201 ≡ true
+            → TakesMove self.old c place depth (begins_code (host_in field.host)) result self.new }
     {
         if c == '}' {
             self.resume(field);
@@ -609,7 +596,7 @@ impl FieldScan {
             start: self.start,
         };
         match Start::of(c) {
-            Start::Operator => self.begin_with_operator(field, c, place, depth),
+            Start::Operator => self.begin_with_operator(field, c, place),
             Start::Nothing => Ok(FieldProgress::Refused),
             Start::LineEnd => {
                 self.frames.push(Frame::Field(field))?;
@@ -650,8 +637,8 @@ impl FieldScan {
     }
 
     /// Ends the field whose specification is open.
-    fn end_field(&mut self, c: char, place: usize, depth: usize) -> FieldProgress
-        ensures { TakesMove self.old c place depth ends_field (Ok result) self.new }
+    fn end_field(&mut self) -> FieldProgress
+        ensures { (c place depth : ℕ) → TakesMove self.old c place depth ends_field (Ok result) self.new }
     {
         if let Some(Frame::Field(field)) = self.innermost() {
             self.frames.pop();
@@ -671,11 +658,11 @@ impl FieldScan {
                 self.mode = mode;
                 Ok(FieldProgress::Going)
             }
-            FieldMove::Closes => Ok(self.close(c, place, depth)),
+            FieldMove::Closes => Ok(self.close(c, place)),
             FieldMove::Breaks => self.begin_piece(c, place, depth),
             FieldMove::BeginsCode(host) => self.begin_code(host, c, place, depth),
             FieldMove::OpensField(host) => self.open_field(host, c, place, depth),
-            FieldMove::EndsField => Ok(self.end_field(c, place, depth)),
+            FieldMove::EndsField => Ok(self.end_field()),
             FieldMove::Refused => Ok(FieldProgress::Refused),
         }
     }

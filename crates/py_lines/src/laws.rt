@@ -76,6 +76,7 @@ pub fn settled_is_final()
 
 /// A text in which neither `f` nor `t`, alone or followed by `r`, stands directly before a quote is read by the same pieces
 /// whether strings hold fields or not, and these are as deep. So it has the same logical lines.
+#[tactic(auto, using(crate::proofs::Fields::WholeTexts::elsewhere_laws))]
 pub fn fields_change_nothing_elsewhere()
     ensures read_with { (pieces : List Piece) (characters : List ℕ) → may_have_fields characters ≡ false → ReadsPlain pieces characters → Reads pieces characters }
     ensures read_without { (pieces : List Piece) (characters : List ℕ) → may_have_fields characters ≡ false → Reads pieces characters → ReadsPlain pieces characters }

@@ -19,6 +19,7 @@ mod source;
 mod token;
 mod unit;
 mod utf8;
+mod whole_lines;
 mod whole_pieces;
 mod whole_strings;
 

@@ -8,7 +8,8 @@ use crate::line_state::LineState;
 use crate::scan::Stop;
 use crate::unit::Unit;
 use crate::utf8::utf8_prefix;
-use std::alloc::Global;
+use crate::whole_lines::whole_line;
+use std::alloc::{AllocError, Global};
 
 /// A text and how far it has been read. The tokens of the line read last are kept until the next one.
 #[derive(Drop)]
@@ -39,6 +40,7 @@ impl<'t> Source<'t> {
     ghost use Rattle.py_lines.specs.Reader.{GoesOnAt, at_start};
     ghost use Rattle.py_lines.specs.Token.{EachLiesIn};
     ghost use Rattle.py_lines.specs.UnitLine.{line_in};
+    ghost use Rattle.py_lines.specs.Lines.{PassesNext};
 
     /// The text's start.
     pub fn new(alloc: Global, bytes: &'t [u8]) -> Source<'t>
@@ -158,6 +160,30 @@ impl<'t> Source<'t> {
             Stop::TextEnd => self.end_text(),
             Stop::Refused(c) => Err(self.refuse(c)),
         }
+    }
+
+    /// Passes over the next logical line, where it is simple and ends at this byte or before it: how many bytes it has. The text's first
+    /// line is not passed over.
+    pub fn pass_line(&mut self, before: usize) -> Result<Option<usize>, AllocError>
+        ensures { PassesNext (reader_of self.old) before result (reader_of self.new) }
+    {
+        let place = self.state.place as usize;
+        if place == 0
+            || place >= before
+            || before > self.characters.len()
+            || self.state.fault.is_some()
+        {
+            return Ok(None);
+        }
+        let brackets = &mut self.state.scan.brackets;
+        brackets.clear();
+        let Some(line) = whole_line(brackets, &self.characters.as_bytes()[place..before])? else {
+            return Ok(None);
+        };
+        self.start = place;
+        self.state.place += line.len as u64;
+        self.state.line += line.line_ends;
+        Ok(Some(line.len))
     }
 
     /// The line that was read last.

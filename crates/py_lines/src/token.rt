@@ -40,10 +40,7 @@ impl TokKind {
     pub fn is_opening(self) -> bool
         ensures { result ≡ opens_bracket self }
     {
-        match self {
-            TokKind::Op(c) => c == b'(' || c == b'[' || c == b'{',
-            _ => false,
-        }
+        matches!(self, TokKind::Op(b'(' | b'[' | b'{'))
     }
 
     /// Whether it is a closing bracket: `)`, `]` or `}`.
@@ -51,10 +48,7 @@ impl TokKind {
     pub fn is_closing(self) -> bool
         ensures { result ≡ closes_bracket self }
     {
-        match self {
-            TokKind::Op(c) => c == b')' || c == b']' || c == b'}',
-            _ => false,
-        }
+        matches!(self, TokKind::Op(b')' | b']' | b'}'))
     }
 }
 

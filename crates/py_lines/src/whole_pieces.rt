@@ -294,11 +294,8 @@ impl Scan {
         ensures { result ≡ true → follows_space (stack_of self.now.brackets) byte }
     {
         match FirstByte::of(byte) {
-            FirstByte::Word | FirstByte::Operator | FirstByte::Quote => true,
-            FirstByte::LineFeed | FirstByte::Return => true,
-            FirstByte::Hash | FirstByte::Backslash => true,
-            FirstByte::Bracket => self.brackets.allows(byte as char),
-            FirstByte::Space | FirstByte::Other => false,
+            FirstByte::Space => false,
+            _ => self.may_begin(byte),
         }
     }
 
@@ -515,16 +512,19 @@ impl Scan {
         let Some(first) = bytes.first().copied() else {
             return Ok(Taken::Nothing);
         };
+        // LF, which each line has, needs no look at the table.
+        if is_line_feed(first as char) {
+            return Ok(self.take_feed());
+        }
         match FirstByte::of(first) {
             FirstByte::Word | FirstByte::Operator | FirstByte::Bracket => self.take_tokens_or_one(
                 bytes,
             ),
             FirstByte::Space => Ok(Taken::Bytes(self.take_space(bytes))),
             FirstByte::Quote => self.take_string(bytes),
-            FirstByte::LineFeed => Ok(self.take_feed()),
             FirstByte::Return => Ok(self.take_return(bytes)),
             FirstByte::Hash => self.take_comment(bytes),
-            FirstByte::Backslash | FirstByte::Other => Ok(Taken::Nothing),
+            FirstByte::LineFeed | FirstByte::Backslash | FirstByte::Other => Ok(Taken::Nothing),
         }
     }
 

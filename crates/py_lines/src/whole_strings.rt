@@ -40,7 +40,7 @@ fn is_code_bracket(b: u8) -> bool
 }
 
 /// Whether a string without a prefix begins at this byte.
-fn begins_plain_string(bytes: &[u8], at: usize) -> bool
+pub fn begins_plain_string(bytes: &[u8], at: usize) -> bool
     ensures { result ≡ true → BeginsPlainString bytes.now at }
 {
     if at >= bytes.len() || !is_quote(bytes[at] as char) {

@@ -20,7 +20,7 @@ use Rattle.py_imports.specs.declared.shape.Shape.TheVariants as shape
 use Rattle.isort_sort.specs.Private.Finding.{Finding, IsFinding, with_blank, with_comments, closed_block, after_blank, after_comments, after_other}
 use Rattle.isort_sort.specs.Private.FoundValues.{finding_value}
 use Rattle.isort_sort.specs.Line.{comment_texts}
-use Rattle.isort_sort.specs.Private.Silence.{IsSilent}
+use Rattle.isort_sort.specs.Private.Silence.{SaysNothing}
 use Rattle.isort_sort.specs.Private.LineRole.{turned}
 use Rattle.isort_sort.specs.Private.Reading.{has_code, is_some_line, IsSkipSoFar, IsRowOf, FindsLine, IsReadSoFar, IsReadBefore}
 use Rattle.isort_sort.specs.Row as row
@@ -31,7 +31,6 @@ use Rattle.isort_sort.proofs.Finding.Rows.{found_blank, found_comments, found_ot
 use Rattle.isort_sort.proofs.Readings.Lines.{none_match}
 use Rattle.isort_sort.proofs.Readings.LinesRead.{read_on}
 use Rattle.isort_sort.proofs.Rows.Roles.{sortable_begins}
-use Rattle.isort_sort.proofs.Rows.Silence.{silent_comments}
 use Rattle.isort_sort.proofs.Rows.Skips.{skip_pushed}
 use Rattle.std.proofs.Math.Bool.{and-false, or-false}
 use Rattle.std.proofs.lemmas.Bool.{or_parts}
@@ -56,15 +55,15 @@ none_first text (t ∷ ts) h = by (is_comment t.kind) (none_first text ts)
 pub begins_none : (line : LogicalLine) → list_any (λ t. begins_import (terminal_in line.text t ∷ [])) line.tokens ≡ false → begins_so line ≡ false
 begins_none line none = (λ i. is_code line.kind && none_first line.text line.tokens none i) ∙ and-false (is_code line.kind)
 
--- a silent line is no action
-pub silent_alone : (line : LogicalLine) → IsSilent line.text → (a : ActionComment) → says_alone a line ≡ false
-silent_alone line silent a = (λ i. is_comment_kind line.kind && silent_comments a line silent i) ∙ and-false (is_comment_kind line.kind)
+-- a line that says nothing is no action
+pub quiet_alone : (line : LogicalLine) → SaysNothing line → (a : ActionComment) → says_alone a line ≡ false
+quiet_alone line quiet a = (λ i. is_comment_kind line.kind && quiet a i) ∙ and-false (is_comment_kind line.kind)
 
-silent_turned : (line : LogicalLine) → IsSilent line.text → (off : Bool) → turned off line ≡ off
-silent_turned line silent off = λ i. cond (silent_alone line silent action.Off i) true (cond (silent_alone line silent action.On i && not (silent_alone line silent action.Off i)) false off)
+quiet_turned : (line : LogicalLine) → SaysNothing line → (off : Bool) → turned off line ≡ off
+quiet_turned line quiet off = λ i. cond (quiet_alone line quiet action.Off i) true (cond (quiet_alone line quiet action.On i && not (quiet_alone line quiet action.Off i)) false off)
 
-silent_parts : (line : LogicalLine) → IsSilent line.text → parts_blocks line ≡ false
-silent_parts line silent = λ i. silent_alone line silent action.Off i || silent_alone line silent action.On i || silent_alone line silent action.Split i
+quiet_parts : (line : LogicalLine) → SaysNothing line → parts_blocks line ≡ false
+quiet_parts line quiet = λ i. quiet_alone line quiet action.Off i || quiet_alone line quiet action.On i || quiet_alone line quiet action.Split i
 
 pub none_open : {A : Type 0} (x : Option A) → is_some x ≡ false → x ≡ None
 none_open None none = refl
@@ -75,8 +74,8 @@ abbrev pub passed_to : ℕ → Finding → Finding
 passed_to len f = record { found = f.found; opened = f.opened; place = f.place + len }
 
 -- such a line changes nothing but the byte that was reached
-pub finds_passed : (off : Bool) (line : LogicalLine) (f : Finding) → IsUtf8 line.text → IsSilent line.text → begins_so line ≡ false → f.opened ≡ None → FindsLine off 0 line f (passed_to (length line.text) f)
-finds_passed off line f utf8 silent plain closed = λ start rows h. by line.kind refl start rows h
+pub finds_passed : (off : Bool) (line : LogicalLine) (f : Finding) → IsUtf8 line.text → SaysNothing line → begins_so line ≡ false → f.opened ≡ None → FindsLine off 0 line f (passed_to (length line.text) f)
+finds_passed off line f utf8 quiet plain closed = λ start rows h. by line.kind refl start rows h
   where
     stop : ℕ
     stop = f.place + length line.text
@@ -97,7 +96,7 @@ finds_passed off line f utf8 silent plain closed = λ start rows h. by line.kind
         let found = row_with (comments said) in
         let same : after_comments stop said f ≡ passed_to (length line.text) f = λ i. record { found = f.found; opened = (ap (option_map (with_comments said)) closed ∙ sym closed) i; place = stop } in (
           found,
-          is_row (comments said) (ap is_comment_kind k, silent_parts line silent, refl),
+          is_row (comments said) (ap is_comment_kind k, quiet_parts line quiet, refl),
           subst (λ (new : Finding). IsFinding start (rows ++ found ∷ []) new) same (found_comments start rows f found stop said said h refl (none_match (said ≡ said) f.opened (ap is_some closed)) refl),
         )
     by unit_kind.Code k start rows h =
@@ -139,15 +138,15 @@ still_begun line true h = refl
 still_begun line false h = sym h
 
 -- whether the text is skipped stays as it was
-skips_on : (lines : List LogicalLine) (line : LogicalLine) (r : SkipReader) → IsSilent line.text → not r.begun && has_code line ≡ false → IsSkipSoFar lines r → IsSkipSoFar (lines ++ line ∷ []) r
-skips_on lines line r silent late h = skip_pushed lines line r r (sym kept) (still_begun line r.begun late) h
+skips_on : (lines : List LogicalLine) (line : LogicalLine) (r : SkipReader) → SaysNothing line → not r.begun && has_code line ≡ false → IsSkipSoFar lines r → IsSkipSoFar (lines ++ line ∷ []) r
+skips_on lines line r quiet late h = skip_pushed lines line r r (sym kept) (still_begun line r.begun late) h
   where
     kept : r.skips || list_any (says action.SkipFile) (comment_texts line) || (not r.begun && string_skips line (slice_get (significant line.tokens) 0)) ≡ r.skips
-    kept = (λ i. r.skips || silent_comments action.SkipFile line silent i || no_string line r.begun late i) ∙ or-false (r.skips || false) ∙ or-false r.skips
+    kept = (λ i. r.skips || quiet action.SkipFile i || no_string line r.begun late i) ∙ or-false (r.skips || false) ∙ or-false r.skips
 
 -- a line was passed over
-pub passed_on : (lines : List LogicalLine) (line : LogicalLine) (old new : LineReader) → IsUtf8 line.text → IsSilent line.text → begins_so line ≡ false → old.begun ≡ true → not old.skip.begun && has_code line ≡ false → (finding_value old.blocks).opened ≡ None → finding_value new.blocks ≡ passed_to (length line.text) (finding_value old.blocks) → new.begun ≡ old.begun → new.off ≡ old.off → new.skip ≡ old.skip → IsReadSoFar lines old → IsReadSoFar (lines ++ line ∷ []) new
-passed_on lines line old new utf8 silent plain some late closed value begun off skip h =
+pub passed_on : (lines : List LogicalLine) (line : LogicalLine) (old new : LineReader) → IsUtf8 line.text → SaysNothing line → begins_so line ≡ false → old.begun ≡ true → not old.skip.begun && has_code line ≡ false → (finding_value old.blocks).opened ≡ None → finding_value new.blocks ≡ passed_to (length line.text) (finding_value old.blocks) → new.begun ≡ old.begun → new.off ≡ old.off → new.skip ≡ old.skip → IsReadSoFar lines old → IsReadSoFar (lines ++ line ∷ []) new
+passed_on lines line old new utf8 quiet plain some late closed value begun off skip h =
     let other : is_some_line lines ≡ true = sym h.begun ∙ some in
     read_on
     lines
@@ -158,8 +157,8 @@ passed_on lines line old new utf8 silent plain some late closed value begun off 
     0
     refl
     (no_mark lines line other)
-    (subst (FindsLine old.off 0 line (finding_value old.blocks)) (sym value) (finds_passed old.off line (finding_value old.blocks) utf8 silent plain closed))
+    (subst (FindsLine old.off 0 line (finding_value old.blocks)) (sym value) (finds_passed old.off line (finding_value old.blocks) utf8 quiet plain closed))
     begun
-    (off ∙ sym (silent_turned line silent old.off))
-    (λ was. subst (IsSkipSoFar (lines ++ line ∷ [])) (sym skip) (skips_on lines line old.skip silent late was))
+    (off ∙ sym (quiet_turned line quiet old.off))
+    (λ was. subst (IsSkipSoFar (lines ++ line ∷ [])) (sym skip) (skips_on lines line old.skip quiet late was))
     (still_before lines line old other h)

@@ -1,5 +1,5 @@
 -- What is known of the lines of a text as they are read, one after another.
-use Rattle.std.proofs.Common.{◌≡◌, ℕ, Option, Some, Result, Ok, Err, List, [], ◌∷◌, ◌++◌, map, append-nil, append_assoc, inl, inr, refl, sym, ap, ◌∙◌, subst}
+use Rattle.std.proofs.Common.{◌≡◌, ℕ, ◌<◌, ◌≤◌, Bool, true, false, length, arith, Option, Some, Result, Ok, Err, List, [], ◌∷◌, ◌++◌, map, append-nil, append_assoc, inl, inr, refl, sym, ap, ◌∙◌, subst}
 use Rattle.py_lines.specs.LogicalLine.{LogicalLine}
 use Rattle.py_lines.specs.Lexed.{IsLexed}
 use Rattle.py_lines.specs.Lines.{line_in, ReadsNext}
@@ -13,6 +13,8 @@ use Rattle.py_imports.specs.declared.binding.Binding.{Binding}
 use Rattle.py_imports.specs.declared.error.ImportError.{ImportError}
 use Rattle.py_imports.specs.declared.error.ImportError.TheVariants as import
 use Rattle.isort_sort.specs.Answers.{IsRefused}
+use Rattle.isort_sort.specs.Private.Reading.{IsReadSoFar, PassesOver, ReadsLine}
+use Rattle.isort_sort.specs.declared.read.LineReader.{LineReader}
 use Rattle.isort_sort.specs.Errors.{sort_error_of, sort_error_of_import}
 use Rattle.isort_sort.specs.Line.{imported_of}
 
@@ -28,6 +30,38 @@ BindAll-snoc (l ∷ ls) line bounds more h b = (h.0, h.1 ++ more, ap (λ x. x ++
 -- a line that was read continues the lines before it
 pub continues : (old new : Reader) (result : Result (Option unit.Unit) LexError) (found : Option unit.Unit) (u : unit.Unit) → ReadsNext old result new → result ≡ Ok found → found ≡ Some u → Continues old (line_in u) new
 continues old new result found u reads is some = subst (λ r. ReadsNext old r new) (is ∙ ap Ok some) reads
+
+-- lines of the text were given and bind something, and the blocks of their rows are found
+pub record IsKnown (text : List ℕ) (reader : Reader) (r : LineReader) : Type 0 where
+  pub given : List LogicalLine
+  pub bounds : List Bound
+  pub same : reader.text ≡ text
+  pub within : reader.place ≤ length reader.text
+  pub are_given : HasGiven reader given
+  pub bind : BindAll given bounds
+  pub so_far : IsReadSoFar given r
+
+-- so they are with one line more
+pub known_on : (text : List ℕ) (old new : Reader) (r next : LineReader) (line : LogicalLine) (more : List Bound) → Continues old line new → Binds line more → ReadsLine line r next → IsKnown text old r → IsKnown text new next
+known_on text old new r next line more on binds reads known = record {
+  given = known.given ++ line ∷ [];
+  bounds = known.bounds ++ more;
+  same = on.text ∙ known.same;
+  within = on.within;
+  are_given = on.given known.given known.are_given;
+  bind = BindAll-snoc known.given line known.bounds more known.bind binds;
+  so_far = reads known.given known.so_far;
+}
+
+-- the next line was passed over, or not
+pub known_passed : (text : List ℕ) (old new : Reader) (r next : LineReader) (passed : Bool) → PassesOver old r (Ok passed) new next → IsKnown text old r → IsKnown text new next
+known_passed text old new r next true (line, on, binds, reads) known = known_on text old new r next line [] on binds reads known
+known_passed text old new r next false (same_lines, same) known = subst (λ (x : LineReader). IsKnown text new x) (sym same) (subst (λ (x : Reader). IsKnown text x r) (sym same_lines) known)
+
+-- where it was, the reader is further on
+pub passed_further : (old new : Reader) (r next : LineReader) (passed : Bool) → PassesOver old r (Ok passed) new next → passed ≡ true → old.place < new.place
+passed_further old new r next true (line, on, binds, reads) is = omega (arith, on.place, on.some_text)
+passed_further old new r next false kept is = absurd (cc)
 
 -- the fault of a text whose next line can't be read
 pub refuses_text : (text : List ℕ) (old new : Reader) (lines : List LogicalLine) (bounds : List Bound) (e : LexError) → old.text ≡ text → HasGiven old lines → BindAll lines bounds → ReadsNext old (Err e) new → IsRefused text (sort_error_of e)

@@ -1,25 +1,19 @@
 -- Texts in which `isort:` stands nowhere: they say no action, and so does no part of them.
-use Rattle.std.proofs.Common.{◌≡◌, ℕ, ◌+◌, Bool, true, false, cond, ◌||◌, None, List, [], ◌∷◌, ◌++◌, length, take, drop, map, append-nil, ◌-◌, refl, sym, ap, ◌∙◌, append_assoc, arith, length-append}
-use Rattle.std.specs.Prelude.{IsTrue, codes, is_some, not, Option, Some, filter, nat_eq, slice_range, encode_utf8_all}
+use Rattle.std.proofs.Common.{◌≡◌, ℕ, ◌+◌, Bool, true, false, cond, ◌||◌, None, List, [], ◌∷◌, ◌++◌, length, take, drop, map, ◌-◌, refl, sym, ap, ◌∙◌, append_assoc, arith, length-append}
+use Rattle.std.specs.Prelude.{IsTrue, codes, is_some, not, Option, Some, filter, nat_eq, slice_range}
 use Rattle.std.specs.List.{list_any, starts_with}
 use Rattle.std.proofs.Math.Seq.{drop-append_seam}
 use Rattle.std.proofs.lemmas.List.{take-append-drop}
 use Rattle.std.proofs.lemmas.Slice.Eq.{bytes_eq-Decides}
-use Rattle.std.proofs.lemmas.Str.{encodes-append}
 use Rattle.memchr.specs.Find.{FindsNeedle}
 use Rattle.memchr.proofs.lemmas.MatchLemmas.{OccursAt-from_part}
 use Rattle.py_lines.specs.LogicalLine.{LogicalLine}
-use Rattle.py_lines.specs.Piece.{spelled}
-use Rattle.py_lines.specs.LogicalLine.{cut}
-use Rattle.py_lines.specs.Reader.{Reader, HasGiven}
 use Rattle.py_lines.specs.declared.token.Token.{Token}
 use Rattle.py_imports.specs.ActionComment.{begins_with_phrase, begins_with_action, action_word, says}
 use Rattle.py_imports.specs.Statement.{is_comment}
 use Rattle.py_imports.specs.declared.action_comment.ActionComment.{ActionComment}
-use Rattle.isort_sort.specs.Line.{comment_texts}
-use Rattle.isort_sort.specs.Private.Silence.{IsSilent}
+use Rattle.isort_sort.specs.Private.Silence.{IsSilent, SaysNothing}
 use Rattle.isort_sort.proofs.Rows.Comments.{comments_say}
-use Rattle.isort_sort.proofs.Rows.Texts.{texts_of_lines, lines_spelled, cut_spelled}
 
 silent_unfound : (text : List ℕ) → FindsNeedle text (codes "isort:") 0 None → IsSilent text
 silent_unfound text none = λ before after e.
@@ -81,21 +75,20 @@ silent_among a text silent (t ∷ ts) = by (is_comment t.kind) (silent_among a t
     by false later = later
 
 -- no comment of a silent line says an action
-pub silent_comments : (a : ActionComment) (line : LogicalLine) → IsSilent line.text → list_any (says a) (comment_texts line) ≡ false
-silent_comments a line silent = silent_among a line.text silent line.tokens
+pub silent_comments : (line : LogicalLine) → IsSilent line.text → SaysNothing line
+silent_comments line silent a = silent_among a line.text silent line.tokens
 
--- a line that was given is a part of the text
-pub silent_line : (r : Reader) (lines : List LogicalLine) (line : LogicalLine) → HasGiven r (lines ++ line ∷ []) → IsSilent r.text → IsSilent line.text
-silent_line r lines line given =
-    let first = given.first in
-    silent_part r.text (texts_of_lines lines) line.text (encode_utf8_all first.rest ++ first.tail) (
-    sym first.decodes.spell
-    ∙ ap (λ t. t ++ first.tail) (ap encode_utf8_all (sym first.spell) ∙ encodes-append (spelled first.pieces) first.rest)
-    ∙ append_assoc (encode_utf8_all (spelled first.pieces)) (encode_utf8_all first.rest) first.tail
-    ∙ ap (λ t. t ++ (encode_utf8_all first.rest ++ first.tail)) (ap encode_utf8_all (sym (cut_spelled 0 first.pieces)) ∙ sym (lines_spelled 0 1 (cut 0 first.pieces)) ∙ ap texts_of_lines (sym first.cut) ∙ texts_snoc lines)
-    ∙ append_assoc (texts_of_lines lines) line.text (encode_utf8_all first.rest ++ first.tail)
-    )
+-- nor does a line without comments
+no_comment_among : (a : ActionComment) (text : List ℕ) (tokens : List Token) → list_any (λ t. is_comment t.kind) tokens ≡ false → comments_say a text tokens ≡ false
+no_comment_among a text [] none = refl
+no_comment_among a text (t ∷ ts) none = by (is_comment t.kind) none (no_comment_among a text ts)
   where
-    texts_snoc : (ls : List LogicalLine) → texts_of_lines (ls ++ line ∷ []) ≡ texts_of_lines ls ++ line.text
-    texts_snoc [] = append-nil line.text
-    texts_snoc (l ∷ ls) = ap (λ t. l.text ++ t) (texts_snoc ls) ∙ sym (append_assoc l.text (texts_of_lines ls) line.text)
+    others : List Token
+    others = filter (λ t. is_comment t.kind) ts
+
+    by : (b : Bool) → b || list_any (λ t. is_comment t.kind) ts ≡ false → (list_any (λ t. is_comment t.kind) ts ≡ false → comments_say a text ts ≡ false) → list_any (says a) (map (λ t. slice_range text t.start t.stop) (cond b (t ∷ others) others)) ≡ false
+    by true h later = absurd (cc)
+    by false h later = later h
+
+pub bare_comments : (line : LogicalLine) → list_any (λ t. is_comment t.kind) line.tokens ≡ false → SaysNothing line
+bare_comments line none a = no_comment_among a line.text line.tokens none

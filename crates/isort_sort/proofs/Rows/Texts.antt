@@ -1,13 +1,15 @@
 -- A text is the texts of its rows, after its byte order mark.
-use Rattle.std.proofs.Common.{◌≡◌, ℕ, ◌+◌, Bool, true, false, cond, ◌&&◌, ◌==◌, None, List, [], ◌∷◌, ◌++◌, flat_map, take, drop, refl, sym, ap, ◌∙◌, append_assoc, append-nil}
+use Rattle.std.proofs.Common.{◌≡◌, ℕ, ◌+◌, Bool, true, false, cond, ◌&&◌, ◌==◌, None, List, [], ◌∷◌, ◌++◌, flat_map, length, take, drop, refl, sym, ap, ◌∙◌, append_assoc, append-nil, arith}
 use Rattle.std.specs.Prelude.{encode_utf8_all}
 use Rattle.std.proofs.lemmas.Str.{encodes-append}
-use Rattle.std.proofs.lemmas.List.{take-append-drop}
+use Rattle.std.proofs.lemmas.List.{take-append-drop, length-append}
 use Rattle.py_lines.specs.Balance.{depth_after}
 use Rattle.py_lines.specs.Lexed.{IsLexed}
-use Rattle.py_lines.specs.LogicalLine.{LogicalLine, is_line_end_class, put_first, cut, byte_len, line_ends, lines_from}
+use Rattle.py_lines.specs.LogicalLine.{LogicalLine, line_of, is_line_end_class, put_first, cut, byte_len, line_ends, lines_from}
 use Rattle.py_lines.specs.Piece.{Piece, spelled}
+use Rattle.py_lines.specs.Reader.{Reader, HasGiven}
 use Rattle.py_imports.specs.Shape.{mark_len}
+use Rattle.isort_sort.specs.Private.FirstWords.{StandsIn}
 use Rattle.isort_sort.specs.Row.{Row, AreRows}
 use Rattle.isort_sort.specs.Sorted.{texts_of, mark_of}
 
@@ -31,6 +33,39 @@ texts_of_lines lines = flat_map (λ line. line.text) lines
 pub lines_spelled : (offset line : ℕ) (us : List (List Piece)) → texts_of_lines (lines_from offset line us) ≡ encode_utf8_all (flat_map spelled us)
 lines_spelled offset line [] = refl
 lines_spelled offset line (u ∷ us) = ap (λ (t : List ℕ). encode_utf8_all (spelled u) ++ t) (lines_spelled (offset + byte_len (spelled u)) (line + line_ends (spelled u)) us) ∙ sym (encodes-append (spelled u) (flat_map spelled us))
+
+-- the byte at which a line stands: after the texts of the lines before it
+line_place : (offset number : ℕ) (us : List (List Piece)) (before : List LogicalLine) (line : LogicalLine) → lines_from offset number us ≡ before ++ line ∷ [] → line.offset ≡ offset + length (texts_of_lines before)
+line_place offset number [] [] line e = absurd cc
+line_place offset number [] (l ∷ ls) line e = absurd cc
+line_place offset number (u ∷ us) [] line e =
+    let same : line_of offset number u ≡ line = cc in
+    omega (arith, ap (λ (l : LogicalLine). l.offset) same)
+line_place offset number (u ∷ us) (l ∷ ls) line e =
+    let same : line_of offset number u ≡ l = cc in
+    let others : lines_from (offset + byte_len (spelled u)) (number + line_ends (spelled u)) us ≡ ls ++ line ∷ [] = cc in
+    omega (arith, length-append l.text (texts_of_lines ls), ap (λ (m : LogicalLine). length m.text) same, line_place (offset + byte_len (spelled u)) (number + line_ends (spelled u)) us ls line others)
+
+texts_snoc : (before : List LogicalLine) (line : LogicalLine) → texts_of_lines (before ++ line ∷ []) ≡ texts_of_lines before ++ line.text
+texts_snoc [] line = append-nil line.text
+texts_snoc (l ∷ ls) line = ap (λ t. l.text ++ t) (texts_snoc ls line) ∙ sym (append_assoc l.text (texts_of_lines ls) line.text)
+
+-- a line that was given stands in the text, after those before it
+pub line_stands : (r : Reader) (before : List LogicalLine) (line : LogicalLine) → HasGiven r (before ++ line ∷ []) → StandsIn r.text line
+line_stands r before line given =
+    let first = given.first in
+    let rest = encode_utf8_all first.rest in
+    record {
+      before = texts_of_lines before;
+      after = rest ++ first.tail;
+      whole =
+          sym first.decodes.spell
+          ∙ ap (λ t. t ++ first.tail) (ap encode_utf8_all (sym first.spell) ∙ encodes-append (spelled first.pieces) first.rest)
+          ∙ append_assoc (encode_utf8_all (spelled first.pieces)) rest first.tail
+          ∙ ap (λ t. t ++ (rest ++ first.tail)) (ap encode_utf8_all (sym (cut_spelled 0 first.pieces)) ∙ sym (lines_spelled 0 1 (cut 0 first.pieces)) ∙ ap texts_of_lines (sym first.cut) ∙ texts_snoc before line)
+          ∙ append_assoc (texts_of_lines before) line.text (rest ++ first.tail);
+      place = omega (arith, line_place 0 1 (cut 0 first.pieces) before line (sym first.cut));
+    }
 
 -- a text is the texts of its lines
 pub text_of_lines : (text : List ℕ) (lines : List LogicalLine) → IsLexed text lines None → text ≡ texts_of_lines lines

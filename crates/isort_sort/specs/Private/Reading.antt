@@ -1,8 +1,11 @@
 -- What the program knows of the lines of a text that it has read.
-use Rattle.std.specs.Prelude.{◌≡◌, ℕ, Bool, true, false, not, nat_lt, List, [], ◌∷◌, ◌++◌, length, map, drop}
+use Rattle.std.specs.Prelude.{◌≡◌, ℕ, Bool, true, false, not, nat_lt, Result, Ok, Err, List, [], ◌∷◌, ◌++◌, length, map, drop}
 use Rattle.std.specs.List.{list_any}
 use Rattle.std.specs.Str.{IsUtf8}
+use Rattle.std.specs.declared.alloc.AllocError.{AllocError}
 use Rattle.py_lines.specs.LogicalLine.{LogicalLine}
+use Rattle.py_lines.specs.Reader.{Reader, Continues}
+use Rattle.py_imports.specs.Binds.{Binds}
 use Rattle.py_imports.specs.Shape.{is_nothing}
 use Rattle.py_imports.specs.Statement.{significant}
 use Rattle.isort_sort.specs.Private.Arranging.{AreUtf8, IsCutText}
@@ -57,6 +60,13 @@ pub record IsReadSoFar (lines : List LogicalLine) (r : LineReader) : Type 0 wher
 -- whatever lines were read, this one is read after them
 abbrev pub ReadsLine : LogicalLine → LineReader → LineReader → Type 0
 ReadsLine line old new = (lines : List LogicalLine) → IsReadSoFar lines old → IsReadSoFar (lines ++ line ∷ []) new
+
+-- what a call that passes over the next line answers: the line has no import statement, and is read; or nothing changed
+abbrev pub PassesOver : Reader → LineReader → Result Bool AllocError → Reader → LineReader → Type 0
+PassesOver before old (Ok true) after new =
+    (line : LogicalLine) × Continues before line after × Binds line [] × ReadsLine line old new
+PassesOver before old (Ok false) after new = (after ≡ before) × (new ≡ old)
+PassesOver before old (Err e) after new = Unit {0}
 
 -- the same before this line, where the text's byte order mark is known from it
 pub record IsReadBefore (lines : List LogicalLine) (line : LogicalLine) (r : LineReader) : Type 0 where

@@ -4,29 +4,32 @@ use isort_cmd::{UsageError, command};
 use std::alloc::Global;
 use std::test::Fail;
 
-/// These words, as `command` takes them.
-fn owned(alloc: Global, words: &[&str]) -> Option<Vec<String>> {
-    let mut all = Vec::new(alloc);
-    for word in words {
-        all.push(String::from_str(alloc, word).ok()?).ok()?;
+/// The words of a line, as `command` takes them.
+fn words_of(alloc: Global, line: &str) -> Option<Vec<String>> {
+    let mut words = Vec::new(alloc);
+    for word in line.split_whitespace() {
+        words.push(String::from_str(alloc, word).ok()?).ok()?;
     }
-    Some(all)
+    Some(words)
 }
 
-/// Words, and how what `command` makes of them begins, as it is shown for debugging. A job is shown whole.
-struct Reads(&'static [&'static str], &'static str);
+/// A line of words, and how what `command` makes of them begins, as it is shown for debugging. A job is shown whole.
+struct Reads(&'static str, &'static str);
 
-impl Reads {
-    /// What `command` makes of the words, as it is shown for debugging.
-    fn shown(&self, alloc: Global) -> Option<String> {
-        let answer = command(alloc, owned(alloc, self.0)?);
-        format!(in alloc; "{answer:?}").ok()
-    }
+/// What `command` makes of the words, as it is shown for debugging.
+fn shown(alloc: Global, words: Vec<String>) -> Option<String> {
+    let answer = command(alloc, words);
+    format!(in alloc; "{answer:?}").ok()
+}
+
+/// What `command` makes of a line of words, as it is shown for debugging.
+fn shown_of(alloc: Global, line: &str) -> Option<String> {
+    shown(alloc, words_of(alloc, line)?)
 }
 
 impl Case for Reads {
     fn holds(&self, alloc: Global) -> bool {
-        match self.shown(alloc) {
+        match shown_of(alloc, self.0) {
             Some(text) => text.as_str().starts_with(self.1),
             None => false,
         }
@@ -35,104 +38,96 @@ impl Case for Reads {
 
 const HELP: &str = "Err(Help(\"Sort the import statements of Python files, or list them.\\n";
 
-const REFUSALS: &[Reads] = &[
+const LINES: &[Reads] = &[
+    Reads("isort --identify --modules --packages -", "Err(Together)"),
+    Reads("isort --packages a.py", "Err(Together)"),
+    Reads("isort --top-only a.py", "Err(Together)"),
+    Reads("isort --identify --check a.py", "Err(Together)"),
+    Reads("isort --identify -d a.py", "Err(Together)"),
+    Reads("isort --identify --profile black a.py", "Err(Together)"),
+    Reads("isort --identify -m 3 a.py", "Err(Together)"),
     Reads(
-        &["isort", "--identify", "--modules", "--packages", "-"],
-        "Err(Together)",
-    ),
-    Reads(&["isort", "--packages", "a.py"], "Err(Together)"),
-    Reads(&["isort", "--top-only", "a.py"], "Err(Together)"),
-    Reads(&["isort", "--identify", "--check", "a.py"], "Err(Together)"),
-    Reads(&["isort", "--identify", "-d", "a.py"], "Err(Together)"),
-    Reads(
-        &["isort", "--identify", "--profile", "black", "a.py"],
-        "Err(Together)",
-    ),
-    Reads(&["isort", "--identify", "-m", "3", "a.py"], "Err(Together)"),
-    Reads(
-        &["isort"],
+        "isort",
         "Err(Refused(\"error: the following required arguments were not provided:\\n",
     ),
     Reads(
-        &["isort", "-c", "-c", "a.py"],
+        "isort -c -c a.py",
         "Err(Refused(\"error: the argument '--check-only' cannot be used multiple times\\n",
     ),
     Reads(
-        &["isort", "-x", "a.py"],
+        "isort -x a.py",
         "Err(Refused(\"error: unexpected argument '-x' found\\n",
     ),
     Reads(
-        &["isort", "a.py", "-l"],
+        "isort a.py -l",
         "Err(Refused(\"error: a value is required for '--line-length <N>' but none was supplied\\n",
     ),
     Reads(
-        &["isort", "-l", "x", "a.py"],
+        "isort -l x a.py",
         "Err(Refused(\"error: invalid value 'x' for '--line-length <N>'",
     ),
     Reads(
-        &["isort", "-l=-1", "a.py"],
+        "isort -l=-1 a.py",
         "Err(Refused(\"error: invalid value '-1' for '--line-length <N>'",
     ),
     Reads(
-        &["isort", "-m", "4294967296", "a.py"],
+        "isort -m 4294967296 a.py",
         "Err(Refused(\"error: invalid value '4294967296' for '--multi-line <N>'",
     ),
-    Reads(&["isort", "--help"], HELP),
-    Reads(&["isort", "-h"], HELP),
-];
-
-const JOBS: &[Reads] = &[
+    Reads("isort --help", HELP),
+    Reads("isort -h", HELP),
+    // Jobs.
     Reads(
-        &["isort", "--identify", "-"],
+        "isort --identify -",
         "Ok(Job { files: [\"-\"], action: Identify(FindOptions { unique: None, top_only: false }) })",
     ),
     Reads(
-        &["isort", "--identify", "--top-only", "a.py", "b.py"],
+        "isort --identify --top-only a.py b.py",
         "Ok(Job { files: [\"a.py\", \"b.py\"], action: Identify(FindOptions { unique: None, top_only: true }) })",
     ),
     Reads(
-        &["isort", "a.py", "--unique", "--identify", "--", "-c"],
+        "isort a.py --unique --identify -- -c",
         "Ok(Job { files: [\"a.py\", \"-c\"], action: Identify(FindOptions { unique: Some(Alias), top_only: false }) })",
     ),
     Reads(
-        &["isort", "--identify", "--packages", "a.py"],
+        "isort --identify --packages a.py",
         "Ok(Job { files: [\"a.py\"], action: Identify(FindOptions { unique: Some(Package), top_only: false }) })",
     ),
     Reads(
-        &["isort", "--identify", "--modules", "a.py"],
+        "isort --identify --modules a.py",
         "Ok(Job { files: [\"a.py\"], action: Identify(FindOptions { unique: Some(Module), top_only: false }) })",
     ),
     Reads(
-        &["isort", "--identify", "--attributes", "a.py"],
+        "isort --identify --attributes a.py",
         "Ok(Job { files: [\"a.py\"], action: Identify(FindOptions { unique: Some(Attribute), top_only: false }) })",
     ),
     Reads(
-        &["isort", "a.py", "b.py"],
+        "isort a.py b.py",
         "Ok(Job { files: [\"a.py\", \"b.py\"], action: Sort { check: false, to_stdout: false, \
          settings_file: None, profile: None, line_length: None, multi_line: None } })",
     ),
     Reads(
-        &["isort", "-l", "0", "a.py"],
+        "isort -l 0 a.py",
         "Ok(Job { files: [\"a.py\"], action: Sort { check: false, to_stdout: false, settings_file: None, \
          profile: None, line_length: Some(0), multi_line: None } })",
     ),
     Reads(
-        &["isort", "-c", "-l", "100", "a.py"],
+        "isort -c -l 100 a.py",
         "Ok(Job { files: [\"a.py\"], action: Sort { check: true, to_stdout: false, settings_file: None, \
          profile: None, line_length: Some(100), multi_line: None } })",
     ),
     Reads(
-        &["isort", "--check", "-m=3", "-"],
+        "isort --check -m=3 -",
         "Ok(Job { files: [\"-\"], action: Sort { check: true, to_stdout: false, settings_file: None, \
          profile: None, line_length: None, multi_line: Some(3) } })",
     ),
     Reads(
-        &["isort", "a.py", "-cdl5", "b.py"],
+        "isort a.py -cdl5 b.py",
         "Ok(Job { files: [\"a.py\", \"b.py\"], action: Sort { check: true, to_stdout: true, \
          settings_file: None, profile: None, line_length: Some(5), multi_line: None } })",
     ),
     Reads(
-        &["isort", "--settings-file", "s.toml", "--profile=", "a.py"],
+        "isort --settings-file s.toml --profile= a.py",
         "Ok(Job { files: [\"a.py\"], action: Sort { check: false, to_stdout: false, \
          settings_file: Some(\"s.toml\"), profile: Some(\"\"), line_length: None, multi_line: None } })",
     ),
@@ -150,6 +145,5 @@ fn is_printed(alloc: Global) -> bool {
 #[test]
 fn reads_words(rt: HostRuntime) -> Result<(), Fail> {
     all_are_so(&[is_printed(rt.alloc()) || is_printed(rt.alloc())])?;
-    each_holds_again(rt.alloc(), REFUSALS)?;
-    each_holds_again(rt.alloc(), JOBS)
+    each_holds_again(rt.alloc(), "LINES", LINES)
 }

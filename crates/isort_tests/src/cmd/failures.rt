@@ -234,11 +234,9 @@ impl SettingsCase for Endless {
 const TASKS: &[Endless] = &[Endless(Task::Identify), Endless(Task::Sort)];
 
 #[test]
-fn answers_each_failure_and_waits_for_interrupted_calls(rt: HostRuntime) -> Result<(), Fail> {
-    each_holds_with(rt.alloc(), "", ROWS)
-}
-
-#[test]
-fn leaves_a_reader_without_end(rt: HostRuntime) -> Result<(), Fail> {
-    each_holds_with(rt.alloc(), "", TASKS)
+fn answers_each_failure_waits_for_interrupted_calls_and_leaves_a_reader_without_end(
+    rt: HostRuntime,
+) -> Result<(), Fail> {
+    each_holds_with(rt.alloc(), "ROWS", "", ROWS)?;
+    each_holds_with(rt.alloc(), "TASKS", "", TASKS)
 }

@@ -2,7 +2,7 @@
 use crate::find::options::{ALL, ATTRIBUTES, MODULES, PACKAGES, TOP, UNIQUE};
 use crate::harness::cases::{Case, each_holds_again};
 use crate::harness::devices::{Device, Trouble};
-use crate::texts::{FIRST, FIRST_LINES, brackets};
+use crate::texts::{ALIKE, DECLARED, FIRST, FIRST_LINES, brackets};
 use isort_cmd::*;
 use py_lines::{Fault, FaultKind as Kind};
 use std::alloc::Global;
@@ -113,10 +113,6 @@ impl Case for Listed<'_> {
 const WHOLE: (FindOptions, u16) = (ALL, 1000);
 
 const TOO_LONG: End = End::Error(RunError::TooLong);
-
-const ALIKE: &[u8] = b"import a.b\nfrom a import c\nfrom .a import d\nfrom a import c as e\n";
-
-const DECLARED: &[u8] = b"import a\nif a:\n    def f(): pass\n    import b\n@d\nx = (\n";
 
 const THREE: &str = "p.py:1 import a.b\np.py:2 from a import c\np.py:3 from .a import d\n";
 
@@ -233,7 +229,7 @@ fn counts_brackets(rt: HostRuntime) -> Result<(), Fail> {
         ),
         Listed(&text[..201], WHOLE, "", End::Fault(Kind::TooDeep, 200, 1)),
     ];
-    each_holds_again(rt.alloc(), &rows)
+    each_holds_again(rt.alloc(), "rows", &rows)
 }
 
 /// A text, how its listing ends, and the lines of it and of another text, which is listed to the same writer.
@@ -264,8 +260,8 @@ const FOLLOWED: &[Followed] = &[
 
 #[test]
 fn lists_texts(rt: HostRuntime) -> Result<(), Fail> {
-    each_holds_again(rt.alloc(), LISTED)?;
-    each_holds_again(rt.alloc(), FOLLOWED)
+    each_holds_again(rt.alloc(), "LISTED", LISTED)?;
+    each_holds_again(rt.alloc(), "FOLLOWED", FOLLOWED)
 }
 
 /// A text, what goes wrong with its reader, the options, how many bytes are taken, and how the listing of `import a`
@@ -295,6 +291,9 @@ const FAILS: Trouble = Trouble::End(ErrorKind::Other);
 
 const UNREAD: End = End::Error(RunError::Read);
 
+/// The fault of a bracket at byte 9, in line 2.
+const CLOSED: End = End::Fault(Kind::WrongClose, 9, 2);
+
 const CUT: &[Cut] = &[
     Cut(b"import a\nimport b", FAILS, WHOLE, UNREAD),
     Cut(
@@ -311,24 +310,9 @@ const CUT: &[Cut] = &[
         (ALL, 18),
         TOO_LONG,
     ),
-    Cut(
-        b"import a\n)",
-        FAILS,
-        WHOLE,
-        End::Fault(Kind::WrongClose, 9, 2),
-    ),
-    Cut(
-        b"import a\n)import b\n",
-        Trouble::None,
-        (ALL, 10),
-        End::Fault(Kind::WrongClose, 9, 2),
-    ),
-    Cut(
-        b"import a\r)",
-        FAILS,
-        WHOLE,
-        End::Fault(Kind::WrongClose, 9, 2),
-    ),
+    Cut(b"import a\n)", FAILS, WHOLE, CLOSED),
+    Cut(b"import a\n)import b\n", Trouble::None, (ALL, 10), CLOSED),
+    Cut(b"import a\r)", FAILS, WHOLE, CLOSED),
     Cut(
         b"import a\nimport b,\n",
         FAILS,
@@ -461,6 +445,6 @@ const TROUBLED: &[Troubled] = &[
 
 #[test]
 fn lists_what_came_through_troubled_devices(rt: HostRuntime) -> Result<(), Fail> {
-    each_holds_again(rt.alloc(), CUT)?;
-    each_holds_again(rt.alloc(), TROUBLED)
+    each_holds_again(rt.alloc(), "CUT", CUT)?;
+    each_holds_again(rt.alloc(), "TROUBLED", TROUBLED)
 }

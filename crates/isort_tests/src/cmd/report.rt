@@ -92,5 +92,5 @@ const ROWS: &[Told] = &[
 
 #[test]
 fn tells_of_files(rt: HostRuntime) -> Result<(), Fail> {
-    each_holds_again(rt.alloc(), ROWS)
+    each_holds_again(rt.alloc(), "ROWS", ROWS)
 }

@@ -2,6 +2,7 @@
 use crate::find::acts::{begun, resumed, tell_import, tell_place};
 use crate::find::options::{ALL, ATTRIBUTES, MODULES, PACKAGES, TOP, UNIQUE};
 use crate::harness::cases::{Case, all_are_so, each_holds, each_holds_again, page};
+use crate::texts::{ALIKE, DECLARED};
 use isort_find::laws::equal_keys;
 use isort_find::{Cursor, FindOptions, Finder, ImportKey, KeyText, ResumeError, binding_key};
 use py_imports::Binding;
@@ -18,19 +19,19 @@ fn tell_some(alloc: Global, mut finder: Finder<'_>, answers: usize, out: &mut St
     cursor
 }
 
-const ALIKE: &str = "import a.b\nfrom a import c\nfrom .a import d\nfrom a import c as e\n";
-
-const DECLARED: &str = "import a\nif a:\n    def f(): pass\n    import b\n@d\nx = (\n";
-
-/// A text, the options, how many answers are told before a stop and how many after it, and what is told.
-struct Story(&'static str, FindOptions, (usize, usize), &'static str);
+/// A text, the options, how many answers are told before each stop, and what is told. A finder goes on from where the one
+/// before it stopped.
+struct Story(&'static [u8], FindOptions, &'static [usize], &'static str);
 
 impl Story {
     /// Tells all that, or gives up where there is no finder.
-    fn tell(&self, alloc: Global, out: &mut String) -> Option<Cursor> {
-        let text = self.0.as_bytes();
-        let cursor = tell_some(alloc, begun(alloc, text, self.1)?, self.2.0, out);
-        Some(tell_some(alloc, resumed(alloc, text, cursor)?, self.2.1, out))
+    fn tell(&self, alloc: Global, out: &mut String) -> Option<()> {
+        let mut finder = begun(alloc, self.0, self.1)?;
+        for answers in self.2 {
+            let cursor = tell_some(alloc, finder, *answers, out);
+            finder = resumed(alloc, self.0, cursor)?;
+        }
+        Some(())
     }
 }
 
@@ -46,119 +47,138 @@ const STORIES: &[Story] = &[
     Story(
         ALIKE,
         PACKAGES,
-        (1, 2),
+        &[1, 2],
         "1 import a.b\nat 0, 1\n3 from .a import d\nend\nat 65, 2\n",
     ),
     Story(
         ALIKE,
         MODULES,
-        (2, 2),
+        &[2, 2],
         "1 import a.b\n2 from a import c\nat 11, 2\n3 from .a import d\nend\nat 65, 3\n",
     ),
     Story(
         ALIKE,
         ATTRIBUTES,
-        (2, 2),
+        &[2, 2],
         "1 import a.b\n2 from a import c\nat 11, 2\n3 from .a import d\nend\nat 65, 3\n",
     ),
     Story(
         ALIKE,
         UNIQUE,
-        (3, 2),
+        &[3, 2],
         "1 import a.b\n2 from a import c\n3 from .a import d\nat 27, 3\n4 from a import c as e\nend\nat 65, 4\n",
     ),
     // Later imports of a key are dropped.
     Story(
-        "import a, b, a as c\nimport b.c\n",
+        b"import a, b, a as c\nimport b.c\n",
         MODULES,
-        (2, 2),
+        &[2, 2],
         "1 import a\n1 import b\nat 0, 2\n2 import b.c\nend\nat 31, 3\n",
     ),
     Story(
-        "import a\nimport a, b\nimport b\n",
+        b"import a\nimport a, b\nimport b\n",
         MODULES,
-        (1, 2),
+        &[1, 2],
         "1 import a\nat 0, 1\n2 import b\nend\nat 30, 2\n",
     ),
     Story(
-        "import a\nimport b, a, c, b, d\nimport a, e\n",
+        b"import a\nimport b, a, c, b, d\nimport a, e\n",
         MODULES,
-        (3, 3),
+        &[3, 3],
         "1 import a\n2 import b\n2 import c\nat 9, 3\n2 import d\n3 import e\nend\nat 42, 5\n",
     ),
-    Story("", MODULES, (2, 1), "end\nend\nat 0, 0\nend\nat 0, 0\n"),
+    Story(b"", MODULES, &[2, 1], "end\nend\nat 0, 0\nend\nat 0, 0\n"),
     Story(
-        "\u{feff}",
+        b"\xef\xbb\xbf",
         MODULES,
-        (2, 1),
+        &[2, 1],
         "end\nend\nat 3, 0\nend\nat 3, 0\n",
     ),
     // The finder stops at the top if it is asked to.
     Story(
         DECLARED,
         TOP,
-        (4, 1),
+        &[4, 1],
         "1 import a\n4 indented import b\nend\nend\nat 46, 2\nend\nat 46, 2\n",
     ),
     Story(
         DECLARED,
         ALL,
-        (4, 1),
+        &[4, 1],
         "1 import a\n4 indented import b\nF6 bracket not closed, 53, 6\nF6 bracket not closed, 53, 6\n\
          at 49, 2\nF6 bracket not closed, 53, 6\nat 49, 2\n",
     ),
     // A fault is told again and again.
     Story(
-        "import a\nimport b\nx = (1,",
+        b"import a\nimport b\nx = (1,",
         TOP,
-        (3, 1),
+        &[3, 1],
         "1 import a\n2 import b\nF6 bracket not closed, 22, 3\nat 18, 2\nF6 bracket not closed, 22, 3\nat 18, 2\n",
     ),
     Story(
-        "import a\nfrom b import c,\n",
+        b"import a\nfrom b import c,\n",
         TOP,
-        (3, 1),
+        &[3, 1],
         "1 import a\nF9 import statement not understood, 9, 2\nF9 import statement not understood, 9, 2\n\
          at 9, 1\nF9 import statement not understood, 9, 2\nat 9, 1\n",
     ),
     Story(
-        "import a\n\u{feff}",
+        b"import a\n\xef\xbb\xbf",
         TOP,
-        (3, 1),
+        &[3, 1],
         "1 import a\nF2 unexpected character, 9, 2\nF2 unexpected character, 9, 2\nat 9, 1\n\
          F2 unexpected character, 9, 2\nat 9, 1\n",
     ),
     Story(
-        "import a\ndef f(): x = )\n",
+        b"import a\ndef f(): x = )\n",
         TOP,
-        (3, 1),
+        &[3, 1],
         "1 import a\nF5 closing bracket without its opening, 22, 2\n\
          F5 closing bracket without its opening, 22, 2\nat 9, 1\n\
          F5 closing bracket without its opening, 22, 2\nat 9, 1\n",
     ),
     // The finder goes on inside a line.
     Story(
-        "import a, b, c",
+        b"import a, b, c",
         ALL,
-        (2, 2),
+        &[2, 2],
         "1 import a\n1 import b\nat 0, 2\n1 import c\nend\nat 14, 3\n",
+    ),
+    // It is asked one by one.
+    Story(
+        b"import a, b, c",
+        ATTRIBUTES,
+        &[0, 1, 1, 1, 1],
+        "at 0, 0\n1 import a\nat 0, 1\n1 import b\nat 0, 2\n1 import c\nat 0, 3\nend\nat 14, 3\n",
+    ),
+    Story(
+        ALIKE,
+        ATTRIBUTES,
+        &[0, 1, 1, 1, 1],
+        "at 0, 0\n1 import a.b\nat 0, 1\n2 from a import c\nat 11, 2\n3 from .a import d\nat 27, 3\nend\nat 65, 3\n",
+    ),
+    Story(
+        b"import a\nimport b\nx = (1,",
+        ATTRIBUTES,
+        &[0, 1, 1, 1],
+        "at 0, 0\n1 import a\nat 0, 1\n2 import b\nat 9, 2\nF6 bracket not closed, 22, 3\nat 18, 2\n",
     ),
 ];
 
 #[test]
 fn tells_stories(rt: HostRuntime) -> Result<(), Fail> {
-    each_holds(rt.alloc(), STORIES)
+    each_holds(rt.alloc(), "STORIES", STORIES)
 }
 
 /// A text, how many answers of it are told, a shorter text, which its cursor is refused for, and what is told.
-struct Short(&'static str, usize, &'static str, &'static str);
+struct Short(&'static [u8], usize, &'static [u8], &'static str);
 
 impl Short {
     /// Tells the cursor that comes back, and gives why.
     fn refusal(&self, alloc: Global, out: &mut String) -> Option<ResumeError> {
-        let finder = begun(alloc, self.0.as_bytes(), ALL)?;
+        let finder = begun(alloc, self.0, ALL)?;
         let cursor = tell_some(alloc, finder, self.1, out);
-        let (cursor, error) = Finder::resume(alloc, self.2.as_bytes(), cursor).err()?;
+        let (cursor, error) = Finder::resume(alloc, self.2, cursor).err()?;
         tell_place(&cursor, out);
         Some(error)
     }
@@ -173,66 +193,15 @@ impl Case for Short {
 }
 
 const SHORT: &[Short] = &[Short(
-    "import a, b, c",
+    b"import a, b, c",
     4,
-    "import a",
+    b"import a",
     "1 import a\n1 import b\n1 import c\nend\nat 14, 3\nat 14, 3\n",
 )];
 
-/// Where a finder stops that goes on from the cursor and tells its next answer.
-fn pass(alloc: Global, text: &[u8], cursor: Cursor, out: &mut String) -> Option<Cursor> {
-    let mut finder = resumed(alloc, text, cursor)?;
-    tell_import(alloc, &mut finder, "end\n", out);
-    Some(finder.stop())
-}
-
-/// A text, how many answers of it are asked for, each of a finder that goes on from where the one before it stopped, and
-/// what is told.
-struct Asked(&'static str, usize, &'static str);
-
-impl Asked {
-    /// Tells all that, or gives up where there is no finder.
-    fn tell(&self, alloc: Global, out: &mut String) -> Option<Cursor> {
-        let text = self.0.as_bytes();
-        let mut cursor = begun(alloc, text, ATTRIBUTES)?.stop();
-        for _ in 0..self.1 {
-            cursor = pass(alloc, text, cursor, out)?;
-        }
-        Some(cursor)
-    }
-}
-
-impl Case for Asked {
-    fn holds(&self, alloc: Global) -> bool {
-        let mut out = page(alloc);
-        self.tell(alloc, &mut out).is_some() && out.as_str() == self.2
-    }
-}
-
-const ASKED: &[Asked] = &[
-    Asked(
-        "import a, b, c",
-        4,
-        "1 import a\n1 import b\n1 import c\nend\n",
-    ),
-    Asked(
-        ALIKE,
-        4,
-        "1 import a.b\n2 from a import c\n3 from .a import d\nend\n",
-    ),
-    Asked(
-        "import a\nimport b\nx = (1,",
-        3,
-        "1 import a\n2 import b\nF6 bracket not closed, 22, 3\n",
-    ),
-];
-
 #[test]
-fn answers_when_it_is_asked_one_by_one_and_refuses_short_texts(
-    rt: HostRuntime,
-) -> Result<(), Fail> {
-    each_holds(rt.alloc(), ASKED)?;
-    each_holds_again(rt.alloc(), SHORT)
+fn refuses_short_texts(rt: HostRuntime) -> Result<(), Fail> {
+    each_holds_again(rt.alloc(), "SHORT", SHORT)
 }
 
 /// Whether a cursor that stopped at once has its finder's options.
@@ -330,5 +299,5 @@ const KEYS: &[Keys] = &[
 #[test]
 fn makes_keys_and_keeps_its_options(rt: HostRuntime) -> Result<(), Fail> {
     all_are_so(&[keeps(rt.alloc(), ASKED_FOR) || keeps(rt.alloc(), ASKED_FOR)])?;
-    each_holds_again(rt.alloc(), KEYS)
+    each_holds_again(rt.alloc(), "KEYS", KEYS)
 }

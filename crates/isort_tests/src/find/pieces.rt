@@ -4,10 +4,17 @@ ghost use Rattle.std.specs.Prelude.{◌≤◌, length};
 use crate::find::acts::{Act, tell_acts, tells};
 use crate::find::options::{ALL, ATTRIBUTES, MODULES, PACKAGES, TOP, UNIQUE};
 use crate::harness::cases::{Case, all_are_so, each_holds, each_holds_again};
-use crate::texts::{brackets, fields};
+use crate::texts::{ALIKE, DECLARED, brackets, fields};
 use isort_find::FindOptions;
 use std::alloc::Global;
 use std::test::Fail;
+
+/// Whether a finder that is fed the text in one piece tells what a finder of the whole text tells.
+fn tells_of_a_piece_as_of_a_whole(alloc: Global, options: FindOptions, text: &[u8]) -> bool {
+    let whole = tell_acts(alloc, options, &[Act::Found(text), Act::Stop]);
+    let piece = Act::Text(text, b"");
+    tells(alloc, options, &[piece, Act::Stop], whole.as_str())
+}
 
 /// A text, options, and what is told of the text with them.
 #[derive(Drop)]
@@ -20,9 +27,7 @@ impl Row<'_> {
         requires { cut ≤ length self.now.0.now }
     {
         let (first, second) = (&self.0[..cut], &self.0[cut..]);
-        let whole = tell_acts(alloc, self.1, &[Act::Found(first), Act::Stop]);
-        let piece = Act::Text(first, b"");
-        tells(alloc, self.1, &[piece, Act::Stop], whole.as_str())
+        tells_of_a_piece_as_of_a_whole(alloc, self.1, first)
             && tells(
                 alloc,
                 self.1,
@@ -81,20 +86,66 @@ const ROWS: &[Row<'static>] = &[
         "2 indented import b\nend\nat 19, 1\n",
     ),
     Row(
-        b"import a.b\nfrom a import c\nfrom .a import d\nfrom a import c as e\n",
+        ALIKE,
         PACKAGES,
         "1 import a.b\n3 from .a import d\nend\nat 65, 2\n",
     ),
     Row(
-        b"import a.b\nfrom a import c\nfrom .a import d\nfrom a import c as e\n",
+        ALIKE,
         ATTRIBUTES,
         "1 import a.b\n2 from a import c\n3 from .a import d\nend\nat 65, 3\n",
     ),
     Row(
-        b"import a.b\nfrom a import c\nfrom .a import d\nfrom a import c as e\n",
+        ALIKE,
         UNIQUE,
         "1 import a.b\n2 from a import c\n3 from .a import d\n4 from a import c as e\nend\nat 65, 4\n",
     ),
+    Row(
+        b"import \xc3\xa9\r\nx = \"\"\"\"\"\"\nimport b",
+        ALL,
+        "1 import \u{e9}\n3 import b\nend\nat 30, 2\n",
+    ),
+    Row(
+        b"import os, sys as s  # import x\n\"import a\"\nimport os.path\n",
+        ALL,
+        "1 import os\n1 import sys as s\n3 import os.path\nend\nat 58, 3\n",
+    ),
+    Row(b"", ALL, "end\nat 0, 0\n"),
+    Row(b"\xef\xbb\xbf", ALL, "end\nat 3, 0\n"),
+    Row(
+        b"from a import (  # k\n    b as x,  # l\n    c,\n)\n",
+        ALL,
+        "1 from a import b as x\n1 from a import c\nend\nat 47, 2\n",
+    ),
+    Row(
+        b"x = 1 + \\\r\n  2\r\nfrom . .x import y\r\n",
+        ALL,
+        "3 from ..x import y\nend\nat 36, 1\n",
+    ),
+    Row(
+        ALIKE,
+        MODULES,
+        "1 import a.b\n2 from a import c\n3 from .a import d\nend\nat 65, 3\n",
+    ),
+    Row(
+        b"import a\nimport b, a, c, b, d\nimport a, e\n",
+        MODULES,
+        "1 import a\n2 import b\n2 import c\n2 import d\n3 import e\nend\nat 42, 5\n",
+    ),
+    Row(
+        DECLARED,
+        TOP,
+        "1 import a\n4 indented import b\nend\nat 46, 2\n",
+    ),
+    Row(
+        b"import a\ndef f(): pass\n(",
+        TOP,
+        "1 import a\nend\nat 9, 1\n",
+    ),
+];
+
+/// Texts with a fault.
+const BAD: &[Row<'static>] = &[
     Row(
         b"import a; import\n",
         ALL,
@@ -119,44 +170,7 @@ const ROWS: &[Row<'static>] = &[
     Row(b"$", ALL, "F2 unexpected character, 0, 1\nat 0, 0\n"),
     Row(b"a\xff", ALL, "F1 not UTF-8, 1, 1\nat 0, 0\n"),
     Row(
-        b"import \xc3\xa9\r\nx = \"\"\"\"\"\"\nimport b",
-        ALL,
-        "1 import \u{e9}\n3 import b\nend\nat 30, 2\n",
-    ),
-    Row(
-        b"import os, sys as s  # import x\n\"import a\"\nimport os.path\n",
-        ALL,
-        "1 import os\n1 import sys as s\n3 import os.path\nend\nat 58, 3\n",
-    ),
-    Row(b"", ALL, "end\nat 0, 0\n"),
-    Row(b"\xef\xbb\xbf", ALL, "end\nat 3, 0\n"),
-    Row(
-        b"from a import (  # k\n    b as x,  # l\n    c,\n)\n",
-        ALL,
-        "1 from a import b as x\n1 from a import c\nend\nat 47, 2\n",
-    ),
-    Row(
-        b"x = 1 + \\\r\n  2\r\nfrom . .x import y\r\n",
-        ALL,
-        "3 from ..x import y\nend\nat 36, 1\n",
-    ),
-    Row(
-        b"import a.b\nfrom a import c\nfrom .a import d\nfrom a import c as e\n",
-        MODULES,
-        "1 import a.b\n2 from a import c\n3 from .a import d\nend\nat 65, 3\n",
-    ),
-    Row(
-        b"import a\nimport b, a, c, b, d\nimport a, e\n",
-        MODULES,
-        "1 import a\n2 import b\n2 import c\n2 import d\n3 import e\nend\nat 42, 5\n",
-    ),
-    Row(
-        b"import a\nif a:\n    def f(): pass\n    import b\n@d\nx = (\n",
-        TOP,
-        "1 import a\n4 indented import b\nend\nat 46, 2\n",
-    ),
-    Row(
-        b"import a\nif a:\n    def f(): pass\n    import b\n@d\nx = (\n",
+        DECLARED,
         ALL,
         "1 import a\n4 indented import b\nF6 bracket not closed, 53, 6\nat 49, 2\n",
     ),
@@ -195,12 +209,10 @@ const ROWS: &[Row<'static>] = &[
         TOP,
         "1 import a\nF5 closing bracket without its opening, 22, 2\nat 9, 1\n",
     ),
-    Row(
-        b"import a\ndef f(): pass\n(",
-        TOP,
-        "1 import a\nend\nat 9, 1\n",
-    ),
-    // Strings with fields.
+];
+
+/// Strings with fields.
+const FIELDS: &[Row<'static>] = &[
     Row(b"f\"{d[\"import\"]}\"", ALL, "end\nat 16, 0\n"),
     Row(b"t'{x:{w}}'", ALL, "end\nat 10, 0\n"),
     Row(b"f\"{{\"", ALL, "end\nat 5, 0\n"),
@@ -239,7 +251,17 @@ const ROWS: &[Row<'static>] = &[
 
 #[test]
 fn tells_the_same_in_every_cut_and_with_many_stops(rt: HostRuntime) -> Result<(), Fail> {
-    each_holds(rt.alloc(), ROWS)
+    each_holds(rt.alloc(), "ROWS", ROWS)
+}
+
+#[test]
+fn tells_the_same_fault_in_every_cut(rt: HostRuntime) -> Result<(), Fail> {
+    each_holds(rt.alloc(), "BAD", BAD)
+}
+
+#[test]
+fn tells_strings_with_fields_in_every_cut(rt: HostRuntime) -> Result<(), Fail> {
+    each_holds(rt.alloc(), "FIELDS", FIELDS)
 }
 
 const TOO_DEEP: &str = "F8 more than 200 brackets open, 200, 1\nat 0, 0\n";
@@ -254,7 +276,7 @@ fn counts_brackets_in_every_cut(rt: HostRuntime) -> Result<(), Fail> {
         Row(&text[1..201], ALL, OPEN),
         Row(&text[..201], ALL, TOO_DEEP),
     ];
-    each_holds(rt.alloc(), &rows)
+    each_holds(rt.alloc(), "rows", &rows)
 }
 
 #[test]
@@ -268,7 +290,7 @@ fn counts_fields_in_every_cut(rt: HostRuntime) -> Result<(), Fail> {
             "F8 more than 200 brackets open, 602, 1\nat 0, 0\n",
         ),
     ];
-    each_holds(rt.alloc(), &rows)
+    each_holds(rt.alloc(), "rows", &rows)
 }
 
 /// Whether a text of 100 000 brackets is too deep, in pieces and whole.
@@ -301,21 +323,31 @@ const OPEN_TRIPLE: &str = "F4 triple-quoted string not closed, 0, 1\n";
 
 const OPEN_FIELD: &str = "F10 field not closed, 2, 1\n";
 
-/// A text, and what is told of its prefixes of 0, 1, 2 bytes and so on.
-struct Prefixes(&'static [u8], &'static [&'static str]);
+/// A text, and what is told of its prefixes: of those with so many bytes or more, up to where the next answer begins.
+struct Prefixes(&'static [u8], &'static [(usize, &'static str)]);
 
 /// Whether this is told of a text, in one piece and whole.
 fn is_told(alloc: Global, text: &[u8], want: &str) -> bool {
     tells(alloc, ALL, &[Act::Text(text, b"")], want) && tells(alloc, ALL, &[Act::Found(text)], want)
 }
 
+impl Prefixes {
+    /// What is told of the prefix with so many bytes.
+    fn told_of(&self, upto: usize) -> &'static str {
+        let mut told = "";
+        for (from, answer) in self.1 {
+            if *from <= upto {
+                told = *answer;
+            }
+        }
+        told
+    }
+}
+
 impl Case for Prefixes {
     fn holds(&self, alloc: Global) -> bool {
-        if self.1.len() != self.0.len() + 1 {
-            return false;
-        }
         for upto in 0..=self.0.len() {
-            if !is_told(alloc, &self.0[..upto], self.1[upto]) {
+            if !is_told(alloc, &self.0[..upto], self.told_of(upto)) {
                 return false;
             }
         }
@@ -327,182 +359,111 @@ const PREFIXES: &[Prefixes] = &[
     Prefixes(
         b"\"\"\"a\"\"\"",
         &[
-            ACCEPTED,
-            OPEN_STRING,
-            ACCEPTED,
-            OPEN_TRIPLE,
-            OPEN_TRIPLE,
-            OPEN_TRIPLE,
-            OPEN_TRIPLE,
-            ACCEPTED,
+            (0, ACCEPTED),
+            (1, OPEN_STRING),
+            (2, ACCEPTED),
+            (3, OPEN_TRIPLE),
+            (7, ACCEPTED),
         ],
     ),
-    Prefixes(
-        b"rb'x'",
-        &[
-            ACCEPTED,
-            ACCEPTED,
-            ACCEPTED,
-            OPEN_STRING,
-            OPEN_STRING,
-            ACCEPTED,
-        ],
-    ),
+    Prefixes(b"rb'x'", &[(0, ACCEPTED), (3, OPEN_STRING), (5, ACCEPTED)]),
     Prefixes(
         b"a\\\r\n",
         &[
-            ACCEPTED,
-            ACCEPTED,
-            "F7 backslash not before a line end, 1, 1\n",
-            ACCEPTED,
-            ACCEPTED,
+            (0, ACCEPTED),
+            (2, "F7 backslash not before a line end, 1, 1\n"),
+            (3, ACCEPTED),
         ],
     ),
-    Prefixes(b"\xc3\xa9", &[ACCEPTED, "F1 not UTF-8, 0, 1\n", ACCEPTED]),
+    Prefixes(
+        b"\xc3\xa9",
+        &[(0, ACCEPTED), (1, "F1 not UTF-8, 0, 1\n"), (2, ACCEPTED)],
+    ),
     Prefixes(
         b"f\"{d[\"import\"]}\"",
         &[
-            ACCEPTED,
-            ACCEPTED,
-            OPEN_STRING,
-            OPEN_FIELD,
-            OPEN_FIELD,
-            "F6 bracket not closed, 4, 1\n",
-            "F3 string not closed, 5, 1\n",
-            "F3 string not closed, 5, 1\n",
-            "F3 string not closed, 5, 1\n",
-            "F3 string not closed, 5, 1\n",
-            "F3 string not closed, 5, 1\n",
-            "F3 string not closed, 5, 1\n",
-            "F3 string not closed, 5, 1\n",
-            "F6 bracket not closed, 4, 1\n",
-            OPEN_FIELD,
-            OPEN_STRING,
-            ACCEPTED,
+            (0, ACCEPTED),
+            (2, OPEN_STRING),
+            (3, OPEN_FIELD),
+            (5, "F6 bracket not closed, 4, 1\n"),
+            (6, "F3 string not closed, 5, 1\n"),
+            (13, "F6 bracket not closed, 4, 1\n"),
+            (14, OPEN_FIELD),
+            (15, OPEN_STRING),
+            (16, ACCEPTED),
         ],
     ),
     Prefixes(
         b"t'{x:{w}}'",
         &[
-            ACCEPTED,
-            ACCEPTED,
-            OPEN_STRING,
-            OPEN_FIELD,
-            OPEN_FIELD,
-            OPEN_FIELD,
-            "F10 field not closed, 5, 1\n",
-            "F10 field not closed, 5, 1\n",
-            OPEN_FIELD,
-            OPEN_STRING,
-            ACCEPTED,
+            (0, ACCEPTED),
+            (2, OPEN_STRING),
+            (3, OPEN_FIELD),
+            (6, "F10 field not closed, 5, 1\n"),
+            (8, OPEN_FIELD),
+            (9, OPEN_STRING),
+            (10, ACCEPTED),
         ],
     ),
     Prefixes(
         b"f\"{{{x}}}\"",
         &[
-            ACCEPTED,
-            ACCEPTED,
-            OPEN_STRING,
-            OPEN_FIELD,
-            OPEN_STRING,
-            "F10 field not closed, 4, 1\n",
-            "F10 field not closed, 4, 1\n",
-            OPEN_STRING,
-            OPEN_STRING,
-            OPEN_STRING,
-            ACCEPTED,
+            (0, ACCEPTED),
+            (2, OPEN_STRING),
+            (3, OPEN_FIELD),
+            (4, OPEN_STRING),
+            (5, "F10 field not closed, 4, 1\n"),
+            (7, OPEN_STRING),
+            (10, ACCEPTED),
         ],
     ),
     Prefixes(
         b"f\"{x!r:>{w}}\"",
         &[
-            ACCEPTED,
-            ACCEPTED,
-            OPEN_STRING,
-            OPEN_FIELD,
-            OPEN_FIELD,
-            OPEN_FIELD,
-            OPEN_FIELD,
-            OPEN_FIELD,
-            OPEN_FIELD,
-            "F10 field not closed, 8, 1\n",
-            "F10 field not closed, 8, 1\n",
-            OPEN_FIELD,
-            OPEN_STRING,
-            ACCEPTED,
+            (0, ACCEPTED),
+            (2, OPEN_STRING),
+            (3, OPEN_FIELD),
+            (9, "F10 field not closed, 8, 1\n"),
+            (11, OPEN_FIELD),
+            (12, OPEN_STRING),
+            (13, ACCEPTED),
         ],
     ),
     Prefixes(
         b"f\"\"\"{x:\"\"}\"\"\"",
         &[
-            ACCEPTED,
-            ACCEPTED,
-            OPEN_STRING,
-            ACCEPTED,
-            OPEN_TRIPLE,
-            "F10 field not closed, 4, 1\n",
-            "F10 field not closed, 4, 1\n",
-            "F10 field not closed, 4, 1\n",
-            "F10 field not closed, 4, 1\n",
-            "F10 field not closed, 4, 1\n",
-            OPEN_TRIPLE,
-            OPEN_TRIPLE,
-            OPEN_TRIPLE,
-            ACCEPTED,
+            (0, ACCEPTED),
+            (2, OPEN_STRING),
+            (3, ACCEPTED),
+            (4, OPEN_TRIPLE),
+            (5, "F10 field not closed, 4, 1\n"),
+            (10, OPEN_TRIPLE),
+            (13, ACCEPTED),
         ],
     ),
     Prefixes(
         b"f\"\\N{{ {x}\"",
-        &[
-            ACCEPTED,
-            ACCEPTED,
-            OPEN_STRING,
-            OPEN_STRING,
-            OPEN_STRING,
-            OPEN_STRING,
-            OPEN_STRING,
-            OPEN_STRING,
-            OPEN_STRING,
-            OPEN_STRING,
-            OPEN_STRING,
-            ACCEPTED,
-        ],
+        &[(0, ACCEPTED), (2, OPEN_STRING), (11, ACCEPTED)],
     ),
     Prefixes(
         b"rf\"\\N{a}\"",
         &[
-            ACCEPTED,
-            ACCEPTED,
-            ACCEPTED,
-            OPEN_STRING,
-            OPEN_STRING,
-            OPEN_STRING,
-            "F10 field not closed, 5, 1\n",
-            "F10 field not closed, 5, 1\n",
-            OPEN_STRING,
-            ACCEPTED,
+            (0, ACCEPTED),
+            (3, OPEN_STRING),
+            (6, "F10 field not closed, 5, 1\n"),
+            (8, OPEN_STRING),
+            (9, ACCEPTED),
         ],
     ),
     Prefixes(
         b"f\"{a # }\"",
-        &[
-            ACCEPTED,
-            ACCEPTED,
-            OPEN_STRING,
-            OPEN_FIELD,
-            OPEN_FIELD,
-            OPEN_FIELD,
-            OPEN_FIELD,
-            OPEN_FIELD,
-            OPEN_FIELD,
-            OPEN_FIELD,
-        ],
+        &[(0, ACCEPTED), (2, OPEN_STRING), (3, OPEN_FIELD)],
     ),
 ];
 
 #[test]
 fn tells_of_every_prefix(rt: HostRuntime) -> Result<(), Fail> {
-    each_holds(rt.alloc(), PREFIXES)
+    each_holds(rt.alloc(), "PREFIXES", PREFIXES)
 }
 
 /// Options, what is done with a finder, and what it tells.
@@ -514,88 +475,85 @@ impl Case for Script {
     }
 }
 
-const STEPS: &[Script] = &[
+/// Options, the pieces that a finder is fed one after another before it stops, and what it tells of each step.
+struct Steps(FindOptions, &'static [&'static [u8]], &'static str);
+
+impl Case for Steps {
+    fn holds(&self, alloc: Global) -> bool {
+        tells(alloc, self.0, &[Act::Steps(self.1), Act::Stop], self.2)
+    }
+}
+
+const STEPS: &[Steps] = &[
     // A line end CR needs one more byte. Where that byte has a fault, it comes as soon as nothing is ready.
-    Script(
+    Steps(
         ALL,
-        &[
-            Act::Steps(&[b"import a\nx\r\xff", b"x\r\xff", b""]),
-            Act::Stop,
-        ],
+        &[b"import a\nx\r\xff", b"x\r\xff", b""],
         "took 9\nready, 9, 9\n1 import a\nnone, 9, 0\nF1 not UTF-8, 11, 3\nF1 not UTF-8, 11, 3\nat 11, 1\n",
     ),
-    Script(
+    Steps(
         ALL,
-        &[Act::Steps(&[b"x\r", b"\xff", b""]), Act::Stop],
+        &[b"x\r", b"\xff", b""],
         "took 2\nnone, 2, 2\nnone, 2, 2\nF1 not UTF-8, 2, 2\nF1 not UTF-8, 2, 2\nat 2, 0\n",
     ),
-    Script(
+    Steps(
         ALL,
-        &[Act::Steps(&[b"import x\r\xff", b"", b""]), Act::Stop],
+        &[b"import x\r\xff", b"", b""],
         "took 10\nready, 10, 10\n1 import x\nnone, 10, 1\nF1 not UTF-8, 9, 2\nF1 not UTF-8, 9, 2\nat 9, 1\n",
     ),
-    Script(
+    Steps(
         ALL,
-        &[Act::Steps(&[b"import x\r)", b"", b""]), Act::Stop],
+        &[b"import x\r)", b"", b""],
         "took 10\nready, 10, 10\n1 import x\nnone, 10, 1\nF5 closing bracket without its opening, 9, 2\n\
          F5 closing bracket without its opening, 9, 2\nat 9, 1\n",
     ),
-    Script(
+    Steps(
         ALL,
-        &[Act::Steps(&[b"x\r)", b"", b""]), Act::Stop],
+        &[b"x\r)", b"", b""],
         "F5 closing bracket without its opening, 2, 2\nF5 closing bracket without its opening, 2, 2\n\
          F5 closing bracket without its opening, 2, 2\nat 2, 0\n",
     ),
-    Script(
+    Steps(
         ALL,
-        &[Act::Steps(&[b"x\r", b")", b""]), Act::Stop],
+        &[b"x\r", b")", b""],
         "took 2\nnone, 2, 2\nnone, 2, 2\nF5 closing bracket without its opening, 2, 2\n\
          F5 closing bracket without its opening, 2, 2\nat 2, 0\n",
     ),
-    Script(
+    Steps(
         ALL,
-        &[Act::Steps(&[b"import a\r", b"x", b"y"]), Act::Stop],
+        &[b"import a\r", b"x", b"y"],
         "took 9\nnone, 9, 9\nnone, 9, 9\ntook 1\nready, 10, 10\n1 import a\nnone, 10, 1\ntook 1\nnone, 11, 2\n\
          none, 11, 2\nat 9, 1\n",
     ),
-    Script(
+    Steps(
         MODULES,
-        &[
-            Act::Steps(&[b"import a\nimport a\r)", b"import a\r)", b""]),
-            Act::Stop,
-        ],
+        &[b"import a\nimport a\r)", b"import a\r)", b""],
         "took 9\nready, 9, 9\n1 import a\nnone, 9, 0\nF5 closing bracket without its opening, 18, 3\n\
          F5 closing bracket without its opening, 18, 3\nat 18, 1\n",
     ),
     // Other pieces: a line that ends the top, a character in two pieces, and a piece after a line without imports.
-    Script(
+    Steps(
         TOP,
         &[
-            Act::Steps(&[
-                b"import a\ndef f(): pass\r)",
-                b"def f(): pass\r)",
-                b"import b\n",
-            ]),
-            Act::Stop,
+            b"import a\ndef f(): pass\r)",
+            b"def f(): pass\r)",
+            b"import b\n",
         ],
         "took 9\nready, 9, 9\n1 import a\nnone, 9, 0\ntook 15\nnone, 24, 0\nnone, 24, 0\ntook 9\nnone, 33, 0\n\
          none, 33, 0\nat 9, 1\n",
     ),
-    Script(
+    Steps(
         ALL,
-        &[Act::Steps(&[b"import a\xc3", b"\xa9\n", b""]), Act::Stop],
+        &[b"import a\xc3", b"\xa9\n", b""],
         "took 9\nnone, 9, 9\nnone, 9, 9\ntook 2\nready, 11, 11\n1 import a\u{e9}\nnone, 11, 0\ntook 0\n\
          none, 11, 0\nnone, 11, 0\nat 11, 1\n",
     ),
-    Script(
+    Steps(
         MODULES,
         &[
-            Act::Steps(&[
-                b"x = 1\nimport a\nimport a\nimport b\ny",
-                b"import a\nimport b\ny",
-                b"y",
-            ]),
-            Act::Stop,
+            b"x = 1\nimport a\nimport a\nimport b\ny",
+            b"import a\nimport b\ny",
+            b"y",
         ],
         "took 15\nready, 15, 9\n2 import a\nnone, 15, 0\ntook 18\nready, 33, 9\n4 import b\nnone, 33, 0\n\
          took 1\nnone, 34, 1\nnone, 34, 1\nat 33, 2\n",
@@ -604,7 +562,7 @@ const STEPS: &[Script] = &[
 
 #[test]
 fn tells_each_step(rt: HostRuntime) -> Result<(), Fail> {
-    each_holds_again(rt.alloc(), STEPS)
+    each_holds_again(rt.alloc(), "STEPS", STEPS)
 }
 
 const SCRIPTS: &[Script] = &[
@@ -707,42 +665,6 @@ const SCRIPTS: &[Script] = &[
         "1 import a\n2 import b\nnone\n27, \nat 18, 2\nno import\nat 18, 2\ntook 9\nnone\n27, \nno import\n\
          none\n27, \nat 18, 2\n",
     ),
-    // A text with a fault; and the same once more, fed from the line with the fault on.
-    Script(
-        ALL,
-        &[
-            Act::Piece(b"import a\n\xef\xbb\xbf"),
-            Act::Feed(b"x"),
-            Act::Next(1),
-            Act::Ready,
-            Act::Feed(b""),
-            Act::Ready,
-            Act::Finish,
-            Act::Stop,
-            Act::Feed(b"\xef\xbb\xbf"),
-        ],
-        "1 import a\nF2 unexpected character, 9, 2\nF2 unexpected character, 9, 2\nno import\nnone\n\
-         F2 unexpected character, 9, 2\nnone\nF2 unexpected character, 9, 2\nat 9, 1\n\
-         F2 unexpected character, 9, 2\n",
-    ),
-    Script(
-        ALL,
-        &[
-            Act::Piece(b"import a; import b\nimport\n"),
-            Act::Feed(b"x"),
-            Act::Next(1),
-            Act::Ready,
-            Act::Feed(b""),
-            Act::Ready,
-            Act::Finish,
-            Act::Stop,
-            Act::Feed(b"import\n"),
-        ],
-        "1 import a\n1 import b\nF9 import statement not understood, 19, 2\n\
-         F9 import statement not understood, 19, 2\nno import\nnone\n\
-         F9 import statement not understood, 19, 2\nnone\nF9 import statement not understood, 19, 2\n\
-         at 19, 2\nF9 import statement not understood, 19, 2\n",
-    ),
     // The last logical line is bad: a text that is ended again, or fed, has the same fault.
     Script(
         ALL,
@@ -769,7 +691,47 @@ const SCRIPTS: &[Script] = &[
     ),
 ];
 
+/// A text with a fault, the line of the fault, and what is told: the fault comes again in each call, and once more where the
+/// text is fed from that line on.
+struct Faulty(&'static [u8], &'static [u8], &'static str);
+
+impl Case for Faulty {
+    fn holds(&self, alloc: Global) -> bool {
+        let acts = [
+            Act::Piece(self.0),
+            Act::Feed(b"x"),
+            Act::Next(1),
+            Act::Ready,
+            Act::Feed(b""),
+            Act::Ready,
+            Act::Finish,
+            Act::Stop,
+            Act::Feed(self.1),
+        ];
+        tells(alloc, ALL, &acts, self.2)
+    }
+}
+
+const FAULTS: &[Faulty] = &[
+    Faulty(
+        b"import a\n\xef\xbb\xbf",
+        b"\xef\xbb\xbf",
+        "1 import a\nF2 unexpected character, 9, 2\nF2 unexpected character, 9, 2\nno import\nnone\n\
+         F2 unexpected character, 9, 2\nnone\nF2 unexpected character, 9, 2\nat 9, 1\n\
+         F2 unexpected character, 9, 2\n",
+    ),
+    Faulty(
+        b"import a; import b\nimport\n",
+        b"import\n",
+        "1 import a\n1 import b\nF9 import statement not understood, 19, 2\n\
+         F9 import statement not understood, 19, 2\nno import\nnone\n\
+         F9 import statement not understood, 19, 2\nnone\nF9 import statement not understood, 19, 2\n\
+         at 19, 2\nF9 import statement not understood, 19, 2\n",
+    ),
+];
+
 #[test]
 fn follows_scripts(rt: HostRuntime) -> Result<(), Fail> {
-    each_holds_again(rt.alloc(), SCRIPTS)
+    each_holds_again(rt.alloc(), "SCRIPTS", SCRIPTS)?;
+    each_holds_again(rt.alloc(), "FAULTS", FAULTS)
 }

@@ -1,4 +1,5 @@
-//! Tables of cases. What such a test costs lies in the one function that tries a row, and not in the test.
+//! Tables of cases. What such a test costs lies in the one function that tries a row. The test itself costs a second or two
+//! with some thirty rows, but with a hundred more than a minute: so a large table is cut into several, a test each.
 use isort_settings::Settings;
 use std::alloc::Global;
 use std::fmt::Display;
@@ -10,11 +11,11 @@ pub(crate) trait Case {
     fn holds(&self, alloc: Global) -> bool;
 }
 
-/// Every row holds.
-pub(crate) fn each_holds<C: Case>(alloc: Global, cases: &[C]) -> Result<(), Fail> {
+/// Every row of the table holds. One that doesn't is told by the name of the table, and by its place from 0 on.
+pub(crate) fn each_holds<C: Case>(alloc: Global, table: &str, cases: &[C]) -> Result<(), Fail> {
     for (i, case) in cases.iter().enumerate() {
         if !case.holds(alloc) {
-            return Err(Fail::new(format_args!("row {i} does not hold")));
+            return Err(Fail::new(format_args!("row {i} of {table} does not hold")));
         }
     }
     Ok(())
@@ -22,10 +23,14 @@ pub(crate) fn each_holds<C: Case>(alloc: Global, cases: &[C]) -> Result<(), Fail
 
 /// Every row holds. One that doesn't is tried once more: where a growth was refused, the same calls then have to answer as
 /// with ample memory. checks/memory refuses each growth in turn.
-pub(crate) fn each_holds_again<C: Case>(alloc: Global, cases: &[C]) -> Result<(), Fail> {
+pub(crate) fn each_holds_again<C: Case>(
+    alloc: Global,
+    table: &str,
+    cases: &[C],
+) -> Result<(), Fail> {
     for (i, case) in cases.iter().enumerate() {
         if !case.holds(alloc) && !case.holds(alloc) {
-            return Err(Fail::new(format_args!("row {i} does not hold")));
+            return Err(Fail::new(format_args!("row {i} of {table} does not hold")));
         }
     }
     Ok(())
@@ -65,12 +70,13 @@ pub(crate) fn holds_with<C: SettingsCase>(alloc: Global, more: &str, case: &C) -
 /// Every row holds with these lines of `[tool.isort]` added to its own. One that doesn't is tried once more, as above.
 pub(crate) fn each_holds_with<C: SettingsCase>(
     alloc: Global,
+    table: &str,
     more: &str,
     cases: &[C],
 ) -> Result<(), Fail> {
     for (i, case) in cases.iter().enumerate() {
         if !holds_with(alloc, more, case) && !holds_with(alloc, more, case) {
-            return Err(Fail::new(format_args!("row {i} does not hold")));
+            return Err(Fail::new(format_args!("row {i} of {table} does not hold")));
         }
     }
     Ok(())

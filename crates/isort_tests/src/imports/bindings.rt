@@ -164,8 +164,18 @@ const BINDINGS: &[Listed] = &[
 
 #[test]
 fn gives_bindings(rt: HostRuntime) -> Result<(), Fail> {
-    each_holds_again(rt.alloc(), BINDINGS)
+    each_holds_again(rt.alloc(), "BINDINGS", BINDINGS)
 }
+
+const DECLARATION: Said = Said::Declaration(true);
+
+const NO_DECLARATION: Said = Said::Declaration(false);
+
+const SORTABLE: Said = Said::Shaped(Shape::Sortable);
+
+const PINNED: Said = Said::Shaped(Shape::Pinned);
+
+const OTHER: Said = Said::Shaped(Shape::Other);
 
 const FIRST: &[First] = &[
     First("\u{feff}import a", Said::Marked(3)),
@@ -196,63 +206,51 @@ const FIRST: &[First] = &[
     First("import", Said::Refused(0)),
     First("import as", Said::Refused(0)),
     First("if a: import b; from c", Said::Refused(16)),
-    First("def f(): pass", Said::Declaration(true)),
-    First("class C: pass", Said::Declaration(true)),
-    First("@d", Said::Declaration(true)),
-    First("async def f(): pass", Said::Declaration(true)),
-    First("async with a: pass", Said::Declaration(false)),
-    First("async", Said::Declaration(false)),
-    First("  def f(): pass", Said::Declaration(false)),
-    First("\u{c}def f(): pass", Said::Declaration(false)),
-    First("define", Said::Declaration(false)),
-    First("x = def_", Said::Declaration(false)),
-    First("# def", Said::Declaration(false)),
-    First("\n", Said::Declaration(false)),
-    First("if a: def_", Said::Declaration(false)),
-    First("import a", Said::Shaped(Shape::Sortable)),
-    First("  import a\n", Said::Shaped(Shape::Sortable)),
-    First("\u{feff}import a", Said::Shaped(Shape::Sortable)),
-    First("\u{feff}  import a", Said::Shaped(Shape::Sortable)),
-    First(
-        "from a import (  # k\n    b,\n)\n",
-        Said::Shaped(Shape::Sortable),
-    ),
-    First(
-        "import a  # isort: skip_file",
-        Said::Shaped(Shape::Sortable),
-    ),
-    First("import a  # isort:  skip", Said::Shaped(Shape::Sortable)),
-    First("import a, \\\n b", Said::Shaped(Shape::Sortable)),
-    First("from . import *", Said::Shaped(Shape::Sortable)),
-    First("from a import (b)  # k", Said::Shaped(Shape::Sortable)),
-    First("from a import (b)  # skip", Said::Shaped(Shape::Sortable)),
+    First("def f(): pass", DECLARATION),
+    First("class C: pass", DECLARATION),
+    First("@d", DECLARATION),
+    First("async def f(): pass", DECLARATION),
+    First("async with a: pass", NO_DECLARATION),
+    First("async", NO_DECLARATION),
+    First("  def f(): pass", NO_DECLARATION),
+    First("\u{c}def f(): pass", NO_DECLARATION),
+    First("define", NO_DECLARATION),
+    First("x = def_", NO_DECLARATION),
+    First("# def", NO_DECLARATION),
+    First("\n", NO_DECLARATION),
+    First("if a: def_", NO_DECLARATION),
+    First("import a", SORTABLE),
+    First("  import a\n", SORTABLE),
+    First("\u{feff}import a", SORTABLE),
+    First("\u{feff}  import a", SORTABLE),
+    First("from a import (  # k\n    b,\n)\n", SORTABLE),
+    First("import a  # isort: skip_file", SORTABLE),
+    First("import a  # isort:  skip", SORTABLE),
+    First("import a, \\\n b", SORTABLE),
+    First("from . import *", SORTABLE),
+    First("from a import (b)  # k", SORTABLE),
+    First("from a import (b)  # skip", SORTABLE),
     First(
         "from a import (  # k\n    b as x,  # l\n    c,\n)\n",
-        Said::Shaped(Shape::Pinned),
+        PINNED,
     ),
-    First(
-        "from a import (\n    # k\n    # l\n    b)\n",
-        Said::Shaped(Shape::Pinned),
-    ),
-    First("import a; import b", Said::Shaped(Shape::Pinned)),
-    First("import a;", Said::Shaped(Shape::Pinned)),
-    First("import a  # isort: skip", Said::Shaped(Shape::Pinned)),
-    First("import a  # isort:skip", Said::Shaped(Shape::Pinned)),
-    First(
-        "from a import (  # isort: skip\n    b,\n)\n",
-        Said::Shaped(Shape::Pinned),
-    ),
-    First("\\\nimport a", Said::Shaped(Shape::Pinned)),
-    First("from a import b,", Said::Shaped(Shape::Pinned)),
-    First("x = 1", Said::Shaped(Shape::Other)),
-    First("if a: import b", Said::Shaped(Shape::Other)),
-    First("# import a", Said::Shaped(Shape::Other)),
-    First("\n", Said::Shaped(Shape::Other)),
+    First("from a import (\n    # k\n    # l\n    b)\n", PINNED),
+    First("import a; import b", PINNED),
+    First("import a;", PINNED),
+    First("import a  # isort: skip", PINNED),
+    First("import a  # isort:skip", PINNED),
+    First("from a import (  # isort: skip\n    b,\n)\n", PINNED),
+    First("\\\nimport a", PINNED),
+    First("from a import b,", PINNED),
+    First("x = 1", OTHER),
+    First("if a: import b", OTHER),
+    First("# import a", OTHER),
+    First("\n", OTHER),
 ];
 
 #[test]
 fn says_of_first_lines(rt: HostRuntime) -> Result<(), Fail> {
-    each_holds_again(rt.alloc(), FIRST)
+    each_holds_again(rt.alloc(), "FIRST", FIRST)
 }
 
 /// A comment, an action, and whether the comment says it.
@@ -281,5 +279,5 @@ const ACTIONS: &[Saying] = &[
 
 #[test]
 fn knows_actions(rt: HostRuntime) -> Result<(), Fail> {
-    each_holds_again(rt.alloc(), ACTIONS)
+    each_holds_again(rt.alloc(), "ACTIONS", ACTIONS)
 }

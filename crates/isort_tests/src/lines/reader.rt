@@ -1,6 +1,7 @@
 //! The logical lines of a whole text.
 use crate::harness::cases::{Case, each_holds_again, page};
-use crate::lines::rows::{Lexed, tell, tell_fault, tell_unit};
+use crate::harness::told::tell;
+use crate::lines::rows::{Lexed, tell_fault, tell_unit};
 use py_lines::*;
 use std::alloc::Global;
 use std::test::Fail;
@@ -20,27 +21,39 @@ fn tell_answer(told: &mut String, answer: Result<Option<Unit<'_>>, LexError>) ->
             tell_unit(told, &unit);
             return true;
         }
-        Ok(None) => tell(told, "end"),
+        Ok(None) => tell("end", told),
         Err(error) => tell_fault(told, error),
     }
     false
 }
 
-/// Whether a reader tells this, then its last answer once more, and has reached this byte and line.
-fn answers(alloc: Global, lines: &mut Lines<'_>, expected: &str, place: (u64, u64)) -> bool {
-    let mut told = page(alloc);
+/// The logical lines that the reader has yet, ten at most, and the end or the fault.
+fn tell_all(told: &mut String, lines: &mut Lines<'_>) {
     for _ in 0..10 {
-        if !tell_next(&mut told, lines) {
-            break;
+        if !tell_next(told, lines) {
+            return;
         }
     }
-    let is_told = told.as_str() == expected;
-    told.clear();
+}
+
+/// Whether a reader tells this.
+fn is_told(alloc: Global, lines: &mut Lines<'_>, expected: &str) -> bool {
+    let mut told = page(alloc);
+    tell_all(&mut told, lines);
+    told.as_str() == expected
+}
+
+/// Whether a reader tells the end or the fault once more that stands at the end of this.
+fn is_told_again(alloc: Global, lines: &mut Lines<'_>, expected: &str) -> bool {
+    let mut told = page(alloc);
     let is_line = tell_next(&mut told, lines);
-    is_told
-        && !is_line
-        && !told.is_empty()
-        && expected.ends_with(told.as_str())
+    !is_line && !told.is_empty() && expected.ends_with(told.as_str())
+}
+
+/// Whether a reader tells this, then its last answer once more, and has reached this byte and line.
+fn answers(alloc: Global, lines: &mut Lines<'_>, expected: &str, place: (u64, u64)) -> bool {
+    is_told(alloc, lines, expected)
+        && is_told_again(alloc, lines, expected)
         && (lines.offset(), lines.line()) == place
 }
 
@@ -82,5 +95,5 @@ const MID_TEXT: &[MidText] = &[MidText(Lexed(
 
 #[test]
 fn goes_on_in_mid_text(rt: HostRuntime) -> Result<(), Fail> {
-    each_holds_again(rt.alloc(), MID_TEXT)
+    each_holds_again(rt.alloc(), "MID_TEXT", MID_TEXT)
 }

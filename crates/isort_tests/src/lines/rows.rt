@@ -1,5 +1,6 @@
 //! The logical lines of texts, which both readers tell.
 use crate::harness::cases::{Case, each_holds};
+use crate::harness::told::tell;
 use py_lines::{LexError, Unit};
 use std::alloc::Global;
 use std::fmt::Write;
@@ -14,6 +15,7 @@ pub(crate) struct Lexed(
     pub(crate) (u64, u64),
 );
 
+/// Texts without a fault.
 const ROWS: &[Lexed] = &[
     Lexed(
         b"import \xc3\xa9\r\nx = \"\"\"\"\"\"\nimport b",
@@ -67,6 +69,10 @@ const ROWS: &[Lexed] = &[
          (Code, 17, 4, 0, 1) (Name, \"import\", 4) (Name, \"b\", 4); end",
         (26, 5),
     ),
+];
+
+/// Texts with a fault.
+const FAULTS: &[Lexed] = &[
     Lexed(b"(a\r\xff", "3 line 2: F1 not UTF-8", (0, 1)),
     Lexed(b"$", "0 line 1: F2 unexpected character", (0, 1)),
     Lexed(b"x = 'abc\n", "4 line 1: F3 string not closed", (0, 1)),
@@ -122,7 +128,10 @@ const ROWS: &[Lexed] = &[
         "200 line 1: F8 more than 200 brackets open",
         (0, 1),
     ),
-    // Strings with fields.
+];
+
+/// Strings with fields.
+const FIELDS: &[Lexed] = &[
     Lexed(
         b"f\"{d[\"import\"]}\"",
         "(Code, 0, 1, 0, 0) (Str, \"f\\\"{d[\\\"import\\\"]}\\\"\", 1); end",
@@ -223,12 +232,17 @@ impl Case for Lexed {
 
 #[test]
 fn reads_texts_whole_and_gives_the_same_in_every_cut(rt: HostRuntime) -> Result<(), Fail> {
-    each_holds(rt.alloc(), ROWS)
+    each_holds(rt.alloc(), "ROWS", ROWS)
 }
 
-/// Adds this. Where memory is refused, it is missing from what is told.
-pub(crate) fn tell(told: &mut String, what: &str) {
-    let _ = told.push_str(what);
+#[test]
+fn gives_the_same_fault_in_every_cut(rt: HostRuntime) -> Result<(), Fail> {
+    each_holds(rt.alloc(), "FAULTS", FAULTS)
+}
+
+#[test]
+fn reads_strings_with_fields_in_every_cut(rt: HostRuntime) -> Result<(), Fail> {
+    each_holds(rt.alloc(), "FIELDS", FIELDS)
 }
 
 /// A logical line: what it holds, its byte, line, indentation and line end, and then its tokens.
@@ -238,7 +252,7 @@ pub(crate) fn tell_unit(told: &mut String, unit: &Unit<'_>) {
     for i in 0..unit.tokens.len() {
         tell_token(told, unit, i);
     }
-    tell(told, "; ");
+    tell("; ", told);
 }
 
 /// A token: what it is, its text, and its line. Where memory is refused, a part of what is told is missing.

@@ -2,7 +2,8 @@
 ghost use Rattle.std.specs.Prelude.{◌≡◌, ◌≤◌, true, false, None, IfOk, length};
 
 use crate::harness::cases::{Case, each_holds_again, page};
-use crate::lines::rows::{Lexed, tell, tell_fault, tell_unit};
+use crate::harness::told::tell;
+use crate::lines::rows::{Lexed, tell_fault, tell_unit};
 use py_lines::*;
 use std::alloc::Global;
 use std::fmt::Write;
@@ -87,7 +88,7 @@ fn tell_end(told: &mut String, scanner: &mut Scanner)
     match finish(scanner) {
         Ok(()) => {
             tell_ready(told, scanner);
-            tell(told, "end");
+            tell("end", told);
         }
         Err(error) => tell_fault(told, error),
     }
@@ -183,8 +184,8 @@ fn tell_taken(told: &mut String, answer: Result<usize, LexError>) {
 /// The text of the line that is ready, or a dash.
 fn tell_text(told: &mut String, scanner: &Scanner) {
     match scanner.ready() {
-        Some(unit) => tell(told, unit.text),
-        None => tell(told, "-"),
+        Some(unit) => tell(unit.text, told),
+        None => tell("-", told),
     }
 }
 
@@ -201,7 +202,7 @@ fn tell_release(told: &mut String, scanner: &mut Scanner)
 {
     if scanner.ready().is_some() {
         scanner.release();
-        tell(told, "released");
+        tell("released", told);
     }
 }
 
@@ -224,12 +225,12 @@ fn tell_act(told: &mut String, scanner: &mut Scanner, act: Act)
         Act::Ready => tell_text(told, scanner),
         Act::Tokens => tell_tokens(told, scanner),
         Act::Held => tell(
-            told,
             str::from_utf8(scanner.held()).unwrap_or("other bytes"),
+            told,
         ),
         Act::Release => tell_release(told, scanner),
     }
-    tell(told, "; ");
+    tell("; ", told);
 }
 
 /// Makes these calls, and then ends the text, if it ends: tells the fault, or the text of the last line.
@@ -244,7 +245,7 @@ fn tell_acts(told: &mut String, scanner: &mut Scanner, acts: &[Act], ends: bool)
             Ok(()) => tell_text(told, scanner),
             Err(error) => tell_fault(told, error),
         }
-        tell(told, "; ");
+        tell("; ", told);
     }
 }
 
@@ -263,13 +264,18 @@ fn begun_at(alloc: Global, offset: u64) -> Result<Scanner, LexError>
     }
 }
 
+/// Whether a scanner that begins at this byte tells this of these calls, after which the text ends or goes on.
+fn is_told(alloc: Global, offset: u64, acts: &[Act], ends: bool, want: &str) -> bool {
+    let mut told = page(alloc);
+    if let Ok(mut scanner) = begun_at(alloc, offset) {
+        tell_acts(&mut told, &mut scanner, acts, ends);
+    }
+    told.as_str() == want
+}
+
 impl Case for Script {
     fn holds(&self, alloc: Global) -> bool {
-        let mut told = page(alloc);
-        if let Ok(mut scanner) = begun_at(alloc, self.0) {
-            tell_acts(&mut told, &mut scanner, self.1, self.2);
-        }
-        told.as_str() == self.3
+        is_told(alloc, self.0, self.1, self.2, self.3)
     }
 }
 
@@ -336,109 +342,6 @@ const SCRIPTS: &[Script] = &[
         true,
         "took 9; -; import a\r; ",
     ),
-    // A line goes on after a cut: nothing is ready before the second piece.
-    Script(
-        0,
-        &[
-            Act::Feed(b"r"),
-            Act::Ready,
-            Act::Feed(b"b'a'\n"),
-            Act::Tokens,
-        ],
-        false,
-        "took 1; -; took 5; (\"rb'a'\\n\", 1, [Token { kind: Str, start: 0, stop: 5, line: 1 }]); ",
-    ),
-    Script(
-        0,
-        &[
-            Act::Feed(b"rb"),
-            Act::Ready,
-            Act::Feed(b"'a'\n"),
-            Act::Tokens,
-        ],
-        false,
-        "took 2; -; took 4; (\"rb'a'\\n\", 1, [Token { kind: Str, start: 0, stop: 5, line: 1 }]); ",
-    ),
-    Script(
-        0,
-        &[
-            Act::Feed(b"x\xc3"),
-            Act::Ready,
-            Act::Feed(b"\xa9\n"),
-            Act::Tokens,
-        ],
-        false,
-        "took 2; -; took 2; (\"xé\\n\", 1, [Token { kind: Name, start: 0, stop: 3, line: 1 }]); ",
-    ),
-    Script(
-        0,
-        &[
-            Act::Feed(b"'\xf0\x9f"),
-            Act::Ready,
-            Act::Feed(b"\x98\x80'\n"),
-            Act::Tokens,
-        ],
-        false,
-        "took 3; -; took 4; (\"'😀'\\n\", 1, [Token { kind: Str, start: 0, stop: 6, line: 1 }]); ",
-    ),
-    Script(
-        0,
-        &[
-            Act::Feed(b"\"\""),
-            Act::Ready,
-            Act::Feed(b"\"a\n\"\"\"\n"),
-            Act::Tokens,
-        ],
-        false,
-        "took 2; -; took 7; \
-         (\"\\\"\\\"\\\"a\\n\\\"\\\"\\\"\\n\", 1, [Token { kind: Str, start: 0, stop: 8, line: 1 }]); ",
-    ),
-    Script(
-        0,
-        &[
-            Act::Feed(b"a\r"),
-            Act::Ready,
-            Act::Feed(b"\nb"),
-            Act::Tokens,
-        ],
-        false,
-        "took 2; -; took 1; (\"a\\r\\n\", 2, [Token { kind: Name, start: 0, stop: 1, line: 1 }]); ",
-    ),
-    Script(
-        0,
-        &[
-            Act::Feed(b"a\r"),
-            Act::Ready,
-            Act::Feed(b"b\n"),
-            Act::Tokens,
-        ],
-        false,
-        "took 2; -; took 1; (\"a\\r\", 1, [Token { kind: Name, start: 0, stop: 1, line: 1 }]); ",
-    ),
-    Script(
-        0,
-        &[
-            Act::Feed(b"(\r"),
-            Act::Ready,
-            Act::Feed(b"\r)\rb"),
-            Act::Tokens,
-        ],
-        false,
-        "took 2; -; took 4; (\"(\\r\\r)\\r\", 1, [Token { kind: Op(40), start: 0, stop: 1, line: 1 }, \
-         Token { kind: Op(41), start: 3, stop: 4, line: 3 }]); ",
-    ),
-    Script(
-        0,
-        &[
-            Act::Feed(b"1"),
-            Act::Ready,
-            Act::Feed(b"2 #\n\n"),
-            Act::Tokens,
-        ],
-        false,
-        "took 1; -; took 4; (\"12 #\\n\", 1, [Token { kind: Number, start: 0, stop: 2, line: 1 }, \
-         Token { kind: Remark, start: 3, stop: 4, line: 1 }]); ",
-    ),
     // A string goes on after its fields, whatever stands in them, and a quote in a specification is refused at once.
     Script(
         0,
@@ -452,17 +355,6 @@ const SCRIPTS: &[Script] = &[
         ],
         false,
         "took 4; -; took 2; -; took 2; (\"f'{\\n1}'\\n\", 1, [Token { kind: Str, start: 0, stop: 7, line: 1 }]); ",
-    ),
-    Script(
-        0,
-        &[
-            Act::Feed(b"f\"{"),
-            Act::Ready,
-            Act::Feed(b"{\"\n"),
-            Act::Tokens,
-        ],
-        false,
-        "took 3; -; took 3; (\"f\\\"{{\\\"\\n\", 1, [Token { kind: Str, start: 0, stop: 5, line: 1 }]); ",
     ),
     Script(
         0,
@@ -490,7 +382,81 @@ const SCRIPTS: &[Script] = &[
     ),
 ];
 
+/// A line in two pieces, and what is told: how many bytes of the first piece are taken, that nothing is ready before the
+/// second, how many bytes of that are taken, and the line.
+struct Halves(&'static [u8], &'static [u8], &'static str);
+
+impl Case for Halves {
+    fn holds(&self, alloc: Global) -> bool {
+        let (first, second) = (Act::Feed(self.0), Act::Feed(self.1));
+        is_told(
+            alloc,
+            0,
+            &[first, Act::Ready, second, Act::Tokens],
+            false,
+            self.2,
+        )
+    }
+}
+
+const HALVES: &[Halves] = &[
+    Halves(
+        b"r",
+        b"b'a'\n",
+        "took 1; -; took 5; (\"rb'a'\\n\", 1, [Token { kind: Str, start: 0, stop: 5, line: 1 }]); ",
+    ),
+    Halves(
+        b"rb",
+        b"'a'\n",
+        "took 2; -; took 4; (\"rb'a'\\n\", 1, [Token { kind: Str, start: 0, stop: 5, line: 1 }]); ",
+    ),
+    Halves(
+        b"x\xc3",
+        b"\xa9\n",
+        "took 2; -; took 2; (\"xé\\n\", 1, [Token { kind: Name, start: 0, stop: 3, line: 1 }]); ",
+    ),
+    Halves(
+        b"'\xf0\x9f",
+        b"\x98\x80'\n",
+        "took 3; -; took 4; (\"'😀'\\n\", 1, [Token { kind: Str, start: 0, stop: 6, line: 1 }]); ",
+    ),
+    Halves(
+        b"\"\"",
+        b"\"a\n\"\"\"\n",
+        "took 2; -; took 7; \
+         (\"\\\"\\\"\\\"a\\n\\\"\\\"\\\"\\n\", 1, [Token { kind: Str, start: 0, stop: 8, line: 1 }]); ",
+    ),
+    Halves(
+        b"a\r",
+        b"\nb",
+        "took 2; -; took 1; (\"a\\r\\n\", 2, [Token { kind: Name, start: 0, stop: 1, line: 1 }]); ",
+    ),
+    Halves(
+        b"a\r",
+        b"b\n",
+        "took 2; -; took 1; (\"a\\r\", 1, [Token { kind: Name, start: 0, stop: 1, line: 1 }]); ",
+    ),
+    Halves(
+        b"(\r",
+        b"\r)\rb",
+        "took 2; -; took 4; (\"(\\r\\r)\\r\", 1, [Token { kind: Op(40), start: 0, stop: 1, line: 1 }, \
+         Token { kind: Op(41), start: 3, stop: 4, line: 3 }]); ",
+    ),
+    Halves(
+        b"1",
+        b"2 #\n\n",
+        "took 1; -; took 4; (\"12 #\\n\", 1, [Token { kind: Number, start: 0, stop: 2, line: 1 }, \
+         Token { kind: Remark, start: 3, stop: 4, line: 1 }]); ",
+    ),
+    Halves(
+        b"f\"{",
+        b"{\"\n",
+        "took 3; -; took 3; (\"f\\\"{{\\\"\\n\", 1, [Token { kind: Str, start: 0, stop: 5, line: 1 }]); ",
+    ),
+];
+
 #[test]
 fn follows_scripts(rt: HostRuntime) -> Result<(), Fail> {
-    each_holds_again(rt.alloc(), SCRIPTS)
+    each_holds_again(rt.alloc(), "SCRIPTS", SCRIPTS)?;
+    each_holds_again(rt.alloc(), "HALVES", HALVES)
 }

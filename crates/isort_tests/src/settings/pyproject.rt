@@ -36,20 +36,19 @@ pub(crate) fn refusal(
     Settings::from_pyproject(alloc, text, profile).err()
 }
 
-/// Whether the settings of a text are refused so.
-pub(crate) fn is_refused(alloc: Global, text: &[u8], profile: Option<Profile>, want: &str) -> bool {
-    match refusal(alloc, text, profile) {
-        Some(error) => is_shown(alloc, &error, want),
-        None => false,
-    }
-}
-
 /// A text, the profile that is handed in, and how the text is refused.
-struct Refused(&'static [u8], Option<Profile>, &'static str);
+pub(crate) struct Refused(
+    pub(crate) &'static [u8],
+    pub(crate) Option<Profile>,
+    pub(crate) &'static str,
+);
 
 impl Case for Refused {
     fn holds(&self, alloc: Global) -> bool {
-        is_refused(alloc, self.0, self.1, self.2)
+        match refusal(alloc, self.0, self.1) {
+            Some(error) => is_shown(alloc, &error, self.2),
+            None => false,
+        }
     }
 }
 
@@ -144,7 +143,7 @@ const REFUSED: &[Refused] = &[
 
 #[test]
 fn refusals(rt: HostRuntime) -> Result<(), Fail> {
-    each_holds_again(rt.alloc(), REFUSED)
+    each_holds_again(rt.alloc(), "REFUSED", REFUSED)
 }
 
 /// Whether these are the settings without a profile.
@@ -198,6 +197,19 @@ struct Stands(
     &'static [&'static str],
 );
 
+/// Whether these settings are those wanted, if any are, and these keys are the unknown ones.
+fn are_read(
+    settings: &Settings,
+    keys: &[String],
+    want: Option<&Settings>,
+    unknown: &[&str],
+) -> bool {
+    match want {
+        Some(want) => *settings == *want && are_texts(keys, unknown),
+        None => are_texts(keys, unknown),
+    }
+}
+
 /// Whether a text has these unknown keys, and stands for these settings, if any are given.
 pub(crate) fn is_read_so(
     alloc: Global,
@@ -207,23 +219,22 @@ pub(crate) fn is_read_so(
     unknown: &[&str],
 ) -> bool {
     match Settings::from_pyproject(alloc, text, profile).ok() {
-        Some((settings, keys)) => {
-            let is_wanted = match want {
-                Some(want) => settings == *want,
-                None => true,
-            };
-            is_wanted && are_texts(keys.as_slice(), unknown)
-        }
+        Some((settings, keys)) => are_read(&settings, keys.as_slice(), want, unknown),
         None => false,
+    }
+}
+
+impl Stands {
+    /// Whether the text stands for the settings, which are made so first.
+    fn stands_for(&self, alloc: Global, want: &mut Settings) -> bool {
+        self.2.are_made(want) && is_read_so(alloc, self.0, self.1, Some(want), self.3)
     }
 }
 
 impl Case for Stands {
     fn holds(&self, alloc: Global) -> bool {
         match self.2.settings(alloc) {
-            Some(mut want) => {
-                self.2.are_made(&mut want) && is_read_so(alloc, self.0, self.1, Some(&want), self.3)
-            }
+            Some(mut want) => self.stands_for(alloc, &mut want),
             None => false,
         }
     }
@@ -269,7 +280,7 @@ const STANDS: &[Stands] = &[
 
 #[test]
 fn profiles_and_texts(rt: HostRuntime) -> Result<(), Fail> {
-    each_holds_again(rt.alloc(), STANDS)
+    each_holds_again(rt.alloc(), "STANDS", STANDS)
 }
 
 /// A line length, whether its setter takes it, and the length that the settings then have.
@@ -315,19 +326,17 @@ fn sets_modes(alloc: Global, settings: &mut Settings) -> bool {
     true
 }
 
+/// Whether each value is set so, one after another.
+fn sets_values(alloc: Global, settings: &mut Settings) -> bool {
+    sets_lengths(alloc, settings) && sets_modes(alloc, settings)
+}
+
 /// Whether plain settings are set so.
 fn sets(alloc: Global) -> bool {
     match Known::Plain.settings(alloc) {
-        Some(mut settings) => {
-            sets_lengths(alloc, &mut settings) && sets_modes(alloc, &mut settings)
-        }
+        Some(mut settings) => sets_values(alloc, &mut settings),
         None => false,
     }
-}
-
-#[test]
-fn setters(rt: HostRuntime) -> Result<(), Fail> {
-    all_are_so(&[sets(rt.alloc()) || sets(rt.alloc())])
 }
 
 /// A list of one module.
@@ -353,9 +362,12 @@ fn are_lists(alloc: Global) -> Result<bool, AllocError> {
 }
 
 #[test]
-fn lists_of_modules(rt: HostRuntime) -> Result<(), Fail> {
+fn setters_and_lists_of_modules(rt: HostRuntime) -> Result<(), Fail> {
     let alloc = rt.alloc();
-    all_are_so(&[are_lists(alloc) == Ok(true) || are_lists(alloc) == Ok(true)])
+    all_are_so(&[
+        sets(alloc) || sets(alloc),
+        are_lists(alloc) == Ok(true) || are_lists(alloc) == Ok(true),
+    ])
 }
 
 /// Lines of `[tool.isort]`, a module, and its section under these settings.
@@ -420,8 +432,8 @@ const SECTIONS: &[Sectioned] = &[
 
 #[test]
 fn sections(rt: HostRuntime) -> Result<(), Fail> {
-    each_holds_with(rt.alloc(), "", SECTIONS)?;
-    each_holds_with(rt.alloc(), OWN, SECTIONS)
+    each_holds_with(rt.alloc(), "SECTIONS", "", SECTIONS)?;
+    each_holds_with(rt.alloc(), "SECTIONS with OWN", OWN, SECTIONS)
 }
 
 /// Lines of `[tool.isort]`, and names in their order.
@@ -452,12 +464,6 @@ const ORDERS: &[Ordered] = &[
     Ordered("order_by_type = false\ncase_sensitive = true", &["B", "a"]),
 ];
 
-#[test]
-fn orders_of_names(rt: HostRuntime) -> Result<(), Fail> {
-    laws::names_are_totally_ordered();
-    each_holds_with(rt.alloc(), "", ORDERS)
-}
-
 /// Two modules and their order.
 struct Compared(&'static str, &'static str, Ordering);
 
@@ -477,9 +483,11 @@ const MODULES: &[Compared] = &[
 ];
 
 #[test]
-fn orders_of_modules(rt: HostRuntime) -> Result<(), Fail> {
+fn orders_of_names_and_modules(rt: HostRuntime) -> Result<(), Fail> {
+    laws::names_are_totally_ordered();
     laws::modules_are_totally_ordered();
-    each_holds_with(rt.alloc(), "", MODULES)
+    each_holds_with(rt.alloc(), "ORDERS", "", ORDERS)?;
+    each_holds_with(rt.alloc(), "MODULES", "", MODULES)
 }
 
 /// Whether the key has this name.

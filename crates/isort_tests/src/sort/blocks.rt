@@ -118,5 +118,5 @@ const SPANS: &[Spans] = &[
 
 #[test]
 fn finds_blocks(rt: HostRuntime) -> Result<(), Fail> {
-    each_holds_again(rt.alloc(), SPANS)
+    each_holds_again(rt.alloc(), "SPANS", SPANS)
 }

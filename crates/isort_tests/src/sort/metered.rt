@@ -74,5 +74,5 @@ const SEEN: &[Seen] = &[
 
 #[test]
 fn notes_calls(rt: HostRuntime) -> Result<(), Fail> {
-    each_holds_again(rt.alloc(), SEEN)
+    each_holds_again(rt.alloc(), "SEEN", SEEN)
 }

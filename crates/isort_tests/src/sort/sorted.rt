@@ -1,6 +1,7 @@
 //! Sorted texts.
 use crate::harness::cases::{SettingsCase, all_are_so, each_holds_with};
 use crate::settings::pyproject::OWN;
+use crate::sort::sorted_again::{stays, stays_under_each};
 use crate::sort::writing::is_written;
 use isort_settings::Settings;
 use isort_sort::{Outcome, SortError, Sorted, blocks, check_code, sort_code, sort_outcome};
@@ -37,7 +38,8 @@ fn is_sorted(alloc: Global, settings: &Settings, text: &str, want: &str) -> bool
     }
 }
 
-/// Lines of `[tool.isort]`, a text, and what it is sorted to under these settings. That one stays as it is.
+/// Lines of `[tool.isort]`, a text, and what it is sorted to under these settings. That one stays as it is, and so does what
+/// the text is sorted to with another line end, and under other settings.
 pub(crate) struct Under(
     pub(crate) &'static str,
     pub(crate) &'static str,
@@ -50,11 +52,14 @@ impl SettingsCase for Under {
     }
 
     fn holds_under(&self, alloc: Global, settings: &Settings) -> bool {
-        is_sorted(alloc, settings, self.1, self.2) && is_sorted(alloc, settings, self.2, self.2)
+        is_sorted(alloc, settings, self.1, self.2)
+            && is_sorted(alloc, settings, self.2, self.2)
+            && stays(alloc, self.1, settings)
+            && stays_under_each(alloc, self.1)
     }
 }
 
-pub(crate) const STATEMENTS: &[Under] = &[
+const STATEMENTS: &[Under] = &[
     Under(
         "",
         "from . import z\nimport sys\nimport requests\nfrom __future__ import annotations\nimport os\n",
@@ -104,11 +109,11 @@ pub(crate) const STATEMENTS: &[Under] = &[
 
 #[test]
 fn orders_statements(rt: HostRuntime) -> Result<(), Fail> {
-    each_holds_with(rt.alloc(), "", STATEMENTS)?;
-    each_holds_with(rt.alloc(), OWN, STATEMENTS)
+    each_holds_with(rt.alloc(), "STATEMENTS", "", STATEMENTS)?;
+    each_holds_with(rt.alloc(), "STATEMENTS with OWN", OWN, STATEMENTS)
 }
 
-pub(crate) const MERGED: &[Under] = &[
+const MERGED: &[Under] = &[
     Under(
         "",
         "from a import c as d, b\n",
@@ -153,10 +158,10 @@ pub(crate) const MERGED: &[Under] = &[
 
 #[test]
 fn merges_statements(rt: HostRuntime) -> Result<(), Fail> {
-    each_holds_with(rt.alloc(), "", MERGED)
+    each_holds_with(rt.alloc(), "MERGED", "", MERGED)
 }
 
-pub(crate) const BETWEEN: &[Under] = &[
+const BETWEEN: &[Under] = &[
     Under(
         "lines_between_types = 1",
         "import b\nfrom a import x\n",
@@ -185,12 +190,24 @@ pub(crate) const BETWEEN: &[Under] = &[
 
 #[test]
 fn puts_blank_lines_and_line_ends(rt: HostRuntime) -> Result<(), Fail> {
-    each_holds_with(rt.alloc(), "", BETWEEN)
+    each_holds_with(rt.alloc(), "BETWEEN", "", BETWEEN)
 }
 
 const NAMES: &str = "from m import dddd, aaaa, cccc, bbbb\n";
 
-pub(crate) const WRAPPED: &[Under] = &[
+/// A statement of 88 characters, which is as long as a line of the profile `black` may be.
+const FITS: &str =
+    "from a import nnnnnnnnnnnnnnnnnnnnnnnnnnnnnnnnnnnnnnnnnnnnnnnnnnnnnnnnnnnnnnnnnnnnnnnnnn\n";
+
+/// One of 89 characters.
+const LONG: &str =
+    "from a import nnnnnnnnnnnnnnnnnnnnnnnnnnnnnnnnnnnnnnnnnnnnnnnnnnnnnnnnnnnnnnnnnnnnnnnnnnn\n";
+
+/// The same, wrapped.
+const LONG_WRAPPED: &str =
+    "from a import (\n    nnnnnnnnnnnnnnnnnnnnnnnnnnnnnnnnnnnnnnnnnnnnnnnnnnnnnnnnnnnnnnnnnnnnnnnnnnn,\n)\n";
+
+const WRAPPED: &[Under] = &[
     Under(
         "line_length = 30\nmulti_line_output = 0",
         NAMES,
@@ -251,11 +268,14 @@ pub(crate) const WRAPPED: &[Under] = &[
         "from m import éb, éa\n",
         "from m import éa, éb\n",
     ),
+    Under("profile = \"black\"", FITS, FITS),
+    Under("profile = \"black\"", LONG, LONG_WRAPPED),
 ];
 
 #[test]
-fn wraps_in_four_modes(rt: HostRuntime) -> Result<(), Fail> {
-    each_holds_with(rt.alloc(), "", WRAPPED)
+fn wraps_in_four_modes_and_at_the_profile_of_black(rt: HostRuntime) -> Result<(), Fail> {
+    each_holds_with(rt.alloc(), "WRAPPED", "", WRAPPED)?;
+    all_are_so(&[FITS.len() == 89, LONG.len() == 90])
 }
 
 const FOUR: &str = "from m import aa, bb, cc, dd\n";
@@ -270,7 +290,7 @@ const HANGING_THREE_AND_ONE: &str = "from m import \\\n    aa, bb, cc, \\\n    d
 
 const HANGING_TWO_AND_TWO: &str = "from m import \\\n    aa, bb, \\\n    cc, dd\n";
 
-pub(crate) const PACKED: &[Under] = &[
+const PACKED: &[Under] = &[
     Under("line_length = 28", FOUR, FOUR),
     Under("line_length = 27", FOUR, THREE_AND_ONE),
     Under("line_length = 26", FOUR, THREE_AND_ONE),
@@ -323,30 +343,10 @@ pub(crate) const PACKED: &[Under] = &[
 
 #[test]
 fn packs_lines(rt: HostRuntime) -> Result<(), Fail> {
-    each_holds_with(rt.alloc(), "", PACKED)
+    each_holds_with(rt.alloc(), "PACKED", "", PACKED)
 }
 
-const FITS: &str =
-    "from a import nnnnnnnnnnnnnnnnnnnnnnnnnnnnnnnnnnnnnnnnnnnnnnnnnnnnnnnnnnnnnnnnnnnnnnnnnn\n";
-
-const LONG: &str =
-    "from a import nnnnnnnnnnnnnnnnnnnnnnnnnnnnnnnnnnnnnnnnnnnnnnnnnnnnnnnnnnnnnnnnnnnnnnnnnnn\n";
-
-const LONG_WRAPPED: &str =
-    "from a import (\n    nnnnnnnnnnnnnnnnnnnnnnnnnnnnnnnnnnnnnnnnnnnnnnnnnnnnnnnnnnnnnnnnnnnnnnnnnnn,\n)\n";
-
-pub(crate) const OF_BLACK: &[Under] = &[
-    Under("profile = \"black\"", FITS, FITS),
-    Under("profile = \"black\"", LONG, LONG_WRAPPED),
-];
-
-#[test]
-fn wraps_at_the_profile_of_black(rt: HostRuntime) -> Result<(), Fail> {
-    all_are_so(&[FITS.len() == 89, LONG.len() == 90])?;
-    each_holds_with(rt.alloc(), "", OF_BLACK)
-}
-
-pub(crate) const BLOCKS: &[Under] = &[
+const BLOCKS: &[Under] = &[
     Under(
         "",
         "import b\nimport a\nx = 1\nimport d\nimport c\n",
@@ -421,10 +421,10 @@ pub(crate) const BLOCKS: &[Under] = &[
 
 #[test]
 fn sorts_each_block(rt: HostRuntime) -> Result<(), Fail> {
-    each_holds_with(rt.alloc(), "", BLOCKS)
+    each_holds_with(rt.alloc(), "BLOCKS", "", BLOCKS)
 }
 
-pub(crate) const COMMENTS: &[Under] = &[
+const COMMENTS: &[Under] = &[
     Under(
         "",
         "import z  # one\n# about a\nimport a\nimport z  # two\n",
@@ -469,10 +469,10 @@ pub(crate) const COMMENTS: &[Under] = &[
 
 #[test]
 fn moves_comments_with_their_statements(rt: HostRuntime) -> Result<(), Fail> {
-    each_holds_with(rt.alloc(), "", COMMENTS)
+    each_holds_with(rt.alloc(), "COMMENTS", "", COMMENTS)
 }
 
-pub(crate) const AFTER: &[Under] = &[
+const AFTER: &[Under] = &[
     Under(
         "",
         "import b\nimport a\ndef f(): pass\n",
@@ -531,10 +531,10 @@ pub(crate) const AFTER: &[Under] = &[
 
 #[test]
 fn puts_blank_lines_after_blocks(rt: HostRuntime) -> Result<(), Fail> {
-    each_holds_with(rt.alloc(), "", AFTER)
+    each_holds_with(rt.alloc(), "AFTER", "", AFTER)
 }
 
-pub(crate) const ACTIONS: &[Under] = &[
+const ACTIONS: &[Under] = &[
     Under(
         "",
         "import b\nimport a  # isort: skip\nimport d\nimport c\n# isort: off\nimport z\nimport y\n\
@@ -581,7 +581,7 @@ pub(crate) const ACTIONS: &[Under] = &[
 
 #[test]
 fn heeds_action_comments(rt: HostRuntime) -> Result<(), Fail> {
-    each_holds_with(rt.alloc(), "", ACTIONS)
+    each_holds_with(rt.alloc(), "ACTIONS", "", ACTIONS)
 }
 
 /// A text, and how it is answered: when it is sorted and when it is checked. A text that is skipped has no blocks.
@@ -649,11 +649,6 @@ const ANSWERS: &[Answered] = &[
     ),
 ];
 
-#[test]
-fn answers_texts(rt: HostRuntime) -> Result<(), Fail> {
-    each_holds_with(rt.alloc(), "", ANSWERS)
-}
-
 /// A text, and the kind, the byte and the line of its fault.
 struct Faulty(&'static str, FaultKind, u64, u64);
 
@@ -691,6 +686,7 @@ const FAULTS: &[Faulty] = &[
 ];
 
 #[test]
-fn refuses_faults(rt: HostRuntime) -> Result<(), Fail> {
-    each_holds_with(rt.alloc(), "", FAULTS)
+fn answers_texts_and_refuses_faults(rt: HostRuntime) -> Result<(), Fail> {
+    each_holds_with(rt.alloc(), "ANSWERS", "", ANSWERS)?;
+    each_holds_with(rt.alloc(), "FAULTS", "", FAULTS)
 }

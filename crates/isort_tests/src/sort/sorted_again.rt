@@ -1,12 +1,8 @@
 //! Sorted texts, sorted again under the same settings: they stay as they are.
 use crate::harness::cases::{SettingsCase, holds_with};
-use crate::sort::sorted::{
-    ACTIONS, AFTER, BETWEEN, BLOCKS, COMMENTS, MERGED, OF_BLACK, PACKED, STATEMENTS, Under, WRAPPED,
-};
 use isort_settings::Settings;
 use isort_sort::{Sorted, check_code, sort_code};
 use std::alloc::Global;
-use std::test::Fail;
 
 /// Lines of `[tool.isort]` under which each text is sorted, beside its own: a profile, and each mode with short lines.
 const TABLES: &[&str] = &[
@@ -35,19 +31,24 @@ fn stays_sorted(alloc: Global, text: &[u8], settings: &Settings) -> bool {
     }
 }
 
-/// Lines of `[tool.isort]`, and a text that stays sorted under these settings, with each line end.
-#[derive(Drop)]
-struct Again<'r>(&'r str, &'r str);
-
-impl Again<'_> {
-    /// Whether the text stays sorted with this line end in the place of each LF.
-    fn stays_with(&self, alloc: Global, end: &str, settings: &Settings) -> bool {
-        match self.1.replace(alloc, "\n", end) {
-            Ok(text) => stays_sorted(alloc, text.as_bytes(), settings),
-            Err(_) => false,
-        }
+/// Whether the text stays sorted with this line end in the place of each LF.
+fn stays_with(alloc: Global, text: &str, end: &str, settings: &Settings) -> bool {
+    match text.replace(alloc, "\n", end) {
+        Ok(text) => stays_sorted(alloc, text.as_bytes(), settings),
+        Err(_) => false,
     }
 }
+
+/// Whether the text stays sorted under these settings, with each line end.
+pub(crate) fn stays(alloc: Global, text: &str, settings: &Settings) -> bool {
+    stays_with(alloc, text, "\n", settings)
+        && stays_with(alloc, text, "\r\n", settings)
+        && stays_with(alloc, text, "\r", settings)
+}
+
+/// Lines of `[tool.isort]`, and a text that stays sorted under these settings.
+#[derive(Drop)]
+struct Again<'r>(&'r str, &'r str);
 
 impl SettingsCase for Again<'_> {
     fn lines(&self) -> &str {
@@ -55,45 +56,16 @@ impl SettingsCase for Again<'_> {
     }
 
     fn holds_under(&self, alloc: Global, settings: &Settings) -> bool {
-        self.stays_with(alloc, "\n", settings)
-            && self.stays_with(alloc, "\r\n", settings)
-            && self.stays_with(alloc, "\r", settings)
+        stays(alloc, self.1, settings)
     }
 }
 
-/// Whether the row's text stays sorted under its own settings and under each of the others.
-fn row_stays(alloc: Global, row: &Under) -> bool {
+/// Whether the text stays sorted under each of the settings above.
+pub(crate) fn stays_under_each(alloc: Global, text: &str) -> bool {
     for table in TABLES {
-        if !holds_with(alloc, "", &Again(table, row.1)) {
+        if !holds_with(alloc, "", &Again(table, text)) {
             return false;
         }
     }
-    holds_with(alloc, "", &Again(row.0, row.1))
-}
-
-/// Every row of these tables stays sorted. One that doesn't is tried once more, as in `each_holds_again`.
-fn each_stays(alloc: Global, tables: &[&[Under]]) -> Result<(), Fail> {
-    for rows in tables {
-        for (i, row) in rows.iter().enumerate() {
-            if !row_stays(alloc, row) && !row_stays(alloc, row) {
-                return Err(Fail::new(format_args!("row {i} does not stay sorted")));
-            }
-        }
-    }
-    Ok(())
-}
-
-#[test]
-fn statements_stay_sorted(rt: HostRuntime) -> Result<(), Fail> {
-    each_stays(rt.alloc(), &[STATEMENTS, MERGED, BETWEEN])
-}
-
-#[test]
-fn wrapped_statements_stay_sorted(rt: HostRuntime) -> Result<(), Fail> {
-    each_stays(rt.alloc(), &[WRAPPED, PACKED, OF_BLACK])
-}
-
-#[test]
-fn blocks_stay_sorted(rt: HostRuntime) -> Result<(), Fail> {
-    each_stays(rt.alloc(), &[BLOCKS, COMMENTS, AFTER, ACTIONS])
+    true
 }

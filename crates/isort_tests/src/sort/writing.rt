@@ -122,6 +122,6 @@ const SORTINGS: &[Sorting] = &[
 
 #[test]
 fn writes_whole_texts_slowly_and_prefixes_of_every_length(rt: HostRuntime) -> Result<(), Fail> {
-    each_holds_with(rt.alloc(), "", WRITTEN)?;
-    each_holds_with(rt.alloc(), "", SORTINGS)
+    each_holds_with(rt.alloc(), "WRITTEN", "", WRITTEN)?;
+    each_holds_with(rt.alloc(), "SORTINGS", "", SORTINGS)
 }

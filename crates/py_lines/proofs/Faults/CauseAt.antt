@@ -4,7 +4,7 @@ use Rattle.std.specs.Prelude.{if◌then◌else◌, encode_utf8_all}
 use Rattle.std.proofs.Math.Utf8.{encode}
 use Rattle.std.proofs.lemmas.Str.{encodes-append}
 use Rattle.std.proofs.lemmas.Bool.{both_ways, cond_both, and_parts, and_from, or_cases, or_left, eqb-true, eq-eqb, ltb-false}
-use Rattle.py_lines.specs.Character.{is_quote, is_line_feed, is_return, is_break}
+use Rattle.py_lines.specs.Character.{is_line_feed, is_return, is_break}
 use Rattle.py_lines.specs.Piece.{Piece, spelled}
 use Rattle.py_lines.specs.Balance.{is_opening, is_closing}
 use Rattle.py_lines.specs.Faults.{OpensBraceTooDeep, InShortSpecification, BreaksString, OpensTooDeep, Cause, brace_too_deep, breaks_string, breaks_join, closes_wrong, opens_too_deep, ends_specification, begins_nothing, kind_of_cause, Explains, causes_before, NoneExplains, IsCharacterFault}
@@ -14,7 +14,7 @@ use Rattle.py_lines.specs.FieldStrings.{Host, literal, specification}
 use Rattle.py_lines.specs.Private.Machine.{start_of}
 use Rattle.py_lines.specs.Private.FieldMachine.{text_place, before, after_brace, FieldMode, plain, opened, empty, body, FieldMove, grows, closes, breaks, begins_code, opens_field, ends_field, refused, Level, FieldScanned, field_state, field_text_start, field_pieces, field_move, field_moved, field_started, field_step, opened_level, field_steps_from, levels_open, frames, has_room_at, have_room, body_move, after_open_backslash, InSpecificationOf}
 use Rattle.py_lines.specs.Private.FieldFlaws.{is_waiting, quotes_specification, cause_in, cause_place, here, piece_start}
-use Rattle.py_lines.proofs.Text.CharacterTests.{none_of}
+use Rattle.py_lines.proofs.Text.CharacterTests.{break-not-opening, break-not-closing, break-not-quote, opening-not-quote}
 use Rattle.py_lines.proofs.Machine.Starts.{start-feed, start-return}
 use Rattle.py_lines.proofs.FieldMachine.WhatIsOpen.{Comes, comes_to, short_open_comes, backslash_comes, specification_comes}
 use Rattle.py_lines.proofs.FieldMachine.OpenCode.{brace_comes}
@@ -45,22 +45,6 @@ break_starts : (outer : List Level) (ps : List Piece) (os : List ℕ) (c : ℕ) 
 break_starts outer ps os c break none =
     ⊎_elim (λ feed. some_none (sym (ap (field_started outer ps os c) (start-feed c feed)) ∙ none))
     (λ return. some_none (sym (ap (field_started outer ps os c) (start-return c return)) ∙ none)) (return_or_feed c break)
-
-break-not-opening : (c : ℕ) → is_break c ≡ true → is_opening c ≡ false
-unfolding is_break is_opening
-break-not-opening c h = none_of is_opening (10 ∷ 13 ∷ []) c refl h
-
-break-not-closing : (c : ℕ) → is_break c ≡ true → is_closing c ≡ false
-unfolding is_break is_closing
-break-not-closing c h = none_of is_closing (10 ∷ 13 ∷ []) c refl h
-
-break-not-quote : (c : ℕ) → is_break c ≡ true → is_quote c ≡ false
-unfolding is_break is_quote
-break-not-quote c h = none_of is_quote (10 ∷ 13 ∷ []) c refl h
-
-opening-not-quote : (c : ℕ) → is_opening c ≡ true → is_quote c ≡ false
-unfolding is_opening is_quote
-opening-not-quote c h = none_of is_quote (40 ∷ 91 ∷ 123 ∷ []) c refl h
 
 open_brace_opens : is_opening 123 ≡ true
 unfolding is_opening

@@ -17,6 +17,7 @@ use Rattle.py_lines.proofs.Pieces.PieceLists.{spelled-append}
 use Rattle.py_lines.proofs.FieldMachine.Runs.{NoLimit, Goes, steps_of}
 use Rattle.py_lines.proofs.FieldMachine.OpenLists.{pieces_run, list_runs}
 use Rattle.py_lines.proofs.Machine.ReadingSteps.{MayBegin}
+use Rattle.py_lines.proofs.FieldSoundness.OpenEnds.{long_mode}
 use Rattle.py_lines.proofs.Fields.OneReading.{some_head}
 use Rattle.py_lines.proofs.FieldMachine.ListBrackets.{openers_through-append, opener_pushes, balanced_openers, none_some}
 use Rattle.py_lines.specs.Private.FieldFlaws.{unfinished_code, unfinished_in, unfinished_at}
@@ -86,15 +87,7 @@ short_unfinished outer openers (body host literal named at) is = go host.is_long
     go true h = absurd (both_ways _ refl h)
 
 pub long_unfinished : (outer : List Level) (openers : List ℕ) (m : FieldMode) → in_open_long m ≡ true → unfinished_in outer openers m ≡ Some open_long
-long_unfinished outer openers (plain m) is = rw (long_not_short m is, is)
-  where
-    long_not_short : (n : Mode) → in_long n ≡ true → in_short n ≡ false
-    long_not_short (modes.Long q) h = refl
-    long_not_short (modes.LongOne q) h = refl
-    long_not_short (modes.LongTwo q) h = refl
-    long_not_short (modes.LongEscape q) h = refl
-    long_not_short modes.Fielded h = refl
-    long_not_short n h = absurd (both_ways _ refl h)
+long_unfinished outer openers (plain m) is = rw ((long_mode m is).1, is)
 long_unfinished outer openers (opened host) is = absurd (both_ways _ refl is)
 long_unfinished outer openers (empty host) is = absurd (both_ways _ refl is)
 long_unfinished outer openers (body host specification named at) is = absurd (both_ways _ refl is)

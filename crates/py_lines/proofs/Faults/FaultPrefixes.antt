@@ -95,20 +95,11 @@ field_fault_prefix kind characters tail offset (at_end fault) = ended fault.unfi
 -- no character and no end of a text has the fault of undecodable bytes
 cause_decodes : (cause : Cause) → ¬ (kind_of_cause cause ≡ faults.BadUtf8)
 cause_decodes brace_too_deep is = cc
-cause_decodes breaks_string is = cc
-cause_decodes breaks_join is = cc
-cause_decodes closes_wrong is = cc
-cause_decodes opens_too_deep is = cc
-cause_decodes ends_specification is = cc
-cause_decodes begins_nothing is = cc
+cause_decodes other is = cc
 
 end_decodes : (what : Unfinished) → ¬ (kind_of_unfinished what ≡ faults.BadUtf8)
 end_decodes open_brace is = cc
-end_decodes open_short is = cc
-end_decodes open_long is = cc
-end_decodes open_join is = cc
-end_decodes open_bracket is = cc
-end_decodes open_inside is = cc
+end_decodes other is = cc
 
 pub undecodable : (kind : FaultKind) (characters tail : List ℕ) (offset : ℕ) → kind ≡ faults.BadUtf8 → IsFaultAt kind characters tail offset → IsUndecodable kind characters tail offset
 undecodable kind characters tail offset is (at_character fault) = absurd (cause_decodes fault.cause (sym fault.is ∙ is))

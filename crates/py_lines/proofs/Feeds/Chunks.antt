@@ -33,13 +33,16 @@ pub none_taken : (old new : Feed) (piece : List ℕ) (error : LexError) → old.
 none_taken old new piece (lex.Fault f) ready fault fails = inr (fault, record { not_ready = ready; n = 0; within = omega arith; mid = old; more = holds_none old; fails = fails })
 none_taken old new piece lex.Memory ready fault r = (fault, ready, restarts_unchanged old new ready r)
 
--- the next bytes of a piece
-pub rest_is : (piece : List ℕ) (taken : ℕ) → take (length piece - taken) (drop taken piece) ≡ drop taken piece
+-- the bytes of a piece that aren't taken yet, as a slice has them
+abbrev pub rest_of : List ℕ → ℕ → List ℕ
+rest_of piece taken = take (length piece - taken) (drop taken piece)
+
+rest_is : (piece : List ℕ) (taken : ℕ) → rest_of piece taken ≡ drop taken piece
 rest_is piece taken = take_all (length piece - taken) (drop taken piece) (omega (arith, length-drop taken piece))
 
-pub next_bytes : (piece : List ℕ) (taken len more : ℕ) → taken ≤ length piece → more ≤ length (take len (take (length piece - taken) (drop taken piece))) → (take more (take len (take (length piece - taken) (drop taken piece))) ≡ take more (drop taken piece)) × (taken + more ≤ length piece)
+pub next_bytes : (piece : List ℕ) (taken len more : ℕ) → taken ≤ length piece → more ≤ length (take len (rest_of piece taken)) → (take more (take len (rest_of piece taken)) ≡ take more (drop taken piece)) × (taken + more ≤ length piece)
 next_bytes piece taken len more within less =
-    let rest = take (length piece - taken) (drop taken piece) in
+    let rest = rest_of piece taken in
     let size : more ≤ len = omega (arith, less, length-take len rest) in
     (take-take more len rest size ∙ ap (take more) (rest_is piece taken), omega (arith, less, length-take len rest, ap length (rest_is piece taken), length-drop taken piece, within))
 
@@ -72,23 +75,25 @@ last_chunk old mid new piece taken len end_len more ready scanned stops is =
     }
 
 -- a fault in the chunk that was taken
-pub chunk_fails : (old mid new : Feed) (piece chunk : List ℕ) (taken len : ℕ) (error : LexError) → old.ready ≡ None → taken + len ≤ length piece → HoldsMore old (take taken piece) mid → chunk ≡ take len (drop taken piece) → (w : FailsWith mid chunk error new) → FailsPiece old piece error new
-chunk_fails old mid new piece chunk taken len error ready within more is w = record {
-  not_ready = ready;
-  n = taken + len;
-  within = within;
-  mid = w.mid;
-  more = grows old mid w.mid piece chunk taken len more w.more is;
-  fails = w.fails;
-}
+pub chunk_fails : (old mid new : Feed) (piece : List ℕ) (taken len : ℕ) (error : LexError) → is_some old.ready ≡ false → taken ≤ length piece → len ≤ length (rest_of piece taken) → HoldsMore old (take taken piece) mid → (w : FailsWith mid (take len (rest_of piece taken)) error new) → FailsPiece old piece error new
+chunk_fails old mid new piece taken len error ready within less more w =
+    let is = rest_is piece taken in
+    record {
+      not_ready = none_is old.ready ready;
+      n = taken + len;
+      within = omega (arith, within, less, ap length is, length-drop taken piece);
+      mid = w.mid;
+      more = grows old mid w.mid piece (take len (rest_of piece taken)) taken len more w.more (ap (take len) is);
+      fails = w.fails;
+    }
 
 -- where a growth was refused after the first bytes
-pub stops_short : (old mid new : Feed) (piece : List ℕ) (taken : ℕ) → old.ready ≡ None → taken ≤ length piece → (taken ≡ 0 → ⊥) → HoldsMore old (take taken piece) mid → mid.state.fault ≡ old.state.fault → mid.ready ≡ None → ((taken ≡ 0 → piece ≡ []) → IsScanned mid.ready mid) → IsUnchanged mid new → TakesSome old piece taken new
+pub stops_short : (old mid new : Feed) (piece : List ℕ) (taken : ℕ) → is_some old.ready ≡ false → taken ≤ length piece → (taken ≡ 0 → ⊥) → HoldsMore old (take taken piece) mid → mid.state.fault ≡ old.state.fault → mid.ready ≡ None → ((taken ≡ 0 → piece ≡ []) → IsScanned mid.ready mid) → IsUnchanged mid new → TakesSome old piece taken new
 stops_short old mid new piece taken ready within some more fault mid_ready scanned u =
     let s = u.same in
     let is_ready : new.ready ≡ None = u.ready ∙ mid_ready in
     record {
-      not_ready = ready;
+      not_ready = none_is old.ready ready;
       within = within;
       some = λ zero. absurd (some zero);
       more = record { held = s.held ∙ append-nil mid.held.items ∙ more.held; place = s.place ∙ more.place; line = s.line ∙ more.line; ended = s.ended ∙ more.ended };
@@ -97,9 +102,20 @@ stops_short old mid new piece taken ready within some more fault mid_ready scann
     }
 
 -- what a scan of all that is held leaves, once bytes were taken
-pub stops_taking : (old new : Feed) (piece : List ℕ) (taken : ℕ) (ready : Option ℕ) → IsScanned ready new → ((end_len : ℕ) → 0 < taken → ready ≡ Some end_len → IsLastChunk old piece taken end_len new) → StopsTaking old piece taken ready new
+stops_taking : (old new : Feed) (piece : List ℕ) (taken : ℕ) (ready : Option ℕ) → IsScanned ready new → ((end_len : ℕ) → 0 < taken → ready ≡ Some end_len → IsLastChunk old piece taken end_len new) → StopsTaking old piece taken ready new
 stops_taking old new piece taken None s last = (new, holds_none new, s, (s.0, s.1, s.2))
 stops_taking old new piece taken (Some n) s last = (s, λ some. last n some refl)
+
+-- bytes of a piece were taken up to a line's end, or all
+pub takes_some : (old new : Feed) (piece : List ℕ) (taken : ℕ) → is_some old.ready ≡ false → taken ≤ length piece → (taken ≡ 0 → piece ≡ []) → HoldsMore old (take taken piece) new → new.state.fault ≡ old.state.fault → ((taken ≡ 0 → piece ≡ []) → IsScanned new.ready new) → ((end_len : ℕ) → 0 < taken → new.ready ≡ Some end_len → IsLastChunk old piece taken end_len new) → TakesSome old piece taken new
+takes_some old new piece taken ready within none more fault scanned last = record {
+  not_ready = none_is old.ready ready;
+  within = within;
+  some = none;
+  more = more;
+  fault = fault;
+  stops = stops_taking old new piece taken new.ready (scanned none) last;
+}
 
 -- what a call took, where the bytes had been scanned before it
 pub rescanned_taken : (old new : Feed) (scan : Scan) (chunk : List ℕ) (r : Result ℕ LexError) → TakesChunk (record old { state = record old.state { scan = scan } }) chunk r new → TakesChunk old chunk r new

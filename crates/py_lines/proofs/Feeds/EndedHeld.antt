@@ -113,7 +113,7 @@ module _ (f : Feed) (read rest : List ℕ) (o : IsOpen f read rest) where
         lexed = λ text lines ends.
             let k = known_at text lines ends some in
             subst (λ (l : LogicalLine). IsLexed text (lines ++ l ∷ []) None) (sym is)
-            (ended_line text f.state.place f.state.line lines read rest k (whole_at text lines ends) none o.way.state (subst (GoesTo (line_start (first_mode f.state.place)) read o.way.state) empty (way_goes o.way)) (ap is_final (sym o.way.tallies.counts.mode) ∙ final) line.some line.whole);
+            (ended_line text f.state.place f.state.line lines read rest k (whole_at text lines ends) none o.way.state (subst (GoesTo (line_start (first_mode f.state.place)) read o.way.state) empty (way_goes o.way)) (ap is_final (sym o.way.tallies.counts.mode) ∙ final) line.line.some line.line.whole);
       }
 
   closed_tallies : (new : Feed) → Closes f.state.scan new.state.scan → Tallies new.state.scan (fresh (pieces_at o.way.state))

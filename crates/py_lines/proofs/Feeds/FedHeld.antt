@@ -70,7 +70,7 @@ pub never_before : (text : List ℕ) (new mid : Feed) (lines : List LogicalLine)
 never_before text new mid lines n all after r e spell whole first goes settled =
     let f : Feed = record new { held = mid.held } in
     let ended : IsEnded f n all r = record { scalars = e.scalars; spell = spell; at = e.at; number = e.number } in
-    let some : 0 < length (encode_utf8_all all) = (line_of_ended f n all r ended [] (λ returned. refl)).0.some in
+    let some : 0 < length (encode_utf8_all all) = (line_of_ended f n all r ended [] (λ returned. refl)).0.line.some in
     let size = length-append (encode_utf8_all all) r in
     let k = is_known text new.state.place new.state.line lines all r first e.scalars (subst (GoesOnWith text new.state.place) (sym spell) goes) (omega (arith, some, size)) in
     let next = next_line text f lines n all r ended whole k in
@@ -84,7 +84,7 @@ never_before text new mid lines n all after r e spell whole first goes settled =
 -- the line that has ended with the bytes taken last is settled, and what is held is it, with at most one byte more
 module _ (text : List ℕ) (new mid : Feed) (lines : List LogicalLine) (n : ℕ) (e : EndsLineHeld n new) (last : EndsExactly e.all e.after ⊎ HadEnded mid.held.items e.all) (first : AreFirstLines text new.state.place new.state.line lines) (goes : GoesOnWith text new.state.place new.held.items) (before : GoesOnWith text new.state.place mid.held.items) (settled : 0 < length mid.held.items → IsSettled (take (new.state.place + length mid.held.items) text) lines) where
   fed_some : 0 < length (encode_utf8_all e.all)
-  fed_some = (line_of_ended new n e.all e.after e.ended [] (λ returned. refl)).0.some
+  fed_some = (line_of_ended new n e.all e.after e.ended [] (λ returned. refl)).0.line.some
 
   fed_known : IsKnown text new.state.place new.state.line lines e.all e.after
   fed_known = is_known text new.state.place new.state.line lines e.all e.after first e.ended.scalars (subst (GoesOnWith text new.state.place) (sym e.ended.spell) goes) (omega (arith, fed_some, length-append (encode_utf8_all e.all) e.after))

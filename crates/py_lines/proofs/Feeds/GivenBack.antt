@@ -74,7 +74,7 @@ module _ (m : Mode) (scan : Scan) (bytes all after : List ℕ) (end_len : ℕ) (
       returned size h (inr (b, m', is, other)) = omega (arith, size, bytes_size, ap length is)
 
   pub end_some : 0 < whole_end scan
-  end_some = ⊎_elim (λ a. omega (arith, a.0, line_ended.some)) (λ b. omega (arith, b.0)) end_is
+  end_some = ⊎_elim (λ a. omega (arith, a.0, line_ended.line.some)) (λ b. omega (arith, b.0)) end_is
 
 module _ (f : Feed) (end_len : ℕ) (e : EndsLineHeld end_len f) (v : Vec ℕ) (before kept : ℕ) (held : v.items ≡ take kept f.held.items) (within : whole_end f.state.scan ≤ kept) (which : (kept ≡ whole_end f.state.scan) ⊎ (whole_end f.state.scan ≤ before)) where
   kept_line : EndsLineHeld end_len (record f { held = v })

@@ -94,36 +94,23 @@ closes_held old new (Ok done) read rest o some none is closes = (closes.0, close
 closes_held old new (Err (lex.Fault f)) read rest o some none is closes = absurd closes
 closes_held old new (Err lex.Memory) read rest o some none is restarts = restarts
 
+-- the scan of what is held meets a fault, where a line is open
+fails_held : (old mid new : Feed) (read rest : List ℕ) (kind : FaultKind) (offset : ℕ) (error : LexError) → KeepsText old mid → mid.ready ≡ None → IsOpen mid read rest → FailsAt mid kind offset error new → ((e : LexError) → FailsAt mid kind offset e new → FailsNext mid read rest e new) → ScansHeld old (Err error) new
+fails_held old mid new read rest kind offset error keeps ready opens fails next =
+    let is = fails.keeps.error_is in
+    subst (λ (e : LexError). ScansHeld old (Err e) new) (sym is)
+    (record { mid = mid; text = keeps; not_ready = ready; read = read; rest = rest; opens = opens; fails = next _ (subst (λ (e : LexError). FailsAt mid kind offset e new) is fails) })
+
 -- what is left begins no character, whatever follows
 pub part_fails : (f new : Feed) (read rest : List ℕ) (error : LexError) → IsOpen f read rest → f.ready ≡ None → IsHopeless rest → is_returned f.state.scan ≡ false → FailsAt f BadUtf8 f.state.scan.stop error new → ScansHeld f (Err error) new
-part_fails f new read rest error o ready hopeless open_yet fails = subst (λ (e : LexError). ScansHeld f (Err e) new) (sym fails.keeps.error_is) (record {
-  mid = f;
-  text = keeps_self f;
-  not_ready = ready;
-  read = read;
-  rest = rest;
-  opens = o;
-  fails = FailsNext.at_bytes o.way hopeless open_yet (subst (λ (e : LexError). FailsAt f BadUtf8 f.state.scan.stop e new) fails.keeps.error_is fails);
-})
+part_fails f new read rest error o ready hopeless open_yet fails =
+    fails_held f f new read rest BadUtf8 f.state.scan.stop error (keeps_self f) ready o fails (λ e at. FailsNext.at_bytes o.way hopeless open_yet at)
 
 -- the next character is refused
 pub held_refused : (old mid new : Feed) (read rest : List ℕ) (c : ℕ) (flaw : Flaw) (error : LexError) → KeepsText old mid → mid.ready ≡ None → StopsHeld mid (stops.Refused c) read rest → IsRefusal mid.state.scan c flaw → FailsAt mid flaw.kind flaw.place error new → ScansHeld old (Err error) new
-held_refused old mid new read rest c flaw error keeps ready s is_flaw fails = subst (λ (e : LexError). ScansHeld old (Err e) new) (sym fails.keeps.error_is) (record {
-  mid = mid;
-  text = keeps;
-  not_ready = ready;
-  read = read;
-  rest = rest;
-  opens = s.0;
-  fails = FailsNext.at_character c s.1 s.2 s.3 (record {
-    way = s.0.way;
-    refuses = s.4;
-    not_yet = s.5;
-    flaw = flaw;
-    is_flaw = is_flaw;
-    fails = subst (λ (e : LexError). FailsAt mid flaw.kind flaw.place e new) fails.keeps.error_is fails;
-  });
-})
+held_refused old mid new read rest c flaw error keeps ready (opens, after, scalar, spell, refuses, not_yet) is_flaw fails =
+    fails_held old mid new read rest flaw.kind flaw.place error keeps ready opens fails
+    (λ e at. FailsNext.at_character c after scalar spell (record { way = opens.way; refuses = refuses; not_yet = not_yet; flaw = flaw; is_flaw = is_flaw; fails = at }))
 
 -- the same, from where a scan of the characters came to
 pub held_from : (old mid new : Feed) (r : _) → KeepsText old mid → mid.ready ≡ old.ready → mid.state.fault ≡ old.state.fault → ScansHeld mid r new → ScansHeld old r new

@@ -39,7 +39,7 @@ module _ (text : List ℕ) (f : Feed) (lines : List LogicalLine) (end_len : ℕ)
   pub next_line : IsNextLine f.state.place read k.more next_pieces
   next_line =
       let at = e.at k.more no_feed_next in
-      let line = (line_of_ended f end_len read rest e k.more no_feed_next).0 in
+      let line = (line_of_ended f end_len read rest e k.more no_feed_next).0.line in
       record {
         body = at.body;
         last = at.last;
@@ -59,7 +59,7 @@ module _ (text : List ℕ) (f : Feed) (lines : List LogicalLine) (end_len : ℕ)
   next_is = (line_of_ended f end_len read rest e k.more no_feed_next).1
 
   pub next_some : 0 < length read
-  next_some = go read (line_of_ended f end_len read rest e k.more no_feed_next).0.some
+  next_some = go read (line_of_ended f end_len read rest e k.more no_feed_next).0.line.some
     where
       go : (cs : List ℕ) → 0 < length (encode_utf8_all cs) → 0 < length cs
       go [] some = some

@@ -18,7 +18,7 @@ use Rattle.py_lines.proofs.Readers.LineAnswers.{IsScannedLine, line_at_end}
 -- the logical line of a line that was scanned whole
 pub line_of_ready : (f : Feed) (end_len : ℕ) (read rest : List ℕ) (u : List Piece) → encode_utf8_all read ++ rest ≡ f.held.items → f.state.scan.line ≡ f.state.line → IsScannedLine (line_start (first_mode f.state.place)) f.state.scan read end_len u → line_of_feed f end_len ≡ line_of f.state.place f.state.line u
 line_of_ready f end_len read rest u held number line =
-    let text : take f.state.scan.stop f.held.items ≡ encode_utf8_all (spelled u) = ap (λ (n : ℕ). take n f.held.items) line.stop ∙ ap (take (byte_len read)) (sym held) ∙ take-append_seam (encode_utf8_all read) rest ∙ ap encode_utf8_all (sym line.spell) in
+    let text : take f.state.scan.stop f.held.items ≡ encode_utf8_all (spelled u) = ap (λ (n : ℕ). take n f.held.items) line.stop ∙ ap (take (byte_len read)) (sym held) ∙ take-append_seam (encode_utf8_all read) rest ∙ ap encode_utf8_all (sym line.line.spell) in
     let tokens = line.tokens ∙ ap (λ (n : ℕ). tokens_from 0 n u) number in
     let kind = line.kind in
     let indent = line.indent in
@@ -33,11 +33,11 @@ ready_line f end_len read rest u scalars held number line = record {
   pieces = u;
   scalars = scalars;
   spell = held;
-  spells = line.spell;
+  spells = line.line.spell;
   line_is = line_of_ready f end_len read rest u held number line;
   stop = line.stop;
   here = line.here ∙ ap (λ (n : ℕ). n + line_ends read) number;
-  some = line.some;
+  some = line.line.some;
 }
 
 -- the line that its line end has closed, as a logical line

@@ -11,12 +11,12 @@ use Rattle.py_lines.specs.declared.mode.Mode.{Mode}
 use Rattle.py_lines.specs.declared.mode.Mode.TheVariants as modes
 use Rattle.py_lines.specs.declared.mode.Start.{Start}
 use Rattle.py_lines.specs.declared.mode.Start.TheVariants as starts
-use Rattle.py_lines.specs.Private.Machine.{Scanned, fresh, closed, started, steps_from, start_of, first_spelling, spelling_on}
+use Rattle.py_lines.specs.Private.Machine.{Scanned, fresh, closed, started, move_from, steps_from, start_of, first_spelling, spelling_on}
 use Rattle.py_lines.specs.Private.FieldMachine.{FieldMode, plain, grows, Level, FieldScanned, field_state, field_fresh, plain_move, begins_host, field_pieces, field_closed, field_move, openers_with, after_operator, code_operator, field_operator, field_started, frames}
 use Rattle.py_lines.proofs.Pieces.PieceLists.{piece}
 use Rattle.py_lines.proofs.Text.CharacterTests.{each_of, prefix_word, quote-not-word}
 use Rattle.py_lines.proofs.Machine.Starts.{start-space, start-word, start-operator, start-feed, start-return, start-quote, start-hash, start-slash}
-use Rattle.py_lines.proofs.Machine.PieceSteps.{scanned, StopsBefore, Finds, begun, stops-free, steps_word}
+use Rattle.py_lines.proofs.Machine.PieceSteps.{scanned, StopsBefore, Finds, begun_by, stops-free, steps_word}
 use Rattle.py_lines.proofs.Machine.Spellings.{prefix_spelling}
 use Rattle.py_lines.proofs.Machine.StringSteps.{opens_at, opened_steps}
 use Rattle.py_lines.proofs.Machine.ReadingSteps.{find}
@@ -167,13 +167,7 @@ ends_no_prefix F line_end text rest before is = absurd (cc)
 
 plain_unmarked : (class : Class) → IsPlainClass class → is_mark_class class ≡ false
 plain_unmarked mark is = absurd is
-plain_unmarked space is = refl
-plain_unmarked word is = refl
-plain_unmarked string is = refl
-plain_unmarked operator is = refl
-plain_unmarked comment is = refl
-plain_unmarked join is = refl
-plain_unmarked line_end is = refl
+plain_unmarked other is = refl
 
 -- an operator in a list, where it neither ends a field nor opens its specification
 brace_closes : (after : List ℕ) → openers_with [] 125 ≡ Some after → ⊥
@@ -227,7 +221,7 @@ module _ (Room : ℕ → Type 0) where
       let done = field_pieces from in
       let b = begun_plain from.outer done from.openers c begins_so.start cs begins_so.quiet in
       rest_found from class text (c ∷ []) cs rest b.state (sym begins_so.is) old
-      (ap (λ o. steps_from o cs) (sym b.plain_is) ∙ sym (begun (fresh done) c cs [] begins_so.start (stops-free (c ∷ [])) begins_so.starts) ∙ ap (steps_from (Some (fresh done))) (sym begins_so.is) ∙ old.steps)
+      (ap (λ o. steps_from o cs) (sym b.plain_is) ∙ sym (begun_by move_from (fresh done) c cs begins_so.start (stops-free (c ∷ [])) begins_so.starts) ∙ ap (steps_from (Some (fresh done))) (sym begins_so.is) ∙ old.steps)
       (begun_size done c begins_so.start b.state begins_so.starts b.plain_is) b.quiet
       (one_begun from c cs (cs ++ rest) begins_so.start b (subst (λ t. StopsAt from.mode from.held (t ++ rest)) begins_so.is stops) begins_so.starts begins_so.quiet) none
 

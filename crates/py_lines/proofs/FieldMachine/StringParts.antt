@@ -7,9 +7,9 @@ use Rattle.py_lines.specs.Piece.{Piece, begins}
 use Rattle.py_lines.specs.PieceGrammar.{joined, begins_triple, has_triple}
 use Rattle.py_lines.specs.FieldStrings.{Host, Place, literal, specification, is_ordinary, may_stand, may_be_escaped, names, begins_open, begins_double, IsPart, bare, slash, escape, escaped_end, name, double, field, named_after, named_through, AreParts}
 use Rattle.py_lines.specs.Private.FieldMachine.{At, between, after_one, after_two, after_slash, after_return, after_name, after_brace, FieldMode, body, grows, Level, FieldScanned, field_state, is_after_brace, is_after_two, with_quote, opening_move, ending_move, between_move, is_barred_escape, escape_move, body_move, field_move}
-use Rattle.py_lines.proofs.Text.CharacterTests.{none_of, not_quote, slash-not-quote}
+use Rattle.py_lines.proofs.Text.CharacterTests.{none_of, not_quote, slash-not-quote, return-not-brace}
 use Rattle.py_lines.proofs.Fields.Elsewhere.{none_false}
-use Rattle.py_lines.proofs.Fields.Parts.{BeginOpen, ordinary, names_is}
+use Rattle.py_lines.proofs.Fields.Parts.{BeginOpen, ordinary, names_is, name-not-brace, name-not-return}
 use Rattle.py_lines.proofs.FieldMachine.Runs.{Goes, goes-append, goes-to, goes-grows}
 
 and_true : (x : Bool) → x && true ≡ x
@@ -191,18 +191,6 @@ unfolding between_move is_backslash is_break
 open_moves host place at quotes = rw (not_quote 123 host.quote quotes open_no_quote)
 
 -- what isn't a quote of the string
-return_no_brace : (c : ℕ) → is_return c ≡ true → is_brace c ≡ false
-unfolding is_brace is_return
-return_no_brace c h = none_of is_brace (13 ∷ []) c refl h
-
-name_no_brace : (host : Host) (c : ℕ) → names host c ≡ true → is_brace c ≡ false
-unfolding is_brace
-name_no_brace host c h = subst (λ x. is_brace x ≡ false) (sym (names_is host c h)) refl
-
-name_no_return : (host : Host) (c : ℕ) → names host c ≡ true → is_return c ≡ false
-unfolding is_return
-name_no_return host c h = subst (λ x. is_return x ≡ false) (sym (names_is host c h)) refl
-
 name_may : (host : Host) (place : Place) (c : ℕ) → names host c ≡ true → may_be_escaped host place c ≡ true
 unfolding is_break
 name_may host literal c h = refl
@@ -340,7 +328,7 @@ module _ (Room : ℕ → Type 0) (outer : List Level) (done : List Piece) (opene
     to = between;
     goes = goes-to Room _ _ _ (s ∷ r ∷ f ∷ [])
         (goes-append Room _ _ _ (s ∷ r ∷ []) (f ∷ [])
-        (escape_goes host place named at after_return held s r (f ∷ rest) quotes slashes here (return_escaped host place named _ r (return_no_brace r returns) may returns))
+        (escape_goes host place named at after_return held s r (f ∷ rest) quotes slashes here (return_escaped host place named _ r (return-not-brace r returns) may returns))
         (goes-grows Room _ _ (body host place named between) f [] (feed_after_return host place named _ f feeds) refl))
         (ap (within (body host place named between)) (append_assoc held (s ∷ r ∷ []) (f ∷ [])) ∙ ap (λ n. within (body host place n between) (held ++ s ∷ r ∷ f ∷ [])) (sym (return_unnamed named s r f returns)));
     on = goes_on host place _ rest;
@@ -354,7 +342,7 @@ module _ (Room : ℕ → Type 0) (outer : List Level) (done : List Piece) (opene
     goes = goes-to Room _ _ _ (s ∷ c ∷ 123 ∷ [])
         (goes-append Room _ _ _ (s ∷ c ∷ []) (123 ∷ [])
         (escape_goes host place named at after_name held s c (123 ∷ rest) quotes slashes here
-        (name_escaped host place named _ c (name_no_brace host c is_name) (name_may host place c is_name) (name_no_return host c is_name) is_name))
+        (name_escaped host place named _ c (name-not-brace host c is_name) (name_may host place c is_name) (name-not-return host c is_name) is_name))
         (goes-grows Room _ _ (body host place true between) 123 [] (brace_after_name host place named _) refl))
         (ap (within (body host place true between)) (append_assoc held (s ∷ c ∷ []) (123 ∷ [])) ∙ ap (λ n. within (body host place n between) (held ++ s ∷ c ∷ 123 ∷ [])) (sym (name_named host named s c 123 slashes is_name)));
     on = goes_on host place _ rest;

@@ -1,5 +1,5 @@
 -- What is open at a place is told by the state of the machine with fields there, so nothing else is.
-use Rattle.std.proofs.Common.{◌≡◌, ℕ, Bool, true, false, Some, List, [], ◌∷◌, ◌++◌, ◌⊎◌, inl, inr, refl, sym, ap, ◌∙◌, subst, append_assoc, arith}
+use Rattle.std.proofs.Common.{◌≡◌, ℕ, Bool, true, false, Some, List, [], ◌∷◌, ◌++◌, ◌⊎◌, inl, inr, ⊎_elim, refl, sym, ap, ◌∙◌, subst, append_assoc, arith}
 use Rattle.std.proofs.lemmas.Bool.{both_ways}
 use Rattle.py_lines.specs.Character.{is_mark, is_quote}
 use Rattle.py_lines.specs.Piece.{begins, spelled}
@@ -76,7 +76,7 @@ short_comes characters start front at (short, no_field) =
     let inner : List ℕ = joined short.items ++ short.last in
     let from = at.from in
     let done = field_pieces from in
-    let end = short_end done q (short.prefix ++ q ∷ []) short.items short.last short.opens short.each short.escapes in
+    let end = short_end done q (short.prefix ++ q ∷ []) short.items short.last short.opens short.holds short.escapes in
     let to : FieldScanned = lifted from.outer from.openers (scanned done end.to ((short.prefix ++ q ∷ []) ++ inner)) in
     let run = plain_goes from short.prefix q inner end.to short.begun no_field short.opens (subst (StopsAt from.mode from.held) short.spell at.stops) end.steps in
     let full = some_head short.prefix q inner in
@@ -95,7 +95,7 @@ long_comes characters start front at (long, no_field) =
     let from = at.from in
     let done = field_pieces from in
     let held : List ℕ = prefix ++ (q ∷ q ∷ q ∷ []) in
-    let end = long_end done q held long.items long.last long.opens long.each long.open_yet long.escapes in
+    let end = long_end done q held long.items long.last long.opens long.holds.0 long.holds.1 long.escapes in
     let steps : steps_from (Some (scanned done (modes.Opened q) (prefix ++ q ∷ []))) (q ∷ q ∷ inner) ≡ Some (scanned done end.to ((prefix ++ q ∷ []) ++ (q ∷ q ∷ inner))) =
     sym (opened_steps (fresh done) prefix q (q ∷ q ∷ inner) long.begun long.opens (stops-free (prefix ++ q ∷ q ∷ q ∷ inner)))
     ∙ long_opened (fresh done) prefix q inner long.begun long.opens (stops-free (prefix ++ q ∷ q ∷ q ∷ inner)) ∙ end.steps
@@ -160,23 +160,23 @@ literal_comes characters start front is_long at (host, spot, is, at_literal, lon
 literal_unmarked : (is_long : Bool) (front : List ℕ) → IsOpenLiteral is_long front → begins is_mark front ≡ false
 literal_unmarked is_long front (host, spot, is, at_literal, long) = subst (λ t. begins is_mark t ≡ false) (sym is.spell) (open_unmarked host spot is.body is.last is.last is.string)
 
+-- a string that is open: one without fields, or the literal part of one with fields
+string_open_comes : (IsPlain : List ℕ → Type 0) (is_long : Bool) (characters start : List ℕ) → ((front : List ℕ) → IsPlain front → begins is_mark front ≡ false) → ((front : List ℕ) → FrontAt characters start front → IsPlain front → Comes characters (λ s. InLiteral is_long s.mode × StartsAfter literal start s)) → StandsIn (λ front. IsPlain front ⊎ IsOpenLiteral is_long front) characters start → Comes characters (λ s. InLiteral is_long s.mode × StartsAfter literal start s)
+string_open_comes IsPlain is_long characters start unmarked comes at =
+    ⊎_elim (λ is. comes at.front (front_at _ characters start at (unmarked at.front is)) is)
+    (λ is. literal_comes characters start at.front is_long (front_at _ characters start at (literal_unmarked is_long at.front is)) is) at.open_yet
+
+short_unmarked : (front : List ℕ) → IsPlainShortPrefix front → begins is_mark front ≡ false
+short_unmarked front (short, no_field) = subst (λ t. begins is_mark t ≡ false) (sym short.spell) (prefix-unmarked short.prefix short.quote (joined short.items ++ short.last) short.begun short.opens)
+
+long_unmarked : (front : List ℕ) → IsPlainLongPrefix front → begins is_mark front ≡ false
+long_unmarked front (long, no_field) = subst (λ t. begins is_mark t ≡ false) (sym long.spell) (prefix-unmarked long.prefix long.quote (long.quote ∷ long.quote ∷ (joined long.items ++ long.last)) long.begun long.opens)
+
 pub short_open_comes : (characters start : List ℕ) → InOpenShort characters start → Comes characters (λ s. (in_open_short s.mode ≡ true) × StartsAfter literal start s)
-short_open_comes characters start at = go at.open_yet
-  where
-    go : IsPlainShortPrefix at.front ⊎ IsOpenLiteral false at.front → Comes characters (λ s. (in_open_short s.mode ≡ true) × StartsAfter literal start s)
-    go (inl short) =
-        short_comes characters start at.front
-        (front_at _ characters start at (subst (λ t. begins is_mark t ≡ false) (sym short.0.spell) (prefix-unmarked short.0.prefix short.0.quote (joined short.0.items ++ short.0.last) short.0.begun short.0.opens))) short
-    go (inr is) = literal_comes characters start at.front false (front_at _ characters start at (literal_unmarked false at.front is)) is
+short_open_comes characters start at = string_open_comes IsPlainShortPrefix false characters start short_unmarked (short_comes characters start) at
 
 pub long_open_comes : (characters start : List ℕ) → InOpenLong characters start → Comes characters (λ s. (in_open_long s.mode ≡ true) × StartsAfter literal start s)
-long_open_comes characters start at = go at.open_yet
-  where
-    go : IsPlainLongPrefix at.front ⊎ IsOpenLiteral true at.front → Comes characters (λ s. (in_open_long s.mode ≡ true) × StartsAfter literal start s)
-    go (inl long) =
-        long_comes characters start at.front
-        (front_at _ characters start at (subst (λ t. begins is_mark t ≡ false) (sym long.0.spell) (prefix-unmarked long.0.prefix long.0.quote (long.0.quote ∷ long.0.quote ∷ (joined long.0.items ++ long.0.last)) long.0.begun long.0.opens))) long
-    go (inr is) = literal_comes characters start at.front true (front_at _ characters start at (literal_unmarked true at.front is)) is
+long_open_comes characters start at = string_open_comes IsPlainLongPrefix true characters start long_unmarked (long_comes characters start) at
 
 -- a backslash outside strings and comments
 pub backslash_comes : (characters start : List ℕ) → AfterOpenBackslash characters start → Comes characters (λ s. (after_open_backslash s.mode ≡ true) × StartsAfter literal start s)

@@ -1,5 +1,5 @@
 -- The machine with fields: rows worked out by hand, on the definitions.
-use Rattle.std.proofs.Common.{◌≡◌, ℕ, zero, suc, Bool, true, false, Option, None, Some, List, [], ◌∷◌, length, refl}
+use Rattle.std.proofs.Common.{◌≡◌, ℕ, zero, suc, Bool, true, false, Option, None, Some, List, [], ◌∷◌, length, map, refl}
 use Rattle.std.specs.Prelude.{codes}
 use Rattle.unicode_ident.proofs.Computing.{unicode_ident}
 use Rattle.py_lines.specs.Character.{is_mark, is_space, is_word_character, is_word_start, is_digit, is_quote, is_operator, is_line_feed, is_return, is_break, is_hash, is_backslash, is_barred, is_brace, is_r, is_b, is_f, is_t, is_u}
@@ -34,139 +34,78 @@ outcome text = reached (field_steps_from (Some field_text_start) text)
 abbrev piece : Class → List ℕ → Piece
 piece class text = record { class = class; text = text }
 
--- one string
-abbrev IsOne : List ℕ → Type 0
-IsOne text = outcome text ≡ whole (piece string text ∷ [])
+-- one string each
+ones : List (List ℕ)
+ones =
+    -- f"{}"
+    codes "f\"{}\""
+    -- f"}"
+    ∷ codes "f\"}\""
+    -- f"{x!r:>{w}}"
+    ∷ codes "f\"{x!r:>{w}}\""
+    -- f"\N{DASH}" : a name, and no field
+    ∷ codes "f\"\\N{DASH}\""
+    -- rf"\N{a}" : a raw string has no names
+    ∷ codes "rf\"\\N{a}\""
+    -- f"{{{x}}}" : the third brace opens a field
+    ∷ codes "f\"{{{x}}}\""
+    -- f"\N{{ {x}" : all braces up to the first `}` are of the name
+    ∷ codes "f\"\\N{{ {x}\""
+    -- f"{d["a"]}" : the string's own quote in a field
+    ∷ codes "f\"{d[\"a\"]}\""
+    -- f'{ LF 1}' : a line end in a field of a short string
+    ∷ codes "f'{\n1}'"
+    -- f"a\ LF b" : a backslash and a line end
+    ∷ codes "f\"a\\\nb\""
+    -- f"""{x:""}""" : two quotes in a specification of a long string
+    ∷ codes "f\"\"\"{x:\"\"}\"\"\""
+    -- t"{f'{x}'}" : a string with fields in a field
+    ∷ codes "t\"{f'{x}'}\""
+    -- b"{" : no string with fields
+    ∷ codes "b\"{\""
+    -- f"{a # } LF }" : a comment in a field goes to the line's end
+    ∷ codes "f\"{a # }\n}\""
+    -- f"{x[1:2]}" : a `:` in brackets
+    ∷ codes "f\"{x[1:2]}\""
+    ∷ []
 
--- f"{}"
-empty_field : IsOne (codes "f\"{}\"")
-unfolding tested reached end_of
-empty_field = refl
+ones_are : map outcome ones ≡ map (λ (text : List ℕ). whole (piece string text ∷ [])) ones
+unfolding tested reached end_of ones
+ones_are = refl
 
--- f"}"
-closing_brace : IsOne (codes "f\"}\"")
-unfolding tested reached end_of
-closing_brace = refl
+-- other texts, and what comes of each
+abbrev Row : Type 0
+Row = List ℕ × Outcome
 
--- f"{x!r:>{w}}"
-conversion_and_width : IsOne (codes "f\"{x!r:>{w}}\"")
-unfolding tested reached end_of
-conversion_and_width = refl
+rows : List Row
+rows =
+    -- f"{{"f"}}" : two strings
+    (codes "f\"{{\"f\"}}\"", whole (piece string (codes "f\"{{\"") ∷ piece string (codes "f\"}}\"") ∷ []))
+    -- (f"{x}",) : brackets round a string
+    ∷ (codes "(f\"{x}\",)", whole (piece operator (codes "(") ∷ piece string (codes "f\"{x}\"") ∷ piece operator (codes ",") ∷ piece operator (codes ")") ∷ []))
+    -- f"{a # }" : the comment goes to the text's end, in an open field
+    ∷ (codes "f\"{a # }\"", unfinished 1)
+    -- f"{" : the second quote opens a string in the field
+    ∷ (codes "f\"{\"", unfinished 1)
+    -- f"{x:{y : a field in a specification
+    ∷ (codes "f\"{x:{y", unfinished 2)
+    -- f"{ : the brace may be the first of two
+    ∷ (codes "f\"{", unfinished 0)
+    -- f"{x: LF }" : no line end in a specification of a short string
+    ∷ (codes "f\"{x:\n}\"", stuck)
+    -- f"{x:" : a specification can't end with its string
+    ∷ (codes "f\"{x:\"", stuck)
+    -- (f"{)}") : a bracket in a field closes none outside
+    ∷ (codes "(f\"{)}\")", stuck)
+    -- f"{(}" : nor does a field end in a bracket
+    ∷ (codes "f\"{(}\"", stuck)
+    -- f'a LF  : a line end in a short string
+    ∷ (codes "f'a\n", stuck)
+    ∷ []
 
--- f"\N{DASH}" : a name, and no field
-name_alone : IsOne (codes "f\"\\N{DASH}\"")
-unfolding tested reached end_of
-name_alone = refl
-
--- rf"\N{a}" : a raw string has no names
-raw_field : IsOne (codes "rf\"\\N{a}\"")
-unfolding tested reached end_of
-raw_field = refl
-
--- f"{{{x}}}" : the third brace opens a field
-three_braces : IsOne (codes "f\"{{{x}}}\"")
-unfolding tested reached end_of
-three_braces = refl
-
--- f"\N{{ {x}" : all braces up to the first `}` are of the name
-braces_in_name : IsOne (codes "f\"\\N{{ {x}\"")
-unfolding tested reached end_of
-braces_in_name = refl
-
--- f"{d["a"]}" : the string's own quote in a field
-quotes_inside : IsOne (codes "f\"{d[\"a\"]}\"")
-unfolding tested reached end_of
-quotes_inside = refl
-
--- f'{ LF 1}' : a line end in a field of a short string
-line_end_inside : IsOne (codes "f'{\n1}'")
-unfolding tested reached end_of
-line_end_inside = refl
-
--- f"a\ LF b" : a backslash and a line end
-escaped_line_end : IsOne (codes "f\"a\\\nb\"")
-unfolding tested reached end_of
-escaped_line_end = refl
-
--- f"""{x:""}""" : two quotes in a specification of a long string
-quotes_in_specification : IsOne (codes "f\"\"\"{x:\"\"}\"\"\"")
-unfolding tested reached end_of
-quotes_in_specification = refl
-
--- t"{f'{x}'}" : a string with fields in a field
-string_in_string : IsOne (codes "t\"{f'{x}'}\"")
-unfolding tested reached end_of
-string_in_string = refl
-
--- b"{" : no string with fields
-no_fields : IsOne (codes "b\"{\"")
-unfolding tested reached end_of
-no_fields = refl
-
--- f"{a # } LF }" : a comment in a field goes to the line's end
-comment_inside : IsOne (codes "f\"{a # }\n}\"")
-unfolding tested reached end_of
-comment_inside = refl
-
--- f"{x[1:2]}" : a `:` in brackets
-colon_in_brackets : IsOne (codes "f\"{x[1:2]}\"")
-unfolding tested reached end_of
-colon_in_brackets = refl
-
--- f"{{"f"}}" : two strings
-two_strings : outcome (codes "f\"{{\"f\"}}\"") ≡ whole (piece string (codes "f\"{{\"") ∷ piece string (codes "f\"}}\"") ∷ [])
-unfolding tested reached end_of
-two_strings = refl
-
--- (f"{x}",) : brackets round a string
-names_around : outcome (codes "(f\"{x}\",)") ≡ whole (piece operator (codes "(") ∷ piece string (codes "f\"{x}\"") ∷ piece operator (codes ",") ∷ piece operator (codes ")") ∷ [])
-unfolding tested reached end_of
-names_around = refl
-
--- f"{a # }" : the comment goes to the text's end, in an open field
-comment_open : outcome (codes "f\"{a # }\"") ≡ unfinished 1
-unfolding tested reached end_of
-comment_open = refl
-
--- f"{" : the second quote opens a string in the field
-string_open : outcome (codes "f\"{\"") ≡ unfinished 1
-unfolding tested reached end_of
-string_open = refl
-
--- f"{x:{y : a field in a specification
-nested_open : outcome (codes "f\"{x:{y") ≡ unfinished 2
-unfolding tested reached end_of
-nested_open = refl
-
--- f"{ : the brace may be the first of two
-brace_open : outcome (codes "f\"{") ≡ unfinished 0
-unfolding tested reached end_of
-brace_open = refl
-
--- f"{x: LF }" : no line end in a specification of a short string
-line_end_in_specification : outcome (codes "f\"{x:\n}\"") ≡ stuck
-unfolding tested reached end_of
-line_end_in_specification = refl
-
--- f"{x:" : a specification can't end with its string
-quote_in_specification : outcome (codes "f\"{x:\"") ≡ stuck
-unfolding tested reached end_of
-quote_in_specification = refl
-
--- (f"{)}") : a bracket in a field closes none outside
-bracket_not_opened : outcome (codes "(f\"{)}\")") ≡ stuck
-unfolding tested reached end_of
-bracket_not_opened = refl
-
--- f"{(}" : nor does a field end in a bracket
-bracket_not_closed : outcome (codes "f\"{(}\"") ≡ stuck
-unfolding tested reached end_of
-bracket_not_closed = refl
-
--- f'a LF  : a line end in a short string
-line_end_in_string : outcome (codes "f'a\n") ≡ stuck
-unfolding tested reached end_of
-line_end_in_string = refl
+rows_are : map (λ (r : Row). outcome r.0) rows ≡ map (λ (r : Row). r.1) rows
+unfolding tested reached end_of rows
+rows_are = refl
 
 -- so many open brackets
 brackets : ℕ → List ℕ
@@ -177,24 +116,21 @@ brackets (suc n) = 40 ∷ brackets n
 after_open : ℕ → ℕ → Bool
 after_open n c = has_room (field_state [] [] (brackets n) (body (record { quote = 34; is_long = false; is_raw = false }) literal false after_brace) (codes "f\"{")) c
 
--- a field at depth 199, with a word in it, but no bracket
-last_field : after_open 199 120 ≡ true
-unfolding tested after_open brackets
-last_field = refl
+-- so many open brackets, the next character, and whether there is room for it
+abbrev Room : Type 0
+Room = ℕ × ℕ × Bool
 
-no_bracket_in_it : after_open 199 40 ≡ false
-unfolding tested after_open brackets
-no_bracket_in_it = refl
+rooms : List Room
+rooms =
+    -- a field at depth 199, with a word in it, but no bracket
+    (199, 120, true)
+    ∷ (199, 40, false)
+    -- no field at depth 200, and no empty one, but two braces
+    ∷ (200, 120, false)
+    ∷ (200, 125, false)
+    ∷ (200, 123, true)
+    ∷ []
 
--- no field at depth 200, and no empty one, but two braces
-no_field : after_open 200 120 ≡ false
-unfolding tested after_open brackets
-no_field = refl
-
-no_empty_field : after_open 200 125 ≡ false
-unfolding tested after_open brackets
-no_empty_field = refl
-
-two_braces : after_open 200 123 ≡ true
-unfolding tested after_open brackets
-two_braces = refl
+rooms_are : map (λ (r : Room). after_open r.0 r.1) rooms ≡ map (λ (r : Room). r.2) rooms
+unfolding tested after_open brackets rooms
+rooms_are = refl

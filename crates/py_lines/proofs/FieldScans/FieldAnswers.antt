@@ -38,7 +38,7 @@ use Rattle.py_lines.proofs.FieldScans.Moves.{meets, opens_specification, ends_sp
 use Rattle.py_lines.proofs.FieldScans.Steps.{no_room, no_step}
 use Rattle.py_lines.proofs.FieldScans.Taking.{one_operator, broken}
 use Rattle.py_lines.proofs.FieldScans.Operators.{open_frames}
-use Rattle.py_lines.proofs.FieldScans.FieldOpenings.{begins_piece, begins_line, begins_nothing, ends_empty, specifies, closes_nothing, begins_bracket, begins_operator, specified_no_room, opens_in_specification, ends_specified}
+use Rattle.py_lines.proofs.FieldScans.FieldOpenings.{inner_field, begins_piece, begins_line, begins_nothing, ends_empty, specifies, closes_nothing, begins_bracket, begins_operator, specified_no_room, opens_in_specification, ends_specified}
 
 -- the code meets the character as the machine does
 pub moves_so : (old : FieldScan) (base : ℕ) (t : FieldScanned) (c : ℕ) (v : FieldMove) → Follows old base t → v ≡ meets_field old.mode c → field_move t.mode t.held c ≡ v
@@ -67,7 +67,7 @@ by_mode old new base depth t c place r v m e lemma follow at is =
     (lemma (subst (λ (x : FieldMode). Follows old base (In t x)) e follow) (at ∙ ap (λ (x : FieldMode). base + here (In t x)) e) (subst (λ (x : FieldMode). field_move x t.held c ≡ v) e is))
 
 -- a field opens in a specification
-pub opens_there : (old mid : FieldScan) (base depth c place : ℕ) (host : known.Host) → innermost_first mid.frames.items ≡ frame.Field (record { place = place; host = host; region = regions.Specification; start = old.start }) ∷ innermost_first old.frames.items → nat_lt (depth + length old.frames.items + 1) 201 ≡ true → (t : FieldScanned) → Follows old base t → place ≡ base + here t → field_move t.mode t.held c ≡ opens_field (host_in host) → ComesTo base depth t c old (Ok progress.Going) (freed_at mid (place + 1))
+pub opens_there : (old mid : FieldScan) (base depth c place : ℕ) (host : known.Host) → innermost_first mid.frames.items ≡ frame.Field (inner_field old host place) ∷ innermost_first old.frames.items → nat_lt (depth + length old.frames.items + 1) 201 ≡ true → (t : FieldScanned) → Follows old base t → place ≡ base + here t → field_move t.mode t.held c ≡ opens_field (host_in host) → ComesTo base depth t c old (Ok progress.Going) (freed_at mid (place + 1))
 opens_there old mid base depth c place host pushed room t follow at is =
     let e = opens_specification t.mode t.held c (host_in host) is in
     let low : depth + length old.frames.items < 200 = omega (arith, ltb-true (depth + length old.frames.items + 1) 201 room) in

@@ -1,13 +1,12 @@
 -- A field of a string opens: after its `{` in the literal part, by the character after it, or at its `{` in a specification.
-use Rattle.std.proofs.Common.{◌≡◌, ℕ, ◌+◌, ◌-◌, ◌<◌, Bool, true, false, not, ◌&&◌, ◌==◌, Option, None, Some, Ok, List, [], ◌∷◌, ◌++◌, length, refl, sym, ap, ◌∙◌, subst, arith, append-nil}
+use Rattle.std.proofs.Common.{◌≡◌, ℕ, ◌+◌, ◌-◌, ◌<◌, Bool, true, false, ◌==◌, Option, None, Some, Ok, List, [], ◌∷◌, ◌++◌, length, refl, sym, ap, ◌∙◌, subst, arith, append-nil}
 use Rattle.std.specs.Str.{byte}
-use Rattle.std.proofs.lemmas.Bool.{cond_both, and_parts, lt-ltb, ltb-true, false_from_ne_true, eqb-true}
+use Rattle.std.proofs.lemmas.Bool.{lt-ltb, ltb-true, false_from_ne_true, eqb-true}
 use Rattle.std.proofs.lemmas.Str.{len_utf8_bounds, len_utf8_ascii}
-use Rattle.py_lines.specs.Character.{is_backslash, is_brace, is_break, is_line_feed, is_return}
 use Rattle.py_lines.specs.Piece.{operator, line_end, Piece, spelled}
 use Rattle.py_lines.specs.LogicalLine.{byte_len}
 use Rattle.py_lines.specs.Balance.{is_opening, is_closing}
-use Rattle.py_lines.specs.FieldStrings.{Host, Place, literal, specification, names}
+use Rattle.py_lines.specs.FieldStrings.{Host, literal, specification}
 use Rattle.py_lines.specs.declared.mode.Mode.{Mode}
 use Rattle.py_lines.specs.declared.mode.Start.TheVariants as starts
 use Rattle.py_lines.specs.declared.host.Host as known
@@ -20,15 +19,15 @@ use Rattle.py_lines.specs.declared.field_scan.Frame.TheVariants as frame
 use Rattle.py_lines.specs.declared.field_scan.FieldScan.{FieldScan}
 use Rattle.py_lines.specs.declared.field_scan.FieldProgress.TheVariants as progress
 use Rattle.py_lines.specs.Private.Machine.{start_of, brackets_of}
-use Rattle.py_lines.specs.Private.FieldMachine.{At, between, after_slash, after_return, after_name, after_one, after_two, after_brace, is_after_two, with_quote, is_barred_escape, closing_move, opening_move, ending_move, between_move, escape_move, body_move, FieldMode, plain, body, FieldMove, grows, refused, begins_code, opens_field, ends_field, Level, FieldScanned, field_state, field_fresh, field_move, field_started, field_operator, opened_level, field_ended, before, frames, has_room_at}
+use Rattle.py_lines.specs.Private.FieldMachine.{At, between, after_brace, FieldMode, plain, body, begins_code, opens_field, ends_field, Level, FieldScanned, field_state, field_fresh, field_move, field_started, field_operator, opened_level, field_ended, before, frames, has_room_at}
 use Rattle.py_lines.specs.Private.FieldFlaws.{here}
 use Rattle.py_lines.specs.Private.ScanMachine.{IsInString, host_in}
-use Rattle.py_lines.specs.Private.FieldScan.{innermost_first, Follows, FramesFollow, HasNoList, freed_at, ended_in, ComesTo}
+use Rattle.py_lines.specs.Private.FieldScan.{innermost_first, Follows, FramesFollow, HasNoList, freed_at, ended_in, waiting_field, ComesTo}
 use Rattle.py_lines.proofs.Pieces.PieceLists.{piece}
 use Rattle.py_lines.proofs.LogicalLines.Cuts.{byte_len-append}
 use Rattle.py_lines.proofs.LineScan.LineCount.{byte_len-one}
 use Rattle.py_lines.proofs.FieldScans.Frames.{InList, list_of, innermost_field, bracket_opened, operator_alike, field_opened, frames_alike}
-use Rattle.py_lines.proofs.FieldScans.Moves.{ends_specification, starts_so}
+use Rattle.py_lines.proofs.FieldScans.Moves.{opens_specification, ends_specification, starts_so}
 use Rattle.py_lines.proofs.FieldScans.Steps.{follows_free, going, no_room, no_step}
 use Rattle.py_lines.proofs.FieldScans.Taking.{piece_after, neutral_alike}
 use Rattle.py_lines.proofs.FieldScans.Operators.{open_frames, opened_is, ended_is, specified_is, wrong_in_field, other_in_field, resumed}
@@ -58,23 +57,19 @@ module _ (old : FieldScan) (base depth : ℕ) (outer : List Level) (done : List 
   abbrev L : Level
   L = opened_level T (host_in host) literal held
 
-  -- the field as the code keeps it
-  abbrev pub field : OpenField
-  field = record { place = place - 1; host = host; region = regions.Literal; start = old.start }
-
   -- the characters before the field's code
   stands : place ≡ base + byte_len (before literal (L ∷ outer))
   stands = at
 
   -- the state that the character finds
   abbrev Fields : List Frame
-  Fields = frame.Field field ∷ innermost_first old.frames.items
+  Fields = frame.Field (waiting_field old host place) ∷ innermost_first old.frames.items
 
   spot : place - 1 ≡ base + (byte_len (before literal (L ∷ outer)) - 1)
   spot = omega (arith, stands, byte_len-append (before literal outer) (spelled done ++ held), byte_len-append (spelled done) held, some_bytes held (follow.full refl))
 
   opened : FramesFollow base (L ∷ outer) [] [] Fields
-  opened = field_opened base L outer (innermost_first old.frames.items) field follow.frames spot refl refl follow.start tt
+  opened = field_opened base L outer (innermost_first old.frames.items) (waiting_field old host place) follow.frames spot refl refl follow.start tt
 
   code_at : place ≡ base + byte_len (before literal (L ∷ outer) ++ spelled [])
   code_at = stands ∙ ap (λ x. base + byte_len x) (sym (append-nil (before literal (L ∷ outer))))
@@ -107,9 +102,9 @@ module _ (old : FieldScan) (base depth : ℕ) (outer : List Level) (done : List 
   operator_comes : (o : Option FieldScanned) → start_of c ≡ starts.Operator → field_operator (L ∷ outer) [] [] c ≡ o → field_started (L ∷ outer) [] [] c (start_of c) ≡ o
   operator_comes o starts_with same = ap (field_started (L ∷ outer) [] [] c) starts_with ∙ same
 
-  pub ends_empty : has_room_at (depth + frames T) c (begins_code (host_in host)) ≡ true → start_of c ≡ starts.Operator → c == byte "}" ≡ true → IsInString T → ComesTo base depth T c old (Ok progress.Going) (ended_in old field)
+  pub ends_empty : has_room_at (depth + frames T) c (begins_code (host_in host)) ≡ true → start_of c ≡ starts.Operator → c == byte "}" ≡ true → IsInString T → ComesTo base depth T c old (Ok progress.Going) (ended_in old (waiting_field old host place))
   ends_empty room starts_with ends inside =
-      takes (ended_in old field) (field_ended L outer (held ++ (c ∷ []))) room (operator_comes _ starts_with (ended_is L outer [] c ends)) (λ none. (host_in host, literal, false, between, refl))
+      takes (ended_in old (waiting_field old host place)) (field_ended L outer (held ++ (c ∷ []))) room (operator_comes _ starts_with (ended_is L outer [] c ends)) (λ none. (host_in host, literal, false, between, refl))
       (record { mode = refl; holds = tt; no_list = tt; waits = tt; full = λ w. absurd (cc); start = follow.start; frames = follow.frames })
 
   pub specifies : (mid : FieldScan) → has_room_at (depth + frames T) c (begins_code (host_in host)) ≡ true → innermost_first mid.frames.items ≡ Fields → start_of c ≡ starts.Operator → c == byte "}" ≡ false → c == byte ":" ≡ true → mid.start ≡ old.start → ComesTo base depth T c old (Ok progress.Going) (record mid { mode = field_modes.Body host regions.Specification false ats.Between })
@@ -146,56 +141,12 @@ module _ (old : FieldScan) (base depth : ℕ) (outer : List Level) (done : List 
         at = piece_after base place (L ∷ outer) [] operator c one code_at;
       }))
 
--- only a `{` opens a field in a specification
-abbrev BraceOpens : ℕ → FieldMove → Type 0
-BraceOpens c (opens_field h) = c == byte "{" ≡ true
-BraceOpens c other = Unit {0}
-
-closing_brace : (c : ℕ) (place : Place) → BraceOpens c (closing_move place)
-closing_brace c literal = tt
-closing_brace c specification = tt
-
-opening_brace : (c : ℕ) (host : Host) (place : Place) → c == byte "{" ≡ true → BraceOpens c (opening_move host place)
-opening_brace c host literal is = tt
-opening_brace c host specification is = is
-
-ending_brace : (c : ℕ) (host : Host) (place : Place) (named : Bool) → BraceOpens c (ending_move host place named)
-ending_brace c host literal named = tt
-ending_brace c host specification true = tt
-ending_brace c host specification false = tt
-
-between_brace : (host : Host) (place : Place) (named : Bool) (at : At) (c : ℕ) → BraceOpens c (between_move host place named at c)
-unfolding between_move
-between_brace host place named at c =
-    let P : FieldMove → Type 0 = BraceOpens c in
-    cond_both (c == host.quote) _ _ P
-    (λ q. cond_both (host.is_long && not (is_after_two at)) (grows (body host place named (with_quote at))) (closing_move place) P (λ h. tt) (λ h. closing_brace c place))
-    (λ q. cond_both (is_backslash c) (grows (body host place named after_slash)) _ P (λ h. tt)
-    (λ s. cond_both (is_break c && not host.is_long) refused _ P (λ h. tt)
-    (λ b. cond_both ((c == byte "{") && not named) (opening_move host place) _ P (λ h. opening_brace c host place (and_parts _ _ h).0)
-    (λ o. cond_both (c == byte "}") (ending_move host place named) (grows (body host place named between)) P (λ h. ending_brace c host place named) (λ h. tt)))))
-
-escape_brace : (host : Host) (place : Place) (named : Bool) (c : ℕ) → BraceOpens c (escape_move host place named c)
-unfolding escape_move
-escape_brace host place named c =
-    let P : FieldMove → Type 0 = BraceOpens c in
-    cond_both (is_brace c) (between_move host place named between c) _ P (λ h. between_brace host place named between c)
-    (λ b. cond_both (is_barred_escape host place c) refused _ P (λ h. tt)
-    (λ r. cond_both (is_return c) (grows (body host place named after_return)) _ P (λ h. tt)
-    (λ n. cond_both (names host c) (grows (body host place named after_name)) (grows (body host place named between)) P (λ h. tt) (λ h. tt))))
-
-body_brace : (host : Host) (place : Place) (named : Bool) (at : At) (held : List ℕ) (c : ℕ) → BraceOpens c (field_move (body host place named at) held c)
-unfolding field_move body_move
-body_brace host place named after_slash held c = escape_brace host place named c
-body_brace host place named after_return held c = cond_both (is_line_feed c) (grows (body host place named between)) (between_move host place named between c) (BraceOpens c) (λ h. tt) (λ h. between_brace host place named between c)
-body_brace host place named after_name held c = cond_both (c == byte "{") (grows (body host place true between)) (between_move host place named between c) (BraceOpens c) (λ h. tt) (λ h. between_brace host place named between c)
-body_brace host place named after_brace held c = cond_both (c == byte "{") (grows (body host place named between)) (begins_code host) (BraceOpens c) (λ h. tt) (λ h. tt)
-body_brace host place named between held c = between_brace host place named between c
-body_brace host place named after_one held c = between_brace host place named after_one c
-body_brace host place named after_two held c = between_brace host place named after_two c
-
 one_brace : (c : ℕ) → c == byte "{" ≡ true → 1 ≡ byte_len (c ∷ [])
 one_brace c is = sym (byte_len-one c ∙ len_utf8_ascii c (omega (arith, eqb-true c 123 is)))
+
+-- the field whose `{` stands at this byte, in the specification that is open
+abbrev pub inner_field : FieldScan → known.Host → ℕ → OpenField
+inner_field old host place = record { place = place; host = host; region = regions.Specification; start = old.start }
 
 -- a field opens in a specification
 module _ (old : FieldScan) (base depth : ℕ) (outer : List Level) (done : List Piece) (openers held : List ℕ) (part : At) (host : known.Host) (c place : ℕ)
@@ -208,26 +159,22 @@ module _ (old : FieldScan) (base depth : ℕ) (outer : List Level) (done : List 
   abbrev K : Level
   K = opened_level S (host_in host) specification (held ++ c ∷ [])
 
-  -- the field as the code keeps it
-  abbrev pub inner_field : OpenField
-  inner_field = record { place = place; host = host; region = regions.Specification; start = old.start }
-
   pub specified_no_room : (depth + length old.frames.items < 200 → ⊥) → ComesTo base depth S c old (Ok progress.Refused) old
   specified_no_room none = no_room base depth S c (opens_field (host_in host)) is old (no_specified_room (depth + frames S) c (host_in host) (λ low. none (omega (arith, low, open_frames old base S follow))))
 
   one : 1 ≡ byte_len (c ∷ [])
-  one = one_brace c (subst (BraceOpens c) is (body_brace (host_in host) specification false part held c))
+  one = one_brace c (opens_specification (body (host_in host) specification false part) held c (host_in host) is).2
 
   brace_at : place + 1 ≡ base + byte_len (before literal (K ∷ outer))
   brace_at = omega (arith, at, one, byte_len-append (before specification outer) (spelled done ++ held), byte_len-append (spelled done) held, byte_len-append (before specification outer) (spelled done ++ (held ++ c ∷ [])), byte_len-append (spelled done) (held ++ c ∷ []), byte_len-append held (c ∷ []))
 
-  pub opens_in_specification : (mid : FieldScan) → depth + length old.frames.items < 200 → innermost_first mid.frames.items ≡ frame.Field inner_field ∷ innermost_first old.frames.items → ComesTo base depth S c old (Ok progress.Going) (freed_at mid (place + 1))
+  pub opens_in_specification : (mid : FieldScan) → depth + length old.frames.items < 200 → innermost_first mid.frames.items ≡ frame.Field (inner_field old host place) ∷ innermost_first old.frames.items → ComesTo base depth S c old (Ok progress.Going) (freed_at mid (place + 1))
   opens_in_specification mid room pushed =
       going base depth S c (opens_field (host_in host)) is old (freed_at mid (place + 1)) (field_fresh (K ∷ outer) [] [])
       (specified_room (depth + frames S) c (host_in host) (omega (arith, room, open_frames old base S follow))) refl (λ none other. absurd (cc)) (λ none. absurd (cc))
       (follows_free mid base (K ∷ outer) [] [] (place + 1)
       (record {
-        follow = subst (FramesFollow base (K ∷ outer) [] []) (sym pushed) (field_opened base K outer (innermost_first old.frames.items) inner_field follow.frames (omega (arith, brace_at)) refl refl follow.start follow.no_list);
+        follow = subst (FramesFollow base (K ∷ outer) [] []) (sym pushed) (field_opened base K outer (innermost_first old.frames.items) (inner_field old host place) follow.frames (omega (arith, brace_at)) refl refl follow.start follow.no_list);
         at = brace_at ∙ ap (λ x. base + byte_len x) (sym (append-nil (before literal (K ∷ outer))));
       }))
 

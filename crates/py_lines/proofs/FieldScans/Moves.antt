@@ -98,18 +98,18 @@ meets (field_modes.Code (modes.FieldEmpty h)) held c holds = refl
 meets (field_modes.Code m) held c holds = as_plain (move_of m c) (grows_plain m c)
 
 -- what a move of a string's body leaves open
-abbrev pub BodyMoved : Host → Place → Bool → At → FieldMove → Type 0
-BodyMoved host place named at (grows n) = (b : Bool) × (a : At) × (n ≡ body host place b a) × (place ≡ specification → is_after_brace a ≡ false)
-BodyMoved host place named at closes = place ≡ literal
-BodyMoved host place named at breaks = ⊥
-BodyMoved host place named at (begins_code h) = (h ≡ host) × (at ≡ after_brace)
-BodyMoved host place named at (opens_field h) = (h ≡ host) × (place ≡ specification) × (named ≡ false)
-BodyMoved host place named at ends_field = (place ≡ specification) × (named ≡ false)
-BodyMoved host place named at refused = Unit {0}
+abbrev pub BodyMoved : Host → Place → Bool → At → ℕ → FieldMove → Type 0
+BodyMoved host place named at c (grows n) = (b : Bool) × (a : At) × (n ≡ body host place b a) × (place ≡ specification → is_after_brace a ≡ false)
+BodyMoved host place named at c closes = place ≡ literal
+BodyMoved host place named at c breaks = ⊥
+BodyMoved host place named at c (begins_code h) = (h ≡ host) × (at ≡ after_brace)
+BodyMoved host place named at c (opens_field h) = (h ≡ host) × (place ≡ specification) × (named ≡ false) × (c == byte "{" ≡ true)
+BodyMoved host place named at c ends_field = (place ≡ specification) × (named ≡ false)
+BodyMoved host place named at c refused = Unit {0}
 
-module _ (host : Host) (place : Place) (named : Bool) (own : At) where
+module _ (host : Host) (place : Place) (named : Bool) (own : At) (c : ℕ) where
   abbrev P : FieldMove → Type 0
-  P = BodyMoved host place named own
+  P = BodyMoved host place named own c
 
   stays : (b : Bool) (a : At) → is_after_brace a ≡ false → P (grows (body host place b a))
   stays b a h = (b, a, refl, λ at. h)
@@ -118,67 +118,86 @@ module _ (host : Host) (place : Place) (named : Bool) (own : At) where
   quoted_at after_one = stays named after_two refl
   quoted_at a = stays named after_one refl
 
-closing_moved : (host : Host) (place : Place) (named : Bool) (own : At) → BodyMoved host place named own (closing_move place)
-closing_moved host literal named own = refl
-closing_moved host specification named own = tt
+closing_moved : (host : Host) (place : Place) (named : Bool) (own : At) (c : ℕ) → BodyMoved host place named own c (closing_move place)
+closing_moved host literal named own c = refl
+closing_moved host specification named own c = tt
 
-opening_moved : (host : Host) (place : Place) (named : Bool) (own : At) → named ≡ false → BodyMoved host place named own (opening_move host place)
-opening_moved host literal named own none = (false, after_brace, refl, λ at. absurd (cc))
-opening_moved host specification named own none = (refl, refl, none)
+opening_moved : (host : Host) (place : Place) (named : Bool) (own : At) (c : ℕ) → c == byte "{" ≡ true → named ≡ false → BodyMoved host place named own c (opening_move host place)
+opening_moved host literal named own c brace none = (false, after_brace, refl, λ at. absurd (cc))
+opening_moved host specification named own c brace none = (refl, refl, none, brace)
 
-ending_moved : (host : Host) (place : Place) (named : Bool) (own : At) → BodyMoved host place named own (ending_move host place named)
-ending_moved host literal named own = stays host literal named own false between refl
-ending_moved host specification true own = stays host specification true own false between refl
-ending_moved host specification false own = (refl, refl)
+ending_moved : (host : Host) (place : Place) (named : Bool) (own : At) (c : ℕ) → BodyMoved host place named own c (ending_move host place named)
+ending_moved host literal named own c = stays host literal named own c false between refl
+ending_moved host specification true own c = stays host specification true own c false between refl
+ending_moved host specification false own c = (refl, refl)
 
 unnamed : (b : Bool) → not b ≡ true → b ≡ false
 unnamed false h = refl
 unnamed true h = absurd (both_ways _ refl h)
 
-between_moved : (host : Host) (place : Place) (named : Bool) (own a : At) (c : ℕ) → BodyMoved host place named own (between_move host place named a c)
+between_moved : (host : Host) (place : Place) (named : Bool) (own a : At) (c : ℕ) → BodyMoved host place named own c (between_move host place named a c)
 unfolding between_move
 between_moved host place named own a c =
-    let Q : FieldMove → Type 0 = BodyMoved host place named own in
+    let Q : FieldMove → Type 0 = BodyMoved host place named own c in
     cond_both (c == host.quote) _ _ Q
-    (λ q. cond_both (host.is_long && not (is_after_two a)) (grows (body host place named (with_quote a))) (closing_move place) Q (λ h. quoted_at host place named own a) (λ h. closing_moved host place named own))
-    (λ q. cond_both (is_backslash c) (grows (body host place named after_slash)) _ Q (λ h. stays host place named own named after_slash refl)
+    (λ q. cond_both (host.is_long && not (is_after_two a)) (grows (body host place named (with_quote a))) (closing_move place) Q (λ h. quoted_at host place named own c a) (λ h. closing_moved host place named own c))
+    (λ q. cond_both (is_backslash c) (grows (body host place named after_slash)) _ Q (λ h. stays host place named own c named after_slash refl)
     (λ s. cond_both (is_break c && not host.is_long) refused _ Q (λ h. tt)
-    (λ b. cond_both ((c == byte "{") && not named) (opening_move host place) _ Q (λ h. opening_moved host place named own (unnamed named (and_parts (c == byte "{") (not named) h).1))
-    (λ o. cond_both (c == byte "}") (ending_move host place named) (grows (body host place named between)) Q (λ h. ending_moved host place named own) (λ h. stays host place named own named between refl)))))
+    (λ b. cond_both ((c == byte "{") && not named) (opening_move host place) _ Q (λ h. let both = and_parts (c == byte "{") (not named) h in
+    opening_moved host place named own c both.0 (unnamed named both.1))
+    (λ o. cond_both (c == byte "}") (ending_move host place named) (grows (body host place named between)) Q (λ h. ending_moved host place named own c) (λ h. stays host place named own c named between refl)))))
 
-escape_moved : (host : Host) (place : Place) (named : Bool) (own : At) (c : ℕ) → BodyMoved host place named own (escape_move host place named c)
+escape_moved : (host : Host) (place : Place) (named : Bool) (own : At) (c : ℕ) → BodyMoved host place named own c (escape_move host place named c)
 unfolding escape_move
 escape_moved host place named own c =
-    let Q : FieldMove → Type 0 = BodyMoved host place named own in
+    let Q : FieldMove → Type 0 = BodyMoved host place named own c in
     cond_both (is_brace c) (between_move host place named between c) _ Q (λ h. between_moved host place named own between c)
     (λ b. cond_both (is_barred_escape host place c) refused _ Q (λ h. tt)
-    (λ r. cond_both (is_return c) (grows (body host place named after_return)) _ Q (λ h. stays host place named own named after_return refl)
-    (λ n. cond_both (names host c) (grows (body host place named after_name)) (grows (body host place named between)) Q (λ h. stays host place named own named after_name refl) (λ h. stays host place named own named between refl))))
+    (λ r. cond_both (is_return c) (grows (body host place named after_return)) _ Q (λ h. stays host place named own c named after_return refl)
+    (λ n. cond_both (names host c) (grows (body host place named after_name)) (grows (body host place named between)) Q (λ h. stays host place named own c named after_name refl) (λ h. stays host place named own c named between refl))))
 
-pub body_moved : (host : Host) (place : Place) (named : Bool) (at : At) (held : List ℕ) (c : ℕ) → BodyMoved host place named at (field_move (body host place named at) held c)
+pub body_moved : (host : Host) (place : Place) (named : Bool) (at : At) (held : List ℕ) (c : ℕ) → BodyMoved host place named at c (field_move (body host place named at) held c)
 unfolding field_move body_move
 body_moved host place named after_slash held c = escape_moved host place named after_slash c
 body_moved host place named after_return held c =
-    cond_both (is_line_feed c) (grows (body host place named between)) (between_move host place named between c) (BodyMoved host place named after_return) (λ h. stays host place named after_return named between refl) (λ h. between_moved host place named after_return between c)
+    cond_both (is_line_feed c) (grows (body host place named between)) (between_move host place named between c) (BodyMoved host place named after_return c) (λ h. stays host place named after_return c named between refl) (λ h. between_moved host place named after_return between c)
 body_moved host place named after_name held c =
-    cond_both (c == byte "{") (grows (body host place true between)) (between_move host place named between c) (BodyMoved host place named after_name) (λ h. stays host place named after_name true between refl) (λ h. between_moved host place named after_name between c)
+    cond_both (c == byte "{") (grows (body host place true between)) (between_move host place named between c) (BodyMoved host place named after_name c) (λ h. stays host place named after_name c true between refl) (λ h. between_moved host place named after_name between c)
 body_moved host place named after_brace held c =
-    cond_both (c == byte "{") (grows (body host place named between)) (begins_code host) (BodyMoved host place named after_brace) (λ h. stays host place named after_brace named between refl) (λ h. (refl, refl))
+    cond_both (c == byte "{") (grows (body host place named between)) (begins_code host) (BodyMoved host place named after_brace c) (λ h. stays host place named after_brace c named between refl) (λ h. (refl, refl))
 body_moved host place named between held c = between_moved host place named between between c
 body_moved host place named after_one held c = between_moved host place named after_one after_one c
 body_moved host place named after_two held c = between_moved host place named after_two after_two c
+
+-- what holds of all that a character may do in a mode: it begins a string with fields, or goes on with its first quotes, or does
+-- what the machine without fields says, or what it does in such a string
+abbrev EachMove : (FieldMove → Type 0) → spots.FieldMode → List ℕ → ℕ → Type 0
+EachMove P (plain m) held c = P (grows (opened (host_of held c))) × P (plain_move (move_of m c))
+EachMove P (opened host) held c = P (grows (empty host)) × ((v : FieldMove) → BodyMoved host literal false between c v → P v)
+EachMove P (empty host) held c = P (grows (body (long_host host) literal false between)) × P breaks
+EachMove P (body host place named at) held c = (v : FieldMove) → BodyMoved host place named at c v → P v
+
+-- holds of what it does
+by_each : (P : FieldMove → Type 0) (m : spots.FieldMode) (held : List ℕ) (c : ℕ) → EachMove P m held c → P (field_move m held c)
+unfolding field_move body_move
+by_each P (plain m) held c each = cond_both (begins_host m held c) (grows (opened (host_of held c))) (plain_move (move_of m c)) P (λ h. each.0) (λ h. each.1)
+by_each P (opened host) held c each =
+    cond_both (c == host.quote) (grows (empty host)) (between_move host literal false between c) P
+    (λ h. each.0) (λ h. each.1 (between_move host literal false between c) (between_moved host literal false between between c))
+by_each P (empty host) held c each = cond_both (c == host.quote) (grows (body (long_host host) literal false between)) breaks P (λ h. each.0) (λ h. each.1)
+by_each P (body host place named at) held c each = each (field_move (body host place named at) held c) (body_moved host place named at held c)
 
 -- what each move says of the open piece and its text
 abbrev pub KeptBy : spots.FieldMode → List ℕ → ℕ → FieldMove → Type 0
 KeptBy m held c (grows n) = (text_place n ≡ text_place m) × HoldsCode n (held ++ c ∷ []) × (IsBodyMode m → IsBodyMode n)
 KeptBy m held c other = Unit {0}
 
-body_kept : (host : Host) (place : Place) (named : Bool) (at : At) (held : List ℕ) (c : ℕ) (v : FieldMove) → BodyMoved host place named at v → KeptBy (body host place named at) held c v
+body_kept : (host : Host) (place : Place) (named : Bool) (at : At) (held : List ℕ) (c : ℕ) (v : FieldMove) → BodyMoved host place named at c v → KeptBy (body host place named at) held c v
 body_kept host place named at held c (grows n) (b, a, is, fit) =
     subst (λ (x : spots.FieldMode). KeptBy (body host place named at) held c (grows x)) (sym is) (refl, tt, λ own. (host, place, b, a, refl))
 body_kept host place named at held c v h = tt
 
-opened_kept : (host : Host) (held : List ℕ) (c : ℕ) (v : FieldMove) → BodyMoved host literal false between v → KeptBy (opened host) held c v
+opened_kept : (host : Host) (held : List ℕ) (c : ℕ) (v : FieldMove) → BodyMoved host literal false between c v → KeptBy (opened host) held c v
 opened_kept host held c (grows n) (b, a, is, fit) =
     subst (λ (x : spots.FieldMode). KeptBy (opened host) held c (grows x)) (sym is) (refl, tt, λ own. (host, literal, b, a, refl))
 opened_kept host held c v h = tt
@@ -202,44 +221,60 @@ opened_again host held c = (refl, tt, no_body)
     no_body (h, place, named, at, is) = absurd (cc)
 
 pub kept_by : (m : spots.FieldMode) (held : List ℕ) (c : ℕ) → HoldsCode m held → KeptBy m held c (field_move m held c)
-unfolding field_move body_move
-kept_by (plain m) held c holds =
-    cond_both (begins_host m held c) (grows (opened (host_of held c))) (plain_move (move_of m c)) (KeptBy (plain m) held c)
-    (λ h. (refl, tt, plain_no_body m (opened (host_of held c)))) (λ h. plain_kept m held c (move_of m c) (move_holds m held c holds))
-kept_by (opened host) held c holds =
-    cond_both (c == host.quote) (grows (empty host)) (between_move host literal false between c) (KeptBy (opened host) held c)
-    (λ h. opened_again host held c) (λ h. opened_kept host held c (between_move host literal false between c) (between_moved host literal false between between c))
-kept_by (empty host) held c holds =
-    cond_both (c == host.quote) (grows (body (long_host host) literal false between)) breaks (KeptBy (empty host) held c) (λ h. empty_kept host held c) (λ h. tt)
-kept_by (body host place named at) held c holds = body_kept host place named at held c (field_move (body host place named at) held c) (body_moved host place named at held c)
+kept_by (plain m) held c holds = by_each (KeptBy (plain m) held c) (plain m) held c ((refl, tt, plain_no_body m (opened (host_of held c))), plain_kept m held c (move_of m c) (move_holds m held c holds))
+kept_by (opened host) held c holds = by_each (KeptBy (opened host) held c) (opened host) held c (opened_again host held c, opened_kept host held c)
+kept_by (empty host) held c holds = by_each (KeptBy (empty host) held c) (empty host) held c (empty_kept host held c, tt)
+kept_by (body host place named at) held c holds = by_each (KeptBy (body host place named at) held c) (body host place named at) held c (body_kept host place named at held c)
 
 -- a piece that grows stays where it is, and its text stays as its mode has it
 pub keeps : (m n : spots.FieldMode) (held : List ℕ) (c : ℕ) → HoldsCode m held → field_move m held c ≡ grows n → (text_place n ≡ text_place m) × HoldsCode n (held ++ c ∷ []) × (IsBodyMode m → IsBodyMode n)
 keeps m n held c holds is = subst (KeptBy m held c) is (kept_by m held c holds)
 
--- so in its place, whatever its text is
-abbrev PlacedBy : spots.FieldMode → FieldMove → Type 0
-PlacedBy m (grows n) = text_place n ≡ text_place m
-PlacedBy m other = Unit {0}
+-- what each move says of the mode, whatever its text is: what goes on stays in its place, and a field begins, opens or ends in it
+abbrev TellsOf : spots.FieldMode → ℕ → FieldMove → Type 0
+TellsOf m c (grows n) = text_place n ≡ text_place m
+TellsOf m c (begins_code h) = (place : Place) × (named : Bool) × (m ≡ body h place named after_brace)
+TellsOf m c (opens_field h) = (at : At) × (m ≡ body h specification false at) × (c == byte "{" ≡ true)
+TellsOf m c ends_field = (host : Host) × (at : At) × (m ≡ body host specification false at)
+TellsOf m c other = Unit {0}
 
-body_placed : (m : spots.FieldMode) (host : Host) (place : Place) (named : Bool) (at : At) (v : FieldMove) → text_place m ≡ place → BodyMoved host place named at v → PlacedBy m v
-body_placed m host place named at (grows n) same (b, a, is, fit) = ap text_place is ∙ sym same
-body_placed m host place named at v same h = tt
+body_tells : (host : Host) (place : Place) (named : Bool) (at : At) (c : ℕ) (v : FieldMove) → BodyMoved host place named at c v → TellsOf (body host place named at) c v
+body_tells host place named at c (grows n) (b, a, is, fit) = ap text_place is
+body_tells host place named at c (begins_code h) (same, is) = (place, named, ap (λ (x : Host). body x place named at) (sym same) ∙ ap (body h place named) is)
+body_tells host place named at c (opens_field h) (same, is, none, brace) =
+    (at, ap (λ (x : Host). body x place named at) (sym same) ∙ ap (λ (p : Place). body h p named at) is ∙ ap (λ (b : Bool). body h specification b at) none, brace)
+body_tells host place named at c ends_field (is, none) = (host, at, ap (λ (p : Place). body host p named at) is ∙ ap (λ (b : Bool). body host specification b at) none)
+body_tells host place named at c v h = tt
 
-plain_placed : (m : Mode) (v : Move) → PlacedBy (plain m) (plain_move v)
-plain_placed m (moves.Grows n) = refl
-plain_placed m moves.Closes = tt
-plain_placed m moves.Breaks = tt
-plain_placed m moves.Refused = tt
+-- the first character after one quote begins, opens and ends no field
+opened_tells : (host : Host) (c : ℕ) (v : FieldMove) → BodyMoved host literal false between c v → TellsOf (opened host) c v
+opened_tells host c (grows n) (b, a, is, fit) = ap text_place is
+opened_tells host c (begins_code h) (same, is) = absurd (cc)
+opened_tells host c (opens_field h) (same, is, none, brace) = absurd (cc)
+opened_tells host c ends_field (is, none) = absurd (cc)
+opened_tells host c v h = tt
 
-placed_by : (m : spots.FieldMode) (held : List ℕ) (c : ℕ) → PlacedBy m (field_move m held c)
-unfolding field_move body_move
-placed_by (plain m) held c = cond_both (begins_host m held c) (grows (opened (host_of held c))) (plain_move (move_of m c)) (PlacedBy (plain m)) (λ h. refl) (λ h. plain_placed m (move_of m c))
-placed_by (opened host) held c =
-    cond_both (c == host.quote) (grows (empty host)) (between_move host literal false between c) (PlacedBy (opened host))
-    (λ h. refl) (λ h. body_placed (opened host) host literal false between (between_move host literal false between c) refl (between_moved host literal false between between c))
-placed_by (empty host) held c = cond_both (c == host.quote) (grows (body (long_host host) literal false between)) breaks (PlacedBy (empty host)) (λ h. refl) (λ h. tt)
-placed_by (body host place named at) held c = body_placed (body host place named at) host place named at (field_move (body host place named at) held c) refl (body_moved host place named at held c)
+plain_tells : (m : Mode) (c : ℕ) (v : Move) → TellsOf (plain m) c (plain_move v)
+plain_tells m c (moves.Grows n) = refl
+plain_tells m c moves.Closes = tt
+plain_tells m c moves.Breaks = tt
+plain_tells m c moves.Refused = tt
+
+tells : (m : spots.FieldMode) (held : List ℕ) (c : ℕ) → TellsOf m c (field_move m held c)
+tells (plain m) held c = by_each (TellsOf (plain m) c) (plain m) held c (refl, plain_tells m c (move_of m c))
+tells (opened host) held c = by_each (TellsOf (opened host) c) (opened host) held c (refl, opened_tells host c)
+tells (empty host) held c = by_each (TellsOf (empty host) c) (empty host) held c (refl, tt)
+tells (body host place named at) held c = by_each (TellsOf (body host place named at) c) (body host place named at) held c (body_tells host place named at c)
+
+pub waits_after : (m : spots.FieldMode) (held : List ℕ) (c : ℕ) (host : Host) → field_move m held c ≡ begins_code host → (place : Place) × (named : Bool) × (m ≡ body host place named after_brace)
+waits_after m held c host is = subst (TellsOf m c) is (tells m held c)
+
+-- only a `{` opens a field in a specification
+pub opens_specification : (m : spots.FieldMode) (held : List ℕ) (c : ℕ) (host : Host) → field_move m held c ≡ opens_field host → (at : At) × (m ≡ body host specification false at) × (c == byte "{" ≡ true)
+opens_specification m held c host is = subst (TellsOf m c) is (tells m held c)
+
+pub ends_specification : (m : spots.FieldMode) (held : List ℕ) (c : ℕ) → field_move m held c ≡ ends_field → (host : Host) × (at : At) × (m ≡ body host specification false at)
+ends_specification m held c is = subst (TellsOf m c) is (tells m held c)
 
 -- no list stands in a specification that goes on
 list_at : (m n : spots.FieldMode) (done : List Piece) (openers : List ℕ) → text_place n ≡ text_place m → HasNoList m done openers → HasNoList n done openers
@@ -254,7 +289,7 @@ list_at m (opened host) done openers same none = tt
 list_at m (empty host) done openers same none = tt
 
 pub keeps_list : (m n : spots.FieldMode) (held : List ℕ) (c : ℕ) (done : List Piece) (openers : List ℕ) → HasNoList m done openers → field_move m held c ≡ grows n → HasNoList n done openers
-keeps_list m n held c done openers none is = list_at m n done openers (subst (PlacedBy m) is (placed_by m held c)) none
+keeps_list m n held c done openers none is = list_at m n done openers (subst (TellsOf m c) is (tells m held c)) none
 
 -- a piece that ends before a character
 abbrev EndsBefore : spots.FieldMode → List ℕ → Type 0
@@ -287,20 +322,16 @@ plain_breaks m held holds moves.Closes = tt
 plain_breaks m held holds moves.Breaks = (refl, closed_spells m held holds, λ done st stack. live.stack_closed m done held st stack, no_body-plain m)
 plain_breaks m held holds moves.Refused = tt
 
-body_breaks : (m : spots.FieldMode) (held : List ℕ) (host : Host) (place : Place) (named : Bool) (at : At) (v : FieldMove) → BodyMoved host place named at v → BreaksAt m held v
-body_breaks m held host place named at breaks h = absurd h
-body_breaks m held host place named at v h = tt
+body_breaks : (m : spots.FieldMode) (held : List ℕ) (host : Host) (place : Place) (named : Bool) (at : At) (c : ℕ) (v : FieldMove) → BodyMoved host place named at c v → BreaksAt m held v
+body_breaks m held host place named at c breaks h = absurd h
+body_breaks m held host place named at c v h = tt
 
 breaks_by : (m : spots.FieldMode) (held : List ℕ) (c : ℕ) → HoldsCode m held → BreaksAt m held (field_move m held c)
-unfolding field_move body_move
-breaks_by (plain m) held c holds = cond_both (begins_host m held c) (grows (opened (host_of held c))) (plain_move (move_of m c)) (BreaksAt (plain m) held) (λ h. tt) (λ h. plain_breaks m held holds (move_of m c))
-breaks_by (opened host) held c holds =
-    cond_both (c == host.quote) (grows (empty host)) (between_move host literal false between c) (BreaksAt (opened host) held)
-    (λ h. tt) (λ h. body_breaks (opened host) held host literal false between (between_move host literal false between c) (between_moved host literal false between between c))
+breaks_by (plain m) held c holds = by_each (BreaksAt (plain m) held) (plain m) held c (tt, plain_breaks m held holds (move_of m c))
+breaks_by (opened host) held c holds = by_each (BreaksAt (opened host) held) (opened host) held c (tt, body_breaks (opened host) held host literal false between c)
 breaks_by (empty host) held c holds =
-    cond_both (c == host.quote) (grows (body (long_host host) literal false between)) breaks (BreaksAt (empty host) held)
-    (λ h. tt) (λ h. (refl, λ done. spelled-push done string held, λ done st stack. live.keeps done (piece string held) st refl refl stack, no_body-empty host))
-breaks_by (body host place named at) held c holds = body_breaks (body host place named at) held host place named at (field_move (body host place named at) held c) (body_moved host place named at held c)
+    by_each (BreaksAt (empty host) held) (empty host) held c (tt, (refl, λ done. spelled-push done string held, λ done st stack. live.keeps done (piece string held) st refl refl stack, no_body-empty host))
+breaks_by (body host place named at) held c holds = by_each (BreaksAt (body host place named at) held) (body host place named at) held c (body_breaks (body host place named at) held host place named at c)
 
 pub breaks_at : (m : spots.FieldMode) (held : List ℕ) (c : ℕ) → HoldsCode m held → field_move m held c ≡ breaks → (text_place m ≡ literal) × ((done : List Piece) → spelled (field_closed m done held) ≡ spelled done ++ held) × ((done : List Piece) (st : List Bracket) → brackets_of done ≡ Some st → brackets_of (field_closed m done held) ≡ Some st) × (IsBodyMode m → ⊥)
 breaks_at m held c holds is = subst (BreaksAt m held) is (breaks_by m held c holds)
@@ -319,21 +350,18 @@ plain_closes m held c moves.Closes is =
 plain_closes m held c moves.Breaks is = tt
 plain_closes m held c moves.Refused is = tt
 
-text_closes : (m : spots.FieldMode) (held : List ℕ) (c : ℕ) (host : Host) (place : Place) (named : Bool) (at : At) (v : FieldMove) → field_class_of m ≡ string → text_place m ≡ place → BodyMoved host place named at v → ClosesBy m held c v
-text_closes m held c host place named at closes class same h = (
+text_closes : (m : spots.FieldMode) (held : List ℕ) (c : ℕ) (host : Host) (place : Place) (named : Bool) (at : At) → field_class_of m ≡ string → text_place m ≡ place → (v : FieldMove) → BodyMoved host place named at c v → ClosesBy m held c v
+text_closes m held c host place named at class same closes h = (
   same ∙ h,
   λ done st stack. ap (λ k. brackets_of (done ++ piece k (held ++ c ∷ []) ∷ [])) class ∙ live.keeps done (piece string (held ++ c ∷ [])) st refl refl stack,
 )
-text_closes m held c host place named at v class same h = tt
+text_closes m held c host place named at class same v h = tt
 
 closes_by : (m : spots.FieldMode) (held : List ℕ) (c : ℕ) → ClosesBy m held c (field_move m held c)
-unfolding field_move body_move
-closes_by (plain m) held c = cond_both (begins_host m held c) (grows (opened (host_of held c))) (plain_move (move_of m c)) (ClosesBy (plain m) held c) (λ h. tt) (λ h. plain_closes m held c (move_of m c) refl)
-closes_by (opened host) held c =
-    cond_both (c == host.quote) (grows (empty host)) (between_move host literal false between c) (ClosesBy (opened host) held c)
-    (λ h. tt) (λ h. text_closes (opened host) held c host literal false between (between_move host literal false between c) refl refl (between_moved host literal false between between c))
-closes_by (empty host) held c = cond_both (c == host.quote) (grows (body (long_host host) literal false between)) breaks (ClosesBy (empty host) held c) (λ h. tt) (λ h. tt)
-closes_by (body host place named at) held c = text_closes (body host place named at) held c host place named at (field_move (body host place named at) held c) refl refl (body_moved host place named at held c)
+closes_by (plain m) held c = by_each (ClosesBy (plain m) held c) (plain m) held c (tt, plain_closes m held c (move_of m c) refl)
+closes_by (opened host) held c = by_each (ClosesBy (opened host) held c) (opened host) held c (tt, text_closes (opened host) held c host literal false between refl refl)
+closes_by (empty host) held c = by_each (ClosesBy (empty host) held c) (empty host) held c (tt, tt)
+closes_by (body host place named at) held c = by_each (ClosesBy (body host place named at) held c) (body host place named at) held c (text_closes (body host place named at) held c host place named at refl refl)
 
 pub closes_neutral : (m : spots.FieldMode) (held : List ℕ) (c : ℕ) → field_move m held c ≡ closes → (done : List Piece) (st : List Bracket) → brackets_of done ≡ Some st → brackets_of (done ++ record { class = field_class_of m; text = held ++ c ∷ [] } ∷ []) ≡ Some st
 closes_neutral m held c is done st stack =
@@ -354,50 +382,6 @@ begun_plain c m so = refl
 pub starts_so : (c : ℕ) (m : Mode) → start_of c ≡ starts.Open m → HoldsCode (plain m) (c ∷ []) × (code_mode m ≡ plain m)
 starts_so c m is = (subst (StartHolds c) is (start_holds c), begun_plain c m (subst (begun.StartsSo c) is (begun.starts_so c)))
 
--- what begins a field, opens one in a specification, or ends one
-abbrev FieldBy : spots.FieldMode → FieldMove → Type 0
-FieldBy m (begins_code h) = (place : Place) × (named : Bool) × (m ≡ body h place named after_brace)
-FieldBy m (opens_field h) = (at : At) × (m ≡ body h specification false at)
-FieldBy m ends_field = (host : Host) × (at : At) × (m ≡ body host specification false at)
-FieldBy m other = Unit {0}
-
-body_by : (host : Host) (place : Place) (named : Bool) (at : At) (v : FieldMove) → BodyMoved host place named at v → FieldBy (body host place named at) v
-body_by host place named at (begins_code h) (same, is) = (place, named, ap (λ (x : Host). body x place named at) (sym same) ∙ ap (body h place named) is)
-body_by host place named at (opens_field h) (same, is, none) = (at, ap (λ (x : Host). body x place named at) (sym same) ∙ ap (λ (p : Place). body h p named at) is ∙ ap (λ (b : Bool). body h specification b at) none)
-body_by host place named at ends_field (is, none) = (host, at, ap (λ (p : Place). body host p named at) is ∙ ap (λ (b : Bool). body host specification b at) none)
-body_by host place named at v h = tt
-
--- the first character after one quote does none of these
-opened_by : (m : spots.FieldMode) (host : Host) (v : FieldMove) → BodyMoved host literal false between v → FieldBy m v
-opened_by m host (begins_code h) (same, is) = absurd (cc)
-opened_by m host (opens_field h) (same, is, none) = absurd (cc)
-opened_by m host ends_field (is, none) = absurd (cc)
-opened_by m host v h = tt
-
-plain_by : (m : Mode) (v : Move) → FieldBy (plain m) (plain_move v)
-plain_by m (moves.Grows n) = tt
-plain_by m moves.Closes = tt
-plain_by m moves.Breaks = tt
-plain_by m moves.Refused = tt
-
-field_by : (m : spots.FieldMode) (held : List ℕ) (c : ℕ) → FieldBy m (field_move m held c)
-unfolding field_move body_move
-field_by (plain m) held c = cond_both (begins_host m held c) (grows (opened (host_of held c))) (plain_move (move_of m c)) (FieldBy (plain m)) (λ h. tt) (λ h. plain_by m (move_of m c))
-field_by (opened host) held c =
-    cond_both (c == host.quote) (grows (empty host)) (between_move host literal false between c) (FieldBy (opened host))
-    (λ h. tt) (λ h. opened_by (opened host) host (between_move host literal false between c) (between_moved host literal false between between c))
-field_by (empty host) held c = cond_both (c == host.quote) (grows (body (long_host host) literal false between)) breaks (FieldBy (empty host)) (λ h. tt) (λ h. tt)
-field_by (body host place named at) held c = body_by host place named at (field_move (body host place named at) held c) (body_moved host place named at held c)
-
-pub waits_after : (m : spots.FieldMode) (held : List ℕ) (c : ℕ) (host : Host) → field_move m held c ≡ begins_code host → (place : Place) × (named : Bool) × (m ≡ body host place named after_brace)
-waits_after m held c host is = subst (FieldBy m) is (field_by m held c)
-
-pub opens_specification : (m : spots.FieldMode) (held : List ℕ) (c : ℕ) (host : Host) → field_move m held c ≡ opens_field host → (at : At) × (m ≡ body host specification false at)
-opens_specification m held c host is = subst (FieldBy m) is (field_by m held c)
-
-pub ends_specification : (m : spots.FieldMode) (held : List ℕ) (c : ℕ) → field_move m held c ≡ ends_field → (host : Host) × (at : At) × (m ≡ body host specification false at)
-ends_specification m held c is = subst (FieldBy m) is (field_by m held c)
-
 -- in a specification no `{` waits for the next character, and that stays so
 literal_waits : (m : spots.FieldMode) → text_place m ≡ literal → WaitsInLiteral m
 literal_waits (body host specification named at) is = absurd (cc)
@@ -414,19 +398,19 @@ body_waits : (host : Host) (place : Place) (b : Bool) (a : At) → (place ≡ sp
 body_waits host literal b a fit = tt
 body_waits host specification b a fit = fit refl
 
-moved_waits : (host : Host) (place : Place) (named : Bool) (at : At) (v : FieldMove) → BodyMoved host place named at v → WaitsBy v
-moved_waits host place named at (grows n) (b, a, is, fit) = subst WaitsInLiteral (sym is) (body_waits host place b a fit)
-moved_waits host place named at v h = tt
+moved_waits : (host : Host) (place : Place) (named : Bool) (at : At) (c : ℕ) (v : FieldMove) → BodyMoved host place named at c v → WaitsBy v
+moved_waits host place named at c (grows n) (b, a, is, fit) = subst WaitsInLiteral (sym is) (body_waits host place b a fit)
+moved_waits host place named at c v h = tt
 
-placed_waits : (m : spots.FieldMode) (v : FieldMove) → text_place m ≡ literal → PlacedBy m v → WaitsBy v
-placed_waits m (grows n) is same = literal_waits n (same ∙ is)
-placed_waits m v is same = tt
+placed_waits : (m : spots.FieldMode) (c : ℕ) (v : FieldMove) → text_place m ≡ literal → TellsOf m c v → WaitsBy v
+placed_waits m c (grows n) is same = literal_waits n (same ∙ is)
+placed_waits m c v is same = tt
 
 waits_by : (m : spots.FieldMode) (held : List ℕ) (c : ℕ) → WaitsBy (field_move m held c)
-waits_by (body host place named at) held c = moved_waits host place named at (field_move (body host place named at) held c) (body_moved host place named at held c)
-waits_by (plain m) held c = placed_waits (plain m) (field_move (plain m) held c) refl (placed_by (plain m) held c)
-waits_by (opened host) held c = placed_waits (opened host) (field_move (opened host) held c) refl (placed_by (opened host) held c)
-waits_by (empty host) held c = placed_waits (empty host) (field_move (empty host) held c) refl (placed_by (empty host) held c)
+waits_by (body host place named at) held c = moved_waits host place named at c (field_move (body host place named at) held c) (body_moved host place named at held c)
+waits_by (plain m) held c = placed_waits (plain m) c (field_move (plain m) held c) refl (tells (plain m) held c)
+waits_by (opened host) held c = placed_waits (opened host) c (field_move (opened host) held c) refl (tells (opened host) held c)
+waits_by (empty host) held c = placed_waits (empty host) c (field_move (empty host) held c) refl (tells (empty host) held c)
 
 pub keeps_waits : (m n : spots.FieldMode) (held : List ℕ) (c : ℕ) → field_move m held c ≡ grows n → WaitsInLiteral n
 keeps_waits m n held c is = subst WaitsBy is (waits_by m held c)

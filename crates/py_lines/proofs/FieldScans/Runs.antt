@@ -174,21 +174,25 @@ low_ascii (c ∷ cs) all = let parts = and_parts (nat_lt c 128) (list_all (λ d.
     under : nat_lt c 128 ≡ true → c < 128
     under is = grind (arith, nat_tests)
 
+-- they are held, if the scan follows over them
+holds_ascii : (scan : FieldScan) (depth : ℕ) (bytes : List ℕ) (n : ℕ) → n ≤ length bytes → list_all (λ c. nat_lt c 128) (take n bytes) ≡ true → ((base : ℕ) (t : FieldScanned) → Follows scan base t → (u : FieldScanned) × GoesOn depth t (take n bytes) u × Follows scan base u) → HoldsField scan depth bytes n
+holds_ascii scan depth bytes n within low follows =
+    let same : encode_utf8_all (take n bytes) ≡ take n bytes = encodes-IsAscii (take n bytes) (low_ascii (take n bytes) low) in
+    record {
+      run = take n bytes;
+      spell = ap (λ (t : List ℕ). t ++ drop n bytes) same ∙ take-append-drop n bytes;
+      scalars = low_scalars (take n bytes) low;
+      size = ap length same ∙ length-take-le n bytes within;
+      stay = λ base t on inside. follows base t on;
+    }
+
 pub holds_field : (scan : FieldScan) (depth : ℕ) (bytes : List ℕ) (n : ℕ) → n ≤ length bytes → ((i : ℕ) → i < n → keeps_byte scan.mode (slice_index bytes i) ≡ true) → HoldsField scan depth bytes n
 holds_field scan depth bytes n within each =
     let size : length (take n bytes) ≡ n = length-take-le n bytes within in
     let all : list_all (keeps_byte scan.mode) (take n bytes) ≡ true = all_pass (keeps_byte scan.mode) (take n bytes) (λ i less.
     let short : i < n = omega (arith, less, size) in
     subst (λ (b : ℕ). keeps_byte scan.mode b ≡ true) (sym (get_or-take n bytes i 0 short)) (each i short)) in
-    let low = all_low scan.mode (take n bytes) all in
-    let same : encode_utf8_all (take n bytes) ≡ take n bytes = encodes-IsAscii (take n bytes) (low_ascii (take n bytes) low) in
-    record {
-      run = take n bytes;
-      spell = ap (λ (t : List ℕ). t ++ drop n bytes) same ∙ take-append-drop n bytes;
-      scalars = low_scalars (take n bytes) low;
-      size = ap length same ∙ size;
-      stay = λ base t follows inside. let (goes, on) = follows_run scan base depth t (take n bytes) all follows in (with_text t (take n bytes), goes, on);
-    }
+    holds_ascii scan depth bytes n within (all_low scan.mode (take n bytes) all) (λ base t follows. let (goes, on) = follows_run scan base depth t (take n bytes) all follows in (with_text t (take n bytes), goes, on))
 
 -- text of which the machine knows where it leads
 pub goes_low : (depth : ℕ) (t : FieldScanned) (run : List ℕ) (u : FieldScanned) → GoesOn depth t run u → list_all (λ c. nat_lt c 128) run ≡ true
@@ -224,13 +228,4 @@ text_follows scan base depth quote bytes n t h mode same quotes room text follow
 
 pub holds_text : (scan : FieldScan) (depth quote : ℕ) (bytes : List ℕ) (n : ℕ) → StandsInText scan depth (Some quote) → HasText quote bytes n → HoldsField scan depth bytes n
 holds_text scan depth quote bytes n (h, mode, same, quotes, room) text =
-    let low = text_low quote bytes n quotes text in
-    let size : length (take n bytes) ≡ n = length-take-le n bytes text.0 in
-    let spelled_so : encode_utf8_all (take n bytes) ≡ take n bytes = encodes-IsAscii (take n bytes) (low_ascii (take n bytes) low) in
-    record {
-      run = take n bytes;
-      spell = ap (λ (t : List ℕ). t ++ drop n bytes) spelled_so ∙ take-append-drop n bytes;
-      scalars = low_scalars (take n bytes) low;
-      size = ap length spelled_so ∙ size;
-      stay = λ base t follows inside. text_follows scan base depth quote bytes n t h mode same quotes room text follows;
-    }
+    holds_ascii scan depth bytes n text.0 (text_low quote bytes n quotes text) (λ base t follows. text_follows scan base depth quote bytes n t h mode same quotes room text follows)

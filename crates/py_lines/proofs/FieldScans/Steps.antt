@@ -27,12 +27,7 @@ string_goes (l ∷ ls) v next goes_on = refl
 
 string_stops : (t : FieldScanned) (c : ℕ) (outer : List Level) (v : FieldMove) → field_moved t c v ≡ None → string_move outer v None ≡ moves.Refused
 string_stops t c [] closes none = absurd (cc)
-string_stops t c [] (grows m) none = refl
-string_stops t c [] breaks none = refl
-string_stops t c [] (begins_code h) none = refl
-string_stops t c [] (opens_field h) none = refl
-string_stops t c [] ends_field none = refl
-string_stops t c [] refused none = refl
+string_stops t c [] v none = refl
 string_stops t c (l ∷ ls) v none = refl
 
 module _ (base depth : ℕ) (t : FieldScanned) (c : ℕ) (v : FieldMove) (is : field_move t.mode t.held c ≡ v) where

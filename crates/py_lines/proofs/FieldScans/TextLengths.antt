@@ -18,7 +18,10 @@ use Rattle.py_lines.proofs.LineScan.ShortPieces.{all_pass, full_take, split_at, 
 use Rattle.py_lines.proofs.FieldScans.Texts.{escape_leads, leads_from_code, sign_leads, string_leads, brace_leads, closing_leads, code_after, codes_lead, field_ends, leads-append, leads-none, open_leads, opening_leads, specification_begins, specification_ends, specifications_lead, texts_lead, two_lead}
 
 -- the bytes after the first ones, as a slice has them
-pub rest_is : (bytes : List ℕ) (n : ℕ) → take (length bytes - n) (drop n bytes) ≡ drop n bytes
+abbrev pub rest_of : List ℕ → ℕ → List ℕ
+rest_of bytes n = take (length bytes - n) (drop n bytes)
+
+pub rest_is : (bytes : List ℕ) (n : ℕ) → rest_of bytes n ≡ drop n bytes
 rest_is bytes n = take_all (length bytes - n) (drop n bytes) (omega (arith, length-drop n bytes))
 
 -- a byte after the first ones
@@ -129,12 +132,18 @@ text_taken bytes m is =
     let spell : spelled_so ++ is.after ≡ bytes = ap (λ t. is.q ∷ t) (append_assoc is.run (is.q ∷ []) is.after) ∙ is.spell in
     ap (take m) (sym spell) ∙ ap (λ (k : ℕ). take k (spelled_so ++ is.after)) (sym far) ∙ take-append_seam spelled_so is.after
 
-pub code_counted_on : (bytes : List ℕ) (n m k : ℕ) → IsCodeCounted bytes n → BeginsPlainString bytes n → IsWholePlainString (drop n bytes) m → IsRunOf is_code_byte (drop (n + m) bytes) k → IsCodeCounted bytes (n + m + k)
-code_counted_on bytes n m k so_far begins_so text run = record {
+pub code_counted_on : (bytes : List ℕ) (n m k : ℕ) → IsCodeCounted bytes n → BeginsPlainString bytes n → IsWholePlainString (rest_of bytes n) m → IsRunOf is_code_byte (rest_of bytes (n + m)) k → IsCodeCounted bytes (n + m + k)
+code_counted_on bytes n m k so_far begins_so text_there run_there = record {
   code = record { within = (whole_code [] 0).0; leads = λ openers quote. (whole_code openers quote).1 };
   apart = λ is openers quote. (both is openers quote).1;
 }
   where
+    text : IsWholePlainString (drop n bytes) m
+    text = subst (λ (t : List ℕ). IsWholePlainString t m) (rest_is bytes n) text_there
+
+    run : IsRunOf is_code_byte (drop (n + m) bytes) k
+    run = subst (λ (t : List ℕ). IsRunOf is_code_byte t k) (rest_is bytes (n + m)) run_there
+
     size : m ≤ length (drop n bytes)
     size = (text_size (drop n bytes) m text).1
 
@@ -206,9 +215,15 @@ field_of quote bytes n single some code =
     )
 
 -- a bracket, what stands within it, and more code
-pub code_on : (bytes : List ℕ) (n m k : ℕ) → LeadsAlways (AtCode []) bytes n (InCode []) → n < length bytes → is_code_bracket (slice_index bytes n) ≡ true → LeadsAlways (AtCode (slice_index bytes n ∷ [])) (drop (n + 1) bytes) m (AtCode []) → HasSimpleCode (drop (n + (1 + m)) bytes) k → LeadsAlways (AtCode []) bytes (n + (1 + m) + k) (InCode [])
-code_on bytes n m k code within is inside more = always (AtCode []) (InCode []) bytes (n + (1 + m) + k) each
+pub code_on : (bytes : List ℕ) (n m k : ℕ) → LeadsAlways (AtCode []) bytes n (InCode []) → n < length bytes → is_code_bracket (slice_index bytes n) ≡ true → LeadsAlways (AtCode (slice_index bytes n ∷ [])) (rest_of bytes (n + 1)) m (AtCode []) → HasSimpleCode (rest_of bytes (n + (1 + m))) k → LeadsAlways (AtCode []) bytes (n + (1 + m) + k) (InCode [])
+code_on bytes n m k code within is inside_there more_there = always (AtCode []) (InCode []) bytes (n + (1 + m) + k) each
   where
+    inside : LeadsAlways (AtCode (slice_index bytes n ∷ [])) (drop (n + 1) bytes) m (AtCode [])
+    inside = subst (λ (t : List ℕ). LeadsAlways (AtCode (slice_index bytes n ∷ [])) t m (AtCode [])) (rest_is bytes (n + 1)) inside_there
+
+    more : HasSimpleCode (drop (n + (1 + m)) bytes) k
+    more = subst (λ (t : List ℕ). HasSimpleCode t k) (rest_is bytes (n + (1 + m))) more_there
+
     o : ℕ
     o = slice_index bytes n
 

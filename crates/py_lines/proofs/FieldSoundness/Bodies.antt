@@ -8,7 +8,7 @@ use Rattle.py_lines.specs.Character.{is_quote, is_return, is_break, is_backslash
 use Rattle.py_lines.specs.Piece.{string}
 use Rattle.py_lines.specs.PieceGrammar.{is_prefix, IsNoneOr, is_bare, joined, has_triple, InClassIn, MayPrecedeIn}
 use Rattle.py_lines.specs.Fields.{fielded}
-use Rattle.py_lines.specs.FieldStrings.{is_field_prefix, Host, Place, literal, specification, quotes_of, is_ordinary, names, IsPart, bare, named_after, named_through, AreParts, IsFieldString, with_fields}
+use Rattle.py_lines.specs.FieldStrings.{is_field_prefix, Host, Place, literal, specification, quotes_of, is_ordinary, IsPart, bare, named_after, named_through, AreParts, IsFieldString, with_fields}
 use Rattle.py_lines.specs.Private.Machine.{IsFull}
 use Rattle.py_lines.specs.Private.FieldMachine.{At, between, after_one, after_two, FieldMode, body, FieldMove, grows, closes, breaks, begins_code, opens_field, ends_field, refused, Level, is_after_two, with_quote, closing_move, opening_move, ending_move, between_move}
 use Rattle.py_lines.proofs.Pieces.TripleQuotes.{triple-left, triple-other}
@@ -16,7 +16,7 @@ use Rattle.py_lines.proofs.Text.CharacterTests.{none_of, barred}
 use Rattle.py_lines.proofs.Machine.OpenPieces.{full-append, joined-push, not_one}
 use Rattle.py_lines.proofs.Fields.Prefixes.{plain_quotes, field_letters}
 use Rattle.py_lines.proofs.Fields.SameStrings.{first_quote}
-use Rattle.py_lines.proofs.FieldSoundness.Holds.{Limit, HoldsParts, HoldsBetween, HoldsAt, HoldsMode}
+use Rattle.py_lines.proofs.FieldSoundness.Holds.{Limit, refit, HoldsParts, HoldsBetween, HoldsAt, HoldsMode}
 
 -- parts, one more after others
 pub parts-push : (F : Host → List ℕ → Type 0) (host : Host) (place : Place) (named : Bool) (parts : List (List ℕ)) (part rest : List ℕ) → AreParts F host place named parts (part ++ rest) → IsPart F host place (named_through named parts) part rest → AreParts F host place named (parts ++ part ∷ []) rest
@@ -65,24 +65,9 @@ pub slash-not-closing : (c : ℕ) → is_backslash c ≡ true → c == 125 ≡ f
 unfolding is_backslash
 slash-not-closing c h = none_of (λ d. d == 125) (92 ∷ []) c refl h
 
-pub return-not-brace : (c : ℕ) → is_return c ≡ true → is_brace c ≡ false
-unfolding is_return is_brace
-return-not-brace c h = none_of is_brace (13 ∷ []) c refl h
-
 pub return-not-letter : (c : ℕ) → is_return c ≡ true → c == 78 ≡ false
 unfolding is_return
 return-not-letter c h = none_of (λ d. d == 78) (13 ∷ []) c refl h
-
-pub letter-not-return : is_return 78 ≡ false
-unfolding is_return
-letter-not-return = refl
-
-pub letter-not-brace : is_brace 78 ≡ false
-unfolding is_brace
-letter-not-brace = refl
-
-pub names_letter : (host : Host) (c : ℕ) → names host c ≡ true → c == 78 ≡ true
-names_letter host c h = (and_parts (c == 78) (not host.is_raw) h).0
 
 no_brace : (c : ℕ) → c == 123 ≡ false → c == 125 ≡ false → is_brace c ≡ false
 unfolding is_brace
@@ -138,16 +123,8 @@ long_quotes host h = rw h
 module _ (limit : Limit) (outer : List Level) (depth : ℕ) (host : Host) where
   -- before texts that begin with more
   pub longer_next : (place : Place) (named : Bool) (held next more : List ℕ) → HoldsParts limit outer depth host place named held next → HoldsParts limit outer depth host place named held (next ++ more)
-  longer_next place named held next more h = record {
-    begin = h.begin;
-    parts = h.parts;
-    spell = h.spell;
-    opens_with = h.opens_with;
-    quotes = h.quotes;
-    fit = λ rest. subst (AreParts (limit.FieldsAt depth) host place false h.parts) (sym (append_assoc next more rest)) (h.fit (more ++ rest));
-    named_is = h.named_is;
-    open_yet = h.open_yet;
-  }
+  longer_next place named held next more h =
+      refit limit outer host place named held _ _ (λ parts fit rest. subst (AreParts (limit.FieldsAt depth) host place false parts) (sym (append_assoc next more rest)) (fit (more ++ rest))) h
 
   pub between_next : (place : Place) (named : Bool) (held next more : List ℕ) → HoldsBetween limit outer depth host place named held next → HoldsBetween limit outer depth host place named held (next ++ more)
   unfolding longer_next

@@ -4,9 +4,10 @@ use Rattle.std.proofs.lemmas.Bool.{cond_both, and_left, and_right, eqb-true, and
 use Rattle.py_lines.specs.Character.{is_quote, is_line_feed, is_return, is_break, is_backslash, is_brace}
 use Rattle.py_lines.specs.FieldStrings.{Host, Place, literal, specification, may_be_escaped, names, slash, escape, escaped_end, name, double}
 use Rattle.py_lines.specs.Private.FieldMachine.{At, between, after_one, after_two, after_slash, after_return, after_name, after_brace, FieldMove, Level, between_move, is_barred_escape, escape_move, body_move}
-use Rattle.py_lines.proofs.Text.CharacterTests.{slash-not-quote, not_quote}
+use Rattle.py_lines.proofs.Text.CharacterTests.{slash-not-quote, not_quote, return-not-brace}
+use Rattle.py_lines.proofs.Fields.Parts.{names_letter, name-not-brace, name-not-return}
 use Rattle.py_lines.proofs.FieldSoundness.Holds.{Limit, HoldsParts, HoldsBetween, HoldsAt}
-use Rattle.py_lines.proofs.FieldSoundness.Bodies.{kept_named, slash-not-closing, return-not-brace, return-not-letter, letter-not-return, letter-not-brace, names_letter, longer_next, between_next, push_between, Moved, between_moves, one_quote, two_quotes, first_quotes, second_quote, third_quote}
+use Rattle.py_lines.proofs.FieldSoundness.Bodies.{kept_named, slash-not-closing, return-not-letter, longer_next, between_next, push_between, Moved, between_moves, one_quote, two_quotes, first_quotes, second_quote, third_quote}
 
 kept_or : (a b : Bool) → b ≡ false → a || b ≡ a
 kept_or true b h = refl
@@ -77,7 +78,6 @@ module _ (limit : Limit) (outer : List Level) (depth : ℕ) (host : Host) where
   name_moves : (place : Place) (named : Bool) (held : List ℕ) (c : ℕ) → HoldsAt limit outer depth host place named after_name held → Moved limit outer depth host place held c (body_move host place named after_name c)
   unfolding body_move
   name_moves place named held c (text, s, n, is, slashes, is_name, may, h) =
-      let letter : n ≡ 78 = eqb-true n 78 (names_letter host n is_name) in
       cond_both (c == 123) _ _ (λ (v : FieldMove). Moved limit outer depth host place held c v)
       (λ braces. (
         refl,
@@ -89,7 +89,7 @@ module _ (limit : Limit) (outer : List Level) (depth : ℕ) (host : Host) where
       between_two place named held c
       (subst (λ t. HoldsBetween limit outer depth host place named t (c ∷ [])) (sym is)
       (push_between limit outer depth host place named named text (s ∷ n ∷ []) (c ∷ []) (longer_next limit outer depth host place named text (s ∷ []) (n ∷ []) h)
-      (λ more. escape s n refl slashes (ap is_brace letter ∙ letter-not-brace) may (and_right _ _ no_brace) (and_left _ _ (ap is_return letter ∙ letter-not-return))) refl tt refl)))
+      (λ more. escape s n refl slashes (name-not-brace host n is_name) may (and_right _ _ no_brace) (and_left _ _ (name-not-return host n is_name))) refl tt refl)))
 
   -- after a `{` of the literal part
   brace_moves : (place : Place) (named : Bool) (held : List ℕ) (c : ℕ) → HoldsAt limit outer depth host place named after_brace held → Moved limit outer depth host place held c (body_move host place named after_brace c)

@@ -177,31 +177,27 @@ module _ (limit : Limit) (outer : List Level) (done : List Piece) (openers : Lis
   moved_sound host place ends_field at class holds room = field_ends host (at ∙ holds.0) holds.1 (subst (λ p. HoldsParts limit outer depth host p false held (125 ∷ [])) holds.0 holds.2)
   moved_sound host place refused at class holds room = tt
 
+-- what a move comes to is sound
+abbrev IsSoundBy : Limit → FieldScanned → List ℕ → ℕ → FieldMove → Type 0
+IsSoundBy limit s read c v = HasRoom limit (frames s) c v → FieldSoundIf limit (field_moved s c v) (read ++ c ∷ [])
+
 -- one character
 pub step_sound : (limit : Limit) (outer : List Level) (done : List Piece) (openers : List ℕ) (m : FieldMode) (held read : List ℕ) (c : ℕ) → IsFieldSound limit (field_state outer done openers m held) read → HasRoom limit (length openers + levels_open outer) c (field_move m held c) → FieldSoundIf limit (field_step (field_state outer done openers m held) c) (read ++ c ∷ [])
 unfolding field_move body_move
 step_sound limit outer done openers (plain m) held read c sound room =
-    let depth = length openers + levels_open outer in
-    let P : FieldMove → Type 0 = λ v. HasRoom limit depth c v → FieldSoundIf limit (field_moved (field_state outer done openers (plain m) held) c v) (read ++ c ∷ []) in
-    cond_both (begins_host m held c) _ _ P (λ is room. begins_sound limit outer done openers m held read c sound is) (λ other room. plain_sound limit outer done openers m held read c sound other room) room
+    cond_both (begins_host m held c) _ _ (IsSoundBy limit (field_state outer done openers (plain m) held) read c) (λ is room. begins_sound limit outer done openers m held read c sound is) (λ other room. plain_sound limit outer done openers m held read c sound other room) room
 step_sound limit outer done openers (opened host) held read c sound room =
     let depth = length openers + levels_open outer in
-    let P : FieldMove → Type 0 = λ v. HasRoom limit depth c v → FieldSoundIf limit (field_moved (field_state outer done openers (opened host) held) c v) (read ++ c ∷ []) in
-    let opens = sound.mode.0 in
-    let quotes = sound.mode.1 in
-    let short = sound.mode.2 in
-    cond_both (c == host.quote) _ _ P
+    let (opens, quotes, short) = sound.mode in
+    cond_both (c == host.quote) _ _ (IsSoundBy limit (field_state outer done openers (opened host) held) read c)
     (λ same room. grew limit outer done openers (opened host) (empty host) held read c sound refl (more_quotes host (host.quote ∷ []) held c same opens, quotes, short) tt)
     (λ other room.
     moved_sound limit outer done openers (opened host) held read c sound host literal (body_move host literal false between c) refl refl
     (between_moves limit outer depth host literal false between held c (no_parts limit outer depth host held (c ∷ []) (short_opens host held short opens) quotes) (λ same. absurd (both_ways _ other same))) room) room
 step_sound limit outer done openers (empty host) held read c sound room =
     let depth = length openers + levels_open outer in
-    let P : FieldMove → Type 0 = λ v. HasRoom limit depth c v → FieldSoundIf limit (field_moved (field_state outer done openers (empty host) held) c v) (read ++ c ∷ []) in
-    let opens = sound.mode.0 in
-    let quotes = sound.mode.1 in
-    let short = sound.mode.2 in
-    cond_both (c == host.quote) _ _ P
+    let (opens, quotes, short) = sound.mode in
+    cond_both (c == host.quote) _ _ (IsSoundBy limit (field_state outer done openers (empty host) held) read c)
     (λ same room.
     let three = more_quotes host (host.quote ∷ host.quote ∷ []) held c same opens in
     let long : OpensHost (long_host host) (quotes_of (long_host host)) (held ++ c ∷ []) = record { prefix = three.prefix; spell = three.spell; begun = three.begun; raw = three.raw } in

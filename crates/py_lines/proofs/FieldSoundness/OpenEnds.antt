@@ -1,6 +1,6 @@
 -- What is open where a text ends, by the mode in which the machine with fields stands.
 use Rattle.std.proofs.Common.{◌≡◌, ℕ, ◌+◌, Bool, true, false, List, [], ◌∷◌, ◌++◌, length, refl, sym, ap, ◌∙◌, subst, inl, inr, ◌⊎◌, append_assoc, append-nil, arith}
-use Rattle.std.proofs.lemmas.Bool.{both_ways, and_right, eqb-true}
+use Rattle.std.proofs.lemmas.Bool.{both_ways, and_right}
 use Rattle.py_lines.specs.Character.{is_backslash, is_brace}
 use Rattle.py_lines.specs.Piece.{string, Piece, spelled}
 use Rattle.py_lines.specs.Balance as balance
@@ -17,11 +17,13 @@ use Rattle.py_lines.proofs.Machine.OpenStrings.{short_held, long_held, slash_hel
 use Rattle.py_lines.proofs.Fields.Prefixes.{plain_quotes}
 use Rattle.py_lines.proofs.FieldSoundness.PlainPieces.{other_prefix}
 use Rattle.py_lines.proofs.FieldSoundness.OpenLists.{balanced_at}
-use Rattle.py_lines.proofs.FieldSoundness.Holds.{Limit, HoldsParts, HoldsAt, HoldsList, HoldsLevels, IsFieldSound}
-use Rattle.py_lines.proofs.FieldSoundness.Bodies.{parts-push, named-push, return-not-brace, letter-not-brace, names_letter, one_quote, two_quotes}
+use Rattle.py_lines.proofs.Text.CharacterTests.{return-not-brace}
+use Rattle.py_lines.proofs.Fields.Parts.{name-not-brace}
+use Rattle.py_lines.proofs.FieldSoundness.Holds.{Limit, PartsAt, HoldsParts, HoldsAt, HoldsList, HoldsLevels, IsFieldSound}
+use Rattle.py_lines.proofs.FieldSoundness.Bodies.{parts-push, named-push, one_quote, two_quotes}
 use Rattle.py_lines.proofs.FieldSoundness.HostSteps.{no_parts, short_opens}
 use Rattle.py_lines.proofs.FieldSoundness.ListEnds.{code_at_end, list_ends}
-use Rattle.py_lines.proofs.FieldSoundness.OpenTexts.{begun_before, are_begun, begins_in, PartsAt, parts_at, stands_open, list_begins}
+use Rattle.py_lines.proofs.FieldSoundness.OpenTexts.{begun_before, are_begun, begins_in, parts_at, stands_open, list_begins}
 
 pub stands_map : (A B : List ℕ → Type 0) (characters start : List ℕ) → ((front : List ℕ) → A front → B front) → StandsIn A characters start → StandsIn B characters start
 stands_map A B characters start f at = record {
@@ -60,7 +62,7 @@ escape_open limit outer depth host place named text s c slashes brace may h = re
     spell = ap (λ t. t ++ s ∷ c ∷ []) h.spell ∙ append_assoc h.begin _ (s ∷ c ∷ []) ∙ ap (λ t. h.begin ++ t) (sym (joined-push h.parts (s ∷ c ∷ [])));
     opens_with = h.opens_with;
     quotes = h.quotes;
-    each = parts-push (limit.FieldsAt depth) host place false h.parts (s ∷ c ∷ []) [] (h.fit (c ∷ [])) (escape s c refl slashes brace may (and_right _ _ refl) (and_right _ _ refl));
+    fit = parts-push (limit.FieldsAt depth) host place false h.parts (s ∷ c ∷ []) [] (h.fit (c ∷ [])) (escape s c refl slashes brace may (and_right _ _ refl) (and_right _ _ refl));
     named_is = named-push false h.parts (s ∷ c ∷ []) ∙ h.named_is;
     open_yet = triple-other host.quote h.parts (s ∷ c ∷ []) [] refl h.open_yet refl;
   };
@@ -82,8 +84,7 @@ at_open limit outer depth host place named after_slash held other (text, s, is, 
 at_open limit outer depth host place named after_return held other (text, s, r, is, slashes, returns, may, h) =
     subst (OpenUpTo limit outer depth host place named) (sym is) (escape_open limit outer depth host place named text s r slashes (return-not-brace r returns) may h)
 at_open limit outer depth host place named after_name held other (text, s, n, is, slashes, is_name, may, h) =
-    let letter : is_brace n ≡ false = ap is_brace (eqb-true n 78 (names_letter host n is_name)) ∙ letter-not-brace in
-    subst (OpenUpTo limit outer depth host place named) (sym is) (escape_open limit outer depth host place named text s n slashes letter may h)
+    subst (OpenUpTo limit outer depth host place named) (sym is) (escape_open limit outer depth host place named text s n slashes (name-not-brace host n is_name) may h)
 at_open limit outer depth host place named after_brace held other h = absurd (other refl)
 
 -- a string with fields that is open up to a spot
@@ -165,13 +166,13 @@ short_class (modes.EscapeReturn q) is = refl
 short_class (modes.FieldOpened h) is = refl
 short_class m is = absurd (both_ways _ refl is)
 
-long_class : (m : Mode) → in_long m ≡ true → class_of m ≡ string
-long_class (modes.Long q) is = refl
-long_class (modes.LongOne q) is = refl
-long_class (modes.LongTwo q) is = refl
-long_class (modes.LongEscape q) is = refl
-long_class modes.Fielded is = refl
-long_class m is = absurd (both_ways _ refl is)
+pub long_mode : (m : Mode) → in_long m ≡ true → (class_of m ≡ string) × (in_short m ≡ false)
+long_mode (modes.Long q) is = (refl, refl)
+long_mode (modes.LongOne q) is = (refl, refl)
+long_mode (modes.LongTwo q) is = (refl, refl)
+long_mode (modes.LongEscape q) is = (refl, refl)
+long_mode modes.Fielded is = (refl, refl)
+long_mode m is = absurd (both_ways _ refl is)
 
 plain_short : (held : List ℕ) → BeginsPlain held → IsShortPrefix held → IsPlainShortPrefix held
 plain_short held is short = (short, other_prefix held short.prefix _ short.quote is short.spell (plain_quotes short.prefix short.begun) short.opens)
@@ -185,7 +186,7 @@ short_is_open limit outer done openers m held read sound is =
 
 pub long_is_open : (limit : Limit) (outer : List Level) (done : List Piece) (openers : List ℕ) (m : Mode) (held read : List ℕ) → IsFieldSound limit (field_state outer done openers (plain m) held) read → in_long m ≡ true → InOpenLong read (before literal outer ++ spelled done)
 long_is_open limit outer done openers m held read sound is =
-    piece_open limit outer done openers (plain m) held read sound (λ front. IsPlainLongPrefix front ⊎ IsOpenLiteral true front) refl (inl (plain_long held (sound.mode.1 (long_class m is)) (long_held m [] held sound.mode.0 is)))
+    piece_open limit outer done openers (plain m) held read sound (λ front. IsPlainLongPrefix front ⊎ IsOpenLiteral true front) refl (inl (plain_long held (sound.mode.1 (long_mode m is).0) (long_held m [] held sound.mode.0 is)))
 
 pub slash_is_open : (limit : Limit) (outer : List Level) (done : List Piece) (openers : List ℕ) (m : Mode) (held read : List ℕ) → IsFieldSound limit (field_state outer done openers (plain m) held) read → is_after_backslash m ≡ true → AfterOpenBackslash read (before literal outer ++ spelled done)
 slash_is_open limit outer done openers m held read sound is = piece_open limit outer done openers (plain m) held read sound IsSlash refl (slash_held m [] held sound.mode.0 is)

@@ -1,20 +1,19 @@
 -- What is open where the machine with fields stands: lists of pieces that are begun, and strings, one in another.
-use Rattle.std.proofs.Common.{◌≡◌, ℕ, ◌+◌, ◌<◌, Bool, true, false, List, [], ◌∷◌, ◌++◌, length, refl, sym, ap, ◌∙◌, subst, append_assoc, append-nil, arith}
+use Rattle.std.proofs.Common.{◌≡◌, ℕ, ◌+◌, ◌<◌, Bool, false, List, [], ◌∷◌, ◌++◌, length, refl, sym, ap, ◌∙◌, subst, append_assoc, append-nil, arith}
 use Rattle.std.specs.Str.{byte}
 use Rattle.std.proofs.lemmas.Bool.{eq-eqb}
-use Rattle.py_lines.specs.Character.{is_quote}
 use Rattle.py_lines.specs.Piece.{operator, Piece, begins_marked, spelled}
-use Rattle.py_lines.specs.PieceGrammar.{joined, has_triple, AreReadIn}
+use Rattle.py_lines.specs.PieceGrammar.{joined, AreReadIn}
 use Rattle.py_lines.specs.Balance.{closing_of, IsBalanced, depth_through}
 use Rattle.py_lines.specs.Fields.{HasNoColon, Fields, fielded}
 use Rattle.py_lines.specs.OpenFields.{Spot, literal_after, specification_after, IsOpenString, in_literal, in_specification, AreBegun, BeginsList, at_start, in_field}
-use Rattle.py_lines.specs.FieldStrings.{Host, Place, literal, specification, begins_open, named_through, AreParts}
+use Rattle.py_lines.specs.FieldStrings.{Host, Place, literal, specification, begins_open, AreParts}
 use Rattle.py_lines.specs.Private.FieldMachine.{before, Level, levels_open}
 use Rattle.py_lines.proofs.Pieces.PieceLists.{piece}
 use Rattle.py_lines.proofs.Machine.LiveTexts.{closing_of-closing}
 use Rattle.py_lines.proofs.Fields.Nesting.{parts_map}
 use Rattle.py_lines.proofs.FieldSoundness.OpenLists.{Opens, opens-closes, opens-depth, balanced_at}
-use Rattle.py_lines.proofs.FieldSoundness.Holds.{Limit, OpensPlace, HoldsParts, HoldsList, HoldsLevel, HoldsLevels}
+use Rattle.py_lines.proofs.FieldSoundness.Holds.{Limit, refit, PartsAt, HoldsParts, HoldsList, HoldsLevel, HoldsLevels}
 use Rattle.py_lines.proofs.FieldSoundness.Code.{single_at}
 
 -- brackets that are open can be closed
@@ -67,27 +66,8 @@ begins_in l ls text rest front single inner =
     (omega (arith, inner.depth_is))
 
 -- whole parts of a string before this rest
-pub record PartsAt (limit : Limit) (outer : List Level) (depth : ℕ) (host : Host) (place : Place) (named : Bool) (text rest : List ℕ) : Type 0 where
-  pub begin : List ℕ
-  pub parts : List (List ℕ)
-  pub spell : text ≡ begin ++ joined parts
-  pub opens_with : OpensPlace limit outer host place begin
-  pub quotes : is_quote host.quote ≡ true
-  pub each : AreParts (limit.FieldsAt depth) host place false parts rest
-  pub named_is : named_through false parts ≡ named
-  pub open_yet : has_triple host.quote parts ≡ false
-
 pub parts_at : (limit : Limit) (outer : List Level) (depth : ℕ) (host : Host) (place : Place) (named : Bool) (text next more : List ℕ) → HoldsParts limit outer depth host place named text next → PartsAt limit outer depth host place named text (next ++ more)
-parts_at limit outer depth host place named text next more h = record {
-  begin = h.begin;
-  parts = h.parts;
-  spell = h.spell;
-  opens_with = h.opens_with;
-  quotes = h.quotes;
-  each = h.fit more;
-  named_is = h.named_is;
-  open_yet = h.open_yet;
-}
+parts_at limit outer depth host place named text next more h = refit limit outer host place named text _ _ (λ parts fit. fit more) h
 
 -- the same, as fields without a limit are in them
 any_parts : (limit : Limit) (depth : ℕ) (host : Host) (place : Place) (parts : List (List ℕ)) (rest : List ℕ) → AreParts (limit.FieldsAt depth) host place false parts rest → AreParts Fields host place false parts rest
@@ -105,7 +85,7 @@ literal_open limit outer done openers host named text rest held more same list h
   begun = subst (AreBegun (levels_open outer) done) (sym same) (are_begun limit outer literal done openers held more list);
   string = in_literal (literal_after h.parts) text rest h.opens_with.prefix h.parts refl
       (h.spell ∙ ap (λ t. t ++ joined h.parts) h.opens_with.spell ∙ append_assoc h.opens_with.prefix _ (joined h.parts)) h.opens_with.begun h.opens_with.raw h.quotes
-      (any_parts limit (length openers + levels_open outer) host literal h.parts rest h.each) h.open_yet;
+      (any_parts limit (length openers + levels_open outer) host literal h.parts rest h.fit) h.open_yet;
   place_is = refl;
   named_is = h.named_is;
   depth_is =
@@ -140,7 +120,7 @@ specification_open limit l ls done openers host named text rest own no_done no_o
       string = in_specification spot inner.spot text rest own.text opens.inside h.parts refl front
           (subst (λ (x : Host). IsOpenString x inner.spot own.text (123 ∷ (code ++ (58 ∷ (joined h.parts ++ rest))))) opens.same_host string)
           (record { unnamed = inner.named_is; single = λ at. opens.single (sym inner.place_is ∙ at) [] }) opens.are_inside
-          (any_parts limit (length openers + levels_open (l ∷ ls)) host specification h.parts rest h.each) h.open_yet;
+          (any_parts limit (length openers + levels_open (l ∷ ls)) host specification h.parts rest h.fit) h.open_yet;
       place_is = refl;
       named_is = h.named_is;
       depth_is =

@@ -1,13 +1,13 @@
 -- The parts of a string with fields are told by its characters, from left to right.
 use Rattle.std.proofs.Common.{◌≡◌, ◌==◌, ℕ, Bool, true, false, not, ◌&&◌, Option, None, Some, List, [], ◌∷◌, ◌++◌, refl, sym, ap, ◌∙◌, subst, append_assoc}
 use Rattle.std.specs.Prelude.{if◌then◌else◌}
-use Rattle.std.proofs.lemmas.Bool.{or_parts, both_ways, eqb-true, not-true}
+use Rattle.std.proofs.lemmas.Bool.{and_parts, or_parts, both_ways, eqb-true, not-true}
 use Rattle.std.proofs.lemmas.List.{append_cancel_left}
 use Rattle.py_lines.specs.Character.{is_line_feed, is_return, is_backslash, is_brace}
 use Rattle.py_lines.specs.Piece.{begins}
 use Rattle.py_lines.specs.PieceGrammar.{joined}
 use Rattle.py_lines.specs.FieldStrings.{Host, Place, literal, specification, is_ordinary, may_stand, names, begins_open, begins_double, IsPart, bare, slash, escape, escaped_end, name, double, field, named_after, named_through, AreParts}
-use Rattle.py_lines.proofs.Text.CharacterTests.{return_is}
+use Rattle.py_lines.proofs.Text.CharacterTests.{return_is, return-not-brace}
 use Rattle.py_lines.proofs.Fields.Elsewhere.{none_false}
 use Rattle.py_lines.proofs.Fields.Prefixes.{Compared, same, longer, shorter, compared_more}
 
@@ -50,14 +50,6 @@ open-not-slash : is_backslash 123 ≡ false
 unfolding is_backslash
 open-not-slash = refl
 
-return-not-brace : is_brace 13 ≡ false
-unfolding is_brace
-return-not-brace = refl
-
-letter-not-brace : is_brace 78 ≡ false
-unfolding is_brace
-letter-not-brace = refl
-
 escaped_one : (host : Host) (c : ℕ) (rest : List ℕ) → is_brace c ≡ false → names host c && begins_open rest ≡ false → is_return c && begins is_line_feed rest ≡ false → escaped host (c ∷ rest) ≡ c ∷ []
 escaped_one host c rest brace named ended = rw (brace, named) (go (is_return c) rest ended)
   where
@@ -66,12 +58,19 @@ escaped_one host c rest brace named ended = rw (brace, named) (go (is_return c) 
     go true [] h = refl
     go true (d ∷ ds) h = rw h
 
+pub names_letter : (host : Host) (c : ℕ) → names host c ≡ true → c == 78 ≡ true
+names_letter host c h = (and_parts (c == 78) (not host.is_raw) h).0
+
 pub names_is : (host : Host) (c : ℕ) → names host c ≡ true → c ≡ 78
-names_is host c h = eqb-true c 78 (go (c == 78) (not host.is_raw) h)
-  where
-    go : (a b : Bool) → a && b ≡ true → a ≡ true
-    go true b k = refl
-    go false b k = absurd (both_ways _ refl k)
+names_is host c h = eqb-true c 78 (names_letter host c h)
+
+pub name-not-brace : (host : Host) (c : ℕ) → names host c ≡ true → is_brace c ≡ false
+unfolding is_brace
+name-not-brace host c h = subst (λ x. is_brace x ≡ false) (sym (names_is host c h)) refl
+
+pub name-not-return : (host : Host) (c : ℕ) → names host c ≡ true → is_return c ≡ false
+unfolding is_return
+name-not-return host c h = subst (λ x. is_return x ≡ false) (sym (names_is host c h)) refl
 
 first : (F : Host → List ℕ → Type 0) → BeginOpen F → (host : Host) (place : Place) (named : Bool) (part rest : List ℕ) → IsPart F host place named part rest → IsFirst F host place named part rest
 first F begin host place named part rest (bare c is not_slash stands itself) =
@@ -86,10 +85,10 @@ first F begin host place named part rest (escape s c is slashes brace may none e
     subst (λ t. IsFirst F host place named t rest) (sym is) (plain (rw slashes (ap (λ t. Some (s ∷ t)) (escaped_one host c rest brace none ended))))
 first F begin host place named part rest (escaped_end s r f is slashes returns feeds may) =
     let at : r ≡ 13 = return_is r returns in
-    subst (λ t. IsFirst F host place named t rest) (sym is) (plain (rw slashes (rw (subst (λ x. is_brace x ≡ false) (sym at) return-not-brace, subst (λ x. names host x && begins_open (f ∷ rest) ≡ false) (sym at) refl, returns, feeds))))
+    subst (λ t. IsFirst F host place named t rest) (sym is) (plain (rw slashes (rw (return-not-brace r returns, subst (λ x. names host x && begins_open (f ∷ rest) ≡ false) (sym at) refl, returns, feeds))))
 first F begin host place named part rest (name s c b is slashes is_name braces) =
     let braced : begins_open (b ∷ rest) ≡ true = ap (λ x. x == 123) braces in
-    subst (λ t. IsFirst F host place named t rest) (sym is) (plain (rw (slashes, subst (λ x. is_brace x ≡ false) (sym (names_is host c is_name)) letter-not-brace, is_name, braced) (ap (λ x. Some (s ∷ c ∷ x ∷ [])) (sym braces))))
+    subst (λ t. IsFirst F host place named t rest) (sym is) (plain (rw (slashes, name-not-brace host c is_name, is_name, braced) (ap (λ x. Some (s ∷ c ∷ x ∷ [])) (sym braces))))
 first F begin host place named part rest (double b c is one two at bare_braces) =
     let P : List ℕ → Type 0 = λ t. IsFirst F host place named t rest in
     let Q : ℕ → ℕ → Place → Bool → Type 0 = λ x y p n. first_part host p n (x ∷ y ∷ rest) ≡ Some (x ∷ y ∷ []) in

@@ -4,9 +4,9 @@ use Rattle.py_lines.specs.Piece.{Class, Piece}
 use Rattle.py_lines.specs.PieceGrammar.{InPlainClass, MayPrecedePlain}
 use Rattle.py_lines.specs.declared.mode.Move.{Move}
 use Rattle.py_lines.specs.declared.mode.Move.TheVariants as moves
-use Rattle.py_lines.specs.Private.Machine.{Scanned, text_start, started, moved, steps_from, move_of, start_of}
+use Rattle.py_lines.specs.Private.Machine.{Scanned, text_start, started, moved, move_from, steps_from, move_of, start_of}
 use Rattle.py_lines.proofs.Pieces.PieceLists.{piece}
-use Rattle.py_lines.proofs.Machine.PieceSteps.{pieces_at, StopsBefore, steps_from-append}
+use Rattle.py_lines.proofs.Machine.PieceSteps.{pieces_at, StopsBefore, steps_by-append}
 use Rattle.py_lines.proofs.Machine.ReadingSteps.{reach}
 use Rattle.py_lines.proofs.Machine.FinishedPieces.{GrowsIf, closed_grows, started_grows, run_grows}
 
@@ -54,7 +54,7 @@ longer p q s t r u c x one two is rest =
     let done = pieces_at state in
     let runs : steps_from (started done c (start_of c)) x ≡ Some end =
     sym (ap (λ (v : Move). steps_from (moved state c v) x) (one.3 c (x ++ u) rest))
-    ∙ sym (ap (λ o. steps_from o (c ∷ x)) one.1) ∙ sym (steps_from-append (Some text_start) s (c ∷ x))
+    ∙ sym (ap (λ o. steps_from o (c ∷ x)) one.1) ∙ sym (steps_by-append move_from (Some text_start) s (c ∷ x))
     ∙ ap (steps_from (Some text_start)) (sym is) ∙ two.1 in
     let grown : GrowsIf done (Some end) = subst (GrowsIf done) runs (run_grows x (started done c (start_of c)) done (started_grows done done [] c (start_of c) (sym (append-nil done)))) in
     let whole = closed_grows end.mode end.done end.held in

@@ -7,7 +7,7 @@ use Rattle.py_lines.specs.Lexed.{IsLexed, IsLexedBy, IsLexedWhole}
 use Rattle.py_lines.specs.WithoutFields.{IsPlainReading, IsPlainLexed}
 use Rattle.py_lines.specs.FieldStrings.{may_have_fields}
 use Rattle.py_lines.proofs.Text.Decoding.{decoded}
-use Rattle.py_lines.proofs.Fields.Elsewhere.{balanced_with, balanced_without}
+use Rattle.py_lines.proofs.Fields.Elsewhere.{reads_with, reads_without, balanced_with, balanced_without}
 use Rattle.py_lines.proofs.Fields.OneReading.{one_fielded_reading}
 
 pub one_fielded_lexing : (text : List ℕ) (lines others : List LogicalLine) → IsLexedWhole text lines → IsLexedWhole text others → lines ≡ others
@@ -33,3 +33,6 @@ lexed_with text characters lines decodes h is = read_by IsPlainReading IsBalance
 
 pub lexed_without : (text characters : List ℕ) (lines : List LogicalLine) → Decodes text characters [] → may_have_fields characters ≡ false → IsLexed text lines None → IsPlainLexed text lines
 lexed_without text characters lines decodes h is = read_by IsBalancedReading IsPlainReading text characters lines decodes (λ pieces reading. balanced_without pieces characters h reading) is
+
+-- texts without strings with fields, both ways
+pub ruleset elsewhere_laws = (reads_with, reads_without, balanced_with, balanced_without, lexed_with, lexed_without)

@@ -1,16 +1,17 @@
 -- Strings with fields: rows worked out by hand, on the definitions.
 use Rattle.std.proofs.Common.{◌≡◌, ◌==◌, ℕ, zero, suc, Bool, true, false, not, List, [], ◌∷◌, ◌++◌, refl, sym, ap, ◌∙◌, inl, inr, subst, append_assoc, append-nil}
 use Rattle.std.specs.Prelude.{codes}
+use Rattle.std.specs.List.{list_any}
 use Rattle.std.proofs.lemmas.Bool.{both_ways}
 use Rattle.std.proofs.lemmas.List.{append_cancel_left}
 use Rattle.unicode_ident.proofs.Computing.{unicode_ident}
 use Rattle.py_lines.specs.Character.{is_space, is_word_character, is_word_start, is_digit, is_quote, is_operator, is_line_feed, is_return, is_break, is_hash, is_backslash, is_barred, is_brace, is_r, is_b, is_f, is_t, is_u}
 use Rattle.py_lines.specs.Piece.{Class, space, word, string, operator, comment, line_end, Piece, spelled}
-use Rattle.py_lines.specs.PieceGrammar.{feed, joined, InClassIn, ReadsIn}
+use Rattle.py_lines.specs.PieceGrammar.{feed, joined, has_triple, InClassIn, ReadsIn}
 use Rattle.py_lines.specs.Balance.{is_opening, is_closing, IsBalanced}
 use Rattle.py_lines.specs.Fields.{AreInside, IsField, simple, specified, AnyPieces, FieldsWithin, Fields, fielded}
 use Rattle.py_lines.specs.Balance as balance
-use Rattle.py_lines.specs.FieldStrings.{Host, literal, specification, quotes_of, IsPart, bare, slash, escape, escaped_end, name, double, field, AreParts, IsFieldString, with_fields}
+use Rattle.py_lines.specs.FieldStrings.{is_field_prefix, Host, literal, specification, quotes_of, IsPart, bare, slash, escape, escaped_end, name, double, field, AreParts, IsFieldString, with_fields}
 use Rattle.py_lines.proofs.Text.CharacterTests.{not_quote}
 use Rattle.py_lines.proofs.Fields.Elsewhere.{none_false}
 use Rattle.py_lines.proofs.Fields.OneReading.{one_fielded_reading, same_inside, no_colon, fields_begin, fields_agree, brace, colon}
@@ -44,6 +45,10 @@ long = record { quote = 34; is_long = true; is_raw = false }
 abbrev raw : Host
 raw = record { quote = 34; is_long = false; is_raw = true }
 
+-- a string with fields, by its prefix, its quotes and its parts
+string_with : {F : Host → List ℕ → Type 0} (prefix : List ℕ) (host : Host) (parts : List (List ℕ)) → is_field_prefix prefix ≡ true → host.is_raw ≡ list_any is_r prefix → is_quote host.quote ≡ true → has_triple host.quote (parts ++ (host.quote ∷ []) ∷ (host.quote ∷ []) ∷ []) ≡ false → AreParts F host literal false parts (quotes_of host) → IsFieldString F (prefix ++ (quotes_of host ++ (joined parts ++ quotes_of host)))
+string_with prefix host parts begun raw_prefix opens first each = record { prefix = prefix; host = host; parts = parts; spell = refl; begun = begun; raw = raw_prefix; opens = opens; each = each; first = first }
+
 -- `{x}`
 one_word : (n : ℕ) (host : Host) (c : ℕ) → is_word_start c ≡ true → FieldsWithin (suc n) host (123 ∷ c ∷ 125 ∷ [])
 unfolding tested
@@ -54,65 +59,30 @@ one_word n host c starts = simple (piece word (c ∷ []) ∷ []) refl (record {
   colon = (refl, tt);
 }) tt
 
+-- `x` before a specification
+x_inside : (F : Host → List ℕ → Type 0) → AreInside (with_fields F) (piece word (codes "x") ∷ []) (codes ":")
+unfolding tested
+x_inside F = record { fit = ((120, [], refl, refl, refl), (refl, refl), refl, tt); unmarked = refl; balanced = balance.one _ (piece word (codes "x")) refl refl; colon = (refl, tt) }
+
 -- f"{}"
 empty_field : IsFieldString Fields (codes "f\"{}\"")
 unfolding tested
-empty_field = record {
-  prefix = codes "f";
-  host = short;
-  parts = codes "{}" ∷ [];
-  spell = refl;
-  begun = refl;
-  raw = refl;
-  opens = refl;
-  each = (field (suc zero, simple [] refl (record { fit = tt; unmarked = refl; balanced = balance.none _ refl; colon = tt }) tt) (λ h. refl) refl, tt);
-  first = refl;
-}
+empty_field = string_with (codes "f") short (codes "{}" ∷ []) refl refl refl refl (field (suc zero, simple [] refl (record { fit = tt; unmarked = refl; balanced = balance.none _ refl; colon = tt }) tt) (λ h. refl) refl, tt)
 
 -- f"}"
 closing_brace : IsFieldString Fields (codes "f\"}\"")
 unfolding tested
-closing_brace = record {
-  prefix = codes "f";
-  host = short;
-  parts = codes "}" ∷ [];
-  spell = refl;
-  begun = refl;
-  raw = refl;
-  opens = refl;
-  each = (bare 125 refl refl refl refl, tt);
-  first = refl;
-}
+closing_brace = string_with (codes "f") short (codes "}" ∷ []) refl refl refl refl (bare 125 refl refl refl refl, tt)
 
 -- f"{{"
 two_braces : IsFieldString Fields (codes "f\"{{\"")
 unfolding tested
-two_braces = record {
-  prefix = codes "f";
-  host = short;
-  parts = codes "{{" ∷ [];
-  spell = refl;
-  begun = refl;
-  raw = refl;
-  opens = refl;
-  each = (double 123 123 refl refl refl refl refl, tt);
-  first = refl;
-}
+two_braces = string_with (codes "f") short (codes "{{" ∷ []) refl refl refl refl (double 123 123 refl refl refl refl refl, tt)
 
 -- f"{{{x}}}" : the third brace opens a field
 three_braces : IsFieldString Fields (codes "f\"{{{x}}}\"")
 unfolding tested
-three_braces = record {
-  prefix = codes "f";
-  host = short;
-  parts = codes "{{" ∷ codes "{x}" ∷ codes "}" ∷ codes "}" ∷ [];
-  spell = refl;
-  begun = refl;
-  raw = refl;
-  opens = refl;
-  each = (double 123 123 refl refl refl refl refl, (field (suc zero, one_word zero short 120 refl) (λ h. refl) refl, (bare 125 refl refl refl refl, (bare 125 refl refl refl refl, tt))));
-  first = refl;
-}
+three_braces = string_with (codes "f") short (codes "{{" ∷ codes "{x}" ∷ codes "}" ∷ codes "}" ∷ []) refl refl refl refl (double 123 123 refl refl refl refl refl, (field (suc zero, one_word zero short 120 refl) (λ h. refl) refl, (bare 125 refl refl refl refl, (bare 125 refl refl refl refl, tt))))
 
 -- "import", in a field
 import_string : (F : Host → List ℕ → Type 0) → InClassIn (with_fields F) string (codes "\"import\"")
@@ -129,73 +99,48 @@ unfolding tested
 quotes_inside =
     let inner : List Piece = piece string (codes "\"import\"") ∷ [] in
     let inside : List Piece = piece word (codes "d") ∷ piece operator (codes "[") ∷ piece string (codes "\"import\"") ∷ piece operator (codes "]") ∷ [] in
-    record {
-      prefix = codes "f";
-      host = short;
-      parts = codes "{d[\"import\"]}" ∷ [];
-      spell = refl;
-      begun = refl;
-      raw = refl;
-      opens = refl;
-      each = (
-        field (
-          suc zero,
-          simple inside refl (record {
-            fit = (
-              (100, [], refl, refl, refl),
-              (refl, refl),
+    string_with (codes "f") short (codes "{d[\"import\"]}" ∷ []) refl refl refl refl (
+      field (
+        suc zero,
+        simple inside refl (record {
+          fit = (
+            (100, [], refl, refl, refl),
+            (refl, refl),
+            refl,
+            (
+              (91, refl, refl),
+              tt,
               refl,
               (
-                (91, refl, refl),
-                tt,
+                import_string (FieldsWithin zero),
+                λ prefix q is begun quotes. not_before_bracket q quotes,
                 refl,
-                (
-                  import_string (FieldsWithin zero),
-                  λ prefix q is begun quotes. not_before_bracket q quotes,
-                  refl,
-                  ((93, refl, refl), tt, refl, tt),
-                ),
+                ((93, refl, refl), tt, refl, tt),
               ),
-            );
-            unmarked = refl;
-            balanced = balance.both inside (piece word (codes "d") ∷ []) _ refl (balance.one _ (piece word (codes "d")) refl refl)
-                (balance.pair _ inner (piece operator (codes "[")) (piece operator (codes "]")) refl (record { opens = refl; closes = refl; kind = refl })
-                (balance.one inner (piece string (codes "\"import\"")) refl refl));
-            colon = (refl, (refl, (refl, (refl, tt))));
-          }) tt,
-        ) (λ h. refl) refl,
-        tt,
-      );
-      first = refl;
-    }
+            ),
+          );
+          unmarked = refl;
+          balanced = balance.both inside (piece word (codes "d") ∷ []) _ refl (balance.one _ (piece word (codes "d")) refl refl)
+              (balance.pair _ inner (piece operator (codes "[")) (piece operator (codes "]")) refl (record { opens = refl; closes = refl; kind = refl })
+              (balance.one inner (piece string (codes "\"import\"")) refl refl));
+          colon = (refl, (refl, (refl, (refl, tt))));
+        }) tt,
+      ) (λ h. refl) refl,
+      tt,
+    )
 
 -- t'{x:{w}}' : a field in a specification
 field_in_specification : IsFieldString Fields (codes "t'{x:{w}}'")
 unfolding tested
-field_in_specification = record {
-  prefix = codes "t";
-  host = single;
-  parts = codes "{x:{w}}" ∷ [];
-  spell = refl;
-  begun = refl;
-  raw = refl;
-  opens = refl;
-  each = (
-    field (
-      suc (suc zero),
-      specified (piece word (codes "x") ∷ []) (codes "{w}" ∷ []) refl
-          (record {
-            fit = ((120, [], refl, refl, refl), (refl, refl), refl, tt);
-            unmarked = refl;
-            balanced = balance.one _ (piece word (codes "x")) refl refl;
-            colon = (refl, tt);
-          }) tt
-          (record { each = (field (one_word zero single 119 refl) (λ h. refl) refl, tt); ended = refl; open_yet = refl }),
-    ) (λ h. refl) refl,
-    tt,
-  );
-  first = refl;
-}
+field_in_specification = string_with (codes "t") single (codes "{x:{w}}" ∷ []) refl refl refl refl (
+  field (
+    suc (suc zero),
+    specified (piece word (codes "x") ∷ []) (codes "{w}" ∷ []) refl
+        (x_inside _) tt
+        (record { each = (field (one_word zero single 119 refl) (λ h. refl) refl, tt); ended = refl; open_yet = refl }),
+  ) (λ h. refl) refl,
+  tt,
+)
 
 -- f"{x!r:>{w}}"
 conversion_and_width : IsFieldString Fields (codes "f\"{x!r:>{w}}\"")
@@ -204,95 +149,45 @@ conversion_and_width =
     let x = piece word (codes "x") in
     let mark = piece operator (codes "!") in
     let r = piece word (codes "r") in
-    record {
-      prefix = codes "f";
-      host = short;
-      parts = codes "{x!r:>{w}}" ∷ [];
-      spell = refl;
-      begun = refl;
-      raw = refl;
-      opens = refl;
-      each = (
-        field (
-          suc (suc zero),
-          specified (x ∷ mark ∷ r ∷ []) (codes ">" ∷ codes "{w}" ∷ []) refl
-              (record {
-                fit = ((120, [], refl, refl, refl), (refl, refl), refl, ((33, refl, refl), tt, refl, ((114, [], refl, refl, refl), (refl, refl), refl, tt)));
-                unmarked = refl;
-                balanced = balance.both _ (x ∷ []) (mark ∷ r ∷ []) refl (balance.one _ x refl refl)
-                    (balance.both _ (mark ∷ []) (r ∷ []) refl (balance.one _ mark refl refl) (balance.one _ r refl refl));
-                colon = (refl, (refl, (refl, tt)));
-              }) tt
-              (record {
-                each = (bare 62 refl refl refl refl, (field (one_word zero short 119 refl) (λ h. refl) refl, tt));
-                ended = refl;
-                open_yet = refl;
-              }),
-        ) (λ h. refl) refl,
-        tt,
-      );
-      first = refl;
-    }
+    string_with (codes "f") short (codes "{x!r:>{w}}" ∷ []) refl refl refl refl (
+      field (
+        suc (suc zero),
+        specified (x ∷ mark ∷ r ∷ []) (codes ">" ∷ codes "{w}" ∷ []) refl
+            (record {
+              fit = ((120, [], refl, refl, refl), (refl, refl), refl, ((33, refl, refl), tt, refl, ((114, [], refl, refl, refl), (refl, refl), refl, tt)));
+              unmarked = refl;
+              balanced = balance.both _ (x ∷ []) (mark ∷ r ∷ []) refl (balance.one _ x refl refl)
+                  (balance.both _ (mark ∷ []) (r ∷ []) refl (balance.one _ mark refl refl) (balance.one _ r refl refl));
+              colon = (refl, (refl, (refl, tt)));
+            }) tt
+            (record {
+              each = (bare 62 refl refl refl refl, (field (one_word zero short 119 refl) (λ h. refl) refl, tt));
+              ended = refl;
+              open_yet = refl;
+            }),
+      ) (λ h. refl) refl,
+      tt,
+    )
 
 -- f"\N{DASH}" : a name, and no field
 name_alone : IsFieldString Fields (codes "f\"\\N{DASH}\"")
 unfolding tested
-name_alone = record {
-  prefix = codes "f";
-  host = short;
-  parts = codes "\\N{" ∷ ones (codes "DASH}");
-  spell = refl;
-  begun = refl;
-  raw = refl;
-  opens = refl;
-  each = (name 92 78 123 refl refl refl refl, (bare 68 refl refl refl refl, (bare 65 refl refl refl refl, (bare 83 refl refl refl refl, (bare 72 refl refl refl refl, (bare 125 refl refl refl refl, tt))))));
-  first = refl;
-}
+name_alone = string_with (codes "f") short (codes "\\N{" ∷ ones (codes "DASH}")) refl refl refl refl (name 92 78 123 refl refl refl refl, (bare 68 refl refl refl refl, (bare 65 refl refl refl refl, (bare 83 refl refl refl refl, (bare 72 refl refl refl refl, (bare 125 refl refl refl refl, tt))))))
 
 -- f"\N{{ {x}" : no field opens before the next `}`
 name_and_braces : IsFieldString Fields (codes "f\"\\N{{ {x}\"")
 unfolding tested
-name_and_braces = record {
-  prefix = codes "f";
-  host = short;
-  parts = codes "\\N{" ∷ ones (codes "{ {x}");
-  spell = refl;
-  begun = refl;
-  raw = refl;
-  opens = refl;
-  each = (name 92 78 123 refl refl refl refl, (bare 123 refl refl refl refl, (bare 32 refl refl refl refl, (bare 123 refl refl refl refl, (bare 120 refl refl refl refl, (bare 125 refl refl refl refl, tt))))));
-  first = refl;
-}
+name_and_braces = string_with (codes "f") short (codes "\\N{" ∷ ones (codes "{ {x}")) refl refl refl refl (name 92 78 123 refl refl refl refl, (bare 123 refl refl refl refl, (bare 32 refl refl refl refl, (bare 123 refl refl refl refl, (bare 120 refl refl refl refl, (bare 125 refl refl refl refl, tt))))))
 
 -- rf"\N{a}" : with `r` there are no names, and a field
 field_after_backslash : IsFieldString Fields (codes "rf\"\\N{a}\"")
 unfolding tested
-field_after_backslash = record {
-  prefix = codes "rf";
-  host = raw;
-  parts = codes "\\N" ∷ codes "{a}" ∷ [];
-  spell = refl;
-  begun = refl;
-  raw = refl;
-  opens = refl;
-  each = (escape 92 78 refl refl refl refl refl refl, (field (suc zero, one_word zero raw 97 refl) (λ h. refl) refl, tt));
-  first = refl;
-}
+field_after_backslash = string_with (codes "rf") raw (codes "\\N" ∷ codes "{a}" ∷ []) refl refl refl refl (escape 92 78 refl refl refl refl refl refl, (field (suc zero, one_word zero raw 97 refl) (λ h. refl) refl, tt))
 
 -- f"\{a}" : the backslash stands for itself before a brace
 backslash_before_field : IsFieldString Fields (codes "f\"\\{a}\"")
 unfolding tested
-backslash_before_field = record {
-  prefix = codes "f";
-  host = short;
-  parts = codes "\\" ∷ codes "{a}" ∷ [];
-  spell = refl;
-  begun = refl;
-  raw = refl;
-  opens = refl;
-  each = (slash 92 refl refl refl, (field (suc zero, one_word zero short 97 refl) (λ h. refl) refl, tt));
-  first = refl;
-}
+backslash_before_field = string_with (codes "f") short (codes "\\" ∷ codes "{a}" ∷ []) refl refl refl refl (slash 92 refl refl refl, (field (suc zero, one_word zero short 97 refl) (λ h. refl) refl, tt))
 
 -- f'{\n1}' : a line end in a field of a short string
 line_end_inside : IsFieldString Fields (codes "f'{\n1}'")
@@ -300,71 +195,36 @@ unfolding tested
 line_end_inside =
     let end = piece line_end (codes "\n") in
     let one = piece word (codes "1") in
-    record {
-      prefix = codes "f";
-      host = single;
-      parts = codes "{\n1}" ∷ [];
-      spell = refl;
-      begun = refl;
-      raw = refl;
-      opens = refl;
-      each = (
-        field (
-          suc zero,
-          simple (end ∷ one ∷ []) refl (record {
-            fit = (feed refl, refl, refl, ((49, [], refl, refl, refl), (refl, refl), refl, tt));
-            unmarked = refl;
-            balanced = balance.both _ (end ∷ []) (one ∷ []) refl (balance.one _ end refl refl) (balance.one _ one refl refl);
-            colon = (refl, (refl, tt));
-          }) tt,
-        ) (λ h. refl) refl,
-        tt,
-      );
-      first = refl;
-    }
+    string_with (codes "f") single (codes "{\n1}" ∷ []) refl refl refl refl (
+      field (
+        suc zero,
+        simple (end ∷ one ∷ []) refl (record {
+          fit = (feed refl, refl, refl, ((49, [], refl, refl, refl), (refl, refl), refl, tt));
+          unmarked = refl;
+          balanced = balance.both _ (end ∷ []) (one ∷ []) refl (balance.one _ end refl refl) (balance.one _ one refl refl);
+          colon = (refl, (refl, tt));
+        }) tt,
+      ) (λ h. refl) refl,
+      tt,
+    )
 
 -- 'f"a\\\nb"' : a line end after a backslash in a literal part
 escaped_line_end : IsFieldString Fields (codes "f\"a\\\nb\"")
 unfolding tested
-escaped_line_end = record {
-  prefix = codes "f";
-  host = short;
-  parts = codes "a" ∷ codes "\\\n" ∷ codes "b" ∷ [];
-  spell = refl;
-  begun = refl;
-  raw = refl;
-  opens = refl;
-  each = (bare 97 refl refl refl refl, (escape 92 10 refl refl refl refl refl refl, (bare 98 refl refl refl refl, tt)));
-  first = refl;
-}
+escaped_line_end = string_with (codes "f") short (codes "a" ∷ codes "\\\n" ∷ codes "b" ∷ []) refl refl refl refl (bare 97 refl refl refl refl, (escape 92 10 refl refl refl refl refl refl, (bare 98 refl refl refl refl, tt)))
 
 -- f"""{x:""}""" : two quotes in a specification, and then the three that close the string
 quotes_in_specification : IsFieldString Fields (codes "f\"\"\"{x:\"\"}\"\"\"")
 unfolding tested
-quotes_in_specification = record {
-  prefix = codes "f";
-  host = long;
-  parts = codes "{x:\"\"}" ∷ [];
-  spell = refl;
-  begun = refl;
-  raw = refl;
-  opens = refl;
-  each = (
-    field (
-      suc zero,
-      specified (piece word (codes "x") ∷ []) (ones (codes "\"\"")) refl
-          (record {
-            fit = ((120, [], refl, refl, refl), (refl, refl), refl, tt);
-            unmarked = refl;
-            balanced = balance.one _ (piece word (codes "x")) refl refl;
-            colon = (refl, tt);
-          }) tt
-          (record { each = (bare 34 refl refl refl refl, (bare 34 refl refl refl refl, tt)); ended = refl; open_yet = refl }),
-    ) (λ h. refl) refl,
-    tt,
-  );
-  first = refl;
-}
+quotes_in_specification = string_with (codes "f") long (codes "{x:\"\"}" ∷ []) refl refl refl refl (
+  field (
+    suc zero,
+    specified (piece word (codes "x") ∷ []) (ones (codes "\"\"")) refl
+        (x_inside _) tt
+        (record { each = (bare 34 refl refl refl refl, (bare 34 refl refl refl refl, tt)); ended = refl; open_yet = refl }),
+  ) (λ h. refl) refl,
+  tt,
+)
 
 -- a string alone is a reading of its characters
 alone : (text : List ℕ) → InClassIn fielded string text → ReadsIn fielded (piece string text ∷ []) text
@@ -374,17 +234,7 @@ alone text is = record { spell = append-nil text; fit = (is, λ prefix q spell b
 two_strings : ReadsIn fielded (piece string (codes "f\"{{\"") ∷ piece space (codes " ") ∷ piece string (codes "f\"}}\"") ∷ []) (codes "f\"{{\" f\"}}\"")
 unfolding tested
 two_strings =
-    let second : IsFieldString Fields (codes "f\"}}\"") = record {
-      prefix = codes "f";
-      host = short;
-      parts = codes "}" ∷ codes "}" ∷ [];
-      spell = refl;
-      begun = refl;
-      raw = refl;
-      opens = refl;
-      each = (bare 125 refl refl refl refl, (bare 125 refl refl refl refl, tt));
-      first = refl;
-    } in
+    let second : IsFieldString Fields (codes "f\"}}\"") = string_with (codes "f") short (codes "}" ∷ codes "}" ∷ []) refl refl refl refl (bare 125 refl refl refl refl, (bare 125 refl refl refl refl, tt)) in
     record { spell = refl; fit = (inr two_braces, λ prefix q spell begun quotes. not_quote 32 q quotes refl, refl, ((32, [], refl, refl), refl, refl, (inr second, λ prefix q spell begun quotes. refl, refl, tt))) }
 
 -- and not one
@@ -398,28 +248,18 @@ empty_string_inside : IsFieldString Fields (codes "f\"{\"\"}\"")
 unfolding tested
 empty_string_inside =
     let inner = piece string (codes "\"\"") in
-    record {
-      prefix = codes "f";
-      host = short;
-      parts = codes "{\"\"}" ∷ [];
-      spell = refl;
-      begun = refl;
-      raw = refl;
-      opens = refl;
-      each = (
-        field (
-          suc zero,
-          simple (inner ∷ []) refl (record {
-            fit = (inl (inl (record { prefix = []; quote = 34; items = []; spell = refl; begun = inl refl; opens = refl; each = refl }, refl)), λ prefix q spell begun quotes. not_quote 125 q quotes refl, refl, tt);
-            unmarked = refl;
-            balanced = balance.one _ inner refl refl;
-            colon = (refl, tt);
-          }) tt,
-        ) (λ h. refl) refl,
-        tt,
-      );
-      first = refl;
-    }
+    string_with (codes "f") short (codes "{\"\"}" ∷ []) refl refl refl refl (
+      field (
+        suc zero,
+        simple (inner ∷ []) refl (record {
+          fit = (inl (inl (record { prefix = []; quote = 34; items = []; spell = refl; begun = inl refl; opens = refl; each = refl }, refl)), λ prefix q spell begun quotes. not_quote 125 q quotes refl, refl, tt);
+          unmarked = refl;
+          balanced = balance.one _ inner refl refl;
+          colon = (refl, tt);
+        }) tt,
+      ) (λ h. refl) refl,
+      tt,
+    )
 
 not_empty : (x y : List ℕ) (c : ℕ) → [] ≡ x ++ c ∷ y → ⊥
 not_empty [] y c h = cc
@@ -455,30 +295,20 @@ comment_inside =
     let gap = piece space (codes " ") in
     let remark = piece comment (codes "# }\"") in
     let end = piece line_end (codes "\n") in
-    record {
-      prefix = codes "f";
-      host = short;
-      parts = codes "{a # }\"\n}" ∷ [];
-      spell = refl;
-      begun = refl;
-      raw = refl;
-      opens = refl;
-      each = (
-        field (
-          suc zero,
-          simple (a ∷ gap ∷ remark ∷ end ∷ []) refl (record {
-            fit = ((97, [], refl, refl, refl), (refl, refl), refl, ((32, [], refl, refl), refl, refl, ((35, codes " }\"", refl, refl, refl), inr refl, refl, (feed refl, refl, refl, tt))));
-            unmarked = refl;
-            balanced = balance.both _ (a ∷ []) (gap ∷ remark ∷ end ∷ []) refl (balance.one _ a refl refl)
-                (balance.both _ (gap ∷ []) (remark ∷ end ∷ []) refl (balance.one _ gap refl refl)
-                (balance.both _ (remark ∷ []) (end ∷ []) refl (balance.one _ remark refl refl) (balance.one _ end refl refl)));
-            colon = (refl, (refl, (refl, (refl, tt))));
-          }) tt,
-        ) (λ h. refl) refl,
-        tt,
-      );
-      first = refl;
-    }
+    string_with (codes "f") short (codes "{a # }\"\n}" ∷ []) refl refl refl refl (
+      field (
+        suc zero,
+        simple (a ∷ gap ∷ remark ∷ end ∷ []) refl (record {
+          fit = ((97, [], refl, refl, refl), (refl, refl), refl, ((32, [], refl, refl), refl, refl, ((35, codes " }\"", refl, refl, refl), inr refl, refl, (feed refl, refl, refl, tt))));
+          unmarked = refl;
+          balanced = balance.both _ (a ∷ []) (gap ∷ remark ∷ end ∷ []) refl (balance.one _ a refl refl)
+              (balance.both _ (gap ∷ []) (remark ∷ end ∷ []) refl (balance.one _ gap refl refl)
+              (balance.both _ (remark ∷ []) (end ∷ []) refl (balance.one _ remark refl refl) (balance.one _ end refl refl)));
+          colon = (refl, (refl, (refl, (refl, tt))));
+        }) tt,
+      ) (λ h. refl) refl,
+      tt,
+    )
 
 -- f"{a # }" : so this is no string, since the text that goes on by a line end and `}"#"` would have two readings
 no_string_with_comment : ¬ (InClassIn fielded string (codes "f\"{a # }\""))

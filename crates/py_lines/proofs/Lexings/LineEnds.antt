@@ -10,10 +10,10 @@ use Rattle.py_lines.specs.Private.Scan.{EndsNoLine}
 use Rattle.py_lines.specs.declared.mode.Mode.{Mode}
 use Rattle.py_lines.specs.declared.mode.Mode.TheVariants as modes
 use Rattle.py_lines.specs.Private.Machine.{class_of, closed, Bracket, brackets_of}
-use Rattle.py_lines.specs.Private.ScanMachine.{HoldsOpen, StringsFit}
+use Rattle.py_lines.specs.Private.ScanMachine.{HoldsOpen, StringFits, StringsFit}
 use Rattle.py_lines.proofs.Pieces.PieceLists.{piece, spelled-append, spelled-push}
 use Rattle.py_lines.proofs.Pieces.OpenBrackets.{stands, stack_before, depth_through-append}
-use Rattle.py_lines.proofs.Pieces.ShallowPieces.{StringsFit-append}
+use Rattle.py_lines.proofs.Pieces.OpenBrackets.{EachAtDepth-append}
 use Rattle.py_lines.proofs.Lexings.SettledFits.{line_text, read_on}
 
 -- a line end has a first character
@@ -79,7 +79,7 @@ prefix_stack prefix others st steps ended =
 
 -- a line end opens nothing
 pub line_string : (body : List Piece) (last : Piece) → last.class ≡ line_end → StringsFit 0 body → StringsFit 0 (body ++ last ∷ [])
-line_string body last class strings = StringsFit-append 0 body (last ∷ []) strings ((λ is. absurd (other (sym class ∙ is))), tt)
+line_string body last class strings = EachAtDepth-append StringFits 0 body (last ∷ []) strings ((λ is. absurd (other (sym class ∙ is))), tt)
   where
     other : line_end ≡ string → ⊥
     other is = cc

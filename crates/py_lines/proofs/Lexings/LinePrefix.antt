@@ -16,15 +16,15 @@ use Rattle.py_lines.specs.declared.mode.Mode.TheVariants as modes
 use Rattle.py_lines.specs.declared.mode.Move.{Move}
 use Rattle.py_lines.specs.declared.mode.Start.{Start}
 use Rattle.py_lines.specs.Private.Machine.{Scanned, fresh, text_start, class_of, closed, started, moved, move_of, start_of, Bracket, brackets_of}
-use Rattle.py_lines.specs.Private.ScanMachine.{meet_of, scan_steps, IsScanSound, StringsFit}
+use Rattle.py_lines.specs.Private.ScanMachine.{meet_of, scan_steps, IsScanSound, StringFits, StringsFit}
 use Rattle.py_lines.proofs.Text.Splits.{Either, either}
 use Rattle.py_lines.proofs.Text.CharacterTests.{return_is}
 use Rattle.py_lines.proofs.Pieces.PieceLists.{piece, spelled-append, AreReadBefore-push, AreReadBefore-first, follows_any}
 use Rattle.py_lines.proofs.Machine.PieceSteps.{scanned, pieces_at}
 use Rattle.py_lines.proofs.Machine.FinishedPieces.{GrowsIf, closed_grows, started_grows}
 use Rattle.py_lines.proofs.Machine.LiveTexts.{stack_closed}
-use Rattle.py_lines.proofs.Pieces.OpenBrackets.{stack-from_balanced, depth_through-append}
-use Rattle.py_lines.proofs.Pieces.ShallowPieces.{brackets_shallow, strings_shallow, fits_reading, StringsFit-parts}
+use Rattle.py_lines.proofs.Pieces.OpenBrackets.{stack-from_balanced, depth_through-append, EachAtDepth-parts}
+use Rattle.py_lines.proofs.Pieces.ShallowPieces.{brackets_shallow, strings_shallow, fits_reading}
 use Rattle.py_lines.proofs.FieldSoundness.LiveTexts.{live_before}
 use Rattle.py_lines.proofs.ScanMachine.Advance.{RunsTo, run_grows, run_before}
 pub use Rattle.py_lines.proofs.ScanMachine.LiveTexts.{same_state}
@@ -146,11 +146,11 @@ strings_body done others body p last is strings = go (split done (p ∷ []) body
   where
     go : Split done (p ∷ []) body last others → StringsFit 0 body
     go (Split.in_second k one two) = subst (StringsFit 0) (sym (one ∙ ap (λ l. done ++ l) (last_one k others p last two) ∙ append-nil done)) strings
-    go (Split.in_first k one two) = (StringsFit-parts 0 body (last ∷ k) (subst (StringsFit 0) one strings)).0
+    go (Split.in_first k one two) = (EachAtDepth-parts StringFits 0 body (last ∷ k) (subst (StringsFit 0) one strings)).0
 
 strings_at : (m : Mode) (done : List Piece) (held : List ℕ) (others body : List Piece) (last : Piece) → closed m done held ≡ (body ++ last ∷ []) ++ others → StringsFit 0 done → StringsFit 0 body
-strings_at modes.Start done held others body last is strings = (StringsFit-parts 0 body (last ∷ others) (subst (StringsFit 0) (is ∙ append_assoc body (last ∷ []) others) strings)).0
-strings_at modes.Free done held others body last is strings = (StringsFit-parts 0 body (last ∷ others) (subst (StringsFit 0) (is ∙ append_assoc body (last ∷ []) others) strings)).0
+strings_at modes.Start done held others body last is strings = (EachAtDepth-parts StringFits 0 body (last ∷ others) (subst (StringsFit 0) (is ∙ append_assoc body (last ∷ []) others) strings)).0
+strings_at modes.Free done held others body last is strings = (EachAtDepth-parts StringFits 0 body (last ∷ others) (subst (StringsFit 0) (is ∙ append_assoc body (last ∷ []) others) strings)).0
 strings_at m done held others body last is strings = strings_body done others body (piece (class_of m) held) last is strings
 
 pub prefix_strings : (s : Scanned) (read : List ℕ) (prefix others : List Piece) → IsScanSound s read → pieces_at s ≡ prefix ++ others → EndsLine prefix → StringsFit 0 prefix

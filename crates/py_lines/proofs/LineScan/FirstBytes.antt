@@ -1,20 +1,18 @@
 -- What the kind of a byte tells of the piece that it begins.
-use Rattle.std.proofs.Common.{◌≡◌, ℕ, ◌⊎◌, inl, inr, Bool, true, false, ◌||◌, Some, List, [], ◌∷◌, ◌<◌, length, drop, slice_get, slice_index, refl, sym, subst, ⊎_elim, arith}
-use Rattle.std.specs.Prelude.{codes}
-use Rattle.std.proofs.lemmas.Bool.Decides.{nat_tests}
+use Rattle.std.proofs.Common.{◌≡◌, ℕ, ◌⊎◌, Bool, true, false, ◌||◌, Some, List, [], ◌∷◌, ◌<◌, length, drop, slice_get, slice_index, refl, sym, subst, ⊎_elim, arith}
 use Rattle.std.proofs.lemmas.Bool.{and_from}
 use Rattle.py_lines.specs.Balance.{is_opening, is_closing}
-use Rattle.py_lines.specs.Character.{is_space, is_operator, is_line_feed, is_return, is_break, is_hash, is_backslash, is_quote}
+use Rattle.py_lines.specs.Character.{is_space, is_operator, is_line_feed, is_return, is_break, is_hash, is_backslash}
 use Rattle.py_lines.specs.declared.run.FirstByte.{FirstByte}
 use Rattle.py_lines.specs.declared.run.FirstByte.TheVariants as first
 use Rattle.py_lines.specs.declared.scan.Scan.{Scan}
 use Rattle.py_lines.specs.declared.token.TokKind.TheVariants as kind
 use Rattle.py_lines.specs.Private.Machine.{Bracket}
 use Rattle.py_lines.specs.Private.Scan.{stack_of}
-use Rattle.py_lines.specs.Private.Run.{BeginsSo, is_ascii_word, is_apart, may_stand, follows, follows_space, AddsToken, TakesOperator}
-use Rattle.py_lines.proofs.Text.CharacterTests.{feed_is, return_is, none_of}
+use Rattle.py_lines.specs.Private.Run.{BeginsSo, is_ascii_word, is_apart, may_stand, follows, AddsToken, TakesOperator}
+use Rattle.py_lines.proofs.Text.CharacterTests.{feed_is, return_is}
 use Rattle.py_lines.proofs.LineScan.BracketStack.{keeps_at, stands_anywhere}
-use Rattle.py_lines.proofs.LineScan.ShortPieces.{begins_with, follows_begin}
+use Rattle.py_lines.proofs.LineScan.ShortPieces.{begins_with}
 
 feed_breaks : (b : ℕ) → is_line_feed b ≡ true → is_break b ≡ true
 unfolding is_break
@@ -69,59 +67,6 @@ break_follows st b f so how =
   where
     breaks : is_break b ≡ true → follows st b ≡ true
     breaks h = apart_next st b (rw h refl)
-
--- what may follow one byte of space
-word-not-space : (c : ℕ) → is_ascii_word c ≡ true → is_space c ≡ false
-unfolding is_ascii_word is_space
-word-not-space c h = grind (arith, nat_tests)
-
-pub operator-not-space : (c : ℕ) → is_operator c ≡ true → is_space c ≡ false
-unfolding is_operator is_space
-operator-not-space c h = none_of is_space (codes "+-*/%@&|^~<>=!()[]{},:.;") c refl h
-
-quote-not-space : (c : ℕ) → is_quote c ≡ true → is_space c ≡ false
-unfolding is_quote is_space
-quote-not-space c h = none_of is_space (codes "'\"") c refl h
-
-break-not-space : (c : ℕ) → is_break c ≡ true → is_space c ≡ false
-unfolding is_break is_space
-break-not-space c h = none_of is_space (codes "\n\r") c refl h
-
-hash-not-space : (c : ℕ) → is_hash c ≡ true → is_space c ≡ false
-unfolding is_hash is_space
-hash-not-space c h = none_of is_space (35 ∷ []) c refl h
-
-backslash-not-space : (c : ℕ) → is_backslash c ≡ true → is_space c ≡ false
-unfolding is_backslash is_space
-backslash-not-space c h = none_of is_space (92 ∷ []) c refl h
-
-pub after_space : (st : List Bracket) (b : ℕ) (f : FirstByte) → BeginsSo f b → (f ≡ first.Word) ⊎ ((f ≡ first.Operator) ⊎ (f ≡ first.Quote)) → follows_space st b
-after_space st b f so how =
-    ⊎_elim
-    (λ is. (word-not-space b (subst (λ (k : FirstByte). BeginsSo k b) is so), follows_begin st b (always_follows st b f so (inl is))))
-    (λ other. ⊎_elim
-    (λ is. let stands : BeginsSo first.Operator b = subst (λ (k : FirstByte). BeginsSo k b) is so in (operator-not-space b stands.0, follows_begin st b (always_follows st b f so (inr (inr is)))))
-    (λ is. let quote : is_quote b ≡ true = subst (λ (k : FirstByte). BeginsSo k b) is so in (quote-not-space b quote, rw quote refl)) other) how
-
-pub break_after_space : (st : List Bracket) (b : ℕ) (f : FirstByte) → BeginsSo f b → (f ≡ first.LineFeed) ⊎ (f ≡ first.Return) → follows_space st b
-break_after_space st b f so how = (
-  break-not-space b (⊎_elim
-      (λ is. feed_breaks b (subst (λ (k : FirstByte). BeginsSo k b) is so))
-      (λ is. return_breaks b (subst (λ (k : FirstByte). BeginsSo k b) is so)) how),
-  follows_begin st b (break_follows st b f so how),
-)
-
-pub apart_after_space : (st : List Bracket) (b : ℕ) (f : FirstByte) → BeginsSo f b → (f ≡ first.Hash) ⊎ (f ≡ first.Backslash) → follows_space st b
-apart_after_space st b f so how = (
-  ⊎_elim
-      (λ is. hash-not-space b (subst (λ (k : FirstByte). BeginsSo k b) is so))
-      (λ is. backslash-not-space b (subst (λ (k : FirstByte). BeginsSo k b) is so)) how,
-  follows_begin st b (apart_follows st b f so how),
-)
-
-pub bracket_after_space : (st : List Bracket) (b : ℕ) → is_operator b ≡ true → may_stand st b ≡ true → follows_space st b
-bracket_after_space st b is stands =
-    (operator-not-space b is, follows_begin st b (or_more (is_ascii_word b) _ (or_more (is_space b) _ (or_more (is_apart b) _ (and_from (is_operator b) (may_stand st b) is stands)))))
 
 -- an operator that is no bracket leaves the brackets
 pub alone_taken : (old new : Scan) (bytes : List ℕ) (b : ℕ) → Some b ≡ slice_get bytes 0 → (is_operator b ≡ true) × (is_opening b ≡ false) × (is_closing b ≡ false) → AddsToken old (kind.Op b) 1 new → TakesOperator old bytes 1 new

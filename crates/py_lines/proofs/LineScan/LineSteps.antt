@@ -14,12 +14,11 @@ use Rattle.py_lines.specs.declared.scan.Progress.TheVariants as progress
 use Rattle.py_lines.specs.declared.scan.Scan.{Scan}
 use Rattle.py_lines.specs.declared.scan.Stop.TheVariants as stops
 use Rattle.py_lines.specs.Private.Machine.{Scanned, fresh}
-use Rattle.py_lines.specs.Private.ScanMachine.{IsScanSound, scan_step, scan_steps}
+use Rattle.py_lines.specs.Private.ScanMachine.{IsScanSound, scan_step, scan_steps, move_at}
 use Rattle.py_lines.specs.Private.Scan.{Tallies, IsStacked, Takes, Closes, line_start, stack_of, none_open, is_returned, is_return_mode, EndsNoLine, IsUnderWay, IsAtLineEnd, StopsIn}
 use Rattle.py_lines.proofs.Pieces.PieceLists.{piece, spelled-push, AreReadBefore-push, follows_any}
 use Rattle.py_lines.proofs.Text.CharacterTests.{return_is}
-use Rattle.py_lines.proofs.Machine.PieceSteps.{scanned}
-use Rattle.py_lines.proofs.ScanMachine.Steps.{scan_steps-append}
+use Rattle.py_lines.proofs.Machine.PieceSteps.{scanned, steps_by-append}
 use Rattle.py_lines.proofs.ScanMachine.Soundness.{SoundIf, run_sound}
 use Rattle.py_lines.proofs.LineScan.PieceEnd.{closes_shut}
 use Rattle.py_lines.proofs.LineScan.NextCharacter.{one_return, none_level, none_stack}
@@ -32,7 +31,7 @@ sound_steps m read s start steps = subst (λ o. SoundIf o read) steps (run_sound
 
 -- one character more
 pub steps_push : (from : Scanned) (read : List ℕ) (s : Scanned) (c : ℕ) → scan_steps (Some from) read ≡ Some s → scan_steps (Some from) (read ++ c ∷ []) ≡ scan_step s c
-steps_push from read s c steps = scan_steps-append (Some from) read (c ∷ []) ∙ ap (λ o. scan_steps o (c ∷ [])) steps ∙ whole (scan_step s c)
+steps_push from read s c steps = steps_by-append move_at (Some from) read (c ∷ []) ∙ ap (λ o. scan_steps o (c ∷ [])) steps ∙ whole (scan_step s c)
   where
     whole : (o : Option Scanned) → scan_steps o [] ≡ o
     whole None = refl

@@ -91,7 +91,7 @@ tallies_closed old new f s read c move sound tallies closes =
     shut_as (with_character (with_field_scan old f) c) new s.done s.mode (s.held ++ c ∷ []) (s.held ++ []) closes (sound.fit []) reads (token.1 (s.held ++ c ∷ [])) (start_done s.mode s.done s.held sound.holds) token.0
 
 -- the depth says whether a bracket is open
-depth_none : (ps : List Piece) (st : List Bracket) → brackets_of ps ≡ Some st → depth_through 0 ps == 0 ≡ none_open st
+pub depth_none : (ps : List Piece) (st : List Bracket) → brackets_of ps ≡ Some st → depth_through 0 ps == 0 ≡ none_open st
 depth_none ps st stacked = none_length st (depth_through 0 ps) (sym (stands ps st stacked).depth)
 
 pub none_level : (ps : List Piece) (st : List Bracket) → brackets_of ps ≡ Some st → none_open st ≡ true → depth_through 0 ps ≡ 0

@@ -1,5 +1,5 @@
 -- What the scan comes to after one more piece.
-use Rattle.std.proofs.Common.{◌≡◌, ℕ, ◌≤◌, Bool, true, false, not, ◌&&◌, Ok, List, [], ◌∷◌, ◌++◌, length, drop, refl, sym, ap, ◌∙◌, subst, arith, ⊎_elim, lit<}
+use Rattle.std.proofs.Common.{◌≡◌, ℕ, ◌≤◌, Bool, true, false, not, ◌&&◌, Ok, List, [], ◌∷◌, ◌++◌, length, drop, refl, sym, ap, ◌∙◌, subst, arith, ⊎_elim, inl, inr, lit<}
 use Rattle.std.specs.Prelude.{encode_utf8}
 use Rattle.std.proofs.lemmas.Bool.{and_right, both_ways}
 use Rattle.std.proofs.lemmas.Str.{encode_ascii, len_utf8_ascii}
@@ -13,15 +13,15 @@ use Rattle.py_lines.specs.declared.scan.Scan.{Scan}
 use Rattle.py_lines.specs.declared.scan.Stop.TheVariants as stops
 use Rattle.py_lines.specs.declared.whole_pieces.Taken.TheVariants as taken
 use Rattle.py_lines.specs.Private.Scan.{Begins, counts_after, is_returned}
-use Rattle.py_lines.specs.Private.Run.{BeginsWithFeed, Reached, TakesLineFeed, TakesPiece, is_free, is_ascii_word, follows, may_begin, space_mode, word_mode}
+use Rattle.py_lines.specs.Private.Run.{BeginsWithFeed, Reached, ReachedShut, TakesBytes, TakesLineFeed, TakesPiece, is_free, may_begin, space_mode}
 use Rattle.py_lines.proofs.Machine.Starts.{start-feed}
 use Rattle.py_lines.proofs.Text.CharacterTests.{feed_is, feed_from}
 use Rattle.py_lines.proofs.LineScan.CarriageReturns.{return_ends_line, return_far, return_goes}
 use Rattle.py_lines.proofs.LineScan.Comments.{comment_goes, comment_reached}
 use Rattle.py_lines.proofs.LineScan.LineStops.{ShutsTo, StopsNow, TakesTo, goes_character, stops_line}
-use Rattle.py_lines.proofs.LineScan.Runs.{space_low, word_byte_low}
-use Rattle.py_lines.proofs.LineScan.ShortPieces.{Goes, ascii_scalar, free_is, operator_goes, operator_reached, run_goes, shut_from, space_reached, string_goes, string_reached, word_reached}
-use Rattle.py_lines.proofs.LineScan.WholeStrings.{fields_goes, fields_reached}
+use Rattle.py_lines.proofs.LineScan.Runs.{space_low}
+use Rattle.py_lines.proofs.LineScan.ShortPieces.{Goes, ascii_scalar, free_is, run_goes, shut_from, space_reached}
+use Rattle.py_lines.proofs.LineScan.WholeStrings.{token_goes, token_reached}
 
 -- LF, as the bytes spell it
 feed_spell : (bytes : List ℕ) → BeginsWithFeed bytes → 10 ∷ drop 1 bytes ≡ bytes
@@ -48,26 +48,21 @@ module _ (first : Scan) (text : List ℕ) (old new : Scan) (bytes : List ℕ) (f
 
   -- after a piece
   pub piece_goes : (len : ℕ) → TakesPiece old bytes (Ok (taken.Bytes len)) new → ShutsTo first text new (drop len bytes)
-  piece_goes len takes m at whole start r =
-      let before = shuts m at whole start r in
-      let is : old.piece.mode ≡ modes.Free = free_is old.piece.mode free in
-      ⊎_elim
-      (λ word. word_reached m at whole old new bytes len is before start word)
-      (λ second. ⊎_elim
-      (λ space. space_reached m at whole old new bytes len is before start space)
-      (λ third. ⊎_elim
-      (λ stands. operator_reached m at whole old new bytes len is before start stands)
-      (λ fourth. ⊎_elim
-      (λ string. string_reached m at whole old new bytes len is before start string)
-      (λ fifth. ⊎_elim
-      (λ remark. comment_reached m at whole old new bytes len is before start remark)
-      (λ sixth. ⊎_elim
-      (λ line_end. ⊎_elim
-      (λ (feeds, feed). feed_goes len feeds feed m at whole start r)
-      (λ returns. return_goes first text old bytes free shuts new len returns m at whole start r) line_end)
-      (λ seventh. ⊎_elim
-      (λ fields. fields_reached m at whole old new bytes len is before start fields)
-      (λ (some, tokens). tokens.leads m at whole start before) seventh) sixth) fifth) fourth) third) second) takes
+  piece_goes len takes m at whole start r = go takes
+    where
+      before : ReachedShut m at whole old bytes
+      before = shuts m at whole start r
+
+      is : old.piece.mode ≡ modes.Free
+      is = free_is old.piece.mode free
+
+      go : TakesBytes old bytes len new → ReachedShut m at whole new (drop len bytes)
+      go (inl token) = token_reached m at whole old new bytes len is before start token
+      go (inr (inl space)) = space_reached m at whole old new bytes len is before start space
+      go (inr (inr (inl remark))) = comment_reached m at whole old new bytes len is before start remark
+      go (inr (inr (inr (inl (inl (feeds, feed)))))) = feed_goes len feeds feed m at whole start r
+      go (inr (inr (inr (inl (inr returns))))) = return_goes first text old bytes free shuts new len returns m at whole start r
+      go (inr (inr (inr (inr (some, tokens))))) = tokens.leads m at whole start before
 
   -- where nothing was taken
   pub none_goes : TakesPiece old bytes (Ok taken.Nothing) new → ShutsTo first text new bytes
@@ -98,19 +93,9 @@ feed_far old new bytes len feeds (one, begun) =
     }
 
 pub piece_far : (old new : Scan) (bytes : List ℕ) (len : ℕ) → TakesPiece old bytes (Ok (taken.Bytes len)) new → Goes old bytes len new
-piece_far old new bytes len takes =
-    ⊎_elim
-    (λ word. run_goes is_ascii_word follows word_mode old new bytes len word_byte_low word)
-    (λ second. ⊎_elim
-    (λ space. run_goes is_space may_begin space_mode old new bytes len space_low space)
-    (λ third. ⊎_elim
-    (λ stands. operator_goes old new bytes len stands)
-    (λ fourth. ⊎_elim
-    (λ string. string_goes old new bytes len string)
-    (λ fifth. ⊎_elim
-    (λ remark. comment_goes old new bytes len remark)
-    (λ sixth. ⊎_elim
-    (λ line_end. ⊎_elim (λ (feeds, feed). feed_far old new bytes len feeds feed) (λ returns. return_far old new bytes len returns) line_end)
-    (λ seventh. ⊎_elim
-    (λ fields. fields_goes old new bytes len fields)
-    (λ (some, tokens). record { stop = tokens.stop; some = some; within = tokens.within; lines = omega (arith, tokens.line) }) seventh) sixth) fifth) fourth) third) second) takes
+piece_far old new bytes len (inl token) = token_goes old new bytes len token
+piece_far old new bytes len (inr (inl space)) = run_goes is_space may_begin space_mode old new bytes len space_low space
+piece_far old new bytes len (inr (inr (inl remark))) = comment_goes old new bytes len remark
+piece_far old new bytes len (inr (inr (inr (inl (inl (feeds, feed)))))) = feed_far old new bytes len feeds feed
+piece_far old new bytes len (inr (inr (inr (inl (inr returns))))) = return_far old new bytes len returns
+piece_far old new bytes len (inr (inr (inr (inr (some, tokens))))) = record { stop = tokens.stop; some = some; within = tokens.within; lines = omega (arith, tokens.line) }

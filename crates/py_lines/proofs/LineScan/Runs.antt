@@ -17,7 +17,7 @@ use Rattle.py_lines.specs.declared.mode.Mode.TheVariants as modes
 use Rattle.py_lines.specs.declared.mode.Move.TheVariants as moves
 use Rattle.py_lines.specs.declared.scan.Scan.{Scan}
 use Rattle.py_lines.specs.Private.Machine.{Scanned, move_of, short_move, long_move, spelling_with, IsFull}
-use Rattle.py_lines.specs.Private.ScanMachine.{HoldsOpen, IsScanSound, fielded_move, meet_of, move_in, scan_steps, string_state}
+use Rattle.py_lines.specs.Private.ScanMachine.{HoldsOpen, IsScanSound, fielded_move, meet_of, move_in, scan_steps, string_state, move_at}
 use Rattle.py_lines.specs.Private.Scan.{Counts, FieldsFollow, Tallies, IsStacked, depth_of, IsUnderWay, line_start, stack_of, counts_after, Takes}
 use Rattle.py_lines.specs.Balance.{depth_through}
 use Rattle.py_lines.specs.Private.FieldMachine.{FieldScanned}
@@ -32,8 +32,7 @@ use Rattle.py_lines.proofs.LineScan.LineSteps.{sound_steps, under_way}
 use Rattle.py_lines.specs.declared.scan.Progress.TheVariants as progress
 use Rattle.py_lines.proofs.Text.Utf8Prefixes.{all_scalars-append, scalars_more, spell_more}
 use Rattle.py_lines.proofs.LogicalLines.Cuts.{byte_len-append}
-use Rattle.py_lines.proofs.Machine.PieceSteps.{scanned, longer, all_held}
-use Rattle.py_lines.proofs.ScanMachine.Steps.{scan_steps-append, grown}
+use Rattle.py_lines.proofs.Machine.PieceSteps.{scanned, longer, all_held, steps_by-append, grown_by, run_by}
 use Rattle.py_lines.proofs.Pieces.OpenBrackets.{stands}
 
 -- a byte of words continues a word
@@ -105,10 +104,7 @@ stays-no_break m c h = absurd (both_ways _ refl h)
 
 -- the machine holds them
 pub held_run : (done : List Piece) (m : Mode) (held run : List ℕ) → list_all (stays m) run ≡ true → scan_steps (Some (scanned done m held)) run ≡ Some (scanned done m (held ++ run))
-held_run done m held [] all = all_held done m held
-held_run done m held (c ∷ cs) all =
-    let parts = and_parts (stays m c) (list_all (stays m) cs) all in
-    grown done m m held c cs (stays-grows m (depth_through 0 done) held c parts.0) ∙ held_run done m (held ++ c ∷ []) cs parts.1 ∙ longer done m held c cs
+held_run done m held run all = run_by move_at done m (stays m) (λ h c passes. stays-grows m (depth_through 0 done) h c passes) held run all
 
 -- the bytes of characters stay where a quote is one byte, and then the characters do
 pub space_low : (c : ℕ) → is_space c ≡ true → c < 128
@@ -267,7 +263,7 @@ pub string_run : (done : List Piece) (held run : List ℕ) (t u : FieldScanned) 
 string_run done held [] t u is goes = (all_held done modes.Fielded held, ap string_state (append-nil held) ∙ is ∙ ap Some goes)
 string_run done held (c ∷ cs) t u is (low, none, move, next, step, others) =
     let later = string_run done (held ++ c ∷ []) cs next u (string_more held c t is ∙ step) others in (
-      grown done modes.Fielded modes.Fielded held c cs (ap (λ o. fielded_move (depth_through 0 done) o c) is ∙ move) ∙ later.0 ∙ longer done modes.Fielded held c cs,
+      grown_by move_at done modes.Fielded modes.Fielded held c cs (ap (λ o. fielded_move (depth_through 0 done) o c) is ∙ move) ∙ later.0 ∙ longer done modes.Fielded held c cs,
       ap string_state (sym (append_assoc held (c ∷ []) cs)) ∙ later.1,
     )
 
@@ -307,7 +303,7 @@ way_held m old new read text rest way start holds =
     let on = runs_on old s.done s.mode s.held read holds.run (sound_steps m read s start way.steps) way.tallies way.stacked stay in
     record {
       state = scanned s.done s.mode (s.held ++ holds.run);
-      steps = scan_steps-append (Some (line_start m)) read holds.run ∙ ap (λ o. scan_steps o holds.run) way.steps ∙ on.steps;
+      steps = steps_by-append move_at (Some (line_start m)) read holds.run ∙ ap (λ o. scan_steps o holds.run) way.steps ∙ on.steps;
       tallies = subst (λ (n : Scan). Tallies n (scanned s.done s.mode (s.held ++ holds.run))) (sym some.1) (record { counts = counts_run old s holds.run on.none some.0 way.tallies; fields = on.fields });
       stacked = way.stacked ∙ ap (λ (n : Scan). Some (stack_of n.brackets)) (sym some.1);
       one_line = way.one_line;

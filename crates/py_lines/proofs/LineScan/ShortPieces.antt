@@ -30,13 +30,13 @@ use Rattle.py_lines.specs.declared.mode.Start.TheVariants as starts
 use Rattle.py_lines.specs.declared.scan.Progress.TheVariants as progress
 use Rattle.py_lines.specs.declared.scan.Scan.{Scan}
 use Rattle.py_lines.specs.Private.Machine.{fresh, closed, moved, started, token_of, start_of, short_move, first_spelling, spelling_with, spelling_on, IsFull, Bracket, brackets_after, move_of}
-use Rattle.py_lines.specs.Private.ScanMachine.{IsScanSound, meet_of, move_in, scan_steps}
+use Rattle.py_lines.specs.Private.ScanMachine.{IsScanSound, meet_of, move_in, scan_steps, move_at}
 use Rattle.py_lines.specs.Balance.{depth_through}
 use Rattle.py_lines.specs.Private.Scan.{Closes, Meets, Begins, ClosesAndAdds, Tallies, line_start, stack_of, none_open, is_return_mode, indent_closed, with_brackets, tokens_with, kind_through, in_mode, counts_after, freed, closed_with, with_character}
 use Rattle.py_lines.specs.Private.Run.{IsRunOf, is_ascii_word, may_stand, follows, is_free, word_spelling, word_mode, space_mode, opened, with_bytes, AddsToken, TakesRun, TakesOperator, Reached, ReachedShut, is_apart, may_begin, is_text_byte, is_body_byte, IsWholePlainString, TakesString}
 use Rattle.py_lines.proofs.Text.CharacterTests.{operator_ascii, none_of, the_one}
-use Rattle.py_lines.proofs.Machine.PieceSteps.{scanned}
-use Rattle.py_lines.proofs.ScanMachine.Steps.{scan_steps-append, steps_word, steps_space, grown, breaks_in}
+use Rattle.py_lines.proofs.Machine.PieceSteps.{scanned, steps_by-append, grown_by, word_by}
+use Rattle.py_lines.proofs.ScanMachine.Steps.{grow-word, breaks_in}
 use Rattle.py_lines.proofs.Machine.Starts.{start-word, start-space, start-operator, start-quote}
 use Rattle.py_lines.proofs.Machine.WordTokens.{word_token}
 use Rattle.py_lines.proofs.Machine.LiveTexts.{stack_closed}
@@ -209,7 +209,7 @@ meets m at text scan c rest free r =
       unreturned = shut.unreturned;
     }) r.how
 
-list_all_more : (p q : ℕ → Bool) → ((d : ℕ) → p d ≡ true → q d ≡ true) → (ds : List ℕ) → list_all p ds ≡ true → list_all q ds ≡ true
+pub list_all_more : (p q : ℕ → Bool) → ((d : ℕ) → p d ≡ true → q d ≡ true) → (ds : List ℕ) → list_all p ds ≡ true → list_all q ds ≡ true
 list_all_more p q each [] all = refl
 list_all_more p q each (d ∷ ds) all =
     let parts = and_parts (p d) (list_all p ds) all in
@@ -229,7 +229,7 @@ opens_reached m at text scan c cs after first last meet start opens steps plain 
     let read_all : Tallies (with_bytes (settled scan) (length (c ∷ cs))) (scanned pieces modes.Free (c ∷ cs))
     = subst (λ (n : ℕ). Tallies (with_bytes (settled scan) n) (scanned pieces modes.Free (c ∷ cs))) size (record { counts = counts_run (settled scan) (fresh pieces) (c ∷ cs) all tt shut; fields = tt }) in
     let stepped : scan_steps (Some (line_start m)) (read ++ c ∷ cs) ≡ Some (scanned pieces last (c ∷ cs))
-    = scan_steps-append (Some (line_start m)) read (c ∷ cs) ∙ ap (λ o. scan_steps o (c ∷ cs)) way.steps
+    = steps_by-append move_at (Some (line_start m)) read (c ∷ cs) ∙ ap (λ o. scan_steps o (c ∷ cs)) way.steps
     ∙ ap (λ v. scan_steps (moved s c v) cs) (breaks_in s.mode (depth_through 0 s.done) s.held c breaks) ∙ ap (λ st. scan_steps (started pieces c st) cs) opens ∙ steps pieces in
     record {
       read = read ++ c ∷ cs;
@@ -286,13 +286,13 @@ from_first passes next mode_of m at text scan new bytes len free r reaches takes
 pub word_starts : (c : ℕ) → is_ascii_word c ≡ true → is_word_start c ≡ true
 word_starts c h = word_byte_starts c (word_byte_low c h) ∙ h
 
-word_whole : (c : ℕ) → is_ascii_word c ≡ true → not (is_break c) ≡ true
+pub word_whole : (c : ℕ) → is_ascii_word c ≡ true → not (is_break c) ≡ true
 word_whole c h = ap not (stays-no_break (modes.Word spellings.Name) c h)
 
 all_words : (cs : List ℕ) → list_all is_ascii_word cs ≡ true → list_all is_word_character cs ≡ true
 all_words = list_all_more is_ascii_word is_word_character (λ c h. word_byte_continues c (word_byte_low c h) ∙ h)
 
-operator-not-quote : (c : ℕ) → is_operator c ≡ true → is_quote c ≡ false
+pub operator-not-quote : (c : ℕ) → is_operator c ≡ true → is_quote c ≡ false
 unfolding is_operator is_quote
 operator-not-quote c h = none_of is_quote (codes "+-*/%@&|^~<>=!()[]{},:.;") c refl h
 
@@ -339,7 +339,7 @@ word_stops run d st other next =
     let no_quote : is_quote d ≡ false = follows_cases (is_quote d ≡ false) st d next (λ word. absurd (both_ways _ other word)) (space-not-quote d) (apart-not-quote d) (λ stands so. operator-not-quote d stands) in
     rw (no_word, no_quote) refl
 
-space_whole : (c : ℕ) → is_space c ≡ true → not (is_break c) ≡ true
+pub space_whole : (c : ℕ) → is_space c ≡ true → not (is_break c) ≡ true
 space_whole c h = ap not (stays-no_break modes.Space c h)
 
 space_stops : (run : List ℕ) (d : ℕ) (st : List Bracket) → is_space d ≡ false → may_begin st d ≡ true → meet_of (space_mode run) d ≡ moves.Breaks
@@ -350,15 +350,15 @@ space_stops run d st other next = rw other refl
 pub word_reached : (m : Mode) (at : ℕ) (text : List ℕ) (scan new : Scan) (bytes : List ℕ) (len : ℕ) → scan.piece.mode ≡ modes.Free → ReachedShut m at text scan bytes → IsScanSound (line_start m) [] → TakesRun is_ascii_word follows word_mode scan bytes len new → ReachedShut m at text new (drop len bytes)
 word_reached m at text scan new bytes len free r start =
     from_first is_ascii_word follows word_mode m at text scan new bytes len free r
-    (λ c cs after meet all ends how. run_reached is_ascii_word follows follows_begin word_mode word_byte_low word_whole (λ d. modes.Word (first_spelling d)) (λ d h. start-word d (word_starts d h)) (λ done d ds h. steps_word done (first_spelling d) (d ∷ []) ds (all_words ds h)) word_stops (λ run. refl) (λ run is. cc) m at text scan new c cs after meet start all ends how)
+    (λ c cs after meet all ends how. run_reached is_ascii_word follows follows_begin word_mode word_byte_low word_whole (λ d. modes.Word (first_spelling d)) (λ d h. start-word d (word_starts d h)) (λ done d ds h. word_by move_at done (λ s held. grow-word s) (first_spelling d) (d ∷ []) ds (all_words ds h)) word_stops (λ run. refl) (λ run is. cc) m at text scan new c cs after meet start all ends how)
 
 pub space_reached : (m : Mode) (at : ℕ) (text : List ℕ) (scan new : Scan) (bytes : List ℕ) (len : ℕ) → scan.piece.mode ≡ modes.Free → ReachedShut m at text scan bytes → IsScanSound (line_start m) [] → TakesRun is_space may_begin space_mode scan bytes len new → ReachedShut m at text new (drop len bytes)
 space_reached m at text scan new bytes len free r start =
     from_first is_space may_begin space_mode m at text scan new bytes len free r
-    (λ c cs after meet all ends how. run_reached is_space may_begin (λ st d h. h) space_mode space_low space_whole (λ d. modes.Space) (λ d h. start-space d h) (λ done d ds h. steps_space done (d ∷ []) ds h) space_stops (λ run. refl) (λ run is. cc) m at text scan new c cs after meet start all ends how)
+    (λ c cs after meet all ends how. run_reached is_space may_begin (λ st d h. h) space_mode space_low space_whole (λ d. modes.Space) (λ d h. start-space d h) (λ done d ds h. held_run done modes.Space (d ∷ []) ds h) space_stops (λ run. refl) (λ run is. cc) m at text scan new c cs after meet start all ends how)
 
 -- an operator after closed pieces
-operator-no_break : (c : ℕ) → is_operator c ≡ true → is_break c ≡ false
+pub operator-no_break : (c : ℕ) → is_operator c ≡ true → is_break c ≡ false
 unfolding is_operator is_break
 operator-no_break c h = none_of is_break (codes "+-*/%@&|^~<>=!()[]{},:.;") c refl h
 
@@ -409,13 +409,13 @@ pub quote-no_break : (c : ℕ) → is_quote c ≡ true → is_break c ≡ false
 unfolding is_quote is_break
 quote-no_break c h = none_of is_break (codes "'\"") c refl h
 
-text_body : (q c : ℕ) → is_text_byte q c ≡ true → is_body_byte q c ≡ true
+pub text_body : (q c : ℕ) → is_text_byte q c ≡ true → is_body_byte q c ≡ true
 text_body q c h = (and_parts (is_body_byte q c) (nat_lt c 128) h).0
 
 abbrev pub is_low : ℕ → Bool
 is_low c = nat_lt c 128
 
-text_low : (q c : ℕ) → is_text_byte q c ≡ true → nat_lt c 128 ≡ true
+pub text_low : (q c : ℕ) → is_text_byte q c ≡ true → nat_lt c 128 ≡ true
 text_low q c h = (and_parts (is_body_byte q c) (nat_lt c 128) h).1
 
 pub low_is : (c : ℕ) → nat_lt c 128 ≡ true → c < 128
@@ -428,15 +428,15 @@ opened_grows : (q c : ℕ) → is_body_byte q c ≡ true → meet_of (modes.Open
 unfolding meet_of move_of short_move
 opened_grows q c h = let parts = body_parts q c h in rw (parts.0, parts.1, parts.2) refl
 
-inside_closes : (q : ℕ) → meet_of (modes.Inside q) q ≡ moves.Closes
+pub inside_closes : (q : ℕ) → meet_of (modes.Inside q) q ≡ moves.Closes
 unfolding meet_of move_of
 inside_closes q = rw (eq-eqb q q refl) refl
 
-string_runs : (q : ℕ) (run : List ℕ) → IsFull run → list_all (is_text_byte q) run ≡ true → (done : List Piece) → scan_steps (Some (scanned done (modes.Opened q) (q ∷ []))) run ≡ Some (scanned done (modes.Inside q) (q ∷ run))
+pub string_runs : (q : ℕ) (run : List ℕ) → IsFull run → list_all (is_text_byte q) run ≡ true → (done : List Piece) → scan_steps (Some (scanned done (modes.Opened q) (q ∷ []))) run ≡ Some (scanned done (modes.Inside q) (q ∷ run))
 string_runs q [] full all done = absurd full
 string_runs q (d ∷ ds) full all done =
     let parts = and_parts (is_text_byte q d) (list_all (is_text_byte q) ds) all in
-    grown done (modes.Opened q) (modes.Inside q) (q ∷ []) d ds (opened_grows q d (text_body q d parts.0)) ∙ held_run done (modes.Inside q) (q ∷ d ∷ []) ds (list_all_more (is_text_byte q) (is_body_byte q) (text_body q) ds parts.1)
+    grown_by move_at done (modes.Opened q) (modes.Inside q) (q ∷ []) d ds (opened_grows q d (text_body q d parts.0)) ∙ held_run done (modes.Inside q) (q ∷ d ∷ []) ds (list_all_more (is_text_byte q) (is_body_byte q) (text_body q) ds parts.1)
 
 quote_reads : (old : Scan) (q n : ℕ) → is_quote q ≡ true → opened old (modes.Inside q) (n + 1) ≡ with_character (opened old (modes.Inside q) n) q
 quote_reads old q n quote =

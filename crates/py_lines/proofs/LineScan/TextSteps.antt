@@ -11,14 +11,14 @@ use Rattle.py_lines.specs.LogicalLine.{byte_len}
 use Rattle.py_lines.specs.declared.mode.Mode.{Mode}
 use Rattle.py_lines.specs.declared.mode.Mode.TheVariants as modes
 use Rattle.py_lines.specs.Private.Machine.{Scanned, fresh, text_start, class_of, closed, started, start_of, Bracket, brackets_of, in_short, is_after_backslash}
-use Rattle.py_lines.specs.Private.ScanMachine.{IsScanSound, StringsFit, scan_step, scan_steps}
+use Rattle.py_lines.specs.Private.ScanMachine.{IsScanSound, StringsFit, scan_step, scan_steps, move_at}
 use Rattle.py_lines.specs.declared.scan.Scan.{Scan}
 use Rattle.py_lines.specs.Private.Scan.{line_start, stack_of, stack_if, IsUnderWay}
 use Rattle.py_lines.specs.Private.LineState.{first_mode}
 use Rattle.py_lines.proofs.Pieces.PieceLists.{piece, MayFollow, AreReadBefore-second, spelled-append}
 use Rattle.py_lines.proofs.Machine.Starts.{start-mark}
-use Rattle.py_lines.proofs.Machine.PieceSteps.{pieces_at}
-use Rattle.py_lines.proofs.ScanMachine.Steps.{StopsBefore, scan_steps-append, stops-free}
+use Rattle.py_lines.proofs.Machine.PieceSteps.{pieces_at, steps_by-append}
+use Rattle.py_lines.proofs.ScanMachine.Steps.{StopsBefore, stops-free}
 use Rattle.py_lines.proofs.ScanMachine.Steps as runs_of
 use Rattle.py_lines.proofs.Machine.ReadingSteps.{MayBegin}
 use Rattle.py_lines.proofs.ScanMachine.Reaching.{reach}
@@ -125,7 +125,7 @@ module _ (n : ℕ) (base : List Piece) (after : List ℕ) (level : brackets_of b
       run (Base.bare none mode) = ap (λ l. scan_steps (Some text_start) (spelled l ++ c ∷ cs)) none ∙ ap (λ m. scan_steps (Some (line_start m)) (c ∷ cs)) (sym mode) ∙ goes.run ∙ ap (λ l. Some (after_pieces l s)) (sym none)
       run (Base.lined body last ends class any mode) =
           let reached = reach base [] (c ∷ cs ++ after) fit level strings in
-          scan_steps-append (Some text_start) (spelled base) (c ∷ cs) ∙ ap (λ o. scan_steps o (c ∷ cs)) reached.steps ∙ from_base base reached.to c cs (cs ++ after) (stands base [] level).depth reached.pieces_are (reached.stops (any (c ∷ cs ++ after)))
+          steps_by-append move_at (Some text_start) (spelled base) (c ∷ cs) ∙ ap (λ o. scan_steps o (c ∷ cs)) reached.steps ∙ from_base base reached.to c cs (cs ++ after) (stands base [] level).depth reached.pieces_are (reached.stops (any (c ∷ cs ++ after)))
           ∙ ap (λ m. after_if base (scan_steps (Some (line_start m)) (c ∷ cs))) (sym mode) ∙ ap (after_if base) goes.run
 
   joined_full : (c : ℕ) (cs : List ℕ) (s : Scanned) (st : List Bracket) → AreReadBefore base ((c ∷ cs) ++ after) → Base n base → GoesTo (line_start (first_mode n)) (c ∷ cs) s st → Joined base (c ∷ cs) s st after

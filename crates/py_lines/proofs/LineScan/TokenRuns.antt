@@ -19,8 +19,8 @@ use Rattle.py_lines.specs.Private.Scan.{Closes, Meets, depth_of, stack_of, with_
 use Rattle.py_lines.specs.declared.run.FirstByte.TheVariants as first
 use Rattle.std.proofs.lemmas.Bool.{both_ways}
 use Rattle.py_lines.proofs.LineScan.FirstBytes.{alone_taken}
-use Rattle.py_lines.proofs.LineScan.ShortPieces.{free_is, operator_reached, operator_taken, space_closes, space_reached, string_reached, takes_run, takes_word, text_size, word_reached}
-use Rattle.py_lines.proofs.LineScan.WholeStrings.{fields_reached, string_size}
+use Rattle.py_lines.proofs.LineScan.ShortPieces.{free_is, operator_taken, space_closes, space_reached, takes_run, takes_word, text_size}
+use Rattle.py_lines.proofs.LineScan.WholeStrings.{token_reached, string_size}
 use Rattle.py_lines.specs.Private.FieldText.{IsWholeStringWithFields}
 use Rattle.py_lines.specs.Private.Run.{BeginsSo, HasAdded, IsWholePlainString, HasTaken, IsRunOf, LeadsTo, IsSpaceAfter, IsWholeWord, IsNextToken, MeetsToken, TakesSpace, AddsToken, coded, coded_if, follows, follows_space, is_ascii_word, is_free, may_begin, opened, space_mode}
 
@@ -161,14 +161,7 @@ token_leads first scan met bytes rest n len place tokens k free is same next pus
     let adds : AddsToken (with_brackets old met.brackets) k len new =
     subst (λ (s : Scan). AddsToken (with_brackets old met.brackets) k len (coded (record s { tokens = tokens }) (n + len))) (sym same) (adds_coded b scan n len place met.brackets tokens k (not_some n) is items) in
     let before = leads m at whole start r in
-    let is_free_there = free_coded b scan n free in
-    ⊎_elim
-    (λ word. word_reached m at whole old new rest len is_free_there before start word)
-    (λ others. ⊎_elim
-    (λ stands. operator_reached m at whole old new rest len is_free_there before start stands)
-    (λ strings. ⊎_elim
-    (λ string. string_reached m at whole old new rest len is_free_there before start string)
-    (λ fields. fields_reached m at whole old new rest len is_free_there before start fields) strings) others)
+    token_reached m at whole old new rest len (free_coded b scan n free) before start
     (next old new (brackets_coded b scan n) (stop_coded b scan n (not_some n) ∙ sym is) adds)
 
 -- after the space that may follow it

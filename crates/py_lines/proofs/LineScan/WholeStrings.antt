@@ -1,5 +1,5 @@
 -- A string with fields whose text is simple is taken whole.
-use Rattle.std.proofs.Common.{◌≡◌, ℕ, ◌+◌, ◌<◌, ◌≤◌, Bool, true, false, not, ◌||◌, ◌==◌, Some, List, [], ◌∷◌, ◌++◌, length, drop, refl, sym, ap, ◌∙◌, subst, append_assoc, arith, ⊎_elim, length-append}
+use Rattle.std.proofs.Common.{◌≡◌, ℕ, ◌+◌, ◌<◌, ◌≤◌, Bool, true, false, not, ◌||◌, ◌==◌, Some, List, [], ◌∷◌, ◌++◌, length, drop, refl, sym, ap, ◌∙◌, subst, append_assoc, arith, ⊎_elim, length-append, inl, inr}
 use Rattle.std.specs.Prelude.{encode_utf8_all, codes}
 use Rattle.std.specs.Str.{all_scalars}
 use Rattle.std.specs.List.{list_all}
@@ -24,31 +24,31 @@ use Rattle.py_lines.specs.Private.FieldMachine as spots
 use Rattle.py_lines.specs.Private.FieldMachine.{between, body, grows, closes, FieldMove, Level, FieldScanned, field_state, field_text_start, field_move, field_step, field_moved, body_move, between_move, host_of, frames, has_room_at}
 use Rattle.py_lines.specs.Private.FieldScan.{GoesOn}
 use Rattle.py_lines.specs.Private.FieldText.{InText, IsWholeStringWithFields, Leads}
-use Rattle.py_lines.specs.Private.ScanMachine.{IsScanSound, fielded_move, host_in, is_field_spelling, is_raw_spelling, meet_of, opened_move, quote_move, scan_step, scan_steps, string_state}
+use Rattle.py_lines.specs.Private.ScanMachine.{IsScanSound, fielded_move, host_in, is_field_spelling, is_raw_spelling, meet_of, opened_move, quote_move, scan_step, scan_steps, string_state, move_at}
 use Rattle.py_lines.specs.Private.Scan.{Tallies, line_start, stack_of, is_return_mode, depth_of}
-use Rattle.py_lines.specs.Private.Run.{AddsToken, Reached, ReachedShut, TakesStringWithFields, opened, with_bytes}
+use Rattle.py_lines.specs.Private.Run.{AddsToken, Reached, ReachedShut, TakesStringWithFields, TakesToken, is_ascii_word, follows, word_mode, opened, with_bytes}
 use Rattle.py_lines.proofs.Pieces.PieceLists.{piece}
 use Rattle.py_lines.proofs.Pieces.OpenBrackets.{stands}
 use Rattle.py_lines.proofs.Text.CharacterTests.{each_of, quote-not-word}
 use Rattle.py_lines.proofs.Text.Utf8Prefixes.{all_scalars-append}
 use Rattle.py_lines.proofs.Fields.Prefixes.{IsLetter, field_letters, letters, third_of}
-use Rattle.py_lines.proofs.Machine.PieceSteps.{scanned}
+use Rattle.py_lines.proofs.Machine.PieceSteps.{scanned, steps_by-append, grown_by, word_by}
 use Rattle.py_lines.proofs.Machine.Starts.{start-word}
 use Rattle.py_lines.proofs.Machine.LiveTexts.{stack_closed}
 use Rattle.py_lines.proofs.FieldMachine.Runs.{NoLimit, steps_of}
 use Rattle.py_lines.proofs.ScanMachine.Follows.{room_closes}
 use Rattle.py_lines.proofs.ScanMachine.Rooms.{alone_opens}
 use Rattle.py_lines.proofs.ScanMachine.Spellings.{word_tells}
-use Rattle.py_lines.proofs.ScanMachine.Steps.{breaks_in, grown, scan_steps-append, steps_word}
+use Rattle.py_lines.proofs.ScanMachine.Steps.{breaks_in, grow-word}
 use Rattle.py_lines.proofs.FieldScans.Runs.{goes_low}
 use Rattle.py_lines.proofs.FieldScans.Steps.{comes_closed}
 use Rattle.py_lines.proofs.LineScan.LineSteps.{sound_steps}
 use Rattle.py_lines.proofs.LineScan.NextCharacter.{closed_one_line, tallies_in}
 use Rattle.py_lines.proofs.LineScan.PieceEnd.{closes_shut, shut_as}
-use Rattle.py_lines.proofs.LineScan.Runs.{counts_run, quote_ascii, string_no_break, string_run}
+use Rattle.py_lines.proofs.LineScan.Runs.{counts_run, quote_ascii, string_no_break, string_run, word_byte_low}
 use Rattle.py_lines.proofs.LineScan.StringOpenings.{opened_as_body}
 use Rattle.py_lines.proofs.LineScan.StringSteps.{no_fields, string_more}
-use Rattle.py_lines.proofs.LineScan.ShortPieces.{Goes, MeetsPiece, is_low, is_low_from, low_encodes, low_is, meets, quote-no_break, settled, shut_from, token_closes}
+use Rattle.py_lines.proofs.LineScan.ShortPieces.{Goes, MeetsPiece, is_low, is_low_from, low_encodes, low_is, meets, quote-no_break, settled, shut_from, token_closes, word_reached, operator_reached, string_reached, run_goes, operator_goes, string_goes}
 
 -- the letters of its prefix are ASCII, and end no line
 letter_low : (c : ℕ) → IsLetter c → (is_low c ≡ true) × (not (is_break c) ≡ true)
@@ -109,9 +109,9 @@ module _ (done : List Piece) (few : depth_through 0 done ≤ 100) (c : ℕ) (cs 
   to_quote : (after : List ℕ) → scan_steps (Some (scanned done (modes.Word (first_spelling c)) (c ∷ []))) (cs ++ q ∷ after) ≡ scan_steps (Some (scanned done (modes.FieldOpened h) opening)) after
   to_quote after =
       let letters_are = and_parts (is_word_character c) (list_all is_word_character cs) (field_letters prefix begun).all in
-      scan_steps-append (Some (scanned done (modes.Word (first_spelling c)) (c ∷ []))) cs (q ∷ after)
-      ∙ ap (λ o. scan_steps o (q ∷ after)) (steps_word done (first_spelling c) (c ∷ []) cs letters_are.1)
-      ∙ grown done (modes.Word s) (modes.FieldOpened h) prefix q after (quote_opens s q field quotes)
+      steps_by-append move_at (Some (scanned done (modes.Word (first_spelling c)) (c ∷ []))) cs (q ∷ after)
+      ∙ ap (λ o. scan_steps o (q ∷ after)) (word_by move_at done (λ t held. grow-word t) (first_spelling c) (c ∷ []) cs letters_are.1)
+      ∙ grown_by move_at done (modes.Word s) (modes.FieldOpened h) prefix q after (quote_opens s q field quotes)
 
   opened_state : string_state opening ≡ Some (field_state [] [] [] (spots.opened (host_in h)) opening)
   opened_state =
@@ -147,7 +147,7 @@ module _ (done : List Piece) (few : depth_through 0 done ≤ 100) (c : ℕ) (cs 
         let (low, none, move, next, step, others) = through in
         let state : string_state (opening ++ d ∷ []) ≡ Some next = string_more opening d (field_state [] [] [] (spots.opened (host_in h)) opening) opened_state ∙ opened_as_body (host_in h) opening d other ∙ step in
         let ran = string_run done (opening ++ d ∷ []) ds next u state others in (
-          grown done (modes.FieldOpened h) modes.Fielded opening d (ds ++ after) (first_grows h d other none) ∙ scan_steps-append (Some (scanned done modes.Fielded (opening ++ d ∷ []))) ds after ∙ ap (λ o. scan_steps o after) ran.0,
+          grown_by move_at done (modes.FieldOpened h) modes.Fielded opening d (ds ++ after) (first_grows h d other none) ∙ steps_by-append move_at (Some (scanned done modes.Fielded (opening ++ d ∷ []))) ds after ∙ ap (λ o. scan_steps o after) ran.0,
           ran.1,
         )
 
@@ -196,7 +196,7 @@ module _ (m : Mode) (at : ℕ) (text : List ℕ) (scan new : Scan) (c : ℕ) (cs
       let breaks : meet_of state.mode c ≡ moves.Breaks = ap (λ n. meet_of n c) (sym meet.reached.way.tallies.counts.mode) ∙ meet.breaks in
       let letters_are = field_letters (c ∷ cs) begun in
       let same : letters_are.first ≡ c = cc letters_are.is in
-      scan_steps-append (Some (line_start m)) read (c ∷ []) ∙ ap (λ o. scan_steps o (c ∷ [])) meet.reached.way.steps
+      steps_by-append move_at (Some (line_start m)) read (c ∷ []) ∙ ap (λ o. scan_steps o (c ∷ [])) meet.reached.way.steps
       ∙ ap (λ v. scan_steps (moved state c v) []) (breaks_in state.mode (depth_through 0 state.done) state.held c breaks)
       ∙ ap (λ st. scan_steps (started pieces c st) []) (start-word c (subst (λ (x : ℕ). is_word_start x ≡ true) same letters_are.starts))
 
@@ -204,7 +204,7 @@ module _ (m : Mode) (at : ℕ) (text : List ℕ) (scan new : Scan) (c : ℕ) (cs
     all_steps : scan_steps (Some (line_start m)) (read ++ whole) ≡ Some (fresh (pieces ++ piece string whole ∷ []))
     all_steps =
         ap (scan_steps (Some (line_start m))) (sym (append_assoc read (c ∷ []) (cs ++ q ∷ (run ++ q ∷ []))))
-        ∙ scan_steps-append (Some (line_start m)) (read ++ c ∷ []) (cs ++ q ∷ (run ++ q ∷ [])) ∙ ap (λ o. scan_steps o (cs ++ q ∷ (run ++ q ∷ []))) first_step ∙ steps
+        ∙ steps_by-append move_at (Some (line_start m)) (read ++ c ∷ []) (cs ++ q ∷ (run ++ q ∷ [])) ∙ ap (λ o. scan_steps o (cs ++ q ∷ (run ++ q ∷ []))) first_step ∙ steps
 
     -- as if a string without fields had been open
     tallies : Tallies new (fresh (pieces ++ piece string whole ∷ []))
@@ -314,3 +314,16 @@ fields_goes old new bytes len takes =
       within = size.1;
       lines = omega (arith, ap (λ (s : Scan). s.count.line) takes.adds.same);
     }
+
+-- a word, an operator or a string
+pub token_reached : (m : Mode) (at : ℕ) (text : List ℕ) (scan new : Scan) (bytes : List ℕ) (len : ℕ) → scan.piece.mode ≡ modes.Free → ReachedShut m at text scan bytes → IsScanSound (line_start m) [] → TakesToken scan bytes len new → ReachedShut m at text new (drop len bytes)
+token_reached m at text scan new bytes len free r start (inl word) = word_reached m at text scan new bytes len free r start word
+token_reached m at text scan new bytes len free r start (inr (inl stands)) = operator_reached m at text scan new bytes len free r start stands
+token_reached m at text scan new bytes len free r start (inr (inr (inl quoted))) = string_reached m at text scan new bytes len free r start quoted
+token_reached m at text scan new bytes len free r start (inr (inr (inr fields))) = fields_reached m at text scan new bytes len free r start fields
+
+pub token_goes : (old new : Scan) (bytes : List ℕ) (len : ℕ) → TakesToken old bytes len new → Goes old bytes len new
+token_goes old new bytes len (inl word) = run_goes is_ascii_word follows word_mode old new bytes len word_byte_low word
+token_goes old new bytes len (inr (inl stands)) = operator_goes old new bytes len stands
+token_goes old new bytes len (inr (inr (inl quoted))) = string_goes old new bytes len quoted
+token_goes old new bytes len (inr (inr (inr fields))) = fields_goes old new bytes len fields

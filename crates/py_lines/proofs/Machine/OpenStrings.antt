@@ -6,29 +6,33 @@ use Rattle.unicode_ident.proofs.Computing.{unicode_ident}
 use Rattle.py_lines.specs.Character.{is_mark, is_quote, is_word_start, is_digit, is_backslash}
 use Rattle.py_lines.specs.Piece.{Piece, begins}
 use Rattle.py_lines.specs.PieceGrammar.{IsPrefix, is_item, is_short_item, joined, has_triple}
-use Rattle.py_lines.specs.OpenFields.{IsUnescaped, IsShortPrefix, IsLongPrefix}
+use Rattle.py_lines.specs.OpenFields.{IsUnescaped, IsOpenPrefix, IsShortPrefix, IsLongPrefix}
 use Rattle.py_lines.specs.declared.mode.Mode.{Mode}
 use Rattle.py_lines.specs.declared.mode.Mode.TheVariants as modes
-use Rattle.py_lines.specs.Private.Machine.{steps_from, in_short, in_long, is_after_backslash}
+use Rattle.py_lines.specs.Private.Machine.{move_from, steps_from, in_short, in_long, is_after_backslash}
 use Rattle.py_lines.proofs.Text.CharacterTests.{none_of, prefix_word}
-use Rattle.py_lines.proofs.Machine.PieceSteps.{scanned, steps_from-append, grown}
+use Rattle.py_lines.proofs.Machine.PieceSteps.{scanned, steps_by-append, grown_by}
 use Rattle.py_lines.proofs.Machine.StringSteps.{IsShortMode, short_escapes, short_body, run_long, mode_at, QuotesBefore, seen_after, long_escapes}
 use Rattle.py_lines.specs.Private.Machine.{Holds, HoldsItems, HoldsPrefix}
 use Rattle.py_lines.proofs.Machine.OpenPieces.{opened_items, opening_none, opening_one, opening_two}
 use Rattle.py_lines.proofs.Machine.Soundness.{returned_items}
 
-short_open : (q : ℕ) (before last : List ℕ) → HoldsItems q before → IsUnescaped last → IsShortPrefix (before ++ last)
-short_open q before last items escapes = record {
-  prefix = items.prefix;
+-- whole items, with nothing after them, or a backslash
+still_open : (opening : ℕ → List ℕ) (MayHold : ℕ → List (List ℕ) → Type 0) (q : ℕ) (prefix before last : List ℕ) (items : List (List ℕ)) → before ≡ prefix ++ (opening q ++ joined items) → IsPrefix prefix → is_quote q ≡ true → MayHold q items → IsUnescaped last → IsOpenPrefix opening MayHold (before ++ last)
+still_open opening MayHold q prefix before last items spell begun opens holds escapes = record {
+  prefix = prefix;
   quote = q;
-  items = items.items;
+  items = items;
   last = last;
-  spell = ap (λ t. t ++ last) items.spell ∙ append_assoc items.prefix (q ∷ joined items.items) last;
-  begun = items.begun;
-  opens = items.opens;
-  each = items.each;
+  spell = ap (λ t. t ++ last) spell ∙ append_assoc prefix (opening q ++ joined items) last;
+  begun = begun;
+  opens = opens;
+  holds = holds;
   escapes = escapes;
 }
+
+short_open : (q : ℕ) (before last : List ℕ) → HoldsItems q before → IsUnescaped last → IsShortPrefix (before ++ last)
+short_open q before last held escapes = still_open (λ c. c ∷ []) _ q held.prefix before last held.items held.spell held.begun held.opens held.each escapes
 
 short_opening : (q : ℕ) (held : List ℕ) → HoldsItems q held → IsShortPrefix held
 short_opening q held items = subst IsShortPrefix (append-nil held) (short_open q held [] items (inl refl))
@@ -37,18 +41,8 @@ short_escaped : (q : ℕ) (before : List ℕ) (slash : ℕ) → HoldsItems q bef
 short_escaped q before slash items slashes = short_open q before (slash ∷ []) items (inr (slash, refl, slashes))
 
 long_open : (q : ℕ) (before last : List ℕ) → HoldsPrefix q before → IsUnescaped last → IsLongPrefix (before ++ last)
-long_open q before last held escapes = record {
-  prefix = held.prefix;
-  quote = q;
-  items = held.items;
-  last = last;
-  spell = ap (λ t. t ++ last) held.spell ∙ append_assoc held.prefix (q ∷ q ∷ q ∷ joined held.items) last;
-  begun = held.begun;
-  opens = held.opens;
-  each = held.each;
-  open_yet = ap (has_triple q) (sym (append-nil held.items)) ∙ held.open_yet;
-  escapes = escapes;
-}
+long_open q before last held escapes =
+    still_open (λ c. c ∷ c ∷ c ∷ []) _ q held.prefix before last held.items held.spell held.begun held.opens (held.each, ap (has_triple q) (sym (append-nil held.items)) ∙ held.open_yet) escapes
 
 long_opening : (q : ℕ) (held : List ℕ) → HoldsPrefix q held → IsLongPrefix held
 long_opening q held holds = subst IsLongPrefix (append-nil held) (long_open q held [] holds (inl refl))
@@ -114,7 +108,7 @@ short_last : (done : List Piece) (q : ℕ) (m : Mode) (held last : List ℕ) →
 short_last done q m held last short quotes (inl empty) =
     subst (ShortEnd done m held) (sym empty) (record { to = m; short = is_short_mode q m short; steps = ap (λ t. Some (scanned done m t)) (sym (append-nil held)) })
 short_last done q m held last short quotes (inr (slash, is, slashes)) =
-    subst (ShortEnd done m held) (sym is) (record { to = modes.Escape q; short = refl; steps = grown done m (modes.Escape q) held slash [] (short_escapes q slash m short quotes slashes) })
+    subst (ShortEnd done m held) (sym is) (record { to = modes.Escape q; short = refl; steps = grown_by move_from done m (modes.Escape q) held slash [] (short_escapes q slash m short quotes slashes) })
 
 pub short_end : (done : List Piece) (q : ℕ) (held : List ℕ) (items : List (List ℕ)) (last : List ℕ) → is_quote q ≡ true → list_all (is_short_item q) items ≡ true → IsUnescaped last → ShortEnd done (modes.Opened q) held (joined items ++ last)
 short_end done q held [] last quotes each escapes = short_last done q (modes.Opened q) held last (inl refl) quotes escapes
@@ -124,7 +118,7 @@ short_end done q held (i ∷ is) last quotes each escapes =
     record {
       to = later.to;
       short = later.short;
-      steps = steps_from-append (Some (scanned done (modes.Opened q) held)) (joined (i ∷ is)) last
+      steps = steps_by-append move_from (Some (scanned done (modes.Opened q) held)) (joined (i ∷ is)) last
           ∙ ap (λ o. steps_from o last) body.steps
           ∙ later.steps
           ∙ ap (λ t. Some (scanned done later.to t)) (append_assoc held (joined (i ∷ is)) last);
@@ -140,7 +134,7 @@ long_last : (done : List Piece) (q : ℕ) (seen : QuotesBefore) (held last : Lis
 long_last done q seen held last quotes (inl empty) =
     subst (LongEnd done (mode_at q seen) held) (sym empty) (record { to = mode_at q seen; long = is_long_mode q seen; steps = ap (λ t. Some (scanned done (mode_at q seen) t)) (sym (append-nil held)) })
 long_last done q seen held last quotes (inr (slash, is, slashes)) =
-    subst (LongEnd done (mode_at q seen) held) (sym is) (record { to = modes.LongEscape q; long = refl; steps = grown done (mode_at q seen) (modes.LongEscape q) held slash [] (long_escapes q slash seen quotes slashes) })
+    subst (LongEnd done (mode_at q seen) held) (sym is) (record { to = modes.LongEscape q; long = refl; steps = grown_by move_from done (mode_at q seen) (modes.LongEscape q) held slash [] (long_escapes q slash seen quotes slashes) })
 
 pub long_end : (done : List Piece) (q : ℕ) (held : List ℕ) (items : List (List ℕ)) (last : List ℕ) → is_quote q ≡ true → list_all is_item items ≡ true → has_triple q items ≡ false → IsUnescaped last → LongEnd done (modes.Long q) held (joined items ++ last)
 long_end done q held items last quotes each triple escapes =
@@ -148,7 +142,7 @@ long_end done q held items last quotes each triple escapes =
     record {
       to = later.to;
       long = later.long;
-      steps = steps_from-append (Some (scanned done (modes.Long q) held)) (joined items) last
+      steps = steps_by-append move_from (Some (scanned done (modes.Long q) held)) (joined items) last
           ∙ ap (λ o. steps_from o last) (run_long done q QuotesBefore.none held items quotes each triple)
           ∙ later.steps
           ∙ ap (λ t. Some (scanned done later.to t)) (append_assoc held (joined items) last);

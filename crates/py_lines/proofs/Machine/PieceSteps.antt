@@ -3,7 +3,7 @@ use Rattle.std.proofs.Common.{◌≡◌, ℕ, Bool, true, false, ◌&&◌, Optio
 use Rattle.std.specs.List.{list_all, list_any}
 use Rattle.std.proofs.lemmas.Bool.{and_parts, or_parts}
 use Rattle.py_lines.specs.Character.{is_space, is_word_character, is_word_start, is_quote, is_operator, is_line_feed, is_return, is_break, is_hash, is_backslash}
-use Rattle.py_lines.specs.Piece.{space, word, operator, comment, join, line_end, Piece, begins, ends}
+use Rattle.py_lines.specs.Piece.{Class, space, word, operator, comment, join, line_end, Piece, begins, ends}
 use Rattle.py_lines.specs.PieceGrammar.{is_prefix, IsLineEnd, feed, return_feed, return}
 use Rattle.py_lines.specs.declared.mode.Spelling.{Spelling}
 use Rattle.py_lines.specs.declared.mode.Mode.{Mode}
@@ -11,7 +11,7 @@ use Rattle.py_lines.specs.declared.mode.Mode.TheVariants as modes
 use Rattle.py_lines.specs.declared.mode.Move.{Move}
 use Rattle.py_lines.specs.declared.mode.Move.TheVariants as moves
 use Rattle.py_lines.specs.declared.mode.Start.{Start}
-use Rattle.py_lines.specs.Private.Machine.{Scanned, fresh, class_of, closed, started, moved, step, steps_from, move_of, start_of, is_final, first_spelling, spelling_with, is_prefix_spelling}
+use Rattle.py_lines.specs.Private.Machine.{Scanned, fresh, class_of, closed, started, moved, steps_by, move_from, steps_from, move_of, start_of, is_final, first_spelling, spelling_with, is_prefix_spelling}
 use Rattle.py_lines.proofs.Pieces.PieceLists.{piece}
 use Rattle.py_lines.specs.Private.Machine.{spelling_on}
 use Rattle.py_lines.proofs.Machine.Spellings.{prefix_spelling}
@@ -24,10 +24,13 @@ scanned done mode held = record { done = done; mode = mode; held = held }
 abbrev pub pieces_at : Scanned → List Piece
 pieces_at s = closed s.mode s.done s.held
 
--- the open piece may end before this text
+-- the open piece may end before this text, where a character does so to it
+abbrev pub StopsBy : (Mode → ℕ → Move) → Mode → List ℕ → Type 0
+StopsBy move m [] = is_final m ≡ true
+StopsBy move m (c ∷ cs) = move m c ≡ moves.Breaks
+
 abbrev pub StopsBefore : Mode → List ℕ → Type 0
-StopsBefore m [] = is_final m ≡ true
-StopsBefore m (c ∷ cs) = move_of m c ≡ moves.Breaks
+StopsBefore m rest = StopsBy move_of m rest
 
 -- the machine goes through a text from here, finds these pieces after those it had, and may stop before the rest
 pub record Finds (from : Scanned) (text : List ℕ) (pieces : List Piece) (rest : List ℕ) : Type 0 where
@@ -36,32 +39,46 @@ pub record Finds (from : Scanned) (text : List ℕ) (pieces : List Piece) (rest 
   pub pieces_are : pieces_at to ≡ pieces_at from ++ pieces
   pub stops : StopsBefore to.mode rest
 
--- steps over two texts, one after the other
-pub steps_from-append : (s : Option Scanned) (a b : List ℕ) → steps_from s (a ++ b) ≡ steps_from (steps_from s a) b
-steps_from-append None a b = refl
-steps_from-append (Some s) [] b = refl
-steps_from-append (Some s) (c ∷ a) b = steps_from-append (step s c) a b
-
--- a new piece begins where the machine may stop
-begin : (from : Scanned) (c : ℕ) (cs : List ℕ) (s : Start) → StopsBefore from.mode (c ∷ cs) → start_of c ≡ s → step from c ≡ started (pieces_at from) c s
-begin from c cs s stops starts_as = ap (moved from c) stops ∙ ap (started (pieces_at from) c) starts_as
-
-pub begun : (from : Scanned) (c : ℕ) (cs after : List ℕ) (s : Start) → StopsBefore from.mode (c ∷ after) → start_of c ≡ s → steps_from (Some from) (c ∷ cs) ≡ steps_from (started (pieces_at from) c s) cs
-begun from c cs after s stops starts_as = ap (λ o. steps_from o cs) (begin from c after s stops starts_as)
-
--- one more character in the open piece
-pub grown : (done : List Piece) (m n : Mode) (held : List ℕ) (c : ℕ) (cs : List ℕ) → move_of m c ≡ moves.Grows n → steps_from (Some (scanned done m held)) (c ∷ cs) ≡ steps_from (Some (scanned done n (held ++ c ∷ []))) cs
-grown done m n held c cs grows = ap (λ (v : Move). steps_from (moved (scanned done m held) c v) cs) grows
-
--- the last character of the open piece
-pub closes : (done : List Piece) (m : Mode) (held : List ℕ) (c : ℕ) → move_of m c ≡ moves.Closes → steps_from (Some (scanned done m held)) (c ∷ []) ≡ Some (fresh (done ++ piece (class_of m) (held ++ c ∷ []) ∷ []))
-closes done m held c closing = ap (λ (v : Move). steps_from (moved (scanned done m held) c v) []) closing
-
 pub longer : (done : List Piece) (m : Mode) (held : List ℕ) (c : ℕ) (cs : List ℕ) → Some (scanned done m ((held ++ c ∷ []) ++ cs)) ≡ Some (scanned done m (held ++ c ∷ cs))
 longer done m held c cs = ap (λ t. Some (scanned done m t)) (append_assoc held (c ∷ []) cs)
 
 pub all_held : (done : List Piece) (m : Mode) (held : List ℕ) → Some (scanned done m held) ≡ Some (scanned done m (held ++ []))
 all_held done m held = ap (λ t. Some (scanned done m t)) (sym (append-nil held))
+
+-- the steps of any machine
+module _ (move : Scanned → ℕ → Move) where
+  -- over two texts, one after the other
+  pub steps_by-append : (s : Option Scanned) (a b : List ℕ) → steps_by move s (a ++ b) ≡ steps_by move (steps_by move s a) b
+  steps_by-append None a b = refl
+  steps_by-append (Some s) [] b = refl
+  steps_by-append (Some s) (c ∷ a) b = steps_by-append (moved s c (move s c)) a b
+
+  -- a new piece begins where the open one ends
+  pub begun_by : (from : Scanned) (c : ℕ) (cs : List ℕ) (s : Start) → move from c ≡ moves.Breaks → start_of c ≡ s → steps_by move (Some from) (c ∷ cs) ≡ steps_by move (started (pieces_at from) c s) cs
+  begun_by from c cs s breaks starts_as = ap (λ (v : Move). steps_by move (moved from c v) cs) breaks ∙ ap (λ o. steps_by move (started (pieces_at from) c o) cs) starts_as
+
+  -- one more character in the open piece
+  pub grown_by : (done : List Piece) (m n : Mode) (held : List ℕ) (c : ℕ) (cs : List ℕ) → move (scanned done m held) c ≡ moves.Grows n → steps_by move (Some (scanned done m held)) (c ∷ cs) ≡ steps_by move (Some (scanned done n (held ++ c ∷ []))) cs
+  grown_by done m n held c cs grows = ap (λ (v : Move). steps_by move (moved (scanned done m held) c v) cs) grows
+
+  -- a run of characters, each of which goes on with the open piece
+  pub run_by : (done : List Piece) (m : Mode) (passes : ℕ → Bool) → ((held : List ℕ) (c : ℕ) → passes c ≡ true → move (scanned done m held) c ≡ moves.Grows m) → (held run : List ℕ) → list_all passes run ≡ true → steps_by move (Some (scanned done m held)) run ≡ Some (scanned done m (held ++ run))
+  run_by done m passes grows held [] all = all_held done m held
+  run_by done m passes grows held (c ∷ cs) all =
+      let parts = and_parts (passes c) (list_all passes cs) all in
+      grown_by done m m held c cs (grows held c parts.0) ∙ run_by done m passes grows (held ++ c ∷ []) cs parts.1 ∙ longer done m held c cs
+
+  -- the rest of a word
+  pub word_by : (done : List Piece) → ((s : Spelling) (held : List ℕ) (c : ℕ) → is_word_character c ≡ true → move (scanned done (modes.Word s) held) c ≡ moves.Grows (modes.Word (spelling_with s c))) → (s : Spelling) (held others : List ℕ) → list_all is_word_character others ≡ true → steps_by move (Some (scanned done (modes.Word s) held)) others ≡ Some (scanned done (modes.Word (spelling_on s others)) (held ++ others))
+  word_by done grows s held [] all = all_held done (modes.Word s) held
+  word_by done grows s held (c ∷ cs) all =
+      let parts = and_parts (is_word_character c) (list_all is_word_character cs) all in
+      grown_by done (modes.Word s) (modes.Word (spelling_with s c)) held c cs (grows s held c parts.0)
+      ∙ word_by done grows (spelling_with s c) (held ++ c ∷ []) cs parts.1 ∙ longer done (modes.Word (spelling_on s (c ∷ cs))) held c cs
+
+-- the last character of the open piece
+pub closes : (done : List Piece) (m : Mode) (held : List ℕ) (c : ℕ) → move_of m c ≡ moves.Closes → steps_from (Some (scanned done m held)) (c ∷ []) ≡ Some (fresh (done ++ piece (class_of m) (held ++ c ∷ []) ∷ []))
+closes done m held c closing = ap (λ (v : Move). steps_from (moved (scanned done m held) c v) []) closing
 
 pub stops-free : (rest : List ℕ) → StopsBefore modes.Free rest
 unfolding move_of
@@ -73,12 +90,6 @@ grow-space : (c : ℕ) → is_space c ≡ true → move_of modes.Space c ≡ mov
 unfolding move_of
 grow-space c h = rw h
 
-pub steps_space : (done : List Piece) (held others : List ℕ) → list_all is_space others ≡ true → steps_from (Some (scanned done modes.Space held)) others ≡ Some (scanned done modes.Space (held ++ others))
-steps_space done held [] h = all_held done modes.Space held
-steps_space done held (c ∷ cs) h =
-    let parts = and_parts (is_space c) (list_all is_space cs) h in
-    grown done _ _ held c cs (grow-space c parts.0) ∙ steps_space done (held ++ c ∷ []) cs parts.1 ∙ longer done modes.Space held c cs
-
 pub stops-space : (rest : List ℕ) → begins is_space rest ≡ false → StopsBefore modes.Space rest
 unfolding move_of
 stops-space [] h = refl
@@ -89,7 +100,7 @@ find_space from first others rest run stops ends =
     let parts = and_parts (is_space first) (list_all is_space others) run in
     record {
       to = scanned (pieces_at from) modes.Space (first ∷ others);
-      steps = begun from first others (others ++ rest) _ stops (start-space first parts.0) ∙ steps_space _ (first ∷ []) others parts.1;
+      steps = begun_by move_from from first others _ stops (start-space first parts.0) ∙ run_by move_from (pieces_at from) modes.Space is_space (λ h. grow-space) (first ∷ []) others parts.1;
       pieces_are = refl;
       stops = stops-space rest ends;
     }
@@ -100,10 +111,7 @@ unfolding move_of
 grow-word s c h = rw h
 
 pub steps_word : (done : List Piece) (s : Spelling) (held others : List ℕ) → list_all is_word_character others ≡ true → steps_from (Some (scanned done (modes.Word s) held)) others ≡ Some (scanned done (modes.Word (spelling_on s others)) (held ++ others))
-steps_word done s held [] h = all_held done (modes.Word s) held
-steps_word done s held (c ∷ cs) h =
-    let parts = and_parts (is_word_character c) (list_all is_word_character cs) h in
-    grown done _ _ held c cs (grow-word s c parts.0) ∙ steps_word done (spelling_with s c) (held ++ c ∷ []) cs parts.1 ∙ longer done _ held c cs
+steps_word done s held others run = word_by move_from done (λ t h. grow-word t) s held others run
 
 pub stops-word : (s : Spelling) (rest : List ℕ) → begins is_word_character rest ≡ false → is_prefix_spelling s && begins is_quote rest ≡ false → StopsBefore (modes.Word s) rest
 unfolding move_of
@@ -113,19 +121,18 @@ stops-word s (c ∷ cs) h k = rw (h, k)
 pub find_word : (from : Scanned) (first : ℕ) (others rest : List ℕ) → is_word_start first ≡ true → list_all is_word_character others ≡ true → StopsBefore from.mode (first ∷ others ++ rest) → begins is_word_character rest ≡ false → is_prefix (first ∷ others) && begins is_quote rest ≡ false → Finds from (first ∷ others) (piece word (first ∷ others) ∷ []) rest
 find_word from first others rest opens run stops ends no_prefix = record {
   to = scanned (pieces_at from) (modes.Word (spelling_on (first_spelling first) others)) (first ∷ others);
-  steps = begun from first others (others ++ rest) _ stops (start-word first opens) ∙ steps_word _ _ (first ∷ []) others run;
+  steps = begun_by move_from from first others _ stops (start-word first opens) ∙ steps_word _ _ (first ∷ []) others run;
   pieces_are = refl;
   stops = stops-word _ rest ends (subst (λ (b : Bool). b && begins is_quote rest ≡ false) (prefix_spelling first others) no_prefix);
 }
 
+-- a piece that its last character closes
+pub found_closed : (from : Scanned) (class : Class) (text rest : List ℕ) → steps_from (Some from) text ≡ Some (fresh (pieces_at from ++ piece class text ∷ [])) → Finds from text (piece class text ∷ []) rest
+found_closed from class text rest steps = record { to = fresh (pieces_at from ++ piece class text ∷ []); steps = steps; pieces_are = refl; stops = stops-free rest }
+
 -- an operator
 pub find_operator : (from : Scanned) (c : ℕ) (rest : List ℕ) → is_operator c ≡ true → StopsBefore from.mode (c ∷ rest) → Finds from (c ∷ []) (piece operator (c ∷ []) ∷ []) rest
-find_operator from c rest passes stops = record {
-  to = fresh (pieces_at from ++ piece operator (c ∷ []) ∷ []);
-  steps = begun from c [] rest _ stops (start-operator c passes);
-  pieces_are = refl;
-  stops = stops-free rest;
-}
+find_operator from c rest passes stops = found_closed from operator (c ∷ []) rest (begun_by move_from from c [] _ stops (start-operator c passes))
 
 -- a comment
 grow-comment : (c : ℕ) → is_break c ≡ false → move_of modes.Comment c ≡ moves.Grows modes.Comment
@@ -136,7 +143,7 @@ run_comment : (done : List Piece) (held body : List ℕ) → list_any is_break b
 run_comment done held [] h = all_held done modes.Comment held
 run_comment done held (c ∷ cs) h =
     let parts = or_parts (is_break c) (list_any is_break cs) h in
-    grown done _ _ held c cs (grow-comment c parts.0) ∙ run_comment done (held ++ c ∷ []) cs parts.1 ∙ longer done modes.Comment held c cs
+    grown_by move_from done _ _ held c cs (grow-comment c parts.0) ∙ run_comment done (held ++ c ∷ []) cs parts.1 ∙ longer done modes.Comment held c cs
 
 stops-comment : (rest : List ℕ) → (rest ≡ []) ⊎ (begins is_break rest ≡ true) → StopsBefore modes.Comment rest
 unfolding move_of
@@ -147,21 +154,23 @@ stops-comment (c ∷ cs) (inr ends) = rw ends
 pub find_comment : (from : Scanned) (hash : ℕ) (body rest : List ℕ) → is_hash hash ≡ true → list_any is_break body ≡ false → StopsBefore from.mode (hash ∷ body ++ rest) → (rest ≡ []) ⊎ (begins is_break rest ≡ true) → Finds from (hash ∷ body) (piece comment (hash ∷ body) ∷ []) rest
 find_comment from hash body rest opens holds stops ends = record {
   to = scanned (pieces_at from) modes.Comment (hash ∷ body);
-  steps = begun from hash body (body ++ rest) _ stops (start-hash hash opens) ∙ run_comment _ (hash ∷ []) body holds;
+  steps = begun_by move_from from hash body _ stops (start-hash hash opens) ∙ run_comment _ (hash ∷ []) body holds;
   pieces_are = refl;
   stops = stops-comment rest ends;
 }
 
--- a line end
-return-closes : move_of modes.Return 10 ≡ moves.Closes
+-- LF after CR, or after a backslash
+feed-closes : (move_of modes.Return 10 ≡ moves.Closes) × (move_of modes.Backslash 10 ≡ moves.Closes) × (move_of modes.JoinReturn 10 ≡ moves.Closes)
 unfolding move_of is_line_feed
-return-closes = refl
+feed-closes = (refl, refl, refl)
 
-stops-return : (rest : List ℕ) → begins is_line_feed rest ≡ false → StopsBefore modes.Return rest
+-- anything else after CR
+stops-returned : (rest : List ℕ) → begins is_line_feed rest ≡ false → StopsBefore modes.Return rest × StopsBefore modes.JoinReturn rest
 unfolding move_of
-stops-return [] h = refl
-stops-return (c ∷ cs) h = rw h
+stops-returned [] h = (refl, refl)
+stops-returned (c ∷ cs) h = (rw h, rw h)
 
+-- a line end
 return-is-one : is_return 13 ≡ true
 unfolding is_return
 return-is-one = refl
@@ -172,69 +181,41 @@ feed-is-one = refl
 
 pub find_line_end : (from : Scanned) (text rest : List ℕ) → IsLineEnd text → StopsBefore from.mode (text ++ rest) → ends is_return text && begins is_line_feed rest ≡ false → Finds from text (piece line_end text ∷ []) rest
 find_line_end from text rest (feed is) stops before =
-    subst (λ t. Finds from t (piece line_end t ∷ []) rest) (sym is) (record {
-      to = fresh (pieces_at from ++ piece line_end (10 ∷ []) ∷ []);
-      steps = begun from 10 [] rest _ (subst (λ t. StopsBefore from.mode (t ++ rest)) is stops) (start-feed 10 feed-is-one);
-      pieces_are = refl;
-      stops = stops-free rest;
-    })
+    subst (λ t. Finds from t (piece line_end t ∷ []) rest) (sym is)
+    (found_closed from line_end (10 ∷ []) rest (begun_by move_from from 10 [] _ (subst (λ t. StopsBefore from.mode (t ++ rest)) is stops) (start-feed 10 feed-is-one)))
 find_line_end from text rest (return_feed is) stops before =
-    subst (λ t. Finds from t (piece line_end t ∷ []) rest) (sym is) (record {
-      to = fresh (pieces_at from ++ piece line_end (13 ∷ 10 ∷ []) ∷ []);
-      steps = begun from 13 (10 ∷ []) (10 ∷ rest) _ (subst (λ t. StopsBefore from.mode (t ++ rest)) is stops) (start-return 13 return-is-one)
-          ∙ closes (pieces_at from) modes.Return (13 ∷ []) 10 return-closes;
-      pieces_are = refl;
-      stops = stops-free rest;
-    })
+    subst (λ t. Finds from t (piece line_end t ∷ []) rest) (sym is)
+    (found_closed from line_end (13 ∷ 10 ∷ []) rest
+    (begun_by move_from from 13 (10 ∷ []) _ (subst (λ t. StopsBefore from.mode (t ++ rest)) is stops) (start-return 13 return-is-one)
+    ∙ closes (pieces_at from) modes.Return (13 ∷ []) 10 feed-closes.0))
 find_line_end from text rest (return is) stops before =
     subst (λ t. Finds from t (piece line_end t ∷ []) rest) (sym is) (record {
       to = scanned (pieces_at from) modes.Return (13 ∷ []);
-      steps = begun from 13 [] rest _ (subst (λ t. StopsBefore from.mode (t ++ rest)) is stops) (start-return 13 return-is-one);
+      steps = begun_by move_from from 13 [] _ (subst (λ t. StopsBefore from.mode (t ++ rest)) is stops) (start-return 13 return-is-one);
       pieces_are = refl;
-      stops = stops-return rest (subst (λ (b : Bool). b && begins is_line_feed rest ≡ false) return-is-one (subst (λ t. ends is_return t && begins is_line_feed rest ≡ false) is before));
+      stops = (stops-returned rest (subst (λ (b : Bool). b && begins is_line_feed rest ≡ false) return-is-one (subst (λ t. ends is_return t && begins is_line_feed rest ≡ false) is before))).0;
     })
 
 -- a join
-slash-closes : move_of modes.Backslash 10 ≡ moves.Closes
-unfolding move_of is_line_feed
-slash-closes = refl
-
 slash-returns : move_of modes.Backslash 13 ≡ moves.Grows modes.JoinReturn
 unfolding move_of is_line_feed is_return
 slash-returns = refl
 
-join-closes : move_of modes.JoinReturn 10 ≡ moves.Closes
-unfolding move_of is_line_feed
-join-closes = refl
-
-stops-join : (rest : List ℕ) → begins is_line_feed rest ≡ false → StopsBefore modes.JoinReturn rest
-unfolding move_of
-stops-join [] h = refl
-stops-join (c ∷ cs) h = rw h
-
 pub find_join : (from : Scanned) (slash : ℕ) (end rest : List ℕ) → is_backslash slash ≡ true → IsLineEnd end → StopsBefore from.mode (slash ∷ end ++ rest) → ends is_return (slash ∷ end) && begins is_line_feed rest ≡ false → Finds from (slash ∷ end) (piece join (slash ∷ end) ∷ []) rest
 find_join from slash end rest slashes (feed is) stops before =
-    subst (λ t. Finds from (slash ∷ t) (piece join (slash ∷ t) ∷ []) rest) (sym is) (record {
-      to = fresh (pieces_at from ++ piece join (slash ∷ 10 ∷ []) ∷ []);
-      steps = begun from slash (10 ∷ []) (end ++ rest) _ stops (start-slash slash slashes)
-          ∙ closes (pieces_at from) modes.Backslash (slash ∷ []) 10 slash-closes;
-      pieces_are = refl;
-      stops = stops-free rest;
-    })
+    subst (λ t. Finds from (slash ∷ t) (piece join (slash ∷ t) ∷ []) rest) (sym is)
+    (found_closed from join (slash ∷ 10 ∷ []) rest (begun_by move_from from slash (10 ∷ []) _ stops (start-slash slash slashes) ∙ closes (pieces_at from) modes.Backslash (slash ∷ []) 10 feed-closes.1))
 find_join from slash end rest slashes (return_feed is) stops before =
-    subst (λ t. Finds from (slash ∷ t) (piece join (slash ∷ t) ∷ []) rest) (sym is) (record {
-      to = fresh (pieces_at from ++ piece join (slash ∷ 13 ∷ 10 ∷ []) ∷ []);
-      steps = begun from slash (13 ∷ 10 ∷ []) (end ++ rest) _ stops (start-slash slash slashes)
-          ∙ grown (pieces_at from) modes.Backslash _ (slash ∷ []) 13 (10 ∷ []) slash-returns
-          ∙ closes (pieces_at from) modes.JoinReturn (slash ∷ 13 ∷ []) 10 join-closes;
-      pieces_are = refl;
-      stops = stops-free rest;
-    })
+    subst (λ t. Finds from (slash ∷ t) (piece join (slash ∷ t) ∷ []) rest) (sym is)
+    (found_closed from join (slash ∷ 13 ∷ 10 ∷ []) rest
+    (begun_by move_from from slash (13 ∷ 10 ∷ []) _ stops (start-slash slash slashes)
+    ∙ grown_by move_from (pieces_at from) modes.Backslash _ (slash ∷ []) 13 (10 ∷ []) slash-returns
+    ∙ closes (pieces_at from) modes.JoinReturn (slash ∷ 13 ∷ []) 10 feed-closes.2))
 find_join from slash end rest slashes (return is) stops before =
     subst (λ t. Finds from (slash ∷ t) (piece join (slash ∷ t) ∷ []) rest) (sym is) (record {
       to = scanned (pieces_at from) modes.JoinReturn (slash ∷ 13 ∷ []);
-      steps = begun from slash (13 ∷ []) (end ++ rest) _ stops (start-slash slash slashes)
-          ∙ grown (pieces_at from) modes.Backslash _ (slash ∷ []) 13 [] slash-returns;
+      steps = begun_by move_from from slash (13 ∷ []) _ stops (start-slash slash slashes)
+          ∙ grown_by move_from (pieces_at from) modes.Backslash _ (slash ∷ []) 13 [] slash-returns;
       pieces_are = refl;
-      stops = stops-join rest (subst (λ (b : Bool). b && begins is_line_feed rest ≡ false) return-is-one (subst (λ t. ends is_return (slash ∷ t) && begins is_line_feed rest ≡ false) is before));
+      stops = (stops-returned rest (subst (λ (b : Bool). b && begins is_line_feed rest ≡ false) return-is-one (subst (λ t. ends is_return (slash ∷ t) && begins is_line_feed rest ≡ false) is before))).1;
     })

@@ -5,13 +5,14 @@ use Rattle.std.proofs.lemmas.Bool.{both_ways, cases_Bool}
 use Rattle.py_lines.specs.Character.{is_mark, is_space, is_quote, is_return, is_line_feed}
 use Rattle.py_lines.specs.Piece.{Class, mark, space, word, string, operator, comment, join, line_end, Piece, begins, ends, is_mark_class, begins_marked, spelled}
 use Rattle.py_lines.specs.PieceGrammar.{InPlainClass, MayPrecedePlain, is_prefix, AreReadPlain}
+use Rattle.py_lines.specs.declared.mode.Mode.{Mode}
 use Rattle.py_lines.specs.declared.mode.Mode.TheVariants as modes
 use Rattle.py_lines.specs.declared.mode.Move.{Move}
 use Rattle.py_lines.specs.declared.mode.Move.TheVariants as moves
-use Rattle.py_lines.specs.Private.Machine.{Scanned, fresh, text_start, started, moved, steps_from, move_of, start_of}
+use Rattle.py_lines.specs.Private.Machine.{Scanned, fresh, text_start, started, moved, steps_by, move_from, steps_from, move_of, start_of}
 use Rattle.py_lines.proofs.Pieces.PieceLists.{piece}
 use Rattle.py_lines.proofs.Machine.Starts.{start-mark}
-use Rattle.py_lines.proofs.Machine.PieceSteps.{pieces_at, StopsBefore, Finds, steps_from-append, stops-free, find_space, find_word, find_operator, find_comment, find_line_end, find_join}
+use Rattle.py_lines.proofs.Machine.PieceSteps.{pieces_at, StopsBefore, Finds, steps_by-append, stops-free, find_space, find_word, find_operator, find_comment, find_line_end, find_join}
 use Rattle.py_lines.proofs.Machine.StringSteps.{find_short, find_long}
 
 -- a piece of any class but a mark
@@ -51,7 +52,7 @@ find_all from (p ∷ ps) rest fit unmarked stops =
     let others = find_all first.to ps rest fit.3 fit.2 first.stops in
     record {
       to = others.to;
-      steps = steps_from-append (Some from) p.text (spelled ps) ∙ ap (λ o. steps_from o (spelled ps)) first.steps ∙ others.steps;
+      steps = steps_by-append move_from (Some from) p.text (spelled ps) ∙ ap (λ o. steps_from o (spelled ps)) first.steps ∙ others.steps;
       pieces_are = others.pieces_are ∙ ap (λ l. l ++ ps) first.pieces_are ∙ append_assoc (pieces_at from) (p ∷ []) ps;
       stops = others.stops;
     }
@@ -61,12 +62,15 @@ abbrev pub MayBegin : List Piece → List ℕ → Type 0
 MayBegin [] rest = begins is_mark rest ≡ false
 MayBegin (p ∷ ps) rest = Unit {0}
 
--- the machine goes through a text from its start, finds these pieces, and may stop before the rest
-pub record Reaches (text : List ℕ) (pieces : List Piece) (rest : List ℕ) : Type 0 where
+-- a machine goes through a text from its start, finds these pieces, and may stop before the rest
+pub record ReachesBy (move : Scanned → ℕ → Move) (Stops : Mode → List ℕ → Type 0) (text : List ℕ) (pieces : List Piece) (rest : List ℕ) : Type 0 where
   pub to : Scanned
-  pub steps : steps_from (Some text_start) text ≡ Some to
+  pub steps : steps_by move (Some text_start) text ≡ Some to
   pub pieces_are : pieces_at to ≡ pieces
-  pub stops : MayBegin pieces rest → StopsBefore to.mode rest
+  pub stops : MayBegin pieces rest → Stops to.mode rest
+
+abbrev Reaches : List ℕ → List Piece → List ℕ → Type 0
+Reaches text pieces rest = ReachesBy move_from StopsBefore text pieces rest
 
 pieces_or : Option Scanned → List Piece
 pieces_or None = []

@@ -197,15 +197,17 @@ inside_step q done held read c sound =
     (λ h. close_sound done (modes.Inside q) held read q c sound sound.holds h)
     (λ h. short_sound done (modes.Inside q) held read q c sound sound.holds.all h)
 
+one_after : (before held : List ℕ) (last c : ℕ) → held ≡ before ++ last ∷ [] → held ++ c ∷ [] ≡ before ++ last ∷ c ∷ []
+one_after before held last c is = ap (λ t. t ++ c ∷ []) is ∙ append_assoc before (last ∷ []) (c ∷ [])
+
 escape_step : (q : ℕ) (done : List Piece) (held read : List ℕ) (c : ℕ) → IsSound (scanned done (modes.Escape q) held) read → SoundIf (step (scanned done (modes.Escape q) held) c) (read ++ c ∷ [])
 unfolding move_of
 escape_step q done held read c sound =
-    let before = sound.holds.0 in
-    let slash = sound.holds.1 in
-    let spell : held ++ c ∷ [] ≡ before ++ slash ∷ c ∷ [] = ap (λ t. t ++ c ∷ []) sound.holds.2 ∙ append_assoc before (slash ∷ []) (c ∷ []) in
+    let (before, slash, is, items, slashes) = sound.holds in
+    let spell = one_after before held slash c is in
     cond_both (is_return c) _ _ (λ (v : Move). SoundIf (moved (scanned done (modes.Escape q) held) c v) (read ++ c ∷ []))
-    (λ h. grew done held read c (modes.Escape q) (modes.EscapeReturn q) sound (before, slash, c, spell, sound.holds.3, sound.holds.4, h))
-    (λ h. grew done held read c (modes.Escape q) (modes.Inside q) sound (subst (HoldsSome q) (sym spell) (items_push q before (slash ∷ c ∷ []) sound.holds.3 (escaped_item q slash c sound.holds.4) tt)))
+    (λ h. grew done held read c (modes.Escape q) (modes.EscapeReturn q) sound (before, slash, c, spell, items, slashes, h))
+    (λ h. grew done held read c (modes.Escape q) (modes.Inside q) sound (subst (HoldsSome q) (sym spell) (items_push q before (slash ∷ c ∷ []) items (escaped_item q slash c slashes) tt)))
 
 escape_return_step : (q : ℕ) (done : List Piece) (held read : List ℕ) (c : ℕ) → IsSound (scanned done (modes.EscapeReturn q) held) read → SoundIf (step (scanned done (modes.EscapeReturn q) held) c) (read ++ c ∷ [])
 unfolding move_of
@@ -240,7 +242,7 @@ unfolding move_of
 long_one_step q done held read c sound =
     let before = sound.holds.0 in
     cond_both (eqb c q) _ _ (λ (v : Move). SoundIf (moved (scanned done (modes.LongOne q) held) c v) (read ++ c ∷ []))
-    (λ h. grew done held read c (modes.LongOne q) (modes.LongTwo q) sound (before, ap (λ t. t ++ c ∷ []) sound.holds.1 ∙ append_assoc before (q ∷ []) (c ∷ []) ∙ ap (λ (d : ℕ). before ++ q ∷ d ∷ []) (eqb-true c q h), sound.holds.2))
+    (λ h. grew done held read c (modes.LongOne q) (modes.LongTwo q) sound (before, one_after before held q c sound.holds.1 ∙ ap (λ (d : ℕ). before ++ q ∷ d ∷ []) (eqb-true c q h), sound.holds.2))
     (λ h. long_sound done (modes.LongOne q) held read q c sound (subst (HoldsPrefix q) (sym sound.holds.1) (opening_one q before sound.holds.2)) h)
 
 long_two_step : (q : ℕ) (done : List Piece) (held read : List ℕ) (c : ℕ) → IsSound (scanned done (modes.LongTwo q) held) read → SoundIf (step (scanned done (modes.LongTwo q) held) c) (read ++ c ∷ [])
@@ -260,10 +262,8 @@ long_two_step q done held read c sound =
 long_escape_step : (q : ℕ) (done : List Piece) (held read : List ℕ) (c : ℕ) → IsSound (scanned done (modes.LongEscape q) held) read → SoundIf (step (scanned done (modes.LongEscape q) held) c) (read ++ c ∷ [])
 unfolding move_of
 long_escape_step q done held read c sound =
-    let before = sound.holds.0 in
-    let slash = sound.holds.1 in
-    let spell : held ++ c ∷ [] ≡ before ++ slash ∷ c ∷ [] = ap (λ t. t ++ c ∷ []) sound.holds.2 ∙ append_assoc before (slash ∷ []) (c ∷ []) in
-    grew done held read c (modes.LongEscape q) (modes.Long q) sound (subst (HoldsLong q) (sym spell) (prefix_push q before (slash ∷ c ∷ []) sound.holds.3 sound.holds.4 refl))
+    let (before, slash, is, items, slashes) = sound.holds in
+    grew done held read c (modes.LongEscape q) (modes.Long q) sound (subst (HoldsLong q) (sym (one_after before held slash c is)) (prefix_push q before (slash ∷ c ∷ []) items slashes refl))
 
 -- a line end of two characters
 feed_after : (r c : ℕ) → is_return r ≡ true → is_line_feed c ≡ true → r ∷ c ∷ [] ≡ 13 ∷ 10 ∷ []

@@ -10,13 +10,13 @@ use Rattle.py_lines.specs.declared.mode.Spelling.{Spelling}
 use Rattle.py_lines.specs.declared.mode.Mode.{Mode}
 use Rattle.py_lines.specs.declared.mode.Mode.TheVariants as modes
 use Rattle.py_lines.specs.declared.mode.Move.TheVariants as moves
-use Rattle.py_lines.specs.Private.Machine.{Scanned, fresh, steps_from, move_of, short_move, long_move, first_spelling, is_prefix_spelling}
+use Rattle.py_lines.specs.Private.Machine.{Scanned, fresh, move_from, steps_from, move_of, short_move, long_move, first_spelling, is_prefix_spelling}
 use Rattle.py_lines.proofs.Pieces.PieceLists.{piece, joined-append}
 use Rattle.py_lines.proofs.Text.CharacterTests.{prefix_word, quote-not-word, quote-not-feed, not_quote, slash-not-quote, slash-not-feed, feed-not-quote, feed-not-slash, unbarred}
 use Rattle.py_lines.specs.Private.Machine.{spelling_on}
 use Rattle.py_lines.proofs.Machine.Spellings.{prefix_spelling}
 use Rattle.py_lines.proofs.Machine.Starts.{start-word, start-quote}
-use Rattle.py_lines.proofs.Machine.PieceSteps.{scanned, pieces_at, StopsBefore, Finds, steps_from-append, begun, grown, closes, all_held, stops-free, steps_word}
+use Rattle.py_lines.proofs.Machine.PieceSteps.{scanned, pieces_at, StopsBefore, Finds, steps_by-append, begun_by, grown_by, closes, all_held, stops-free, steps_word}
 
 -- a prefix, and the quote after it
 pub opens_at : (s : Spelling) (q : ℕ) → is_prefix_spelling s ≡ true → is_quote q ≡ true → move_of (modes.Word s) q ≡ moves.Grows (modes.Opened q)
@@ -24,14 +24,14 @@ unfolding move_of
 opens_at s q prefix quotes = rw (quote-not-word q quotes, prefix, quotes)
 
 pub open_string : (from : Scanned) (prefix : List ℕ) (q : ℕ) (after : List ℕ) → IsPrefix prefix → is_quote q ≡ true → StopsBefore from.mode (prefix ++ q ∷ after) → steps_from (Some from) (prefix ++ q ∷ []) ≡ Some (scanned (pieces_at from) (modes.Opened q) (prefix ++ q ∷ []))
-open_string from [] q after is quotes stops = begun from q [] after _ stops (start-quote q quotes)
+open_string from [] q after is quotes stops = begun_by move_from from q [] _ stops (start-quote q quotes)
 open_string from (a ∷ bs) q after (inl none) quotes stops = absurd (cc)
 open_string from (a ∷ bs) q after (inr is) quotes stops =
     let letters = prefix_word a bs is in
-    begun from a (bs ++ q ∷ []) (bs ++ q ∷ after) _ stops (start-word a letters.0)
-    ∙ steps_from-append (Some (scanned (pieces_at from) (modes.Word (first_spelling a)) (a ∷ []))) bs (q ∷ [])
+    begun_by move_from from a (bs ++ q ∷ []) _ stops (start-word a letters.0)
+    ∙ steps_by-append move_from (Some (scanned (pieces_at from) (modes.Word (first_spelling a)) (a ∷ []))) bs (q ∷ [])
     ∙ ap (λ o. steps_from o (q ∷ [])) (steps_word (pieces_at from) _ (a ∷ []) bs letters.1)
-    ∙ grown (pieces_at from) (modes.Word (spelling_on (first_spelling a) bs)) (modes.Opened q) (a ∷ bs) q [] (opens_at _ q (sym (prefix_spelling a bs) ∙ is) quotes)
+    ∙ grown_by move_from (pieces_at from) (modes.Word (spelling_on (first_spelling a) bs)) (modes.Opened q) (a ∷ bs) q [] (opens_at _ q (sym (prefix_spelling a bs) ∙ is) quotes)
 
 -- in a short string that holds something
 abbrev pub HoldsShort : ℕ → Mode → Type 0
@@ -102,7 +102,7 @@ run_item done q m held (c ∷ []) short quotes is =
     record {
       to = modes.Inside q;
       inside = inl refl;
-      steps = grown done m (modes.Inside q) held c [] (short_moves q c m short bare.0 bare.1 ∙ short_bare q c (not-true _ parts.0) bare.2);
+      steps = grown_by move_from done m (modes.Inside q) held c [] (short_moves q c m short bare.0 bare.1 ∙ short_bare q c (not-true _ parts.0) bare.2);
     }
 run_item done q m held (c ∷ d ∷ []) short quotes is =
     let slash = (and_parts (is_backslash c) true is).0 in
@@ -114,8 +114,8 @@ run_item done q m held (c ∷ d ∷ []) short quotes is =
     escaped slash to inside moves_so = record {
       to = to;
       inside = inside;
-      steps = grown done m (modes.Escape q) held c (d ∷ []) (short_escapes q c m short quotes slash)
-          ∙ grown done (modes.Escape q) to (held ++ c ∷ []) d [] moves_so ∙ grown_two done held _ c d;
+      steps = grown_by move_from done m (modes.Escape q) held c (d ∷ []) (short_escapes q c m short quotes slash)
+          ∙ grown_by move_from done (modes.Escape q) to (held ++ c ∷ []) d [] moves_so ∙ grown_two done held _ c d;
     }
 run_item done q m held (c ∷ d ∷ e ∷ []) short quotes is =
     let parts = and_parts (is_backslash c && is_return d && is_line_feed e) true is in
@@ -124,9 +124,9 @@ run_item done q m held (c ∷ d ∷ e ∷ []) short quotes is =
     record {
       to = modes.Inside q;
       inside = inl refl;
-      steps = grown done m (modes.Escape q) held c (d ∷ e ∷ []) (short_escapes q c m short quotes second.0)
-          ∙ grown done (modes.Escape q) (modes.EscapeReturn q) (held ++ c ∷ []) d (e ∷ []) (escape_return q d second.1)
-          ∙ grown done (modes.EscapeReturn q) (modes.Inside q) ((held ++ c ∷ []) ++ d ∷ []) e [] (returned_feed q e first.1)
+      steps = grown_by move_from done m (modes.Escape q) held c (d ∷ e ∷ []) (short_escapes q c m short quotes second.0)
+          ∙ grown_by move_from done (modes.Escape q) (modes.EscapeReturn q) (held ++ c ∷ []) d (e ∷ []) (escape_return q d second.1)
+          ∙ grown_by move_from done (modes.EscapeReturn q) (modes.Inside q) ((held ++ c ∷ []) ++ d ∷ []) e [] (returned_feed q e first.1)
           ∙ grown_three done held _ c d e;
     }
 run_item done q m held (c ∷ d ∷ e ∷ f ∷ cs) short quotes is = absurd (both_ways _ refl is)
@@ -140,7 +140,7 @@ run_items done q m held (i ∷ is) short quotes each =
     record {
       to = others.to;
       inside = others.inside;
-      steps = steps_from-append (Some (scanned done m held)) i (joined is)
+      steps = steps_by-append move_from (Some (scanned done m held)) i (joined is)
           ∙ ap (λ o. steps_from o (joined is)) first.steps
           ∙ others.steps
           ∙ ap (λ t. Some (scanned done others.to t)) (append_assoc held i (joined is));
@@ -174,7 +174,7 @@ opening_first prefix q body = append_assoc prefix (q ∷ []) body
 pub opened_steps : (from : Scanned) (prefix : List ℕ) (q : ℕ) (body : List ℕ) → IsPrefix prefix → is_quote q ≡ true → StopsBefore from.mode (prefix ++ q ∷ body) → steps_from (Some from) (prefix ++ q ∷ body) ≡ steps_from (Some (scanned (pieces_at from) (modes.Opened q) (prefix ++ q ∷ []))) body
 opened_steps from prefix q body is quotes stops =
     ap (steps_from (Some from)) (sym (opening_first prefix q body))
-    ∙ steps_from-append (Some from) (prefix ++ q ∷ []) body
+    ∙ steps_by-append move_from (Some from) (prefix ++ q ∷ []) body
     ∙ ap (λ o. steps_from o body) (open_string from prefix q body is quotes stops)
 
 -- the items of a short string, if there are some
@@ -186,7 +186,7 @@ short_body done q held item items quotes each =
     record {
       to = others.to;
       inside = others.inside;
-      steps = steps_from-append (Some (scanned done (modes.Opened q) held)) item (joined items)
+      steps = steps_by-append move_from (Some (scanned done (modes.Opened q) held)) item (joined items)
           ∙ ap (λ o. steps_from o (joined items)) first.steps
           ∙ others.steps
           ∙ ap (λ t. Some (scanned done others.to t)) (append_assoc held item (joined items));
@@ -203,7 +203,7 @@ find_short from prefix q [] rest is quotes each stops before =
     record {
       to = scanned done (modes.Empty q) ((prefix ++ q ∷ []) ++ q ∷ []);
       steps = opened_steps from prefix q (q ∷ []) is quotes (stops_so from prefix q (q ∷ []) rest stops)
-          ∙ grown done _ _ (prefix ++ q ∷ []) q [] (empty-opened q);
+          ∙ grown_by move_from done _ _ (prefix ++ q ∷ []) q [] (empty-opened q);
       pieces_are = ap (λ t. done ++ piece string t ∷ []) (opening_first prefix q (q ∷ []));
       stops = stops-empty q rest (before prefix q refl is quotes);
     }
@@ -214,7 +214,7 @@ find_short from prefix q (i ∷ items) rest is quotes each stops before =
     record {
       to = fresh (done ++ piece string (((prefix ++ q ∷ []) ++ text) ++ q ∷ []) ∷ []);
       steps = opened_steps from prefix q (text ++ q ∷ []) is quotes (stops_so from prefix q (text ++ q ∷ []) rest stops)
-          ∙ steps_from-append (Some (scanned done (modes.Opened q) (prefix ++ q ∷ []))) text (q ∷ [])
+          ∙ steps_by-append move_from (Some (scanned done (modes.Opened q) (prefix ++ q ∷ []))) text (q ∷ [])
           ∙ ap (λ o. steps_from o (q ∷ [])) body.steps
           ∙ close_short done q body.to ((prefix ++ q ∷ []) ++ text) body.inside quotes;
       pieces_are = ap (λ t. done ++ piece string t ∷ []) (append_assoc (prefix ++ q ∷ []) text (q ∷ []) ∙ opening_first prefix q (text ++ q ∷ []));
@@ -291,17 +291,17 @@ long-opens q = rw (eq-eqb q q refl)
 -- an item that is no quote of the string
 long_other : (done : List Piece) (q : ℕ) (seen : QuotesBefore) (held item : List ℕ) → is_quote q ≡ true → is_item item ≡ true → is_bare (λ c. c == q) item ≡ false → steps_from (Some (scanned done (mode_at q seen) held)) item ≡ Some (scanned done (modes.Long q) (held ++ item))
 long_other done q seen held [] quotes is other = absurd (both_ways _ refl is)
-long_other done q seen held (c ∷ []) quotes is other = grown done (mode_at q seen) (modes.Long q) held c [] (long_moves q c seen other ∙ long_bare q c (not-true _ is))
+long_other done q seen held (c ∷ []) quotes is other = grown_by move_from done (mode_at q seen) (modes.Long q) held c [] (long_moves q c seen other ∙ long_bare q c (not-true _ is))
 long_other done q seen held (c ∷ d ∷ []) quotes is other =
-    grown done (mode_at q seen) (modes.LongEscape q) held c (d ∷ []) (long_moves q c seen (not_quote c q quotes (slash-not-quote c is)) ∙ long_slash q c is)
-    ∙ grown done (modes.LongEscape q) (modes.Long q) (held ++ c ∷ []) d [] (long_escaped q d)
+    grown_by move_from done (mode_at q seen) (modes.LongEscape q) held c (d ∷ []) (long_moves q c seen (not_quote c q quotes (slash-not-quote c is)) ∙ long_slash q c is)
+    ∙ grown_by move_from done (modes.LongEscape q) (modes.Long q) (held ++ c ∷ []) d [] (long_escaped q d)
     ∙ grown_two done held _ c d
 long_other done q seen held (c ∷ d ∷ e ∷ []) quotes is other =
     let first = and_parts (is_backslash c && is_return d) (is_line_feed e) is in
     let slash = (and_parts (is_backslash c) (is_return d) first.0).0 in
-    grown done (mode_at q seen) (modes.LongEscape q) held c (d ∷ e ∷ []) (long_moves q c seen (not_quote c q quotes (slash-not-quote c slash)) ∙ long_slash q c slash)
-    ∙ grown done (modes.LongEscape q) (modes.Long q) (held ++ c ∷ []) d (e ∷ []) (long_escaped q d)
-    ∙ grown done (modes.Long q) (modes.Long q) ((held ++ c ∷ []) ++ d ∷ []) e [] (long_moves q e none (not_quote e q quotes (feed-not-quote e first.1)) ∙ long_bare q e (feed-not-slash e first.1))
+    grown_by move_from done (mode_at q seen) (modes.LongEscape q) held c (d ∷ e ∷ []) (long_moves q c seen (not_quote c q quotes (slash-not-quote c slash)) ∙ long_slash q c slash)
+    ∙ grown_by move_from done (modes.LongEscape q) (modes.Long q) (held ++ c ∷ []) d (e ∷ []) (long_escaped q d)
+    ∙ grown_by move_from done (modes.Long q) (modes.Long q) ((held ++ c ∷ []) ++ d ∷ []) e [] (long_moves q e none (not_quote e q quotes (feed-not-quote e first.1)) ∙ long_bare q e (feed-not-slash e first.1))
     ∙ grown_three done held _ c d e
 long_other done q seen held (c ∷ d ∷ e ∷ f ∷ cs) quotes is other = absurd (both_ways _ refl is)
 
@@ -326,15 +326,15 @@ after_other q one item items h = tail_triple q item items (tail_triple q (q ∷ 
 after_other q two item items h = tail_triple q item items (tail_triple q (q ∷ []) (item ∷ items) (tail_triple q (q ∷ []) ((q ∷ []) ∷ item ∷ items) h))
 
 quote_grows : (done : List Piece) (q : ℕ) (seen : QuotesBefore) (held : List ℕ) (items : List (List ℕ)) → has_triple q (quotes_before q seen ++ (q ∷ []) ∷ items) ≡ false → steps_from (Some (scanned done (mode_at q seen) held)) (q ∷ []) ≡ Some (scanned done (mode_at q (next seen)) (held ++ q ∷ []))
-quote_grows done q none held items h = grown done (modes.Long q) (modes.LongOne q) held q [] (long-one q)
-quote_grows done q one held items h = grown done (modes.LongOne q) (modes.LongTwo q) held q [] (long-two q)
+quote_grows done q none held items h = grown_by move_from done (modes.Long q) (modes.LongOne q) held q [] (long-one q)
+quote_grows done q one held items h = grown_by move_from done (modes.LongOne q) (modes.LongTwo q) held q [] (long-two q)
 quote_grows done q two held items h = absurd (both_ways _ (or_parts (begins_triple q ((q ∷ []) ∷ (q ∷ []) ∷ (q ∷ []) ∷ items)) _ h).0 (rw (eq-eqb q q refl)))
 
 pub run_long : (done : List Piece) (q : ℕ) (seen : QuotesBefore) (held : List ℕ) (items : List (List ℕ)) → is_quote q ≡ true → list_all is_item items ≡ true → has_triple q (quotes_before q seen ++ items) ≡ false → steps_from (Some (scanned done (mode_at q seen) held)) (joined items) ≡ Some (scanned done (mode_at q (seen_after q seen items)) (held ++ joined items))
 run_long done q seen held [] quotes each triple = all_held done (mode_at q seen) held
 run_long done q seen held (i ∷ is) quotes each triple =
     let parts = and_parts (is_item i) (list_all is_item is) each in
-    steps_from-append (Some (scanned done (mode_at q seen) held)) i (joined is)
+    steps_by-append move_from (Some (scanned done (mode_at q seen) held)) i (joined is)
     ∙ ⊎_elim
     (λ (h : is_bare (λ c. c == q) i ≡ true).
     let same = bare_quote q i h in
@@ -369,8 +369,8 @@ pub long_opened : (from : Scanned) (prefix : List ℕ) (q : ℕ) (body : List �
 long_opened from prefix q body is quotes stops =
     let done = pieces_at from in
     opened_steps from prefix q (q ∷ q ∷ body) is quotes stops
-    ∙ grown done _ _ (prefix ++ q ∷ []) q (q ∷ body) (empty-opened q)
-    ∙ grown done _ _ ((prefix ++ q ∷ []) ++ q ∷ []) q body (long-opens q)
+    ∙ grown_by move_from done _ _ (prefix ++ q ∷ []) q (q ∷ body) (empty-opened q)
+    ∙ grown_by move_from done _ _ ((prefix ++ q ∷ []) ++ q ∷ []) q body (long-opens q)
     ∙ ap (λ t. steps_from (Some (scanned done (modes.Long q) t)) body) (append_assoc (prefix ++ q ∷ []) (q ∷ []) (q ∷ []) ∙ opening_first prefix q (q ∷ q ∷ []))
 
 pub find_long : (from : Scanned) (prefix : List ℕ) (q : ℕ) (items : List (List ℕ)) (rest : List ℕ) → IsPrefix prefix → is_quote q ≡ true → list_all is_item items ≡ true → has_triple q (items ++ (q ∷ []) ∷ (q ∷ []) ∷ []) ≡ false → StopsBefore from.mode (prefix ++ q ∷ ((q ∷ q ∷ (joined items ++ q ∷ q ∷ q ∷ [])) ++ rest)) → Finds from (prefix ++ (q ∷ q ∷ q ∷ joined items ++ q ∷ q ∷ q ∷ [])) (piece string (prefix ++ (q ∷ q ∷ q ∷ joined items ++ q ∷ q ∷ q ∷ [])) ∷ []) rest
@@ -385,7 +385,7 @@ find_long from prefix q items rest is quotes each triple stops =
       to = fresh (done ++ piece string ((opening ++ joined all) ++ q ∷ []) ∷ []);
       steps = long_opened from prefix q ends is quotes (stops_so from prefix q (q ∷ q ∷ ends) rest stops)
           ∙ ap (steps_from (Some (scanned done (modes.Long q) opening))) (sym cut)
-          ∙ steps_from-append (Some (scanned done (modes.Long q) opening)) (joined all) (q ∷ [])
+          ∙ steps_by-append move_from (Some (scanned done (modes.Long q) opening)) (joined all) (q ∷ [])
           ∙ ap (λ o. steps_from o (q ∷ [])) (run_long done q none opening all quotes (list_all-append is_item items ((q ∷ []) ∷ (q ∷ []) ∷ []) ∙ and_from _ _ each (quotes_items q quotes)) triple)
           ∙ ap (λ (s : QuotesBefore). steps_from (Some (scanned done (mode_at q s) (opening ++ joined all))) (q ∷ [])) seen
           ∙ closes done (modes.LongTwo q) (opening ++ joined all) q (long-closes q);

@@ -109,5 +109,5 @@ string_in_field = record {
   begun = record { fit = tt; others = []; balanced = balance.none [] refl; inside = λ h. (refl, tt) };
   before = refl;
   spell = refl;
-  open_yet = inl (record { prefix = []; quote = 34; items = []; last = []; spell = refl; begun = inl refl; opens = refl; each = refl; escapes = inl refl }, refl);
+  open_yet = inl (record { prefix = []; quote = 34; items = []; last = []; spell = refl; begun = inl refl; opens = refl; holds = refl; escapes = inl refl }, refl);
 }

@@ -3,7 +3,7 @@ use Rattle.std.proofs.Common.{◌≡◌, ℕ, suc, ◌<◌, Bool, true, false, �
 use Rattle.std.proofs.lemmas.Bool.{cond_both, or_parts, or_from, both_ways, lt-ltb, ltb-true}
 use Rattle.py_lines.specs.Piece.{Class, mark, space, word, string, operator, comment, join, line_end, Piece, begins, spelled}
 use Rattle.py_lines.specs.Balance as balance
-use Rattle.py_lines.specs.Balance.{is_opening, is_closing, closing_of, is_operator_that, is_opener, is_closer, ArePair, IsBalanced, depth_after, depth_through, IsShallowPlain}
+use Rattle.py_lines.specs.Balance.{is_opening, is_closing, closing_of, is_operator_that, is_opener, is_closer, ArePair, IsBalanced, depth_after, depth_through, EachAtDepth, OpensShallow, IsShallowPlain}
 use Rattle.py_lines.specs.LogicalLine.{first_or_zero, byte_len}
 use Rattle.py_lines.specs.Private.Machine.{Bracket, closed_by, opened_by, brackets_after, brackets_through, brackets_of}
 use Rattle.py_lines.proofs.Text.CharacterTests.{none_of}
@@ -63,14 +63,15 @@ pub depth_through-append : (d : ℕ) (ps qs : List Piece) → depth_through d (p
 depth_through-append d [] qs = refl
 depth_through-append d (p ∷ ps) qs = depth_through-append (depth_after d p) ps qs
 
-pub IsShallowPlain-append : (d : ℕ) (ps qs : List Piece) → IsShallowPlain d ps → IsShallowPlain (depth_through d ps) qs → IsShallowPlain d (ps ++ qs)
-IsShallowPlain-append d [] qs h k = k
-IsShallowPlain-append d (p ∷ ps) qs h k = (h.0, IsShallowPlain-append (depth_after d p) ps qs h.1 k)
+-- what holds of each piece of two lists, one after another
+pub EachAtDepth-append : (P : ℕ → Piece → Type 0) (d : ℕ) (ps qs : List Piece) → EachAtDepth P d ps → EachAtDepth P (depth_through d ps) qs → EachAtDepth P d (ps ++ qs)
+EachAtDepth-append P d [] qs h k = k
+EachAtDepth-append P d (p ∷ ps) qs h k = (h.0, EachAtDepth-append P (depth_after d p) ps qs h.1 k)
 
-pub IsShallowPlain-parts : (d : ℕ) (ps qs : List Piece) → IsShallowPlain d (ps ++ qs) → IsShallowPlain d ps × IsShallowPlain (depth_through d ps) qs
-IsShallowPlain-parts d [] qs h = (tt, h)
-IsShallowPlain-parts d (p ∷ ps) qs h =
-    let others = IsShallowPlain-parts (depth_after d p) ps qs h.1 in
+pub EachAtDepth-parts : (P : ℕ → Piece → Type 0) (d : ℕ) (ps qs : List Piece) → EachAtDepth P d (ps ++ qs) → EachAtDepth P d ps × EachAtDepth P (depth_through d ps) qs
+EachAtDepth-parts P d [] qs h = (tt, h)
+EachAtDepth-parts P d (p ∷ ps) qs h =
+    let others = EachAtDepth-parts P (depth_after d p) ps qs h.1 in
     ((h.0, others.0), others.1)
 
 -- a balanced list leaves the depth as it was
@@ -123,7 +124,7 @@ balanced_through ps (balance.one _ p is other) st done shallow =
     let parts = or_parts (is_opener p) (is_closer p) other in
     ap (brackets_through (Some st) done) is ∙ ap (λ o. brackets_through o (done ++ p ∷ []) []) (other_keeps st (byte_len (spelled done)) p parts.0 parts.1)
 balanced_through ps (balance.pair _ inner a b is both within) st done shallow =
-    let parts = IsShallowPlain-parts (length st) (a ∷ inner) (b ∷ []) (subst (IsShallowPlain (length st)) is shallow) in
+    let parts = EachAtDepth-parts OpensShallow (length st) (a ∷ inner) (b ∷ []) (subst (IsShallowPlain (length st)) is shallow) in
     let top : Bracket = record { opener = first_or_zero a.text; place = byte_len (spelled done) } in
     let middle : List Piece = done ++ a ∷ [] in
     ap (brackets_through (Some st) done) is
@@ -132,7 +133,7 @@ balanced_through ps (balance.pair _ inner a b is both within) st done shallow =
     ∙ ap (λ o. brackets_through o (done ++ a ∷ inner) (b ∷ [])) (balanced_through inner within (top ∷ st) middle (subst (λ (n : ℕ). IsShallowPlain n inner) (depth-opener (length st) a both.opens) parts.0.1))
     ∙ ap (λ o. brackets_through o ((done ++ a ∷ inner) ++ b ∷ []) []) (closer_pops st (byte_len (spelled (done ++ a ∷ inner))) top b both.closes (pair_kind a b both))
 balanced_through ps (balance.both _ first second is left right) st done shallow =
-    let parts = IsShallowPlain-parts (length st) first second (subst (IsShallowPlain (length st)) is shallow) in
+    let parts = EachAtDepth-parts OpensShallow (length st) first second (subst (IsShallowPlain (length st)) is shallow) in
     ap (brackets_through (Some st) done) is
     ∙ through-append (Some st) done first second
     ∙ ap (λ o. brackets_through o (done ++ first) second) (balanced_through first left st done parts.0)
@@ -161,7 +162,7 @@ depth_push : (ps : List Piece) (p : Piece) (n m : ℕ) → depth_through 0 ps �
 depth_push ps p n m before after = depth_through-append 0 ps (p ∷ []) ∙ ap (λ (d : ℕ). depth_after d p) before ∙ after
 
 shallow_push : (ps : List Piece) (p : Piece) → IsShallowPlain 0 ps → (is_opener p ≡ true → depth_through 0 ps < 200) → IsShallowPlain 0 (ps ++ p ∷ [])
-shallow_push ps p before room = IsShallowPlain-append 0 ps (p ∷ []) before (room, tt)
+shallow_push ps p before room = EachAtDepth-append OpensShallow 0 ps (p ∷ []) before (room, tt)
 
 stands-opener : (bs : List Bracket) (ps : List Piece) (p : Piece) → Stands bs ps → is_opener p ≡ true → StandsIf (opened_by (first_or_zero p.text) (byte_len (spelled ps)) bs) (ps ++ p ∷ [])
 stands-opener bs ps p stands opens =

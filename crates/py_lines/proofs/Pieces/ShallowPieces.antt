@@ -34,14 +34,3 @@ pub fits_reading : (ps : List Piece) → brackets_of ps ≡ Some [] → StringsF
 fits_reading ps stack strings =
     let level = balanced-from_stack ps stack in
     (level.0, shallow_both 0 ps level.1 strings)
-
--- strings of two lists, one after another
-pub StringsFit-append : (d : ℕ) (ps qs : List Piece) → StringsFit d ps → StringsFit (depth_through d ps) qs → StringsFit d (ps ++ qs)
-StringsFit-append d [] qs h k = k
-StringsFit-append d (p ∷ ps) qs h k = (h.0, StringsFit-append (depth_after d p) ps qs h.1 k)
-
-pub StringsFit-parts : (d : ℕ) (ps qs : List Piece) → StringsFit d (ps ++ qs) → StringsFit d ps × StringsFit (depth_through d ps) qs
-StringsFit-parts d [] qs h = (tt, h)
-StringsFit-parts d (p ∷ ps) qs h =
-    let others = StringsFit-parts (depth_after d p) ps qs h.1 in
-    ((h.0, others.0), others.1)

@@ -82,19 +82,21 @@ line_at_close m old mid read way sound final t empty some end_len whole ends =
     let spell : spelled (pieces_at s) ≡ read = closed_spells s.mode s.done s.held sound.holds ∙ sound.spell in
     let plain = append-nil (spelled (pieces_at s)) ∙ spell in
     record {
-      to = s;
-      steps = way.steps;
-      spell = spell;
-      whole = whole;
-      stacked = stack_closed s.mode s.done s.held (stack_of old.brackets) way.stacked ∙ ap (λ l. Some l) empty;
-      strings = (end_sound s.done s.mode s.held read sound final).strings;
+      line = record {
+        to = s;
+        steps = way.steps;
+        spell = spell;
+        whole = whole;
+        stacked = stack_closed s.mode s.done s.held (stack_of old.brackets) way.stacked ∙ ap (λ l. Some l) empty;
+        strings = (end_sound s.done s.mode s.held read sound final).strings;
+        some = some;
+      };
       stop = t.counts.stop ∙ ap byte_len plain;
       here = t.counts.here ∙ ap (λ l. mid.line + line_ends l) plain;
       tokens = t.counts.tokens;
       kind = t.counts.kind;
       indent = t.counts.indent;
       ends = ends;
-      some = some;
     }
 
 -- no line end closes it

@@ -10,7 +10,7 @@ use Rattle.py_lines.specs.Piece.{Class, line_end, Piece, spelled}
 use Rattle.py_lines.specs.Fields.{InClass, AreReadBefore}
 use Rattle.py_lines.specs.Reading.{Decodes}
 use Rattle.py_lines.specs.LogicalLine.{LogicalLine, cut, byte_len, line_ends, line_of, tokens_from, kind_of, indent_of, end_len_of}
-use Rattle.py_lines.specs.Reader.{HasGiven, Continues, standing_at}
+use Rattle.py_lines.specs.Reader.{Reader, HasGiven, Continues, standing_at}
 use Rattle.py_lines.specs.Private.Machine.{Scanned, brackets_of}
 use Rattle.py_lines.specs.Private.ScanMachine.{scan_steps, StringsFit}
 use Rattle.py_lines.specs.declared.line_state.LineState.{LineState}
@@ -37,21 +37,25 @@ use Rattle.py_lines.proofs.LineScan.PieceEnd.{no_class_bracket}
 use Rattle.py_lines.proofs.Lexings.FirstLines.{given_begin}
 pub use Rattle.py_lines.proofs.Readers.LineFaults.{Within}
 
--- the pieces of a line that was scanned whole, and what the scan says of them
-pub record IsScannedLine (m : Scanned) (scan : Scan) (read : List ℕ) (end_len : ℕ) (u : List Piece) : Type 0 where
+-- the pieces of a line that was read whole
+pub record IsReadLine (m : Scanned) (read : List ℕ) (u : List Piece) : Type 0 where
   pub to : Scanned
   pub steps : scan_steps (Some m) read ≡ Some to
   pub spell : spelled u ≡ read
   pub whole : cut 0 u ≡ u ∷ []
   pub stacked : brackets_of u ≡ Some []
   pub strings : StringsFit 0 u
+  pub some : 0 < byte_len read
+
+-- and what the scan says of them
+pub record IsScannedLine (m : Scanned) (scan : Scan) (read : List ℕ) (end_len : ℕ) (u : List Piece) : Type 0 where
+  pub line : IsReadLine m read u
   pub stop : scan.stop ≡ byte_len read
   pub here : scan.count.line ≡ scan.line + line_ends read
   pub tokens : scan.tokens.items ≡ tokens_from 0 scan.line u
   pub kind : scan.kind ≡ kind_of u
   pub indent : scan.indent ≡ indent_of u
   pub ends : end_len ≡ end_len_of u
-  pub some : 0 < byte_len read
 
 -- where the scan stopped, given the lines so far
 pub situation : (s : Source) (stop : Stop) (lines : List LogicalLine) (has : HasScanned s stop) → HasGiven (reader_of s) lines → Situation (reader_of s) s.characters.now lines has.scans.read has.scans.rest
@@ -85,7 +89,7 @@ given_line old mid new stop has end_len u line place characters same gives =
     let size : new.state.place - new.start ≡ byte_len has.scans.read = omega (arith, ap (λ (s : LineState). s.place) gives.state, gives.start, line.stop, place) in
     let text : take (new.state.place - new.start) (drop new.start new.characters.now) ≡ encode_utf8_all (spelled u)
     = ap (λ (n : ℕ). take n (drop new.start new.characters.now)) size ∙ ap (λ (n : ℕ). take (byte_len has.scans.read) (drop n new.characters.now)) start ∙ ap (λ (b : Bor (List ℕ)). take (byte_len has.scans.read) (drop old.state.place b.now)) (gives.characters ∙ characters)
-    ∙ ap (take (byte_len has.scans.read)) (sym has.scans.spell) ∙ take-append_seam (encode_utf8_all has.scans.read) has.scans.rest ∙ ap encode_utf8_all (sym line.spell) in
+    ∙ ap (take (byte_len has.scans.read)) (sym has.scans.spell) ∙ take-append_seam (encode_utf8_all has.scans.read) has.scans.rest ∙ ap encode_utf8_all (sym line.line.spell) in
     let kind = ap (λ (s : LineState). s.scan.kind) gives.state ∙ line.kind in
     let tokens = ap (λ (s : LineState). s.scan.tokens.items) gives.state ∙ line.tokens ∙ ap (λ (n : ℕ). tokens_from 0 n u) (same ∙ has.line) in
     let indent = ap (λ (s : LineState). s.scan.indent) gives.state ∙ line.indent in
@@ -96,6 +100,32 @@ given_line old mid new stop has end_len u line place characters same gives =
 lie_in_line : (new : Source) (offset number : ℕ) (u : List Piece) → line_of_source new ≡ line_of offset number u → all_scalars (spelled u) ≡ true → EachLiesIn (line_of_source new).text new.state.scan.tokens.items
 lie_in_line new offset number u is scalars = subst (λ (l : LogicalLine). EachLiesIn l.text l.tokens) (sym is) (tokens_lie number u scalars)
 
+-- what a line that was read whole continues
+module _ (old : Source) (new : Reader) (read rest : List ℕ) (u : List Piece) (scalars : all_scalars read ≡ true) (split : encode_utf8_all read ++ rest ≡ drop old.state.place old.characters.now) (more : old.state.place < length old.bytes.now) (no_fault : old.state.fault ≡ None)
+    (line : IsReadLine (line_start (first_mode old.state.place)) read u) (text : new.text ≡ old.bytes.now) (here : new.place ≡ old.state.place + byte_len read) (within : new.place ≤ length new.text) (reached : new.line ≡ old.state.line + line_ends read) (no_new_fault : new.fault ≡ None)
+    (fit : (lines : List LogicalLine) (s : Situation (reader_of old) old.characters.now lines read rest) → AreReadBefore u s.after)
+    (ended : (lines : List LogicalLine) (s : Situation (reader_of old) old.characters.now lines read rest) → IsEnded u (s.after ++ s.given.first.tail ≡ [])) where
+  one_more_given : (lines : List LogicalLine) → HasGiven (reader_of old) lines → HasGiven new (lines ++ line_of old.state.place old.state.line u ∷ [])
+  one_more_given lines given =
+      let s = situate (reader_of old) old.characters.now lines read rest given (IsUtf8-had _ old.text) old.prefix old.bad more split in
+      let base_fit = subst (AreReadBefore s.given.first.pieces) s.split s.given.first.fit in
+      let base = base_of old.state.place s.given.first.pieces (read ++ s.after) base_fit s.ends s.given.first.here in
+      one_more (reader_of old) new old.characters.now lines read rest u s line.spell (fit lines s) (follows_base old.state.place s.given.first.pieces u read s.after line.to base line.spell (fit lines s) line.steps) line.stacked line.strings line.whole (ended lines s) text here reached no_new_fault
+
+  pub continues_as : Continues (reader_of old) (line_of old.state.place old.state.line u) new
+  continues_as =
+      let size : byte_len (spelled u) ≡ byte_len read = ap byte_len line.spell in
+      record {
+        given = one_more_given;
+        begins = λ lines given. given_begin new (lines ++ line_of old.state.place old.state.line u ∷ []) (one_more_given lines given);
+        text = text;
+        place = here ∙ ap (λ (n : ℕ). old.state.place + n) (sym size);
+        some_text = omega (arith, size, line.some);
+        within = within;
+        fault = no_fault;
+        no_fault = no_new_fault;
+      }
+
 -- one more line was given
 pub continues : (old mid new : Source) (stop : Stop) (has : HasScanned old stop) (end_len : ℕ) (u : List Piece) → IsScannedLine (line_start (first_mode old.state.place)) mid.state.scan has.scans.read end_len u → mid.bytes ≡ old.bytes → mid.state.place ≡ old.state.place → mid.state.fault ≡ old.state.fault → mid.characters ≡ old.characters → mid.state.scan.line ≡ old.state.scan.line → PassesLine mid end_len new
     → ((lines : List LogicalLine) (s : Situation (reader_of old) old.characters.now lines has.scans.read has.scans.rest) → AreReadBefore u s.after)
@@ -103,28 +133,13 @@ pub continues : (old mid new : Source) (stop : Stop) (has : HasScanned old stop)
     → Continues (reader_of old) (line_of_source new) (reader_of new) × EachLiesIn (line_of_source new).text new.state.scan.tokens.items
 continues old mid new stop has end_len u line bytes place fault characters same gives fit ended =
     let is = given_line old mid new stop has end_len u line place characters same gives in
-    let size : length (line_of_source new).text ≡ byte_len has.scans.read = ap (λ (l : LogicalLine). length l.text) is ∙ ap byte_len line.spell in
     let text : new.bytes.now ≡ old.bytes.now = ap (λ (b : Bor (List ℕ)). b.now) (gives.bytes ∙ bytes) in
     let here : new.state.place ≡ old.state.place + byte_len has.scans.read = ap (λ (s : LineState). s.place) gives.state ∙ ap (λ (n : ℕ). n + mid.state.scan.stop) place ∙ ap (λ (n : ℕ). old.state.place + n) line.stop in
     let no_fault : new.state.fault ≡ None = ap (λ (s : LineState). s.fault) gives.state ∙ fault ∙ has.no_fault in
     let reached : new.state.line ≡ old.state.line + line_ends has.scans.read = ap (λ (s : LineState). s.line) gives.state ∙ line.here ∙ ap (λ (n : ℕ). n + line_ends has.scans.read) (same ∙ has.line) in
-    let more : (lines : List LogicalLine) → HasGiven (reader_of old) lines → HasGiven (reader_of new) (lines ++ line_of_source new ∷ [])
-    = λ lines given.
-    let s = situation old stop lines has given in
-    let base_fit = subst (AreReadBefore s.given.first.pieces) s.split s.given.first.fit in
-    let base = base_of old.state.place s.given.first.pieces (has.scans.read ++ s.after) base_fit s.ends s.given.first.here in
-    subst (λ (l : LogicalLine). HasGiven (reader_of new) (lines ++ l ∷ [])) (sym is) (one_more (reader_of old) (reader_of new) old.characters.now lines has.scans.read has.scans.rest u s line.spell (fit lines s) (follows_base old.state.place s.given.first.pieces u has.scans.read s.after line.to base line.spell (fit lines s) line.steps) line.stacked line.strings line.whole (ended lines s) text here reached no_fault) in (
-      record {
-        given = more;
-        begins = λ lines given. given_begin (reader_of new) (lines ++ line_of_source new ∷ []) (more lines given);
-        text = text;
-        place = here ∙ ap (λ (n : ℕ). old.state.place + n) (sym size);
-        some_text = omega (arith, size, line.some);
-        within = omega (arith, new.within, ap length new.prefix, length-take (length new.characters.now) new.bytes.now);
-        fault = has.no_fault;
-        no_fault = no_fault;
-      },
-      lie_in_line new old.state.place old.state.line u is (ap all_scalars line.spell ∙ has.scans.scalars),
+    let within : new.state.place ≤ length new.bytes.now = omega (arith, new.within, ap length new.prefix, length-take (length new.characters.now) new.bytes.now) in (
+      subst (λ (l : LogicalLine). Continues (reader_of old) l (reader_of new)) (sym is) (continues_as old (reader_of new) has.scans.read has.scans.rest u has.scans.scalars has.scans.spell has.more has.no_fault line.line text here within reached no_fault fit ended),
+      lie_in_line new old.state.place old.state.line u is (ap all_scalars line.line.spell ∙ has.scans.scalars),
     )
 
 -- the bytes of the line end after pieces
@@ -138,6 +153,10 @@ first_bytes : (last : Piece) → last.class ≡ line_end → InClass last.class 
 first_bytes last class holds =
     let text = line_first last class holds in
     omega (arith, length-le-encodes last.text, ap length text.2)
+
+full_line : (body : List Piece) (last : Piece) (read : List ℕ) → last.class ≡ line_end → spelled (body ++ last ∷ []) ≡ read → InClass last.class last.text → 0 < byte_len read
+full_line body last read class spell holds =
+    omega (arith, ap byte_len (sym spell ∙ spelled-append body (last ∷ [])), byte_len-append (spelled body) (last.text ++ []), ap byte_len (append-nil last.text), first_bytes last class holds)
 
 -- the characters after the scanned line
 has_after : (old : Source) (len : ℕ) → HasScanned old (stops.LineEnd len) → List ℕ
@@ -153,19 +172,21 @@ line_at_end m scan read rest len at after is =
     let t = at.tallies in
     let spell = append-nil (spelled (at.body ++ at.last ∷ [])) ∙ at.spell in
     record {
-      to = at.to;
-      steps = at.steps;
-      spell = at.spell;
-      whole = one_line 0 at.body at.last at.are.one_line at.are.class at.are.level;
-      stacked = no_class_bracket at.body at.last at.are.class at.are.paired;
-      strings = at.strings;
+      line = record {
+        to = at.to;
+        steps = at.steps;
+        spell = at.spell;
+        whole = one_line 0 at.body at.last at.are.one_line at.are.class at.are.level;
+        stacked = no_class_bracket at.body at.last at.are.class at.are.paired;
+        strings = at.strings;
+        some = full_line at.body at.last read at.are.class at.spell (AreReadBefore-second at.body (at.last ∷ []) after (at.fit after is)).0;
+      };
       stop = t.counts.stop ∙ ap byte_len spell;
       here = t.counts.here ∙ ap (λ l. scan.line + line_ends l) spell;
       tokens = t.counts.tokens;
       kind = t.counts.kind;
       indent = t.counts.indent;
       ends = at.are.size ∙ sym (end_len-push at.body at.last at.are.class);
-      some = omega (arith, ap byte_len (sym at.spell ∙ spelled-append at.body (at.last ∷ [])), byte_len-append (spelled at.body) (at.last.text ++ []), ap byte_len (append-nil at.last.text), first_bytes at.last at.are.class (AreReadBefore-second at.body (at.last ∷ []) after (at.fit after is)).0);
     }
 
 pub line_ended : (old : Source) (len : ℕ) (has : HasScanned old (stops.LineEnd len)) → IsScannedLine (line_start (first_mode old.state.place)) old.state.scan has.scans.read len (has.scans.stops.body ++ has.scans.stops.last ∷ [])

@@ -5,7 +5,7 @@ use Rattle.py_lines.specs.Private.Machine.{Scanned, text_start, Bracket, bracket
 use Rattle.py_lines.specs.Private.ScanMachine.{move_at, scan_step, scan_steps}
 use Rattle.py_lines.proofs.Pieces.OpenBrackets.{stack_before}
 use Rattle.py_lines.proofs.Machine.FinishedPieces.{GrowsIf, grows_on, moved_grows}
-use Rattle.py_lines.proofs.ScanMachine.Steps.{scan_steps-append}
+use Rattle.py_lines.proofs.Machine.PieceSteps.{steps_by-append}
 
 -- a state whose brackets pair, as far as they go
 abbrev pub kept : Scanned → Option (List Bracket) → Option Scanned
@@ -90,9 +90,9 @@ run_before from xs ys s steps = go (scan_steps from xs) refl
   where
     go : (o : Option Scanned) → scan_steps from xs ≡ o → (t : Scanned) × (scan_steps from xs ≡ Some t) × (scan_steps (Some t) ys ≡ Some s)
     go None is =
-        let stuck : None ≡ Some s = sym (ap (λ x. scan_steps x ys) is) ∙ sym (scan_steps-append from xs ys) ∙ steps in
+        let stuck : None ≡ Some s = sym (ap (λ x. scan_steps x ys) is) ∙ sym (steps_by-append move_at from xs ys) ∙ steps in
         absurd (cc)
-    go (Some t) is = (t, is, sym (ap (λ x. scan_steps x ys) is) ∙ sym (scan_steps-append from xs ys) ∙ steps)
+    go (Some t) is = (t, is, sym (ap (λ x. scan_steps x ys) is) ∙ sym (steps_by-append move_at from xs ys) ∙ steps)
 
 -- one character more that is taken
 goes-append : (o : Option Scanned) (a b : List ℕ) → goes o (a ++ b) ≡ goes (goes o a) b

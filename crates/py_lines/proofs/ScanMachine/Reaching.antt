@@ -14,14 +14,13 @@ use Rattle.py_lines.specs.declared.mode.Mode.{Mode}
 use Rattle.py_lines.specs.declared.mode.Mode.TheVariants as modes
 use Rattle.py_lines.specs.declared.mode.Move.{Move}
 use Rattle.py_lines.specs.declared.mode.Move.TheVariants as moves
-use Rattle.py_lines.specs.Private.Machine.{Scanned, text_start, closed, move_of, is_prefix_spelling, spelling_with, Holds, Bracket, brackets_after, brackets_through, brackets_of}
+use Rattle.py_lines.specs.Private.Machine.{text_start, closed, move_of, is_prefix_spelling, spelling_with, Holds, Bracket, brackets_after, brackets_through, brackets_of}
 use Rattle.py_lines.specs.Private.FieldMachine.{FieldMode, plain, opened, empty, body, between, FieldMove, grows, breaks, Level, FieldScanned, field_state, field_text_start, begins_host, host_of, long_host, plain_move, field_move, field_pieces, openers_with, openers_by, openers_through}
-use Rattle.py_lines.specs.Private.ScanMachine.{is_field_spelling, host_in, quote_move, meet_of, scan_steps, StringsFit}
+use Rattle.py_lines.specs.Private.ScanMachine.{is_field_spelling, host_in, quote_move, meet_of, move_at, StringsFit}
 use Rattle.py_lines.proofs.Pieces.PieceLists.{piece}
 use Rattle.py_lines.proofs.Pieces.OpenBrackets.{stands}
 use Rattle.py_lines.proofs.Text.CharacterTests.{excluded, quote-not-word}
-use Rattle.py_lines.proofs.Machine.PieceSteps.{pieces_at}
-use Rattle.py_lines.proofs.Machine.ReadingSteps.{MayBegin}
+use Rattle.py_lines.proofs.Machine.ReadingSteps.{ReachesBy}
 use Rattle.py_lines.proofs.FieldMachine.Runs.{BelowLimit, StopsAt, steps_of, room_of}
 use Rattle.py_lines.proofs.FieldMachine.PlainSteps.{plain_moves}
 use Rattle.py_lines.proofs.FieldMachine.ListBrackets.{opening_pushes}
@@ -244,11 +243,8 @@ stops_alike [] m done held st t is own none stops =
 stops_alike (c ∷ cs) m done held st t is own none stops = stops_at m done held st t c cs is own none stops
 
 -- the machine goes through a text from its start, finds these pieces, and may stop before the rest
-pub record Reaches (text : List ℕ) (pieces : List Piece) (rest : List ℕ) : Type 0 where
-  pub to : Scanned
-  pub steps : scan_steps (Some text_start) text ≡ Some to
-  pub pieces_are : pieces_at to ≡ pieces
-  pub stops : MayBegin pieces rest → StopsBefore to.mode rest
+abbrev pub Reaches : List ℕ → List Piece → List ℕ → Type 0
+Reaches text pieces rest = ReachesBy move_at StopsBefore text pieces rest
 
 stops_start : (rest : List ℕ) → begins is_mark rest ≡ false → StopsBefore modes.Start rest
 unfolding meet_of move_of

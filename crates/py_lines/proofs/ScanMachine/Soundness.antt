@@ -6,7 +6,7 @@ use Rattle.std.proofs.lemmas.Bool.{cond_both, cases_Bool, both_ways, and_right, 
 use Rattle.py_lines.specs.Character.{is_word_character, is_quote, is_break, is_r}
 use Rattle.py_lines.specs.Piece.{Class, mark, string, operator, line_end, Piece, is_mark_class, spelled}
 use Rattle.py_lines.specs.PieceGrammar.{InPlainClass, MayPrecedePlain, AreReadPlain}
-use Rattle.py_lines.specs.Balance.{depth_after, depth_through}
+use Rattle.py_lines.specs.Balance.{depth_through}
 use Rattle.py_lines.specs.Fields.{Fields, ShallowFields, InClass, MayPrecede, AreReadBefore}
 use Rattle.py_lines.specs.FieldStrings.{is_field_prefix, Host, Place, literal, specification, with_fields}
 use Rattle.py_lines.specs.declared.host.Host as known
@@ -19,7 +19,8 @@ use Rattle.py_lines.specs.declared.mode.Start.{Start}
 use Rattle.py_lines.specs.declared.mode.Start.TheVariants as starts
 use Rattle.py_lines.specs.Private.Machine.{Scanned, fresh, text_start, class_of, closed, started, moved, move_of, start_of, is_final, spelling_with, is_prefix_spelling, Holds}
 use Rattle.py_lines.specs.Private.FieldMachine.{FieldMode, opened, empty, body, FieldMove, grows, closes, breaks, begins_code, opens_field, ends_field, refused, Level, FieldScanned, field_state, field_fresh, field_text_start, begins_host, host_of, long_host, between, field_move, field_moved, field_step, field_steps_from, field_class_of, has_room_at, text_place, before}
-use Rattle.py_lines.specs.Private.ScanMachine.{is_field_spelling, is_raw_spelling, host_in, quote_move, opened_move, meet_of, string_state, string_move, has_room_in, have_room_in, fielded_move, scan_step, scan_steps, BeginsPlain, IsBare, HoldsFields, HoldsOpen, StringsFit, IsScanSound}
+use Rattle.py_lines.specs.Private.ScanMachine.{is_field_spelling, is_raw_spelling, host_in, quote_move, opened_move, meet_of, string_state, string_move, has_room_in, have_room_in, fielded_move, scan_step, scan_steps, BeginsPlain, IsBare, HoldsFields, HoldsOpen, StringFits, StringsFit, IsScanSound}
+use Rattle.py_lines.proofs.Pieces.OpenBrackets.{EachAtDepth-append}
 use Rattle.py_lines.proofs.Text.CharacterTests.{excluded, quote-not-word}
 use Rattle.py_lines.proofs.Pieces.PieceLists.{piece, spelled-push, AreReadBefore-push, MayFollow, follows_any}
 use Rattle.py_lines.proofs.Machine.Starts.{StartsSo, starts_so}
@@ -75,9 +76,8 @@ not_empty [] c h = cc
 not_empty (x ∷ xs) c h = cc
 
 -- one string more that fits
-strings-push : (depth : ℕ) (ps : List Piece) (p : Piece) → StringsFit depth ps → (p.class ≡ string → (with_fields (ShallowFields (depth_through depth ps))).IsString p.text) → StringsFit depth (ps ++ p ∷ [])
-strings-push depth [] p fit own = (own, tt)
-strings-push depth (q ∷ ps) p fit own = (fit.0, strings-push (depth_after depth q) ps p fit.1 own)
+strings-push : (ps : List Piece) (p : Piece) → StringsFit 0 ps → StringFits (depth_through 0 ps) p → StringsFit 0 (ps ++ p ∷ [])
+strings-push ps p fit own = EachAtDepth-append StringFits 0 ps (p ∷ []) fit (own, tt)
 
 -- a string at the depth where these pieces end
 abbrev FitsAfter : List Piece → List ℕ → Type 0
@@ -89,7 +89,7 @@ finished done class text read spell fit strings is before follows own = record {
   spell = append-nil (spelled (done ++ piece class text ∷ [])) ∙ spelled-push done class text ∙ spell;
   holds = refl;
   fit = λ more. AreReadBefore-push done class text more (fit more) is (before more) follows;
-  strings = strings-push 0 done (piece class text) strings own;
+  strings = strings-push done (piece class text) strings own;
 }
 
 -- what begins a string without fields
@@ -137,7 +137,7 @@ module _ (done : List Piece) (m : Mode) (held read : List ℕ) (c : ℕ) (sound 
   broken_sound : (class : Class) → is_mark_class class ≡ false → InClass class held → ((more : List ℕ) → MayPrecede class held (c ∷ more)) → (class ≡ string → FitsAfter done held) → SoundIf (started (done ++ piece class held ∷ []) c (start_of c)) (read ++ c ∷ [])
   broken_sound class unmarked is before own =
       started_sound (done ++ piece class held ∷ []) read c (spelled-push done class held ∙ sound.spell) (λ more. AreReadBefore-push done class held (c ∷ more) (sound.fit (c ∷ more)) is (before more) (follows_any done class held unmarked))
-      (strings-push 0 done (piece class held) sound.strings own)
+      (strings-push done (piece class held) sound.strings own)
 
   -- a mark is the first piece
   follows_so : (n : Mode) → HoldsOpen n done held → MayFollow done (piece (class_of n) text ∷ [])
@@ -441,7 +441,7 @@ end_with : (done : List Piece) (m : Mode) (class : Class) (held read : List ℕ)
 end_with done m class held read sound is unmarked in_class before own = record {
   spell = ap spelled is ∙ spelled-push done class held ∙ sound.spell;
   fit = subst (λ (l : List Piece). AreReadBefore l []) (sym is) (AreReadBefore-push done class held [] (sound.fit []) in_class before (follows_any done class held unmarked));
-  strings = subst (StringsFit 0) (sym is) (strings-push 0 done (piece class held) sound.strings own);
+  strings = subst (StringsFit 0) (sym is) (strings-push done (piece class held) sound.strings own);
 }
 
 plain_end : (done : List Piece) (m : Mode) (held read : List ℕ) → IsScanSound (scanned done m held) read → is_fielded_mode m ≡ false → is_final m ≡ true → EndsSound (scanned done m held) read

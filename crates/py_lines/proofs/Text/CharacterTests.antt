@@ -4,7 +4,8 @@ use Rattle.std.specs.Prelude.{codes}
 use Rattle.std.specs.List.{list_any, list_all}
 use Rattle.std.proofs.lemmas.Bool.{leb-false, or_cases, or_parts, and_parts, and_from, eqb-true, false_from_ne_true, both_ways}
 use Rattle.unicode_ident.proofs.Computing.{unicode_ident}
-use Rattle.py_lines.specs.Character.{is_one_of, is_mark, is_word_character, is_word_start, is_digit, is_quote, is_operator, is_line_feed, is_return, is_break, is_backslash, is_barred, is_r, is_b, is_f, is_t, is_u}
+use Rattle.py_lines.specs.Character.{is_one_of, is_mark, is_word_character, is_word_start, is_digit, is_quote, is_operator, is_line_feed, is_return, is_break, is_backslash, is_brace, is_barred, is_r, is_b, is_f, is_t, is_u}
+use Rattle.py_lines.specs.Balance.{is_opening, is_closing}
 use Rattle.py_lines.specs.PieceGrammar.{is_prefix}
 
 -- what each one of a list is
@@ -192,3 +193,23 @@ operator_ascii c h = leb-false 128 c (none_of (λ d. leb 128 d) (codes "+-*/%@&|
 pub slash-not-break : (c : ℕ) → is_break c ≡ true → is_backslash c ≡ false
 unfolding is_break is_backslash
 slash-not-break c h = none_of is_backslash (10 ∷ 13 ∷ []) c refl h
+
+pub break-not-opening : (c : ℕ) → is_break c ≡ true → is_opening c ≡ false
+unfolding is_break is_opening
+break-not-opening c h = none_of is_opening (codes "\n\r") c refl h
+
+pub break-not-closing : (c : ℕ) → is_break c ≡ true → is_closing c ≡ false
+unfolding is_break is_closing
+break-not-closing c h = none_of is_closing (codes "\n\r") c refl h
+
+pub break-not-quote : (c : ℕ) → is_break c ≡ true → is_quote c ≡ false
+unfolding is_break is_quote
+break-not-quote c h = none_of is_quote (codes "\n\r") c refl h
+
+pub opening-not-quote : (c : ℕ) → is_opening c ≡ true → is_quote c ≡ false
+unfolding is_opening is_quote
+opening-not-quote c h = none_of is_quote (codes "([{") c refl h
+
+pub return-not-brace : (c : ℕ) → is_return c ≡ true → is_brace c ≡ false
+unfolding is_return is_brace
+return-not-brace c h = none_of is_brace (codes "\r") c refl h

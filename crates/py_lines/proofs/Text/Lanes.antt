@@ -10,6 +10,7 @@ use Rattle.std.specs.Str.{IsAscii}
 use Rattle.std.proofs.lemmas.List.{take_all, length-map, length-drop, get_or-drop}
 use Rattle.std.proofs.lemmas.List.Sums.{prefix_len-le-length, prefix_len_passes, prefix_len_stops}
 use Rattle.std.proofs.lemmas.Bool.{ne_eqb, cases_lt}
+use Rattle.py_lines.specs.Character.{is_one_of}
 use Rattle.py_lines.specs.Private.Run.{CountsSet, Marks, IsRunOf}
 
 sel_of_map : (p : ℕ → Bool) (y z : ℕ) (vs : List ℕ) → sel_l (map p vs) (replicate (length vs) y) (replicate (length vs) z) ≡ map (λ x. cond (p x) y z) vs
@@ -53,9 +54,16 @@ unmarked : (b : Bool) → eqb (cond b 255 0) 0 ≡ not b
 unmarked true = refl
 unmarked false = refl
 
-pub or_none : (b : Bool) → b ≡ b || false
+or_none : (b : Bool) → b ≡ b || false
 or_none true = refl
 or_none false = refl
+
+-- one of two bytes, and one more
+pub two_marked : (d e : ℕ) (vs xs ys : List ℕ) → Marks (λ x. eqb x d) vs xs → Marks (λ x. eqb x e) vs ys → Marks (is_one_of (d ∷ e ∷ [])) vs (zip2 bit_or xs ys)
+two_marked d e vs xs ys a b = either_marked (λ x. eqb x d) (λ x. eqb x e) vs xs ys a b ∙ (λ i. map (λ x. cond (eqb x d || or_none (eqb x e) i) 255 0) vs)
+
+pub more_marked : (d : ℕ) (ds : List ℕ) (vs xs ys : List ℕ) → Marks (λ x. eqb x d) vs xs → Marks (is_one_of ds) vs ys → Marks (is_one_of (d ∷ ds)) vs (zip2 bit_or xs ys)
+more_marked d ds vs xs ys a b = either_marked (λ x. eqb x d) (is_one_of ds) vs xs ys a b
 
 -- the lanes of no mark
 pub none_marked : (p : ℕ → Bool) (vs ms xs : List ℕ) → Marks p vs ms → Marks (λ x. eqb x 0) ms xs → Marks (λ x. not (p x)) vs xs

@@ -170,15 +170,21 @@ moved s c moves.Closes = Some (fresh (s.done ++ record { class = class_of s.mode
 moved s c moves.Breaks = started (closed s.mode s.done s.held) c (start_of c)
 moved s c moves.Refused = None
 
--- one character
-abbrev pub step : Scanned → ℕ → Option Scanned
-step s c = moved s c (move_of s.mode c)
+-- characters, one after another, each of which does so to the open piece
+abbrev pub steps_by : (Scanned → ℕ → Move) → Option Scanned → List ℕ → Option Scanned
+steps_by move None cs = None
+steps_by move (Some s) [] = Some s
+steps_by move (Some s) (c ∷ cs) = steps_by move (moved s c (move s c)) cs
 
--- characters, one after another
+-- what a character does in this machine
+abbrev pub move_from : Scanned → ℕ → Move
+move_from s c = move_of s.mode c
+
+abbrev pub step : Scanned → ℕ → Option Scanned
+step s c = moved s c (move_from s c)
+
 abbrev pub steps_from : Option Scanned → List ℕ → Option Scanned
-steps_from None cs = None
-steps_from (Some s) [] = Some s
-steps_from (Some s) (c ∷ cs) = steps_from (step s c) cs
+steps_from s cs = steps_by move_from s cs
 
 -- whether the text may end there, brackets aside
 abbrev pub is_final : Mode → Bool

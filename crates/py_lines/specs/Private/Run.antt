@@ -89,6 +89,10 @@ is_code_sign c = is_between 42 47 c || (is_between 32 33 c || (c == byte "="))
 abbrev pub is_code_byte : ℕ → Bool
 is_code_byte c = is_ascii_word c || is_code_sign c
 
+-- the same with `@` and the operators from `*` to `>`: what statements have mostly
+unfoldable pub is_statement_byte : ℕ → Bool
+is_statement_byte c = ((is_between 42 62 c || is_between 64 90 c) || is_between 97 122 c) || ((c == byte " ") || (c == byte "_"))
+
 -- what stands in a comment
 abbrev pub is_comment_byte : ℕ → Bool
 is_comment_byte c = not (is_break c)
@@ -110,6 +114,7 @@ is_in_run (runs.Body q) = is_body_byte q
 is_in_run (runs.Text q) = is_text_byte q
 is_in_run (runs.Literal q) = is_literal_byte q
 is_in_run runs.Code = is_code_byte
+is_in_run runs.Statement = is_statement_byte
 is_in_run runs.Remark = is_remark_byte
 
 -- whether a byte, or a character, leaves the open piece as it is, and ends no line
@@ -428,12 +433,17 @@ abbrev pub TakesTokens : Scan → List ℕ → Result ℕ AllocError → Scan �
 TakesTokens old bytes (Ok len) new = HasTaken old bytes len new
 TakesTokens old bytes (Err e) new = Unit {0}
 
+-- a word, an operator or a string came
+abbrev pub TakesToken : Scan → List ℕ → ℕ → Scan → Type 0
+TakesToken old bytes len new =
+    TakesWord old bytes len new
+    ⊎ (TakesOperator old bytes len new ⊎ (TakesString old bytes len new ⊎ TakesStringWithFields old bytes len new))
+
 -- such a piece came, or another that ends no line
 abbrev pub TakesBytes : Scan → List ℕ → ℕ → Scan → Type 0
 TakesBytes old bytes len new =
-    TakesWord old bytes len new ⊎ (TakesSpace old bytes len new ⊎ (TakesOperator old bytes len new ⊎ (TakesString old bytes len new
-    ⊎ (TakesComment old bytes len new ⊎ (TakesLineEnd old bytes (taken.Bytes len) new
-    ⊎ (TakesStringWithFields old bytes len new ⊎ ((0 < len) × HasTaken old bytes len new)))))))
+    TakesToken old bytes len new ⊎ (TakesSpace old bytes len new ⊎ (TakesComment old bytes len new
+    ⊎ (TakesLineEnd old bytes (taken.Bytes len) new ⊎ ((0 < len) × HasTaken old bytes len new))))
 
 -- so does what may stand after a space: no space, and what may begin a piece
 abbrev pub follows_space : List Bracket → ℕ → Type 0
@@ -463,8 +473,7 @@ IsWholeWord st bytes (Some (k, len)) =
 abbrev pub IsNextToken : Brackets → Brackets → ℕ → List ℕ → TokKind → ℕ → Type 0
 IsNextToken before after place bytes k len =
     (old new : Scan) → old.brackets ≡ before → old.stop ≡ place → AddsToken (with_brackets old after) k len new
-    → TakesWord old bytes len new
-    ⊎ (TakesOperator old bytes len new ⊎ (TakesString old bytes len new ⊎ TakesStringWithFields old bytes len new))
+    → TakesToken old bytes len new
 
 -- such a token was met, or the scan is as it was
 abbrev pub MeetsToken : Scan → ℕ → List ℕ → Result (Option (TokKind × ℕ)) AllocError → Scan → Type 0

@@ -6,7 +6,7 @@ use Rattle.std.specs.List.{list_any}
 use Rattle.py_lines.specs.Character.{is_word_character, is_quote, is_break}
 use Rattle.py_lines.specs.Piece.{string, Piece, spelled}
 use Rattle.py_lines.specs.PieceGrammar.{AreReadIn}
-use Rattle.py_lines.specs.Balance.{depth_after, depth_through}
+use Rattle.py_lines.specs.Balance.{depth_through, EachAtDepth}
 use Rattle.py_lines.specs.Fields.{fielded, ShallowFields}
 use Rattle.py_lines.specs.FieldStrings.{is_field_prefix, Host, Place, with_fields}
 use Rattle.py_lines.specs.declared.host.Host as known
@@ -16,7 +16,7 @@ use Rattle.py_lines.specs.declared.mode.Mode.{Mode}
 use Rattle.py_lines.specs.declared.mode.Mode.TheVariants as modes
 use Rattle.py_lines.specs.declared.mode.Move.{Move}
 use Rattle.py_lines.specs.declared.mode.Move.TheVariants as moves
-use Rattle.py_lines.specs.Private.Machine.{Scanned, moved, move_of, spelling_with, Holds}
+use Rattle.py_lines.specs.Private.Machine.{Scanned, moved, steps_by, move_of, spelling_with, Holds}
 use Rattle.py_lines.specs.Private.FieldMachine.{At, opened, empty, body, FieldMove, closes, Level, FieldScanned, field_state, field_text_start, field_move, field_step, field_steps_from, frames, has_room_at}
 
 -- whether the word is the prefix of a string with fields
@@ -103,9 +103,7 @@ scan_step s c = moved s c (move_at s c)
 
 -- characters, one after another
 abbrev pub scan_steps : Option Scanned → List ℕ → Option Scanned
-scan_steps None cs = None
-scan_steps (Some s) [] = Some s
-scan_steps (Some s) (c ∷ cs) = scan_steps (scan_step s c) cs
+scan_steps s cs = steps_by move_at s cs
 
 -- a string without fields begins so: its prefix has neither `f` nor `t`
 pub record BeginsPlain (text : List ℕ) : Type 0 where
@@ -150,10 +148,13 @@ HoldsOpen (modes.FieldEmpty h) done held = string_state held ≡ Some (field_sta
 HoldsOpen modes.Fielded done held = HoldsFields (depth_through 0 done) held
 HoldsOpen other done held = Holds other done held
 
--- no string among pieces, which begin at this depth, opens a bracket or a field at depth 200
+-- a string at this depth opens no bracket and no field at depth 200
+abbrev pub StringFits : ℕ → Piece → Type 0
+StringFits depth p = p.class ≡ string → (with_fields (ShallowFields depth)).IsString p.text
+
+-- nor does any string among pieces, which begin at this depth
 abbrev pub StringsFit : ℕ → List Piece → Type 0
-StringsFit depth [] = Unit {0}
-StringsFit depth (p ∷ ps) = (p.class ≡ string → (with_fields (ShallowFields depth)).IsString p.text) × StringsFit (depth_after depth p) ps
+StringsFit depth pieces = EachAtDepth StringFits depth pieces
 
 -- the machine has read these characters, and stands so
 pub record IsScanSound (s : Scanned) (read : List ℕ) : Type 0 where

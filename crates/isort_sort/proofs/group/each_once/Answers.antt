@@ -1,11 +1,21 @@
 -- The set is made of the texts in their order, and the answer of the set in its order.
-use Rattle.std.proofs.Common.{◌≡◌, [], refl, ap, ◌∙◌, List, String, Global, map, string_bytes}
+use Rattle.std.proofs.Common.{◌≡◌, ◌<◌, [], ◌∷◌, refl, ap, ◌∙◌, List, String, Global, length, map, string_bytes, arith}
 use Rattle.std.specs.String.{string_eq}
 use Rattle.std.specs.Vec.Iter.{into_iter_items}
 use Rattle.std.proofs.lemmas.Result.{IfOk-weaker}
 use Rattle.indexmap.specs.IndexSet.{insert_all}
+use Rattle.isort_sort.specs.Member.{first_texts}
 use Rattle.isort_sort.proofs.Groups.Firsts.{firsts-insert_all}
 use Rattle.isort_sort.proofs.group.each_once.Goals as goal
+
+-- one text stands there once
+few : (ts : List (String Global)) → length ts < 2 → map string_bytes ts ≡ first_texts (map string_bytes ts)
+few [] h = refl
+few (t ∷ []) h = refl
+few (t ∷ u ∷ ts) h = absurd (omega (arith, h))
+
+pub returns-then-len-lt2 : goal.returns-then-len-lt2
+returns-then-len-lt2 c = few c.args.texts.items (omega (arith, c.if-len-lt2.true, c.len.ensures))
 
 pub returns : goal.returns
 returns c =

@@ -1,9 +1,11 @@
 -- A word is looked for among the keywords of its length.
 use denote.Bor.{Bor}
-use Rattle.std.proofs.Common.{◌≡◌, ◌<◌, ◌≤◌, ◌∙◌, ℕ, rules, true, false, List, [], ◌∷◌, ◌||◌, length, get_or, map, arith, ap, sym, refl}
+use Rattle.std.proofs.Common.{◌≡◌, ◌<◌, ◌≤◌, ◌∙◌, ℕ, rules, tests, true, false, List, [], ◌∷◌, ◌||◌, length, get_or, map, arith, ap, sym, refl}
 use Rattle.std.proofs.Math.Dec.{eqb, leb}
 use Rattle.std.proofs.lemmas.Bool.Decides.{Decides-eqb, nat_tests}
 use Rattle.std.proofs.Math.ListN.{get_or-map}
+use Rattle.std.proofs.lemmas.Iterator.{YieldsList-from_slice}
+use Rattle.std.proofs.lemmas.Iterator.Search.{any_from_yields_List}
 use Rattle.std.proofs.lemmas.List.FromFn.{get_or-map-range_with_len}
 use Rattle.std.proofs.lemmas.Map.Views.{any-filter_same}
 use Rattle.std.proofs.lemmas.Slice.Eq.{bytes_eq-Decides}
@@ -58,7 +60,8 @@ pub returns-in-Some : goal.returns-in-Some
 returns-in-Some c =
     let within = c.in-Some.ensures.lookup.3.0 in
     let at = c.in-Some.ensures.lookup.1 in
-    c.contains.ensures.value ∙ search (rules, found)
+    any_from_yields_List (λ keyword. bytes_eq keyword.now c.args.word.now) _ _ _ c.any.ensures.ran (YieldsList-from_slice _ c.iter.ensures.rest) (λ x b q k. search (rules, tests))
+    ∙ search (rules, found)
 
 pub returns-in-None : goal.returns-in-None
 returns-in-None c = too_long c.args.word.now c.in-None.ensures.lookup.3

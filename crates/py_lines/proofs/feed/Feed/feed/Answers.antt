@@ -1,12 +1,12 @@
 use Rattle.std.specs.Prelude.{is_some}
-use Rattle.std.proofs.Common.{◌≡◌, ◌-◌, true, ⊎_elim, Err, [], length, take, drop, sym, ap, ◌∙◌, subst, inr, not, length-drop, arith}
+use Rattle.std.proofs.Common.{◌≡◌, true, ⊎_elim, Err, [], length, take, sym, ap, ◌∙◌, subst, inr, not, arith}
 use Rattle.std.proofs.lemmas.Bool.{both_ways, cases_lt}
 use Rattle.std.proofs.lemmas.List.{nil_from_length}
 use Rattle.py_lines.specs.declared.feed.Feed.{Feed}
 use Rattle.std.proofs.lemmas.Result.{err_from_is_err_and}
 use Rattle.py_lines.specs.declared.fault.LexError.{LexError}
 use Rattle.py_lines.specs.Private.Feed.{TakesChunk}
-use Rattle.py_lines.proofs.Feeds.Chunks.{none_is, none_taken, rest_is, grows, after_scanned, next_bytes, last_chunk, chunk_fails, stops_short, stops_taking}
+use Rattle.py_lines.proofs.Feeds.Chunks.{none_is, none_taken, rest_of, grows, after_scanned, next_bytes, last_chunk, chunk_fails, stops_short, takes_some}
 use Rattle.py_lines.proofs.feed.Feed.feed.Goals as goal
 
 pub returns-in_err-scan_held : goal.returns-in_err-scan_held
@@ -35,65 +35,37 @@ loop-taken-preserved c =
 
 pub returns-in-Err-Fault : goal.returns-in-Err-Fault
 returns-in-Err-Fault c =
-    let old = c.args.self.now in
-    let piece = c.args.piece.now in
     let mid = c.loop-taken.self in
-    let taken = c.loop-taken.taken in
     let inv = c.loop-taken.invariant in
-    let len = c.step_len-len.result in
-    let rest = take (length piece - taken) (drop taken piece) in
-    let is = rest_is piece taken in
-    let fails = subst (λ (e : LexError). TakesChunk mid (take len rest) (Err e) c.take.new.self) c.in-Err-Fault.field-0-is c.in-Err-Fault.ensures in
-    inr (c.in_default.is, chunk_fails old mid c.take.new.self piece (take len rest) taken len _ (none_is old.ready (sym c.is_some.ensures ∙ c.if-is_some.false)) (omega (arith, c.step_len-len.ensures.within, ap length is, length-drop taken piece, inv.within)) inv.more (ap (take len) is) fails)
+    let chunk = take c.step_len-len.result (rest_of c.args.piece.now c.loop-taken.taken) in
+    let fails = subst (λ (e : LexError). TakesChunk mid chunk (Err e) c.take.new.self) c.in-Err-Fault.field-0-is c.in-Err-Fault.ensures in
+    inr (c.in_default.is, chunk_fails c.args.self.now mid c.take.new.self c.args.piece.now c.loop-taken.taken c.step_len-len.result _ (sym c.is_some.ensures ∙ c.if-is_some.false) inv.within c.step_len-len.ensures.within inv.more fails)
 
 pub returns-in-Err-Memory-2 : goal.returns-in-Err-Memory-2
 returns-in-Err-Memory-2 c =
-    let old = c.args.self.now in
-    let piece = c.args.piece.now in
     let mid = c.loop-taken.self in
     let inv = c.loop-taken.invariant in
-    let rest = take (length piece - c.loop-taken.taken) (drop c.loop-taken.taken piece) in
-    let same = subst (λ (e : LexError). TakesChunk mid (take c.step_len-len.result rest) (Err e) c.take.new.self) c.in-Err-Memory.field-0-is c.in-Err-Memory.ensures in
-    (c.in_default.is, inr (stops_short old mid c.take.new.self piece c.loop-taken.taken (none_is old.ready (sym c.is_some.ensures ∙ c.if-is_some.false)) inv.within (λ zero. c.if-taken-eq0.false zero) inv.more inv.fault (none_is mid.ready (c.is_none.ensures ∙ ap not c.if-is_none.true)) inv.scanned same))
+    let chunk = take c.step_len-len.result (rest_of c.args.piece.now c.loop-taken.taken) in
+    let same = subst (λ (e : LexError). TakesChunk mid chunk (Err e) c.take.new.self) c.in-Err-Memory.field-0-is c.in-Err-Memory.ensures in
+    let mid_ready = none_is mid.ready (c.is_none.ensures ∙ ap not c.if-is_none.true) in
+    (c.in_default.is, inr (stops_short c.args.self.now mid c.take.new.self c.args.piece.now c.loop-taken.taken (sym c.is_some.ensures ∙ c.if-is_some.false) inv.within (λ zero. c.if-taken-eq0.false zero) inv.more inv.fault mid_ready inv.scanned same))
 
 pub returns-after-loop-taken : goal.returns-after-loop-taken
 returns-after-loop-taken c =
-    let old = c.args.self.now in
-    let piece = c.args.piece.now in
-    let mid = c.loop-taken.self in
     let taken = c.loop-taken.taken in
     let inv = c.loop-taken.invariant in
-    let none : taken ≡ 0 → piece ≡ [] = λ zero. nil_from_length piece (omega (arith, zero, c.loop-taken-test.false)) in (
-      c.in_default.is,
-      inr (record {
-        not_ready = none_is old.ready (sym c.is_some.ensures ∙ c.if-is_some.false);
-        within = inv.within;
-        some = none;
-        more = inv.more;
-        fault = inv.fault;
-        stops = stops_taking old mid piece taken mid.ready (inv.scanned none) inv.last;
-      }),
-    )
+    let none : taken ≡ 0 → c.args.piece.now ≡ [] = λ zero. nil_from_length c.args.piece.now (omega (arith, zero, c.loop-taken-test.false)) in
+    (c.in_default.is, inr (takes_some c.args.self.now c.loop-taken.self c.args.piece.now taken (sym c.is_some.ensures ∙ c.if-is_some.false) inv.within none inv.more inv.fault inv.scanned inv.last))
 
 pub returns-else-is_none : goal.returns-else-is_none
 returns-else-is_none c =
-    let old = c.args.self.now in
     let piece = c.args.piece.now in
-    let mid = c.loop-taken.self in
     let taken = c.loop-taken.taken in
     let inv = c.loop-taken.invariant in
-    let ready : is_some mid.ready ≡ true = c.is_none.ensures ∙ ap not c.if-is_none.false in
+    let waiting = sym c.is_some.ensures ∙ c.if-is_some.false in
+    let ready : is_some c.loop-taken.self.ready ≡ true = c.is_none.ensures ∙ ap not c.if-is_none.false in
     let none : taken ≡ 0 → piece ≡ [] = λ zero. ⊎_elim
-    (λ some. absurd (both_ways _ (sym c.is_some.ensures ∙ c.if-is_some.false) (ap (λ (f : Feed). is_some f.ready) (sym (inv.begun zero some)) ∙ ready)))
+    (λ some. absurd (both_ways _ waiting (ap (λ (f : Feed). is_some f.ready) (sym (inv.begun zero some)) ∙ ready)))
     (λ empty. nil_from_length piece (omega (arith, empty)))
-    (cases_lt 0 (length piece)) in (
-      c.in_default.is,
-      inr (record {
-        not_ready = none_is old.ready (sym c.is_some.ensures ∙ c.if-is_some.false);
-        within = inv.within;
-        some = none;
-        more = inv.more;
-        fault = inv.fault;
-        stops = stops_taking old mid piece taken mid.ready (inv.scanned none) inv.last;
-      }),
-    )
+    (cases_lt 0 (length piece)) in
+    (c.in_default.is, inr (takes_some c.args.self.now c.loop-taken.self piece taken waiting inv.within none inv.more inv.fault inv.scanned inv.last))

@@ -18,6 +18,10 @@ returns-then-not-has_room c = λ base t f inside at is. elim c.then-not-has_room
       absurd (omega (arith, w.if-place-eq0.true, some_before c.args.self.now base c.args.depth c.args.c c.args.place c.args.host t f at is))
 ]
 
+pub returns-in-Operator : goal.returns-in-Operator
+returns-in-Operator c = λ base t f inside at is.
+    c.begin_with_operator.ensures c.args.depth (ap (λ (k : ℕ). nat_lt (c.args.depth + length c.args.self.now.frames.items + k) 201) (sym c.opened_with.ensures) ∙ sym c.has_room.ensures ∙ c.if-not-has_room.false) base t f inside at is
+
 pub returns-in_ok-push-in-LineEnd : goal.returns-in_ok-push-in-LineEnd
 returns-in_ok-push-in-LineEnd c = λ base t f inside at is.
     subst (λ (n : FieldScan). ComesTo base c.args.depth t c.args.c c.args.self.now (Ok progress.Going) n) (sym c.free.ensures)

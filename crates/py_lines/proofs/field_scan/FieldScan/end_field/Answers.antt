@@ -8,15 +8,15 @@ use Rattle.py_lines.proofs.FieldScans.FieldAnswers.{ends_there, ends_nothing, no
 use Rattle.py_lines.proofs.field_scan.FieldScan.end_field.Goals as goal
 
 pub returns-in-Some-Field : goal.returns-in-Some-Field
-returns-in-Some-Field c = λ base t f inside at is.
+returns-in-Some-Field c = λ character place depth base t f inside at is.
     let top : IsInnermostFrame (Some c.in-Some-Field.field-0) (innermost_first c.args.self.now.frames.items) = c.in-Some-Field.ensures in
     let last : Frame = frame.Field c.in-Some-Field.field in
-    subst (λ (n : FieldScan). ComesTo base c.args.depth t c.args.c c.args.self.now (Ok progress.Going) n) (sym c.resume.ensures)
-    (ends_there c.args.self.now (record c.args.self.now { frames = c.pop.new.self }) base c.args.depth c.args.c c.in-Some-Field.field
+    subst (λ (n : FieldScan). ComesTo base depth t character c.args.self.now (Ok progress.Going) n) (sym c.resume.ensures)
+    (ends_there c.args.self.now (record c.args.self.now { frames = c.pop.new.self }) base depth character c.in-Some-Field.field
     (left_after c.args.self.now.frames.items c.pop.new.self.items c.pop.result last _ top.0 (top.1 ∙ ap (λ (f : Frame). f ∷ top.0) c.in-Some-Field.field-0-is) (λ some. c.pop.ensures.value last (omega (arith, some))) c.pop.ensures.items) t f is)
 
 pub returns : goal.returns
-returns c = λ base t f inside at is. ends_nothing c.args.self.now base c.args.depth c.args.c c.innermost.result c.innermost.ensures (no_field c.innermost.result (λ field same. cc)) t f is
+returns c = λ character place depth base t f inside at is. ends_nothing c.args.self.now base depth character c.innermost.result c.innermost.ensures (no_field c.innermost.result (λ field same. cc)) t f is
 
 pub returns-2 : goal.returns-2
-returns-2 c = λ base t f inside at is. ends_nothing c.args.self.now base c.args.depth c.args.c c.innermost.result c.innermost.ensures (no_field c.innermost.result (λ field same. cc)) t f is
+returns-2 c = λ character place depth base t f inside at is. ends_nothing c.args.self.now base depth character c.innermost.result c.innermost.ensures (no_field c.innermost.result (λ field same. cc)) t f is

@@ -12,7 +12,7 @@ returns-in-Grows c = λ base t f inside at.
     (moves_so c.args.self.now base t c.args.c (grows (mode_from c.in-Grows.mode)) f (sym (ap move_from c.in-Grows.is) ∙ c.meet.ensures)) refl
 
 pub returns-in-Closes : goal.returns-in-Closes
-returns-in-Closes c = λ base t f inside at. c.close.ensures base t f inside at (moves_so c.args.self.now base t c.args.c closes f (sym (ap move_from c.in-Closes.is) ∙ c.meet.ensures))
+returns-in-Closes c = λ base t f inside at. c.close.ensures c.args.depth base t f inside at (moves_so c.args.self.now base t c.args.c closes f (sym (ap move_from c.in-Closes.is) ∙ c.meet.ensures))
 
 pub returns-in-Breaks : goal.returns-in-Breaks
 returns-in-Breaks c = λ base t f inside at. c.begin_piece.ensures base t f inside at (moves_so c.args.self.now base t c.args.c breaks f (sym (ap move_from c.in-Breaks.is) ∙ c.meet.ensures))
@@ -24,7 +24,7 @@ pub returns-in-OpensField : goal.returns-in-OpensField
 returns-in-OpensField c = λ base t f inside at. c.open_field.ensures base t f inside at (moves_so c.args.self.now base t c.args.c (opens_field (host_in c.in-OpensField.host)) f (sym (ap move_from c.in-OpensField.is) ∙ c.meet.ensures))
 
 pub returns-in-EndsField : goal.returns-in-EndsField
-returns-in-EndsField c = λ base t f inside at. c.end_field.ensures base t f inside at (moves_so c.args.self.now base t c.args.c ends_field f (sym (ap move_from c.in-EndsField.is) ∙ c.meet.ensures))
+returns-in-EndsField c = λ base t f inside at. c.end_field.ensures c.args.c c.args.place c.args.depth base t f inside at (moves_so c.args.self.now base t c.args.c ends_field f (sym (ap move_from c.in-EndsField.is) ∙ c.meet.ensures))
 
 pub returns-in-Refused : goal.returns-in-Refused
 returns-in-Refused c = λ base t f inside at. refused_there c.args.self.now base c.args.depth t c.args.c (moves_so c.args.self.now base t c.args.c refused f (sym (ap move_from c.in-Refused.is) ∙ c.meet.ensures))

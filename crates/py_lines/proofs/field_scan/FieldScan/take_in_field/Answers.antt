@@ -9,25 +9,25 @@ use Rattle.py_lines.proofs.FieldScans.CodeOperators.{field_ends, field_specifies
 use Rattle.py_lines.proofs.field_scan.FieldScan.take_in_field.Goals as goal
 
 pub returns-then-is_closing : goal.returns-then-is_closing
-returns-then-is_closing c = λ base t.
-    field_closes_none c.args.self.now base c.args.depth c.args.c c.args.place c.requires.operator c.args.field c.requires.innermost c.if-c-eq125.false c.if-c-eq58.false
+returns-then-is_closing c = λ depth base t.
+    field_closes_none c.args.self.now base depth c.args.c c.args.place c.requires.operator c.args.field c.requires.innermost c.if-c-eq125.false c.if-c-eq58.false
     (sym c.is_closing.ensures ∙ c.if-is_closing.true) t
 
 pub returns-then-c-eq125 : goal.returns-then-c-eq125
-returns-then-c-eq125 c = λ base t follow inside at is.
+returns-then-c-eq125 c = λ depth base t follow inside at is.
     let top = c.requires.innermost in
     let last : Frame = frame.Field c.args.field in
-    subst (λ (n : FieldScan). ComesTo base c.args.depth t c.args.c c.args.self.now (Ok progress.Going) n) (sym c.resume.ensures)
-    (field_ends c.args.self.now base c.args.depth c.args.c c.args.place c.requires.operator c.args.field top (record c.args.self.now { frames = c.pop.new.self })
+    subst (λ (n : FieldScan). ComesTo base depth t c.args.c c.args.self.now (Ok progress.Going) n) (sym c.resume.ensures)
+    (field_ends c.args.self.now base depth c.args.c c.args.place c.requires.operator c.args.field top (record c.args.self.now { frames = c.pop.new.self })
     (top.1 ∙ ap (λ (fs : List Frame). last ∷ fs) (sym (pops c.args.self.now.frames.items c.pop.new.self.items c.pop.result _ last top.0 (c.pop.ensures.value last (omega (arith, innermost_first-length c.args.self.now.frames.items, ap length top.1))) c.pop.ensures.items top.1)))
     c.if-c-eq125.true c.requires.other t follow inside at is)
 
 pub returns-then-c-eq58 : goal.returns-then-c-eq58
-returns-then-c-eq58 c = λ base t.
-    field_specifies c.args.self.now base c.args.depth c.args.c c.args.place c.requires.operator c.args.field c.requires.innermost c.if-c-eq125.false c.if-c-eq58.true c.requires.other t
+returns-then-c-eq58 c = λ depth base t.
+    field_specifies c.args.self.now base depth c.args.c c.args.place c.requires.operator c.args.field c.requires.innermost c.if-c-eq125.false c.if-c-eq58.true c.requires.other t
 
 pub returns-else-is_closing : goal.returns-else-is_closing
-returns-else-is_closing c = λ base t follow inside at is.
-    subst (λ (n : FieldScan). ComesTo base c.args.depth t c.args.c c.args.self.now (Ok progress.Going) n) (sym c.free.ensures)
-    (field_passes c.args.self.now base c.args.depth c.args.c c.args.place c.requires.operator c.args.field c.requires.innermost c.if-c-eq125.false c.if-c-eq58.false
+returns-else-is_closing c = λ depth base t follow inside at is.
+    subst (λ (n : FieldScan). ComesTo base depth t c.args.c c.args.self.now (Ok progress.Going) n) (sym c.free.ensures)
+    (field_passes c.args.self.now base depth c.args.c c.args.place c.requires.operator c.args.field c.requires.innermost c.if-c-eq125.false c.if-c-eq58.false
     c.requires.other (sym c.is_closing.ensures ∙ c.if-is_closing.false) t follow inside at is)

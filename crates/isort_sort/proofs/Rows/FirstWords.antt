@@ -1,0 +1,96 @@
+-- Where a word stands in a text, and the lines in which it stands nowhere.
+use Rattle.std.proofs.Common.{◌≡◌, ℕ, ◌+◌, ◌-◌, ◌<◌, ◌≤◌, Bool, true, false, nat_lt, None, Some, List, ◌++◌, length, take, drop, slice_range, get_or-drop, codes, refl, sym, ap, ◌∙◌, subst, append_assoc, arith, length-append, length-drop}
+use Rattle.std.proofs.lemmas.List.{length-take-le, take-append-drop, take_all}
+use Rattle.std.proofs.lemmas.List.Folds.{drop_split}
+use Rattle.std.proofs.Math.Seq.{drop-append_seam, take-append_seam}
+use Rattle.std.proofs.lemmas.Bool.{eq-eqb, ltb-true, ltb-false}
+use Rattle.std.proofs.lemmas.Slice.Eq.{bytes_eq-Decides}
+use Rattle.std.specs.Prelude.{nat_eq, slice_index}
+use Rattle.std.specs.List.{starts_with}
+use Rattle.memchr.specs.Find.{OccursAt, Nowhere, IsFirstByte, is_byte}
+use Rattle.memchr.proofs.lemmas.MatchLemmas.{OccursAt-part, OccursAt-from_part}
+use Rattle.py_imports.specs.FirstWords.{Lacks, LacksFirstWords}
+use Rattle.isort_sort.specs.Private.FirstWords.{BeginNowhere, StandsAt}
+
+-- the rest of a text
+rest_is : (text : List ℕ) (start : ℕ) → slice_range text start (length text) ≡ drop start text
+rest_is text start = take_all (length text - start) (drop start text) (omega (arith, length-drop start text))
+
+-- a byte of the rest of a text
+in_rest : (text : List ℕ) (start place : ℕ) → start ≤ place → slice_index (slice_range text start (length text)) (place - start) ≡ slice_index text place
+in_rest text start place low =
+    let same : start + (place - start) ≡ place = omega (arith, low) in
+    ap (λ rest. slice_index rest (place - start)) (rest_is text start) ∙ get_or-drop start text (place - start) 0 ∙ ap (λ i. slice_index text i) same
+
+-- the byte stands nowhere in the rest of the text
+pub no_letter : (text : List ℕ) (letter start : ℕ) → IsFirstByte (is_byte letter) (slice_range text start (length text)) None → (place : ℕ) → start ≤ place → place < length text → ¬ (slice_index text place ≡ letter)
+no_letter text letter start none place low within same =
+    none (place - start) (omega arith) (omega (arith, low, within, ap (λ (rest : List ℕ). length rest) (rest_is text start), length-drop start text)) (eq-eqb _ letter (in_rest text start place low ∙ same))
+
+-- the byte stands nowhere before the place at which it was found
+pub letter_from : (text : List ℕ) (letter start len : ℕ) → IsFirstByte (is_byte letter) (slice_range text start (length text)) (Some len) → (place : ℕ) → start ≤ place → slice_index text place ≡ letter → start + len ≤ place
+letter_from text letter start len found place low same = by (nat_lt place (start + len)) refl
+  where
+    by : (b : Bool) → nat_lt place (start + len) ≡ b → start + len ≤ place
+    by true before = absurd (found.0.before (place - start) (omega arith) (omega (arith, low, ltb-true place (start + len) before)) (eq-eqb _ letter (in_rest text start place low ∙ same)))
+    by false before = ltb-false place (start + len) before
+
+pub letter_within : (text : List ℕ) (letter start len : ℕ) → start ≤ length text → IsFirstByte (is_byte letter) (slice_range text start (length text)) (Some len) → start + len < length text
+letter_within text letter start len within found = omega (arith, within, found.0.high, ap (λ (rest : List ℕ). length rest) (rest_is text start), length-drop start text)
+
+-- a place that isn't the first comes after it
+pub past : (first place : ℕ) → first ≤ place → ¬ (place ≡ first) → first + 1 ≤ place
+past first place low other = by (nat_lt first place) refl
+  where
+    by : (b : Bool) → nat_lt first place ≡ b → first + 1 ≤ place
+    by true before = omega (arith, ltb-true first place before)
+    by false behind = absurd (other (omega (arith, low, ltb-false first place behind)))
+
+-- neither word begins in a part of a gap
+pub later_start : (text : List ℕ) (start stop from : ℕ) → BeginNowhere text start stop → start ≤ from → BeginNowhere text from stop
+later_start text start stop from nowhere low = (λ k above below. nowhere.0 k (omega (arith, low, above)) below, λ k above below. nowhere.1 k (omega (arith, low, above)) below)
+
+-- a word doesn't stand where the text goes on otherwise
+pub other_word : (text word : List ℕ) (place : ℕ) → starts_with nat_eq (slice_range text place (length text)) word ≡ false → ¬ (OccursAt text word place)
+other_word text word place differs h =
+    let begins : starts_with nat_eq (slice_range text place (length text)) word ≡ true =
+    ap (λ rest. starts_with nat_eq rest word) (rest_is text place) ∙ (bytes_eq-Decides word (take (length word) (drop place text))).1 (sym (OccursAt-part text word place h)) in
+    let both : true ≡ false = sym begins ∙ differs in
+    cc
+
+-- a word between two texts
+between : (before word after : List ℕ) → OccursAt (before ++ (word ++ after)) word (length before)
+between before word after =
+    OccursAt-from_part (before ++ (word ++ after)) word (length before)
+    (omega (arith, length-append before (word ++ after), length-append word after))
+    (ap (take (length word)) (drop-append_seam before (word ++ after)) ∙ take-append_seam word after)
+
+-- bytes that end before the next place of the word lack it
+lacks : (word text bytes : List ℕ) (start stop : ℕ) → 0 < length word → StandsAt text bytes start → Nowhere (OccursAt text word) start stop → start + length bytes ≤ stop → Lacks word bytes
+lacks word text bytes start stop some stands nowhere within = λ a b e.
+    let rest = b ++ stands.after in
+    let split : text ≡ (stands.before ++ a) ++ (word ++ rest) =
+    stands.whole
+    ∙ ap (λ t. stands.before ++ (t ++ stands.after)) e
+    ∙ ap (λ t. stands.before ++ t) (append_assoc a (word ++ b) stands.after ∙ ap (λ t. a ++ t) (append_assoc word b stands.after))
+    ∙ sym (append_assoc stands.before a (word ++ rest)) in
+    let place = stands.place in
+    let before : length (stands.before ++ a) ≡ length stands.before + length a = length-append stands.before a in
+    let len : length bytes ≡ length a + (length word + length b) = ap length e ∙ length-append a (word ++ b) ∙ ap (λ n. length a + n) (length-append word b) in
+    nowhere (length (stands.before ++ a)) (omega (arith, place, before)) (omega (arith, place, before, len, some, within)) (subst (λ t. OccursAt t word (length (stands.before ++ a))) (sym split) (between (stands.before ++ a) word rest))
+
+-- so bytes that end before both lack both
+pub lacks_first_words : (text bytes : List ℕ) (start stop : ℕ) → StandsAt text bytes start → BeginNowhere text start stop → start + length bytes ≤ stop → LacksFirstWords bytes
+lacks_first_words text bytes start stop stands nowhere within = (
+  lacks (codes "import") text bytes start stop (omega arith) stands nowhere.0 within,
+  lacks (codes "from") text bytes start stop (omega arith) stands nowhere.1 within,
+)
+
+-- the bytes of a text from one place up to another
+pub slice_stands : (text : List ℕ) (start stop : ℕ) → start ≤ stop → stop ≤ length text → StandsAt text (slice_range text start stop) start
+slice_stands text start stop ordered within = record {
+  before = take start text;
+  after = drop stop text;
+  whole = sym (take-append-drop start text) ∙ ap (λ t. take start text ++ t) (drop_split text start stop ordered);
+  place = length-take-le start text (omega (arith, ordered, within));
+}

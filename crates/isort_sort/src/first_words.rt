@@ -1,0 +1,129 @@
+//! Where the first words of import statements stand in a text.
+ghost use Rattle.std.specs.Prelude.{◌≡◌, ◌+◌, ◌<◌, ◌≤◌, ℕ, false, IsTrue, List, codes, length};
+ghost use Rattle.memchr.specs.Find.{OccursAt};
+ghost use Rattle.py_lines.specs.Lines.{line_in};
+ghost use Rattle.isort_sort.specs.Private.FirstWords.{BeginNowhere, IsPlain, StandsIn};
+
+use memchr::memchr;
+use py_imports::has_first_word;
+use py_imports::laws::lines_without_first_words_bind_nothing;
+use py_lines::Unit;
+use std::marker::Model;
+
+/// The letter that both words have, as few other words do: it stands at place 1 of `import`, and at place 3 of `from`.
+const LETTER: u8 = b'm';
+
+/// Whether the word stands in the text at byte `place`.
+#[inline(always)]
+fn stands_at(text: &[u8], word: &[u8], place: usize) -> bool
+    requires { place ≤ length text.now }
+    ensures { result ≡ false → ¬ (OccursAt text.now word.now place) }
+{
+    text[place..].starts_with(word)
+}
+
+/// Whether the letter at byte `place` stands in one of the words.
+#[inline(always)]
+fn is_in_word(text: &[u8], place: usize) -> bool
+    requires { place < length text.now }
+    ensures import { result ≡ false → (k : ℕ) → k + 1 ≡ place → ¬ (OccursAt text.now (codes "import") k) }
+    ensures from { result ≡ false → (k : ℕ) → k + 3 ≡ place → ¬ (OccursAt text.now (codes "from") k) }
+{
+    (place >= 1 && stands_at(text, b"import", place - 1))
+        || (place >= 3 && stands_at(text, b"from", place - 3))
+}
+
+/// A byte, from `start` on, before which neither word begins: at most two bytes before one of them, or the text's end.
+fn next_word(text: &[u8], start: usize) -> usize
+    requires { start ≤ length text.now }
+    ensures { BeginNowhere text.now start result }
+{
+    let mut place = start;
+    'letters: while let Some(len) = memchr(LETTER, &text[place..]) {
+        let letter = place + len;
+        if is_in_word(text, letter) {
+            return letter.saturating_sub(3);
+        }
+        place = letter + 1;
+    }
+    text.len()
+}
+
+/// The bytes of a text from `start` up to `stop`, at none of which either word begins.
+#[derive(Clone, Copy)]
+struct Gap {
+    /// The first of them.
+    start: usize,
+    /// The byte after them.
+    stop: usize,
+}
+
+/// A gap that holds byte `start`, or ends there. The text is searched only where the known one is no such gap.
+#[inline(always)]
+fn gap_at(text: &[u8], known: Gap, start: usize) -> Gap
+    requires within { start ≤ length text.now }
+    requires known { BeginNowhere text.now known.start known.stop }
+    ensures gap { BeginNowhere text.now result.start result.stop }
+    ensures start { result.start ≤ start }
+{
+    if known.start <= start && start <= known.stop {
+        return known;
+    }
+    Gap {
+        start,
+        stop: next_word(text, start),
+    }
+}
+
+/// Where `import` and `from` stand in a text, as words or parts of words. The text is searched once, from left to right,
+/// as far as is asked. Contracts see it as the text.
+#[derive(Drop)]
+pub(crate) struct FirstWords<'t> {
+    /// The text.
+    text: &'t [u8],
+    /// The gap that was found last.
+    gap: Gap,
+}
+
+impl<'t> Model for FirstWords<'t> {
+    ghost Value = { List ℕ };
+
+    ghost view = { λ f. f.text.now };
+
+    ghost invariant = { λ f. BeginNowhere f.text.now f.gap.start f.gap.stop };
+}
+
+impl<'t> FirstWords<'t> {
+    /// The first words in a text, of which nothing is known.
+    pub(crate) fn new(text: &'t [u8]) -> FirstWords<'t>
+        ensures { result ≡ text.now }
+    {
+        FirstWords {
+            text,
+            gap: Gap { start: 0, stop: 0 },
+        }
+    }
+
+    /// A byte, from `start` on, before which neither word begins.
+    #[inline(always)]
+    pub(crate) fn clear_up_to(&mut self, start: usize) -> usize
+        requires { start ≤ length self.old }
+        ensures clear { BeginNowhere self.old start result }
+        ensures same { self.new ≡ self.old }
+    {
+        self.gap = gap_at(self.text, self.gap, start);
+        self.gap.stop
+    }
+
+    /// Whether no token of a line of the text is spelled as either word. Most lines hold neither in any way.
+    #[inline(always)]
+    pub(crate) fn none_in(&mut self, unit: &Unit<'_>) -> bool
+        requires { StandsIn self.old (line_in unit.now) }
+        ensures plain { IsTrue result → IsPlain (line_in unit.now) }
+        ensures same { self.new ≡ self.old }
+    {
+        lines_without_first_words_bind_nothing();
+        let start = unit.offset as usize;
+        start + unit.text.len() <= self.clear_up_to(start) || !has_first_word(unit)
+    }
+}

@@ -1,0 +1,64 @@
+//! Logical lines that are passed over without their tokens.
+use crate::harness::cases::{Case, each_holds_again};
+use py_lines::*;
+use std::alloc::Global;
+use std::test::Fail;
+
+/// Lines after the text's first, the byte before which they have to end, the bytes of each that is passed over, and where the reader
+/// then stands.
+struct Passing(&'static str, usize, &'static [usize], (u64, u64));
+
+/// Whether the reader passes over lines of so many bytes, and then over none.
+fn passes(lines: &mut Lines<'_>, before: usize, sizes: &[usize]) -> bool {
+    for size in sizes {
+        match lines.pass_line(before) {
+            Ok(Some(len)) if len == *size => {}
+            _ => return false,
+        }
+    }
+    matches!(lines.pass_line(before), Ok(None))
+}
+
+/// Whether the reader gives a line.
+fn gives(lines: &mut Lines<'_>) -> bool {
+    matches!(lines.next_unit(), Ok(Some(_)))
+}
+
+impl Case for Passing {
+    fn holds(&self, alloc: Global) -> bool {
+        let Ok(mut lines) = Lines::new(alloc, self.0.as_bytes()) else {
+            return false;
+        };
+        passes(&mut lines, self.1, &[])
+            && gives(&mut lines)
+            && passes(&mut lines, self.1, self.2)
+            && (lines.offset(), lines.line()) == self.3
+    }
+}
+
+const PASSING: &[Passing] = &[
+    // Words, operators, spaces, brackets and strings, and a line without any.
+    Passing("a\nb = c\n\n\td(e, 'f')\n", 20, &[6, 1, 11], (20, 5)),
+    // Brackets over several lines.
+    Passing("a\nb = [\n    'd', {e: 1},\n]\n", 27, &[25], (27, 5)),
+    // A line that goes past the byte, and one without a line end.
+    Passing("a\nb\nc = d\n", 9, &[2], (4, 3)),
+    Passing("a\nb\nc = d", 9, &[2], (4, 3)),
+    // What is left to the scan: a comment, a prefix, an escape, three quotes, a backslash, CR, and a character outside ASCII.
+    Passing("a\nb  # c\n", 9, &[], (2, 2)),
+    Passing("a\nb = r'c'\n", 11, &[], (2, 2)),
+    Passing("a\nb = 'c\\n'\n", 12, &[], (2, 2)),
+    Passing("a\nb = '''c'''\n", 14, &[], (2, 2)),
+    Passing("a\nb = \\\n c\n", 11, &[], (2, 2)),
+    Passing("a\nb = c\r\n", 9, &[], (2, 2)),
+    Passing("a\nb = \u{e4}\n", 9, &[], (2, 2)),
+    // A fault: a bracket that closes none, a character that begins nothing, and a string that isn't closed.
+    Passing("a\nb = (c]\n", 10, &[], (2, 2)),
+    Passing("a\nb = c?\n", 9, &[], (2, 2)),
+    Passing("a\nb = 'c\n", 9, &[], (2, 2)),
+];
+
+#[test]
+fn simple_lines_are_passed_over(rt: HostRuntime) -> Result<(), Fail> {
+    each_holds_again(rt.alloc(), "PASSING", PASSING)
+}
