@@ -8,7 +8,7 @@ use Rattle.isort_find.specs.Found.{IsFound}
 use Rattle.isort_find.specs.declared.error.FindError.{FindError}
 use Rattle.isort_find.specs.declared.error.FindError.TheVariants as error
 use Rattle.isort_find.specs.declared.options.FindOptions.{FindOptions}
-use Rattle.isort_c.specs.Listing.{Listed}
+use Rattle.isort_c.specs.Listing.{IsListing}
 use Rattle.isort_c.specs.Records.{bound_record, bound_records}
 
 -- the records of what a finder of this text has given
@@ -36,7 +36,7 @@ pub listed_some : (text : List ℕ) (options : FindOptions) (old new : FinderSta
 listed_some text options old new r b before after h g is e = listed_next text options old new (bound_of b) before after h (subst (λ x. GivesNext old x new) is g) e
 
 -- an error of the finder: its fault comes after all that was listed
-listed_at : (text : List ℕ) (options : FindOptions) (old new : FinderState) (e : FindError) (bytes : List ℕ) → HasListed text options old bytes → GivesNext old (Err e) new → Listed text options (Err e) bytes
+listed_at : (text : List ℕ) (options : FindOptions) (old new : FinderState) (e : FindError) (bytes : List ℕ) → HasListed text options old bytes → GivesNext old (Err e) new → IsListing text options (Err e) bytes
 listed_at text options old new (error.Fault fault) bytes h g = record {
   bounds = h.bounds;
   found = subst (λ (t : List ℕ). IsFound t options h.bounds (Some fault)) h.text_is (subst (λ (o : FindOptions). IsFound (finder_text old) o h.bounds (Some fault)) h.options_is (g.all h.bounds h.found));
@@ -44,5 +44,5 @@ listed_at text options old new (error.Fault fault) bytes h g = record {
 }
 listed_at text options old new error.Memory bytes h g = tt
 
-pub listed_error : (text : List ℕ) (options : FindOptions) (old new : FinderState) (r : Result (Option Binding) FindError) (e : FindError) (answer : Result (Unit {0}) FindError) (bytes : List ℕ) → HasListed text options old bytes → GivesNext old r new → r ≡ Err e → answer ≡ Err e → Listed text options answer bytes
-listed_error text options old new r e answer bytes h g is same = subst (λ (x : Result (Unit {0}) FindError). Listed text options x bytes) (sym same) (listed_at text options old new e bytes h (subst (λ x. GivesNext old x new) is g))
+pub listed_error : (text : List ℕ) (options : FindOptions) (old new : FinderState) (r : Result (Option Binding) FindError) (e : FindError) (answer : Result (Unit {0}) FindError) (bytes : List ℕ) → HasListed text options old bytes → GivesNext old r new → r ≡ Err e → answer ≡ Err e → IsListing text options answer bytes
+listed_error text options old new r e answer bytes h g is same = subst (λ (x : Result (Unit {0}) FindError). IsListing text options x bytes) (sym same) (listed_at text options old new e bytes h (subst (λ x. GivesNext old x new) is g))

@@ -27,10 +27,10 @@ pub record Lists (text : List ℕ) (options : FindOptions) (end : Option Fault) 
   pub written : bytes ≡ bound_records bounds
 
 -- the records of a listing; nothing is said where memory ran out
-abbrev pub Listed : List ℕ → FindOptions → Result (Unit {0}) FindError → List ℕ → Type 0
-Listed text options (Ok _) bytes = Lists text options None bytes
-Listed text options (Err (error.Fault fault)) bytes = Lists text options (Some fault) bytes
-Listed text options (Err error.Memory) bytes = Unit {0}
+abbrev pub IsListing : List ℕ → FindOptions → Result (Unit {0}) FindError → List ℕ → Type 0
+IsListing text options (Ok _) bytes = Lists text options None bytes
+IsListing text options (Err (error.Fault fault)) bytes = Lists text options (Some fault) bytes
+IsListing text options (Err error.Memory) bytes = Unit {0}
 
 -- the answer of a listing
 abbrev pub list_answer : Result (Unit {0}) FindError → List ℕ → Answer
@@ -47,7 +47,7 @@ list_left (Err error.Memory) bytes out = out
 -- a listing, and what it leaves in the buffer
 abbrev pub AnswersList : List ℕ → FindOptions → Answer → List ℕ → List ℕ → Type 0
 AnswersList text options answer old new =
-    (r : Result (Unit {0}) FindError) × (bytes : List ℕ) × Listed text options r bytes
+    (r : Result (Unit {0}) FindError) × (bytes : List ℕ) × IsListing text options r bytes
     × (answer ≡ list_answer r bytes) × (new ≡ list_left r bytes old)
 
 -- a listing by the key of a number

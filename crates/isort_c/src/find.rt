@@ -1,6 +1,6 @@
 //! Listing: all imports of a text, as records in the caller's buffer.
 ghost use Rattle.std.specs.Prelude.{◌≡◌, []};
-ghost use Rattle.isort_c.specs.Listing.{unique_at, Listed, list_answer, list_left, AnswersFind};
+ghost use Rattle.isort_c.specs.Listing.{unique_at, IsListing, list_answer, list_left, AnswersFind};
 
 use crate::answer::{ARGUMENT, Answer, MEMORY, SAME};
 use crate::buffer::fill;
@@ -30,7 +30,7 @@ fn list(
     records: &mut Vec<u8>,
 ) -> Result<(), FindError>
     requires { records.old.items ≡ [] }
-    ensures { Listed text.now options result records.new.items }
+    ensures { IsListing text.now options result records.new.items }
 {
     let mut finder = Finder::new(alloc, text, options)?;
     'imports: while let Some(binding) = finder.next_import()? {

@@ -1,6 +1,8 @@
 -- What listing all that is ready leaves.
-use Rattle.std.proofs.Common.{◌≡◌, ℕ, Bool, true, false, Option, None, Ok, Err, List, refl, sym, ap, ◌∙◌, subst}
+use Rattle.std.proofs.Common.{◌≡◌, ℕ, Bool, true, false, Option, None, Ok, Err, List, [], ◌∷◌, ◌++◌, refl, sym, ap, ◌∙◌, subst}
+use Rattle.std.proofs.KnownBytes.{Appends-nil, Appends-trans}
 use Rattle.std.specs.Io.KnownBytes.{Appends}
+use Rattle.std.specs.List.{list_any}
 use Rattle.py_lines.specs.declared.fault.Fault.{Fault}
 use Rattle.py_imports.specs.Bound.{Bound}
 use Rattle.isort_find.specs.Found.{IsFound}
@@ -18,7 +20,7 @@ use Rattle.isort_sort.specs.declared.metered.Last.{Last}
 use Rattle.isort_sort.specs.declared.metered.Last.TheVariants as last
 use Rattle.isort_cmd.specs.Printed.{line_text}
 use Rattle.isort_cmd.specs.RunError.{run_error_of}
-use Rattle.isort_cmd.specs.Private.Stages.{ListingState, KeepsListed, ListsOne, ListsAll, ListsNext, StopsReady, EndsListing, StopsAtEnd}
+use Rattle.isort_cmd.specs.Private.Stages.{ListingState, KeepsListed, ListsOne, ListsAll, ListsNext, StopsReady, EndsListing, StopsAtEnd, TellsWritten}
 use Rattle.isort_cmd.specs.Private.Steps.{GivenAreListed, IsOutputError, LeavesReady}
 use Rattle.isort_cmd.specs.Written.{ListsFound}
 use Rattle.isort_cmd.specs.declared.error.RunError.{RunError}
@@ -99,6 +101,50 @@ next_is_one old new some is h = subst (λ (b : Bool). ListsNext old (Ok b) new) 
 
 pub next_is_none : (old new : ListingState) (some : Bool) → some ≡ false → ListsNext old (Ok some) new → ListsAll old new
 next_is_none old new some is h = subst (λ (b : Bool). ListsNext old (Ok b) new) is h
+
+-- nothing was written
+pub tells_none : (now : Option (List ℕ)) → TellsWritten false now now
+tells_none now = record { bytes = []; written = Appends-nil now; any = refl }
+
+line_is_some : (path : List ℕ) (b : Bound) → true ≡ list_any (λ b. true) (line_text path b)
+line_is_some [] b = refl
+line_is_some (c ∷ path) b = refl
+
+-- the line of a binding was written
+pub tells_line : (path : List ℕ) (b : Bound) (out : List ℕ) (old new : Option (List ℕ)) → out ≡ line_text path b → Appends old new out → TellsWritten true old new
+tells_line path b out old new put wrote = record {
+  bytes = line_text path b;
+  written = subst (λ x. Appends old new x) put wrote;
+  any = line_is_some path b;
+}
+
+later_some : (front more : List ℕ) → true ≡ list_any (λ b. true) more → true ≡ list_any (λ b. true) (front ++ more)
+later_some [] more any = any
+later_some (c ∷ front) more any = refl
+
+later_none : (front more : List ℕ) → false ≡ list_any (λ b. true) more → list_any (λ b. true) front ≡ list_any (λ b. true) (front ++ more)
+later_none [] more none = none
+later_none (c ∷ front) more none = refl
+
+-- the answer is this one
+pub tells_as : (some same : Bool) (old new : Option (List ℕ)) → some ≡ same → TellsWritten some old new → TellsWritten same old new
+tells_as some same old new is = subst (λ (b : Bool). TellsWritten b old new) is
+
+-- more was written after something or nothing
+pub tells_more : (some : Bool) (old mid new : Option (List ℕ)) → TellsWritten some old mid → TellsWritten true mid new → TellsWritten true old new
+tells_more some old mid new first more = record {
+  bytes = first.bytes ++ more.bytes;
+  written = Appends-trans old mid new first.bytes more.bytes first.written more.written;
+  any = later_some first.bytes more.bytes more.any;
+}
+
+-- no more was written
+pub tells_no_more : (some : Bool) (old mid new : Option (List ℕ)) → TellsWritten some old mid → TellsWritten false mid new → TellsWritten some old new
+tells_no_more some old mid new first none = record {
+  bytes = first.bytes ++ none.bytes;
+  written = Appends-trans old mid new first.bytes none.bytes first.written none.written;
+  any = first.any ∙ later_none first.bytes none.bytes none.any;
+}
 
 -- at the same path
 pub goes_at : (path : List ℕ) (old new : ListingState) → old.path ≡ path → KeepsListed old new → (text : List ℕ) (options : FindOptions) (start : Option (List ℕ)) → GivenAreListed path text options old.finder start old.written → GivenAreListed path text options new.finder start new.written

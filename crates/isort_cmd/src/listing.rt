@@ -1,11 +1,11 @@
 //! Listing the imports of a text that is read in pieces.
-ghost use Rattle.std.specs.Prelude.{◌≡◌, ◌+◌, ◌≤◌, ◌^◌, ℕ, false, List, [], length, OnOk, IfErr};
+ghost use Rattle.std.specs.Prelude.{◌≡◌, ◌+◌, ◌≤◌, ◌^◌, ℕ, false, List, [], length, IfOk, OnOk, IfErr};
 ghost use Rattle.py_lines.specs.declared.fault.Fault.{Fault};
 ghost use Rattle.isort_find.specs.Pieces.{fed_by, has_ready, options_for};
 ghost use Rattle.isort_sort.specs.Metered.{inner_of, last_of};
 ghost use Rattle.isort_cmd.specs.RunError.{IsUnread, EndsReading, EndsWriting};
 ghost use Rattle.isort_cmd.specs.Private.Steps.{HasListedSettled, LooksAtHeld};
-ghost use Rattle.isort_cmd.specs.Private.Stages.{listing_state, ListsNext, ListsReady, ListsPiece, ListsPieces, ListsEnd};
+ghost use Rattle.isort_cmd.specs.Private.Stages.{listing_state, ListsNext, ListsReady, ListsPiece, ListsPieces, ListsEnd, TellsWritten};
 ghost use Rattle.isort_cmd.specs.Written.{ListsInput, LeavesInput, ListsUnread, ListsFaulty};
 
 use crate::error::RunError;
@@ -54,7 +54,8 @@ impl Listing<'_> {
     /// Writes the line of the next import that is ready: whether there is one.
     fn list_next<W: Write>(&mut self, writer: &mut Metered<W>) -> Result<bool, RunError>
         requires { last_of writer.old ≡ Last.Fine }
-        ensures { ListsNext (listing_state W.contents self.old writer.old) result (listing_state W.contents self.new writer.new) }
+        ensures lists { ListsNext (listing_state W.contents self.old writer.old) result (listing_state W.contents self.new writer.new) }
+        ensures some { IfOk result (λ some. TellsWritten some (W.contents (inner_of writer.old)) (W.contents (inner_of writer.new))) }
     {
         given_begin_the_found();
         let Some(binding) = self.finder.next_ready()? else {
@@ -69,7 +70,8 @@ impl Listing<'_> {
     /// Writes the lines of all imports that are ready: whether there are any.
     fn list_ready<W: Write>(&mut self, writer: &mut Metered<W>) -> Result<bool, RunError>
         requires { last_of writer.old ≡ Last.Fine }
-        ensures { ListsReady (listing_state W.contents self.old writer.old) result (listing_state W.contents self.new writer.new) }
+        ensures lists { ListsReady (listing_state W.contents self.old writer.old) result (listing_state W.contents self.new writer.new) }
+        ensures some { IfOk result (λ some. TellsWritten some (W.contents (inner_of writer.old)) (W.contents (inner_of writer.new))) }
     {
         let mut some = false;
         'imports: while self.list_next(writer)? {

@@ -2,7 +2,7 @@
 ghost use Rattle.std.specs.Prelude.{◌≡◌, ◌+◌, ◌<◌, ◌≤◌, ℕ, false, IsTrue, List, codes, length};
 ghost use Rattle.memchr.specs.Find.{OccursAt};
 ghost use Rattle.py_lines.specs.Lines.{line_in};
-ghost use Rattle.isort_sort.specs.Private.FirstWords.{BeginNowhere, IsPlain, StandsIn};
+ghost use Rattle.isort_sort.specs.Private.FirstWords.{BeginNowhere, IsPlain, HoldsLineAt};
 
 use memchr::memchr;
 use py_imports::has_first_word;
@@ -118,7 +118,7 @@ impl<'t> FirstWords<'t> {
     /// Whether no token of a line of the text is spelled as either word. Most lines hold neither in any way.
     #[inline(always)]
     pub(crate) fn none_in(&mut self, unit: &Unit<'_>) -> bool
-        requires { StandsIn self.old (line_in unit.now) }
+        requires { HoldsLineAt self.old (line_in unit.now) }
         ensures plain { IsTrue result → IsPlain (line_in unit.now) }
         ensures same { self.new ≡ self.old }
     {

@@ -6,7 +6,7 @@ ghost use Rattle.py_lines.specs.LogicalLine.{LogicalLine};
 ghost use Rattle.py_imports.specs.Binds.{Binds};
 ghost use Rattle.py_imports.specs.Bound.{bound_of};
 ghost use Rattle.isort_sort.specs.Answers.{IsRefused};
-ghost use Rattle.isort_sort.specs.Private.FirstWords.{StandsIn};
+ghost use Rattle.isort_sort.specs.Private.FirstWords.{HoldsLineAt};
 ghost use Rattle.isort_sort.specs.Private.FoundValues.{finding_value, IsCounted};
 ghost use Rattle.isort_sort.specs.Private.Reading.{FindsLine, IsReadSoFar, ReadsLine, PassesOver};
 ghost use Rattle.isort_sort.specs.Private.Reading.{IsReadBefore, IsWholeRead, IsFoundIn};
@@ -142,7 +142,7 @@ impl LineReader {
     /// The text's first line and the string that the text may begin with are read. The result is whether it was passed over.
     #[inline(always)]
     fn pass(&mut self, unit: &Unit<'_>, words: &mut FirstWords<'_>) -> bool
-        requires stands { StandsIn words.old (line_in unit.now) }
+        requires stands { HoldsLineAt words.old (line_in unit.now) }
         requires counted { IsCounted (finding_value self.old.blocks) }
         requires fits { (finding_value self.old.blocks).place + length (line_in unit.now).text < 2 ^ 64 }
         ensures on { IsTrue result → ReadsLine (line_in unit.now) self.old self.new }

@@ -20,4 +20,5 @@ pub mod CarriageReturns
 pub mod TokenRuns
 pub mod NextPieces
 pub mod WholeLines
+pub mod LongStrings
 pub mod LineStops

@@ -11,4 +11,5 @@ pub mod LineState
 pub mod Source
 pub mod Run
 pub mod WholeLines
+pub mod LongStrings
 pub mod Feed

@@ -11,6 +11,7 @@ mod host;
 pub mod laws;
 mod line_state;
 mod lines;
+mod long_strings;
 mod mode;
 mod run;
 mod scan;

@@ -90,8 +90,8 @@ impl<'t> Lines<'t> {
     /// passed over, and then nothing changed. It is quicker than [`Lines::next_unit`].
     ///
     /// A line is passed over where it ends at byte `before` of the text or before it, isn't the text's first, and is simple: its
-    /// pieces are ASCII and no comments, its strings short, without a prefix and an escape, and its line ends LF. Which lines
-    /// are simple is not promised.
+    /// pieces are ASCII and no comments, its strings have no prefix and no escape, and its line ends are LF. Which lines are
+    /// simple is not promised.
     ///
     /// Where a growth was refused, the reader is as it was.
     pub fn pass_line(&mut self, before: usize) -> Result<Option<usize>, AllocError>

@@ -82,7 +82,7 @@ static FIRST_BYTES: [FirstByte; 256] = [
 ];
 
 /// Whether the byte is ASCII, and neither closes a string of this quote nor escapes in it, and ends no line.
-fn is_text_byte(quote: u8, b: u8) -> bool
+pub fn is_text_byte(quote: u8, b: u8) -> bool
     ensures { result ≡ is_text_byte quote b }
 {
     is_body_byte(quote, b) && b < 128

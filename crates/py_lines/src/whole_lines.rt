@@ -1,10 +1,12 @@
 //! Lines that bytes hold whole, where they are simple: they are passed over, and no token is kept.
 
-ghost use Rattle.std.specs.Prelude.{◌≡◌, true, OnOk};
+ghost use Rattle.std.specs.Prelude.{◌≡◌, ◌<◌, true, length, slice_index, OnOk};
+ghost use Rattle.py_lines.specs.Character.{is_quote};
 ghost use Rattle.py_lines.specs.Private.Scan.{none_open, stack_of};
-ghost use Rattle.py_lines.specs.Private.WholeLines.{HasWholeLine, PassesPiece};
+ghost use Rattle.py_lines.specs.Private.WholeLines.{HasWholeLine, PassesPiece, PassesString};
 
 use crate::brackets::Brackets;
+use crate::long_strings::{LongString, whole_long_string};
 use crate::run::{ByteRun, FirstByte};
 use crate::whole_strings::{begins_plain_string, whole_plain_string};
 use std::alloc::AllocError;
@@ -23,12 +25,33 @@ pub struct WholeLine {
 enum Passed {
     /// So many bytes, which hold no line end.
     Bytes(usize),
+    /// A string of three quotes.
+    LongString(LongString),
     /// LF.
     LineFeed,
     Nothing,
 }
 
-/// Passes the piece at this byte of a line, which no run of `ByteRun::Statement` reaches over.
+/// Passes the string that begins at this byte, where it has no prefix.
+fn pass_string(bytes: &[u8], place: usize) -> Passed
+    requires within { place < length bytes.now }
+    requires quote { is_quote (slice_index bytes.now place) ≡ true }
+    ensures { PassesString bytes.now place result }
+{
+    if !begins_plain_string(bytes, place) {
+        return Passed::Nothing;
+    }
+    let rest = &bytes[place..];
+    if let Some(len) = whole_plain_string(rest) {
+        return Passed::Bytes(len);
+    }
+    match whole_long_string(rest) {
+        Some(string) => Passed::LongString(string),
+        None => Passed::Nothing,
+    }
+}
+
+/// Passes the piece at this byte of a line; a word, a space or an operator with the run of such pieces after it.
 fn pass_piece(brackets: &mut Brackets, bytes: &[u8], place: usize) -> Result<Passed, AllocError>
     ensures { OnOk result (PassesPiece brackets.old bytes.now place result brackets.new) }
 {
@@ -37,20 +60,19 @@ fn pass_piece(brackets: &mut Brackets, bytes: &[u8], place: usize) -> Result<Pas
     }
     let rest = &bytes[place..];
     let passed = match FirstByte::of(rest[0]) {
-        FirstByte::Space | FirstByte::Operator => Passed::Bytes(1),
+        FirstByte::Word | FirstByte::Space | FirstByte::Operator => {
+            Passed::Bytes(1 + ByteRun::Statement.len_in(&rest[1..]))
+        }
         FirstByte::LineFeed => Passed::LineFeed,
         FirstByte::Bracket if brackets.meet(rest[0] as char, place)? => Passed::Bytes(1),
-        FirstByte::Quote if begins_plain_string(bytes, place) => match whole_plain_string(rest) {
-            Some(len) => Passed::Bytes(len),
-            None => Passed::Nothing,
-        },
+        FirstByte::Quote => pass_string(bytes, place),
         _ => Passed::Nothing,
     };
     Ok(passed)
 }
 
-/// The line that the bytes begin with, where all of its pieces are simple: words, operators and strings without a prefix, of ASCII,
-/// and LF. No line is open before it, and no bracket.
+/// The line that the bytes begin with, where all of its pieces are simple: words, operators and strings without a prefix and an
+/// escape, of ASCII, and LF. No line is open before it, and no bracket.
 pub fn whole_line(brackets: &mut Brackets, bytes: &[u8]) -> Result<Option<WholeLine>, AllocError>
     requires { none_open (stack_of brackets.old) ≡ true }
     ensures { OnOk result (HasWholeLine bytes.now result) }
@@ -58,9 +80,12 @@ pub fn whole_line(brackets: &mut Brackets, bytes: &[u8]) -> Result<Option<WholeL
     let mut len = 0;
     let mut line_ends = 0;
     'pieces: loop {
-        len += ByteRun::Statement.len_in(&bytes[len..]);
         match pass_piece(brackets, bytes, len)? {
             Passed::Bytes(more) => len += more,
+            Passed::LongString(string) => {
+                len += string.len;
+                line_ends += string.line_ends;
+            }
             Passed::LineFeed => {
                 len += 1;
                 line_ends += 1;

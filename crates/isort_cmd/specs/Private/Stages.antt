@@ -1,6 +1,7 @@
 -- What the calls of a listing promise one another, from one stage to the next. Contracts of private functions alone cite these.
 use Rattle.std.specs.Prelude.{◌≡◌, ◌<◌, ◌+◌, ℕ, Bool, true, false, Option, None, IfSome, Result, Ok, Err, List, ◌++◌, length}
-use Rattle.std.specs.Io.KnownBytes.{IsAtEnd}
+use Rattle.std.specs.Io.KnownBytes.{Appends, IsAtEnd}
+use Rattle.std.specs.List.{list_any}
 use Rattle.isort_find.specs.Pieces.{PieceFinderState, IsOver, HasNoFault, options_for, due_by, fed_by, has_ready}
 use Rattle.isort_find.specs.declared.options.FindOptions.{FindOptions}
 use Rattle.isort_find.specs.Stand.{phase_in}
@@ -63,6 +64,12 @@ pub record StopsReady (old : ListingState) (e : RunError) (new : ListingState) :
   pub leaves : (text : List ℕ) (options : FindOptions) (start : Option (List ℕ))
       → GivenAreListed old.path text options old.finder start old.written
       → LeavesReady old.path text options old.finder e start new.written
+
+-- bytes joined what a writer had taken, and this is whether there were any
+pub record TellsWritten (some : Bool) (old new : Option (List ℕ)) : Type 0 where
+  pub bytes : List ℕ
+  pub written : Appends old new bytes
+  pub any : some ≡ list_any (λ b. true) bytes
 
 -- what a call that lists the next import answers
 abbrev pub ListsNext : ListingState → Result Bool RunError → ListingState → Type 0

@@ -10,7 +10,7 @@ use Rattle.std.specs.List.{starts_with}
 use Rattle.memchr.specs.Find.{OccursAt, Nowhere, IsFirstByte, is_byte}
 use Rattle.memchr.proofs.lemmas.MatchLemmas.{OccursAt-part, OccursAt-from_part}
 use Rattle.py_imports.specs.FirstWords.{Lacks, LacksFirstWords}
-use Rattle.isort_sort.specs.Private.FirstWords.{BeginNowhere, StandsAt}
+use Rattle.isort_sort.specs.Private.FirstWords.{BeginNowhere, HoldsBytesAt}
 
 -- the rest of a text
 rest_is : (text : List ℕ) (start : ℕ) → slice_range text start (length text) ≡ drop start text
@@ -66,7 +66,7 @@ between before word after =
     (ap (take (length word)) (drop-append_seam before (word ++ after)) ∙ take-append_seam word after)
 
 -- bytes that end before the next place of the word lack it
-lacks : (word text bytes : List ℕ) (start stop : ℕ) → 0 < length word → StandsAt text bytes start → Nowhere (OccursAt text word) start stop → start + length bytes ≤ stop → Lacks word bytes
+lacks : (word text bytes : List ℕ) (start stop : ℕ) → 0 < length word → HoldsBytesAt text bytes start → Nowhere (OccursAt text word) start stop → start + length bytes ≤ stop → Lacks word bytes
 lacks word text bytes start stop some stands nowhere within = λ a b e.
     let rest = b ++ stands.after in
     let split : text ≡ (stands.before ++ a) ++ (word ++ rest) =
@@ -80,14 +80,14 @@ lacks word text bytes start stop some stands nowhere within = λ a b e.
     nowhere (length (stands.before ++ a)) (omega (arith, place, before)) (omega (arith, place, before, len, some, within)) (subst (λ t. OccursAt t word (length (stands.before ++ a))) (sym split) (between (stands.before ++ a) word rest))
 
 -- so bytes that end before both lack both
-pub lacks_first_words : (text bytes : List ℕ) (start stop : ℕ) → StandsAt text bytes start → BeginNowhere text start stop → start + length bytes ≤ stop → LacksFirstWords bytes
+pub lacks_first_words : (text bytes : List ℕ) (start stop : ℕ) → HoldsBytesAt text bytes start → BeginNowhere text start stop → start + length bytes ≤ stop → LacksFirstWords bytes
 lacks_first_words text bytes start stop stands nowhere within = (
   lacks (codes "import") text bytes start stop (omega arith) stands nowhere.0 within,
   lacks (codes "from") text bytes start stop (omega arith) stands nowhere.1 within,
 )
 
 -- the bytes of a text from one place up to another
-pub slice_stands : (text : List ℕ) (start stop : ℕ) → start ≤ stop → stop ≤ length text → StandsAt text (slice_range text start stop) start
+pub slice_stands : (text : List ℕ) (start stop : ℕ) → start ≤ stop → stop ≤ length text → HoldsBytesAt text (slice_range text start stop) start
 slice_stands text start stop ordered within = record {
   before = take start text;
   after = drop stop text;

@@ -9,7 +9,7 @@ use Rattle.py_lines.specs.LogicalLine.{LogicalLine, line_of, is_line_end_class, 
 use Rattle.py_lines.specs.Piece.{Piece, spelled}
 use Rattle.py_lines.specs.Reader.{Reader, HasGiven}
 use Rattle.py_imports.specs.Shape.{mark_len}
-use Rattle.isort_sort.specs.Private.FirstWords.{StandsIn}
+use Rattle.isort_sort.specs.Private.FirstWords.{HoldsLineAt}
 use Rattle.isort_sort.specs.Row.{Row, AreRows}
 use Rattle.isort_sort.specs.Sorted.{texts_of, mark_of}
 
@@ -51,7 +51,7 @@ texts_snoc [] line = append-nil line.text
 texts_snoc (l ∷ ls) line = ap (λ t. l.text ++ t) (texts_snoc ls line) ∙ sym (append_assoc l.text (texts_of_lines ls) line.text)
 
 -- a line that was given stands in the text, after those before it
-pub line_stands : (r : Reader) (before : List LogicalLine) (line : LogicalLine) → HasGiven r (before ++ line ∷ []) → StandsIn r.text line
+pub line_stands : (r : Reader) (before : List LogicalLine) (line : LogicalLine) → HasGiven r (before ++ line ∷ []) → HoldsLineAt r.text line
 line_stands r before line given =
     let first = given.first in
     let rest = encode_utf8_all first.rest in

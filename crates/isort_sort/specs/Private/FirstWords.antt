@@ -11,15 +11,15 @@ abbrev pub BeginNowhere : List ℕ → ℕ → ℕ → Type 0
 BeginNowhere text start stop = Nowhere (OccursAt text (codes "import")) start stop × Nowhere (OccursAt text (codes "from")) start stop
 
 -- these bytes stand in the text at that byte
-pub record StandsAt (text bytes : List ℕ) (start : ℕ) : Type 0 where
+pub record HoldsBytesAt (text bytes : List ℕ) (start : ℕ) : Type 0 where
   pub before : List ℕ
   pub after : List ℕ
   pub whole : text ≡ before ++ (bytes ++ after)
   pub place : length before ≡ start
 
 -- the line stands in the text at its own byte
-abbrev pub StandsIn : List ℕ → LogicalLine → Type 0
-StandsIn text line = StandsAt text line.text line.offset
+abbrev pub HoldsLineAt : List ℕ → LogicalLine → Type 0
+HoldsLineAt text line = HoldsBytesAt text line.text line.offset
 
 -- no token of the line is spelled as the first word of an import statement, and it binds nothing
 pub record IsPlain (line : LogicalLine) : Type 0 where

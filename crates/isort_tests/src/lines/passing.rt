@@ -41,21 +41,34 @@ const PASSING: &[Passing] = &[
     Passing("a\nb = c\n\n\td(e, 'f')\n", 20, &[6, 1, 11], (20, 5)),
     // Brackets over several lines.
     Passing("a\nb = [\n    'd', {e: 1},\n]\n", 27, &[25], (27, 5)),
+    // Strings of three quotes: on one line, over several, and with a quote in them, also before a line end.
+    Passing("a\nb = '''c'''\n", 14, &[12], (14, 3)),
+    Passing("a\n\"\"\"b\n\nc\"\"\"\nd\n", 15, &[11, 2], (15, 6)),
+    Passing("a\n'''b'c'\nd'''\n", 15, &[13], (15, 4)),
+    Passing("a\nb(\"\"\"c\"\"\", '''d\n''')\n", 23, &[21], (23, 4)),
     // A line that goes past the byte, and one without a line end.
     Passing("a\nb\nc = d\n", 9, &[2], (4, 3)),
     Passing("a\nb\nc = d", 9, &[2], (4, 3)),
-    // What is left to the scan: a comment, a prefix, an escape, three quotes, a backslash, CR, and a character outside ASCII.
+    // What is left to the scan: a comment, a prefix, an escape, two quotes in a string of three, a backslash, CR, and a character
+    // outside ASCII.
     Passing("a\nb  # c\n", 9, &[], (2, 2)),
     Passing("a\nb = r'c'\n", 11, &[], (2, 2)),
     Passing("a\nb = 'c\\n'\n", 12, &[], (2, 2)),
-    Passing("a\nb = '''c'''\n", 14, &[], (2, 2)),
+    Passing("a\nb'''c'''\n", 11, &[], (2, 2)),
+    Passing("a\nr'''c'''\n", 11, &[], (2, 2)),
+    Passing("a\n'''b\\\n'''\n", 12, &[], (2, 2)),
+    Passing("a\n'''b'\\''''\n", 13, &[], (2, 2)),
+    Passing("a\n'''b''c'''\n", 13, &[], (2, 2)),
+    Passing("a\n'''b\r\n'''\n", 13, &[], (2, 2)),
     Passing("a\nb = \\\n c\n", 11, &[], (2, 2)),
     Passing("a\nb = c\r\n", 9, &[], (2, 2)),
     Passing("a\nb = \u{e4}\n", 9, &[], (2, 2)),
-    // A fault: a bracket that closes none, a character that begins nothing, and a string that isn't closed.
+    // A fault: a bracket that closes none, a character that begins nothing, and strings that aren't closed.
     Passing("a\nb = (c]\n", 10, &[], (2, 2)),
     Passing("a\nb = c?\n", 9, &[], (2, 2)),
     Passing("a\nb = 'c\n", 9, &[], (2, 2)),
+    Passing("a\n'''b\n", 7, &[], (2, 2)),
+    Passing("a\n'''b''\n", 9, &[], (2, 2)),
 ];
 
 #[test]

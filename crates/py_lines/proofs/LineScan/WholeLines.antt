@@ -5,7 +5,7 @@ use Rattle.std.specs.List.{list_all}
 use Rattle.std.proofs.lemmas.Bool.{and_from, and_parts, both_ways, or_cases}
 use Rattle.std.proofs.lemmas.Bool.Decides.{nat_tests}
 use Rattle.std.proofs.lemmas.List.Folds.{list_all-append, list_any-append}
-use Rattle.std.proofs.lemmas.List.{length-take-le}
+use Rattle.std.proofs.lemmas.List.{drop-drop, length-take-le}
 use Rattle.std.proofs.lemmas.Str.{len_utf8_ascii}
 use Rattle.std.proofs.Math.Seq.{take-add, take-append_seam, take-suc}
 use Rattle.py_lines.specs.Character.{is_one_of, is_word_character, is_space, is_quote, is_operator, is_line_feed, is_return, is_break}
@@ -54,19 +54,19 @@ operator-not-space : (c : ℕ) → is_operator c ≡ true → is_space c ≡ fal
 unfolding is_operator is_space
 operator-not-space c h = none_of is_space (codes "+-*/%@&|^~<>=!()[]{},:.;") c refl h
 
-quote-not-space : (c : ℕ) → is_quote c ≡ true → is_space c ≡ false
+pub quote-not-space : (c : ℕ) → is_quote c ≡ true → is_space c ≡ false
 unfolding is_quote is_space
 quote-not-space c h = none_of is_space (codes "'\"") c refl h
 
 -- more bytes, which end no line
-holds_more : (read run : List ℕ) (n : ℕ) → HoldsFeeds read n → IsFull run → list_all is_low run ≡ true → list_all (λ d. not (is_break d)) run ≡ true → HoldsFeeds (read ++ run) n
+pub holds_more : (read run : List ℕ) (n : ℕ) → HoldsFeeds read n → IsFull run → list_all is_low run ≡ true → list_all (λ d. not (is_break d)) run ≡ true → HoldsFeeds (read ++ run) n
 holds_more read run n holds full low whole = record {
   low = list_all-append is_low read run ∙ and_from _ _ holds.low low;
   count = line_ends-run read run whole ∙ holds.count;
   unreturned = ends-run read run full whole;
 }
 
-holds_one : (read : List ℕ) (c n : ℕ) → HoldsFeeds read n → c < 128 → is_break c ≡ false → HoldsFeeds (read ++ c ∷ []) n
+pub holds_one : (read : List ℕ) (c n : ℕ) → HoldsFeeds read n → c < 128 → is_break c ≡ false → HoldsFeeds (read ++ c ∷ []) n
 holds_one read c n holds low none = holds_more read (c ∷ []) n holds tt (and_from _ _ (is_low_from c low) refl) (and_from _ _ (ap not none) refl)
 
 -- LF counts as one more line end
@@ -78,7 +78,7 @@ feed_unreturned : is_return 10 ≡ false
 unfolding is_return
 feed_unreturned = refl
 
-holds_feed : (read : List ℕ) (n : ℕ) → HoldsFeeds read n → HoldsFeeds (read ++ 10 ∷ []) (n + 1)
+pub holds_feed : (read : List ℕ) (n : ℕ) → HoldsFeeds read n → HoldsFeeds (read ++ 10 ∷ []) (n + 1)
 holds_feed read n holds =
     let one : counts_after (ends is_return read) 10 ≡ 1 = ap (λ (b : Bool). counts_after b 10) holds.unreturned ∙ feed_counts in
     record {
@@ -105,7 +105,7 @@ code_open : (m : Mode) → is_code_mode m ≡ true → m ≡ modes.Return → �
 code_open m code is = let stuck : false ≡ true = sym (ap is_code_mode is) ∙ code in cc
 
 -- the mode breaks before such characters
-apart_breaks : (m : Mode) (c : ℕ) → is_apart_mode m ≡ true → is_space c ≡ false → meet_of m c ≡ moves.Breaks
+pub apart_breaks : (m : Mode) (c : ℕ) → is_apart_mode m ≡ true → is_space c ≡ false → meet_of m c ≡ moves.Breaks
 unfolding meet_of move_of
 apart_breaks modes.Free c apart space = refl
 apart_breaks modes.Space c apart space = rw space refl
@@ -148,7 +148,7 @@ module _ (read : List ℕ) (n : ℕ) (st : List Bracket) (s : Scanned) (come : H
   begins_as : (start : Start) → start_of c ≡ start → scan_steps (Some (line_start modes.Free)) (read ++ c ∷ []) ≡ started (pieces_at s) c start
   begins_as start is = steps_push (line_start modes.Free) read s c come.steps ∙ begin s c start breaks is
 
-  opens : (m : Mode) → start_of c ≡ starts.Open m → HoldsFeeds (read ++ c ∷ []) n → HasCome (read ++ c ∷ []) n st (scanned (pieces_at s) m (c ∷ []))
+  pub opens : (m : Mode) → start_of c ≡ starts.Open m → HoldsFeeds (read ++ c ∷ []) n → HasCome (read ++ c ∷ []) n st (scanned (pieces_at s) m (c ∷ []))
   opens m is holds = record { steps = begins_as (starts.Open m) is; stacked = closed_stack; one_line = closed_line; bare = closed_bare; holds = holds }
 
   -- it is an operator
@@ -426,14 +426,15 @@ rest_first bytes place =
     let here : place + 0 ≡ place = omega arith in
     ap (λ t. slice_index t 0) (rest_is bytes place) ∙ later bytes place 0 ∙ ap (λ (k : ℕ). slice_index bytes k) here
 
--- what a byte begins that is passed alone
-pub alone_code : (k : FirstByte) (b : ℕ) → BeginsSo k b → (k ≡ first.Space) ⊎ (k ≡ first.Operator) → IsCodeByte b
-alone_code k b so (inl is) = inr (inl (subst (λ (f : FirstByte). BeginsSo f b) is so))
-alone_code k b so (inr is) = inr (inr (subst (λ (f : FirstByte). BeginsSo f b) is so))
+-- what a byte begins that code begins with
+pub begins_code : (k : FirstByte) (b : ℕ) → BeginsSo k b → (k ≡ first.Word) ⊎ ((k ≡ first.Space) ⊎ (k ≡ first.Operator)) → IsCodeByte b
+begins_code k b so (inl is) = inl (subst (λ (f : FirstByte). BeginsSo f b) is so)
+begins_code k b so (inr (inl is)) = inr (inl (subst (λ (f : FirstByte). BeginsSo f b) is so))
+begins_code k b so (inr (inr is)) = inr (inr (subst (λ (f : FirstByte). BeginsSo f b) is so))
 
 -- what is passed at a place, as the code knows it
 module _ (old : Brackets) (bytes : List ℕ) (place : ℕ) (within : place < length bytes) where
-  pub code_more : IsCodeByte (slice_index bytes place) → PassesMore old bytes place 1 (λ read n. GoesOnAfter read n (stack_of old))
+  code_more : IsCodeByte (slice_index bytes place) → PassesMore old bytes place 1 (λ read n. GoesOnAfter read n (stack_of old))
   code_more code = record {
     some = omega arith;
     within = omega (arith, within);
@@ -466,7 +467,7 @@ module _ (old : Brackets) (bytes : List ℕ) (place : ℕ) (within : place < len
   room_more : (text after : List ℕ) (len : ℕ) → text ++ after ≡ drop place bytes → length text ≡ len → place + len ≤ length bytes
   room_more text after len spell size = omega (arith, ap length spell, length-append text after, length-drop place bytes, size, within)
 
-  no_word_before : BeginsPlainString bytes place → ends is_ascii_word (take place bytes) ≡ false
+  pub no_word_before : BeginsPlainString bytes place → ends is_ascii_word (take place bytes) ≡ false
   no_word_before begun =
       ⊎_elim
       (λ (first : place ≡ 0). ap (λ (k : ℕ). ends is_ascii_word (take k bytes)) first)
@@ -489,10 +490,22 @@ module _ (old : Brackets) (bytes : List ℕ) (place : ℕ) (within : place < len
         leads = λ n on. subst (λ (t : List ℕ). GoesOnAfter t n (stack_of old)) (sym (taken_more text whole.after len spell size)) (string_passed (take place bytes) n (stack_of old) whole.q whole.run on (no_word_before begun) whole.quote whole.full whole.all);
       }
 
--- a run of code that the code has found
-pub statement_more : (st : List Bracket) (bytes : List ℕ) (place len n : ℕ) → place ≤ length bytes → IsRunOf is_statement_byte (drop place bytes) len → GoesOnAfter (take place bytes) n st → GoesOnAfter (take (place + len) bytes) n st
-statement_more st bytes place len n within run on =
+-- a run of code after the first byte, as the code has found it
+statement_more : (st : List Bracket) (bytes : List ℕ) (place len n : ℕ) → IsRunOf is_statement_byte (drop place bytes) len → GoesOnAfter (take place bytes) n st → GoesOnAfter (take (place + len) bytes) n st
+statement_more st bytes place len n run on =
     subst (λ (t : List ℕ). GoesOnAfter t n st) (sym (take-add place len bytes)) (run_passed is_statement_byte (take place bytes) (take len (drop place bytes)) n st statement_code (all_pass is_statement_byte (drop place bytes) len run.within run.each) on)
+
+pub run_more : (old : Brackets) (bytes : List ℕ) (place len : ℕ) → place < length bytes → IsCodeByte (slice_index bytes place) → IsRunOf is_statement_byte (drop 1 (drop place bytes)) len → PassesMore old bytes place (1 + len) (λ read n. GoesOnAfter read n (stack_of old))
+run_more old bytes place len within code run =
+    let first = code_more old bytes place within code in
+    let so : IsRunOf is_statement_byte (drop (place + 1) bytes) len = subst (λ (t : List ℕ). IsRunOf is_statement_byte t len) (drop-drop 1 place bytes) run in
+    let room = so.within in
+    let all : place + (1 + len) ≡ (place + 1) + len = omega arith in
+    record {
+      some = omega arith;
+      within = omega (arith, within, room, length-drop (place + 1) bytes);
+      leads = λ n on. subst (λ (k : ℕ). GoesOnAfter (take k bytes) n (stack_of old)) (sym all) (statement_more (stack_of old) bytes (place + 1) len n so (first.leads n on));
+    }
 
 -- a line has begun
 pub none_passed : (bytes : List ℕ) (st : List Bracket) → none_open st ≡ true → GoesOnAfter (take 0 bytes) 0 st

@@ -66,8 +66,14 @@ abbrev pub PassesPiece : Brackets → List ℕ → ℕ → Result Passed AllocEr
 PassesPiece old bytes place (Ok (passed.Bytes len)) new = PassesMore old bytes place len (λ read n. GoesOnAfter read n (stack_of new))
 PassesPiece old bytes place (Ok passed.LineFeed) new =
     PassesMore old bytes place 1 (λ read n. IsAfterFeed (stack_of new) read (n + 1)) × (new ≡ old)
+PassesPiece old bytes place (Ok (passed.LongString string)) new =
+    PassesMore old bytes place string.len (λ read n. GoesOnAfter read (n + string.line_ends) (stack_of new))
 PassesPiece old bytes place (Ok passed.Nothing) new = Unit {0}
 PassesPiece old bytes place (Err e) new = Unit {0}
+
+-- what is passed where a string begins: the brackets stay as they are
+abbrev pub PassesString : List ℕ → ℕ → Passed → Type 0
+PassesString bytes place string = (brackets : Brackets) → PassesPiece brackets bytes place (Ok string) brackets
 
 -- the line that these bytes begin with
 pub record BeginsWithLine (bytes : List ℕ) (line : WholeLine) : Type 0 where

@@ -1,18 +1,19 @@
-use Rattle.std.proofs.Common.{◌≡◌, ◌∙◌, ℕ, Bool, true, Some, Ok, List, drop, slice_index, refl, sym, ap, subst}
+use Rattle.std.proofs.Common.{◌≡◌, ◌∙◌, ℕ, ◌-◌, Bool, true, Some, Ok, List, length, take, drop, slice_index, refl, sym, ap, subst}
 use Rattle.py_lines.specs.Character.{is_line_feed, is_operator}
-use Rattle.py_lines.specs.Private.Run.{BeginsSo, IsWholePlainString}
+use Rattle.py_lines.specs.Private.Run.{BeginsSo, IsRunOf, is_statement_byte}
 use Rattle.py_lines.specs.Private.Scan.{Meets, stack_of, stack_with}
 use Rattle.py_lines.proofs.FieldScans.TextLengths.{rest_is}
 use Rattle.py_lines.proofs.Text.CharacterTests.{feed_is}
-use Rattle.py_lines.proofs.LineScan.WholeLines.{alone_code, bracket_more, code_more, feed_more, rest_first, string_more}
+use Rattle.py_lines.proofs.LineScan.WholeLines.{begins_code, bracket_more, feed_more, rest_first, run_more}
 use Rattle.py_lines.proofs.whole_lines.pass_piece.Goals as goal
 
-pub returns-in-Space : goal.returns-in-Space
-returns-in-Space c =
+pub returns-in-Word : goal.returns-in-Word
+returns-in-Word c =
     let bytes = c.args.bytes.now in
     let place = c.args.place in
     let so : BeginsSo c.of.result (slice_index bytes place) = subst (λ (b : ℕ). BeginsSo c.of.result b) (rest_first bytes place) c.of.ensures.begins in
-    code_more c.args.brackets.now bytes place c.if-place-bytes.false (alone_code c.of.result (slice_index bytes place) so c.in-Space.is)
+    let run = subst (λ (t : List ℕ). IsRunOf is_statement_byte (drop 1 t) c.len_in.result) (rest_is bytes place) (subst (λ (t : List ℕ). IsRunOf is_statement_byte t c.len_in.result) (rest_is (take (length bytes - place) (drop place bytes)) 1) c.len_in.ensures) in
+    run_more c.args.brackets.now bytes place c.len_in.result c.if-place-bytes.false (begins_code c.of.result (slice_index bytes place) so c.in-Word.is) run
 
 pub returns-in-LineFeed : goal.returns-in-LineFeed
 returns-in-LineFeed c =
@@ -30,9 +31,5 @@ returns-in-Bracket c =
     let stands : stack_with c.args.brackets.now place (slice_index bytes place) ≡ Some (stack_of c.meet.new.self) = subst (λ (b : Bool). Meets c.args.brackets.now (slice_index bytes place) place (Ok b) c.meet.new.self) c.if-branch.true met in
     bracket_more c.args.brackets.now bytes place c.if-place-bytes.false c.meet.new.self is stands
 
-pub returns-in-Some : goal.returns-in-Some
-returns-in-Some c =
-    let bytes = c.args.bytes.now in
-    let place = c.args.place in
-    let whole : IsWholePlainString (drop place bytes) c.in-Some.len = subst (λ (t : List ℕ). IsWholePlainString t c.in-Some.len) (rest_is bytes place) c.in-Some.ensures in
-    string_more c.args.brackets.now bytes place c.if-place-bytes.false c.in-Some.len (c.begins_plain_string.ensures c.if-begins_plain_string.true) whole
+pub returns-in-Quote : goal.returns-in-Quote
+returns-in-Quote c = c.pass_string-passed.ensures c.args.brackets.now

@@ -11,7 +11,7 @@ returns-in_err-finish g c =
 pub returns-in_err-list_ready : goal.returns-in_err-list_ready
 returns-in_err-list_ready g c =
     let p = err_from_is_err_and c.from_residual-in_err-list_ready.result c.from_residual-in_err-list_ready.ensures.1 in
-    rw (p.1, p.2) (stops_after_end _ _ c.finish.new.self c.in_err-list_ready.field-0.0 c.in_ok-finish.ensures.finishes c.in_err-list_ready.ensures)
+    rw (p.1, p.2) (stops_after_end _ _ c.finish.new.self c.in_err-list_ready.field-0.0 c.in_ok-finish.ensures.finishes c.in_err-list_ready.ensures.lists)
 
 pub returns : goal.returns
-returns g c = ends_in_all _ _ c.finish.new.self c.in_ok-finish.ensures.finishes c.in_ok-list_ready.ensures
+returns g c = ends_in_all _ _ c.finish.new.self c.in_ok-finish.ensures.finishes c.in_ok-list_ready.ensures.lists

@@ -22,19 +22,19 @@ returns-in_err-list_ready g c =
     let laws : FoundLaws = record { begin = c.given_begin_the_found.ensures.stopped; one_list = c.one_found.ensures.one_list; some = c.settled_found_is_final.ensures.some; grow = c.settled_found_is_final.ensures.grow; all = c.settled_found_is_final.ensures.all } in
     let p = err_from_is_err_and c.from_residual-in_err-list_ready.result c.from_residual-in_err-list_ready.ensures.1 in
     let takes = feeds_some c.lines.self.finder c.lines.rest.now c.feed.result c.in_ok-taken.taken c.feed.new.self c.feed.ensures.feeds c.in_ok-taken.was in
-    rw (p.1, p.2) (amid_ready laws c.args.piece.now c.lines.rest.now _ _ c.in_ok-taken.taken c.feed.new.self c.in_err-list_ready.field-0.0 _ c.lines.invariant takes c.in_err-list_ready.ensures)
+    rw (p.1, p.2) (amid_ready laws c.args.piece.now c.lines.rest.now _ _ c.in_ok-taken.taken c.feed.new.self c.in_err-list_ready.field-0.0 _ c.lines.invariant takes c.in_err-list_ready.ensures.lists)
 
 pub lines-preserved-then-branch : goal.lines-preserved-then-branch
 lines-preserved-then-branch g c =
     let laws : FoundLaws = record { begin = c.given_begin_the_found.ensures.stopped; one_list = c.one_found.ensures.one_list; some = c.settled_found_is_final.ensures.some; grow = c.settled_found_is_final.ensures.grow; all = c.settled_found_is_final.ensures.all } in
     let takes = feeds_some c.lines.self.finder c.lines.rest.now c.feed.result c.in_ok-taken.taken c.feed.new.self c.feed.ensures.feeds c.in_ok-taken.was in
-    amid_next laws c.args.piece.now c.lines.rest.now _ _ c.in_ok-taken.taken c.feed.new.self _ c.lines.invariant takes c.in_ok-list_ready.ensures
+    amid_next laws c.args.piece.now c.lines.rest.now _ _ c.in_ok-taken.taken c.feed.new.self _ c.lines.invariant takes c.in_ok-list_ready.ensures.lists
 
 pub lines-preserved : goal.lines-preserved
 lines-preserved g c =
     let laws : FoundLaws = record { begin = c.given_begin_the_found.ensures.stopped; one_list = c.one_found.ensures.one_list; some = c.settled_found_is_final.ensures.some; grow = c.settled_found_is_final.ensures.grow; all = c.settled_found_is_final.ensures.all } in
     let takes = feeds_some c.lines.self.finder c.lines.rest.now c.feed.result c.in_ok-taken.taken c.feed.new.self c.feed.ensures.feeds c.in_ok-taken.was in
-    amid_next laws c.args.piece.now c.lines.rest.now _ _ c.in_ok-taken.taken c.feed.new.self _ c.lines.invariant takes c.in_ok-list_ready.ensures
+    amid_next laws c.args.piece.now c.lines.rest.now _ _ c.in_ok-taken.taken c.feed.new.self _ c.lines.invariant takes c.in_ok-list_ready.ensures.lists
 
 pub returns-in_err-look_at_held : goal.returns-in_err-look_at_held
 returns-in_err-look_at_held g c =

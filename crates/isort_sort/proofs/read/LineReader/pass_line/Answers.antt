@@ -2,7 +2,7 @@
 use Rattle.std.proofs.Common.{◌≡◌, ℕ, Ok, Option, not, ◌&&◌, false, List, length, sym, ap, subst, ◌∙◌, refl, arith}
 use Rattle.py_lines.specs.Lines.{PassesNext}
 use Rattle.py_imports.specs.FirstWords.{LacksFirstWords}
-use Rattle.isort_sort.specs.Private.FirstWords.{BeginNowhere, StandsAt}
+use Rattle.isort_sort.specs.Private.FirstWords.{BeginNowhere, HoldsBytesAt}
 use Rattle.isort_sort.specs.Private.FoundValues.{finding_value}
 use Rattle.isort_sort.specs.Private.Reading.{has_code}
 use Rattle.isort_sort.proofs.Readings.Passing.{begins_none, none_open, passed_on, passed_to}
@@ -20,7 +20,7 @@ returns-clause-passes c =
     let passed = passes.0 in
     let line = passed.line in
     let on = passed.continues in
-    let stands : StandsAt text line.text before.place = subst (λ (t : List ℕ). StandsAt text t before.place) (sym passed.text) (slice_stands text before.place after.place (omega (arith, on.place)) (omega (arith, on.within, ap length on.text))) in
+    let stands : HoldsBytesAt text line.text before.place = subst (λ (t : List ℕ). HoldsBytesAt text t before.place) (sym passed.text) (slice_stands text before.place after.place (omega (arith, on.place)) (omega (arith, on.within, ap length on.text))) in
     let nowhere : BeginNowhere text before.place clear = subst (λ (n : ℕ). BeginNowhere text n clear) c.offset.ensures (subst (λ (t : List ℕ). BeginNowhere t c.offset.result clear) c.requires.text c.clear_up_to-clear.ensures.clear) in
     let lacks : LacksFirstWords line.text = lacks_first_words text line.text before.place clear stands nowhere (omega (arith, passes.1, on.place)) in
     let late : not c.args.self.now.skip.begun && has_code line ≡ false = ap (λ b. not b && has_code line) c.if-not-self-2.false in

@@ -4,7 +4,7 @@ use Rattle.py_lines.specs.Lines.{line_in, ReadsNext}
 use Rattle.py_lines.specs.Lexed.{IsLexed}
 use Rattle.py_lines.specs.Reader.{Continues}
 use Rattle.isort_sort.specs.Private.FoundValues.{finding_value}
-use Rattle.isort_sort.specs.Private.FirstWords.{StandsIn}
+use Rattle.isort_sort.specs.Private.FirstWords.{HoldsLineAt}
 use Rattle.isort_sort.specs.declared.read.LineReader.{LineReader}
 use Rattle.isort_sort.proofs.Readings.ReadSoFar.{IsKnown, continues, known_on, known_passed, refuses_text, refuses_line}
 use Rattle.isort_sort.proofs.Rows.Texts.{line_stands}
@@ -50,7 +50,7 @@ pass-requires-clause-stands c =
     let k = known at.In_ok-pass_line in
     let line = line_in c.in-Some.unit in
     let next = on at.In-Some in
-    subst (λ t. StandsIn t line) (next.text ∙ k.same ∙ sym (c.pass_line.ensures.text ∙ c.lines.invariant.words)) (line_stands _ k.given line (next.given k.given k.are_given))
+    subst (λ t. HoldsLineAt t line) (next.text ∙ k.same ∙ sym (c.pass_line.ensures.text ∙ c.lines.invariant.words)) (line_stands _ k.given line (next.given k.given k.are_given))
 
 pub lines-preserved-then-pass : goal.lines-preserved-then-pass
 lines-preserved-then-pass c =
