@@ -3,12 +3,13 @@ ghost use Rattle.std.specs.Prelude.{◌≡◌, ℕ, ◌+◌, ◌-◌, ◌<◌, �
 ghost use Rattle.std.specs.Prelude.{IsTrue, IfOk, IfErr, OnOk};
 ghost use Rattle.py_lines.specs.Lines.{line_in};
 ghost use Rattle.py_lines.specs.LogicalLine.{LogicalLine};
+ghost use Rattle.py_lines.specs.Reader.{HasGiven};
 ghost use Rattle.py_imports.specs.Binds.{Binds};
 ghost use Rattle.py_imports.specs.Bound.{bound_of};
 ghost use Rattle.isort_sort.specs.Answers.{IsRefused};
 ghost use Rattle.isort_sort.specs.Private.FirstWords.{HoldsLineAt};
 ghost use Rattle.isort_sort.specs.Private.FoundValues.{finding_value, IsCounted};
-ghost use Rattle.isort_sort.specs.Private.Reading.{FindsLine, IsReadSoFar, ReadsLine, PassesOver};
+ghost use Rattle.isort_sort.specs.Private.Reading.{FindsLine, IsReadSoFar, ReadsLine, PassesOver, ReadsOver};
 ghost use Rattle.isort_sort.specs.Private.Reading.{IsReadBefore, IsWholeRead, IsFoundIn};
 ghost use Rattle.isort_sort.specs.Row.{mark_after};
 
@@ -75,15 +76,37 @@ impl LineReader {
             if self.pass_line(&mut lines, &mut words)? {
                 continue;
             }
-            let Some(unit) = lines.next_unit()? else {
+            if !self.read_line(alloc, &mut lines, &mut words)? {
                 return Ok(());
-            };
-            if self.pass(&unit, &mut words) {
-                continue;
             }
+        }
+    }
+
+    /// Reads the next line. The result is whether there is one.
+    fn read_line(
+        &mut self,
+        alloc: Global,
+        lines: &mut Lines<'_>,
+        words: &mut FirstWords<'_>,
+    ) -> Result<bool, SortError>
+        requires text { words.old ≡ lines.old.text }
+        requires fits { length lines.old.text < 2 ^ 64 }
+        requires given { (given : List LogicalLine) × HasGiven lines.old given }
+        requires counted { IsCounted (finding_value self.old.blocks) }
+        requires place { (finding_value self.old.blocks).place ≤ lines.old.place }
+        ensures reads { ReadsOver lines.old self.old result lines.new self.new }
+        ensures counted { OnOk result (IsCounted (finding_value self.new.blocks)) }
+        ensures place { OnOk result ((finding_value self.new.blocks).place ≤ lines.new.place) }
+        ensures text { words.new ≡ words.old }
+    {
+        let Some(unit) = lines.next_unit()? else {
+            return Ok(false);
+        };
+        if !self.pass(&unit, words) {
             let bindings = bindings_of(alloc, &unit)?;
             self.push(alloc, &unit, bindings)?;
         }
+        Ok(true)
     }
 
     /// Passes over the next line without its tokens, where it is simple, neither `import` nor `from` stands in it, and no block may go

@@ -1,5 +1,5 @@
 -- What is known of the lines of a text as they are read, one after another.
-use Rattle.std.proofs.Common.{◌≡◌, ℕ, ◌<◌, ◌≤◌, Bool, true, false, length, arith, Option, Some, Result, Ok, Err, List, [], ◌∷◌, ◌++◌, map, append-nil, append_assoc, inl, inr, refl, sym, ap, ◌∙◌, subst}
+use Rattle.std.proofs.Common.{◌≡◌, ℕ, ◌≤◌, Bool, true, false, length, Option, None, Some, Result, Ok, Err, List, [], ◌∷◌, ◌++◌, map, append-nil, append_assoc, inl, inr, refl, sym, ap, ◌∙◌, subst}
 use Rattle.py_lines.specs.LogicalLine.{LogicalLine}
 use Rattle.py_lines.specs.Lexed.{IsLexed}
 use Rattle.py_lines.specs.Lines.{line_in, ReadsNext}
@@ -12,8 +12,7 @@ use Rattle.py_imports.specs.Bound.{Bound, bound_of}
 use Rattle.py_imports.specs.declared.binding.Binding.{Binding}
 use Rattle.py_imports.specs.declared.error.ImportError.{ImportError}
 use Rattle.py_imports.specs.declared.error.ImportError.TheVariants as import
-use Rattle.isort_sort.specs.Answers.{IsRefused}
-use Rattle.isort_sort.specs.Private.Reading.{IsReadSoFar, PassesOver, ReadsLine}
+use Rattle.isort_sort.specs.Private.Reading.{IsReadSoFar, IsWholeRead, PassesOver, ReadsLine, ReadsOver, RefusesNext}
 use Rattle.isort_sort.specs.declared.read.LineReader.{LineReader}
 use Rattle.isort_sort.specs.Errors.{sort_error_of, sort_error_of_import}
 use Rattle.isort_sort.specs.Line.{imported_of}
@@ -58,25 +57,36 @@ pub known_passed : (text : List ℕ) (old new : Reader) (r next : LineReader) (p
 known_passed text old new r next true (line, on, binds, reads) known = known_on text old new r next line [] on binds reads known
 known_passed text old new r next false (same_lines, same) known = subst (λ (x : LineReader). IsKnown text new x) (sym same) (subst (λ (x : Reader). IsKnown text x r) (sym same_lines) known)
 
--- where it was, the reader is further on
-pub passed_further : (old new : Reader) (r next : LineReader) (passed : Bool) → PassesOver old r (Ok passed) new next → passed ≡ true → old.place < new.place
-passed_further old new r next true (line, on, binds, reads) is = omega (arith, on.place, on.some_text)
-passed_further old new r next false kept is = absurd (cc)
+-- the next line was read
+pub known_read : (text : List ℕ) (old new : Reader) (r next : LineReader) → ReadsOver old r (Ok true) new next → IsKnown text old r → IsKnown text new next
+known_read text old new r next (line, bounds, on, binds, reads) known = known_on text old new r next line bounds on binds reads known
+
+-- no line is left
+pub read_whole : (text : List ℕ) (old new : Reader) (r next : LineReader) → ReadsOver old r (Ok false) new next → IsKnown text old r → IsWholeRead text next
+read_whole text old new r next (ends, same) known = record {
+  lines = known.given;
+  accepted = record {
+    bounds = known.bounds;
+    lexed = subst (λ t. IsLexed t known.given None) known.same (ends.all known.given known.are_given);
+    good = known.bind;
+  };
+  so_far = subst (IsReadSoFar known.given) (sym same) known.so_far;
+}
 
 -- the fault of a text whose next line can't be read
-pub refuses_text : (text : List ℕ) (old new : Reader) (lines : List LogicalLine) (bounds : List Bound) (e : LexError) → old.text ≡ text → HasGiven old lines → BindAll lines bounds → ReadsNext old (Err e) new → IsRefused text (sort_error_of e)
-refuses_text text old new lines bounds lex.Memory same given bind reads = tt
-refuses_text text old new lines bounds (lex.Fault fault) same given bind reads = inr (record {
+pub refuses_text : (old new : Reader) (e : LexError) → ReadsNext old (Err e) new → RefusesNext old (sort_error_of e)
+refuses_text old new lex.Memory reads = λ lines bounds given bind. tt
+refuses_text old new (lex.Fault fault) reads = λ lines bounds given bind. inr (record {
   lines = lines;
   bounds = bounds;
-  lexed = subst (λ t. IsLexed t lines (Some fault)) same (reads.all lines given);
+  lexed = reads.all lines given;
   good = bind;
 })
 
 -- the fault of a text whose next line is bad
-pub refuses_line : (text : List ℕ) (old new : Reader) (lines : List LogicalLine) (bounds : List Bound) (line : LogicalLine) (e : ImportError) → old.text ≡ text → HasGiven old lines → BindAll lines bounds → Continues old line new → Refuses line e → IsRefused text (sort_error_of_import e)
-refuses_line text old new lines bounds line import.Memory same given bind continues bad = tt
-refuses_line text old new lines bounds line (import.Fault fault) same given bind continues bad =
+pub refuses_line : (old new : Reader) (line : LogicalLine) (e : ImportError) → Continues old line new → Refuses line e → RefusesNext old (sort_error_of_import e)
+refuses_line old new line import.Memory continues bad = λ lines bounds given bind. tt
+refuses_line old new line (import.Fault fault) continues bad = λ lines bounds given bind.
     let begins = continues.begins lines given in
     inl (record {
       before = lines;
@@ -84,7 +94,7 @@ refuses_line text old new lines bounds line (import.Fault fault) same given bind
       after = begins.more;
       end = begins.end;
       bounds = bounds;
-      lexed = subst (λ t. IsLexed t (lines ++ line ∷ begins.more) begins.end) (continues.text ∙ same) (subst (λ ls. IsLexed new.text ls begins.end) (append_assoc lines (line ∷ []) begins.more) begins.lexed);
+      lexed = subst (λ t. IsLexed t (lines ++ line ∷ begins.more) begins.end) continues.text (subst (λ ls. IsLexed new.text ls begins.end) (append_assoc lines (line ∷ []) begins.more) begins.lexed);
       good = bind;
       bad = bad;
     })

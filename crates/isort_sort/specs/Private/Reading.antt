@@ -4,16 +4,19 @@ use Rattle.std.specs.List.{list_any}
 use Rattle.std.specs.Str.{IsUtf8}
 use Rattle.std.specs.declared.alloc.AllocError.{AllocError}
 use Rattle.py_lines.specs.LogicalLine.{LogicalLine}
-use Rattle.py_lines.specs.Reader.{Reader, Continues}
-use Rattle.py_imports.specs.Binds.{Binds}
+use Rattle.py_lines.specs.Reader.{Reader, HasGiven, Continues, Ends}
+use Rattle.py_imports.specs.Binds.{Binds, BindAll}
+use Rattle.py_imports.specs.Bound.{Bound}
 use Rattle.py_imports.specs.Shape.{is_nothing}
 use Rattle.py_imports.specs.Statement.{significant}
+use Rattle.isort_sort.specs.Answers.{IsRefused}
 use Rattle.isort_sort.specs.Private.Arranging.{AreUtf8, IsCutText}
 use Rattle.isort_sort.specs.Blocks.{Cut}
 use Rattle.isort_sort.specs.Private.Finding.{Finding, IsFinding}
 use Rattle.isort_sort.specs.Private.FoundValues.{found_value, finding_value}
 use Rattle.isort_sort.specs.Row.{Row, HasRole, indentation_of, is_off_after, AreRows, skips_file}
 use Rattle.isort_sort.specs.Sorted.{mark_of, IsAccepted, IsSkipped, HasBlocks}
+use Rattle.isort_sort.specs.declared.answer.SortError.{SortError}
 use Rattle.isort_sort.specs.declared.read.FoundText.{FoundText}
 use Rattle.isort_sort.specs.declared.read.FoundText.TheVariants as found
 use Rattle.isort_sort.specs.declared.read.LineReader.{LineReader}
@@ -67,6 +70,20 @@ PassesOver before old (Ok true) after new =
     (line : LogicalLine) × Continues before line after × Binds line [] × ReadsLine line old new
 PassesOver before old (Ok false) after new = (after ≡ before) × (new ≡ old)
 PassesOver before old (Err e) after new = Unit {0}
+
+-- Why the next line can't be read, whatever lines were given and whatever they bind: what the text is refused for.
+abbrev pub RefusesNext : Reader → SortError → Type 0
+RefusesNext before e =
+    (lines : List LogicalLine) (bounds : List Bound)
+    → HasGiven before lines → BindAll lines bounds → IsRefused before.text e
+
+-- what a call that reads the next line answers: the line is read, whatever it binds; or none is left; or the text is refused
+abbrev pub ReadsOver : Reader → LineReader → Result Bool SortError → Reader → LineReader → Type 0
+ReadsOver before old (Ok true) after new =
+    (line : LogicalLine) × (bounds : List Bound)
+    × Continues before line after × Binds line bounds × ReadsLine line old new
+ReadsOver before old (Ok false) after new = Ends before after × (new ≡ old)
+ReadsOver before old (Err e) after new = RefusesNext before e
 
 -- the same before this line, where the text's byte order mark is known from it
 pub record IsReadBefore (lines : List LogicalLine) (line : LogicalLine) (r : LineReader) : Type 0 where
