@@ -215,38 +215,39 @@ impl Settings {
         settings.sections = listed.order;
         settings.own_names = listed.own_names;
         settings.own_lists = own_lists;
-        settings.take_values(alloc, table, &refused)?;
-        match refused {
-            Some(key) => Err(SettingsError::BadValue(key)),
-            None => Ok(settings),
-        }
+        settings.take_values(alloc, table, refused)?;
+        Ok(settings)
     }
 
-    /// Takes the values of the keys that are read one by one, except those after a key that is refused.
+    /// Takes the values of the keys that are read one by one, and answers the first refusal: of one of them, or of this key,
+    /// which the sections refuse.
     fn take_values(
         &mut self,
         alloc: Global,
         table: &Table,
-        refused: &Option<Key>,
+        refused: Option<Key>,
     ) -> Result<(), SettingsError>
         requires own_names { (values self.old).own_names ≡ own_names_in (table_view table.now) }
-        requires refused { option_map bad_key refused.now ≡ first_refused (sections_refused (table_view table.now)) }
-        ensures first { OnOk result (first_refusal (table_view table.now) ≡ option_map (λ k. SettingsError.BadValue k) refused.now) }
-        ensures filled { OnOk result (refused.now ≡ None → (profile : Option Profile)
+        requires refused { option_map bad_key refused ≡ first_refused (sections_refused (table_view table.now)) }
+        ensures unrefused { OnOk result (first_refusal (table_view table.now) ≡ None) }
+        ensures filled { OnOk result ((profile : Option Profile)
             → values self.old ≡ with_sections (table_view table.now) (values_from (base_value profile))
             → values self.new ≡ values_in (table_view table.now) profile) }
         ensures refused { IfErr result (λ e. e ≢ SettingsError.Memory → first_refusal (table_view table.now) ≡ Some e) }
     {
         for key in Key::in_order() {
-            if is_after(&key, refused) {
-                return Ok(());
+            if is_after(&key, &refused) {
+                break;
             }
             let Some(value) = pyproject::member(table, key.name()) else {
                 continue;
             };
             self.take_value(alloc, key, value)?;
         }
-        Ok(())
+        match refused {
+            Some(key) => Err(SettingsError::BadValue(key)),
+            None => Ok(()),
+        }
     }
 
     /// Takes a key's value from the table.

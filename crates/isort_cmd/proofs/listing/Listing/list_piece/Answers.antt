@@ -1,11 +1,27 @@
 -- Each line that gets ready with the piece was listed, and nothing is ready at its end.
-use Rattle.std.proofs.Common.{◌≡◌, [], sym, ◌∙◌}
-use Rattle.std.proofs.lemmas.Bool.{eqb-true}
+use Rattle.std.proofs.Common.{◌≡◌, ◌≤◌, ◌<◌, ◌∙◌, ◌^◌, ℕ, ◌+◌, ◌-◌, ◌==◌, inl, inr, false, List, [], length, take, drop, length-append, length-take, length-drop, ap, arith, sym}
+use Rattle.std.proofs.lemmas.Bool.{eqb-true, eqb-false}
 use Rattle.std.proofs.lemmas.List.{nil_from_length}
 use Rattle.std.proofs.lemmas.Result.{err_from_is_err_and}
-use Rattle.isort_cmd.proofs.AmidLemmas.{amid_first, amid_next, amid_fed, amid_ready, amid_looked, amid_whole, flushed, stops_at_flush}
+use Rattle.isort_find.specs.Pieces.{PieceFinderState, TakesFromPiece, fed_by, has_ready}
+use Rattle.isort_cmd.specs.Private.Stages.{ListingState}
+use Rattle.isort_cmd.proofs.AmidLemmas.{IsAmid, amid_first, amid_next, amid_fed, amid_ready, amid_looked, amid_whole, flushed, stops_at_flush}
 use Rattle.isort_cmd.proofs.PieceLemmas.{FoundLaws, feeds_error, feeds_some}
 use Rattle.isort_cmd.proofs.listing.Listing.list_piece.Goals as goal
+
+-- the bytes that are left fit too, and so those that were fed
+rest_fits : (piece rest : List ℕ) (old now : ListingState) → IsAmid piece rest old now → fed_by old.finder + length piece ≤ 2 ^ 62 → fed_by now.finder + length rest ≤ 2 ^ 62
+rest_fits piece rest old now amid few = omega (arith, amid.fed, length-append amid.front rest, ap length amid.split)
+
+fed_fits : (piece rest : List ℕ) (old now : ListingState) → IsAmid piece rest old now → fed_by old.finder + length piece ≤ 2 ^ 62 → fed_by now.finder ≤ 2 ^ 62
+fed_fits piece rest old now amid few = omega (arith, rest_fits piece rest old now amid few)
+
+-- with nothing ready, some byte of the rest is taken
+shorter : (old new : PieceFinderState) (rest : List ℕ) (n : ℕ) → TakesFromPiece old rest n new → has_ready old ≡ false → (length rest == 0) ≡ false
+    → length (take (length rest - n) (drop n rest)) < length rest
+shorter old new rest n takes none more =
+    let some : (n ≡ 0 → ⊥) = λ zero. elim (takes.some zero) [ inl nil ↦ eqb-false _ _ more (ap length nil) | inr ready ↦ cc ] in
+    omega (arith, length-take (length rest - n) (drop n rest), length-drop n rest, takes.within, some, eqb-false _ _ more)
 
 pub lines-init : goal.lines-init
 lines-init g c = amid_first c.args.piece.now _ c.requires.fine c.requires.open_yet c.requires.none_ready
@@ -59,3 +75,31 @@ pub returns-else-listed : goal.returns-else-listed
 returns-else-listed g c =
     let none : c.lines.rest.now ≡ [] = nil_from_length c.lines.rest.now (eqb-true _ _ (sym c.is_empty.ensures ∙ c.lines-test.false)) in
     amid_whole c.args.piece.now c.lines.rest.now _ _ c.look_at_held.new.finder c.lines.invariant none c.in_ok-look_at_held.ensures
+
+pub feed-requires : goal.feed-requires
+feed-requires g c = record {
+  fits = rest_fits c.args.piece.now c.lines.rest.now _ _ c.lines.invariant c.requires.fits;
+  open_yet = λ no_fault. c.lines.invariant.open_yet;
+}
+
+pub lines-smaller : goal.lines-smaller
+lines-smaller g c =
+    let takes = feeds_some c.lines.self.finder c.lines.rest.now c.feed.result c.in_ok-taken.taken c.feed.new.self c.feed.ensures.feeds c.in_ok-taken.was in
+    shorter c.lines.self.finder c.feed.new.self c.lines.rest.now c.in_ok-taken.taken takes c.lines.invariant.none_ready (sym c.is_empty.ensures ∙ c.lines-test.true)
+
+pub lines-smaller-then-branch : goal.lines-smaller-then-branch
+lines-smaller-then-branch g c =
+    let takes = feeds_some c.lines.self.finder c.lines.rest.now c.feed.result c.in_ok-taken.taken c.feed.new.self c.feed.ensures.feeds c.in_ok-taken.was in
+    shorter c.lines.self.finder c.feed.new.self c.lines.rest.now c.in_ok-taken.taken takes c.lines.invariant.none_ready (sym c.is_empty.ensures ∙ c.lines-test.true)
+
+pub list_ready-requires : goal.list_ready-requires
+list_ready-requires g c = c.lines.invariant.fine
+
+pub look_at_held-requires : goal.look_at_held-requires
+look_at_held-requires g c = record {
+  fits = fed_fits c.args.piece.now c.lines.rest.now _ _ c.lines.invariant c.requires.fits;
+  open_yet = c.lines.invariant.open_yet;
+}
+
+pub flush_whole-requires : goal.flush_whole-requires
+flush_whole-requires g c = record { fine = c.lines.invariant.fine }

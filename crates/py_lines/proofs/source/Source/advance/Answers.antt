@@ -1,7 +1,33 @@
-use Rattle.std.proofs.Common.{refl}
+use Rattle.std.proofs.Common.{◌≡◌, ◌≢◌, ◌<◌, ℕ, None, List, length, drop, ap, arith, length-take, refl, subst, sym, ◌∙◌}
+use Rattle.py_lines.specs.declared.line_state.LineState.{LineState}
+use Rattle.py_lines.specs.declared.scan.Stop.{Stop}
+use Rattle.py_lines.specs.declared.source.Source.{Source}
+use Rattle.py_lines.specs.Private.LineState.{BeginsAnew, first_mode}
+use Rattle.py_lines.specs.Private.Scan.{Scans}
+use Rattle.py_lines.specs.Private.Source.{HasScanned}
 use Rattle.py_lines.specs.Reader.View.{reader_of}
 use Rattle.py_lines.proofs.Lexings.GivenLines.{all_given}
 use Rattle.py_lines.proofs.source.Source.advance.Goals as goal
+
+-- the next line was begun, and its scan has stopped
+has_scanned : (s : Source) (old begun : LineState) (text : List ℕ) (stopped stop : Stop) → s.state ≡ record begun { scan = s.state.scan } → BeginsAnew old begun
+    → old.place < length s.bytes.now → old.fault ≡ None → s.state.scan.line ≡ begun.scan.line → text ≡ drop begun.place s.characters.now
+    → Scans begun.scan.piece.mode text s.state.scan stopped → stopped ≡ stop → HasScanned s stop
+has_scanned s old begun text stopped stop is begins more none line next scans stops =
+    let same : s.state ≡ record old { scan = s.state.scan } = is ∙ ap (λ (l : LineState). record l { scan = s.state.scan }) begins.same in
+    let place : s.state.place ≡ old.place = ap (λ (l : LineState). l.place) same in
+    let from : text ≡ drop s.state.place s.characters.now = next ∙ ap (λ (l : LineState). drop l.place s.characters.now) (sym is) in
+    record {
+      more = subst (λ n. n < length s.bytes.now) (sym place) more;
+      no_fault = ap (λ (l : LineState). l.fault) same ∙ none;
+      line = line ∙ begins.number ∙ sym (ap (λ (l : LineState). l.line) same);
+      scans = subst (λ m. Scans m (drop s.state.place s.characters.now) s.state.scan stop) (begins.tallies.counts.mode ∙ ap first_mode (sym place))
+          (subst (λ t. Scans begun.scan.piece.mode t s.state.scan stop) from (subst (Scans begun.scan.piece.mode text s.state.scan) stops scans));
+    }
+
+-- not at the end of the text, so before it
+is_before_end : (s : Source) → s.state.place ≢ length s.bytes.now → s.state.place < length s.bytes.now
+is_before_end s other = omega (arith, other, s.within, ap length s.prefix, length-take (length s.characters.now) s.bytes.now)
 
 pub returns-then-self : goal.returns-then-self
 returns-then-self c = record {
@@ -10,3 +36,15 @@ returns-then-self c = record {
   fault = c.in_default.is;
   same = refl;
 }
+
+pub end_line-requires : goal.end_line-requires
+end_line-requires c =
+    has_scanned _ _ _ _ _ _ refl c.restart.ensures (is_before_end c.args.self.now c.if-self.false) c.in_default.is c.in_ok-len.ensures.line c.range_from.ensures.value c.in_ok-len.ensures.stops c.in-LineEnd.is
+
+pub end_text-requires : goal.end_text-requires
+end_text-requires c =
+    has_scanned _ _ _ _ _ _ refl c.restart.ensures (is_before_end c.args.self.now c.if-self.false) c.in_default.is c.in_ok-len.ensures.line c.range_from.ensures.value c.in_ok-len.ensures.stops c.in-TextEnd.is
+
+pub refuse-requires : goal.refuse-requires
+refuse-requires c =
+    has_scanned _ _ _ _ _ _ refl c.restart.ensures (is_before_end c.args.self.now c.if-self.false) c.in_default.is c.in_ok-len.ensures.line c.range_from.ensures.value c.in_ok-len.ensures.stops c.in-Refused.is
