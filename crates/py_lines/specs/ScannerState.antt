@@ -4,6 +4,8 @@
 -- (`WhereScans`, `WhereFed`, `WhereWhole`), and then what the state itself has become.
 pub mod View
 use Rattle.std.specs.Prelude.{◌≡◌, ℕ, ◌+◌, ◌<◌, ◌≤◌, ◌⊎◌, Bool, true, false, Option, None, Some, Result, Ok, Err, List, [], ◌∷◌, ◌++◌, length, take, drop}
+use Rattle.py_lines.specs.Character.{is_return}
+use Rattle.py_lines.specs.Piece.{ends}
 use Rattle.py_lines.specs.LogicalLine.{LogicalLine}
 use Rattle.py_lines.specs.Lexed.{IsLexed}
 use Rattle.py_lines.specs.Settled.{IsSettled, Decides, DecideNone}
@@ -34,10 +36,23 @@ abbrev pub ready_lines : Option LogicalLine → List LogicalLine
 ready_lines None = []
 ready_lines (Some u) = u ∷ []
 
--- the line that is ready is what the scanner holds, with at most one byte more
+-- just one byte, which isn't LF
+abbrev pub IsOneOther : List ℕ → Type 0
+IsOneOther bytes = (b : ℕ) × (bytes ≡ b ∷ []) × (b ≡ 10 → ⊥)
+
+-- what is held after a line that is ready: one byte after CR, which isn't LF, and else nothing
+abbrev pub EndsExactly : List ℕ → List ℕ → Type 0
+EndsExactly line more = ((ends is_return line ≡ false) × (more ≡ [])) ⊎ ((ends is_return line ≡ true) × IsOneOther more)
+
+-- the line that is ready is what the scanner holds, with the one byte that shows that CR ends it
 abbrev pub HoldsReady : List ℕ → Option LogicalLine → Type 0
 HoldsReady held None = Unit {0}
-HoldsReady held (Some u) = (more : List ℕ) × (held ≡ u.text ++ more) × (length more ≤ 1)
+HoldsReady held (Some u) = (more : List ℕ) × (held ≡ u.text ++ more) × EndsExactly u.text more
+
+-- the same where the text has ended: the line that is ready is all that the scanner holds
+abbrev pub HoldsLast : List ℕ → Option LogicalLine → Type 0
+HoldsLast held None = Unit {0}
+HoldsLast held (Some u) = held ≡ u.text
 
 -- the text goes on with these bytes after this one
 abbrev pub GoesOnWith : List ℕ → ℕ → List ℕ → Type 0
@@ -76,7 +91,7 @@ pub record HasEnded (s : ScannerState) (text : List ℕ) (lines : List LogicalLi
   pub first : AreFirstLines text s.place s.line lines
   pub lexed : IsLexed text (lines ++ ready_lines s.ready) None
   pub held : s.held ≡ drop s.place text
-  pub whole : HoldsReady s.held s.ready
+  pub whole : HoldsLast s.held s.ready
   pub ended : s.ended ≡ true
   pub no_fault : s.fault ≡ None
 

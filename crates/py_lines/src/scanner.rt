@@ -61,8 +61,10 @@ impl Scanner {
     /// one is. It takes fewer than all for no other cause, except where a growth was refused.
     ///
     /// A line is ready as soon as the bytes show that its line end is whole: CR needs one byte more, which is taken
-    /// too. The error is `Fault` as soon as the bytes decide it, and at each later call again. It is `Memory` where a
-    /// growth was refused before the first byte: none was taken, and the scanner is as it was.
+    /// too. No other byte after the line is taken.
+    ///
+    /// The error is `Fault` as soon as the bytes decide it, and at each later call again. It is `Memory` where a growth was
+    /// refused before the first byte: none was taken, and the scanner is as it was.
     pub fn feed(&mut self, piece: &[u8]) -> Result<usize, LexError>
         requires fits { fed_of self.old + length piece.now ≤ 2 ^ 62 }
         requires open_yet { self.old.ended ≡ false }

@@ -12,7 +12,7 @@ use Rattle.py_lines.specs.Reading.{Decodes, IsBalancedReading, EndsLine}
 use Rattle.py_lines.specs.Faults.{IsLive}
 use Rattle.py_lines.specs.Settled.{IsHopeless, IsSettled, Decides}
 use Rattle.py_lines.specs.Given.{AreFirstLines}
-use Rattle.py_lines.specs.ScannerState.{GoesOnWith, HoldsReady}
+use Rattle.py_lines.specs.ScannerState.{GoesOnWith, EndsExactly, HoldsReady}
 use Rattle.py_lines.specs.ScannerState.View.{line_of_feed}
 use Rattle.py_lines.specs.declared.fault.Fault.{Fault}
 use Rattle.py_lines.specs.declared.feed.Feed.{Feed}
@@ -21,7 +21,7 @@ use Rattle.py_lines.specs.declared.mode.Mode.TheVariants as modes
 use Rattle.py_lines.specs.Private.Machine.{Bracket}
 use Rattle.py_lines.specs.Private.Scan.{line_start, is_return_mode, none_open, stack_of, EndsWhole}
 use Rattle.py_lines.specs.Private.LineState.{first_mode}
-use Rattle.py_lines.specs.Private.Feed.{IsEnded, IsScanned, EndsLineHeld, EndsExactly, HadEnded}
+use Rattle.py_lines.specs.Private.Feed.{IsEnded, IsScanned, EndsLineHeld, HadEnded}
 use Rattle.py_lines.proofs.Text.Utf8Prefixes.{nothing_bad}
 use Rattle.py_lines.proofs.Text.Incomplete.{part_none}
 use Rattle.py_lines.proofs.Lexings.Existence.{reading_live}
@@ -32,6 +32,7 @@ use Rattle.py_lines.proofs.Feeds.Known.{IsKnown, known_after, is_known}
 use Rattle.py_lines.proofs.Feeds.SettledSoFar.{MayGetFeed, Follow, settled_open, settled_ready, ended_before}
 use Rattle.py_lines.proofs.Feeds.DecidedSoFar.{undecided}
 use Rattle.py_lines.proofs.Feeds.ReadyLines.{line_of_ended}
+use Rattle.py_lines.proofs.Feeds.LastBytes.{exactly_encoded}
 use Rattle.py_lines.proofs.Feeds.NextHeld.{next_pieces, next_line, next_is, next_some}
 
 -- bytes that the text goes on with, and then more
@@ -81,7 +82,7 @@ never_before text new mid lines n all after r e spell whole first goes settled =
     by_whole (inl feed) none = feed
     by_whole (inr (b, more, is, other)) none = absurd (omega (arith, ap length (sym is ∙ none)))
 
--- the line that has ended with the bytes taken last is settled, and what is held is it, with at most one byte more
+-- the line that has ended with the bytes taken last is settled, and what is held is it, with one byte more after CR alone
 module _ (text : List ℕ) (new mid : Feed) (lines : List LogicalLine) (n : ℕ) (e : EndsLineHeld n new) (last : EndsExactly e.all e.after ⊎ HadEnded mid.held.items e.all) (first : AreFirstLines text new.state.place new.state.line lines) (goes : GoesOnWith text new.state.place new.held.items) (before : GoesOnWith text new.state.place mid.held.items) (settled : 0 < length mid.held.items → IsSettled (take (new.state.place + length mid.held.items) text) lines) where
   fed_some : 0 < length (encode_utf8_all e.all)
   fed_some = (line_of_ended new n e.all e.after e.ended [] (λ returned. refl)).0.line.some
@@ -96,7 +97,7 @@ module _ (text : List ℕ) (new mid : Feed) (lines : List LogicalLine) (n : ℕ)
   settled_fed =
       let u = next_pieces text new lines n e.all e.after e.ended e.whole fed_known in
       let next = next_line text new lines n e.all e.after e.ended e.whole fed_known in
-      let follow : Follow u e.after = ⊎_elim (λ done. Follow.by_feed done.0 (ap (ends is_return) next.spell ∙ done.1)) (λ one. Follow.by_byte one.0 one.1 one.2) follows in
+      let follow : Follow u e.after = ⊎_elim (λ done. Follow.by_feed done.1 (ap (ends is_return) next.spell ∙ done.0)) (λ one. Follow.by_byte one.1.0 one.1.1 one.1.2) follows in
       subst (λ l. IsSettled (take (new.state.place + length l) text) (lines ++ line_of_feed new n ∷ [])) e.ended.spell
       (subst (λ x. IsSettled (take (new.state.place + length (encode_utf8_all e.all ++ e.after)) text) (lines ++ x ∷ [])) (sym (next_is text new lines n e.all e.after e.ended e.whole fed_known))
       (settled_ready text new.state.place new.state.line lines e.all e.after fed_known u next follow))
@@ -105,7 +106,7 @@ module _ (text : List ℕ) (new mid : Feed) (lines : List LogicalLine) (n : ℕ)
   whole_fed =
       let stop = (line_of_ended new n e.all e.after e.ended [] (λ returned. refl)).0.stop in
       let text_is : take new.state.scan.stop new.held.items ≡ encode_utf8_all e.all = ap (λ (m : ℕ). take m new.held.items) stop ∙ ap (take (length (encode_utf8_all e.all))) (sym e.ended.spell) ∙ take-append_seam (encode_utf8_all e.all) e.after in
-      (e.after, sym e.ended.spell ∙ ap (λ t. t ++ e.after) (sym text_is), ⊎_elim (λ done. omega (arith, ap length done.0)) (λ one. omega (arith, ap length one.1)) follows)
+      (e.after, sym e.ended.spell ∙ ap (λ t. t ++ e.after) (sym text_is), subst (λ t. EndsExactly t e.after) (sym text_is) (exactly_encoded e.all e.after follows))
 
 -- nothing is decided where the lines given end
 module _ (text : List ℕ) (place line : ℕ) (lines : List LogicalLine) (first : AreFirstLines text place line lines) (fault : Fault) where

@@ -10,7 +10,7 @@ use Rattle.py_lines.specs.LogicalLine.{LogicalLine}
 use Rattle.py_lines.specs.Lexed.{IsLexed}
 use Rattle.py_lines.specs.Settled.{IsSettled}
 use Rattle.py_lines.specs.Given.{AreFirstLines}
-use Rattle.py_lines.specs.ScannerState.{GoesOnWith, IsScanning, HoldsReady, EndsScan, ready_lines}
+use Rattle.py_lines.specs.ScannerState.{GoesOnWith, IsScanning, HoldsLast, EndsScan, ready_lines}
 use Rattle.py_lines.specs.ScannerState.View.{ready_of, scanning_of}
 use Rattle.py_lines.specs.declared.fault.LexError.{LexError}
 use Rattle.py_lines.specs.declared.fault.LexError.TheVariants as lex
@@ -80,7 +80,7 @@ text_empty old mid none not_ready keeps fault scanned = record {
   lexed = λ text lines scanning whole.
       let empty : length old.held.items ≡ 0 = ap length (sym (items_kept old mid keeps) ∙ none) in
       let lexed : IsLexed text lines None = ended_empty text old.state.place old.state.line lines scanning.first (omega (arith, whole, empty)) in
-      subst (λ r. IsLexed text (lines ++ ready_lines (ready_of mid r)) None × HoldsReady mid.held.items (ready_of mid r)) (sym not_ready) (subst (λ l. IsLexed text l None) (sym (append-nil lines)) lexed, tt);
+      subst (λ r. IsLexed text (lines ++ ready_lines (ready_of mid r)) None × HoldsLast mid.held.items (ready_of mid r)) (sym not_ready) (subst (λ l. IsLexed text l None) (sym (append-nil lines)) lexed, tt);
 }
 
 pub text_left : (old mid : Feed) → is_some mid.ready ≡ true → old.ready ≡ None → KeepsText old mid → mid.state.fault ≡ old.state.fault → IsScanned mid.ready mid → EndsText old (Ok tt) mid
@@ -107,7 +107,7 @@ finish_now old f no_fault e =
     let held = items_kept old f e.text in
     record {
       scans = λ text lines scanning whole.
-          let lexed = subst (λ r. IsLexed text (lines ++ ready_lines r) None × HoldsReady f.held.items r) (same_ready f.ready f) (e.lexed text lines scanning whole) in
+          let lexed = subst (λ r. IsLexed text (lines ++ ready_lines r) None × HoldsLast f.held.items r) (same_ready f.ready f) (e.lexed text lines scanning whole) in
           let from_there : drop old.state.place text ≡ old.held.items = sym (take_all (length old.held.items) (drop old.state.place text) (omega (arith, whole, length-drop old.state.place text))) ∙ scanning.held in
           record {
             first = first_kept old f text lines e.text scanning.first;

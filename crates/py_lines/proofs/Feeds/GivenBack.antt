@@ -15,7 +15,8 @@ use Rattle.py_lines.specs.declared.scan.Scan.{Scan}
 use Rattle.py_lines.specs.Private.LineState.{first_mode}
 use Rattle.py_lines.specs.Private.Scan.{EndsWhole, IsLineBefore, line_start}
 use Rattle.py_lines.specs.declared.scan.Stop.TheVariants as stops
-use Rattle.py_lines.specs.Private.Feed.{HasScannedNext, IsScanned, EndsLineHeld, EndsExactly, HadEnded, EndsAfter, whole_end, GivesBack, TakesOf}
+use Rattle.py_lines.specs.ScannerState.{EndsExactly}
+use Rattle.py_lines.specs.Private.Feed.{HasScannedNext, IsScanned, EndsLineHeld, HadEnded, EndsAfter, whole_end, GivesBack, TakesOf}
 use Rattle.py_lines.proofs.Feeds.Chunks.{none_is}
 use Rattle.py_lines.proofs.Readers.LineAnswers.{IsScannedLine, line_at_end}
 
@@ -26,11 +27,11 @@ whole_taken all after zero (inr (b, m, is, other)) some = inl (false_from_ne_tru
 whole_taken all after (suc k) (inr (b, m, is, other)) some = inr (b, take k m, ap (take (suc k)) is, other)
 
 exact_feed : (all after : List ℕ) → ends is_return all ≡ false → EndsExactly all (take 0 after)
-exact_feed all after feed = inl (refl, feed)
+exact_feed all after feed = inl (feed, refl)
 
 exact_return : (all after : List ℕ) → ends is_return all ≡ true → EndsWhole all after → EndsExactly all (take 1 after)
 exact_return all after returned (inl feed) = absurd (both_ways _ feed returned)
-exact_return all after returned (inr (b, m, is, other)) = inr (b, ap (take 1) is, other)
+exact_return all after returned (inr (b, m, is, other)) = inr (returned, (b, ap (take 1) is, other))
 
 -- a line that has ended in these bytes
 module _ (m : Mode) (scan : Scan) (bytes all after : List ℕ) (end_len : ℕ) (spell : encode_utf8_all all ++ after ≡ bytes) (at : IsLineBefore m scan all end_len) (whole : EndsWhole all after) where

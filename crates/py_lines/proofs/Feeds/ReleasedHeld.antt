@@ -8,7 +8,7 @@ use Rattle.py_lines.specs.LogicalLine.{LogicalLine, byte_len, line_ends}
 use Rattle.py_lines.specs.Lexed.{IsLexed, IsLexedWhole}
 use Rattle.py_lines.specs.Settled.{IsSettled}
 use Rattle.py_lines.specs.Given.{AreFirstLines}
-use Rattle.py_lines.specs.ScannerState.{ScannerState, GoesOnWith, IsScanning, HasEnded, HoldsReady, Releases, fed_of, ready_lines}
+use Rattle.py_lines.specs.ScannerState.{ScannerState, GoesOnWith, IsScanning, HasEnded, HoldsReady, HoldsLast, Releases, fed_of, ready_lines}
 use Rattle.py_lines.specs.ScannerState.View.{line_of_feed, ready_of, scanning_of}
 use Rattle.py_lines.specs.declared.feed.Feed.{Feed}
 use Rattle.py_lines.specs.Private.Feed.{IsReady, StandsSo, IsSoundFeed, LetsGo}
@@ -84,7 +84,7 @@ module _ (old new : Feed) (n : ℕ) (ready : old.ready ≡ Some n) (r : IsReady 
         first = first_here text (lines ++ line_of_feed old n ∷ []) (last_released text old.state.place old.state.line lines r.read (line_of_feed old n) text_is ended.first all);
         lexed = subst (λ x. IsLexed text ((lines ++ line_of_feed old n ∷ []) ++ ready_lines x) None) (sym none_ready) (subst (λ l. IsLexed text l None) (sym (append-nil (lines ++ line_of_feed old n ∷ []))) all);
         held = go.held ∙ ap (drop old.state.scan.stop) ended.held ∙ drop-drop old.state.scan.stop old.state.place text ∙ ap (λ (m : ℕ). drop m text) (sym go.place);
-        whole = subst (HoldsReady new.held.items) (sym none_ready) tt;
+        whole = subst (HoldsLast new.held.items) (sym none_ready) tt;
         ended = go.ended ∙ ended.ended;
         no_fault = go.fault ∙ ended.no_fault;
       }

@@ -8,7 +8,7 @@ use Rattle.py_lines.specs.LogicalLine.{LogicalLine, byte_len, line_ends, line_of
 use Rattle.py_lines.specs.Lexed.{IsLexed}
 use Rattle.py_lines.specs.Settled.{IsHopeless}
 use Rattle.py_lines.specs.Given.{AreFirstLines}
-use Rattle.py_lines.specs.ScannerState.{GoesOnWith, IsScanning, HoldsReady, fed_of, ready_lines}
+use Rattle.py_lines.specs.ScannerState.{GoesOnWith, IsScanning, EndsExactly, HoldsLast, fed_of, ready_lines}
 use Rattle.py_lines.specs.ScannerState.View.{line_of_feed, ready_of, scanning_of}
 use Rattle.py_lines.specs.Private.ScanMachine.{scan_step}
 use Rattle.py_lines.specs.Private.Scan.{ScansIn, Closes, IsUnderWay, stack_if, is_returned, IsRefusal, EndsWhole, IsLineBefore, IsNotEnded}
@@ -162,10 +162,6 @@ pub record IsUnchanged (old new : Feed) : Type 0 where
   pub ready : new.ready ≡ old.ready
   pub fault : new.state.fault ≡ old.state.fault
   pub state : IsHeldSo new.ready new
-
--- after a line's end nothing is held, or after CR one byte, which is no LF
-abbrev pub EndsExactly : List ℕ → List ℕ → Type 0
-EndsExactly read rest = ((rest ≡ []) × (ends is_return read ≡ false)) ⊎ ((b : ℕ) × (rest ≡ b ∷ []) × (b ≡ 10 → ⊥))
 
 -- a line of these characters had ended in these bytes before
 pub record HadEnded (held all : List ℕ) : Type 0 where
@@ -325,7 +321,7 @@ pub record HasEndedText (old new : Feed) : Type 0 where
   pub state : StandsSo new.ready new
   pub lexed : (text : List ℕ) (lines : List LogicalLine) → IsScanning (scanning_of old) text lines
       → length text ≡ fed_of (scanning_of old)
-      → IsLexed text (lines ++ ready_lines (ready_of new new.ready)) None × HoldsReady new.held.items (ready_of new new.ready)
+      → IsLexed text (lines ++ ready_lines (ready_of new new.ready)) None × HoldsLast new.held.items (ready_of new new.ready)
 
 -- what a call that ends the text answers and leaves
 abbrev pub EndsText : Feed → Result (Unit {0}) LexError → Feed → Type 0

@@ -1,0 +1,48 @@
+-- The last byte of characters: it is CR just where their last character is.
+use Rattle.std.proofs.Common.{◌≡◌, ℕ, ◌<◌, ◌≤◌, true, false, List, [], ◌∷◌, ◌++◌, length, refl, sym, ap, ◌∙◌, subst, ⊎_elim, inl, inr, append-nil, arith}
+use Rattle.std.specs.Prelude.{encode_utf8, encode_utf8_all}
+use Rattle.std.proofs.lemmas.Bool.{cases_lt, false_from_ne_true}
+use Rattle.std.proofs.lemmas.Str.{length-le-encodes}
+use Rattle.py_lines.specs.Character.{is_return}
+use Rattle.py_lines.specs.Piece.{ends}
+use Rattle.py_lines.specs.ScannerState.{EndsExactly}
+use Rattle.py_lines.proofs.Text.CharacterTests.{return_is}
+use Rattle.py_lines.proofs.Text.Utf8Shapes.{one, two, three, four}
+use Rattle.py_lines.proofs.Lexings.SettledFits.{ends-append}
+
+-- a byte or character of this size is no CR
+no_return : (c : ℕ) → 128 ≤ c → is_return c ≡ false
+no_return c wide = false_from_ne_true _ (λ returns. omega (arith, wide, return_is c returns))
+
+-- the last byte of a character
+ends-encode : (c : ℕ) → ends is_return (encode_utf8 c) ≡ is_return c
+ends-encode c = ⊎_elim (λ narrow. ap (ends is_return) (one c narrow)) (λ wide. last_byte wide ∙ sym (no_return c wide)) (cases_lt c 128)
+  where
+    last_byte : 128 ≤ c → ends is_return (encode_utf8 c) ≡ false
+    last_byte wide = ⊎_elim
+        (λ short. ap (ends is_return) (two c wide short) ∙ no_return _ (omega arith))
+        (λ long. ⊎_elim
+        (λ short. ap (ends is_return) (three c long short) ∙ no_return _ (omega arith))
+        (λ longer. ap (ends is_return) (four c longer) ∙ no_return _ (omega arith))
+        (cases_lt c 65536))
+        (cases_lt c 2048)
+
+-- some bytes
+some_bytes : (d : ℕ) (cs : List ℕ) → (b : ℕ) × (bs : List ℕ) × (encode_utf8_all (d ∷ cs) ≡ b ∷ bs)
+some_bytes d cs = by (encode_utf8_all (d ∷ cs)) refl
+  where
+    by : (bytes : List ℕ) → encode_utf8_all (d ∷ cs) ≡ bytes → (b : ℕ) × (bs : List ℕ) × (encode_utf8_all (d ∷ cs) ≡ b ∷ bs)
+    by [] is = absurd (omega (arith, length-le-encodes (d ∷ cs), ap length is))
+    by (b ∷ bs) is = (b, bs, is)
+
+pub ends-encoded : (cs : List ℕ) → ends is_return (encode_utf8_all cs) ≡ ends is_return cs
+ends-encoded [] = refl
+ends-encoded (c ∷ []) = ap (ends is_return) (append-nil (encode_utf8 c)) ∙ ends-encode c
+ends-encoded (c ∷ d ∷ cs) =
+    let some = some_bytes d cs in
+    ap (λ t. ends is_return (encode_utf8 c ++ t)) some.2 ∙ ends-append is_return (encode_utf8 c) some.0 some.1 ∙ ap (ends is_return) (sym some.2) ∙ ends-encoded (d ∷ cs)
+
+-- so what comes after the characters of a line comes after its bytes
+pub exactly_encoded : (line more : List ℕ) → EndsExactly line more → EndsExactly (encode_utf8_all line) more
+exactly_encoded line more (inl (other, none)) = inl (ends-encoded line ∙ other, none)
+exactly_encoded line more (inr (returned, one)) = inr (ends-encoded line ∙ returned, one)
