@@ -62,6 +62,10 @@
 -- without fields. Where a list of pieces or parts ends, so does the other. Fields are the same if those in them are, so this goes
 -- by how many stand one in another. What is open in a text is defined (specs/OpenFields.antt); proofs/OpenFields shows it by rows.
 --
+-- Texts without a prefix of strings with fields before a quote (proofs/Elsewhere): the machine without fields goes through exactly
+-- those that are live without fields, and there it goes as the scanning machine does. So such a text is live with fields exactly
+-- if it is live without. Nothing that is open in it is a string with fields, so its fault is the same, and its lexing.
+--
 -- proofs/Text has characters, the bytes that spell them, and vectors of bytes (Lanes). Files named WorkedRows and
 -- DepthRows are rows worked out by hand, on the definitions alone.
 pub mod Text
@@ -79,6 +83,7 @@ pub mod FieldScans
 pub mod Faults
 pub mod LogicalLines
 pub mod Lexings
+pub mod Elsewhere
 pub mod LineScan
 pub mod Readers
 pub mod Feeds

@@ -8,11 +8,12 @@ pub mod PieceGrammar
 pub mod FieldStrings
 pub mod LogicalLine
 pub mod Fields
+pub mod Dialect
 pub mod Reading
-pub mod WithoutFields
 pub mod OpenFields
 pub mod Faults
 pub mod Lexed
+pub mod WithoutFields
 pub mod Neighbours
 pub mod Words
 pub mod Settled

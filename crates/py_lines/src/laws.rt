@@ -8,7 +8,7 @@ ghost use Rattle.py_lines.specs.Piece.{Piece, spelled};
 ghost use Rattle.py_lines.specs.PieceGrammar.{IsWord, ReadsPlain};
 ghost use Rattle.py_lines.specs.FieldStrings.{Host, may_have_fields};
 ghost use Rattle.py_lines.specs.Fields.{IsField, AnyPieces, Fields, fielded, AreReadBefore, Reads, ReadsText, IsShallow, ShallowFields};
-ghost use Rattle.py_lines.specs.WithoutFields.{IsPlainReading, IsPlainLexed};
+ghost use Rattle.py_lines.specs.WithoutFields.{IsPlainReading, IsPlainLexed, HasNoFields};
 ghost use Rattle.py_lines.specs.LogicalLine.{LogicalLine, cut, line_of};
 ghost use Rattle.py_lines.specs.Reading.{Decodes, IsBalancedReading, EndsLine};
 ghost use Rattle.py_lines.specs.Faults.{IsFaultAt, IsReadOrFaulty};
@@ -75,15 +75,16 @@ pub fn settled_is_final()
 {}
 
 /// A text in which neither `f` nor `t`, alone or followed by `r`, stands directly before a quote is read by the same pieces
-/// whether strings hold fields or not, and these are as deep. So it has the same logical lines.
-#[tactic(auto, using(crate::proofs::Fields::WholeTexts::elsewhere_laws))]
+/// whether strings hold fields or not, and these are as deep. Any bytes in whose characters none stands so have the same
+/// logical lines, and then the same end or fault.
+#[tactic(auto, using(crate::proofs::Fields::WholeTexts::elsewhere_laws, crate::proofs::Elsewhere::SameLexings::lexed_with, crate::proofs::Elsewhere::SameLexings::lexed_without))]
 pub fn fields_change_nothing_elsewhere()
     ensures read_with { (pieces : List Piece) (characters : List ℕ) → may_have_fields characters ≡ false → ReadsPlain pieces characters → Reads pieces characters }
     ensures read_without { (pieces : List Piece) (characters : List ℕ) → may_have_fields characters ≡ false → Reads pieces characters → ReadsPlain pieces characters }
     ensures balanced_with { (pieces : List Piece) (characters : List ℕ) → may_have_fields characters ≡ false → IsPlainReading pieces characters → IsBalancedReading pieces characters }
     ensures balanced_without { (pieces : List Piece) (characters : List ℕ) → may_have_fields characters ≡ false → IsBalancedReading pieces characters → IsPlainReading pieces characters }
-    ensures lines_with { (text characters : List ℕ) (lines : List LogicalLine) → Decodes text characters [] → may_have_fields characters ≡ false → IsPlainLexed text lines → IsLexed text lines None }
-    ensures lines_without { (text characters : List ℕ) (lines : List LogicalLine) → Decodes text characters [] → may_have_fields characters ≡ false → IsLexed text lines None → IsPlainLexed text lines }
+    ensures lexed_with { (text : List ℕ) (lines : List LogicalLine) (end : Option Fault) → HasNoFields text → IsPlainLexed text lines end → IsLexed text lines end }
+    ensures lexed_without { (text : List ℕ) (lines : List LogicalLine) (end : Option Fault) → HasNoFields text → IsLexed text lines end → IsPlainLexed text lines end }
 {}
 
 /// A word holds no line end.

@@ -12,7 +12,7 @@ use Rattle.py_lines.specs.WithoutFields.{IsPlainReading}
 use Rattle.py_lines.specs.FieldStrings.{is_field_prefix, Host, quotes_of, IsFieldString, with_fields, begins_raw, may_have_fields}
 
 -- what follows some of the text has none either
-later : (a b : List ℕ) → may_have_fields (a ++ b) ≡ false → may_have_fields b ≡ false
+pub later : (a b : List ℕ) → may_have_fields (a ++ b) ≡ false → may_have_fields b ≡ false
 later [] b h = h
 later (c ∷ a) b h = later a b (or_parts _ (may_have_fields (a ++ b)) h).1
 
@@ -31,7 +31,7 @@ none_false true = refl
 none_false false = refl
 
 -- so no prefix of a string with fields stands directly before a quote
-no_field_prefix : (prefix : List ℕ) (q : ℕ) (after : List ℕ) → is_quote q ≡ true → may_have_fields (prefix ++ q ∷ after) ≡ false → is_field_prefix prefix ≡ false
+pub no_field_prefix : (prefix : List ℕ) (q : ℕ) (after : List ℕ) → is_quote q ≡ true → may_have_fields (prefix ++ q ∷ after) ≡ false → is_field_prefix prefix ≡ false
 no_field_prefix [] q after quotes h = refl
 no_field_prefix (a ∷ []) q after quotes h =
     let first = (or_parts _ (may_have_fields (q ∷ after)) h).0 in
@@ -45,7 +45,7 @@ no_field_prefix (a ∷ b ∷ []) q after quotes h =
 no_field_prefix (a ∷ b ∷ c ∷ cs) q after quotes h = refl
 
 -- a string of these characters begins with no such prefix
-no_field_string : (text prefix body rest : List ℕ) (q : ℕ) → text ≡ prefix ++ q ∷ body → is_quote q ≡ true → may_have_fields (text ++ rest) ≡ false → is_field_prefix prefix ≡ false
+pub no_field_string : (text prefix body rest : List ℕ) (q : ℕ) → text ≡ prefix ++ q ∷ body → is_quote q ≡ true → may_have_fields (text ++ rest) ≡ false → is_field_prefix prefix ≡ false
 no_field_string text prefix body rest q is quotes h =
     no_field_prefix prefix q (body ++ rest) quotes (subst (λ t. may_have_fields t ≡ false) (ap (λ t. t ++ rest) is ∙ append_assoc prefix (q ∷ body) rest) h)
 
@@ -132,13 +132,13 @@ precede_without F join text rest before = before
 precede_without F line_end text rest before = before
 
 -- so all pieces of the text
-read_with : (F : Host → List ℕ → Type 0) (ps : List Piece) (rest : List ℕ) → may_have_fields (spelled ps ++ rest) ≡ false → AreReadPlain ps rest → AreReadIn (with_fields F) ps rest
+pub read_with : (F : Host → List ℕ → Type 0) (ps : List Piece) (rest : List ℕ) → may_have_fields (spelled ps ++ rest) ≡ false → AreReadPlain ps rest → AreReadIn (with_fields F) ps rest
 read_with F [] rest h fit = tt
 read_with F (p ∷ ps) rest h fit =
     let here : may_have_fields (p.text ++ (spelled ps ++ rest)) ≡ false = subst (λ t. may_have_fields t ≡ false) (append_assoc p.text (spelled ps) rest) h in
     (class_with F p.class p.text _ here fit.0, precede_with F p.class p.text _ here fit.1, fit.2, read_with F ps rest (later p.text (spelled ps ++ rest) here) fit.3)
 
-read_without : (F : Host → List ℕ → Type 0) (ps : List Piece) (rest : List ℕ) → may_have_fields (spelled ps ++ rest) ≡ false → AreReadIn (with_fields F) ps rest → AreReadPlain ps rest
+pub read_without : (F : Host → List ℕ → Type 0) (ps : List Piece) (rest : List ℕ) → may_have_fields (spelled ps ++ rest) ≡ false → AreReadIn (with_fields F) ps rest → AreReadPlain ps rest
 read_without F [] rest h fit = tt
 read_without F (p ∷ ps) rest h fit =
     let here : may_have_fields (p.text ++ (spelled ps ++ rest)) ≡ false = subst (λ t. may_have_fields t ≡ false) (append_assoc p.text (spelled ps) rest) h in

@@ -1,0 +1,98 @@
+-- The machine with fields and the one without go alike through a text that has no prefix of a string with fields before a quote.
+use Rattle.std.proofs.Common.{◌≡◌, ℕ, Bool, true, false, ◌&&◌, Option, None, Some, List, [], ◌∷◌, ◌++◌, refl, sym, ap, ◌∙◌, append_assoc}
+use Rattle.std.specs.Prelude.{if◌then◌else◌}
+use Rattle.std.proofs.lemmas.Bool.{cond_both, both_ways}
+use Rattle.py_lines.specs.Character.{is_quote}
+use Rattle.py_lines.specs.Piece.{Piece, spelled}
+use Rattle.py_lines.specs.Balance.{depth_through}
+use Rattle.py_lines.specs.FieldStrings.{is_field_prefix, may_have_fields}
+use Rattle.py_lines.specs.Dialect.{fielded_dialect, plain_dialect}
+use Rattle.py_lines.specs.Faults.{IsLiveIn}
+use Rattle.py_lines.specs.declared.mode.Spelling.{Spelling}
+use Rattle.py_lines.specs.declared.mode.Spelling.TheVariants as spellings
+use Rattle.py_lines.specs.declared.mode.Mode.{Mode}
+use Rattle.py_lines.specs.declared.mode.Mode.TheVariants as modes
+use Rattle.py_lines.specs.declared.mode.Move.{Move}
+use Rattle.py_lines.specs.declared.mode.Move.TheVariants as moves
+use Rattle.py_lines.specs.Private.Machine.{Scanned, text_start, moved, step, steps_from, move_of, is_prefix_spelling, Holds, IsSound}
+use Rattle.py_lines.specs.Private.ScanMachine.{is_field_spelling, quote_move, meet_of, move_in, move_at, scan_steps}
+use Rattle.py_lines.proofs.Machine.Soundness.{SoundIf, step_sound}
+use Rattle.py_lines.proofs.ScanMachine.Spellings.{word_tells}
+use Rattle.py_lines.proofs.ScanMachine.LiveTexts.{live_runs, runs_live}
+use Rattle.py_lines.proofs.Fields.Elsewhere.{later, no_field_prefix}
+use Rattle.py_lines.proofs.Elsewhere.PlainRuns.{plain_live_runs, plain_runs_live, start_is_sound}
+
+-- a quote after a word that is no prefix of a string with fields
+same_begin : (s : Spelling) (q : ℕ) → is_field_spelling s ≡ false → quote_move s q ≡ (if is_prefix_spelling s then moves.Grows (modes.Opened q) else moves.Breaks)
+unfolding quote_move
+same_begin spellings.Number q h = refl
+same_begin spellings.R q h = refl
+same_begin spellings.B q h = refl
+same_begin spellings.F q h = absurd (both_ways _ h refl)
+same_begin spellings.Fr q h = absurd (both_ways _ h refl)
+same_begin spellings.T q h = absurd (both_ways _ h refl)
+same_begin spellings.Tr q h = absurd (both_ways _ h refl)
+same_begin spellings.Prefix q h = refl
+same_begin spellings.Name q h = refl
+
+with_quote : (s : Spelling) (c : ℕ) → is_quote c ≡ true → (if is_prefix_spelling s then moves.Grows (modes.Opened c) else moves.Breaks) ≡ (if is_prefix_spelling s && is_quote c then moves.Grows (modes.Opened c) else moves.Breaks)
+with_quote s c quotes = go (is_prefix_spelling s)
+  where
+    go : (b : Bool) → (if b then moves.Grows (modes.Opened c) else moves.Breaks) ≡ (if b && is_quote c then moves.Grows (modes.Opened c) else moves.Breaks)
+    go true = ap (λ (x : Bool). if x then moves.Grows (modes.Opened c) else moves.Breaks) (sym quotes)
+    go false = refl
+
+no_quote : (s : Spelling) (c : ℕ) → is_quote c ≡ false → moves.Breaks ≡ (if is_prefix_spelling s && is_quote c then moves.Grows (modes.Opened c) else moves.Breaks)
+no_quote s c h = go (is_prefix_spelling s)
+  where
+    go : (b : Bool) → moves.Breaks ≡ (if b && is_quote c then moves.Grows (modes.Opened c) else moves.Breaks)
+    go true = ap (λ (x : Bool). if x then moves.Grows (modes.Opened c) else moves.Breaks) (sym h)
+    go false = refl
+
+same_word : (s : Spelling) (c : ℕ) → (is_quote c ≡ true → is_field_spelling s ≡ false) → meet_of (modes.Word s) c ≡ move_of (modes.Word s) c
+unfolding meet_of move_of
+same_word s c none =
+    let rest : Move = if is_prefix_spelling s && is_quote c then moves.Grows (modes.Opened c) else moves.Breaks in
+    let other : (if is_quote c then quote_move s c else moves.Breaks) ≡ rest =
+    cond_both (is_quote c) (quote_move s c) moves.Breaks (λ (v : Move). v ≡ rest) (λ h. same_begin s c (none h) ∙ with_quote s c h) (λ h. no_quote s c h) in
+    rw other
+
+-- one character
+same_move : (m : Mode) (done : List Piece) (depth : ℕ) (held : List ℕ) (c : ℕ) (cs : List ℕ) → Holds m done held → may_have_fields (held ++ c ∷ cs) ≡ false → move_in m depth held c ≡ move_of m c
+unfolding meet_of
+same_move (modes.Word s) done depth held c cs holds h =
+    let told : is_field_prefix held ≡ is_field_spelling s = ap is_field_prefix holds.2 ∙ (word_tells holds.0 holds.1).0 ∙ ap is_field_spelling (sym holds.5) in
+    same_word s c (λ quotes. sym told ∙ no_field_prefix held c cs quotes h)
+same_move (modes.FieldOpened k) done depth held c cs holds h = absurd holds
+same_move (modes.FieldEmpty k) done depth held c cs holds h = absurd holds
+same_move modes.Fielded done depth held c cs holds h = absurd holds
+same_move m done depth held c cs holds h = refl
+
+-- characters, one after another
+same_runs : (s : Scanned) (read cs : List ℕ) → IsSound s read → may_have_fields (read ++ cs) ≡ false → scan_steps (Some s) cs ≡ steps_from (Some s) cs
+same_runs s read [] sound h = refl
+same_runs s read (c ∷ cs) sound h =
+    let whole : may_have_fields (spelled s.done ++ (s.held ++ c ∷ cs)) ≡ false =
+    ap may_have_fields (sym (append_assoc (spelled s.done) s.held (c ∷ cs)) ∙ ap (λ t. t ++ c ∷ cs) sound.spell) ∙ h in
+    let move : move_at s c ≡ move_of s.mode c = same_move s.mode s.done (depth_through 0 s.done) s.held c cs sound.holds (later (spelled s.done) (s.held ++ c ∷ cs) whole) in
+    ap (λ (v : Move). scan_steps (moved s c v) cs) move
+    ∙ go (step s c) (step_sound s.done s.mode s.held read c sound)
+    (λ t next. same_runs t (read ++ c ∷ []) cs next (ap may_have_fields (append_assoc read (c ∷ []) cs) ∙ h))
+  where
+    go : (o : Option Scanned) → SoundIf o (read ++ c ∷ []) → ((t : Scanned) → IsSound t (read ++ c ∷ []) → scan_steps (Some t) cs ≡ steps_from (Some t) cs) → scan_steps o cs ≡ steps_from o cs
+    go None next more = refl
+    go (Some t) next more = more t next
+
+from_start : (cs : List ℕ) → may_have_fields cs ≡ false → scan_steps (Some text_start) cs ≡ steps_from (Some text_start) cs
+from_start cs h = same_runs text_start [] cs start_is_sound h
+
+-- so a text is live with fields exactly if it is live without
+pub live_with : (cs : List ℕ) → may_have_fields cs ≡ false → IsLiveIn plain_dialect cs → IsLiveIn fielded_dialect cs
+live_with cs h live =
+    let (s, st, run) = plain_live_runs cs live in
+    runs_live cs s st (record { run = from_start cs h ∙ run.run; stack = run.stack })
+
+pub live_without : (cs : List ℕ) → may_have_fields cs ≡ false → IsLiveIn fielded_dialect cs → IsLiveIn plain_dialect cs
+live_without cs h live =
+    let (s, st, run) = live_runs cs live in
+    plain_runs_live cs s st (record { run = sym (from_start cs h) ∙ run.run; stack = run.stack })
