@@ -1,4 +1,4 @@
--- How strings are read: with fields in them, as Python 3.12 and later read them, or without, as Python 3.11 does. What is said of
+-- How strings are read: with fields in them, after Python 3.14, or without, as Python 3.11 reads them. What is said of
 -- a text, of its logical lines and its fault, is said for both at once.
 use Rattle.std.specs.Prelude.{ℕ, Bool, false, List}
 use Rattle.py_lines.specs.Piece.{Piece}

@@ -1,4 +1,4 @@
--- Strings that hold fields, as Python 3.12 and later read them: those with `f` or `t` in their prefix. Strings stand in
+-- Strings that hold fields, after Python 3.14: those with `f` or `t` in their prefix. Strings stand in
 -- fields too, so they are told over the fields that there are: `Fields` says which texts are fields of which strings.
 -- Python Language Reference of Python 3.14, the sections on f-strings and t-strings.
 use Rattle.std.specs.Prelude.{◌≡◌, ℕ, Bool, true, false, not, ◌==◌, ◌||◌, ◌&&◌, ◌⊎◌, List, [], ◌∷◌, ◌++◌, if◌then◌else◌}
@@ -111,7 +111,7 @@ IsPlainString text =
     ((short : IsShortString text) × (is_field_prefix short.prefix ≡ false))
     ⊎ ((long : IsLongString text) × (is_field_prefix long.prefix ≡ false))
 
--- strings as Python 3.12 and later read them, with these fields in those that have `f` or `t` in their prefix
+-- strings after Python 3.14, with these fields in those that have `f` or `t` in their prefix
 abbrev pub with_fields : (Host → List ℕ → Type 0) → Grammar
 with_fields Fields = record {
   is_prefix = λ prefix. is_prefix prefix || is_field_prefix prefix;

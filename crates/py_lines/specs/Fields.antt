@@ -53,7 +53,7 @@ FieldsWithin (suc n) host text = IsField (with_fields (FieldsWithin n)) AnyPiece
 abbrev pub Fields : Host → List ℕ → Type 0
 Fields host text = (n : ℕ) × FieldsWithin n host text
 
--- strings as Python 3.12 and later read them
+-- strings after Python 3.14
 abbrev pub fielded : Grammar
 fielded = with_fields Fields
 

@@ -1,4 +1,4 @@
--- The machine of Machine.antt with fields: it goes through a text as Python 3.12 and later read it, one character at a time,
+-- The machine of Machine.antt with fields: it goes through a text whose strings hold fields, one character at a time,
 -- with code in the fields of strings. Proofs tie it to Fields. What the scan of a string with fields keeps is told in its words.
 use Rattle.std.specs.Prelude.{◌≡◌, ℕ, ◌+◌, Bool, true, false, not, ◌==◌, ◌||◌, ◌&&◌, Option, None, Some, List, [], ◌∷◌, ◌++◌, length, nat_lt, if◌then◌else◌}
 use Rattle.std.specs.Str.{byte}
