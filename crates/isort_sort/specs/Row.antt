@@ -17,8 +17,8 @@ use Rattle.py_imports.specs.Shape.{mark_len, is_nothing, IsSortable, HasShape}
 use Rattle.py_imports.specs.Statement.{significant}
 use Rattle.py_imports.specs.declared.action_comment.ActionComment.{ActionComment}
 use Rattle.py_imports.specs.declared.action_comment.ActionComment.TheVariants as action
-use Rattle.py_imports.specs.declared.shape.Shape.{Shape}
-use Rattle.py_imports.specs.declared.shape.Shape.TheVariants as shape
+use Rattle.py_imports.specs.declared.line_shape.Shape.{Shape}
+use Rattle.py_imports.specs.declared.line_shape.Shape.TheVariants as shape
 use Rattle.isort_sort.specs.Line.{word_of, comment_texts, own_comments, imported_of}
 
 -- whether a line has comments alone

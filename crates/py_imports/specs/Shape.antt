@@ -14,8 +14,8 @@ use Rattle.py_imports.specs.Declaration.{is_code}
 use Rattle.py_imports.specs.Grammar.{Terminal, begins_import, Imported, IsImport}
 use Rattle.py_imports.specs.Statement.{is_comment, significant, TokenPlace, places_from, is_end}
 use Rattle.py_imports.specs.declared.action_comment.ActionComment.TheVariants as action
-use Rattle.py_imports.specs.declared.shape.Shape.{Shape}
-use Rattle.py_imports.specs.declared.shape.Shape.TheVariants as shape
+use Rattle.py_imports.specs.declared.line_shape.Shape.{Shape}
+use Rattle.py_imports.specs.declared.line_shape.Shape.TheVariants as shape
 
 -- the tokens of the line that are no comments, as the import grammar sees them
 abbrev pub terminals_of : LogicalLine → List Terminal

@@ -10,7 +10,8 @@ mod items;
 pub mod laws;
 mod lexeme;
 mod lexemes;
-mod shape;
+mod line_shape;
+mod sortable;
 mod statement;
 
 pub use action_comment::{ActionComment, says};
@@ -18,4 +19,5 @@ pub use binding::Binding;
 pub use bindings::{bindings_of, has_first_word};
 pub use declaration::is_declaration;
 pub use error::ImportError;
-pub use shape::{Shape, mark_len, shape_of, shape_of_bound};
+pub use line_shape::Shape;
+pub use sortable::{mark_len, shape, shape_of_bound};

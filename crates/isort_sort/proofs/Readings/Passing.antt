@@ -16,7 +16,7 @@ use Rattle.py_imports.specs.Shape.{is_nothing, begins_so}
 use Rattle.py_imports.specs.Statement.{is_comment, significant}
 use Rattle.py_imports.specs.declared.action_comment.ActionComment.{ActionComment}
 use Rattle.py_imports.specs.declared.action_comment.ActionComment.TheVariants as action
-use Rattle.py_imports.specs.declared.shape.Shape.TheVariants as shape
+use Rattle.py_imports.specs.declared.line_shape.Shape.TheVariants as shape
 use Rattle.isort_sort.specs.Private.Finding.{Finding, IsFinding, with_blank, with_comments, closed_block, after_blank, after_comments, after_other}
 use Rattle.isort_sort.specs.Private.FoundValues.{finding_value}
 use Rattle.isort_sort.specs.Line.{comment_texts}

@@ -14,8 +14,8 @@ use Rattle.py_imports.specs.Shape.{terminals_of, mark_len, begins_so, begins_at,
 use Rattle.py_imports.specs.Statement.{is_comment, significant, TokenPlace, places_from, is_end}
 use Rattle.py_imports.specs.declared.action_comment.ActionComment.{ActionComment}
 use Rattle.py_imports.specs.declared.action_comment.ActionComment.TheVariants as action
-use Rattle.py_imports.specs.declared.shape.Shape.{Shape}
-use Rattle.py_imports.specs.declared.shape.Shape.TheVariants as shape
+use Rattle.py_imports.specs.declared.line_shape.Shape.{Shape}
+use Rattle.py_imports.specs.declared.line_shape.Shape.TheVariants as shape
 use Rattle.isort_sort.specs.Line.{word_of, comment_texts, own_comments, without_hash, stripped, is_text}
 use Rattle.isort_sort.specs.LaidAgain.{IsMoved}
 use Rattle.isort_sort.specs.Row.{Role, member, comments, blank, other, two, as_many, is_comment_kind, says_alone, parts_blocks, before_shape, before_line, Imports, HasRole}

@@ -10,8 +10,8 @@ use Rattle.py_imports.specs.Bound.{Bound}
 use Rattle.py_imports.specs.Grammar.{Imported}
 use Rattle.py_imports.specs.Shape.{IsSortable, HasShape}
 use Rattle.py_imports.specs.declared.action_comment.ActionComment.TheVariants as action
-use Rattle.py_imports.specs.declared.shape.Shape.{Shape}
-use Rattle.py_imports.specs.declared.shape.Shape.TheVariants as shape
+use Rattle.py_imports.specs.declared.line_shape.Shape.{Shape}
+use Rattle.py_imports.specs.declared.line_shape.Shape.TheVariants as shape
 use Rattle.isort_sort.specs.Line.{comment_texts, imported_of}
 use Rattle.isort_sort.specs.Row.{is_comment_kind, parts_blocks, is_off_after, before_line, Role, member, comments, blank, other, Imports, HasRole, Row, IsRow, AreRows}
 

@@ -4,8 +4,8 @@ use Rattle.py_lines.specs.LogicalLine.{LogicalLine}
 use Rattle.py_imports.specs.Declaration.{is_code}
 use Rattle.py_imports.specs.Grammar.{Terminal, begins_import, Imported, IsImport, import_statement, from_statement}
 use Rattle.py_imports.specs.Shape.{terminals_of, begins_so, IsSortable, HasShape}
-use Rattle.py_imports.specs.declared.shape.Shape.{Shape}
-use Rattle.py_imports.specs.declared.shape.Shape.TheVariants as shape
+use Rattle.py_imports.specs.declared.line_shape.Shape.{Shape}
+use Rattle.py_imports.specs.declared.line_shape.Shape.TheVariants as shape
 
 pub import_begins : (ts : List Terminal) (is : List Imported) → IsImport ts is → begins_import ts ≡ true
 import_begins ts is (import_statement rest items h) = refl

@@ -12,8 +12,8 @@ use Rattle.py_imports.specs.Bound.{Bound}
 use Rattle.py_imports.specs.Grammar.{Terminal, begins_import, Imported, IsImport}
 use Rattle.py_imports.specs.Shape.{terminals_of, stands_first, stands_well, says_skip, begins_so, IsSortable, HasShape}
 use Rattle.py_imports.specs.Statement.{significant, TokenPlace, places_from, starts, is_end, statement_at}
-use Rattle.py_imports.specs.declared.shape.Shape.{Shape}
-use Rattle.py_imports.specs.declared.shape.Shape.TheVariants as shape
+use Rattle.py_imports.specs.declared.line_shape.Shape.{Shape}
+use Rattle.py_imports.specs.declared.line_shape.Shape.TheVariants as shape
 use Rattle.isort_sort.specs.Line.{own_comments, comment_texts, imported_of}
 use Rattle.isort_sort.specs.Row.{is_comment_kind, parts_blocks, is_off_after, before_line, Role, member, comments, blank, other, HasRole, mark_after, indentation_of, Row, AreRows}
 use Rattle.isort_sort.proofs.Rows.Roles.{import_begins}

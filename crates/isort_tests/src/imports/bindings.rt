@@ -3,7 +3,7 @@ use crate::harness::cases::{Case, each_holds_again};
 use crate::harness::told::tell_binding;
 use py_imports::{
     ActionComment, Binding, ImportError, Shape, bindings_of, is_declaration, mark_len, says,
-    shape_of,
+    shape,
 };
 use py_lines::{Fault, FaultKind, Lines, Unit};
 use std::alloc::Global;
@@ -97,7 +97,7 @@ impl Said {
         match self {
             Said::Refused(offset) => is_refused(alloc, unit, offset),
             Said::Declaration(is_declared) => is_declaration(unit) == is_declared,
-            Said::Shaped(shape) => shape_of(unit) == shape,
+            Said::Shaped(wanted) => shape(unit) == wanted,
             Said::Marked(len) => mark_len(unit) == len,
         }
     }

@@ -6,7 +6,7 @@ use Rattle.py_imports.specs.ActionComment.{says}
 use Rattle.py_imports.specs.Statement.{is_comment}
 use Rattle.py_imports.specs.declared.action_comment.ActionComment.TheVariants as action
 use Rattle.py_imports.proofs.StatementLemmas.{token_at_place}
-use Rattle.py_imports.proofs.shape.is_skip.Goals as goal
+use Rattle.py_imports.proofs.sortable.is_skip.Goals as goal
 
 pub returns-then-is_comment : goal.returns-then-is_comment
 returns-then-is_comment c = λ t h.

@@ -12,19 +12,9 @@ ghost use Rattle.py_imports.specs.Private.Places.{IsFirstCode, BeginsAt, IsMovab
 
 use crate::action_comment::{ActionComment, says};
 use crate::items::{Form, ImportItems, form_of};
+use crate::line_shape::Shape;
 use crate::statement::statement_end;
 use py_lines::{TokKind, Token, Unit, UnitKind};
-
-/// Whether a logical line can be put in order with others: what [`shape_of`] answers.
-#[derive(Clone, Copy, Debug, PartialEq, Eq)]
-pub enum Shape {
-    /// It can: it is one import statement, and nothing of it is lost where it is written anew.
-    Sortable,
-    /// It begins with `import` or `from`, and stays as it is written.
-    Pinned,
-    /// It doesn't begin with `import` or `from`.
-    Other,
-}
 
 /// The place of the first token that is no comment.
 fn first_code(tokens: &[Token]) -> Option<usize>
@@ -142,7 +132,7 @@ fn is_sortable(unit: &Unit<'_>, place: usize, form: Form) -> bool
 ///   the next one after a `(`, and none says `skip`.
 /// - `Pinned`: other code whose first token other than comments is `import` or `from`.
 /// - `Other`: any other line.
-pub fn shape_of(unit: &Unit<'_>) -> Shape
+pub fn shape(unit: &Unit<'_>) -> Shape
     ensures { HasShape (line_in unit.now) result }
 {
     match started_by_word(unit) {
@@ -152,7 +142,7 @@ pub fn shape_of(unit: &Unit<'_>) -> Shape
     }
 }
 
-/// The shape of a logical line that binds a list, as [`shape_of`] answers it. The import statement of such a line is in the
+/// The shape of a logical line that binds a list, as [`shape`] answers it. The import statement of such a line is in the
 /// grammar, so it isn't read again.
 pub fn shape_of_bound(unit: &Unit<'_>) -> Shape
     requires { (bounds : List Bound) × Binds (line_in unit.now) bounds }

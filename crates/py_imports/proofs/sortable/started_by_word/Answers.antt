@@ -3,7 +3,7 @@ use Rattle.py_lines.specs.Lines.{line_in}
 use Rattle.py_lines.specs.declared.token.Token.{Token}
 use Rattle.py_lines.specs.declared.token.TokKind.TheVariants as kind
 use Rattle.py_imports.proofs.ShapeLemmas.{first_code_at, first_code_within, begins_no_import, begins_one}
-use Rattle.py_imports.proofs.shape.started_by_word.Goals as goal
+use Rattle.py_imports.proofs.sortable.started_by_word.Goals as goal
 
 pub returns-in_err-form : goal.returns-in_err-form
 returns-in_err-form c =
