@@ -1,7 +1,7 @@
 # Completion of isort for fish: its options, their values, and Python files.
 
 complete -c isort -f
-complete -c isort -k -a "(__fish_complete_suffix .py | string match -r '.*(?:\.py|/)\$')"
+complete -c isort -k -a "(__fish_complete_suffix .py | string match -r '.*(?:\.pyi?|/)\$')"
 
 complete -c isort -s h -l help -d 'Print help'
 
