@@ -1,5 +1,5 @@
--- Whether a logical line can be sorted: its shape. Python Language Reference, 7.11; isort documentation, "ActionComment
--- Comments".
+-- Whether a logical line can be sorted: its shape. Python Language Reference, 7.11; isort documentation,
+-- "Action Comments".
 use Rattle.std.specs.Prelude.{◌≡◌, ℕ, nat_eq, ◌+◌, ◌==◌, Bool, true, false, not, ◌&&◌, ◌||◌, Option, None, Some, List, [], ◌∷◌, map, slice_get, slice_range, if◌then◌else◌}
 use Rattle.std.specs.List.{list_any, list_all, starts_with}
 use Rattle.std.specs.Str.{byte}
