@@ -4,3 +4,4 @@ pub mod SameRuns
 pub mod SamePlaces
 pub mod SameFaults
 pub mod SameLexings
+pub mod WorkedRows

@@ -77,7 +77,7 @@ pub fn settled_is_final()
 /// A text in which neither `f` nor `t`, alone or followed by `r`, stands directly before a quote is read by the same pieces
 /// whether strings hold fields or not, and these are as deep. Any bytes in whose characters none stands so have the same
 /// logical lines, and then the same end or fault.
-#[tactic(auto, using(crate::proofs::Fields::WholeTexts::elsewhere_laws, crate::proofs::Elsewhere::SameLexings::lexed_with, crate::proofs::Elsewhere::SameLexings::lexed_without))]
+#[tactic(auto, using(crate::proofs::Elsewhere::SameLexings::elsewhere_laws))]
 pub fn fields_change_nothing_elsewhere()
     ensures read_with { (pieces : List Piece) (characters : List ℕ) → may_have_fields characters ≡ false → ReadsPlain pieces characters → Reads pieces characters }
     ensures read_without { (pieces : List Piece) (characters : List ℕ) → may_have_fields characters ≡ false → Reads pieces characters → ReadsPlain pieces characters }

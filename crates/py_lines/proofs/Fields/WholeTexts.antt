@@ -4,7 +4,6 @@ use Rattle.py_lines.specs.LogicalLine.{LogicalLine, lines_of}
 use Rattle.py_lines.specs.Reading.{IsBalancedReading}
 use Rattle.py_lines.specs.Lexed.{IsLexedWhole}
 use Rattle.py_lines.proofs.Text.Decoding.{decoded}
-use Rattle.py_lines.proofs.Fields.Elsewhere.{reads_with, reads_without, balanced_with, balanced_without}
 use Rattle.py_lines.proofs.Fields.OneReading.{one_fielded_reading}
 
 pub one_fielded_lexing : (text : List ℕ) (lines others : List LogicalLine) → IsLexedWhole text lines → IsLexedWhole text others → lines ≡ others
@@ -12,6 +11,3 @@ one_fielded_lexing text lines others r s =
     let same = decoded text r.characters s.characters [] [] r.decodes s.decodes in
     let reading = subst (λ (t : List ℕ). IsBalancedReading r.pieces t) same.0 r.reading in
     r.cut ∙ ap lines_of (one_fielded_reading r.pieces s.pieces s.characters reading.reads s.reading.reads) ∙ sym s.cut
-
--- texts without strings with fields, both ways
-pub ruleset elsewhere_laws = (reads_with, reads_without, balanced_with, balanced_without)
