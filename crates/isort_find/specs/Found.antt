@@ -2,7 +2,8 @@
 use Rattle.std.specs.Prelude.{◌≡◌, ℕ, Bool, false, not, ◌&&◌, Option, None, Some, List, [], ◌∷◌, ◌++◌, if◌then◌else◌, take_while}
 use Rattle.std.specs.List.{list_any}
 use Rattle.py_lines.specs.LogicalLine.{LogicalLine}
-use Rattle.py_lines.specs.Lexed.{IsLexed}
+use Rattle.py_lines.specs.Dialect.{Dialect, fielded_dialect, plain_dialect}
+use Rattle.py_lines.specs.Lexed.{IsLexedIn}
 use Rattle.py_lines.specs.declared.fault.Fault.{Fault}
 use Rattle.py_imports.specs.Bound.{Bound}
 use Rattle.py_imports.specs.Binds.{BindAll, IsBadAt}
@@ -50,11 +51,19 @@ pub data AreFound : Option ImportKey → List LogicalLine → Option Fault → L
       → AreFound unique lines last bounds end
 
 -- the imports of a text that are found with these options, and then its end, or its fault
-pub record IsFound (text : List ℕ) (options : FindOptions) (bounds : List Bound) (end : Option Fault) : Type 0 where
+pub record IsFoundIn (dialect : Dialect) (text : List ℕ) (options : FindOptions) (bounds : List Bound) (end : Option Fault) : Type 0 where
   pub lines : List LogicalLine
   pub lexical : Option Fault
-  pub lexed : IsLexed text lines lexical
+  pub lexed : IsLexedIn dialect text lines lexical
   pub found : AreFound options.unique (counted_lines options lines) (counted_end options lines lexical) bounds end
+
+-- so where strings hold fields
+abbrev pub IsFound : List ℕ → FindOptions → List Bound → Option Fault → Type 0
+IsFound = IsFoundIn fielded_dialect
+
+-- and where no string holds a field
+abbrev pub IsPlainFound : List ℕ → FindOptions → List Bound → Option Fault → Type 0
+IsPlainFound = IsFoundIn plain_dialect
 
 -- bindings that begin what is found in the text: more come after them, and then its end or fault
 pub record BeginsFound (text : List ℕ) (options : FindOptions) (bounds : List Bound) : Type 0 where

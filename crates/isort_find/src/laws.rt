@@ -1,11 +1,12 @@
 //! Laws of the definitions, which the checker proves as contracts.
 
 ghost use Rattle.std.specs.Prelude.{◌≡◌, ◌↔◌, ℕ, IsTrue, Option, Some, List, ◌++◌};
+ghost use Rattle.py_lines.specs.WithoutFields.{HasNoFields};
 ghost use Rattle.py_lines.specs.declared.fault.Fault.{Fault};
 ghost use Rattle.py_imports.specs.Bound.{Bound};
 ghost use Rattle.isort_find.specs.KeyText.{key_in};
 ghost use Rattle.isort_find.specs.Cursor.{CursorState, HasStopped};
-ghost use Rattle.isort_find.specs.Found.{IsFound, BeginsFound};
+ghost use Rattle.isort_find.specs.Found.{IsFound, IsPlainFound, BeginsFound};
 ghost use Rattle.isort_find.specs.Settled.{IsFoundSettled, DecidesFound};
 ghost use Rattle.isort_find.specs.declared.options.FindOptions.{FindOptions};
 ghost use Rattle.isort_find.specs.Finder.{FinderState, HasFound, finder_text, options_of};
@@ -59,4 +60,13 @@ pub fn settled_found_is_final()
     given_lines_begin_the_text();
     settled_is_final();
     binds_or_is_bad();
+}
+
+/// In any bytes in whose characters neither `f` nor `t`, alone or followed by `r`, stands directly before a quote, the same
+/// imports are found, with the same options, whether strings hold fields or not, and then the same end or fault.
+pub fn fields_change_nothing_elsewhere()
+    ensures found_with { (text : List ℕ) (options : FindOptions) (bounds : List Bound) (end : Option Fault) → HasNoFields text → IsPlainFound text options bounds end → IsFound text options bounds end }
+    ensures found_without { (text : List ℕ) (options : FindOptions) (bounds : List Bound) (end : Option Fault) → HasNoFields text → IsFound text options bounds end → IsPlainFound text options bounds end }
+{
+    py_lines::laws::fields_change_nothing_elsewhere();
 }
