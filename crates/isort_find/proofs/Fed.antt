@@ -11,3 +11,4 @@ pub mod WholePiece
 pub mod NothingFed
 pub mod Ready
 pub mod NoneReady
+pub mod OpenYet

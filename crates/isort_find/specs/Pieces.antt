@@ -8,7 +8,7 @@ use Rattle.py_lines.specs.Lexed.{IsLexed}
 use Rattle.py_lines.specs.Settled.{IsSettled}
 use Rattle.py_lines.specs.Given.{AreFirstLines}
 use Rattle.py_lines.specs.Reader.{HasGiven, standing_at}
-use Rattle.py_lines.specs.ScannerState.{ScannerState, fed_of, GoesOnWith, IsScanning, HasEnded}
+use Rattle.py_lines.specs.ScannerState.{ScannerState, fed_of, EndsExactly, GoesOnWith, IsScanning, HasEnded}
 use Rattle.py_lines.specs.declared.fault.Fault.{Fault}
 use Rattle.py_imports.specs.Bound.{Bound, bound_of}
 use Rattle.py_imports.specs.Binds.{BindAll}
@@ -182,8 +182,8 @@ pub record HoldsRest (f : PieceFinderState) (text : List ℕ) : Type 0 where
   pub fed : fed_by f ≡ f.scanning.place + length (held_by f)
   pub settled : 0 < length (held_by f) → IsSettled (take (fed_by f) text) lines
 
--- The text that is held is the logical line that is ready, with at most one byte more. The line comes after these, and
--- is settled by the bytes fed, or the last of the text.
+-- The text that is held is the logical line that is ready, and after CR just one byte more, which isn't LF; at the text's
+-- end no more. The line comes after these, and is settled by the bytes fed, or the last of the text.
 pub record HoldsLine (f : PieceFinderState) (text : List ℕ) : Type 0 where
   pub lines : List LogicalLine
   pub line : LogicalLine
@@ -191,7 +191,8 @@ pub record HoldsLine (f : PieceFinderState) (text : List ℕ) : Type 0 where
   pub first : AreFirstLines text f.scanning.place f.scanning.line lines
   pub ready : f.scanning.ready ≡ Some line
   pub held : held_by f ≡ line.text ++ more
-  pub few : length more ≤ 1
+  pub exact : f.scanning.ended ≡ false → EndsExactly line.text more
+  pub last : f.scanning.ended ≡ true → more ≡ []
   pub known : 0 < length (held_by f) → AreKnown f.scanning text (lines ++ line ∷ [])
 
 -- The finder took so many bytes of a piece: none of some only where something was ready, and after the top all. Where
@@ -232,6 +233,7 @@ pub record MeetsFaultIn (old : PieceFinderState) (piece : List ℕ) (fault : Fau
   pub was_in_top : phase_in old.stand ≡ phase.End → ⊥
   pub options : options_for new ≡ options_for old
   pub given : new.cursor.given ≡ old.cursor.given
+  pub fed : fed_by new ≤ fed_by old + length piece
   pub open_yet : new.scanning.ended ≡ old.scanning.ended
   pub kept : new.stand ≡ stand.Fault fault
 
@@ -274,8 +276,8 @@ abbrev pub FindsAll : PieceFinderState → List ℕ → List Bound → ℕ → T
 FindsAll f text bounds offset = IsFound text (options_for f) bounds None × MeetsEndAt text (options_for f) offset
 
 -- Nothing is ready. All that is settled was given, and after the text's end all that is found. Before these ends what is not
--- settled is held. The cursor stands where the lines end that were read, which after the top is the line that ends it, or
--- stays at the line with the fault.
+-- settled is held. The cursor stands where the lines end that were read, which after the top is the line that ends it.
+-- After a fault nothing changes.
 pub record GivesNone (old new : PieceFinderState) : Type 0 where
   pub found : OfEachText old (HasFoundIn new)
   pub all : OfEachText old (λ text bounds. old.scanning.ended ≡ false → HasNoFault old → AreAllSettled new text bounds)
@@ -284,6 +286,7 @@ pub record GivesNone (old new : PieceFinderState) : Type 0 where
   pub offset : HasNoFault old → OfEachText old (λ text bounds. new.cursor.offset ≡ new.scanning.place)
   pub unsure : has_ready old ≡ true → IsUnsure old
   pub none_ready : has_ready new ≡ false
+  pub after_fault : (fault : Fault) → old.stand ≡ stand.Fault fault → new ≡ old
   pub no_fault : HasNoFault old → HasNoFault new
   pub stays : phase_in old.stand ≡ phase.End → phase_in new.stand ≡ phase.End
   pub options : options_for new ≡ options_for old
@@ -301,6 +304,7 @@ pub record GivesFault (old : PieceFinderState) (fault : Fault) (new : PieceFinde
   pub was_open : phase_in old.stand ≡ phase.Open
   pub options : options_for new ≡ options_for old
   pub given : new.cursor.given ≡ old.cursor.given
+  pub fed : fed_by new ≡ fed_by old
   pub open_yet : new.scanning.ended ≡ old.scanning.ended
   pub kept : new.stand ≡ stand.Fault fault
 
@@ -328,6 +332,7 @@ pub record EndsInFault (old : PieceFinderState) (fault : Fault) (new : PieceFind
   pub was_in_top : phase_in old.stand ≡ phase.End → ⊥
   pub options : options_for new ≡ options_for old
   pub given : new.cursor.given ≡ old.cursor.given
+  pub fed : fed_by new ≡ fed_by old
   pub kept : new.stand ≡ stand.Fault fault
 
 -- what a call that ends the text answers

@@ -14,7 +14,7 @@ use std::alloc::Global;
 use std::marker::Model;
 
 /// Finds the imports of a text that comes in pieces, each as soon as its logical line is whole. It keeps the text of one
-/// line and at most one byte more. Contracts see it as a `PieceFinderState`.
+/// line, and after CR one byte more. Contracts see it as a `PieceFinderState`.
 ///
 /// Feed a piece, take what is ready, and feed what wasn't taken of the piece. After the last piece call `finish`, and take
 /// what is ready then.
@@ -254,13 +254,14 @@ impl PieceFinder {
         }
     }
 
-    /// The next import that is ready. `None` where none is, after a fault too. After `None` the cursor stands at the first
-    /// logical line that the bytes fed don't settle.
+    /// The next import that is ready. `None` where none is. After `None` the cursor stands at the first logical line that
+    /// the bytes fed don't settle. After a fault it answers `None` and changes nothing.
     ///
     /// - `Fault`: F9 of the last logical line, where a growth had left it unread. `feed` and `finish` answer it again.
     /// - `Memory`: memory ran out; the same import comes next, and the cursor stays.
     pub fn next_ready(&mut self) -> Result<Option<Binding>, FindError>
         ensures next { GivesReady self.old result self.new }
+        ensures open_yet { IsOpenYet self.old → IsOpenYet self.new }
     {
         known_laws();
         match self.walker.phase() {
@@ -307,7 +308,7 @@ impl PieceFinder {
     }
 
     /// The text fed, without the logical lines that it settles, and without what stands before the cursor that the finder
-    /// went on from. While a logical line is ready it is that line, with at most one byte more. After the top it is empty.
+    /// went on from. While a logical line is ready it is that line, and after CR one byte more. After the top it is empty.
     pub fn held(&self) -> &[u8]
         ensures { result.now ≡ held_by self.now }
     {

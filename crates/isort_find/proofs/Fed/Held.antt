@@ -1,10 +1,10 @@
 -- What a finder over pieces holds of the text.
-use Rattle.std.proofs.Common.{◌≡◌, ℕ, ◌<◌, true, false, Option, None, Some, List, [], ◌∷◌, ◌++◌, length, take, inl, inr, ◌⊎◌, refl, ◌∙◌, subst}
+use Rattle.std.proofs.Common.{◌≡◌, ℕ, ◌<◌, true, false, Option, None, Some, List, [], ◌∷◌, ◌++◌, length, take, inl, inr, ◌⊎◌, refl, sym, ◌∙◌, subst, append-nil}
 use Rattle.py_lines.specs.LogicalLine.{LogicalLine}
 use Rattle.py_lines.specs.Lexed.{IsLexed}
 use Rattle.py_lines.specs.Settled.{IsSettled}
 use Rattle.py_lines.specs.Given.{AreFirstLines}
-use Rattle.py_lines.specs.ScannerState.{ScannerState, fed_of, ready_lines, HoldsReady, IsScanning}
+use Rattle.py_lines.specs.ScannerState.{ScannerState, fed_of, ready_lines, EndsExactly, HoldsReady, HoldsLast, IsScanning}
 use Rattle.py_imports.specs.Bound.{Bound}
 use Rattle.isort_find.specs.Cursor.{CursorState}
 use Rattle.isort_find.specs.Stand.{phase_in, is_unread, ready_in}
@@ -13,7 +13,7 @@ use Rattle.isort_find.specs.declared.walker.Stand.{Stand}
 use Rattle.isort_find.specs.declared.walker.Stand.TheVariants as stand
 use Rattle.isort_find.specs.declared.walker.Phase.TheVariants as phase
 use Rattle.isort_find.proofs.Finds.SettledFound.{append-nil-lines}
-use Rattle.isort_find.proofs.Fed.Known.{none_or_some, still_scanning}
+use Rattle.isort_find.proofs.Fed.Known.{true_or_false, none_or_some, still_scanning}
 
 -- the scanner stands in the text, and no line is ready
 rest_of : (s : ScannerState) (skip : ℕ) (cursor : CursorState) (text : List ℕ) (lines : List LogicalLine) → s.ready ≡ None → IsScanning s text lines → HoldsRest (piece_finder_state s (stand.Between skip) cursor) text
@@ -46,17 +46,20 @@ held_open s (stand.Within p) opened = refl
 held_open s (stand.End passed) opened = absurd cc
 held_open s (stand.Fault fault) opened = refl
 
--- what is held is the line that is ready, with at most one byte more
-holds_line : (s : ScannerState) (at : Stand) (cursor : CursorState) (text : List ℕ) (lines : List LogicalLine) (line : LogicalLine) → phase_in at ≡ phase.Open → s.ready ≡ Some line → AreFirstLines text s.place s.line lines → HoldsReady s.held s.ready → (0 < length s.held → AreKnown s text (lines ++ line ∷ [])) → HoldsLine (piece_finder_state s at cursor) text
-holds_line s at cursor text lines line opened ready first whole known =
+-- what is held is the line that is ready, and what comes after it
+holds_line : (s : ScannerState) (at : Stand) (cursor : CursorState) (text : List ℕ) (lines : List LogicalLine) (line : LogicalLine) (more : List ℕ) → phase_in at ≡ phase.Open → s.ready ≡ Some line → AreFirstLines text s.place s.line lines → s.held ≡ line.text ++ more → (s.ended ≡ false → EndsExactly line.text more) → (s.ended ≡ true → more ≡ []) → (0 < length s.held → AreKnown s text (lines ++ line ∷ [])) → HoldsLine (piece_finder_state s at cursor) text
+holds_line s at cursor text lines line more opened ready first bytes exact last known =
     let held = held_open s at opened in
-    let more = subst (HoldsReady s.held) ready whole in
-    record { lines = lines; line = line; more = more.0; first = first; ready = ready; held = held ∙ more.1; few = more.2; known = λ some. known (subst (λ (bytes : List ℕ). 0 < length bytes) held some) }
+    record { lines = lines; line = line; more = more; first = first; ready = ready; held = held ∙ bytes; exact = exact; last = last; known = λ some. known (subst (λ (t : List ℕ). 0 < length t) held some) }
 
 -- after these lines one is ready
 line_ready_after : (s : ScannerState) (at : Stand) (cursor : CursorState) (text : List ℕ) (lines : List LogicalLine) (line : LogicalLine) → phase_in at ≡ phase.Open → s.ready ≡ Some line → HasReleased s text lines → HoldsLine (piece_finder_state s at cursor) text
-line_ready_after s at cursor text lines line opened ready (inl h) = holds_line s at cursor text lines line opened ready h.first h.whole (λ some. inl (subst (λ (r : Option LogicalLine). IsSettled (take (fed_of s) text) (lines ++ ready_lines r)) ready (h.settled some)))
-line_ready_after s at cursor text lines line opened ready (inr h) = holds_line s at cursor text lines line opened ready h.first h.whole (λ some. inr (h.ended, subst (λ (r : Option LogicalLine). IsLexed text (lines ++ ready_lines r) None) ready h.lexed))
+line_ready_after s at cursor text lines line opened ready (inl h) =
+    let more = subst (HoldsReady s.held) ready h.whole in
+    holds_line s at cursor text lines line more.0 opened ready h.first more.1 (λ yet. more.2) (λ over. absurd (true_or_false _ h.open_yet over)) (λ some. inl (subst (λ (r : Option LogicalLine). IsSettled (take (fed_of s) text) (lines ++ ready_lines r)) ready (h.settled some)))
+line_ready_after s at cursor text lines line opened ready (inr h) =
+    let bytes = subst (HoldsLast s.held) ready h.whole in
+    holds_line s at cursor text lines line [] opened ready h.first (bytes ∙ sym (append-nil line.text)) (λ yet. absurd (true_or_false _ yet h.ended)) (λ over. refl) (λ some. inr (h.ended, subst (λ (r : Option LogicalLine). IsLexed text (lines ++ ready_lines r) None) ready h.lexed))
 
 -- where a line is ready
 pub line_any : (s : ScannerState) (at : Stand) (cursor : CursorState) (text : List ℕ) (bounds : List Bound) (line : LogicalLine) → phase_in at ≡ phase.Open → s.ready ≡ Some line → HasFoundIn (piece_finder_state s at cursor) text bounds → HoldsLine (piece_finder_state s at cursor) text

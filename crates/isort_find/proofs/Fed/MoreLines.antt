@@ -68,6 +68,7 @@ fault_after old mid new piece t fault opened none going first next =
       was_in_top = λ top. open_or_end _ opened top;
       options = next.options ∙ options;
       given = next.given ∙ ap (λ (c : CursorState). c.given) first.cursor;
+      fed = let k = first.fed in let m = next.fed in let within = first.within in omega (arith, k, m, within, length-drop t piece);
       open_yet = next.open_yet ∙ first.open_yet;
       kept = next.kept;
     }

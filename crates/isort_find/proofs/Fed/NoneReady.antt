@@ -89,6 +89,7 @@ record IsLeft (old f : PieceFinderState) : Type 0 where
   pub options : options_for f ≡ options_for old
   pub given : f.cursor.given ≡ old.cursor.given
   pub stays : phase_in old.stand ≡ phase.End → phase_in f.stand ≡ phase.End
+  pub was_fine : (fault : Fault) → old.stand ≡ stand.Fault fault → ⊥
   pub unsure : has_ready old ≡ true → IsUnsure old
 
 not_over : (f : PieceFinderState) → phase_in f.stand ≡ phase.Open → IsOver f → f.scanning.ended ≡ true
@@ -111,6 +112,7 @@ none_open laws one ascent old f t new left opened none gone nothing r =
       offset = λ fine text bounds h. (resting text bounds h).stands;
       unsure = left.unsure;
       none_ready = refl;
+      after_fault = λ fault was. absurd (left.was_fine fault was);
       no_fault = λ fine fault is. open_or_fault g.stand fault refl is;
       stays = λ top. absurd (open_or_end (phase_in f.stand) opened (left.stays top));
       options = options;
@@ -131,6 +133,10 @@ none_open laws one ascent old f t new left opened none gone nothing r =
 abbrev AllOf : List ℕ → List Bound → FindOptions → ℕ → Type 0
 AllOf text bounds options offset = IsFound text options bounds None × MeetsEndAt text options offset
 
+-- the top's end is no fault
+end_or_fault : (s : Stand) (fault : Fault) → phase_in s ≡ phase.End → s ≡ stand.Fault fault → ⊥
+end_or_fault s fault h k = let both : phase_in s ≡ phase.Fault fault = ap phase_in k in cc
+
 -- nothing is ready after the top
 none_top : SettledLaws → AscentLaws → (old : PieceFinderState) (s : ScannerState) (passed : ℕ) (cursor : CursorState) (start : LineStart) → IsNextStart s start → IsLeft old (piece_finder_state s (stand.End passed) cursor) → GivesNone old (piece_finder_state s (stand.End passed) (cursor_before cursor start))
 none_top laws ascent old s passed cursor start here left =
@@ -144,7 +150,8 @@ none_top laws ascent old s passed cursor start here left =
       offset = λ fine text bounds h. here.offset;
       unsure = left.unsure;
       none_ready = refl;
-      no_fault = λ fine fault is. end_is_no_fault (stand.End passed) fault refl is;
+      after_fault = λ fault was. absurd (left.was_fine fault was);
+      no_fault = λ fine fault is. end_or_fault (stand.End passed) fault refl is;
       stays = λ was. refl;
       options = left.options;
       given = left.given;
@@ -152,9 +159,6 @@ none_top laws ascent old s passed cursor start here left =
       open_yet = left.ended;
     }
   where
-    end_is_no_fault : (x : Stand) (fault : Fault) → phase_in x ≡ phase.End → x ≡ stand.Fault fault → ⊥
-    end_is_no_fault x fault h k = let both : phase_in x ≡ phase.Fault fault = ap phase_in k in cc
-
     stops : (text : List ℕ) (bounds : List Bound) → IsAtTopEnd s cursor.options text bounds → HasStopped text cursor bounds → HasStopped text (cursor_before cursor (next_start s)) bounds
     stops text bounds t stopped =
         let after : IsAfter text cursor.options s.place s.line 0 bounds = record { lines = t.lines; before = t.before; part = []; given = t.given; binds = t.binds; in_top = t.in_top; is_part = (refl, inl refl); found = t.found ∙ ap (firsts cursor.options.unique []) (sym (append-nil t.before)) } in
@@ -191,14 +195,14 @@ none_at laws one ascent old s (stand.Within p) cursor new none fine left r = goi
 
 -- a finder that is asked after the top
 left_same : (old : PieceFinderState) → phase_in old.stand ≡ phase.End → ready_in old.stand ≡ false → IsLeft old old
-left_same old at none = record { found = λ text bounds h. h; fed = refl; ended = refl; options = refl; given = refl; stays = λ top. top; unsure = λ e. absurd (true_or_false _ none e) }
+left_same old at none = record { found = λ text bounds h. h; fed = refl; ended = refl; options = refl; given = refl; stays = λ top. top; was_fine = λ fault is. end_or_fault old.stand fault at is; unsure = λ e. absurd (true_or_false _ none e) }
 
 end_none : (s : Stand) → phase_in s ≡ phase.End → ready_in s ≡ false
 end_none (stand.End passed) at = refl
 end_none other at = absurd cc
 
 pub gives_none_at_top : SettledLaws → OneSettled → AscentLaws → (old new : PieceFinderState) → phase_in old.stand ≡ phase.End → Rests old new → GivesNone old new
-gives_none_at_top laws one ascent old new at rests = none_at laws one ascent old old.scanning old.stand old.cursor new (end_none old.stand at) (λ fault is. let both : phase_in old.stand ≡ phase.Fault fault = ap phase_in is in cc) (left_same old at (end_none old.stand at)) rests
+gives_none_at_top laws one ascent old new at rests = none_at laws one ascent old old.scanning old.stand old.cursor new (end_none old.stand at) (λ fault is. end_or_fault old.stand fault at is) (left_same old at (end_none old.stand at)) rests
 
 first_known : (s : CursorState) (b : Bound) (bs : List Bound) → list_all (knows_key s.options.unique s.keys) (b ∷ bs) ≡ true → knows_key s.options.unique s.keys b ≡ true
 first_known s b bs h = both _ _ h
@@ -266,6 +270,7 @@ none_by laws one ascent old mid f new (Ok done) opened reads after rests =
       options = ap (λ (c : CursorState). c.options) (t.cursor ∙ so.cursor);
       given = ap (λ (c : CursorState). c.given) (t.cursor ∙ so.cursor);
       stays = λ top. absurd (open_or_end _ opened top);
+      was_fine = λ fault is. open_or_fault old.stand fault opened is;
       unsure = was_unsure old mid reads t.unsure;
     } in
     none_at laws one ascent old f.scanning f.stand f.cursor new t.none (t.fine so.fine) left rests

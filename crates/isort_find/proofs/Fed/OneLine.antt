@@ -150,6 +150,7 @@ meets_fault laws each old t b s piece fault start here meets = record {
   was_in_top = λ top. open_or_end _ b.opened top;
   options = refl;
   given = refl;
+  fed = let start = begun_fed old t b in let bound = meets.fed in omega (arith, start, bound);
   open_yet = meets.open_yet ∙ ended_gone old.scanning t b.scanner;
   kept = refl;
 }
@@ -182,6 +183,7 @@ meets_bad_line laws old t b s piece n takes new result fault tries bad = record 
   was_in_top = λ top. open_or_end _ b.opened top;
   options = ap options_for bad.kept;
   given = ap (λ (f : PieceFinderState). f.cursor.given) bad.kept;
+  fed = let is = ap fed_by bad.kept in let fed = taken_fed old t b s piece n takes in let within = takes.within in omega (arith, is, fed, within);
   open_yet = ap (λ (f : PieceFinderState). f.scanning.ended) bad.kept ∙ takes.open_yet ∙ ended_gone old.scanning t b.scanner;
   kept = ap (λ (f : PieceFinderState). f.stand) bad.kept;
 }
@@ -216,12 +218,13 @@ ended_between old t b s ends text bounds h all =
     let lines = between.after.lines in
     moved_on t s old.cursor text (skip_in old.stand) bounds between (inr (ends.scans text lines (begun_scanning old t b text lines between.released) (all ∙ begun_fed old t b))) ends.place
 
+ended_fed : (old : PieceFinderState) (t : ScannerState) → BeginsLine old t → (s : ScannerState) → EndsScan t s → fed_of s ≡ fed_by old
+ended_fed old t b s ends = let held = ap length ends.held in let start = begun_fed old t b in omega (arith, ends.place, held, start)
+
 -- the text has ended, and its last line was tried
 ends_line : SettledLaws → (old : PieceFinderState) (t : ScannerState) → BeginsLine old t → (s : ScannerState) → EndsScan t s → (new : PieceFinderState) (result : Result (Unit {0}) FindError) → result ≡ Ok tt → TriesReady (line_begun old s) result new → FinishesText old new
 ends_line laws old t b s ends new result ok tries =
     let so = tried_so s (skip_in old.stand) old.cursor new result ok tries in
-    let held = ap length ends.held in
-    let same : fed_of s ≡ fed_of t = omega (arith, ends.place, held) in
     let found : (text : List ℕ) (bounds : List Bound) → HasFoundIn old text bounds → length text ≡ fed_by old → HasFoundIn new text bounds = λ text bounds h all. tried_found laws s (skip_in old.stand) old.cursor new text bounds result (ended_between old t b s ends text bounds h all) h.stopped tries in
     record {
       found = found;
@@ -229,7 +232,7 @@ ends_line laws old t b s ends new result ok tries =
           let line = tried_ready (line_begun old s) new result refl tries ready in
           line_any new.scanning new.stand new.cursor text bounds line.0 (open_ready new.stand ready) (ap (λ (x : ScannerState). x.ready) so.scanning ∙ line.1) (found text bounds h all);
       cursor = so.cursor;
-      fed = so.fed ∙ same ∙ sym (begun_fed old t b);
+      fed = so.fed ∙ ended_fed old t b s ends;
       ended = inl (ap (λ (x : ScannerState). x.ended) so.scanning ∙ ends.ended);
       was_no_fault = λ fault at. open_or_fault old.stand fault b.opened at;
       no_fault = so.fine;
@@ -244,6 +247,7 @@ ends_bad laws old t b s ends new result e err tries =
       was_in_top = λ top. open_or_end _ b.opened top;
       options = ap options_for bad.bad.kept;
       given = ap (λ (f : PieceFinderState). f.cursor.given) bad.bad.kept;
+      fed = ap fed_by bad.bad.kept ∙ ended_fed old t b s ends;
       kept = ap (λ (f : PieceFinderState). f.stand) bad.bad.kept;
     })
 
@@ -261,5 +265,6 @@ ends_lexical laws old t b s fault start here ends = record {
   was_in_top = λ top. open_or_end _ b.opened top;
   options = refl;
   given = refl;
+  fed = ends.fed ∙ sym (begun_fed old t b);
   kept = refl;
 }

@@ -197,6 +197,7 @@ bad_line laws s start skip cursor new fault bad found = record {
   was_open = refl;
   options = ap options_for bad.kept;
   given = ap (λ (f : PieceFinderState). f.cursor.given) bad.kept;
+  fed = ap fed_by bad.kept;
   open_yet = ap (λ (f : PieceFinderState). f.scanning.ended) bad.kept;
   kept = ap (λ (f : PieceFinderState). f.stand) bad.kept;
 }

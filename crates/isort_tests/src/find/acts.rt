@@ -19,7 +19,7 @@ struct Fed {
     finder: PieceFinder,
     /// Whether the text was ended.
     ended: bool,
-    /// Whether the last call, a `feed` or a `finish`, answered a fault: both then answer it again.
+    /// Whether a fault was answered: each later `feed` and `finish` may be called, and answers it again.
     faulty: bool,
 }
 
@@ -88,9 +88,19 @@ impl Fed {
 
     /// The next import that is ready; where memory ran out, it is asked for again.
     fn next_ready(&mut self) -> Result<Option<Binding>, FindError> {
-        self.faulty = false;
+        match self.try_next_ready() {
+            Err(FindError::Memory) => self.try_next_ready(),
+            answer => answer,
+        }
+    }
+
+    /// The next import that is ready. After a fault that is none, and the finder may be fed as before.
+    fn try_next_ready(&mut self) -> Result<Option<Binding>, FindError> {
         match self.finder.next_ready() {
-            Err(FindError::Memory) => self.finder.next_ready(),
+            Err(FindError::Fault(fault)) => {
+                self.faulty = true;
+                Err(FindError::Fault(fault))
+            }
             answer => answer,
         }
     }

@@ -678,6 +678,61 @@ const SCRIPTS: &[Script] = &[
         "took 12\nnone\nF9 import statement not understood, 6, 2\nF9 import statement not understood, 6, 2\n\
          F9 import statement not understood, 6, 2\n",
     ),
+    // A fault of the text's end stays, in whatever order the finder is asked, fed and ended.
+    Script(
+        ALL,
+        &[
+            Act::Feed(b"import a\nx = ("),
+            Act::Next(2),
+            Act::Feed(b"x = ("),
+            Act::Finish,
+            Act::Next(2),
+            Act::Feed(b"b)\nimport c\n"),
+            Act::Next(1),
+            Act::Finish,
+            Act::Feed(b""),
+            Act::Ready,
+            Act::Next(1),
+            Act::Feed(b"import d\n"),
+            Act::Stop,
+        ],
+        "took 9\n1 import a\nno import\ntook 5\nF6 bracket not closed, 13, 2\nno import\nno import\n\
+         F6 bracket not closed, 13, 2\nno import\nF6 bracket not closed, 13, 2\nF6 bracket not closed, 13, 2\n\
+         none\nno import\nF6 bracket not closed, 13, 2\nat 9, 1\n",
+    ),
+    // So does one that the bytes decide, and one of a bad import.
+    Script(
+        ALL,
+        &[
+            Act::Feed(b"import a\nx = )"),
+            Act::Next(2),
+            Act::Feed(b"x = )\nimport b\n"),
+            Act::Next(1),
+            Act::Finish,
+            Act::Next(1),
+            Act::Feed(b"import c\n"),
+            Act::Next(1),
+            Act::Finish,
+            Act::Stop,
+        ],
+        "took 9\n1 import a\nno import\nF5 closing bracket without its opening, 13, 2\nno import\n\
+         F5 closing bracket without its opening, 13, 2\nno import\nF5 closing bracket without its opening, 13, 2\n\
+         no import\nF5 closing bracket without its opening, 13, 2\nat 9, 1\n",
+    ),
+    Script(
+        ALL,
+        &[
+            Act::Feed(b"x = 1\nimport\nimport a\n"),
+            Act::Next(1),
+            Act::Finish,
+            Act::Next(1),
+            Act::Feed(b"import b\n"),
+            Act::Next(1),
+            Act::Stop,
+        ],
+        "F9 import statement not understood, 6, 2\nno import\nF9 import statement not understood, 6, 2\nno import\n\
+         F9 import statement not understood, 6, 2\nno import\nat 6, 0\n",
+    ),
     // A cursor after a last line that CR ends, or nothing, and that the bytes before it don't settle.
     Script(
         ALL,
