@@ -6,7 +6,7 @@ use Rattle.py_lines.specs.Lexed.{BeginsLexing}
 use Rattle.py_lines.specs.Reader.{HasGiven, standing_at}
 use Rattle.py_imports.specs.Bound.{Bound}
 use Rattle.py_imports.specs.Binds.{Binds, BindAll}
-use Rattle.isort_find.specs.Key.{Key, binding_key, key_eq}
+use Rattle.isort_find.specs.Key.{Key, key_of, key_eq}
 use Rattle.isort_find.specs.Found.{firsts, ends_top}
 use Rattle.isort_find.specs.declared.options.ImportKey.{ImportKey}
 use Rattle.isort_find.specs.declared.options.FindOptions.{FindOptions}
@@ -44,12 +44,12 @@ next_count n = min (n + 1) (2 ^ 64 - 1)
 -- the keys of these bindings
 abbrev pub keys_of : Option ImportKey → List Bound → List Key
 keys_of None bounds = []
-keys_of (Some key) bounds = map (binding_key key) bounds
+keys_of (Some key) bounds = map (key_of key) bounds
 
 -- whether the key of the binding is among these
 abbrev pub knows_key : Option ImportKey → List Key → Bound → Bool
 knows_key None keys b = false
-knows_key (Some key) keys b = list_any (key_eq (binding_key key b)) keys
+knows_key (Some key) keys b = list_any (key_eq (key_of key b)) keys
 
 -- the binding to look at next, if there is one, has a key that wasn't given
 abbrev pub BeginsNew : CursorState → List Bound → Type 0

@@ -8,14 +8,14 @@ use Rattle.py_lines.specs.declared.fault.Fault.{Fault}
 use Rattle.py_imports.specs.Bound.{Bound}
 use Rattle.py_imports.specs.Binds.{BindAll, IsBadAt}
 use Rattle.py_imports.specs.Declaration.{is_declaration}
-use Rattle.isort_find.specs.Key.{binding_key, key_eq}
+use Rattle.isort_find.specs.Key.{key_of, key_eq}
 use Rattle.isort_find.specs.declared.options.ImportKey.{ImportKey}
 use Rattle.isort_find.specs.declared.options.FindOptions.{FindOptions}
 
 -- whether one of these bindings has the key of this one; never without a key
 abbrev pub has_one_like : Option ImportKey → List Bound → Bound → Bool
 has_one_like None earlier b = false
-has_one_like (Some key) earlier b = list_any (λ a. key_eq (binding_key key b) (binding_key key a)) earlier
+has_one_like (Some key) earlier b = list_any (λ a. key_eq (key_of key b) (key_of key a)) earlier
 
 -- the bindings after `earlier` that have none before them with an equal key, in order
 abbrev pub firsts : Option ImportKey → List Bound → List Bound → List Bound

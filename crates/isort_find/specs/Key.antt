@@ -27,11 +27,11 @@ abbrev pub key_with : List ℕ → Option (List ℕ) → Option (List ℕ) → K
 key_with text attribute alias = record { text = text; attribute = attribute; alias = alias }
 
 -- the key of a binding
-abbrev pub binding_key : ImportKey → Bound → Key
-binding_key Package b = key_with (package_of b.module_name) None None
-binding_key Module b = key_with b.module_name None None
-binding_key Attribute b = key_with b.module_name b.attribute_name None
-binding_key Alias b = key_with b.module_name b.attribute_name b.alias_name
+abbrev pub key_of : ImportKey → Bound → Key
+key_of Package b = key_with (package_of b.module_name) None None
+key_of Module b = key_with b.module_name None None
+key_of Attribute b = key_with b.module_name b.attribute_name None
+key_of Alias b = key_with b.module_name b.attribute_name b.alias_name
 
 -- whether two keys are equal; what is missing in both is
 abbrev pub key_eq : Key → Key → Bool

@@ -3,7 +3,7 @@ ghost use Rattle.std.specs.Prelude.{◌≡◌, ◌+◌, ◌-◌, ◌^◌, IfOk, 
 ghost use Rattle.py_imports.specs.Bound.{bound_of};
 
 use crate::error::FindError;
-use crate::key::{KeyText, binding_key};
+use crate::key::{KeyText, key_of};
 use crate::options::FindOptions;
 use crate::pending::LineStart;
 use indexmap::IndexSet;
@@ -62,7 +62,7 @@ impl Cursor {
         match self.options.unique {
             None => Ok(true),
             Some(key) => {
-                let key = binding_key(alloc, binding, key)?;
+                let key = key_of(alloc, binding, key)?;
                 let (_, is_new) = self.keys.insert_full(key)?;
                 Ok(is_new)
             }
@@ -77,7 +77,7 @@ impl Cursor {
         match self.options.unique {
             None => Ok(false),
             Some(key) => {
-                let key = binding_key(alloc, binding, key)?;
+                let key = key_of(alloc, binding, key)?;
                 Ok(self.keys.contains(&key))
             }
         }

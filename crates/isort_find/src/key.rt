@@ -2,7 +2,7 @@
 ghost use Rattle.std.specs.Prelude.{◌≡◌, ◌↔◌, IsTrue, IfOk, IfErr, string_bytes};
 ghost use Rattle.std.specs.Option.{option_map};
 ghost use Rattle.py_imports.specs.Bound.{bound_of};
-ghost use Rattle.isort_find.specs.Key.{key_with, binding_key, package_of};
+ghost use Rattle.isort_find.specs.Key.{key_with, key_of, package_of};
 ghost use Rattle.isort_find.specs.KeyText.{key_in};
 
 use crate::error::FindError;
@@ -66,8 +66,8 @@ fn key_with(
 }
 
 /// The key of a binding, by copies of its texts. It answers `Memory` alone.
-pub fn binding_key(alloc: Global, binding: &Binding, key: ImportKey) -> Result<KeyText, FindError>
-    ensures ok { IfOk result (λ k. key_in k ≡ binding_key key (bound_of binding.now)) }
+pub fn key_of(alloc: Global, binding: &Binding, key: ImportKey) -> Result<KeyText, FindError>
+    ensures ok { IfOk result (λ k. key_in k ≡ key_of key (bound_of binding.now)) }
     ensures err { IfErr result (λ e. e ≡ FindError.Memory) }
 {
     let name = binding.module_name.as_str();

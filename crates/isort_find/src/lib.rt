@@ -17,6 +17,6 @@ mod walker;
 pub use cursor::Cursor;
 pub use error::{FindError, ResumeError};
 pub use finder::Finder;
-pub use key::{KeyText, binding_key};
+pub use key::{KeyText, key_of};
 pub use options::{FindOptions, ImportKey};
 pub use pieces::PieceFinder;

@@ -7,7 +7,7 @@ use Rattle.std.specs.List.{list_any, list_all}
 use Rattle.std.specs.Option.{option_eq}
 use Rattle.std.specs.Str.{bytes_eq}
 use Rattle.py_imports.specs.Bound.{Bound}
-use Rattle.isort_find.specs.Key.{Key, binding_key, key_eq}
+use Rattle.isort_find.specs.Key.{Key, key_of, key_eq}
 use Rattle.isort_find.specs.Found.{has_one_like, firsts}
 use Rattle.isort_find.specs.Cursor.{keys_of, next_count, knows_key}
 use Rattle.isort_find.specs.declared.options.ImportKey.{ImportKey}
@@ -44,7 +44,7 @@ key_refl a = (λ i. (bytes_same a.text a.text).1 refl i && (optional_refl a.attr
 
 -- whether one of these bindings has the key
 abbrev any_with : ImportKey → Key → List Bound → Bool
-any_with key k bounds = list_any (λ a. key_eq k (binding_key key a)) bounds
+any_with key k bounds = list_any (λ a. key_eq k (key_of key a)) bounds
 
 kept : (x y f s : Bool) → (x || (y || false)) || f ≡ (x || (y || false)) || s → x || (y || f) ≡ x || (y || s)
 kept true y f s h = refl
@@ -57,23 +57,23 @@ dropped false true f s t h = absurd (let e = t refl in cc)
 dropped false false f s t h = h
 
 -- one more binding, which is dropped or kept
-seen_step : (key : ImportKey) (k : Key) (earlier bs : List Bound) (b : Bound) (h : Bool) → has_one_like (Some key) earlier b ≡ h → any_with key k (earlier ++ b ∷ []) || any_with key k (firsts (Some key) (earlier ++ b ∷ []) bs) ≡ any_with key k (earlier ++ b ∷ []) || any_with key k bs → any_with key k earlier || any_with key k (if h then firsts (Some key) (earlier ++ b ∷ []) bs else b ∷ firsts (Some key) (earlier ++ b ∷ []) bs) ≡ any_with key k earlier || (key_eq k (binding_key key b) || any_with key k bs)
-seen_step key k earlier bs b true is more = dropped (any_with key k earlier) (key_eq k (binding_key key b)) _ _ (λ e. subst (λ (x : Key). any_with key x earlier ≡ true) (sym (key_same k (binding_key key b) e)) is) (subst (λ (x : Bool). x || any_with key k (firsts (Some key) (earlier ++ b ∷ []) bs) ≡ x || any_with key k bs) (list_any-append (λ a. key_eq k (binding_key key a)) earlier (b ∷ [])) more)
-seen_step key k earlier bs b false is more = kept (any_with key k earlier) (key_eq k (binding_key key b)) _ _ (subst (λ (x : Bool). x || any_with key k (firsts (Some key) (earlier ++ b ∷ []) bs) ≡ x || any_with key k bs) (list_any-append (λ a. key_eq k (binding_key key a)) earlier (b ∷ [])) more)
+seen_step : (key : ImportKey) (k : Key) (earlier bs : List Bound) (b : Bound) (h : Bool) → has_one_like (Some key) earlier b ≡ h → any_with key k (earlier ++ b ∷ []) || any_with key k (firsts (Some key) (earlier ++ b ∷ []) bs) ≡ any_with key k (earlier ++ b ∷ []) || any_with key k bs → any_with key k earlier || any_with key k (if h then firsts (Some key) (earlier ++ b ∷ []) bs else b ∷ firsts (Some key) (earlier ++ b ∷ []) bs) ≡ any_with key k earlier || (key_eq k (key_of key b) || any_with key k bs)
+seen_step key k earlier bs b true is more = dropped (any_with key k earlier) (key_eq k (key_of key b)) _ _ (λ e. subst (λ (x : Key). any_with key x earlier ≡ true) (sym (key_same k (key_of key b) e)) is) (subst (λ (x : Bool). x || any_with key k (firsts (Some key) (earlier ++ b ∷ []) bs) ≡ x || any_with key k bs) (list_any-append (λ a. key_eq k (key_of key a)) earlier (b ∷ [])) more)
+seen_step key k earlier bs b false is more = kept (any_with key k earlier) (key_eq k (key_of key b)) _ _ (subst (λ (x : Bool). x || any_with key k (firsts (Some key) (earlier ++ b ∷ []) bs) ≡ x || any_with key k bs) (list_any-append (λ a. key_eq k (key_of key a)) earlier (b ∷ [])) more)
 
 -- the first bindings have just the keys that all have
 pub seen : (key : ImportKey) (k : Key) (earlier bs : List Bound) → any_with key k earlier || any_with key k (firsts (Some key) earlier bs) ≡ any_with key k earlier || any_with key k bs
 seen key k earlier [] = refl
 seen key k earlier (b ∷ bs) = seen_step key k earlier bs b (has_one_like (Some key) earlier b) refl (seen key k (earlier ++ b ∷ []) bs)
 
-in_keys : (key : ImportKey) (k : Key) (bounds : List Bound) → list_any (key_eq k) (map (binding_key key) bounds) ≡ any_with key k bounds
+in_keys : (key : ImportKey) (k : Key) (bounds : List Bound) → list_any (key_eq k) (map (key_of key) bounds) ≡ any_with key k bounds
 in_keys key k [] = refl
-in_keys key k (b ∷ bs) = ap (λ t. key_eq k (binding_key key b) || t) (in_keys key k bs)
+in_keys key k (b ∷ bs) = ap (λ t. key_eq k (key_of key b) || t) (in_keys key k bs)
 
 -- a key is known just where a binding before has it
 pub known_is : (unique : Option ImportKey) (looked : List Bound) (b : Bound) → knows_key unique (keys_of unique (firsts unique [] looked)) b ≡ has_one_like unique looked b
 known_is None looked b = refl
-known_is (Some key) looked b = in_keys key (binding_key key b) (firsts (Some key) [] looked) ∙ seen key (binding_key key b) [] looked
+known_is (Some key) looked b = in_keys key (key_of key b) (firsts (Some key) [] looked) ∙ seen key (key_of key b) [] looked
 
 snoc_step : (unique : Option ImportKey) (earlier xs : List Bound) (x b : Bound) (h : Bool) → firsts unique (earlier ++ x ∷ []) (xs ++ b ∷ []) ≡ firsts unique (earlier ++ x ∷ []) xs ++ (if has_one_like unique ((earlier ++ x ∷ []) ++ xs) b then [] else b ∷ []) → (if h then firsts unique (earlier ++ x ∷ []) (xs ++ b ∷ []) else x ∷ firsts unique (earlier ++ x ∷ []) (xs ++ b ∷ [])) ≡ (if h then firsts unique (earlier ++ x ∷ []) xs else x ∷ firsts unique (earlier ++ x ∷ []) xs) ++ (if has_one_like unique (earlier ++ x ∷ xs) b then [] else b ∷ [])
 snoc_step unique earlier xs x b true more = more ∙ (λ i. firsts unique (earlier ++ x ∷ []) xs ++ (if has_one_like unique (append_assoc earlier (x ∷ []) xs i) b then [] else b ∷ []))
@@ -100,9 +100,9 @@ firsts-all_known unique looked (d ∷ ds) all =
     let rest = firsts-all_known unique (looked ++ d ∷ []) ds (subst (λ (bs : List Bound). list_all (knows_key unique (keys_of unique bs)) ds ≡ true) (sym one) parts.1) in
     ap (firsts unique []) (sym (append_assoc looked (d ∷ []) ds)) ∙ rest ∙ one
 
-map-snoc : (key : ImportKey) (xs : List Bound) (b : Bound) → map (binding_key key) (xs ++ b ∷ []) ≡ map (binding_key key) xs ++ binding_key key b ∷ []
+map-snoc : (key : ImportKey) (xs : List Bound) (b : Bound) → map (key_of key) (xs ++ b ∷ []) ≡ map (key_of key) xs ++ key_of key b ∷ []
 map-snoc key [] b = refl
-map-snoc key (x ∷ xs) b = ap (λ t. binding_key key x ∷ t) (map-snoc key xs b)
+map-snoc key (x ∷ xs) b = ap (λ t. key_of key x ∷ t) (map-snoc key xs b)
 
 pub keys_of-snoc : (unique : Option ImportKey) (bounds : List Bound) (b : Bound) → keys_of unique (bounds ++ b ∷ []) ≡ keys_of unique bounds ++ keys_of unique (b ∷ [])
 keys_of-snoc None bounds b = refl

@@ -5,7 +5,7 @@ use Rattle.std.specs.Option.{option_eq, option_map}
 use Rattle.std.specs.String.{string_eq}
 use Rattle.std.specs.Str.{bytes_eq}
 use Rattle.py_imports.specs.Bound.{Bound}
-use Rattle.isort_find.specs.Key.{Key, binding_key, key_eq}
+use Rattle.isort_find.specs.Key.{Key, key_of, key_eq}
 use Rattle.isort_find.specs.KeyText.{key_in}
 use Rattle.isort_find.specs.Cursor.{CursorState, keys_of, knows_key}
 use Rattle.isort_find.specs.Private.CursorMoves.{Admits}
@@ -36,16 +36,16 @@ pub text_eq : (a b : KeyText) → string_eq a.text b.text && (option_eq string_e
 text_eq a b = (λ i. bytes_eq (string_bytes a.text) (string_bytes b.text) && (same_optional a.attribute b.attribute i && same_optional a.alias b.alias i))
 
 -- the set takes in a key
-pub admits : (eq : KeyText → KeyText → Bool) → ((a b : KeyText) → eq a b ≡ key_eq (key_in a) (key_in b)) → (old : CursorState) (key : ImportKey) (keys after : List KeyText) (k : KeyText) (b : Bound) (is_new : Bool) → old.options.unique ≡ Some key → old.keys ≡ map key_in keys → key_in k ≡ binding_key key b → is_new ≡ not (list_any (eq k) keys) → after ≡ (if list_any (eq k) keys then keys else keys ++ k ∷ []) → Admits old b is_new (record old { keys = map key_in after })
+pub admits : (eq : KeyText → KeyText → Bool) → ((a b : KeyText) → eq a b ≡ key_eq (key_in a) (key_in b)) → (old : CursorState) (key : ImportKey) (keys after : List KeyText) (k : KeyText) (b : Bound) (is_new : Bool) → old.options.unique ≡ Some key → old.keys ≡ map key_in keys → key_in k ≡ key_of key b → is_new ≡ not (list_any (eq k) keys) → after ≡ (if list_any (eq k) keys then keys else keys ++ k ∷ []) → Admits old b is_new (record old { keys = map key_in after })
 admits eq same old key keys after k b is_new unique are made new added =
     let there : list_any (eq k) keys ≡ knows_key old.options.unique old.keys b = in_set eq same k keys ∙ (λ i. list_any (key_eq (made i)) (sym are i)) ∙ ap (λ u. knows_key u old.keys b) (sym unique) in
-    let after = ap (map key_in) added ∙ keys_behind (list_any (eq k) keys) keys k (binding_key key b) made in
-    let shown : (if not (list_any (eq k) keys) then map key_in keys ++ binding_key key b ∷ [] else map key_in keys) ≡ (if is_new then old.keys ++ keys_of old.options.unique (b ∷ []) else old.keys) = (λ i. if sym new i then sym are i ++ keys_of (sym unique i) (b ∷ []) else sym are i) in
+    let after = ap (map key_in) added ∙ keys_behind (list_any (eq k) keys) keys k (key_of key b) made in
+    let shown : (if not (list_any (eq k) keys) then map key_in keys ++ key_of key b ∷ [] else map key_in keys) ≡ (if is_new then old.keys ++ keys_of old.options.unique (b ∷ []) else old.keys) = (λ i. if sym new i then sym are i ++ keys_of (sym unique i) (b ∷ []) else sym are i) in
     record {
       answer = new ∙ ap not there;
       same = ap (λ (ks : List Key). record old { keys = ks }) (after ∙ shown);
     }
 
 -- the set has a key where it has it among its keys
-pub knows : (eq : KeyText → KeyText → Bool) → ((a b : KeyText) → eq a b ≡ key_eq (key_in a) (key_in b)) → (unique : Option ImportKey) (key : ImportKey) (keys : List KeyText) (k : KeyText) (b : Bound) → unique ≡ Some key → key_in k ≡ binding_key key b → list_any (eq k) keys ≡ knows_key unique (map key_in keys) b
+pub knows : (eq : KeyText → KeyText → Bool) → ((a b : KeyText) → eq a b ≡ key_eq (key_in a) (key_in b)) → (unique : Option ImportKey) (key : ImportKey) (keys : List KeyText) (k : KeyText) (b : Bound) → unique ≡ Some key → key_in k ≡ key_of key b → list_any (eq k) keys ≡ knows_key unique (map key_in keys) b
 knows eq same unique key keys k b is made = in_set eq same k keys ∙ (λ i. list_any (key_eq (made i)) (map key_in keys)) ∙ ap (λ u. knows_key u (map key_in keys) b) (sym is)

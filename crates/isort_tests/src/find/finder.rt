@@ -4,7 +4,7 @@ use crate::find::options::{ALL, ATTRIBUTES, MODULES, PACKAGES, TOP, UNIQUE};
 use crate::harness::cases::{Case, all_are_so, each_holds, each_holds_again, page};
 use crate::texts::{ALIKE, DECLARED};
 use isort_find::laws::equal_keys;
-use isort_find::{Cursor, FindOptions, Finder, ImportKey, KeyText, ResumeError, binding_key};
+use isort_find::{Cursor, FindOptions, Finder, ImportKey, KeyText, ResumeError, key_of};
 use py_imports::Binding;
 use std::alloc::Global;
 use std::test::Fail;
@@ -226,7 +226,7 @@ fn first_of(alloc: Global, text: &str) -> Option<Binding> {
 /// The key of the first import of a text.
 fn first_key(alloc: Global, text: &str, key: ImportKey) -> Option<KeyText> {
     let binding = first_of(alloc, text)?;
-    binding_key(alloc, &binding, key).ok()
+    key_of(alloc, &binding, key).ok()
 }
 
 /// Two statements, a key, and whether their imports have one such key.
