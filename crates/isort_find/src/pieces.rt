@@ -203,8 +203,8 @@ impl PieceFinder {
         }
     }
 
-    /// Whether an import is ready, or a growth was refused that left a logical line unread: then `next_ready` reads it,
-    /// if it is whole.
+    /// Whether an import is ready, or a growth was refused that left it open whether one is. Then `next_ready` looks again,
+    /// and may answer `None`.
     pub fn has_ready(&self) -> bool
         ensures { result ≡ has_ready self.now }
     {
