@@ -308,7 +308,8 @@ impl PieceFinder {
     }
 
     /// The text fed, without the logical lines that it settles, and without what stands before the cursor that the finder
-    /// went on from. While a logical line is ready it is that line, and after CR one byte more. After the top it is empty.
+    /// went on from. While a logical line is ready it is that line, and before the text's end, after CR, one byte more. After
+    /// the top it is empty.
     pub fn held(&self) -> &[u8]
         ensures { result.now ≡ held_by self.now }
     {
