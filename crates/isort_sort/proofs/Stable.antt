@@ -36,3 +36,4 @@ pub mod ReadImports
 pub mod ReadMembers
 pub mod UnbrokenLines
 pub mod Sorted
+pub mod ReadBlocks

@@ -4,6 +4,7 @@ use Rattle.std.specs.Prelude.{length, drop, slice_range, Result, Ok, Err, string
 use Rattle.py_lines.specs.LogicalLine.{LogicalLine}
 use Rattle.isort_settings.specs.Values.{Values}
 use Rattle.isort_sort.specs.Blocks.{run_rows, Cut, rest, block, members_of}
+use Rattle.isort_sort.specs.ReadBack.{HasBlocksBack}
 use Rattle.isort_sort.specs.Sorted.{texts_of, mark_of, HasFault, IsSkipped, HasBlocks, IsLaidOut, IsSorted}
 use Rattle.isort_sort.specs.declared.answer.Block.{Block}
 use Rattle.isort_sort.specs.declared.answer.Outcome.{Outcome}
@@ -30,6 +31,11 @@ Sorts text v (Err e) = IsRefused text e
 abbrev pub StaysSorted : Values → Sorted → Type 0
 StaysSorted v (sorted.Changed s) = Sorts (string_bytes s) v (Ok sorted.Same)
 StaysSorted v _ = Unit {0}
+
+-- the text of `Changed`, read as any text is, has the blocks of the text back
+abbrev pub ReadsBack : List ℕ → Values → Sorted → Type 0
+ReadsBack text v (sorted.Changed s) = HasBlocksBack text v (string_bytes s)
+ReadsBack text v _ = Unit {0}
 
 -- the sorted text, with what the outcome says of it
 abbrev pub IsSortedAs : List ℕ → Values → Outcome → List ℕ → Type 0

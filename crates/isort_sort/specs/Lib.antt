@@ -11,6 +11,7 @@ pub mod BlocksReplaced
 pub mod Sorted
 pub mod LaidAgain
 pub mod WrittenLine
+pub mod ReadBack
 pub mod Answers
 pub mod Errors
 pub mod Metered

@@ -2,6 +2,7 @@
 use Rattle.std.specs.Prelude.{◌≡◌, ℕ, List, Option, ◌++◌}
 use Rattle.std.specs.Io.KnownBytes.{Appends, Keeps}
 use Rattle.isort_settings.specs.Values.{Values}
+use Rattle.isort_sort.specs.ReadBack.{HasBlocksBack}
 use Rattle.isort_sort.specs.Sorted.{HasFault, IsSorted}
 use Rattle.isort_sort.specs.Answers.{IsSortedAs}
 use Rattle.isort_sort.specs.declared.answer.Outcome.{Outcome}
@@ -15,11 +16,13 @@ pub record AppendsPrefix (old new : Option (List ℕ)) (bytes : List ℕ) : Type
   pub split : front ++ rest ≡ bytes
   pub appended : Appends old new front
 
--- the sorted text was written whole; sorted again under the same settings, it stays as it is
+-- the sorted text was written whole; sorted again under the same settings, it stays as it is, and it has the blocks of the
+-- text back
 pub record WritesSorted (text : List ℕ) (v : Values) (outcome : Outcome) (old new : Option (List ℕ)) : Type 0 where
   pub sorted : List ℕ
   pub is : IsSortedAs text v outcome sorted
   pub stays : IsSorted sorted v sorted
+  pub read_back : HasBlocksBack text v sorted
   pub written : Appends old new sorted
 
 -- a prefix of the sorted text was written

@@ -1,10 +1,10 @@
 -- A statement that sorting has written, read back: the pieces of its lines, and the one logical line that they are.
 use Rattle.std.specs.Prelude.{◌≡◌, ℕ, Bool, true, false, nat_lt, List, [], ◌∷◌, ◌++◌, map, encode_utf8_all}
-use Rattle.std.specs.List.{join_by, list_any}
+use Rattle.std.specs.List.{join_by, list_any, list_all}
 use Rattle.std.specs.Str.{all_scalars}
 use Rattle.py_lines.specs.Balance.{IsBalanced, depth_through}
 use Rattle.py_lines.specs.Fields.{IsShallow}
-use Rattle.py_lines.specs.Character.{is_break, is_line_feed}
+use Rattle.py_lines.specs.Character.{is_break, is_line_feed, is_space}
 use Rattle.py_lines.specs.LogicalLine.{LogicalLine, cut, line_of}
 use Rattle.py_lines.specs.Neighbours.{AreSimple, MayTouch}
 use Rattle.py_lines.specs.Piece.{mark, line_end, Piece, begins, spelled}
@@ -15,6 +15,7 @@ use Rattle.py_imports.specs.Shape.{mark_len}
 use Rattle.py_imports.specs.declared.action_comment.ActionComment.{ActionComment}
 use Rattle.py_imports.specs.declared.action_comment.ActionComment.TheVariants as action
 use Rattle.isort_settings.specs.Values.{Values}
+use Rattle.isort_sort.specs.Blocks.{Run, members_of, Cut, rest, block}
 use Rattle.isort_sort.specs.LaidAgain.{import_of, joined_comments}
 use Rattle.isort_sort.specs.Layout.{Laid}
 use Rattle.isort_sort.specs.Line.{comment_texts, IsOwnComment}
@@ -59,6 +60,16 @@ pub record IsReadMember (m : Member) : Type 0 where
 abbrev pub AreReadMembers : List Member → Type 0
 AreReadMembers [] = Unit {0}
 AreReadMembers (m ∷ ms) = IsReadMember m × AreReadMembers ms
+
+-- a run as it comes from lines that are read: it is indented by spaces, tabs and form feeds
+pub record IsReadRun (run : Run) : Type 0 where
+  pub spaces : list_all is_space run.first.indentation ≡ true
+  pub members : AreReadMembers (members_of run)
+
+-- each block of a cut is such a run
+abbrev pub AreReadBlocks : Cut → Type 0
+AreReadBlocks (rest rows) = Unit {0}
+AreReadBlocks (block before run blanks cut) = IsReadRun run × AreReadBlocks cut
 
 -- The logical line is a member of a block: it imports what the statement imports, with its joined comments, has this
 -- indentation, and says no action in a comment that none of the comments said.

@@ -15,11 +15,12 @@ ghost use Rattle.isort_sort.specs.LaidAgain.{IsMoved, SwitchNothing, as_member, 
 ghost use Rattle.isort_sort.specs.Layout.{Laid, AreLaid, block_lines};
 ghost use Rattle.isort_sort.specs.Line.{stripped, without_hash, own_comments, imported_of, AreOwnComments};
 ghost use Rattle.isort_sort.specs.Member.{Member, AreStatements, AreItemsOf};
+ghost use Rattle.isort_sort.specs.ReadBack.{HasBlocksBack};
 ghost use Rattle.isort_sort.specs.Row.{as_many, Role, Row, HasRole, is_off_after};
-ghost use Rattle.isort_sort.specs.Sorted.{IsAccepted, IsLaidOut, IsSorted, blanks_after};
+ghost use Rattle.isort_sort.specs.Sorted.{IsAccepted, HasBlocks, IsLaidOut, IsSorted, blanks_after, first_end};
 ghost use Rattle.isort_sort.specs.Statement.{Statement};
 ghost use Rattle.isort_sort.specs.Wrapping.{fits_line, IsCut};
-ghost use Rattle.isort_sort.specs.WrittenLine.{AreReadMembers, EachIsWritten};
+ghost use Rattle.isort_sort.specs.WrittenLine.{AreReadMembers, AreReadBlocks, EachIsWritten};
 ghost use Rattle.isort_sort.specs.declared.answer.Block.{Block};
 
 use isort_settings::laws::{modules_are_totally_ordered, names_are_totally_ordered};
@@ -87,6 +88,20 @@ pub fn joined_comments_are_read_back()
         ≡ join_by (λ (t : List ℕ). t) (codes "; ") (c ∷ cs) }
 {}
 
+/// Each block of an accepted text that isn't skipped meets what the law on written statements asks for: it is indented by
+/// spaces, tabs and form feeds, and its members have names that are words, and comments without line ends. So does the line
+/// end that is written.
+pub fn blocks_are_read()
+    ensures blocks { (text : List ℕ) (lines : List LogicalLine) (cut : Cut) → HasBlocks text lines cut → AreReadBlocks cut }
+    ensures end { (text : List ℕ) → IsLineEnd (first_end text) }
+{
+    lines_before_a_text();
+    tokens_are_words();
+    names_are_words();
+    imports_of_words_are_named();
+    joined_comments_are_read_back();
+}
+
 /// Each statement of a block, as it is written with any line end, is one logical line, wherever it stands: one that can be
 /// sorted, and that imports what the statement imports, with its joined comments.
 pub fn written_statements_are_read_back()
@@ -146,12 +161,16 @@ pub fn one_sorted_text()
     names_are_totally_ordered();
 }
 
-/// Sorting a sorted text changes nothing: it is accepted, and under the same settings it is its own sorted text. Where
-/// sorting replaced blocks, sorting again finds the same blocks, with these layouts.
+/// Sorting a sorted text changes nothing: it is accepted, and under the same settings it is its own sorted text. If the text
+/// isn't skipped, neither is the sorted text. Read as any text is, the sorted text has the blocks of the text back, one for
+/// one and in order, each with the statements, items and comments of its layout.
 pub fn sorted_texts_stay()
     ensures sorted { (text : List ℕ) (v : Values) (sorted : List ℕ) → IsSorted text v sorted → IsSorted sorted v sorted }
     ensures laid { (text : List ℕ) (v : Values) (sorted : List ℕ) → IsLaidOut text v sorted → IsLaidOut sorted v sorted }
+    ensures read_back { (text : List ℕ) (v : Values) (sorted : List ℕ) → IsSorted text v sorted → HasBlocksBack text v sorted }
 {
+    one_lexing();
+    binds_or_is_bad();
     lines_before_a_text();
     neighbours_are_read();
     tokens_are_words();

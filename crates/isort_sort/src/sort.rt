@@ -1,7 +1,7 @@
 //! Sorting a text, in memory or to a writer.
 ghost use Rattle.std.specs.Prelude.{◌≡◌, ◌≢◌, IfOk, IfErr, map};
 ghost use Rattle.isort_settings.specs.Values.{values};
-ghost use Rattle.isort_sort.specs.Answers.{AreBlocksOf, Checks, IsRefused, Sorts, StaysSorted, TellsOutcome};
+ghost use Rattle.isort_sort.specs.Answers.{AreBlocksOf, Checks, IsRefused, ReadsBack, Sorts, StaysSorted, TellsOutcome};
 ghost use Rattle.isort_sort.specs.Private.Found.{span_of};
 ghost use Rattle.isort_sort.specs.Private.FoundValues.{found_value};
 ghost use Rattle.isort_sort.specs.Metered.{inner_of, last_of, IsGivenUp};
@@ -56,11 +56,13 @@ pub fn blocks(alloc: Global, text: &[u8]) -> Result<Vec<Block>, SortError>
 }
 
 /// The sorted text: each block replaced by its layout, and no other byte. Sorted again under the same settings, it is `Same`.
+/// Read as any text is, it has the blocks of the text back, in order, each with the statements that were laid out.
 ///
 /// The errors are the fault of a text that isn't accepted, also where it asks to be left as it is, and `Memory`.
 pub fn sort_code(alloc: Global, text: &[u8], settings: &Settings) -> Result<Sorted, SortError>
     ensures sorts { Sorts text.now (values settings.now) result }
     ensures stays { IfOk result (λ sorted. StaysSorted (values settings.now) sorted) }
+    ensures read_back { IfOk result (λ sorted. ReadsBack text.now (values settings.now) sorted) }
 {
     sorted_texts_stay();
     let FoundText::Blocks(found) = find_blocks(alloc, text)? else {
@@ -116,7 +118,7 @@ pub fn check_code(alloc: Global, text: &[u8], settings: &Settings) -> Result<boo
 /// and the layouts of its blocks. No second text is made.
 ///
 /// `Same` and `Skipped` say that it is the text: the text is sorted, or asks to be left as it is. Sorted again under the
-/// same settings, what was written stays as it is.
+/// same settings, what was written stays as it is. Read as any text is, it has the blocks of the text back.
 ///
 /// - `Fault`: the text has this fault; nothing was written.
 /// - `Memory`: memory ran out; nothing was written.

@@ -52,18 +52,18 @@ some_blocks text lines accepted =
     (cuts text lines accepted)
 
 -- a skipped text has no blocks
-never_both : HasOneLexing → (text : List ℕ) (lines : List LogicalLine) (cut : Cut) → IsSkipped text → HasBlocks text lines cut → ⊥
+pub never_both : HasOneLexing → (text : List ℕ) (lines : List LogicalLine) (cut : Cut) → IsSkipped text → HasBlocks text lines cut → ⊥
 never_both lexing text lines cut s h =
     let same = lexing text s.0 lines None None s.1.lexed h.accepted.lexed in
     both_ways _ (ap skips_file same ∙ h.unskipped) s.2
 
 -- the same lines, and the same cut of their rows
-record IsSameCut (lines others : List LogicalLine) (cut other : Cut) : Type 0 where
-  lines_same : lines ≡ others
-  cut_same : cut ≡ other
+pub record IsSameCut (lines others : List LogicalLine) (cut other : Cut) : Type 0 where
+  pub lines_same : lines ≡ others
+  pub cut_same : cut ≡ other
 
 -- a text has one cut at blocks
-same_cut : HasOneLexing → BindsOneList → (text : List ℕ) (lines others : List LogicalLine) (cut other : Cut) → HasBlocks text lines cut → HasBlocks text others other → IsSameCut lines others cut other
+pub same_cut : HasOneLexing → BindsOneList → (text : List ℕ) (lines others : List LogicalLine) (cut other : Cut) → HasBlocks text lines cut → HasBlocks text others other → IsSameCut lines others cut other
 same_cut lexing one text lines others cut other a b =
     let same = lexing text lines others None None a.accepted.lexed b.accepted.lexed in
     let rows = one_rows one [] lines a.rows b.rows a.seen (subst (λ (ls : List LogicalLine). AreRows [] ls b.rows) (sym same) b.seen) in

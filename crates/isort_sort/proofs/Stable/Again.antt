@@ -16,6 +16,7 @@ use Rattle.isort_sort.specs.Blocks.{Run, run_rows, is_run, Cut, rest, block, cut
 use Rattle.isort_sort.specs.BlocksReplaced.{is_comments, AreReplaced, no_block, one_more}
 use Rattle.isort_sort.specs.LaidAgain.{asked_by}
 use Rattle.isort_sort.specs.Layout.{Laid, AreLaid, block_lines, text_of_lines}
+use Rattle.isort_sort.specs.ReadBack.{AreReadBack}
 use Rattle.isort_sort.specs.Row.{as_many, Row, string_skips, first_string_skips}
 use Rattle.isort_sort.specs.Sorted.{last_row, blanks_after, texts_of, IsLayout, IsSortedCut}
 use Rattle.isort_sort.specs.WrittenLine.{end_pieces}
@@ -30,7 +31,7 @@ use Rattle.isort_sort.proofs.Stable.FirstEnds.{AreUnbroken}
 use Rattle.isort_sort.proofs.Stable.OldBlock.{AreSeen, run_in_block, blanks_in_block, through_block, seen_rows, member_off, run_ended}
 use Rattle.isort_sort.proofs.Stable.FirstCharacters.{WordsLaw, first_feed}
 use Rattle.isort_sort.proofs.Stable.UnitBinds.{EachBinds, binds_append, binds_first}
-use Rattle.isort_sort.proofs.Stable.WrittenBlocks.{IsWrittenBlock, written_block}
+use Rattle.isort_sort.proofs.Stable.WrittenBlocks.{IsWrittenBlock, read_back, written_block}
 use Rattle.isort_sort.proofs.Finding.Replaced.{run_member}
 use Rattle.isort_sort.proofs.Finding.RoleTests.{of_member, of_comments}
 use Rattle.std.proofs.Math.Bool.{and-false}
@@ -70,6 +71,7 @@ pub record IsAgain (v : Values) (end : List ℕ) (off : Bool) (us : List (List P
   pub are : AreUnits units
   pub rows : AreUnitRows off units (cut_rows cut)
   pub replaced : AreReplaced old cut
+  pub back : AreReadBack v end old cut
   pub sorted : IsSortedCut v end cut body
   pub text : bytes_of units ≡ body
   pub follow : (u : List Piece) → MayFollowUnit u us → MayFollowUnit u units
@@ -124,21 +126,22 @@ seen_some [] run h = absurd h
 seen_some (u ∷ us) run h = (u, us, refl)
 
 -- the block, as it is written before the other lines
-pub block_again : (v : Values) → SortLaws v → (end : List ℕ) → IsLineEnd end → (rs bs cs : List (List Piece)) (run : Run) (blanks : List Row) (cut : Cut) (own others : List ℕ) → is_run run ≡ true → begins_blank (cut_rows cut) ≡ false → AreUnits (rs ++ (bs ++ cs)) → AreSeen rs (run_rows run) → AreUnitRows false cs (cut_rows cut) → list_any says_skip_file rs ≡ false → IsLayout v end run blanks (cut_rows cut) own → (z : IsAgain v end false cs cut others) → IsWrittenBlock v end run own z.units (cut_rows z.cut)
+pub block_again : (v : Values) → SortLaws v → (end : List ℕ) → IsLineEnd end → (rs bs cs : List (List Piece)) (run : Run) (blanks : List Row) (cut : Cut) (own others : List ℕ) → is_run run ≡ true → begins_blank (cut_rows cut) ≡ false → AreUnits (rs ++ (bs ++ cs)) → AreSeen rs (run_rows run) → AreUnitRows false cs (cut_rows cut) → list_any says_skip_file rs ≡ false → (layout : IsLayout v end run blanks (cut_rows cut) own) → (z : IsAgain v end false cs cut others) → IsWrittenBlock v end run layout.0 own z.units (cut_rows z.cut)
 block_again v laws end is rs bs cs run blanks cut own others run_is unblank are seen rows unskipped layout z =
     let read = laws.reads end rs run layout.0 is (first_units rs (bs ++ cs) (each_unit (rs ++ (bs ++ cs)) are)) seen run_is unskipped layout.1 in
     let s = read.some.0 in
     let ss = read.some.1 in
     let same = read.some.2 in
     let n : ℕ = blanks_after v run (count_by (λ (row : Row). row.ended) blanks) (cut_rows cut) in
-    written_block laws.neighbours laws.tokens v laws.orders end run n s ss own z.units (cut_rows z.cut) is read.spaces
+    subst (λ (l : List Laid). IsWrittenBlock v end run l own z.units (cut_rows z.cut)) (sym same)
+    (written_block laws.neighbours laws.tokens v laws.orders end run n s ss own z.units (cut_rows z.cut) is read.spaces
     (subst (AreWritable v run.first.indentation end) same read.ready)
     (subst (AreLaid v run.first.indentation (members_of run)) same layout.1)
     (layout.2 ∙ ap (λ l. text_of_lines end (last_row run.first run.others).ended n (block_lines v run.first.indentation l)) same)
     (λ new indented ended. kept_again v run new (count_by (λ (row : Row). row.ended) blanks) (cut_rows cut) (cut_rows z.cut) indented z.asked)
     (λ some. closed some (are_some cs) refl)
     (z.follow (end_pieces true end) (can_follow laws.words end (rs ++ bs) cs (cut_rows cut) (some_first rs bs (seen_some rs run seen)) (subst AreUnits (sym (append_assoc rs bs cs)) are) rows unblank))
-    z.are z.rows
+    z.are z.rows)
   where
     closed : are_some z.units ≡ true → (b : Bool) → are_some cs ≡ b → (last_row run.first run.others).ended ≡ true
     closed some true e = run_ended rs (bs ++ cs) run (some_append bs cs (some_from cs e)) are seen
@@ -161,13 +164,14 @@ strings_before (line ∷ lines) ls ks h k = by (is_nothing (significant line.tok
     by false e later = e
 
 -- lines, a block and others
-again_block : (v : Values) (end : List ℕ) (off : Bool) (a rs bs cs : List (List Piece)) (before : List Row) (run : Run) (blanks : List Row) (cut : Cut) (own others body : List ℕ) → is_run run ≡ true → AreUnits (a ++ (rs ++ (bs ++ cs))) → AreUnitRows off a before → off_through off a ≡ false → AreSeen rs (run_rows run) → list_any says_skip_file a ≡ false → body ≡ texts_of before ++ (own ++ others) → (z : IsAgain v end false cs cut others) → IsWrittenBlock v end run own z.units (cut_rows z.cut) → IsAgain v end off (a ++ (rs ++ (bs ++ cs))) (block before run blanks cut) body
-again_block v end off a rs bs cs before run blanks cut own others body run_is are rows on seen unskipped text z w = record {
+again_block : (v : Values) (end : List ℕ) (off : Bool) (a rs bs cs : List (List Piece)) (before : List Row) (run : Run) (blanks : List Row) (cut : Cut) (own others body : List ℕ) → is_run run ≡ true → AreUnits (a ++ (rs ++ (bs ++ cs))) → AreUnitRows off a before → off_through off a ≡ false → AreSeen rs (run_rows run) → list_any says_skip_file a ≡ false → body ≡ texts_of before ++ (own ++ others) → (layout : IsLayout v end run blanks (cut_rows cut) own) → (z : IsAgain v end false cs cut others) → IsWrittenBlock v end run layout.0 own z.units (cut_rows z.cut) → IsAgain v end off (a ++ (rs ++ (bs ++ cs))) (block before run blanks cut) body
+again_block v end off a rs bs cs before run blanks cut own others body run_is are rows on seen unskipped text layout z w = record {
   units = a ++ us;
   cut = block (before ++ w.above) w.new w.blanks z.cut;
   are = units_before a (rs ++ more) us are follows w.are;
   rows = subst (AreUnitRows off (a ++ us)) (sym (append_assoc before w.above (run_rows w.new ++ (w.blanks ++ cut_rows z.cut)))) (rows_together off a us before (w.above ++ (run_rows w.new ++ (w.blanks ++ cut_rows z.cut))) rows (subst (λ (b : Bool). AreUnitRows b us (w.above ++ (run_rows w.new ++ (w.blanks ++ cut_rows z.cut)))) (sym on) w.rows));
   replaced = one_more before w.above run w.new blanks w.blanks cut z.cut w.comments w.is w.same w.blank z.replaced;
+  back = ((w.above, refl, read_back v end end run blanks (cut_rows cut) own z.units (cut_rows z.cut) layout w), z.back);
   sorted = (w.mine, others, split, w.layout, z.sorted);
   text = bytes_of-append a us ∙ (λ i. sym (rows_spelled off a before rows) i ++ (bytes_of-append (w.first ∷ w.later) z.units ∙ (λ j. w.text j ++ z.text j)) i) ∙ sym text;
   follow = λ u. first a u;
@@ -212,7 +216,7 @@ again_block v end off a rs bs cs before run blanks cut own others body run_is ar
         ∙ ap (λ (t : List ℕ). t ++ (w.mine ++ others)) (sym (flat_map-append (λ (row : Row). row.text) before w.above))
 
 -- sorting is on where a block begins
-run_on : (off : Bool) (us : List (List Piece)) (run : Run) → AreUnitRows off us (run_rows run) → is_run run ≡ true → off ≡ false
+pub run_on : (off : Bool) (us : List (List Piece)) (run : Run) → AreUnitRows off us (run_rows run) → is_run run ≡ true → off ≡ false
 run_on off [] run h k = absurd h
 run_on off (u ∷ us) run h k = member_off off u run.first h.0.role (run_member run k)
 
@@ -224,6 +228,7 @@ again v laws end is off us (rest rows) body blocks are seen unskipped sorted = r
   are = are;
   rows = seen;
   replaced = no_block rows;
+  back = refl;
   sorted = sorted;
   text = sym (rows_spelled off us rows seen) ∙ sym sorted;
   follow = λ u h. h;
@@ -252,4 +257,4 @@ again v laws end is off us (block before run blanks cut) body blocks are seen un
     let z = again v laws end is false b.back cut sorted.1 blocks.5 there seen_rest none_b.1 sorted.4 in
     let w = block_again v laws end is r.front b.front b.back run blanks cut sorted.0 sorted.1 blocks.1 blocks.4 here seen_run seen_rest none_r.0 sorted.3 z in
     subst (λ (l : List (List Piece)). IsAgain v end off l (block before run blanks cut) body) (sym whole)
-    (again_block v end off a.front r.front b.front b.back before run blanks cut sorted.0 sorted.1 body blocks.1 all a.first on seen_run none_a.0 sorted.2 z w)
+    (again_block v end off a.front r.front b.front b.back before run blanks cut sorted.0 sorted.1 body blocks.1 all a.first on seen_run none_a.0 sorted.2 sorted.3 z w)

@@ -22,11 +22,14 @@ use Rattle.isort_settings.specs.Values.{Values}
 use Rattle.isort_sort.specs.Blocks.{is_blank, is_member, Run, run_rows, further_rows, is_run, Cut, rest, block, cut_rows, begins_blank, AreBlocks}
 use Rattle.isort_sort.specs.BlocksReplaced.{one_more}
 use Rattle.isort_sort.specs.Layout.{Laid, lines_after, block_lines, text_of_lines}
+use Rattle.isort_sort.specs.ReadBack.{AreReadBack, HasBlocksBack}
 use Rattle.isort_sort.specs.Row.{Row, IsRow, AreRows, first_string_skips}
 use Rattle.isort_sort.specs.Sorted.{HasBlocks, first_end, last_row, blanks_after, texts_of, mark_of, IsLayout, IsSortedCut, IsSkipped, IsLaidOut, IsSorted}
 use Rattle.isort_sort.specs.WrittenLine.{mark_pieces, mark_bytes, end_pieces}
 use Rattle.isort_sort.proofs.Finding.Replaced.{blocks_again}
+use Rattle.isort_sort.proofs.Rows.OneRows.{BindsOneList}
 use Rattle.isort_sort.proofs.Rows.Texts.{text_of_rows}
+use Rattle.isort_sort.proofs.SortedTexts.OneSorted.{HasOneLexing, never_both, same_cut}
 use Rattle.isort_sort.proofs.Stable.Units.{IsUnit, MayFollowUnit, AreUnits, first_character, units_after}
 use Rattle.isort_sort.proofs.Stable.UnitRows.{TokenLaws, unit_line, comments_of_unit, off_past, AreUnitRows, off_through, rows_apart, silent}
 use Rattle.isort_sort.proofs.Stable.LineUnits.{are_some, says_skip_file}
@@ -35,9 +38,9 @@ use Rattle.isort_sort.proofs.Stable.BlockUnits.{lines_of_statement, IsWritable, 
 use Rattle.isort_sort.proofs.Stable.UnitBinds.{EachBinds, binds_append, binds_first, role_binds}
 use Rattle.isort_sort.proofs.Stable.OldBlock.{AreSeen, in_block, run_in_block, blanks_in_block, through_block, seen_rows, run_ended}
 use Rattle.isort_sort.proofs.Stable.FirstEnds.{is_end_byte, is_feed_byte, first_is_end, first_lines, follows_blank}
-use Rattle.isort_sort.proofs.Stable.WrittenBlocks.{IsWrittenBlock}
+use Rattle.isort_sort.proofs.Stable.WrittenBlocks.{IsWrittenBlock, read_back}
 use Rattle.isort_sort.proofs.Stable.Again.{SortLaws, IsReadable, IsAgain, each_unit, first_units, none_first, some_from, can_follow, seen_some, block_again, again}
-use Rattle.isort_sort.proofs.Stable.SortedAgain.{IsCutText, first_seen, text_again, cut_text, ahead}
+use Rattle.isort_sort.proofs.Stable.SortedAgain.{IsCutText, first_seen, text_again, cut_text, IsLaidBack, ahead}
 use Rattle.isort_sort.proofs.Stable.Parts.{spelled-append}
 
 -- a byte order mark before pieces
@@ -104,15 +107,15 @@ mark_unbroken true = refl
 mark_unbroken false = refl
 
 -- the logical lines of a text that begins with a block
-record IsSplit (us : List (List Piece)) (run : Run) (blanks : List Row) (later : Cut) : Type 0 where
-  rs : List (List Piece)
-  bs : List (List Piece)
-  cs : List (List Piece)
-  whole : us ≡ rs ++ (bs ++ cs)
-  seen : AreSeen rs (run_rows run)
-  rows : AreUnitRows false cs (cut_rows later)
+pub record IsSplit (us : List (List Piece)) (run : Run) (blanks : List Row) (later : Cut) : Type 0 where
+  pub rs : List (List Piece)
+  pub bs : List (List Piece)
+  pub cs : List (List Piece)
+  pub whole : us ≡ rs ++ (bs ++ cs)
+  pub seen : AreSeen rs (run_rows run)
+  pub rows : AreUnitRows false cs (cut_rows later)
 
-split_rows : (u : List Piece) (us : List (List Piece)) (run : Run) (blanks : List Row) (later : Cut) → is_run run ≡ true → list_all is_blank blanks ≡ true → IsRow [] (unit_line u) run.first → AreUnitRows (off_past false (unit_line u)) us (flat_map further_rows run.others ++ (blanks ++ cut_rows later)) → IsSplit (u ∷ us) run blanks later
+pub split_rows : (u : List Piece) (us : List (List Piece)) (run : Run) (blanks : List Row) (later : Cut) → is_run run ≡ true → list_all is_blank blanks ≡ true → IsRow [] (unit_line u) run.first → AreUnitRows (off_past false (unit_line u)) us (flat_map further_rows run.others ++ (blanks ++ cut_rows later)) → IsSplit (u ∷ us) run blanks later
 split_rows u us run blanks later is blank first rows =
     let inside = run_in_block run is in
     let parts = and_parts (in_block run.first) (list_all in_block (flat_map further_rows run.others)) inside in
@@ -164,14 +167,15 @@ rest_again : (v : Values) (laws : SortLaws v) (us : List (List Piece)) (run : Ru
 rest_again v laws us run blanks later f end others is sorted =
     again v laws end is false f.split.cs later others f.later_blocks (units_after f.split.bs f.split.cs (units_after f.split.rs (f.split.bs ++ f.split.cs) f.are)) f.split.rows f.unskipped_later sorted
 
--- such a text is its own sorted text, as soon as its first line end is the one that was written
-laid_first : (v : Values) (laws : SortLaws v) (sorted : List ℕ) (us : List (List Piece)) (run : Run) (blanks : List Row) (later : Cut) (f : IsFirstBlock v laws us run blanks later) (marked : Bool) (end own others : List ℕ) → IsLineEnd end → IsLayout v end run blanks (cut_rows later) own → IsSortedCut v end later others → sorted ≡ encode_utf8_all (spelled (mark_pieces marked)) ++ (own ++ others) → first_end sorted ≡ end → StartsWithNoChar [] → IsLaidOut sorted v sorted
-laid_first v laws sorted us run blanks later f marked end own others is layout layouts text same done =
+-- such a text is its own sorted text, as soon as its first line end is the one that was written; its layouts may have been
+-- found with another
+laid_first : (v : Values) (laws : SortLaws v) (sorted : List ℕ) (us : List (List Piece)) (run : Run) (blanks : List Row) (later : Cut) (f : IsFirstBlock v laws us run blanks later) (marked : Bool) (end wanted own others : List ℕ) → IsLineEnd end → (layout : IsLayout v end run blanks (cut_rows later) own) → own ≡ text_of_lines wanted (last_row run.first run.others).ended (blanks_after v run (count_by (λ (row : Row). row.ended) blanks) (cut_rows later)) (block_lines v run.first.indentation layout.0) → IsSortedCut v end later others → ((new : Cut) → AreReadBack v end later new → AreReadBack v wanted later new) → sorted ≡ encode_utf8_all (spelled (mark_pieces marked)) ++ (own ++ others) → first_end sorted ≡ end → StartsWithNoChar [] → IsLaidBack v wanted (block [] run blanks later) sorted sorted
+laid_first v laws sorted us run blanks later f marked end wanted own others is layout spelled_so layouts turned text same done =
     let z = rest_again v laws us run blanks later f end others is layouts in
     let w = block_again v laws end is f.split.rs f.split.bs f.split.cs run blanks later own others f.run_is f.unblank f.are f.split.seen f.split.rows f.unskipped_run layout z in
     finish z w
   where
-    finish : (z : IsAgain v end false f.split.cs later others) → IsWrittenBlock v end run own z.units (cut_rows z.cut) → IsLaidOut sorted v sorted
+    finish : (z : IsAgain v end false f.split.cs later others) → IsWrittenBlock v end run layout.0 own z.units (cut_rows z.cut) → IsLaidBack v wanted (block [] run blanks later) sorted sorted
     finish z w =
         let u : List Piece = mark_pieces marked ++ w.first in
         let rest_units : List (List Piece) = w.later ++ z.units in
@@ -189,18 +193,21 @@ laid_first v laws sorted us run blanks later f marked end own others is layout l
         let skip_rest = none-append says_skip_file (w.first ∷ w.later) z.units w.unskipped z.unskipped in
         let sorted_again : IsSortedCut v end new (own ++ others) = (w.mine, others, ap (λ (t : List ℕ). t ++ others) w.split ∙ append_assoc (texts_of w.above) w.mine others, w.layout, z.sorted) in
         record {
-          lines = lines_from 0 1 (u ∷ rest_units);
-          cut = new;
-          blocks = text_again v laws sorted u rest_units w.top.row w.top.below new
-              (marked_unit marked w.first w.are.0 w.top.unmarked, marked_follows marked w.first rest_units w.are.0 w.are.1, w.are.2)
-              bytes done row below
-              (role_binds false 0 1 u w.top.row.role row.role w.top.inside, binds_append w.later z.units w.binds.1 (z.binds f.binds))
-              (ap (λ (b : Bool). b || list_any says_skip_file rest_units) (marked_skips laws.tokens marked w.first) ∙ skip_rest)
-              (ap (λ l. first_string_skips (unit_line u ∷ l)) (map-append unit_line w.later z.units) ∙ w.top.no_string marked (map unit_line z.units))
-              w.top.is (blocks_again (block [] run blanks later) new f.all_blocks replaced);
-          body = own ++ others;
-          layouts = subst (λ (e : List ℕ). IsSortedCut v e new (own ++ others)) (sym same) sorted_again;
-          is = text ∙ ap (λ (t : List ℕ). t ++ (own ++ others)) (sym (ap (λ (n : ℕ). take n (encode_utf8_all (spelled u))) (w.top.mark marked) ∙ marked_take marked w.first));
+          laid = record {
+            lines = lines_from 0 1 (u ∷ rest_units);
+            cut = new;
+            blocks = text_again v laws sorted u rest_units w.top.row w.top.below new
+                (marked_unit marked w.first w.are.0 w.top.unmarked, marked_follows marked w.first rest_units w.are.0 w.are.1, w.are.2)
+                bytes done row below
+                (role_binds false 0 1 u w.top.row.role row.role w.top.inside, binds_append w.later z.units w.binds.1 (z.binds f.binds))
+                (ap (λ (b : Bool). b || list_any says_skip_file rest_units) (marked_skips laws.tokens marked w.first) ∙ skip_rest)
+                (ap (λ l. first_string_skips (unit_line u ∷ l)) (map-append unit_line w.later z.units) ∙ w.top.no_string marked (map unit_line z.units))
+                w.top.is (blocks_again (block [] run blanks later) new f.all_blocks replaced);
+            body = own ++ others;
+            layouts = subst (λ (e : List ℕ). IsSortedCut v e new (own ++ others)) (sym same) sorted_again;
+            is = text ∙ ap (λ (t : List ℕ). t ++ (own ++ others)) (sym (ap (λ (n : ℕ). take n (encode_utf8_all (spelled u))) (w.top.mark marked) ∙ marked_take marked w.first));
+          };
+          back = ((w.above, refl, read_back v wanted end run blanks (cut_rows later) own z.units (cut_rows z.cut) (layout.0, layout.1, spelled_so) w), turned z.cut z.back);
         }
 
 -- its first line end is the one that was written, or it is one line without any
@@ -208,6 +215,12 @@ nothing_later : (v : Values) (end other_end t : List ℕ) (later : Cut) → AreU
 nothing_later v end other_end t (rest rows) seen h = h
 nothing_later v end other_end t (block [] run blanks later) seen h = absurd seen
 nothing_later v end other_end t (block (b ∷ bs) run blanks later) seen h = absurd seen
+
+nothing_back : (v : Values) (end wanted : List ℕ) (later new : Cut) → AreUnitRows false [] (cut_rows later) → AreReadBack v end later new → AreReadBack v wanted later new
+nothing_back v end wanted (rest rows) (rest others) seen h = h
+nothing_back v end wanted (rest rows) (block ahead new others later) seen h = absurd h
+nothing_back v end wanted (block [] run blanks later) new seen h = absurd seen
+nothing_back v end wanted (block (b ∷ bs) run blanks later) new seen h = absurd seen
 
 no_lists : (us : List (List Piece)) → are_some us ≡ false → us ≡ []
 no_lists [] h = refl
@@ -226,13 +239,14 @@ lines_some v laws space end s ss r =
     some_first (map (λ c. space ++ c) s.above ++ lines_of_statement v space s) (lines_after v space s ss)
     (some_append (map (λ c. space ++ c) s.above) (lines_of_statement v space s) (statement_some laws.neighbours space end s (lines_of_statement v space s) r.pieces r.written))
 
-at_start : (v : Values) (laws : SortLaws v) (sorted : List ℕ) (us : List (List Piece)) (run : Run) (blanks : List Row) (later : Cut) (f : IsFirstBlock v laws us run blanks later) (marked : Bool) (end own others : List ℕ) → IsLineEnd end → IsLayout v end run blanks (cut_rows later) own → IsSortedCut v end later others → sorted ≡ encode_utf8_all (spelled (mark_pieces marked)) ++ (own ++ others) → StartsWithNoChar [] → IsLaidOut sorted v sorted
+at_start : (v : Values) (laws : SortLaws v) (sorted : List ℕ) (us : List (List Piece)) (run : Run) (blanks : List Row) (later : Cut) (f : IsFirstBlock v laws us run blanks later) (marked : Bool) (end own others : List ℕ) → IsLineEnd end → IsLayout v end run blanks (cut_rows later) own → IsSortedCut v end later others → sorted ≡ encode_utf8_all (spelled (mark_pieces marked)) ++ (own ++ others) → StartsWithNoChar [] → IsLaidBack v end (block [] run blanks later) sorted sorted
 at_start v laws sorted us run blanks later f marked end own others is layout layouts text done =
     ⊎_elim
-    (λ (e : first_end (p ++ (text_of_lines end ended n lines ++ others)) ≡ end). laid_first v laws sorted us run blanks later f marked end own others is layout layouts text (ap first_end (text ∙ ap (λ (t : List ℕ). p ++ (t ++ others)) layout.2) ∙ e) done)
+    (λ (e : first_end (p ++ (text_of_lines end ended n lines ++ others)) ≡ end). laid_first v laws sorted us run blanks later f marked end end own others is layout layout.2 layouts (λ new h. h) text (ap first_end (text ∙ ap (λ (t : List ℕ). p ++ (t ++ others)) layout.2) ∙ e) done)
     (λ (h : (ended ≡ false) × ((e : List ℕ) → text_of_lines end ended n lines ≡ text_of_lines e ended n lines)).
-    laid_first v laws sorted us run blanks later f marked (first_end sorted) own others (first_is_end sorted) (layout.0, layout.1, layout.2 ∙ h.1 (first_end sorted))
-    (nothing_later v end (first_end sorted) others later (subst (λ (l : List (List Piece)). AreUnitRows false l (cut_rows later)) (last_run v laws us run blanks later f h.0) f.split.rows) layouts)
+    let none : AreUnitRows false [] (cut_rows later) = subst (λ (l : List (List Piece)). AreUnitRows false l (cut_rows later)) (last_run v laws us run blanks later f h.0) f.split.rows in
+    laid_first v laws sorted us run blanks later f marked (first_end sorted) end own others (first_is_end sorted) (layout.0, layout.1, layout.2 ∙ h.1 (first_end sorted)) layout.2
+    (nothing_later v end (first_end sorted) others later none layouts) (λ new. nothing_back v (first_end sorted) end later new none)
     text refl done)
     (first_lines p end ended n lines others (mark_unbroken marked) some read.unbroken is follows (λ e. sym z.text ∙ ap bytes_of (no_lists z.units (z.none (ap are_some (last_run v laws us run blanks later f e))))))
   where
@@ -265,7 +279,7 @@ at_start v laws sorted us run blanks later f marked end own others is layout lay
         ∙ follows_blank end z.units z.are (z.follow (end_pieces true end) (can_follow laws.words end (f.split.rs ++ f.split.bs) f.split.cs (cut_rows later) (some_first f.split.rs f.split.bs (seen_some f.split.rs run f.split.seen)) (subst AreUnits (sym (append_assoc f.split.rs f.split.bs f.split.cs)) f.are) f.split.rows f.unblank)) e
 
 -- by what the text begins with
-starts_with_row : (v : Values) → SortLaws v → (text sorted : List ℕ) (us : List (List Piece)) (row : Row) (before : List Row) (run : Run) (blanks : List Row) (later : Cut) (body : List ℕ) → IsCutText text us (block (row ∷ before) run blanks later) → IsSortedCut v (first_end text) (block (row ∷ before) run blanks later) body → sorted ≡ mark_of (lines_from 0 1 us) ++ body → IsLaidOut sorted v sorted
+starts_with_row : (v : Values) → SortLaws v → (text sorted : List ℕ) (us : List (List Piece)) (row : Row) (before : List Row) (run : Run) (blanks : List Row) (later : Cut) (body : List ℕ) → IsCutText text us (block (row ∷ before) run blanks later) → IsSortedCut v (first_end text) (block (row ∷ before) run blanks later) body → sorted ≡ mark_of (lines_from 0 1 us) ++ body → IsLaidBack v (first_end text) (block (row ∷ before) run blanks later) sorted sorted
 starts_with_row v laws text sorted [] row before run blanks later body c layouts is = absurd (let e = c.seen in cc)
 starts_with_row v laws text sorted (u ∷ us) row before run blanks later body c layouts is =
     let parts = or_parts (is_member row) (list_any is_member before) c.blocks.0 in
@@ -274,27 +288,36 @@ starts_with_row v laws text sorted (u ∷ us) row before run blanks later body c
     (layouts.0, layouts.1, refl, layouts.3, layouts.4)
     (is ∙ ap (λ (t : List ℕ). take (mark_len (unit_line u)) (encode_utf8_all (spelled u)) ++ t) (layouts.2 ∙ append_assoc row.text (texts_of before) (layouts.0 ++ layouts.1)))
 
-starts_with_block : (v : Values) → SortLaws v → (text sorted : List ℕ) (us : List (List Piece)) (run : Run) (blanks : List Row) (later : Cut) (body : List ℕ) → IsCutText text us (block [] run blanks later) → IsSortedCut v (first_end text) (block [] run blanks later) body → sorted ≡ mark_of (lines_from 0 1 us) ++ body → IsLaidOut sorted v sorted
+starts_with_block : (v : Values) → SortLaws v → (text sorted : List ℕ) (us : List (List Piece)) (run : Run) (blanks : List Row) (later : Cut) (body : List ℕ) → IsCutText text us (block [] run blanks later) → IsSortedCut v (first_end text) (block [] run blanks later) body → sorted ≡ mark_of (lines_from 0 1 us) ++ body → IsLaidBack v (first_end text) (block [] run blanks later) sorted sorted
 starts_with_block v laws text sorted [] run blanks later body c layouts is = absurd (let e = c.seen in cc)
 starts_with_block v laws text sorted (u ∷ us) run blanks later body c layouts is =
     let m = has_mark (unit_line u) in
     at_start v laws sorted (u ∷ us) run blanks later (first_block v laws text u us run blanks later c) m.0 (first_end text) layouts.0 layouts.1 (first_is_end text) layouts.3 layouts.4
     (is ∙ (λ i. m.1 i ++ layouts.2 i)) c.done
 
-by_cut : (v : Values) → SortLaws v → (text sorted : List ℕ) (lines : List LogicalLine) (old : Cut) (body : List ℕ) → HasBlocks text lines old → IsLaidOut text v sorted → IsSortedCut v (first_end text) old body → sorted ≡ mark_of lines ++ body → IsLaidOut sorted v sorted
-by_cut v laws text sorted lines (rest rows) body h whole layouts is =
+by_cut : (v : Values) → SortLaws v → (text sorted : List ℕ) (lines : List LogicalLine) (old : Cut) (body : List ℕ) → HasBlocks text lines old → IsSortedCut v (first_end text) old body → sorted ≡ mark_of lines ++ body → IsLaidBack v (first_end text) old sorted sorted
+by_cut v laws text sorted lines (rest rows) body h layouts is =
     let same : text ≡ sorted = text_of_rows text lines rows h.accepted.lexed (subst (AreRows [] lines) (sym h.cut_at.all) h.seen) ∙ ap (λ (t : List ℕ). mark_of lines ++ t) (sym layouts) ∙ sym is in
-    subst (λ (t : List ℕ). IsLaidOut t v sorted) same whole
-by_cut v laws text sorted lines (block (row ∷ before) run blanks later) body h whole layouts is =
-    let c = cut_text v laws text lines (block (row ∷ before) run blanks later) h in
+    subst (λ (t : List ℕ). IsLaidBack v (first_end text) (rest rows) t sorted) same
+    (record { laid = record { lines = lines; cut = rest rows; blocks = h; body = body; layouts = layouts; is = is }; back = refl })
+by_cut v laws text sorted lines (block (row ∷ before) run blanks later) body h layouts is =
+    let c = cut_text laws.lines laws.tokens text lines (block (row ∷ before) run blanks later) h in
     starts_with_row v laws text sorted c.0 row before run blanks later body c.2 layouts (is ∙ ap (λ l. mark_of l ++ body) c.1)
-by_cut v laws text sorted lines (block [] run blanks later) body h whole layouts is =
-    let c = cut_text v laws text lines (block [] run blanks later) h in
+by_cut v laws text sorted lines (block [] run blanks later) body h layouts is =
+    let c = cut_text laws.lines laws.tokens text lines (block [] run blanks later) h in
     starts_with_block v laws text sorted c.0 run blanks later body c.2 layouts (is ∙ ap (λ l. mark_of l ++ body) c.1)
 
 pub laid_again : (v : Values) → SortLaws v → (text sorted : List ℕ) → IsLaidOut text v sorted → IsLaidOut sorted v sorted
-laid_again v laws text sorted h = by_cut v laws text sorted h.lines h.cut h.body h.blocks h h.layouts h.is
+laid_again v laws text sorted h = (by_cut v laws text sorted h.lines h.cut h.body h.blocks h.layouts h.is).laid
 
 pub sorted_again : (v : Values) → SortLaws v → (text sorted : List ℕ) → IsSorted text v sorted → IsSorted sorted v sorted
 sorted_again v laws text sorted (inl (skipped, same)) = inl (subst IsSkipped (sym same) skipped, refl)
 sorted_again v laws text sorted (inr h) = inr (laid_again v laws text sorted h)
+
+-- whatever blocks a text has, its sorted text has them back
+pub blocks_back : HasOneLexing → BindsOneList → (v : Values) → SortLaws v → (text sorted : List ℕ) → IsSorted text v sorted → HasBlocksBack text v sorted
+blocks_back lexing one v laws text sorted (inl (skipped, _)) lines cut blocks = absurd (never_both lexing text lines cut skipped blocks)
+blocks_back lexing one v laws text sorted (inr h) lines cut blocks =
+    let same = same_cut lexing one text h.lines lines h.cut cut h.blocks blocks in
+    let b = by_cut v laws text sorted h.lines h.cut h.body h.blocks h.layouts h.is in
+    (b.laid.lines, b.laid.cut, b.laid.blocks, subst (λ (c : Cut). AreReadBack v (first_end text) c b.laid.cut) same.cut_same b.back)

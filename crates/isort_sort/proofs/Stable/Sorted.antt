@@ -23,7 +23,7 @@ use Rattle.isort_sort.proofs.Stable.UnbrokenLines.{lines_unbroken}
 abbrev pub WrittenLaw : Values → Type 0
 WrittenLaw v = (indentation end : List ℕ) (members : List Member) (laid : List Laid) → list_all is_space indentation ≡ true → IsLineEnd end → AreReadMembers members → AreLaid v indentation members laid → EachIsWritten v indentation end laid
 
-read_lines : (us : List (List Piece)) → EachIsUnit us → list_any says_skip_file us ≡ false → AreReadLines us
+pub read_lines : (us : List (List Piece)) → EachIsUnit us → list_any says_skip_file us ≡ false → AreReadLines us
 read_lines [] h k = tt
 read_lines (u ∷ us) h k = let parts = or_parts (says_skip_file u) (list_any says_skip_file us) k in (h.0, parts.0, read_lines us h.1 parts.1)
 

@@ -10,11 +10,12 @@ use Rattle.py_lines.specs.Piece.{Piece, begins, begins_marked, spelled}
 use Rattle.py_lines.specs.PieceGrammar.{IsLineEnd}
 use Rattle.py_imports.specs.Shape.{mark_len}
 use Rattle.isort_settings.specs.Values.{Values}
-use Rattle.isort_sort.specs.Blocks.{Run, run_rows, further_rows, goes_on, is_run, is_blank, members_of}
+use Rattle.isort_sort.specs.Blocks.{Run, run_rows, further_rows, goes_on, is_run, is_blank, comments_in, members_of}
 use Rattle.isort_sort.specs.BlocksReplaced.{is_comments}
 use Rattle.isort_sort.specs.LaidAgain.{as_member, with_joined_comments, without_above}
 use Rattle.isort_sort.specs.Layout.{Laid, AreLaid, block_lines, lines_after, text_of_lines}
 use Rattle.isort_sort.specs.Member.{Member}
+use Rattle.isort_sort.specs.ReadBack.{first_above, without_first_above, IsReadBack}
 use Rattle.isort_sort.specs.Row.{comments, Row, IsRow, first_string_skips}
 use Rattle.isort_sort.specs.Sorted.{last_row, blanks_after, texts_of, IsLayout}
 use Rattle.isort_sort.specs.WrittenLine.{mark_pieces, mark_bytes, end_pieces}
@@ -24,8 +25,8 @@ use Rattle.isort_sort.proofs.Stable.Units.{MayFollowUnit, AreUnits}
 use Rattle.isort_sort.proofs.Stable.UnitRows.{TokenLaws, unit_line, AreUnitRows, role_in_block}
 use Rattle.isort_sort.proofs.Stable.OldBlock.{member_in_block}
 use Rattle.isort_sort.proofs.Stable.UnitBinds.{EachBinds, binds_append, inner_binds}
-use Rattle.isort_sort.proofs.Stable.LineUnits.{NeighbourLaw, are_some, AreLines, row_of, lines_units, lines_append, inner_rows, inner_append, says_skip_file, AreAbove, comment_unit, comment_starts, above_units, above_rows, above_lines, above_inner, above_text, above_rows_text, above_are_comments, above_unskipped, first_above_passes}
-use Rattle.isort_sort.proofs.Stable.Joined.{joined_lines, ended_lines, AreSome, some_first, some_append, joined-append, joined_ended, bytes_of, bytes_of-append, none-append}
+use Rattle.isort_sort.proofs.Stable.LineUnits.{NeighbourLaw, are_some, AreLines, AreInner, row_of, lines_units, lines_append, inner_rows, inner_append, says_skip_file, AreAbove, comment_unit, comment_starts, above_units, above_rows, above_lines, above_inner, above_text, above_comments, above_rows_text, above_are_comments, above_unskipped, first_above_passes}
+use Rattle.isort_sort.proofs.Stable.Joined.{joined_lines, ended_lines, AreSome, some_first, some_append, joined-append, joined_ended, bytes_of, bytes_of-cons, bytes_of-append, none-append}
 use Rattle.isort_sort.proofs.Stable.BlockUnits.{lines_of_statement, IsWritable, AreWritable, tail_of, blanks_of, statement_some, IsBuilt, built}
 use Rattle.isort_sort.proofs.Stable.Marked.{comment_mark, comment_first}
 
@@ -41,8 +42,8 @@ pub record HasTop (first : List Piece) (later : List (List Piece)) (rows : List 
   pub inside : role_in_block row.role ≡ true
   pub mark : (marked : Bool) → mark_len (line_of 0 1 (mark_pieces marked ++ first)) ≡ mark_bytes marked
 
--- a block that was written, before these logical lines and rows
-pub record IsWrittenBlock (v : Values) (end : List ℕ) (run : Run) (own : List ℕ) (zs : List (List Piece)) (rest : List Row) : Type 0 where
+-- a block that was written, in this layout, before these logical lines and rows
+pub record IsWrittenBlock (v : Values) (end : List ℕ) (run : Run) (laid : List Laid) (own : List ℕ) (zs : List (List Piece)) (rest : List Row) : Type 0 where
   pub first : List Piece
   pub later : List (List Piece)
   pub above : List Row
@@ -61,6 +62,19 @@ pub record IsWrittenBlock (v : Values) (end : List ℕ) (run : Run) (own : List 
   pub unskipped : list_any says_skip_file (first ∷ later) ≡ false
   pub top : HasTop first later (above ++ (run_rows new ++ (blanks ++ rest)))
   pub binds : EachBinds (first ∷ later)
+  pub row_texts : texts_of (above ++ (run_rows new ++ blanks)) ≡ own
+  pub first_comments : comments_in above ≡ first_above laid
+  pub members : members_of new ≡ map as_member (without_first_above laid)
+
+-- so the layout is read back
+pub read_back : (v : Values) (end written : List ℕ) (run : Run) (kept after : List Row) (own : List ℕ) (zs : List (List Piece)) (rest : List Row) (layout : IsLayout v end run kept after own) → (w : IsWrittenBlock v written run layout.0 own zs rest) → IsReadBack v end run w.new kept after w.above w.blanks
+read_back v end written run kept after own zs rest layout w = record {
+  layout = (layout.0, layout.1, w.row_texts ∙ layout.2);
+  are_comments = w.comments;
+  comments = w.first_comments;
+  indentation = w.same;
+  members = w.members;
+}
 
 -- the text of lines is that of the lines, and what follows the last
 text_is : (end : List ℕ) (ended : Bool) (n : ℕ) (lines : List (List ℕ)) → AreSome lines → text_of_lines end ended n lines ≡ joined_lines end lines ++ tail_of end ended n
@@ -178,6 +192,13 @@ top_of laws v space end ended n s ss (c ∷ cs) are others spaces b =
     unmarked [] = refl
     unmarked (b ∷ bs) = refl
 
+-- the text of rows that may stand in a block
+inner_text : (us : List (List Piece)) (rows : List Row) → AreInner us rows → texts_of rows ≡ bytes_of us
+inner_text [] [] h = refl
+inner_text [] (row ∷ rows) h = absurd h
+inner_text (u ∷ us) [] h = absurd h
+inner_text (u ∷ us) (row ∷ rows) h = (λ i. h.0.text i ++ inner_text us rows h.2 i) ∙ sym (bytes_of-cons u us)
+
 moved : (x y z w : List Row) → (x ++ (y ++ z)) ++ w ≡ x ++ (y ++ (z ++ w))
 moved x y z w = simp append_assoc
 
@@ -187,7 +208,7 @@ pub written_block : NeighbourLaw → TokenLaws → (v : Values) → AreOrders v 
     → own ≡ text_of_lines end (last_row run.first run.others).ended n (block_lines v run.first.indentation (s ∷ ss))
     → ((new : Run) → new.first.indentation ≡ run.first.indentation → (last_row run.first run.others).ended ≡ true → blanks_after v new n rest ≡ n)
     → (are_some zs ≡ true → (last_row run.first run.others).ended ≡ true) → MayFollowUnit (end_pieces true end) zs → AreUnits zs → AreUnitRows false zs rest
-    → IsWrittenBlock v end run own zs rest
+    → IsWrittenBlock v end run (s ∷ ss) own zs rest
 written_block law laws v o end run n s ss own zs rest is spaces ready laid text kept closed follows are rows =
     record {
       first = head.first;
@@ -204,13 +225,13 @@ written_block law laws v o end run n s ss own zs rest is spaces ready laid text 
       mine = bytes_of (b.first ∷ b.later);
       split = text ∙ layout_parts law v space end ended n s ss ready.0 b ∙ ap (λ (t : List ℕ). t ++ bytes_of (b.first ∷ b.later)) (sym (above_rows_text space end s.above ready.0.above spaces is));
       layout = layout_again law v o space end (members_of run) ended n s ss rest laid ready.0 b kept;
-      text =
-          ap bytes_of (sym head.is) ∙ bytes_of-append above_us (b.first ∷ b.later)
-          ∙ ap (λ (t : List ℕ). t ++ bytes_of (b.first ∷ b.later)) (above_text space end s.above ready.0.above spaces is)
-          ∙ sym (layout_parts law v space end ended n s ss ready.0 b) ∙ sym text;
+      text = ap bytes_of (sym head.is) ∙ bytes;
       unskipped = ap (list_any says_skip_file) (sym head.is) ∙ none-append says_skip_file above_us (b.first ∷ b.later) (above_unskipped laws space end s.above ready.0.above) b.unskipped;
       top = top_of laws v space end ended n s ss s.above ready.0.above (flat_map further_rows b.others ++ (b.blanks ++ rest)) spaces b;
       binds = subst EachBinds head.is (binds_append above_us (b.first ∷ b.later) (inner_binds above_us above (above_inner laws space end s.above ready.0.above)) (inner_binds (b.first ∷ b.later) (b.row ∷ (flat_map further_rows b.others ++ b.blanks)) b.inner));
+      row_texts = inner_text units (above ++ (b.row ∷ (flat_map further_rows b.others ++ b.blanks))) inner ∙ bytes;
+      first_comments = above_comments space end s.above ready.0.above;
+      members = λ i. record { imports = b.imports i; comments = b.own i; above = [] } ∷ b.members i;
     }
   where
     space : List ℕ
@@ -240,7 +261,16 @@ written_block law laws v o end run n s ss own zs rest is spaces ready laid text 
     lines : AreLines end ended units
     lines = lines_append end ended above_us (b.first ∷ b.later) (above_lines law space end s.above ready.0.above spaces is) b.lines
 
+    bytes : bytes_of units ≡ own
+    bytes =
+        bytes_of-append above_us (b.first ∷ b.later)
+        ∙ ap (λ (t : List ℕ). t ++ bytes_of (b.first ∷ b.later)) (above_text space end s.above ready.0.above spaces is)
+        ∙ sym (layout_parts law v space end ended n s ss ready.0 b) ∙ sym text
+
+    inner : AreInner units (above ++ (b.row ∷ (flat_map further_rows b.others ++ b.blanks)))
+    inner = inner_append above_us (b.first ∷ b.later) above (b.row ∷ (flat_map further_rows b.others ++ b.blanks)) (above_inner laws space end s.above ready.0.above) b.inner
+
     whole : AreUnitRows false (units ++ zs) (above ++ (run_rows new ++ (b.blanks ++ rest)))
     whole =
         subst (AreUnitRows false (units ++ zs)) (moved above (b.row ∷ flat_map further_rows b.others) b.blanks rest)
-        (inner_rows units zs (above ++ (b.row ∷ (flat_map further_rows b.others ++ b.blanks))) rest (inner_append above_us (b.first ∷ b.later) above (b.row ∷ (flat_map further_rows b.others ++ b.blanks)) (above_inner laws space end s.above ready.0.above) b.inner) rows)
+        (inner_rows units zs (above ++ (b.row ∷ (flat_map further_rows b.others ++ b.blanks))) rest inner rows)

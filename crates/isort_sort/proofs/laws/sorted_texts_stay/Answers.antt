@@ -1,6 +1,6 @@
 use Rattle.isort_sort.proofs.Orders.Statements.{AreOrders}
 use Rattle.isort_sort.proofs.Stable.Again.{SortLaws}
-use Rattle.isort_sort.proofs.Stable.AtStart.{laid_again, sorted_again}
+use Rattle.isort_sort.proofs.Stable.AtStart.{laid_again, sorted_again, blocks_back}
 use Rattle.isort_sort.proofs.Stable.ReadImports.{ImportLaws}
 use Rattle.isort_sort.proofs.Stable.Sorted.{reads_blocks}
 use Rattle.isort_sort.proofs.Stable.UnitRows.{TokenLaws}
@@ -20,4 +20,4 @@ returns c =
       orders = orders v;
       reads = reads_blocks tokens imports c.joined_comments_are_read_back.ensures.own c.words_hold_no_line_end.ensures v (orders v) (c.written_statements_are_read_back.ensures v);
     } in
-    record { sorted = λ text v sorted. sorted_again v (laws v) text sorted; laid = λ text v sorted. laid_again v (laws v) text sorted }
+    record { sorted = λ text v sorted. sorted_again v (laws v) text sorted; laid = λ text v sorted. laid_again v (laws v) text sorted; read_back = λ text v sorted. blocks_back c.one_lexing.ensures.one_list c.binds_or_is_bad.ensures.one_list v (laws v) text sorted }
