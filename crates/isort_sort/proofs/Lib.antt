@@ -51,7 +51,9 @@
 -- Stripped, ReadImports, ReadMembers). So each block, put before the lines after it, is a block with the layout that it had
 -- (WrittenBlocks), and so on through a text (Again); the first line end is what it was (FirstEnds, UnbrokenLines); and last
 -- what the text begins with is looked at: another line (SortedAgain), or a block, perhaps after a byte order mark (AtStart).
--- Sorted has what all this rests on, from the laws.
+-- Sorted has what all this rests on, from the laws. Each block that is written keeps its layout beside the run that it is
+-- read as (WrittenBlocks, `read_back`), and so the blocks are read back through the text. ReadBlocks says what the members of
+-- each block of a text are.
 --
 -- Nothing else changes (proofs/SortedTexts/BlockSpans): the spans are those of the cut, and what a sorted text has
 -- between layouts are the texts of the other rows.
