@@ -1,5 +1,5 @@
 -- The index of the lists of own sections, name by name and list by list.
-use Rattle.std.proofs.Common.{◌≡◌, ℕ, ◌+◌, ◌<◌, Bool, true, false, ◌||◌, ◌&&◌, cond, if◌then◌else◌, List, [], ◌∷◌, ◌++◌, map, length, take, get_or, Option, Some, None, bytes_eq, string_bytes, String, Global, Vec, refl, sym, ◌∙◌, ap, arith, length-take-le}
+use Rattle.std.proofs.Common.{◌≡◌, ◌==◌, ℕ, ◌+◌, ◌<◌, Bool, true, false, ◌||◌, ◌&&◌, cond, if◌then◌else◌, List, [], ◌∷◌, ◌++◌, map, length, take, get_or, Option, Some, None, bytes_eq, string_bytes, String, Global, Vec, refl, sym, ◌∙◌, ap, arith, length-take-le}
 use Rattle.std.proofs.lemmas.List.{length-map, map-append, take_more}
 use Rattle.std.proofs.lemmas.List.Folds.{list_any-append}
 use Rattle.std.specs.Cmp.Derive.Mapped.{pointwise-map}
@@ -26,6 +26,10 @@ same_lists (x ∷ xs) (y ∷ ys) =
     ap (λ b. b && pointwise (pointwise bytes_eq) (modules_of_lists xs) (modules_of_lists ys)) (pointwise-map string_bytes bytes_eq x.items y.items)
     ∙ ap (λ b. pointwise (λ s t. bytes_eq (string_bytes s) (string_bytes t)) x.items y.items && b) (same_lists xs ys)
 
+and_false : (b : Bool) → (b && false) ≡ false
+and_false true = refl
+and_false false = refl
+
 or_false : (b : Bool) → (b || false) ≡ b
 or_false true = refl
 or_false false = refl
@@ -45,6 +49,18 @@ either : (o : Option ℕ) (a b : Bool) (place : ℕ)
 either (Some n) a b place = refl
 either None true b place = refl
 either None false b place = refl
+
+-- a text that is longer than a name isn't that name
+other-longer : (name text : List ℕ) → length name < length text → bytes_eq name text ≡ false
+other-longer [] [] longer = absurd (omega (arith, longer))
+other-longer [] (c ∷ text) longer = refl
+other-longer (n ∷ name) [] longer = absurd (omega (arith, longer))
+other-longer (n ∷ name) (c ∷ text) longer = rw (other-longer name text (omega (arith, longer))) (and_false (n == c))
+
+-- where a name is added, a text that is longer than it and than all before has no place
+pub longer_has_no_place : (name text : List ℕ) (place : ℕ) (before now : Option ℕ) → now ≡ option_or before (if bytes_eq name text then Some place else None)
+    → before ≡ None → length name < length text → now ≡ None
+longer_has_no_place name text place before now added none longer = rw (none, other-longer name text longer) at added
 
 -- a name more of a list was added
 pub one_name_more : (list : List (String Global)) (i place : ℕ) (name : String Global) (text : List ℕ) (start before now : Option ℕ) → i < length list → name ≡ get_or list i name

@@ -1,5 +1,5 @@
 -- The place of the first element that passes a test, and the lists of own sections by their places.
-use Rattle.std.proofs.Common.{◌≡◌, ℕ, ◌+◌, ◌==◌, ◌<◌, sym, suc, Bool, true, false, not, cond, List, [], ◌∷◌, ◌++◌, map, length, Option, Some, None, option_map, unwrap_or, refl, ◌∙◌, ap, arith, inl, inr}
+use Rattle.std.proofs.Common.{◌≡◌, IfSome, ℕ, ◌+◌, ◌==◌, ◌<◌, sym, suc, Bool, true, false, not, cond, List, [], ◌∷◌, ◌++◌, map, length, Option, Some, None, option_map, unwrap_or, refl, ◌∙◌, ap, arith, inl, inr}
 use Rattle.std.proofs.lemmas.Bool.{cases_eq, eq-eqb, ne_eqb, cases_lt, lt-ltb, le-ltb}
 use Rattle.std.proofs.lemmas.List.Folds.{find-append}
 use Rattle.std.proofs.lemmas.List.Sums.{prefix_len-le-length}
@@ -33,6 +33,21 @@ place-push p i (x ∷ xs) y =
       | true ↦ refl
       | false ↦ place-push p (i + 1) xs y ∙ ap (λ n. option_or (position_from p (i + 1) xs) (cond (p y) (Some n) None)) (omega arith)
     ]
+
+-- a place is one of the list's
+pub place_within : {X : Type 0} (p : X → Bool) (i : ℕ) (xs : List X) → IfSome (position_from p i xs) (λ n. n < i + length xs)
+place_within p i [] = tt
+place_within p i (x ∷ xs) =
+    let next : i + 1 + length xs ≡ i + suc (length xs) = omega arith in
+    elim (p x) as (λ b. IfSome (cond b (Some i) (position_from p (i + 1) xs)) (λ n. n < i + suc (length xs))) [
+      | true ↦ omega arith
+      | false ↦ rw next at (place_within p (i + 1) xs)
+    ]
+
+-- a place among other things that pass the same test
+pub place_from-map : {X Y : Type 0} (p : Y → Bool) (f : X → Y) (i : ℕ) (xs : List X) → position_from (λ x. p (f x)) i xs ≡ position_from p i (map f xs)
+place_from-map p f i [] = refl
+place_from-map p f i (x ∷ xs) = ap (λ o. cond (p (f x)) (Some i) o) (place_from-map p f (i + 1) xs)
 
 abbrev SectionList : Type 0
 SectionList = Section × List (List ℕ)

@@ -3,6 +3,8 @@
 #![tactic(auto)]
 
 mod error;
+mod index;
+mod indexed_modules;
 mod key;
 pub mod laws;
 mod limits;
@@ -21,6 +23,7 @@ mod table_sections;
 mod value;
 
 pub use error::SettingsError;
+pub use indexed_modules::IndexedModules;
 pub use key::SettingKey;
 pub use modules::Modules;
 pub use own_key::OwnKey;

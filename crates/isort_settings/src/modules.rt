@@ -2,6 +2,7 @@
 ghost use Rattle.std.specs.Prelude.{◌≡◌, bytes_eq, length, map, option_copied, slice_get, string_bytes};
 ghost use Rattle.isort_settings.specs.Sections.{holds};
 
+use crate::indexed_modules::IndexedModules;
 use crate::standard_library;
 
 /// The modules that a key lists. Only a list that settings give takes memory.
@@ -12,8 +13,10 @@ pub enum Modules {
     StandardLibrary,
     /// The default of `known_future_library`: `__future__` alone.
     Future,
-    /// A list that settings give.
+    /// A list in which a module is searched entry by entry.
     Listed(Vec<String>),
+    /// A list with an index, as settings that are read have it.
+    Indexed(IndexedModules),
 }
 
 /// The default of `known_future_library`.
@@ -30,6 +33,7 @@ impl Modules {
             Modules::StandardLibrary => standard_library::modules().len(),
             Modules::Future => FUTURE.len(),
             Modules::Listed(modules) => modules.len(),
+            Modules::Indexed(list) => list.modules().len(),
         }
     }
 
@@ -40,18 +44,20 @@ impl Modules {
         match self {
             Modules::StandardLibrary => text_at(standard_library::modules(), index),
             Modules::Future => text_at(&FUTURE, index),
-            Modules::Listed(modules) => modules.get(index).map(|module| module.as_str()),
+            Modules::Listed(modules) => entry_at(modules.as_slice(), index),
+            Modules::Indexed(list) => entry_at(list.modules(), index),
         }
     }
 
     /// Whether the list holds the module.
-    pub(crate) fn holds(&self, module: &[u8]) -> bool
+    pub(crate) fn holds(&self, module: &str) -> bool
         ensures { result ≡ holds (modules_of self.now) «module».now }
     {
         match self {
-            Modules::StandardLibrary => standard_library::holds(module),
-            Modules::Future => module == b"__future__".as_slice(),
-            Modules::Listed(modules) => is_among(modules, module),
+            Modules::StandardLibrary => standard_library::holds(module.as_bytes()),
+            Modules::Future => module.as_bytes() == b"__future__".as_slice(),
+            Modules::Listed(modules) => is_among(modules, module.as_bytes()),
+            Modules::Indexed(list) => list.holds(module),
         }
     }
 }
@@ -95,6 +101,13 @@ fn text_at(texts: &'static [&'static str], index: usize) -> Option<&'static str>
     ensures { option_copied result ≡ slice_get (map (λ t. t.now) texts.now) index }
 {
     texts.get(index).copied()
+}
+
+/// The entry at the index, if there are that many.
+fn entry_at(entries: &[String], index: usize) -> Option<&str>
+    ensures { option_copied result ≡ slice_get (map string_bytes entries.now) index }
+{
+    entries.get(index).map(|entry| entry.as_str())
 }
 
 /// Whether the entry is the text.

@@ -1,12 +1,12 @@
 //! The lists of the own sections.
-ghost use Rattle.std.specs.Prelude.{◌≡◌, ◌≤◌, ℕ, IfOk, OnOk, Some, None, List, [], if◌then◌else◌, bytes_eq, length, map, string_bytes};
-ghost use Rattle.std.specs.HashMap.{get_by_text};
+ghost use Rattle.std.specs.Prelude.{◌≡◌, IfOk, []};
 ghost use Rattle.std.specs.List.{position_from};
-ghost use Rattle.std.specs.Option.{option_or};
 ghost use Rattle.isort_settings.specs.Holds.{holds};
+ghost use Rattle.isort_settings.specs.OwnLists.{modules_of_lists};
 
+use crate::index::Index;
+use crate::modules::is_among;
 use std::alloc::{AllocError, Global};
-use std::collections::HashMap;
 use std::marker::Model;
 
 /// The lists of the own sections, a list of modules for each.
@@ -14,12 +14,12 @@ use std::marker::Model;
 pub struct OwnLists {
     /// The modules of each own section, in their order.
     lists: Vec<Vec<String>>,
-    /// For each module in a list, the place of the first list that holds it.
-    index: HashMap<String, u8>,
+    /// The index of the lists, where they were read from a table.
+    index: Option<Index>,
 }
 
 impl Model for OwnLists {
-    ghost use Rattle.std.specs.Prelude.{ℕ, List};
+    ghost use Rattle.std.specs.Prelude.{ℕ, IfSome, List};
 
     ghost Value = { List (List (List ℕ)) };
 
@@ -27,32 +27,32 @@ impl Model for OwnLists {
 
     ghost view = { λ own. modules_of_lists own.lists.items };
 
-    ghost invariant = { λ own. IsIndexOf (modules_of_lists own.lists.items) own.index };
+    ghost invariant = { λ own. IfSome own.index (λ index. IsIndexOf (modules_of_lists own.lists.items) index.places) };
 }
 
 impl OwnLists {
-    ghost use Rattle.isort_settings.specs.OwnLists.{modules_of_lists};
-
     /// No list. This takes no memory.
     pub(crate) fn none(alloc: Global) -> OwnLists
         ensures { result ≡ [] }
     {
         OwnLists {
             lists: Vec::new(alloc),
-            index: HashMap::new(alloc),
+            index: None,
         }
     }
 
-    /// The lists, in this order.
-    pub(crate) fn new(alloc: Global, lists: Vec<Vec<String>>) -> Result<OwnLists, AllocError>
-        requires { length lists.items ≤ 256 }
+    /// The lists, in this order, with an index of them.
+    pub(crate) fn indexed(alloc: Global, lists: Vec<Vec<String>>) -> Result<OwnLists, AllocError>
         ensures { IfOk result (λ own. own ≡ modules_of_lists lists.items) }
     {
-        let mut index = HashMap::new(alloc);
+        let mut index = Index::empty(alloc);
         for (place, list) in lists.iter().enumerate() {
-            add_list(&mut index, list, place as u8)?;
+            index.add_list(list, place)?;
         }
-        Ok(OwnLists { lists, index })
+        Ok(OwnLists {
+            lists,
+            index: Some(index),
+        })
     }
 
     /// The lists.
@@ -62,35 +62,40 @@ impl OwnLists {
         self.lists.as_slice()
     }
 
+    /// The lists, without the index. This takes no memory.
+    pub fn into_lists(self) -> Vec<Vec<String>>
+        ensures { modules_of_lists result.items ≡ self }
+    {
+        self.lists
+    }
+
     /// The place of the first list that holds the module.
-    pub(crate) fn holder(&self, module: &str) -> Option<u8>
+    pub(crate) fn holder(&self, module: &str) -> Option<usize>
         ensures { result ≡ position_from (λ list. holds list «module».now) 0 self.now }
     {
-        if self.lists.is_empty() {
-            return None;
+        match &self.index {
+            Some(index) => index.get(module),
+            None => first_holder(self.lists.as_slice(), module.as_bytes()),
         }
-        self.index.get(module).copied()
     }
 }
 
-/// Adds a module, unless it is there.
-fn add_module(index: &mut HashMap<String, u8>, name: &String, place: u8) -> Result<(), AllocError>
-    ensures { OnOk result ((text : List ℕ) → get_by_text index.new text
-        ≡ option_or (get_by_text index.old text) (if bytes_eq (string_bytes name.now) text then Some place else None)) }
+/// The place of the first list that holds the module, found list by list.
+fn first_holder(lists: &[Vec<String>], module: &[u8]) -> Option<usize>
+    ensures { result ≡ position_from (λ list. holds list «module».now) 0 (modules_of_lists lists.now) }
 {
-    index.entry(name.clone()?)?.or_insert(place);
-    Ok(())
+    lists
+        .iter()
+        .position(|list| is_among(list.as_slice(), module))
 }
 
-/// Adds the modules of a list that no earlier list holds.
-fn add_list(index: &mut HashMap<String, u8>, list: &[String], place: u8) -> Result<(), AllocError>
-    ensures { OnOk result ((text : List ℕ) → get_by_text index.new text
-        ≡ option_or (get_by_text index.old text) (if holds (map string_bytes list.now) text then Some place else None)) }
-{
-    for name in list {
-        add_module(index, name, place)?;
+/// The lists, in this order, without an index: a module is searched in one after another. This takes no memory.
+impl From<Vec<Vec<String>>> for OwnLists {
+    fn from(lists: Vec<Vec<String>>) -> OwnLists
+        ensures { result ≡ modules_of_lists lists.items }
+    {
+        OwnLists { lists, index: None }
     }
-    Ok(())
 }
 
 /// Lists are equal where they hold the same modules in the same order.

@@ -390,13 +390,13 @@ impl Settings {
         ensures { result ≡ section_holding (lists_of (values self.now)) prefix.now }
     {
         match self.own_lists.holder(prefix) {
-            Some(place) => Some(Section::Own(place)),
-            None => self.listed_in_five(prefix.as_bytes()),
+            Some(place) => Some(Section::Own(place as u8)),
+            None => self.listed_in_five(prefix),
         }
     }
 
     /// The section of the first list among those of the five that holds the prefix.
-    fn listed_in_five(&self, prefix: &[u8]) -> Option<Section>
+    fn listed_in_five(&self, prefix: &str) -> Option<Section>
         ensures { result ≡ section_holding (five_lists_of (values self.now)) prefix.now }
     {
         if self.known_local_folder.holds(prefix) {

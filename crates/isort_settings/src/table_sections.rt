@@ -166,7 +166,7 @@ impl TableSections {
         let (lists, refused) = own_lists(alloc, table, listed.own_names.as_slice())?;
         Ok(TableSections {
             listed,
-            own_lists: OwnLists::new(alloc, lists)?,
+            own_lists: OwnLists::indexed(alloc, lists)?,
             refused,
         })
     }

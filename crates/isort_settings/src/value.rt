@@ -10,6 +10,7 @@ ghost use Rattle.isort_settings.specs.Entries.{is_wildcard};
 ghost use Rattle.isort_settings.specs.Reading.{entry_of, entries_of, count_within, whole_within, read_value};
 
 use crate::error::SettingsError;
+use crate::indexed_modules::IndexedModules;
 use crate::key::SettingKey;
 use crate::limits::{Limits, MODES};
 use crate::modules::Modules;
@@ -120,7 +121,7 @@ impl KeyValue<'_> {
             → read_value [] texts self.entry.key (view self.entry.value.now) ≡ Err e) }
     {
         match texts(alloc, self.value)? {
-            Some(texts) => Ok(Modules::Listed(texts)),
+            Some(texts) => Ok(Modules::Indexed(IndexedModules::new(alloc, texts)?)),
             None => Err(SettingsError::BadValue(self.key)),
         }
     }

@@ -14,5 +14,5 @@ returns-clause-own_lists c =
     let ms = table_view c.args.table.now in
     let names : map string_bytes c.in-Some.listed.own_names.items ≡ own_names_in ms =
     ap (λ r. (result_unwrap_or r five_alone).own_names) (ap (λ o. ok_or (option_map listed_value o) (BadValue Sections)) (sym c.in-Some.is) ∙ c.in_ok-listed.ensures.sections) in
-    c.in_ok-new.ensures ∙ c.in_ok-lists.ensures.lists
+    c.in_ok-indexed.ensures ∙ c.in_ok-lists.ensures.lists
     ∙ ap (map (λ name. result_unwrap_or (own_list ms name) [])) (ap (map string_bytes) c.as_slice.ensures.value ∙ names)

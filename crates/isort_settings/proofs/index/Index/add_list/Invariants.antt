@@ -3,9 +3,9 @@ use Rattle.std.proofs.Common.{◌≡◌, ℕ, List, Some, None, if◌then◌else
 use Rattle.std.specs.HashMap.{get_by_text}
 use Rattle.std.specs.Option.{option_or}
 use Rattle.isort_settings.specs.Holds.{holds}
-use Rattle.isort_settings.proofs.own_lists.add_list.Given as goal
+use Rattle.isort_settings.proofs.index.Index.add_list.Given as goal
 
 abbrev pub invariant-loop-name : goal.invariant-loop-name
 invariant-loop-name l =
-    (text : List ℕ) → get_by_text l.index text
-    ≡ option_or (get_by_text l.initial.index text) (if holds (map string_bytes (take l.name-index l.list)) text then Some l.place else None)
+    (text : List ℕ) → get_by_text l.self.places text
+    ≡ option_or (get_by_text l.initial.self.places text) (if holds (map string_bytes (take l.name-index l.list)) text then Some l.place else None)

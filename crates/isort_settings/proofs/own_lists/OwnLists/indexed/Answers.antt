@@ -1,6 +1,6 @@
 -- One list more.
 use Rattle.isort_settings.proofs.Indexes.{one_list_more}
-use Rattle.isort_settings.proofs.own_lists.OwnLists.new.Goals as goal
+use Rattle.isort_settings.proofs.own_lists.OwnLists.indexed.Goals as goal
 
 pub loop-place-preserved : goal.loop-place-preserved
 loop-place-preserved c =
