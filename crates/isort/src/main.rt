@@ -5,12 +5,14 @@
 //! streams and the process's status.
 #![tactic(auto)]
 
+mod input;
 mod messages;
 mod output;
 mod rewrite;
 mod settings;
 mod task;
 
+use crate::input::Inputs;
 use crate::messages::{tell, tell_no_memory};
 use crate::output::Output;
 use crate::settings::{settings_of, tell_refusal};
@@ -78,11 +80,12 @@ fn run(rt: &HostRuntime, job: &Job) -> u8 {
 
 /// Takes the files in the order given. What comes of one says nothing of the next.
 fn run_over_files(rt: &HostRuntime, job: &Job, settings: &Settings) -> u8 {
+    let mut inputs = Inputs::new();
     let mut output = Output::new();
     let mut status = 0;
     for path in &job.files {
         let path = path.as_str();
-        let result = perform(rt, job.action.task(path), path, settings);
+        let result = perform(rt, &mut inputs, job.action.task(path), path, settings);
         status = status.max(output.tell_result(rt, path, &job.action, &result));
     }
     status

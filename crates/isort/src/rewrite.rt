@@ -3,7 +3,7 @@
 //! The new text goes to a new file beside the old one, which is renamed over the old one when it is whole. Where that
 //! can't be, the text is written in place, and a write that fails is taken back.
 use std::fs::{self, File, Metadata};
-use std::io::{self, ErrorKind, Read, Write};
+use std::io::{self, ErrorKind, Read, Seek, Write};
 use std::os::unix::fs::{FileExt, MetadataExt, OpenOptionsExt, fchown};
 use std::path::{Path, PathBuf};
 use std::process;
@@ -14,25 +14,20 @@ const MOST_NAMES: u32 = 16;
 /// The permissions of the new file until it has those of the old one: nobody else may read it.
 const OWNER_ONLY: u32 = 0o600;
 
-/// Gives the file at `path` a new text. `seen` is what the system said of the file before its text was read: if it says
-/// something else now, another program has changed the file, and it stays as it is.
+/// Gives the file at `path` a new text. `seen` is what the system said of the file before its old text was read: if it says
+/// something else now, or the file has another text, another program has changed it, and it stays as it is.
 ///
 /// After an error the file has its old text, unless that could not be written back.
 pub(crate) fn rewrite(
     rt: &HostRuntime,
     path: &str,
     seen: &Metadata,
-    text: &[u8],
+    old: &[u8],
+    new: &[u8],
 ) -> io::Result<()> {
-    // A file that may not be written is refused here, although its folder might let it be replaced.
-    let file = File::options().read(true).write(true).open(rt, path)?;
-    // To open a file for writing may touch it: an overlay of file systems makes its own copy of it then.
-    let opened = file.metadata()?;
-    if !has_same_text(&opened, seen) {
-        return Err(changed());
-    }
-    match replace(rt, path, &opened, text) {
-        Err(error) if is_no_place(error.kind()) => write_in_place(rt, &file, &opened, text),
+    let change = Change::begin(rt, path, seen, old, new)?;
+    match change.replace(rt, path) {
+        Err(error) if is_no_place(error.kind()) => change.write_in_place(rt),
         done => done,
     }
 }
@@ -60,36 +55,152 @@ fn has_same_text(now: &Metadata, then: &Metadata) -> bool {
         && now.mtime_nsec() == then.mtime_nsec()
 }
 
-/// That nothing of the file was changed since it was opened for writing.
-fn expect_unchanged(now: &Metadata, opened: &Metadata) -> io::Result<()> {
-    let is_untouched = now.ctime() == opened.ctime() && now.ctime_nsec() == opened.ctime_nsec();
-    if is_untouched && has_same_text(now, opened) {
-        Ok(())
-    } else {
-        Err(changed())
-    }
-}
-
 /// The error of a file that another program changed.
 fn changed() -> io::Error {
     io::Error::new(ErrorKind::Other, "the file was changed after it was read")
 }
 
-/// Writes the text to a new file and renames that over the old one. After an error the new file is gone.
-fn replace(rt: &HostRuntime, path: &str, opened: &Metadata, text: &[u8]) -> io::Result<()> {
-    if opened.nlink() != 1 {
-        return Err(io::Error::from(ErrorKind::Unsupported));
+/// A file that gets a new text.
+#[derive(Drop)]
+struct Change<'a> {
+    /// The file, open for reading and writing.
+    file: File,
+    /// What the system said of it when it was opened.
+    opened: Metadata,
+    /// The text that it had when it was sorted.
+    old: &'a [u8],
+    /// The text that it gets.
+    new: &'a [u8],
+}
+
+impl<'a> Change<'a> {
+    /// Opens the file for writing. One that may not be written is refused here, although its folder might let it be
+    /// replaced.
+    fn begin(
+        rt: &HostRuntime,
+        path: &str,
+        seen: &Metadata,
+        old: &'a [u8],
+        new: &'a [u8],
+    ) -> io::Result<Change<'a>> {
+        let file = File::options().read(true).write(true).open(rt, path)?;
+        // To open a file for writing may touch it: an overlay of file systems makes its own copy of it then.
+        let opened = file.metadata()?;
+        if !has_same_text(&opened, seen) {
+            return Err(changed());
+        }
+        Ok(Change {
+            file,
+            opened,
+            old,
+            new,
+        })
     }
-    let target = target(rt, path)?;
-    let (beside, file) = create_beside(rt, target.as_path())?;
-    let mut done = fill(&file, opened, text);
-    if done.is_ok() {
-        done = put_over(rt, beside.as_path(), target.as_path(), opened);
+
+    /// That nothing of the file was changed since it was opened: `now` is what the system says of it now.
+    fn expect_unchanged(&self, now: &Metadata) -> io::Result<()> {
+        let is_untouched = now.ctime() == self.opened.ctime()
+            && now.ctime_nsec() == self.opened.ctime_nsec();
+        if is_untouched && has_same_text(now, &self.opened) {
+            Ok(())
+        } else {
+            Err(changed())
+        }
     }
-    if done.is_err() {
-        let _left = fs::remove_file(rt, beside.as_path());
+
+    /// That the file still has the text that was sorted.
+    fn expect_old_text(&self, rt: &HostRuntime) -> io::Result<()> {
+        let mut held = Vec::with_capacity(rt.alloc(), self.old.len())?;
+        let mut file = &self.file;
+        file.rewind()?;
+        file.read_to_end(&mut held)?;
+        if held.as_slice() == self.old {
+            Ok(())
+        } else {
+            Err(changed())
+        }
     }
-    done
+
+    /// Writes the text to a new file and renames that over the old one. After an error the new file is gone.
+    fn replace(&self, rt: &HostRuntime, path: &str) -> io::Result<()> {
+        if self.opened.nlink() != 1 {
+            return Err(io::Error::from(ErrorKind::Unsupported));
+        }
+        let target = target(rt, path)?;
+        let (beside, file) = create_beside(rt, target.as_path())?;
+        let mut done = self.fill(&file);
+        if done.is_ok() {
+            done = self.put_over(rt, beside.as_path(), target.as_path());
+        }
+        if done.is_err() {
+            let _left = fs::remove_file(rt, beside.as_path());
+        }
+        done
+    }
+
+    /// Gives the new file the owner, the text and the permissions, in this order: a new owner may take permissions away.
+    fn fill(&self, mut file: &File) -> io::Result<()> {
+        keep_owner(file, &self.opened)?;
+        file.write_all(self.new)?;
+        file.set_permissions(self.opened.permissions())?;
+        file.sync_data()
+    }
+
+    /// Renames the new file over the old one, if that is still the one that was sorted.
+    fn put_over(&self, rt: &HostRuntime, beside: Path<'_>, target: Path<'_>) -> io::Result<()> {
+        self.expect_old_text(rt)?;
+        self.expect_unchanged(&fs::metadata(rt, target)?)?;
+        fs::rename(rt, beside, target)
+    }
+
+    /// Writes the text into the file. The file is locked until it is closed, so that only one isort writes into it: another
+    /// one is refused the lock, or finds a new text under it.
+    ///
+    /// The file is never cut before it holds the new text: what goes beyond its old end comes first, then the rest, and then
+    /// its length. If anything fails, the old text is written back.
+    fn write_in_place(&self, rt: &HostRuntime) -> io::Result<()> {
+        self.file.try_lock()?;
+        self.expect_old_text(rt)?;
+        self.expect_unchanged(&self.file.metadata()?)?;
+        if let Err(error) = self.lengthen() {
+            self.file.set_len(self.old.len() as u64)?;
+            return Err(error);
+        }
+        if let Err(error) = self.write_over() {
+            self.put_back()?;
+            return Err(error);
+        }
+        Ok(())
+    }
+
+    /// Makes the file longer, and writes what goes beyond its old length.
+    fn lengthen(&self) -> io::Result<()> {
+        match self.new.get(self.old.len()..) {
+            Some(rest) if !rest.is_empty() => {
+                // Where the process may write no file of this length, it is ended here, and the file has its old text.
+                self.file.set_len(self.new.len() as u64)?;
+                self.file.write_all_at(rest, self.old.len() as u64)?;
+                self.file.sync_data()
+            }
+            _ => Ok(()),
+        }
+    }
+
+    /// Writes what goes over the old text, and cuts the file at the end of the new one.
+    fn write_over(&self) -> io::Result<()> {
+        let over = self.old.len().min(self.new.len());
+        self.file.write_all_at(&self.new[..over], 0)?;
+        if over < self.old.len() {
+            self.file.set_len(over as u64)?;
+        }
+        self.file.sync_data()
+    }
+
+    /// Writes the old text back, and cuts the file at its end.
+    fn put_back(&self) -> io::Result<()> {
+        self.file.write_all_at(self.old, 0)?;
+        self.file.set_len(self.old.len() as u64)
+    }
 }
 
 /// The file that the path stands for: a link stays, and its target is replaced. The name of a target that can't be told
@@ -132,14 +243,6 @@ fn create(rt: &HostRuntime, path: Path<'_>) -> io::Result<File> {
     options.open(rt, path)
 }
 
-/// Gives the new file the owner, the text and the permissions, in this order: a new owner may take permissions away.
-fn fill(mut file: &File, opened: &Metadata, text: &[u8]) -> io::Result<()> {
-    keep_owner(file, opened)?;
-    file.write_all(text)?;
-    file.set_permissions(opened.permissions())?;
-    file.sync_data()
-}
-
 /// Gives the new file the owner and group of the old one. If that is refused, the file can't be replaced.
 fn keep_owner(file: &File, opened: &Metadata) -> io::Result<()> {
     let now = file.metadata()?;
@@ -150,63 +253,4 @@ fn keep_owner(file: &File, opened: &Metadata) -> io::Result<()> {
         Ok(()) => Ok(()),
         Err(_) => Err(io::Error::from(ErrorKind::Unsupported)),
     }
-}
-
-/// Renames the new file over the old one, if that is still the one that was opened for writing.
-fn put_over(
-    rt: &HostRuntime,
-    beside: Path<'_>,
-    target: Path<'_>,
-    opened: &Metadata,
-) -> io::Result<()> {
-    expect_unchanged(&fs::metadata(rt, target)?, opened)?;
-    fs::rename(rt, beside, target)
-}
-
-/// Writes the text into the file. The file is never cut before it holds the new text: what goes beyond its old end comes
-/// first, then the rest, and then its length. If anything fails, the old text is written back.
-fn write_in_place(
-    rt: &HostRuntime,
-    mut file: &File,
-    opened: &Metadata,
-    text: &[u8],
-) -> io::Result<()> {
-    let mut old = Vec::new(rt.alloc());
-    file.read_to_end(&mut old)?;
-    expect_unchanged(&file.metadata()?, opened)?;
-    if let Err(error) = lengthen(file, old.len(), text) {
-        file.set_len(old.len() as u64)?;
-        return Err(error);
-    }
-    if let Err(error) = write_over(file, old.len(), text) {
-        put_back(file, old.as_slice())?;
-        return Err(error);
-    }
-    Ok(())
-}
-
-/// Writes what goes beyond the old length.
-fn lengthen(file: &File, old_len: usize, text: &[u8]) -> io::Result<()> {
-    match text.get(old_len..) {
-        Some(rest) if !rest.is_empty() => {
-            file.write_all_at(rest, old_len as u64)?;
-            file.sync_data()
-        }
-        _ => Ok(()),
-    }
-}
-
-/// Writes what goes over the old text, and cuts the file at the end of the new one.
-fn write_over(file: &File, old_len: usize, text: &[u8]) -> io::Result<()> {
-    file.write_all_at(&text[..old_len.min(text.len())], 0)?;
-    if text.len() < old_len {
-        file.set_len(text.len() as u64)?;
-    }
-    file.sync_data()
-}
-
-/// Writes the old text back, and cuts the file at its end.
-fn put_back(file: &File, old: &[u8]) -> io::Result<()> {
-    file.write_all_at(old, 0)?;
-    file.set_len(old.len() as u64)
 }

@@ -1,57 +1,29 @@
 //! What is done with each file.
 use crate::MOST_BYTES;
+use crate::input::Inputs;
 use crate::messages::told_as;
 use crate::rewrite::rewrite;
 use isort_cmd::{
-    FindOptions, Metered, Outcome, RunError, STANDARD_INPUT, Settings, Task, check_run, identify,
-    read_text, sort_run,
+    FindOptions, Metered, Outcome, RunError, Settings, Task, check_run, identify, read_text,
+    sort_run,
 };
-use isort_sort::{Sorted, sort_code};
-use std::fs::{self, File, Metadata};
-use std::io::{self, BufWriter, Read, Stdin, Stdout, Write};
+use std::fs::{self, Metadata};
+use std::io::{BufWriter, Stdout, Write};
 
 /// Does the task with the file at `path`. By then no file is open any more, so that what is told of it goes nowhere else,
 /// even where the process was begun with a closed output.
 pub(crate) fn perform(
     rt: &HostRuntime,
+    inputs: &mut Inputs,
     task: Task,
     path: &str,
     settings: &Settings,
 ) -> Result<Outcome, RunError> {
     match task {
-        Task::List(options) => list(rt, path, options),
-        Task::Check => check(rt, path, settings),
-        Task::Print => print_sorted(rt, path, settings),
-        Task::Rewrite => sort_file(rt, path, settings),
-    }
-}
-
-/// Where a text comes from.
-#[derive(Drop)]
-enum Input {
-    /// Standard input.
-    Standard(Stdin),
-    /// A file.
-    File(File),
-}
-
-impl Read for Input {
-    fn read(&mut self, buf: &mut [u8]) -> io::Result<usize> {
-        match self {
-            Input::Standard(stdin) => stdin.read(buf),
-            Input::File(file) => file.read(buf),
-        }
-    }
-}
-
-/// What the path stands for.
-fn open(rt: &HostRuntime, path: &str) -> Result<Input, RunError> {
-    if path == STANDARD_INPUT {
-        return Ok(Input::Standard(rt.stdin()));
-    }
-    match File::open(rt, path) {
-        Ok(file) => Ok(Input::File(file)),
-        Err(error) => Err(told_as(&error, RunError::Read)),
+        Task::List(options) => list(rt, inputs, path, options),
+        Task::Check => check(rt, inputs, path, settings),
+        Task::Print => print_sorted(rt, inputs, path, settings),
+        Task::Rewrite => sort_file(rt, inputs, path, settings),
     }
 }
 
@@ -75,8 +47,13 @@ fn written_out(
 }
 
 /// Lists the imports on standard output.
-fn list(rt: &HostRuntime, path: &str, options: FindOptions) -> Result<Outcome, RunError> {
-    let mut reader = Metered::new(open(rt, path)?);
+fn list(
+    rt: &HostRuntime,
+    inputs: &mut Inputs,
+    path: &str,
+    options: FindOptions,
+) -> Result<Outcome, RunError> {
+    let mut reader = Metered::new(inputs.open(rt, path)?);
     let mut writer = Metered::new(buffered_output(rt)?);
     let listed = identify(
         rt.alloc(),
@@ -90,8 +67,13 @@ fn list(rt: &HostRuntime, path: &str, options: FindOptions) -> Result<Outcome, R
 }
 
 /// Compares the text with its sorted text.
-fn check(rt: &HostRuntime, path: &str, settings: &Settings) -> Result<Outcome, RunError> {
-    let mut reader = Metered::new(open(rt, path)?);
+fn check(
+    rt: &HostRuntime,
+    inputs: &mut Inputs,
+    path: &str,
+    settings: &Settings,
+) -> Result<Outcome, RunError> {
+    let mut reader = Metered::new(inputs.open(rt, path)?);
     Ok(if check_run(rt.alloc(), &mut reader, settings, MOST_BYTES)? {
         Outcome::Same
     } else {
@@ -100,28 +82,52 @@ fn check(rt: &HostRuntime, path: &str, settings: &Settings) -> Result<Outcome, R
 }
 
 /// Puts the sorted text on standard output.
-fn print_sorted(rt: &HostRuntime, path: &str, settings: &Settings) -> Result<Outcome, RunError> {
-    let mut reader = Metered::new(open(rt, path)?);
+fn print_sorted(
+    rt: &HostRuntime,
+    inputs: &mut Inputs,
+    path: &str,
+    settings: &Settings,
+) -> Result<Outcome, RunError> {
+    let mut reader = Metered::new(inputs.open(rt, path)?);
     let mut writer = Metered::new(buffered_output(rt)?);
     let sorted = sort_run(rt.alloc(), &mut reader, &mut writer, settings, MOST_BYTES);
     written_out(writer, sorted)
 }
 
 /// Sorts the text in memory, and rewrites the file only where that changed it.
-fn sort_file(rt: &HostRuntime, path: &str, settings: &Settings) -> Result<Outcome, RunError> {
+fn sort_file(
+    rt: &HostRuntime,
+    inputs: &mut Inputs,
+    path: &str,
+    settings: &Settings,
+) -> Result<Outcome, RunError> {
     let seen = look_at(rt, path)?;
-    let mut reader = Metered::new(open(rt, path)?);
-    let text = read_text(rt.alloc(), &mut reader, MOST_BYTES)?;
+    let mut reader = Metered::new(inputs.open(rt, path)?);
+    let old = read_text(rt.alloc(), &mut reader, MOST_BYTES)?;
     drop(reader);
-    let sorted = match sort_code(rt.alloc(), text.as_slice(), settings)? {
-        Sorted::Same => return Ok(Outcome::Same),
-        Sorted::Skipped => return Ok(Outcome::Skipped),
-        Sorted::Changed(sorted) => sorted,
-    };
-    drop(text);
-    match rewrite(rt, path, &seen, sorted.as_bytes()) {
-        Ok(()) => Ok(Outcome::Changed),
+    let (outcome, new) = sort_in_memory(rt, old.as_slice(), settings)?;
+    if !matches!(outcome, Outcome::Changed) {
+        return Ok(outcome);
+    }
+    match rewrite(rt, path, &seen, old.as_slice(), new.as_slice()) {
+        Ok(()) => Ok(outcome),
         Err(error) => Err(told_as(&error, RunError::Write)),
+    }
+}
+
+/// The sorted text, and what sorting came to.
+fn sort_in_memory(
+    rt: &HostRuntime,
+    text: &[u8],
+    settings: &Settings,
+) -> Result<(Outcome, Vec<u8>), RunError> {
+    let mut reader = Metered::new(text);
+    let mut writer = Metered::new(Vec::with_capacity(rt.alloc(), text.len())?);
+    match sort_run(rt.alloc(), &mut reader, &mut writer, settings, MOST_BYTES) {
+        Ok(outcome) => Ok((outcome, writer.into_inner())),
+        // A vector refuses bytes only where memory runs out.
+        Err(RunError::Write) => Err(RunError::Memory),
+        Err(error) => Err(error),
     }
 }
 
