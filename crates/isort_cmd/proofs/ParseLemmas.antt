@@ -1,12 +1,13 @@
 -- What a parse of a command line gives.
-use Rattle.std.proofs.Common.{◌≡◌, ◌∙◌, true, refl, Result, Ok, Err, IfOk, IfErr, List, [], inl, inr, subst, sym}
-use Rattle.clap.specs.Words.{FailsBy, HasKind, IsAmong, Kinds, Text, fault_of, is_simple, is_simple_and_free, kind_of}
+use Rattle.std.proofs.Common.{◌≡◌, ◌∙◌, true, refl, codes, Result, Ok, Err, IfOk, IfErr, List, [], inl, inr, subst, sym}
+use Rattle.clap.specs.Words.{FailsBy, HasKind, IsAmong, Kinds, Row, Text, fault_of, is_simple, is_simple_and_free, kind_of}
 use Rattle.clap.specs.declared.error.Error.{Error}
 use Rattle.clap.specs.declared.error.kind.ErrorKind.{ErrorKind}
 use Rattle.clap.specs.declared.error.kind.ErrorKind.TheVariants.{DisplayHelp, OutOfMemory}
 use Rattle.isort_cmd.specs.CommandLine.{IsUsageError}
 use Rattle.isort_cmd.specs.Options.{isort_app}
-use Rattle.isort_cmd.specs.Private.ParserSteps.{IsToldAs}
+use Rattle.isort_cmd.specs.Private.ParserSteps.{IsNoJob, IsToldAs}
+use Rattle.isort_cmd.specs.UsageText.{EndsInLineFeed, usage_text}
 use Rattle.isort_cmd.specs.declared.usage.UsageError.{UsageError}
 use Rattle.isort_cmd.specs.declared.usage.UsageError.TheVariants as usage
 
@@ -40,3 +41,14 @@ told words e (usage.Refused text) is kind = elim kind [
 ]
 told words e usage.Together is kind = absurd is
 told words e usage.Memory is kind = tt
+
+-- out of memory is told by a line
+pub line_of_no_memory : EndsInLineFeed (usage_text usage.Memory)
+line_of_no_memory = (codes "isort: R5 out of memory", refl)
+
+-- and so are the reasons why rows give no job
+pub line_of_no_job : (rows : List Row) (e : UsageError) → IsNoJob rows e → EndsInLineFeed (usage_text e)
+line_of_no_job rows (usage.Help text) is = absurd is
+line_of_no_job rows (usage.Refused text) is = absurd is
+line_of_no_job rows usage.Together is = (codes "isort: U1 options do not go together", refl)
+line_of_no_job rows usage.Memory is = line_of_no_memory

@@ -1,8 +1,9 @@
 //! The words of a command line, read as a job.
-ghost use Rattle.std.specs.Prelude.{◌≡◌, IfOk, IfErr, map, true, string_bytes};
+ghost use Rattle.std.specs.Prelude.{◌≡◌, IfOk, IfErr, IsTrue, map, true, string_bytes};
 ghost use Rattle.clap.specs.Words.{HasKind, fault_of, kind_of, takes};
 ghost use Rattle.isort_cmd.specs.Options.{isort_app};
 ghost use Rattle.isort_cmd.specs.CommandLine.{IsOfParser, IsReadAsJob, IsUsageError};
+ghost use Rattle.isort_cmd.specs.UsageText.{EndsInLineFeed, usage_text};
 ghost use Rattle.isort_cmd.specs.Private.ParserSteps.{IsParse, IsToldAs};
 
 use crate::arguments::isort_command;
@@ -11,7 +12,7 @@ use crate::job::Job;
 use crate::usage::UsageError;
 use clap::error::ErrorKind;
 use clap::{ArgMatches, Error};
-use std::alloc::Global;
+use std::alloc::{AllocError, Global};
 
 /// Reads the words of a command line, of which the first is the program's name.
 ///
@@ -26,6 +27,8 @@ use std::alloc::Global;
 pub fn command(alloc: Global, words: Vec<String>) -> Result<Job, UsageError>
     ensures ok { IfOk result (IsReadAsJob (map string_bytes words.items)) }
     ensures err { IfErr result (IsUsageError (map string_bytes words.items)) }
+    // What is printed is a line at least: the parser's text too isn't empty.
+    ensures line { IfErr result (λ e. EndsInLineFeed (usage_text e)) }
     // Words that the parser takes are neither refused nor answered with help.
     ensures taken { takes isort_app (map string_bytes words.items) ≡ true → IfErr result (λ e. ¬ IsOfParser e) }
 {
@@ -46,15 +49,34 @@ fn parse<'a>(alloc: Global, words: &'a [String]) -> Result<ArgMatches<'a>, Error
 
 /// What an error of the parser is told as.
 fn refusal(alloc: Global, error: &Error) -> UsageError
-    ensures { IsToldAs (kind_of error.now) result }
+    ensures told { IsToldAs (kind_of error.now) result }
+    ensures line { EndsInLineFeed (usage_text result) }
 {
     let kind = error.kind();
     if kind == ErrorKind::OutOfMemory {
         return UsageError::Memory;
     }
-    match format!(in alloc; "{error}") {
+    match parser_text(alloc, error) {
         Ok(text) if kind == ErrorKind::DisplayHelp => UsageError::Help(text),
         Ok(text) => UsageError::Refused(text),
         Err(_) => UsageError::Memory,
     }
+}
+
+/// The parser's text of an error. The parser doesn't promise how it ends: it gets a line feed where it has none.
+fn parser_text(alloc: Global, error: &Error) -> Result<String, AllocError>
+    ensures { IfOk result (λ text. EndsInLineFeed (string_bytes text)) }
+{
+    let mut text = format!(in alloc; "{error}")?;
+    if !ends_in_line_feed(text.as_str()) {
+        text.push('\n')?;
+    }
+    Ok(text)
+}
+
+/// Whether the text ends in a line feed.
+fn ends_in_line_feed(text: &str) -> bool
+    ensures { IsTrue result → EndsInLineFeed text.now }
+{
+    matches!(text.as_bytes().split_last(), Some((b'\n', _)))
 }
