@@ -2,8 +2,10 @@
 //!
 //! The new text goes to a new file beside the old one, which is renamed over the old one when it is whole. Where that
 //! can't be, the text is written in place, and a write that fails is taken back.
+use crate::MOST_BYTES;
+use isort_cmd::{Metered, RunError, read_text};
 use std::fs::{self, File, Metadata};
-use std::io::{self, ErrorKind, Read, Seek, Write};
+use std::io::{self, ErrorKind, Seek, Write};
 use std::os::unix::fs::{FileExt, MetadataExt, OpenOptionsExt, fchown};
 use std::path::{Path, PathBuf};
 use std::process;
@@ -108,16 +110,14 @@ impl<'a> Change<'a> {
         }
     }
 
-    /// That the file still has the text that was sorted.
+    /// That the file still has the text that was sorted. One that can't be read again is refused, too.
     fn expect_old_text(&self, rt: &HostRuntime) -> io::Result<()> {
-        let mut held = Vec::with_capacity(rt.alloc(), self.old.len())?;
         let mut file = &self.file;
         file.rewind()?;
-        file.read_to_end(&mut held)?;
-        if held.as_slice() == self.old {
-            Ok(())
-        } else {
-            Err(changed())
+        match read_text(rt.alloc(), &mut Metered::new(file), MOST_BYTES) {
+            Ok(held) if held.as_slice() == self.old => Ok(()),
+            Err(RunError::Memory) => Err(io::Error::from(ErrorKind::OutOfMemory)),
+            _ => Err(changed()),
         }
     }
 

@@ -94,7 +94,7 @@ fn print_sorted(
     written_out(writer, sorted)
 }
 
-/// Sorts the text in memory, and rewrites the file only where that changed it.
+/// Rewrites the file where its sorted text differs. A file that is sorted is only checked, which takes no second text.
 fn sort_file(
     rt: &HostRuntime,
     inputs: &mut Inputs,
@@ -102,6 +102,10 @@ fn sort_file(
     settings: &Settings,
 ) -> Result<Outcome, RunError> {
     let seen = look_at(rt, path)?;
+    let checked = check(rt, inputs, path, settings)?;
+    if !matches!(checked, Outcome::Changed) {
+        return Ok(checked);
+    }
     let mut reader = Metered::new(inputs.open(rt, path)?);
     let old = read_text(rt.alloc(), &mut reader, MOST_BYTES)?;
     drop(reader);
