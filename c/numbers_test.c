@@ -3,8 +3,8 @@
        numbers_test
 
    A call's answer is compared with the whole answer that docs/C.md says: by the names of the fields, and by their places in
-   memory. At a fault of a listing all fields that it speaks of are different. Prints each call that answers something else, and then 'N passed, M failed'.
-   It is linked with -Wl,--wrap=malloc,--wrap=realloc.  */
+   memory. At a fault of a listing all fields that it speaks of are different. Prints each call that answers something else, and
+   then 'N passed, M failed'. It is linked with -Wl,--wrap=malloc,--wrap=realloc.  */
 #include <inttypes.h>
 #include <stdio.h>
 #include <stdlib.h>
