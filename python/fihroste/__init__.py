@@ -1,6 +1,6 @@
 """Sorts, checks and lists the import statements of Python texts, with the calls of isort 5."""
 
-from . import exceptions, settings
+from . import api, exceptions, profiles, sections, settings, stdlibs, wrap_modes
 from .api import (
     check_code,
     check_file,
@@ -9,8 +9,10 @@ from .api import (
     file,
     find_imports_in_code,
     find_imports_in_file,
+    find_imports_in_paths,
     find_imports_in_stream,
     place_module,
+    place_module_with_reason,
     stream,
 )
 from .identify import Import, ImportKey
@@ -20,6 +22,7 @@ __all__ = [
     "Config",
     "Import",
     "ImportKey",
+    "api",
     "check_code",
     "check_file",
     "check_stream",
@@ -28,9 +31,15 @@ __all__ = [
     "file",
     "find_imports_in_code",
     "find_imports_in_file",
+    "find_imports_in_paths",
     "find_imports_in_stream",
     "place_module",
+    "place_module_with_reason",
+    "profiles",
+    "sections",
     "settings",
+    "stdlibs",
     "stream",
+    "wrap_modes",
 ]
 __version__ = "0.1.0"

@@ -2,8 +2,14 @@
 
 import os
 import sys
+from typing import NoReturn
 
 from .program import PROGRAM
 
-if __name__ == "__main__":
+
+def main() -> NoReturn:
     os.execv(PROGRAM, [PROGRAM, *sys.argv[1:]])
+
+
+if __name__ == "__main__":
+    main()

@@ -1,16 +1,32 @@
-"""The calls, with the names, parameters and defaults of isort 5."""
+"""The calls, with the names, parameters and defaults of isort 5.
 
+Parameters that several calls have:
+
+- `config`: a Config. Further keywords are settings, in its place.
+- `file_path`: the file that a text comes from. If there is no `config`, settings are searched from it. Exceptions, imports and
+  differences name it.
+- `extension`: None or "py"; any other raises UnsupportedSettings.
+- `disregard_skip`: without effect, since no setting skips a file.
+- `show_diff`: True or a stream; see `code`, `stream`, `check_code` and `file`.
+
+Exceptions that they have in common: ExistingSyntaxErrors, FileSkipComment, TextTooLong, UnsupportedSettings,
+ProfileDoesNotExist and InvalidSettingsPath of `exceptions`; TypeError for arguments of other types; ValueError for a `config`
+beside keywords; OSError where a file can't be read or written; MemoryError. After each of them the next call works."""
+
+import io
 import os
 import sys
 from pathlib import Path
-from typing import Any, Callable, Dict, Iterator, Optional, TextIO, Tuple, Union
+from typing import Any, Callable, Dict, Iterable, Iterator, Optional, Set, TextIO, Tuple, Union
 
 from . import _fihroste
-from .exceptions import ExistingSyntaxErrors, FileSkipComment, TextTooLong, UnsupportedSettings
-from .identify import Import, ImportKey
+from .diff import expect_stream, stream_of, write_diff
+from .exceptions import ExistingSyntaxErrors, FileSkipComment, TextTooLong, UnsupportedSettings, shown
+from .identify import Import, ImportKey, key_of
+from .paths import files_of
 from .settings import DEFAULT_CONFIG, Config
 
-_Path = Union[str, Path]
+_Path = Union[str, "os.PathLike[str]"]
 _Text = Union[str, bytes]
 _Answer = Tuple[int, int, int, int, Any]
 
@@ -41,13 +57,20 @@ def code(
     show_diff: Union[bool, TextIO] = False,
     **config_kwargs: Any,
 ) -> str:
-    """The text with its imports sorted. A text that asks to be left as it is raises FileSkipComment."""
-    if extension or disregard_skip or show_diff:
-        _refuse_parameters(extension=extension, disregard_skip=disregard_skip, show_diff=show_diff)
+    """The text with its imports sorted. A text that asks to be left as it is raises FileSkipComment.
+
+    As in isort 5, `show_diff` puts the difference in its place: with True that is what is answered, and nothing if the text is
+    sorted; a stream is written to, and the answer is empty."""
+    if extension or show_diff is not False:
+        _refuse_parameters(show_diff, extension=extension)
     text = _expect_text(code)
-    config = _config(config, file_path, config_kwargs)
-    sorted_text = _sorted(text, config, file_path)
-    return code if sorted_text is None else sorted_text
+    sorted_text = _sorted(text, _config(config, file_path, config_kwargs), file_path)
+    after = text if sorted_text is None else sorted_text
+    if not show_diff:
+        return after
+    difference = io.StringIO()
+    write_diff(text, after, file_path, stream_of(show_diff, difference))
+    return difference.getvalue()
 
 
 def check_code(
@@ -59,11 +82,13 @@ def check_code(
     disregard_skip: bool = False,
     **config_kwargs: Any,
 ) -> bool:
-    """Whether the text is sorted. A text that asks to be left as it is raises FileSkipComment."""
-    if extension or disregard_skip or show_diff:
-        _refuse_parameters(extension=extension, disregard_skip=disregard_skip, show_diff=show_diff)
+    """Whether the text is sorted. A text that asks to be left as it is raises FileSkipComment.
+
+    With `show_diff` the difference goes to the stream, or to standard output for True."""
+    if extension or show_diff is not False:
+        _refuse_parameters(show_diff, extension=extension)
     text = _expect_text(code)
-    return _is_sorted(text, _config(config, file_path, config_kwargs), file_path)
+    return _checked(text, _config(config, file_path, config_kwargs), file_path, show_diff)
 
 
 def stream(
@@ -79,9 +104,11 @@ def stream(
 ) -> bool:
     """Sorts what a stream has into another one, and answers whether that changed it. At an exception nothing is written.
 
-    A text that asks to be left as it is raises FileSkipComment, and is written as it is without `raise_on_skip`."""
-    if extension or disregard_skip or show_diff:
-        _refuse_parameters(extension=extension, disregard_skip=disregard_skip, show_diff=show_diff)
+    A text that asks to be left as it is raises FileSkipComment, and is written as it is without `raise_on_skip`. With
+    `show_diff` the difference is written in place of the text: to `output_stream` for True, or else to the stream that it
+    is."""
+    if extension or show_diff is not False:
+        _refuse_parameters(show_diff, extension=extension)
     config = _config(config, file_path, config_kwargs)
     text = _expect_text(input_stream.read())
     try:
@@ -90,7 +117,11 @@ def stream(
         if raise_on_skip:
             raise
         sorted_text = None
-    output_stream.write(text if sorted_text is None else sorted_text)
+    after = text if sorted_text is None else sorted_text
+    if show_diff:
+        write_diff(text, after, file_path, stream_of(show_diff, output_stream))
+    else:
+        output_stream.write(after)
     return sorted_text is not None
 
 
@@ -103,11 +134,11 @@ def check_stream(
     disregard_skip: bool = False,
     **config_kwargs: Any,
 ) -> bool:
-    """Whether what a stream has is sorted. A text that asks to be left as it is raises FileSkipComment."""
-    if extension or disregard_skip or show_diff:
-        _refuse_parameters(extension=extension, disregard_skip=disregard_skip, show_diff=show_diff)
+    """Whether what a stream has is sorted, as check_code says it of a text."""
+    if extension or show_diff is not False:
+        _refuse_parameters(show_diff, extension=extension)
     config = _config(config, file_path, config_kwargs)
-    return _is_sorted(_expect_text(input_stream.read()), config, file_path)
+    return _checked(_expect_text(input_stream.read()), config, file_path, show_diff)
 
 
 def file(
@@ -124,19 +155,26 @@ def file(
 ) -> bool:
     """Sorts a file where it stands, and answers whether that changed it. The program writes it, so no text is lost.
 
-    With `write_to_stdout` or `output` the sorted text goes there, and the file stays as it is."""
-    if extension or not disregard_skip or show_diff or ask_to_apply:
-        given = {"extension": extension, "disregard_skip": not disregard_skip, "show_diff": show_diff}
-        _refuse_parameters(**given, ask_to_apply=ask_to_apply)
+    With `write_to_stdout` or `output` the sorted text goes there, the file stays as it is, and the answer is whether the two
+    differ. With `show_diff` the difference goes to the stream, or to standard output for True; the file stays as it is, and the
+    answer is False. `ask_to_apply` has to be False. If there is no `config`, settings are searched beside the file, and beside
+    its target if it is a link."""
+    if extension or ask_to_apply or show_diff is not False:
+        _refuse_parameters(show_diff, extension=extension, ask_to_apply=ask_to_apply)
+    if show_diff and (write_to_stdout or output is not None):
+        raise ValueError("give show_diff, or write_to_stdout or output, not both")
     text = _read(filename)
     actual_path = file_path or filename
-    config = _config(config, actual_path, config_kwargs)
+    config = _config(config, file_path, config_kwargs, filename)
     sorted_text = _sorted(text, config, actual_path)
     if write_to_stdout or output is not None:
         stream = sys.stdout if output is None else output
         stream.write(text.decode("utf-8") if sorted_text is None else sorted_text)
         return sorted_text is not None
     if sorted_text is None:
+        return False
+    if show_diff:
+        write_diff(text.decode("utf-8"), sorted_text, actual_path, stream_of(show_diff))
         return False
     from .program import rewrite
 
@@ -152,12 +190,12 @@ def check_file(
     extension: Optional[str] = None,
     **config_kwargs: Any,
 ) -> bool:
-    """Whether a file is sorted. A text that asks to be left as it is raises FileSkipComment."""
-    if extension or not disregard_skip or show_diff:
-        _refuse_parameters(extension=extension, disregard_skip=not disregard_skip, show_diff=show_diff)
+    """Whether a file is sorted, as check_code says it of a text. Settings are searched as by `file`."""
+    if extension or show_diff is not False:
+        _refuse_parameters(show_diff, extension=extension)
     text = _read(filename)
-    actual_path = file_path or filename
-    return _is_sorted(text, _config(config, actual_path, config_kwargs), actual_path)
+    config = _config(config, file_path, config_kwargs, filename)
+    return _checked(text, config, file_path or filename, show_diff)
 
 
 def find_imports_in_code(
@@ -170,8 +208,8 @@ def find_imports_in_code(
 ) -> Iterator[Import]:
     """The imports of the text, in its order. The text's fault is raised after the imports before it.
 
-    With `unique` only the first import of each key is given, and with `top_only` only those before the first function
-    or class. Settings have no effect."""
+    With `unique` only the first import of each key is given: True means ImportKey.ALIAS. With `top_only` only those are given
+    that stand before the first function or class. Settings have no effect."""
     _config(config, None, config_kwargs)
     return _found(_expect_text(code), file_path, unique, top_only)
 
@@ -202,21 +240,61 @@ def find_imports_in_file(
     return _found(_read(filename), file_path or filename, unique, top_only)
 
 
-def place_module(name: str, config: Config = DEFAULT_CONFIG, **config_kwargs: Any) -> str:
-    """The section of a module: "FUTURE", "STDLIB", "THIRDPARTY", "FIRSTPARTY", "LOCALFOLDER", or an own one."""
+def find_imports_in_paths(
+    paths: Iterable[_Path],
+    config: Config = DEFAULT_CONFIG,
+    file_path: Optional[_Path] = None,
+    unique: Union[bool, ImportKey] = False,
+    top_only: bool = False,
+    **config_kwargs: Any,
+) -> Iterator[Import]:
+    """The imports of files, and of the files of Python below folders, as find_imports_in_code gives them.
+
+    Paths are taken in their order, and what is below a folder in the order of the names. A file that is named is read whatever
+    its ending. `unique` counts over all files. `file_path` has no effect. The first fault ends the listing, and so does the
+    first file that can't be read."""
+    if isinstance(paths, (str, bytes)):
+        raise TypeError("paths has to be several paths, not one")
     config = _config(config, None, config_kwargs)
-    answer = _answered(_fihroste.place, None, _expect_text(name), config._toml, config._profile)
-    if answer[0] == _ARGUMENT:
-        raise ValueError("the module's name is not UTF-8")
-    section: str = answer[4]
-    return section
+    return _in_paths(files_of(paths, config), _expect_key(unique), top_only)
 
 
-def _refuse_parameters(**given: Any) -> None:
+def place_module(name: str, config: Config = DEFAULT_CONFIG, **config_kwargs: Any) -> str:
+    """The section of a module: "FUTURE", "STDLIB", "THIRDPARTY", "FIRSTPARTY", "LOCALFOLDER", or an own one.
+
+    A name with a lone surrogate raises ValueError."""
+    return _place(name, _config(config, None, config_kwargs))
+
+
+def place_module_with_reason(name: str, config: Config = DEFAULT_CONFIG, **config_kwargs: Any) -> Tuple[str, str]:
+    """The section of a module, as place_module answers it, and why: the entry of a list, a leading dot, or the default."""
+    config = _config(config, None, config_kwargs)
+    section = _place(name, config)
+    if name.startswith("."):
+        return section, "Module name started with a dot."
+    lists = [value for key, value in config._all_values().items() if key.startswith("known_") and key != "known_other"]
+    listed: Set[str] = set().union(config.extra_standard_library, *config.known_other.values(), *lists)
+    names = name.split(".")
+    for count in range(len(names), 0, -1):
+        entry = ".".join(names[:count])
+        if entry in listed:
+            return section, f"Matched configured known pattern {entry}"
+    return section, "Default option in Config or universal default."
+
+
+# The names that the calls have in isort.api.
+sort_code_string = code
+check_code_string = check_code
+sort_stream = stream
+sort_file = file
+
+
+def _refuse_parameters(show_diff: Union[bool, TextIO], **given: Any) -> None:
     """Refuses the first parameter that asks for what isn't there."""
     for name, value in given.items():
         if value and not (name == "extension" and value == "py"):
-            raise UnsupportedSettings(f"{name} is not supported", name)
+            raise UnsupportedSettings(f"{name} is not supported", name, value=value)
+    expect_stream(show_diff)
 
 
 def _expect_text(text: Any) -> str:
@@ -225,7 +303,9 @@ def _expect_text(text: Any) -> str:
     return text
 
 
-def _config(config: Config, file_path: Optional[_Path], keywords: Dict[str, Any]) -> Config:
+def _config(
+    config: Config, file_path: Optional[_Path], keywords: Dict[str, Any], filename: Optional[_Path] = None
+) -> Config:
     """The settings of a call: its config, or its keywords over those that are found for its file."""
     if config is not DEFAULT_CONFIG:
         if not isinstance(config, Config):
@@ -233,17 +313,19 @@ def _config(config: Config, file_path: Optional[_Path], keywords: Dict[str, Any]
         if keywords:
             raise ValueError("give a config or keywords, not both")
         return config
-    if file_path and not keywords.keys() & {"settings_file", "settings_path", "config"}:
-        keywords = {**keywords, "settings_path": file_path}
+    path = file_path or (os.path.realpath(filename) if filename else None)
+    if path and not keywords.keys() & {"settings_file", "settings_path", "config"}:
+        keywords = {**keywords, "settings_path": path}
     return Config(**keywords) if keywords else config
 
 
 def _answered(call: Callable[..., _Answer], file_path: Optional[_Path], text: _Text, *words: Any) -> _Answer:
     """What a call of the extension answers. A lone surrogate becomes bytes that are not UTF-8."""
     try:
-        return call(text, *words)
-    except UnicodeEncodeError as error:
-        return call(error.object.encode("utf-8", "surrogatepass"), *words)
+        try:
+            return call(text, *words)
+        except UnicodeEncodeError as error:
+            return call(error.object.encode("utf-8", "surrogatepass"), *words)
     except OverflowError:
         raise TextTooLong(file_path) from None
 
@@ -264,7 +346,16 @@ def _sorted(text: _Text, config: Config, file_path: Optional[_Path]) -> Optional
     return sorted_text
 
 
-def _is_sorted(text: _Text, config: Config, file_path: Optional[_Path]) -> bool:
+def _checked(
+    text: _Text, config: Config, file_path: Optional[_Path], show_diff: Union[bool, TextIO]
+) -> bool:
+    """Whether the text is sorted. If it isn't, the difference may be shown."""
+    if show_diff:
+        sorted_text = _sorted(text, config, file_path)
+        if sorted_text is not None:
+            before = text.decode("utf-8") if isinstance(text, bytes) else text
+            write_diff(before, sorted_text, file_path, stream_of(show_diff))
+        return sorted_text is None
     answer = _answered(_fihroste.check, file_path, text, config._toml, config._profile)
     _expect_no_fault(answer, file_path)
     if answer[0] == _SKIPPED:
@@ -272,13 +363,26 @@ def _is_sorted(text: _Text, config: Config, file_path: Optional[_Path]) -> bool:
     return answer[0] != _CHANGED
 
 
+def _place(name: str, config: Config) -> str:
+    answer = _answered(_fihroste.place, None, _expect_text(name), config._toml, config._profile)
+    if answer[0] == _ARGUMENT:
+        raise ValueError("the module's name is not UTF-8")
+    section: str = answer[4]
+    return section
+
+
+def _expect_key(unique: Union[bool, ImportKey]) -> Optional[ImportKey]:
+    """The key by which imports count as one, if they do."""
+    if not isinstance(unique, (bool, ImportKey)):
+        raise TypeError(f"unique has to be a bool or an ImportKey, not {shown(unique)}")
+    return unique if isinstance(unique, ImportKey) else ImportKey.ALIAS if unique else None
+
+
 def _found(
     text: _Text, file_path: Optional[_Path], unique: Union[bool, ImportKey], top_only: bool
 ) -> Iterator[Import]:
-    if not isinstance(unique, (bool, ImportKey)):
-        raise TypeError(f"unique has to be a bool or an ImportKey, not {unique!r}")
-    key = unique if isinstance(unique, ImportKey) else ImportKey.ALIAS
-    answer = _answered(_fihroste.find, file_path, text, key.value if unique else 0, top_only)
+    key = _expect_key(unique)
+    answer = _answered(_fihroste.find, file_path, text, key.value if key else 0, top_only)
     return _each(answer, Path(file_path) if file_path else None)
 
 
@@ -286,6 +390,17 @@ def _each(answer: _Answer, file_path: Optional[Path]) -> Iterator[Import]:
     for line_number, indented, module, attribute, alias in answer[4]:
         yield Import(line_number, indented, module, attribute, alias, False, file_path)
     _expect_no_fault(answer, file_path)
+
+
+def _in_paths(files: Iterator[str], key: Optional[ImportKey], top_only: bool) -> Iterator[Import]:
+    seen: Set[Tuple[Optional[str], ...]] = set()
+    for name in files:
+        for found in _found(_read(name), name, key or False, top_only):
+            if key is not None and key_of(found, key) in seen:
+                continue
+            if key is not None:
+                seen.add(key_of(found, key))
+            yield found
 
 
 def _read(path: _Path) -> bytes:

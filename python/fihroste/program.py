@@ -1,27 +1,56 @@
 """The program isort, which the package carries."""
 
+import errno
 import os
+import re
 
 PROGRAM = os.path.join(os.path.dirname(os.path.abspath(__file__)), "isort")
 
 # The words that stand for a profile's number.
 _PROFILES = ((), ("--profile", "black"))
+# What the program prints when memory ran out.
+_MEMORY = re.compile(rb"\bR5 out of memory$", re.M)
 
 
 def rewrite(path: str, settings: bytes, profile: int) -> bool:
     """Has the program sort the file under the text of a settings file and a profile. Answers whether it was written.
 
-    The program writes so that no file is lost, so nothing is written here."""
+    The program writes so that no file is lost, so nothing is written here. It takes only names in UTF-8: a file of another
+    name it gets by a link, and writes it in place."""
     import subprocess
     import tempfile
 
-    with tempfile.NamedTemporaryFile(suffix=".toml") as settings_file:
-        settings_file.write(settings)
-        settings_file.flush()
-        words = ["--settings-file", settings_file.name, *_PROFILES[profile], "--", os.path.abspath(path)]
+    with tempfile.TemporaryDirectory() as folder:
+        settings_file = os.path.join(folder, "settings.toml")
+        with open(settings_file, "wb") as written:
+            written.write(settings)
+        name = os.path.abspath(path)
+        if not _is_utf8(name):
+            name = os.path.join(folder, "file")
+            os.symlink(os.path.abspath(path), name)
+        words = ["--settings-file", settings_file, *_PROFILES[profile], "--", name]
         run = subprocess.run(
             [PROGRAM, *words], stdin=subprocess.DEVNULL, stdout=subprocess.PIPE, stderr=subprocess.PIPE
         )
-    if run.returncode != 0:
-        raise OSError(os.fsdecode(run.stderr).strip())
-    return run.stdout.startswith(b"Fixing ")
+    if run.returncode == 0:
+        return run.stdout.startswith(b"Fixing ")
+    if _MEMORY.search(run.stderr):
+        raise MemoryError
+    said = os.fsdecode(run.stderr).strip() or f"the program ended with status {run.returncode}"
+    raise OSError(_reason(path), said.replace(name, path), path)
+
+
+def _is_utf8(name: str) -> bool:
+    try:
+        os.fsencode(name).decode("utf-8")
+    except UnicodeDecodeError:
+        return False
+    return True
+
+
+def _reason(path: str) -> int:
+    """The number of the system's error for which a file was most likely not written."""
+    folder = os.path.dirname(os.path.abspath(path))
+    if not os.path.exists(path):
+        return errno.ENOENT
+    return errno.EACCES if not os.access(path, os.W_OK) or not os.access(folder, os.W_OK) else errno.EIO

@@ -1,50 +1,22 @@
 """Settings: those of a pyproject.toml, keywords, or keywords over a pyproject.toml."""
 
-import importlib
 import os
 import re
-import warnings
-from pathlib import Path
+import stat
 from types import MappingProxyType
-from typing import Any, Dict, List, Mapping, Optional, Tuple, Union
+from typing import Any, Dict, FrozenSet, List, Mapping, NoReturn, Optional, Tuple, Union
 
-from . import _fihroste
-from .exceptions import InvalidSettingsPath, ProfileDoesNotExist, TextTooLong, UnsupportedSettings
+from . import _fihroste, search, toml_text
+from .exceptions import RUNTIME_SOURCE, ProfileDoesNotExist, TextTooLong, UnsupportedSettings, shown
+from .keywords import VALID_PY_TARGETS, WITHOUT_EFFECT, known, without_effect
+from .profiles import profiles
+from .sections import DEFAULT, THIRDPARTY
+from .stdlibs.py3 import stdlib
+from .wrap_modes import WrapModes
 
-_Path = Union[str, Path]
+__all__ = ["DEFAULT_CONFIG", "VALID_PY_TARGETS", "Config"]
 
-# The keys of [tool.isort], with the type that a keyword has to have. A list may be any collection of texts.
-_KINDS: Mapping[str, type] = MappingProxyType(
-    {
-        "profile": str,
-        "line_length": int,
-        "multi_line_output": int,
-        "include_trailing_comma": bool,
-        "force_grid_wrap": int,
-        "use_parentheses": bool,
-        "ensure_newline_before_comments": bool,
-        "force_single_line": bool,
-        "force_sort_within_sections": bool,
-        "case_sensitive": bool,
-        "combine_as_imports": bool,
-        "order_by_type": bool,
-        "lines_between_sections": int,
-        "lines_between_types": int,
-        "lines_after_imports": int,
-        "default_section": str,
-        "sections": list,
-        "known_standard_library": list,
-        "extra_standard_library": list,
-        "known_third_party": list,
-        "known_first_party": list,
-        "known_local_folder": list,
-        "known_future_library": list,
-    }
-)
-_COLLECTIONS = (list, tuple, set, frozenset)
-
-# The keys that may be the list of an own section. The libraries tell whether there is such a section.
-_OWN_LIST = re.compile("known_[a-z][a-z0-9_]*")
+_Path = Union[str, "os.PathLike[str]"]
 
 # The statuses and labels of fihroste.h.
 _REFUSED = 4
@@ -53,18 +25,64 @@ _NOT_TOML, _BAD_VALUE, _UNKNOWN_PROFILE, _BAD_MODE = 1, 2, 3, 4
 _PROFILES = MappingProxyType({"black": 1})
 _NO_PROFILE = 0
 
-# How many folders are searched for a pyproject.toml, and in which folders the search ends, as in isort 5.
-_MOST_FOLDERS = 25
-_LAST_FOLDERS = (".git", ".hg")
+# The values of settings where nothing says otherwise.
+_DEFAULTS: Mapping[str, Any] = MappingProxyType(
+    {
+        "profile": "",
+        "line_length": 79,
+        "multi_line_output": 0,
+        "include_trailing_comma": False,
+        "force_grid_wrap": 0,
+        "use_parentheses": False,
+        "ensure_newline_before_comments": False,
+        "force_single_line": False,
+        "force_sort_within_sections": False,
+        "case_sensitive": False,
+        "combine_as_imports": False,
+        "order_by_type": True,
+        "lines_between_sections": 1,
+        "lines_between_types": 0,
+        "lines_after_imports": -1,
+        "default_section": THIRDPARTY,
+        "sections": DEFAULT,
+        "known_standard_library": frozenset(stdlib),
+        "extra_standard_library": frozenset(),
+        "known_third_party": frozenset(),
+        "known_first_party": frozenset(),
+        "known_local_folder": frozenset(),
+        "known_future_library": frozenset(("__future__",)),
+    }
+)
+# The endings of files' names that hold Python, and those that don't.
+_SUPPORTED: FrozenSet[str] = frozenset(("py", "pyi", "pyx", "pxd"))
+_BLOCKED: FrozenSet[str] = frozenset(("pex",))
+_SHEBANG = re.compile(rb"^#!.*\bpython[23w]?\b")
+_SHEBANG_ROOM = 100
 
 
 class Config:
     """Settings. They are read when the object is made, and never change.
 
-    `settings_file` is a pyproject.toml, `settings_path` a file or folder at or above which the nearest pyproject.toml
-    is taken, `config` another Config. One of them at most is given. The keywords are keys of [tool.isort], and win."""
+    `settings_file` is a pyproject.toml. `settings_path` is a file or folder, and the nearest pyproject.toml with a table
+    [tool.isort] at or above it is taken; it is not looked at beside `settings_file`. `config` is another Config, which stands
+    in place of a file. The keywords are keys of [tool.isort], and win.
 
-    __slots__ = ("_text", "_keywords", "_toml", "_profile")
+    Each setting is an attribute to read, such as `line_length`, with its value from a keyword, the file, the profile or the
+    defaults. Lists of modules are frozensets, `sections` is a tuple, and `known_other` has the lists of own sections under
+    the names of these in small letters. Configs with equal attributes are equal.
+
+    It raises UnsupportedSettings, ProfileDoesNotExist and InvalidSettingsPath; OSError if `settings_file` can't be read;
+    TypeError for a value of another type than its key's; ValueError for `config` beside a file or path."""
+
+    __slots__ = ("_text", "_path", "_keywords", "_other", "_toml", "_profile", "_values")
+
+    _text: bytes
+    _path: str
+    _keywords: Dict[str, Any]
+    _other: Dict[str, Any]
+    _toml: bytes
+    _profile: int
+    _values: Optional[Dict[str, Any]]
 
     def __init__(
         self,
@@ -73,150 +91,186 @@ class Config:
         config: Optional["Config"] = None,
         **config_overrides: Any,
     ) -> None:
-        if sum(map(bool, (settings_file, settings_path, config))) > 1:
-            raise ValueError("give only one of settings_file, settings_path and config")
         if config is not None and not isinstance(config, Config):
             raise TypeError(f"config has to be a Config, not {type(config).__name__}")
-        path = os.fspath(settings_file or "") or _search(settings_path)
-        self._text: bytes = _read(path) if path else config._text if config else b""
-        self._keywords: Dict[str, Any] = {**(config._keywords if config else {}), **_known(config_overrides)}
-        self._toml, self._profile = _whole(self._text, self._keywords)
-        unknown = _expect_accepted(self._toml, self._profile, self._keywords)
+        if config is not None and (settings_file or settings_path):
+            raise ValueError("give a config, or a settings_file or settings_path, not both")
+        path, text = _settings_text(os.fspath(settings_file or ""), os.fspath(settings_path or ""))
+        if config is not None:
+            path, text = config._path, config._text
+        keywords = {**(config._keywords if config else {}), **known(config_overrides)}
+        other = {**(config._other if config else {}), **without_effect(config_overrides)}
+        toml, profile = _whole(text, keywords, path)
+        unknown = _expect_accepted(toml, profile, text, keywords, path)
+        self._set(text, path, keywords, other, toml, profile)
         for key in unknown:
-            if key in self._keywords:
-                raise UnsupportedSettings(f"unknown setting {key}", key)
-        for key in unknown if path else ():
-            warnings.warn(f"{path}: settings: {key} ignored", stacklevel=2)
+            if key in keywords:
+                raise UnsupportedSettings(f"unknown setting {key}", key, value=keywords[key])
+        for key in unknown if path and config is None else ():
+            search.warn(f"{path}: settings: {key} ignored")
+
+    def _set(self, *values: Any) -> None:
+        for name, value in zip(self.__slots__, (*values, None)):
+            object.__setattr__(self, name, value)
+
+    def __setattr__(self, name: str, value: Any) -> NoReturn:
+        raise AttributeError(f"a Config never changes: make one with Config(config=other, {name}=..)")
+
+    def __delattr__(self, name: str) -> NoReturn:
+        raise AttributeError("a Config never changes")
+
+    def __reduce__(self) -> Tuple[Any, ...]:
+        return _made, (self._text, self._path, self._keywords, self._other, self._toml, self._profile)
+
+    def __getattr__(self, name: str) -> Any:
+        values = {} if name.startswith("_") else self._all_values()
+        if name not in values:
+            raise AttributeError(f"a Config has no {name}")
+        return values[name]
+
+    def __dir__(self) -> List[str]:
+        return [*super().__dir__(), *_DEFAULTS, *WITHOUT_EFFECT, "known_other", "supported_extensions", "blocked_extensions"]
+
+    def __eq__(self, other: object) -> bool:
+        if not isinstance(other, Config):
+            return NotImplemented
+        return bool(self._identity() == other._identity())
+
+    def __hash__(self) -> int:
+        return hash(self._identity())
 
     def __repr__(self) -> str:
-        words = [f"{key}={value!r}" for key, value in self._keywords.items()]
+        words = [f"{key}={shown(value)}" for key, value in {**self._keywords, **self._other}.items()]
         return f"Config({', '.join((['...'] if self._text else []) + words)})"
 
+    def _all_values(self) -> Dict[str, Any]:
+        """The values of all settings, in the types that isort 5 has for them."""
+        if self._values is None:
+            object.__setattr__(self, "_values", _values(self._text, self._keywords, self._other))
+        assert self._values is not None
+        return self._values
 
-def _known(keywords: Mapping[str, Any]) -> Dict[str, Any]:
-    """The keywords, with collections as tuples. Refuses those that are no keys, or whose values have another type."""
-    known: Dict[str, Any] = {}
-    for key, value in keywords.items():
-        kind = list if _OWN_LIST.fullmatch(key) else _KINDS.get(key)
-        if kind is None:
-            raise UnsupportedSettings(f"unknown setting {key}", key)
-        if kind is list:
-            is_right = isinstance(value, _COLLECTIONS) and all(isinstance(item, str) for item in value)
-        else:
-            is_right = isinstance(value, kind) and (kind is bool or not isinstance(value, bool))
-        if not is_right:
-            wanted = "list of str" if kind is list else kind.__name__
-            raise TypeError(f"{key} has to be a {wanted}, not {value!r}")
-        known[key] = tuple(value) if kind is list else value
-    return known
+    def _identity(self) -> Tuple[Any, ...]:
+        """What is equal of Configs with equal settings."""
+        if self._text and toml_text.reader() is None:
+            return self._toml, self._profile, *sorted(self._other.items())
+        values = self._all_values()
+        others = tuple(sorted(values["known_other"].items()))
+        return others, *(value for key, value in sorted(values.items()) if key != "known_other")
+
+    def is_supported_filetype(self, file_name: _Path) -> bool:
+        """Whether the file is one of Python's: by the ending of its name, or else by its #! line."""
+        file_name = os.fspath(file_name)
+        ending = os.path.splitext(file_name)[1].lstrip(".")
+        if ending in _SUPPORTED or ending in _BLOCKED:
+            return ending in _SUPPORTED
+        # A name that ends so is an editor's copy, and a pipe could be waited for without end.
+        if file_name.endswith("~") or _is_pipe(file_name):
+            return False
+        try:
+            with open(file_name, "rb") as source_file:
+                return _SHEBANG.match(source_file.readline(_SHEBANG_ROOM)) is not None
+        except OSError:
+            return False
+
+    def is_skipped(self, file_path: _Path) -> bool:
+        """Whether settings say that the file is left as it is: never, since no setting does."""
+        return False
 
 
-def _whole(text: bytes, keywords: Mapping[str, Any]) -> Tuple[bytes, int]:
-    """The text of settings that stands for a text under keywords, and the number of the profile that wins over it."""
-    profile = _PROFILES.get(keywords.get("profile", ""), _NO_PROFILE)
-    lines = {key: value for key, value in keywords.items() if key != "profile" or not profile}
-    if not lines:
-        return text, profile
-    table = _table(text, next(iter(lines))) if text else {}
-    return _toml({**table, **lines}), profile
+def _made(*values: Any) -> Config:
+    """The Config of a pickle."""
+    config = object.__new__(Config)
+    config._set(*values)
+    return config
 
 
-def _table(text: bytes, key: str) -> Dict[str, Any]:
-    """The table [tool.isort] of a text, which goes under a keyword."""
-    reader = _toml_reader(key)
+def _is_pipe(path: str) -> bool:
     try:
-        tool = reader.loads(text.decode("utf-8-sig")).get("tool", {})
-    except ValueError:
-        tool = None
-    table = tool.get("isort", {}) if isinstance(tool, dict) else None
-    if isinstance(table, dict):
+        return stat.S_ISFIFO(os.stat(path).st_mode)
+    except OSError:
+        return False
+
+
+def _settings_text(settings_file: str, settings_path: str) -> Tuple[str, bytes]:
+    """The path and the text of a settings file: the one that is given, or the one that is found."""
+    if settings_file:
+        search.expect_project(settings_file)
+        return settings_file, search.read(settings_file)
+    return search.nearest(settings_path) if settings_path else ("", b"")
+
+
+def _whole(text: bytes, keywords: Mapping[str, Any], path: str) -> Tuple[bytes, int]:
+    """The text of settings that stands for a text under keywords, and the number of the profile that wins over it."""
+    given = keywords.get("profile", "")
+    profile = _PROFILES.get(given, _NO_PROFILE)
+    lines = {key: value for key, value in keywords.items() if key != "profile" or (given and not profile)}
+    takes_profile_away = given == "" and "profile" in keywords and b"profile" in text
+    if not lines and not takes_profile_away:
+        return text, profile
+    table = _table(text, next(iter(lines), "profile"), path) if text else {}
+    if takes_profile_away:
+        table.pop("profile", None)
+    return toml_text.written({**table, **lines}), profile
+
+
+def _table(text: bytes, key: str, path: str) -> Dict[str, Any]:
+    """The table [tool.isort] of the text of the file at `path`, which goes under a keyword."""
+    toml_text.expect_reader(key)
+    table = toml_text.table_of(text)
+    if table is not None:
         return table
     # What is no TOML, or no table, is refused by the same rules as without keywords.
-    _expect_accepted(text, _NO_PROFILE, {})
-    raise UnsupportedSettings("the settings are not TOML", None, f"S{_NOT_TOML}")
+    _expect_accepted(text, _NO_PROFILE, text, {}, path)
+    raise UnsupportedSettings("the settings are not TOML", None, f"S{_NOT_TOML}", None, path)
 
 
-def _toml_reader(key: str) -> Any:
-    """The module that reads TOML: Python has one since 3.11."""
-    for name in ("tomllib", "tomli"):
-        try:
-            return importlib.import_module(name)
-        except ImportError:
-            pass
-    raise UnsupportedSettings(f"{key} over a settings file needs Python 3.11, or the package tomli", key)
+def _expect_accepted(toml: bytes, profile: int, text: bytes, keywords: Mapping[str, Any], path: str) -> List[str]:
+    """Refuses settings as the program does. Answers the keys that it doesn't know.
 
-
-def _toml(lines: Mapping[str, Any]) -> bytes:
-    text = "".join(f"{_toml_text(key)} = {_toml_value(value)}\n" for key, value in lines.items())
-    return f"[tool.isort]\n{text}".encode()
-
-
-def _toml_value(value: Any) -> str:
-    """The value as TOML. One that no key may have becomes a table, which no key may have either."""
-    if isinstance(value, bool):
-        return "true" if value else "false"
-    if isinstance(value, int) and -(2**63) <= value < 2**63:
-        return str(int(value))
-    if isinstance(value, str) and _is_utf8(value):
-        return _toml_text(value)
-    if isinstance(value, _COLLECTIONS) and all(isinstance(item, str) and _is_utf8(item) for item in value):
-        return "[" + ", ".join(map(_toml_text, value)) + "]"
-    return "{}"
-
-
-def _is_utf8(text: str) -> bool:
-    try:
-        text.encode()
-    except UnicodeEncodeError:
-        return False
-    return True
-
-
-def _toml_text(text: str) -> str:
-    """The text as a string of TOML."""
-    escaped = [f"\\u{ord(c):04x}" if c < " " or c in '"\\\x7f' else c for c in text]
-    return f'"{"".join(escaped)}"'
-
-
-def _expect_accepted(toml: bytes, profile: int, keywords: Mapping[str, Any]) -> List[str]:
-    """Refuses settings as the program does. Answers the keys that it doesn't know."""
+    `toml` stands for `text`, which the file at `path` has, under the keywords."""
     try:
         status, label, _, _, value = _fihroste.settings(toml, profile)
     except OverflowError:
-        raise TextTooLong("the settings") from None
+        raise TextTooLong(path or "the settings") from None
     if status != _REFUSED:
         return list(value)
-    if label == _UNKNOWN_PROFILE:
-        raise ProfileDoesNotExist(keywords.get("profile"))
     if label == _NOT_TOML:
-        raise UnsupportedSettings("the settings are not TOML", None, f"S{label}")
-    key = "multi_line_output" if label == _BAD_MODE else str(value)
+        raise UnsupportedSettings("the settings are not TOML", None, f"S{label}", None, path or RUNTIME_SOURCE)
+    table = (toml_text.table_of(text) or {}) if text else {}
+    key = {_UNKNOWN_PROFILE: "profile", _BAD_MODE: "multi_line_output"}.get(label) or str(value)
+    source = RUNTIME_SOURCE if key in keywords or not path else path
+    given = keywords.get(key, table.get(key))
+    if label == _UNKNOWN_PROFILE:
+        raise ProfileDoesNotExist(given, source)
     words = "unsupported" if label == _BAD_MODE else "bad value for"
-    given = f": {keywords[key]!r}" if key in keywords else ""
-    raise UnsupportedSettings(f"{words} {key}{given}", key, f"S{label}")
+    ending = f": {shown(given)}" if key in keywords or key in table else ""
+    raise UnsupportedSettings(f"{words} {key}{ending}", key, f"S{label}", given, source)
 
 
-def _search(path: _Path) -> str:
-    """The nearest pyproject.toml at or above a path, up to the top of a repository, or nothing."""
-    if not path:
-        return ""
-    folder = os.path.abspath(path)
-    if not os.path.exists(folder):
-        raise InvalidSettingsPath(str(path))
-    for _ in range(_MOST_FOLDERS):
-        settings_file = os.path.join(folder, "pyproject.toml")
-        if os.path.isfile(settings_file):
-            return settings_file
-        above = os.path.dirname(folder)
-        if above == folder or any(os.path.isdir(os.path.join(folder, name)) for name in _LAST_FOLDERS):
-            break
-        folder = above
-    return ""
+def _values(text: bytes, keywords: Mapping[str, Any], other: Mapping[str, Any]) -> Dict[str, Any]:
+    """The values of all settings. Those of a text need a reader of TOML."""
+    if text:
+        toml_text.expect_reader("reading a setting")
+    table = {**((toml_text.table_of(text) or {}) if text else {}), **keywords}
+    given = {**_DEFAULTS, **profiles.get(table.get("profile", ""), {}), **table}
+    values = {key: _as_read(key, given[key]) for key in _DEFAULTS}
+    own = {f"known_{section.lower()}": section.lower() for section in values["sections"] if section not in DEFAULT}
+    values["known_other"] = {name: frozenset(given[key]) for key, name in own.items() if key in table}
+    values.update(WITHOUT_EFFECT, supported_extensions=_SUPPORTED, blocked_extensions=_BLOCKED)
+    values.update(other)
+    version = values["py_version"]
+    values["py_version"] = version if version == "all" else "py3" if version == "auto" else f"py{version}"
+    return values
 
 
-def _read(path: str) -> bytes:
-    with open(path, "rb") as settings_file:
-        return settings_file.read()
+def _as_read(key: str, value: Any) -> Any:
+    """The value of a setting in the type that isort 5 has for it."""
+    if key == "multi_line_output":
+        return WrapModes(value)
+    if key == "sections":
+        return tuple(value)
+    return frozenset(value) if isinstance(value, (list, tuple)) else value
 
 
 DEFAULT_CONFIG = Config()

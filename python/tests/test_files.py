@@ -1,8 +1,10 @@
 """Sorting and checking of files, and the program."""
 
 import contextlib
+import errno
 import io
 import os
+import pathlib
 import subprocess
 import sys
 import tempfile
@@ -80,10 +82,30 @@ class Files(unittest.TestCase):
             self.assertEqual(self.read(), text)
 
     def test_files_that_cannot_be_read(self):
-        for path in (self.path + ".not", os.path.dirname(self.path)):
+        for path, number in ((self.path + ".not", errno.ENOENT), (os.path.dirname(self.path), errno.EISDIR)):
             for call in (fihroste.file, fihroste.check_file, fihroste.find_imports_in_file):
-                with self.subTest(path=path, call=call), self.assertRaises(OSError):
+                with self.subTest(path=path, call=call), self.assertRaises(OSError) as raised:
                     call(path)
+                self.assertEqual((raised.exception.errno, str(raised.exception.filename)), (number, path))
+
+    def test_names_may_be_paths(self):
+        for path in (pathlib.Path(self.path), pathlib.PurePath(self.path)):
+            self.assertFalse(fihroste.check_file(path))
+            self.assertFalse(fihroste.check_code(SHOP, file_path=path))
+            self.assertEqual(next(fihroste.find_imports_in_file(path)).file_path, pathlib.Path(self.path))
+        self.assertTrue(fihroste.file(pathlib.PurePath(self.path)))
+        self.assertEqual(self.read(), SHOP_SORTED.encode())
+
+    def test_names_that_are_not_utf8(self):
+        folder = os.path.join(os.path.dirname(self.path), os.fsdecode(b"\xfe"))
+        os.mkdir(folder)
+        for name in ("a.py", os.fsdecode(b"\xff.py")):
+            self.path = os.path.join(folder, name)
+            self.write(SHOP.encode())
+            self.assertFalse(fihroste.check_file(self.path))
+            self.assertTrue(fihroste.file(self.path))
+            self.assertEqual(self.read(), SHOP_SORTED.encode())
+            self.assertFalse(fihroste.file(self.path))
 
     def test_names_of_other_types(self):
         for name in (0, b"a.py", None, ["a.py"]):
@@ -94,12 +116,13 @@ class Files(unittest.TestCase):
     @unittest.skipIf(os.geteuid() == 0, "root may write each file")
     def test_files_that_cannot_be_written(self):
         os.chmod(self.path, 0o444)
-        with self.assertRaisesRegex(OSError, "R3 cannot be written"):
+        with self.assertRaisesRegex(OSError, "R3 cannot be written") as raised:
             fihroste.file(self.path)
+        self.assertEqual((raised.exception.errno, raised.exception.filename), (errno.EACCES, self.path))
         self.assertEqual(self.read(), SHOP.encode())
 
     def test_parameters_that_are_missing_are_named(self):
-        for words in ({"ask_to_apply": True}, {"show_diff": True}, {"disregard_skip": False}, {"extension": "pyi"}):
+        for words in ({"ask_to_apply": True}, {"extension": "pyi"}):
             with self.subTest(words=words), self.assertRaises(UnsupportedSettings) as raised:
                 fihroste.file(self.path, **words)
             self.assertEqual([raised.exception.key], list(words))
@@ -142,6 +165,15 @@ class Limits(unittest.TestCase):
             with self.subTest(call=call), self.assertRaises(fihroste.exceptions.TextTooLong):
                 call(text)
         self.assertEqual(fihroste.code("import b\nimport a\n"), "import a\nimport b\n")
+
+    def test_texts_with_lone_surrogates_that_are_too_long(self):
+        def call(text):
+            # What the extension does with such a text of more than 2^30 bytes, which takes gigabytes.
+            raise OverflowError if isinstance(text, bytes) else UnicodeEncodeError("utf-8", text, 0, 1, "a surrogate")
+
+        with self.assertRaises(fihroste.exceptions.TextTooLong) as raised:
+            fihroste.api._answered(call, "a.py", "\udc80")
+        self.assertEqual(raised.exception.file_path, "a.py")
 
 
 if __name__ == "__main__":

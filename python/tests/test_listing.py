@@ -58,6 +58,40 @@ class Listing(unittest.TestCase):
         self.assertEqual([fields[:5] for fields in found], SHOP_IMPORTS)
         self.assertEqual(str(found[1]), f"{path}:2 from basket import till as t")
 
+    def test_imports_of_paths(self):
+        with tempfile.TemporaryDirectory() as folder:
+            for name, text in (
+                ("b.py", "import os\nfrom a import b as c\n"),
+                ("a/d.py", "import os.path\nimport os\n"),
+                ("a/c.txt", "import never\n"),
+                ("a/script", "#!/usr/bin/env python3\nfrom a import b\n"),
+                ("named.txt", "import named\n"),
+            ):
+                path = os.path.join(folder, name)
+                os.makedirs(os.path.dirname(path), exist_ok=True)
+                with open(path, "w") as file:
+                    file.write(text)
+            os.symlink(folder, os.path.join(folder, "a", "round"))
+            both = [folder, os.path.join(folder, "named.txt")]
+            found = list(fihroste.find_imports_in_paths(both))
+            where = [f"{os.path.relpath(one.file_path, folder)}: {one.statement()}" for one in found]
+            wanted = ["a/d.py: import os.path", "a/d.py: import os", "a/script: from a import b", "b.py: import os"]
+            wanted += ["b.py: from a import b as c", "named.txt: import named"]
+            self.assertEqual(where, wanted)
+            for key, places in (
+                (ImportKey.PACKAGE, [0, 2, 5]),
+                (ImportKey.MODULE, [0, 1, 2, 5]),
+                (ImportKey.ATTRIBUTE, [0, 1, 2, 5]),
+                (ImportKey.ALIAS, [0, 1, 2, 4, 5]),
+                (True, [0, 1, 2, 4, 5]),
+            ):
+                one_each = list(fihroste.find_imports_in_paths(iter(both), unique=key))
+                self.assertEqual(one_each, [found[place] for place in places], key)
+            with self.assertRaises(TypeError):
+                fihroste.find_imports_in_paths(folder)
+            with self.assertRaises(FileNotFoundError):
+                list(fihroste.find_imports_in_paths([os.path.join(folder, "nothing.py")]))
+
     def test_statements(self):
         wanted = ["import os", "from a.b import c as d", "from a.b import e"]
         self.assertEqual([found.statement() for found in LIST[:3]], wanted)
@@ -99,6 +133,19 @@ class Sections(unittest.TestCase):
         self.assertEqual(fihroste.place_module("a.c", config=config), "FIRSTPARTY")
         self.assertEqual(fihroste.place_module("ab", config), "THIRDPARTY")
         self.assertEqual(fihroste.place_module("os.path", known_third_party=["os"]), "THIRDPARTY")
+
+    def test_sections_have_reasons(self):
+        config = fihroste.Config(known_first_party=["a.b"], sections=["Own"], known_own=["x"])
+        default, pattern = "Default option in Config or universal default.", "Matched configured known pattern "
+        for module, section, reason in (
+            ("..a", "LOCALFOLDER", "Module name started with a dot."),
+            ("a.b.c", "FIRSTPARTY", pattern + "a.b"),
+            ("a", "THIRDPARTY", default),
+            ("x.y", "Own", pattern + "x"),
+            ("os.path", "STDLIB", pattern + "os"),
+        ):
+            self.assertEqual(fihroste.place_module_with_reason(module, config), (section, reason))
+        self.assertEqual(fihroste.place_module_with_reason("a", known_third_party="a"), ("THIRDPARTY", pattern + "a"))
 
     def test_own_sections_have_names(self):
         config = fihroste.Config(sections=["Own", "Other"], known_own=["a"], known_other=["a.b", "os"])

@@ -1,6 +1,7 @@
 """The calls have the names, parameters and defaults of isort 5, in its order."""
 
 import inspect
+import pickle
 import unittest
 
 import fihroste
@@ -18,7 +19,9 @@ PARAMETERS = {
     "find_imports_in_code": "code config file_path=None unique=False top_only=False",
     "find_imports_in_stream": "input_stream config file_path=None unique=False top_only=False",
     "find_imports_in_file": "filename config file_path=None unique=False top_only=False",
+    "find_imports_in_paths": "paths config file_path=None unique=False top_only=False",
     "place_module": "name config",
+    "place_module_with_reason": "name config",
 }
 
 
@@ -42,10 +45,24 @@ class Signatures(unittest.TestCase):
     def test_exceptions(self):
         names = (
             "ISortError InvalidSettingsPath ExistingSyntaxErrors IntroducedSyntaxErrors FileSkipped FileSkipComment "
-            "FileSkipSetting ProfileDoesNotExist UnsupportedSettings UnsupportedEncoding"
+            "FileSkipSetting ProfileDoesNotExist FormattingPluginDoesNotExist LiteralParsingFailure LiteralSortTypeMismatch "
+            "AssignmentsFormatMismatch UnsupportedSettings UnsupportedEncoding"
         ).split()
         for name in names:
             self.assertTrue(issubclass(getattr(fihroste.exceptions, name), fihroste.exceptions.ISortError))
+
+    def test_exceptions_that_are_never_raised_can_be_made(self):
+        made = fihroste.exceptions
+        self.assertEqual(made.FileSkipped("why", "a.py").file_path, "a.py")
+        self.assertEqual(str(made.FileSkipped("why", "a.py")), "why")
+        self.assertEqual(made.FileSkipSetting("a.py").file_path, "a.py")
+        self.assertEqual(made.IntroducedSyntaxErrors("a.py").file_path, "a.py")
+        self.assertEqual(made.UnsupportedEncoding("a.py").filename, "a.py")
+        self.assertEqual(made.FormattingPluginDoesNotExist("x").formatter, "x")
+        self.assertEqual(made.LiteralSortTypeMismatch(int, list).expected_kind, list)
+        for one in (made.FileSkipped("why", "a.py"), made.FileSkipComment("a.py"), made.FileSkipSetting("a.py")):
+            again = pickle.loads(pickle.dumps(one))
+            self.assertEqual((type(again), str(again), again.file_path), (type(one), str(one), "a.py"))
 
     def test_keys(self):
         self.assertEqual([key.name for key in fihroste.ImportKey], ["PACKAGE", "MODULE", "ATTRIBUTE", "ALIAS"])
