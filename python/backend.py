@@ -1,7 +1,7 @@
 """Builds the wheel of the package fihroste, with nothing but the standard library. pip calls it, and so does `build`.
 
 The extension is linked with the static library of crates/isort_c, and the wheel carries the program. Both are proved before
-they are built, which takes some minutes."""
+they are built, which takes some minutes. A second wheel, of the distribution isort, has isort's name for the package."""
 
 import base64
 import hashlib
@@ -28,9 +28,51 @@ Name: {NAME}
 Version: {VERSION}
 Summary: Sorts, checks and lists the import statements of Python texts, by proved code
 License: MIT
+License-File: LICENSE
+Keywords: imports,sort,isort,lint,formatter
+Classifier: Development Status :: 4 - Beta
+Classifier: Environment :: Console
+Classifier: Framework :: Flake8
+Classifier: Intended Audience :: Developers
+Classifier: License :: OSI Approved :: MIT License
+Classifier: Operating System :: POSIX :: Linux
+Classifier: Programming Language :: Python :: 3
+Classifier: Programming Language :: Python :: 3 :: Only
+Classifier: Programming Language :: Python :: Implementation :: CPython
+Classifier: Topic :: Software Development :: Quality Assurance
+Classifier: Typing :: Typed
 Requires-Python: >=3.8
+Description-Content-Type: text/markdown
+
 """
+ENTRY_POINTS = """[console_scripts]
+fihroste = fihroste.__main__:main
+
+[flake8.extension]
+I00 = fihroste.flake8:Checker
+
+[pylsp]
+fihroste = fihroste.pylsp
+"""
+
+# The distribution that has isort's name: its version is that of the isort 5 whose names it has.
+AS_NAME = "isort"
+AS_VERSION = f"5.6.4+{NAME}.{VERSION}"
+AS_TAG = "py3-none-any"
+AS_METADATA = f"""Metadata-Version: 2.1
+Name: {AS_NAME}
+Version: {AS_VERSION}
+Summary: The package {NAME} under the name of isort, which it stands in for: this is not isort
+License: MIT
+License-File: LICENSE
+Requires-Python: >=3.8
+Requires-Dist: {NAME} (=={VERSION})
+Description-Content-Type: text/markdown
+
+"""
+AS_ENTRY_POINTS = f"[console_scripts]\n{AS_NAME} = {NAME}.__main__:main\n"
 WHEEL = f"Wheel-Version: 1.0\nGenerator: {NAME}\nRoot-Is-Purelib: false\nTag: {TAG}\n"
+AS_WHEEL = f"Wheel-Version: 1.0\nGenerator: {NAME}\nRoot-Is-Purelib: true\nTag: {AS_TAG}\n"
 FLAGS = ["-O2", "-Wall", "-Wextra", "-fPIC", "-shared"]
 # A zip file has no times before this one. With a fixed one, equal contents make equal wheels.
 TIME = (1980, 1, 1, 0, 0, 0)
@@ -109,31 +151,59 @@ def compile_extension(extension: str, library: str) -> None:
         fail("the extension was not built: the lines above say why")
 
 
-def wheel_files(extension: str, program: str) -> Iterator[Tuple[str, bytes, int]]:
-    """The name, the contents and the permissions of each file of the wheel, but for its list."""
-    for path in sorted((HERE / NAME).iterdir()):
+# The name, the contents and the permissions of a file of a wheel.
+Entry = Tuple[str, bytes, int]
+
+
+def package_files(extension: str, program: str) -> Iterator[Entry]:
+    """The files of the wheel of fihroste."""
+    for path in sorted((HERE / NAME).rglob("*")):
         if path.suffix in (".py", ".pyi", ".typed"):
-            yield f"{NAME}/{path.name}", path.read_bytes(), 0o644
+            yield path.relative_to(HERE).as_posix(), path.read_bytes(), 0o644
     yield f"{NAME}/{os.path.basename(extension)}", Path(extension).read_bytes(), 0o755
     yield f"{NAME}/isort", Path(program).read_bytes(), 0o755
-    info = f"{NAME}-{VERSION}.dist-info"
-    yield f"{info}/LICENSE", (proved.TOP / "LICENSE").read_bytes(), 0o644
-    yield f"{info}/METADATA", METADATA.encode(), 0o644
-    yield f"{info}/WHEEL", WHEEL.encode(), 0o644
+
+
+def as_isort_files() -> Iterator[Entry]:
+    """The files of the wheel of isort."""
+    for path in sorted((HERE / "as_isort").glob("*.py")):
+        yield f"{AS_NAME}/{path.name}", path.read_bytes(), 0o644
+
+
+def info_files(about: str, metadata: str, wheel: str, entry_points: str) -> Iterator[Entry]:
+    """What a wheel tells of itself, except its list of files, in the folder `about`."""
+    readme = (HERE / "README.md").read_text(encoding="utf-8")
+    yield f"{about}/LICENSE", (proved.TOP / "LICENSE").read_bytes(), 0o644
+    yield f"{about}/METADATA", f"{metadata}{readme}".encode(), 0o644
+    yield f"{about}/WHEEL", wheel.encode(), 0o644
+    yield f"{about}/entry_points.txt", entry_points.encode(), 0o644
 
 
 def write_wheel(folder: str, extension: str, program: str) -> str:
-    """Writes the wheel, and answers its name."""
-    name = f"{NAME}-{VERSION}-{TAG}.whl"
-    record = f"{NAME}-{VERSION}.dist-info/RECORD"
+    """Writes the wheel of fihroste, and answers its name."""
+    name = f"{NAME}-{VERSION}"
+    info = info_files(f"{name}.dist-info", METADATA, WHEEL, ENTRY_POINTS)
+    return write_files(folder, name, TAG, [*package_files(extension, program), *info])
+
+
+def write_as_isort(folder: str) -> str:
+    """Writes the wheel of isort, and answers its name."""
+    name = f"{AS_NAME}-{AS_VERSION}"
+    info = info_files(f"{name}.dist-info", AS_METADATA, AS_WHEEL, AS_ENTRY_POINTS)
+    return write_files(folder, name, AS_TAG, [*as_isort_files(), *info])
+
+
+def write_files(folder: str, name: str, tag: str, files: List[Entry]) -> str:
+    """Writes a wheel of these files, with their list, and answers its name."""
     rows: List[str] = []
-    with zipfile.ZipFile(os.path.join(folder, name), "w", zipfile.ZIP_DEFLATED) as wheel:
-        for path, contents, mode in wheel_files(extension, program):
+    record = f"{name}.dist-info/RECORD"
+    with zipfile.ZipFile(os.path.join(folder, f"{name}-{tag}.whl"), "w", zipfile.ZIP_DEFLATED) as wheel:
+        for path, contents, mode in files:
             digest = base64.urlsafe_b64encode(hashlib.sha256(contents).digest()).rstrip(b"=").decode()
             rows.append(f"{path},sha256={digest},{len(contents)}\n")
             add(wheel, path, contents, mode)
         add(wheel, record, "".join([*rows, f"{record},,\n"]).encode(), 0o644)
-    return name
+    return f"{name}-{tag}.whl"
 
 
 def add(wheel: zipfile.ZipFile, path: str, contents: bytes, mode: int) -> None:
@@ -144,8 +214,10 @@ def add(wheel: zipfile.ZipFile, path: str, contents: bytes, mode: int) -> None:
 
 
 def main(words: List[str]) -> None:
-    """Builds the wheel into the folder dist beside this file, and prints its path: build [NAME=FILE..]."""
-    settings: Dict[str, str] = dict(word.split("=", 1) for word in words)
+    """Builds the wheels into the folder dist beside this file, and prints their paths: build [--as-isort] [NAME=FILE..]."""
+    settings: Dict[str, str] = dict(word.split("=", 1) for word in words if word != "--as-isort")
     dist = HERE / "dist"
     dist.mkdir(exist_ok=True)
     print(dist / build_wheel(str(dist), settings))
+    if "--as-isort" in words:
+        print(dist / write_as_isort(str(dist)))
