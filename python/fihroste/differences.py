@@ -5,7 +5,7 @@ import re
 from typing import List, NamedTuple, Optional
 
 from .api import code
-from .exceptions import ExistingSyntaxErrors, FileSkipComment
+from .exceptions import ExistingSyntaxErrors, FileSkipComment, ISortError
 from .settings import Config
 
 # A line with its end. A form feed, say, ends none.
@@ -47,6 +47,15 @@ def finding_of(text: str, config: Config) -> Optional[Finding]:
     if text == after:
         return None
     return Finding(_first_changed(lines_of(text), lines_of(after)), 0, "I001", "imports are not sorted")
+
+
+def finding_in(text: str, path: str) -> Optional[Finding]:
+    """What finding_of tells of the text of a file, under the settings that hold for it. Settings that are refused or can't be
+    read are I002 on the first line, and so is a text that is too long."""
+    try:
+        return finding_of(text, config_of(path))
+    except (ISortError, OSError) as refusal:
+        return Finding(1, 0, "I002", str(refusal))
 
 
 def _first_changed(before: List[str], after: List[str]) -> int:

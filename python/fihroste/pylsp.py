@@ -7,7 +7,7 @@ import importlib
 from typing import Any, Dict, Iterator, List, Optional
 
 from .api import code
-from .differences import config_of, finding_of, lines_of
+from .differences import Finding, config_of, finding_in, lines_of
 from .exceptions import ISortError
 
 _WARNING = 2
@@ -15,15 +15,10 @@ _ORGANIZE = "source.organizeImports"
 
 
 def pylsp_lint(document: Any) -> List[Dict[str, Any]]:
-    """The document's finding: I001 where imports are not sorted, I002 at a fault. Settings that are refused are told on the
+    """The document's finding: I001 where imports are not sorted, I002 at a fault. Settings that are refused are I002 on the
     first line."""
-    try:
-        finding = finding_of(document.source, config_of(document.path))
-    except (ISortError, OSError) as refusal:
-        return [_diagnostic(0, 0, str(refusal), None)]
-    if finding is None:
-        return []
-    return [_diagnostic(finding.line - 1, finding.column, finding.words, finding.code)]
+    finding = finding_in(document.source, document.path)
+    return [] if finding is None else [_diagnostic(finding, lines_of(document.source)[finding.line - 1 : finding.line])]
 
 
 def pylsp_format_document(document: Any) -> Iterator[None]:
@@ -57,11 +52,13 @@ def _sorted(text: str, path: str) -> Optional[str]:
     return None if after == text else after
 
 
-def _diagnostic(line: int, column: int, words: str, number: Optional[str]) -> Dict[str, Any]:
-    """A warning on a line, from a column to the line's end."""
-    place = {"start": {"line": line, "character": column}, "end": {"line": line + 1, "character": 0}}
-    coded = {} if number is None else {"code": number}
-    return {"source": "fihroste", "range": place, "message": words, "severity": _WARNING, **coded}
+def _diagnostic(finding: Finding, line: List[str]) -> Dict[str, Any]:
+    """The finding as a warning, from its column to the line's end. The server counts lines from 0, and columns in the units of
+    UTF-16."""
+    before = "".join(line)[: finding.column]
+    start = {"line": finding.line - 1, "character": len(before.encode("utf-16-le", "surrogatepass")) // 2}
+    place = {"start": start, "end": {"line": finding.line, "character": 0}}
+    return {"source": "fihroste", "range": place, "message": finding.words, "severity": _WARNING, "code": finding.code}
 
 
 def _edit(first: int, end: int, text: str) -> Dict[str, Any]:

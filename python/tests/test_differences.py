@@ -8,7 +8,7 @@ import tempfile
 import unittest
 
 import fihroste
-from fihroste.differences import Finding, config_of, finding_of
+from fihroste.differences import Finding, config_of, finding_in, finding_of
 from fihroste.exceptions import FileSkipComment, InvalidSettingsPath
 from fihroste.flake8 import Checker
 
@@ -110,6 +110,15 @@ class Findings(unittest.TestCase):
             config = config_of(os.path.join(folder, "not there", "a.py"))
             self.assertEqual(finding_of("from m import a, b\n", config).code, "I001")
             self.assertIsNone(finding_of("from m import a, b\n", fihroste.Config()))
+
+    def test_refused_settings_are_told(self):
+        with tempfile.TemporaryDirectory() as folder:
+            with open(os.path.join(folder, "pyproject.toml"), "w") as file:
+                file.write("[tool.isort]\nline_length = 0\n")
+            finding = finding_in(SORTED, os.path.join(folder, "a.py"))
+            self.assertEqual(finding[:3], (1, 0, "I002"))
+            self.assertIn("S2 bad value for line_length", finding.words)
+            self.assertEqual(finding_in(TEXT, "").code, "I001")
 
     def test_the_checker_of_flake8(self):
         rows = list(Checker(None, "stdin", TEXT.splitlines(keepends=True)).run())

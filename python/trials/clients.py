@@ -30,11 +30,15 @@ FAULT = "import os\nimport abc\nx = (\n"
 SKIPPED = "# isort: skip_file\nimport os\nimport abc\n"
 # It fits 88 characters, and not 79.
 LONG = f"from m import {'a' * 35}, {'b' * 34}\n"
-# Documents, and what formatting makes of them: None where they stay.
+WIDE = "import os\n'\U0001d400' = (\n"
+# The places of the faults: columns count units of UTF-16, and the character takes two.
+FAULTS = {FAULT: [("I002", 2, 4)], WIDE: [("I002", 1, 7)]}
+# Documents, and what formatting makes of them: None where they stay. What sorting changes begins with their first import.
 DOCUMENTS = [
     (UNSORTED, SORTED),
     (SORTED, None),
     (FAULT, None),
+    (WIDE, None),
     (SKIPPED, None),
     ("import own\nimport b\n", "import b\n\nimport own\n"),
     ("", None),
@@ -242,9 +246,11 @@ def try_pylsp(trials):
             uri = Path(write(folder, f"document_{number}.py", text)).as_uri()
             document = {"uri": uri, "languageId": "python", "version": 1, "text": text}
             server.tell("textDocument/didOpen", {"textDocument": document})
-            codes = [one.get("code") for one in server.diagnostics(uri) if one["source"] == "fihroste"]
-            expected = ["I002"] if text == FAULT else ["I001"] if wanted is not None else []
-            trials.count(f"diagnostics of {text!r}", codes == expected, codes)
+            told = [one for one in server.diagnostics(uri) if one["source"] == "fihroste"]
+            places = [(one["code"], *one["range"]["start"].values()) for one in told]
+            line = next((at for at, row in enumerate(text.splitlines()) if row.startswith(("import", "from"))), 0)
+            expected = FAULTS.get(text, [("I001", line, 0)] if wanted is not None else [])
+            trials.count(f"diagnostics of {text!r}", places == expected, places)
             params = {"textDocument": {"uri": uri}, "options": {"tabSize": 4, "insertSpaces": True}}
             edits = server.ask("textDocument/formatting", params).get("result") or []
             trials.count(f"formatting of {text!r}", applied(text, edits) == (text if wanted is None else wanted), edits)
