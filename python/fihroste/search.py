@@ -81,17 +81,24 @@ def nearest(path: str) -> Tuple[str, bytes]:
 def _project_in(folder: str) -> Optional[bytes]:
     """The text of the folder's pyproject.toml, if it has the table. Warns of files of another form that would come first."""
     for name, sections in _SECTIONS.items():
-        text = _text_of(os.path.join(folder, name))
-        if text is not None and name == PROJECT and _has_table(text):
-            return text
-        if text is not None and name != PROJECT and _takes(text, sections, name == ".editorconfig"):
-            warn(f"{os.path.join(folder, name)}: {_WHAT_TO_DO}")
+        path = os.path.join(folder, name)
+        if not os.path.isfile(path):
+            continue
+        if name == PROJECT:
+            text = read(path)
+            if _has_table(text):
+                return text
+        elif _takes(_text_of(path), sections, name == ".editorconfig"):
+            warn(f"{path}: {_WHAT_TO_DO}")
     return None
 
 
-def _text_of(path: str) -> Optional[bytes]:
-    """The bytes of a file, if there is one."""
-    return read(path) if os.path.isfile(path) else None
+def _text_of(path: str) -> bytes:
+    """The bytes of a file of another form. One that can't be read says nothing, as in isort 5."""
+    try:
+        return read(path)
+    except OSError:
+        return b""
 
 
 @functools.lru_cache(maxsize=64)
