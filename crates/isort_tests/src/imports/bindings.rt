@@ -2,8 +2,7 @@
 use crate::harness::cases::{Case, each_holds_again};
 use crate::harness::told::tell_binding;
 use py_imports::{
-    ActionComment, Binding, ImportError, Shape, bindings_of, is_declaration, mark_len, says,
-    shape,
+    ActionComment, Binding, ImportError, Shape, bindings_of, is_declaration, mark_len, says, shape,
 };
 use py_lines::{Fault, FaultKind, Lines, Unit};
 use std::alloc::Global;
