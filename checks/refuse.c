@@ -1,7 +1,10 @@
 /* Refuses one growth of a program that runs with this library preloaded.
 
    REFUSE is the number of the growth to refuse, from 1; without it none is refused. GROWTHS names a file of eight bytes,
-   in which the number of growths asked for is kept. A growth is a call of malloc, or of realloc that asks for more. */
+   in which the number of growths asked for is kept. A growth is a call of malloc, or of realloc that asks for more.
+
+   The tests ask for ASKED bytes to learn whether a growth was refused (was_refused of crates/isort_tests): that call is
+   refused once after the growth, and not counted. */
 #include <fcntl.h>
 #include <malloc.h>
 #include <stddef.h>
@@ -9,6 +12,8 @@
 #include <stdlib.h>
 #include <sys/mman.h>
 #include <unistd.h>
+
+enum { ASKED = 65521 };
 
 extern void *__libc_malloc(size_t size);
 extern void *__libc_realloc(void *block, size_t size);
@@ -28,9 +33,23 @@ __attribute__((constructor)) static void begin(void) {
     refused = which ? strtoull(which, NULL, 10) : 0;
 }
 
-static int is_refused(void) { return ++*growths == refused; }
+static int untold;
 
-void *malloc(size_t size) { return is_refused() ? NULL : __libc_malloc(size); }
+static int is_refused(void) {
+    if (++*growths != refused)
+        return 0;
+    untold = 1;
+    return 1;
+}
+
+void *malloc(size_t size) {
+    if (size == ASKED) {
+        int refuses = untold;
+        untold = 0;
+        return refuses ? NULL : __libc_malloc(size);
+    }
+    return is_refused() ? NULL : __libc_malloc(size);
+}
 
 void *realloc(void *block, size_t size) {
     if (block && size <= malloc_usable_size(block))

@@ -1,6 +1,6 @@
 //! The text of each error.
 use crate::cmd::listing::End;
-use crate::harness::cases::{Case, all_are_so, each_holds_again, is_shown};
+use crate::harness::cases::{Case, all_are_so, each_holds_again, is_shown, was_refused};
 use crate::settings::pyproject::refusal;
 use isort_cmd::{RunError, fault_text, settings_text};
 use isort_find::{FindError, ResumeError};
@@ -218,6 +218,6 @@ fn tells_of_memory(alloc: Global) -> bool {
 #[test]
 fn tells_of_settings(rt: HostRuntime) -> Result<(), Fail> {
     let alloc = rt.alloc();
-    all_are_so(&[tells_of_memory(alloc) || tells_of_memory(alloc)])?;
+    all_are_so(&[tells_of_memory(alloc) || was_refused(alloc) && tells_of_memory(alloc)])?;
     each_holds_again(alloc, "REFUSALS", REFUSALS)
 }

@@ -1,5 +1,5 @@
 //! The words of a command line.
-use crate::harness::cases::{Case, all_are_so, each_holds_again, is_shown};
+use crate::harness::cases::{Case, all_are_so, each_holds_again, is_shown, was_refused};
 use isort_cmd::{UsageError, command};
 use std::alloc::Global;
 use std::test::Fail;
@@ -144,6 +144,6 @@ fn is_printed(alloc: Global) -> bool {
 
 #[test]
 fn reads_words(rt: HostRuntime) -> Result<(), Fail> {
-    all_are_so(&[is_printed(rt.alloc()) || is_printed(rt.alloc())])?;
+    all_are_so(&[is_printed(rt.alloc()) || was_refused(rt.alloc()) && is_printed(rt.alloc())])?;
     each_holds_again(rt.alloc(), "LINES", LINES)
 }

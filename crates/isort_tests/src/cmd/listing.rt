@@ -165,6 +165,20 @@ const LISTED: &[Listed<'static>] = &[
     ),
     Listed(b"import \xc3\xa9", WHOLE, "p.py:1 import é\n", End::Fine),
     Listed(
+        b"import a.b as c, d",
+        WHOLE,
+        "p.py:1 import a.b as c\np.py:1 import d\n",
+        End::Fine,
+    ),
+    Listed(
+        b"  import a\n",
+        WHOLE,
+        "p.py:1 indented import a\n",
+        End::Fine,
+    ),
+    Listed(b"import as\n", WHOLE, "", End::Fault(Kind::BadImport, 0, 1)),
+    Listed(b"x = \"a\n", WHOLE, "", End::Fault(Kind::OpenString, 4, 1)),
+    Listed(
         b"import a\nimport b\nx = (1,",
         WHOLE,
         "p.py:1 import a\np.py:2 import b\n",

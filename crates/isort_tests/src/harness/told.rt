@@ -1,4 +1,5 @@
 //! What tests tell of imports and faults, as texts.
+use crate::harness::cases::was_refused;
 use isort_find::FindError;
 use py_imports::{Binding, ImportError};
 use py_lines::Fault;
@@ -9,10 +10,10 @@ pub(crate) fn tell(what: &str, out: &mut String) {
     let _ = out.push_str(what);
 }
 
-/// The statement of an import; where memory ran out, it is asked for again.
+/// The statement of an import. It is asked for again where a growth was refused.
 fn statement_of(alloc: Global, binding: &Binding) -> Result<String, ImportError> {
     match binding.statement(alloc) {
-        Err(_) => binding.statement(alloc),
+        Err(_) if was_refused(alloc) => binding.statement(alloc),
         statement => statement,
     }
 }

@@ -1,15 +1,15 @@
 //! The logical lines of a whole text.
-use crate::harness::cases::{Case, each_holds_again, page};
+use crate::harness::cases::{Case, each_holds_again, page, was_refused};
 use crate::harness::told::tell;
 use crate::lines::rows::{Lexed, tell_fault, tell_unit};
 use py_lines::*;
 use std::alloc::Global;
 use std::test::Fail;
 
-/// The next answer of the reader: whether it is a logical line. It is asked for once more where memory ran out.
-fn tell_next(told: &mut String, lines: &mut Lines<'_>) -> bool {
+/// The next answer of the reader: whether it is a logical line. It is asked for once more where a growth was refused.
+fn tell_next(alloc: Global, told: &mut String, lines: &mut Lines<'_>) -> bool {
     match lines.next_unit() {
-        Err(LexError::Memory) => tell_answer(told, lines.next_unit()),
+        Err(LexError::Memory) if was_refused(alloc) => tell_answer(told, lines.next_unit()),
         answer => tell_answer(told, answer),
     }
 }
@@ -28,9 +28,9 @@ fn tell_answer(told: &mut String, answer: Result<Option<Unit<'_>>, LexError>) ->
 }
 
 /// The logical lines that the reader has yet, ten at most, and the end or the fault.
-fn tell_all(told: &mut String, lines: &mut Lines<'_>) {
+fn tell_all(alloc: Global, told: &mut String, lines: &mut Lines<'_>) {
     for _ in 0..10 {
-        if !tell_next(told, lines) {
+        if !tell_next(alloc, told, lines) {
             return;
         }
     }
@@ -39,14 +39,14 @@ fn tell_all(told: &mut String, lines: &mut Lines<'_>) {
 /// Whether a reader tells this.
 fn is_told(alloc: Global, lines: &mut Lines<'_>, expected: &str) -> bool {
     let mut told = page(alloc);
-    tell_all(&mut told, lines);
+    tell_all(alloc, &mut told, lines);
     told.as_str() == expected
 }
 
 /// Whether a reader tells the end or the fault once more that stands at the end of this.
 fn is_told_again(alloc: Global, lines: &mut Lines<'_>, expected: &str) -> bool {
     let mut told = page(alloc);
-    let is_line = tell_next(&mut told, lines);
+    let is_line = tell_next(alloc, &mut told, lines);
     !is_line && !told.is_empty() && expected.ends_with(told.as_str())
 }
 
@@ -57,15 +57,15 @@ fn answers(alloc: Global, lines: &mut Lines<'_>, expected: &str, place: (u64, u6
         && (lines.offset(), lines.line()) == place
 }
 
-/// A reader of a text; where memory ran out, it is begun again.
+/// A reader of a text. It is begun again where a growth was refused.
 fn begun(alloc: Global, text: &[u8]) -> Result<Lines<'_>, LexError> {
     match Lines::new(alloc, text) {
-        Err(_) => Lines::new(alloc, text),
+        Err(_) if was_refused(alloc) => Lines::new(alloc, text),
         lines => lines,
     }
 }
 
-impl Lexed {
+impl Lexed<'_> {
     /// Whether a reader of the whole text tells so.
     pub(crate) fn is_read(&self, alloc: Global) -> bool {
         match begun(alloc, self.0) {
@@ -76,7 +76,7 @@ impl Lexed {
 }
 
 /// A text, and what a reader tells that begins at its byte 2, in line 2, and where it then stands.
-struct MidText(Lexed);
+struct MidText(Lexed<'static>);
 
 impl Case for MidText {
     fn holds(&self, alloc: Global) -> bool {

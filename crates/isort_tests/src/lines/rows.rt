@@ -1,6 +1,7 @@
 //! The logical lines of texts, which both readers tell.
-use crate::harness::cases::{Case, each_holds};
+use crate::harness::cases::{Case, all_are_so, each_holds, page};
 use crate::harness::told::tell;
+use crate::texts::brackets;
 use py_lines::{LexError, Unit};
 use std::alloc::Global;
 use std::fmt::Write;
@@ -9,14 +10,15 @@ use std::test::Fail;
 /// A text, what is told of it, and the byte and the line that a reader of the whole text reaches. What is told are the
 /// logical lines, each with its kind, byte, line, indentation, length of its line end, and tokens, and then the end or the
 /// fault.
-pub(crate) struct Lexed(
-    pub(crate) &'static [u8],
-    pub(crate) &'static str,
+#[derive(Drop)]
+pub(crate) struct Lexed<'t>(
+    pub(crate) &'t [u8],
+    pub(crate) &'t str,
     pub(crate) (u64, u64),
 );
 
 /// Texts without a fault.
-const ROWS: &[Lexed] = &[
+const ROWS: &[Lexed<'static>] = &[
     Lexed(
         b"import \xc3\xa9\r\nx = \"\"\"\"\"\"\nimport b",
         "(Code, 0, 1, 0, 2) (Name, \"import\", 1) (Name, \"é\", 1); \
@@ -37,11 +39,19 @@ const ROWS: &[Lexed] = &[
         (12, 3),
     ),
     Lexed(
-        b"rb'x' u\"y\" ab'x' 1if",
-        "(Code, 0, 1, 0, 0) (Str, \"rb'x'\", 1) (Str, \"u\\\"y\\\"\", 1) (Name, \"ab\", 1) (Str, \"'x'\", 1) \
-         (Number, \"1if\", 1); \
-         end",
-        (20, 1),
+        b"rb'x' u\"y\"",
+        "(Code, 0, 1, 0, 0) (Str, \"rb'x'\", 1) (Str, \"u\\\"y\\\"\", 1); end",
+        (10, 1),
+    ),
+    Lexed(
+        b"ab'x'",
+        "(Code, 0, 1, 0, 0) (Name, \"ab\", 1) (Str, \"'x'\", 1); end",
+        (5, 1),
+    ),
+    Lexed(
+        b"1if x",
+        "(Code, 0, 1, 0, 0) (Number, \"1if\", 1) (Name, \"x\", 1); end",
+        (5, 1),
     ),
     Lexed(b"\\\n", "(Code, 0, 1, 0, 0); end", (2, 2)),
     Lexed(b"", "end", (0, 1)),
@@ -63,17 +73,184 @@ const ROWS: &[Lexed] = &[
          (Code, 27, 2, 0, 0) (Name, \"import\", 2) (Name, \"c\", 2); end",
         (35, 2),
     ),
+];
+
+/// Texts of import statements and what stands beside them: strings, comments, joins, indented lines and faults.
+const WORKED: &[Lexed<'static>] = &[
+    Lexed(b"\xef\xbb\xbf", "(Blank, 0, 1, 0, 0); end", (3, 1)),
     Lexed(
-        b"\"\"\"\nimport a\n\"\"\"\nimport b\n",
-        "(Code, 0, 1, 0, 1) (Str, \"\\\"\\\"\\\"\\nimport a\\n\\\"\\\"\\\"\", 1); \
-         (Code, 17, 4, 0, 1) (Name, \"import\", 4) (Name, \"b\", 4); end",
-        (26, 5),
+        b"import os, sys as s",
+        "(Code, 0, 1, 0, 0) (Name, \"import\", 1) (Name, \"os\", 1) (Op(44), \",\", 1) (Name, \"sys\", 1) \
+         (Name, \"as\", 1) (Name, \"s\", 1); \
+         end",
+        (19, 1),
+    ),
+    Lexed(
+        b"\"\"\"a \\\" import a\nimport b\n\"\"\"\ny = \"\"\nimport c\n",
+        "(Code, 0, 1, 0, 1) (Str, \"\\\"\\\"\\\"a \\\\\\\" import a\\nimport b\\n\\\"\\\"\\\"\", 1); \
+         (Code, 30, 4, 0, 1) (Name, \"y\", 4) (Op(61), \"=\", 4) (Str, \"\\\"\\\"\", 4); \
+         (Code, 37, 5, 0, 1) (Name, \"import\", 5) (Name, \"c\", 5); end",
+        (46, 6),
+    ),
+    Lexed(
+        b"from a import (  # k\n    b as x,  # l\n    c,\n)\n",
+        "(Code, 0, 1, 0, 1) (Name, \"from\", 1) (Name, \"a\", 1) (Name, \"import\", 1) (Op(40), \"(\", 1) \
+         (Remark, \"# k\", 1) (Name, \"b\", 2) (Name, \"as\", 2) (Name, \"x\", 2) (Op(44), \",\", 2) \
+         (Remark, \"# l\", 2) (Name, \"c\", 3) (Op(44), \",\", 3) (Op(41), \")\", 4); \
+         end",
+        (47, 5),
+    ),
+    Lexed(
+        b"x = 1 + \\\r\n  2\r\nfrom . .x import y\r\n",
+        "(Code, 0, 1, 0, 2) (Name, \"x\", 1) (Op(61), \"=\", 1) (Number, \"1\", 1) (Op(43), \"+\", 1) \
+         (Number, \"2\", 2); \
+         (Code, 16, 3, 0, 2) (Name, \"from\", 3) (Op(46), \".\", 3) (Op(46), \".\", 3) (Name, \"x\", 3) \
+         (Name, \"import\", 3) (Name, \"y\", 3); \
+         end",
+        (36, 4),
+    ),
+    Lexed(
+        b"if a: import b; from c import *\nraise X from Y\nz = yield from w\n",
+        "(Code, 0, 1, 0, 1) (Name, \"if\", 1) (Name, \"a\", 1) (Op(58), \":\", 1) (Name, \"import\", 1) \
+         (Name, \"b\", 1) (Op(59), \";\", 1) (Name, \"from\", 1) (Name, \"c\", 1) (Name, \"import\", 1) \
+         (Op(42), \"*\", 1); \
+         (Code, 32, 2, 0, 1) (Name, \"raise\", 2) (Name, \"X\", 2) (Name, \"from\", 2) (Name, \"Y\", 2); \
+         (Code, 47, 3, 0, 1) (Name, \"z\", 3) (Op(61), \"=\", 3) (Name, \"yield\", 3) (Name, \"from\", 3) \
+         (Name, \"w\", 3); \
+         end",
+        (64, 4),
+    ),
+    Lexed(
+        b"if a:\n    import b\n",
+        "(Code, 0, 1, 0, 1) (Name, \"if\", 1) (Name, \"a\", 1) (Op(58), \":\", 1); \
+         (Code, 6, 2, 4, 1) (Name, \"import\", 2) (Name, \"b\", 2); end",
+        (19, 3),
+    ),
+    Lexed(
+        b"import a.b\nfrom a import c\nfrom .a import d\nfrom a import c as e\n",
+        "(Code, 0, 1, 0, 1) (Name, \"import\", 1) (Name, \"a\", 1) (Op(46), \".\", 1) (Name, \"b\", 1); \
+         (Code, 11, 2, 0, 1) (Name, \"from\", 2) (Name, \"a\", 2) (Name, \"import\", 2) (Name, \"c\", 2); \
+         (Code, 27, 3, 0, 1) (Name, \"from\", 3) (Op(46), \".\", 3) (Name, \"a\", 3) (Name, \"import\", 3) \
+         (Name, \"d\", 3); \
+         (Code, 44, 4, 0, 1) (Name, \"from\", 4) (Name, \"a\", 4) (Name, \"import\", 4) (Name, \"c\", 4) \
+         (Name, \"as\", 4) (Name, \"e\", 4); \
+         end",
+        (65, 5),
+    ),
+    Lexed(
+        b"import a\nif a:\n    def f(): pass\n    import b\n@d\nx = (\n",
+        "(Code, 0, 1, 0, 1) (Name, \"import\", 1) (Name, \"a\", 1); \
+         (Code, 9, 2, 0, 1) (Name, \"if\", 2) (Name, \"a\", 2) (Op(58), \":\", 2); \
+         (Code, 15, 3, 4, 1) (Name, \"def\", 3) (Name, \"f\", 3) (Op(40), \"(\", 3) (Op(41), \")\", 3) \
+         (Op(58), \":\", 3) (Name, \"pass\", 3); \
+         (Code, 33, 4, 4, 1) (Name, \"import\", 4) (Name, \"b\", 4); \
+         (Code, 46, 5, 0, 1) (Op(64), \"@\", 5) (Name, \"d\", 5); 53 line 6: F6 bracket not closed",
+        (49, 6),
+    ),
+    Lexed(
+        b"import a\nimport b\nx = (1,",
+        "(Code, 0, 1, 0, 1) (Name, \"import\", 1) (Name, \"a\", 1); \
+         (Code, 9, 2, 0, 1) (Name, \"import\", 2) (Name, \"b\", 2); 22 line 3: F6 bracket not closed",
+        (18, 3),
+    ),
+    Lexed(
+        b"import a\nfrom b import c,\n",
+        "(Code, 0, 1, 0, 1) (Name, \"import\", 1) (Name, \"a\", 1); \
+         (Code, 9, 2, 0, 1) (Name, \"from\", 2) (Name, \"b\", 2) (Name, \"import\", 2) (Name, \"c\", 2) \
+         (Op(44), \",\", 2); \
+         end",
+        (26, 3),
+    ),
+    Lexed(
+        b"import a; import\n",
+        "(Code, 0, 1, 0, 1) (Name, \"import\", 1) (Name, \"a\", 1) (Op(59), \";\", 1) (Name, \"import\", 1); end",
+        (17, 2),
+    ),
+];
+
+/// Import statements, good and bad ones: to the lexer both are logical lines.
+const STATEMENTS: &[Lexed<'static>] = &[
+    Lexed(
+        b"from ... import x, y as z",
+        "(Code, 0, 1, 0, 0) (Name, \"from\", 1) (Op(46), \".\", 1) (Op(46), \".\", 1) (Op(46), \".\", 1) \
+         (Name, \"import\", 1) (Name, \"x\", 1) (Op(44), \",\", 1) (Name, \"y\", 1) (Name, \"as\", 1) \
+         (Name, \"z\", 1); \
+         end",
+        (25, 1),
+    ),
+    Lexed(
+        b"class C: from a import b as c",
+        "(Code, 0, 1, 0, 0) (Name, \"class\", 1) (Name, \"C\", 1) (Op(58), \":\", 1) (Name, \"from\", 1) \
+         (Name, \"a\", 1) (Name, \"import\", 1) (Name, \"b\", 1) (Name, \"as\", 1) (Name, \"c\", 1); \
+         end",
+        (29, 1),
+    ),
+    Lexed(
+        b"from a import (b); import c.d",
+        "(Code, 0, 1, 0, 0) (Name, \"from\", 1) (Name, \"a\", 1) (Name, \"import\", 1) (Op(40), \"(\", 1) \
+         (Name, \"b\", 1) (Op(41), \")\", 1) (Op(59), \";\", 1) (Name, \"import\", 1) (Name, \"c\", 1) \
+         (Op(46), \".\", 1) (Name, \"d\", 1); \
+         end",
+        (29, 1),
+    ),
+    Lexed(
+        b"x = {1: import_, 2: [a, b]}",
+        "(Code, 0, 1, 0, 0) (Name, \"x\", 1) (Op(61), \"=\", 1) (Op(123), \"{\", 1) (Number, \"1\", 1) \
+         (Op(58), \":\", 1) (Name, \"import_\", 1) (Op(44), \",\", 1) (Number, \"2\", 1) (Op(58), \":\", 1) \
+         (Op(91), \"[\", 1) (Name, \"a\", 1) (Op(44), \",\", 1) (Name, \"b\", 1) (Op(93), \"]\", 1) \
+         (Op(125), \"}\", 1); \
+         end",
+        (27, 1),
+    ),
+    Lexed(
+        b"from a import ()",
+        "(Code, 0, 1, 0, 0) (Name, \"from\", 1) (Name, \"a\", 1) (Name, \"import\", 1) (Op(40), \"(\", 1) \
+         (Op(41), \")\", 1); \
+         end",
+        (16, 1),
+    ),
+    Lexed(
+        b"from a import (*)",
+        "(Code, 0, 1, 0, 0) (Name, \"from\", 1) (Name, \"a\", 1) (Name, \"import\", 1) (Op(40), \"(\", 1) \
+         (Op(42), \"*\", 1) (Op(41), \")\", 1); \
+         end",
+        (17, 1),
+    ),
+    Lexed(
+        b"from a import b,",
+        "(Code, 0, 1, 0, 0) (Name, \"from\", 1) (Name, \"a\", 1) (Name, \"import\", 1) (Name, \"b\", 1) \
+         (Op(44), \",\", 1); \
+         end",
+        (16, 1),
+    ),
+    Lexed(
+        b"import .a",
+        "(Code, 0, 1, 0, 0) (Name, \"import\", 1) (Op(46), \".\", 1) (Name, \"a\", 1); end",
+        (9, 1),
+    ),
+    Lexed(
+        b"import a as b.c",
+        "(Code, 0, 1, 0, 0) (Name, \"import\", 1) (Name, \"a\", 1) (Name, \"as\", 1) (Name, \"b\", 1) \
+         (Op(46), \".\", 1) (Name, \"c\", 1); \
+         end",
+        (15, 1),
+    ),
+    Lexed(
+        b"import a,",
+        "(Code, 0, 1, 0, 0) (Name, \"import\", 1) (Name, \"a\", 1) (Op(44), \",\", 1); end",
+        (9, 1),
+    ),
+    Lexed(
+        b"from a import if",
+        "(Code, 0, 1, 0, 0) (Name, \"from\", 1) (Name, \"a\", 1) (Name, \"import\", 1) (Name, \"if\", 1); end",
+        (16, 1),
     ),
 ];
 
 /// Texts with a fault.
-const FAULTS: &[Lexed] = &[
+const FAULTS: &[Lexed<'static>] = &[
     Lexed(b"(a\r\xff", "3 line 2: F1 not UTF-8", (0, 1)),
+    Lexed(b"a\xff", "1 line 1: F1 not UTF-8", (0, 1)),
     Lexed(b"$", "0 line 1: F2 unexpected character", (0, 1)),
     Lexed(b"x = 'abc\n", "4 line 1: F3 string not closed", (0, 1)),
     Lexed(
@@ -84,6 +261,16 @@ const FAULTS: &[Lexed] = &[
     Lexed(
         b"x = (\r\n]",
         "7 line 2: F5 closing bracket without its opening",
+        (0, 1),
+    ),
+    Lexed(
+        b"\"\"\"a",
+        "0 line 1: F4 triple-quoted string not closed",
+        (0, 1),
+    ),
+    Lexed(
+        b"x = )",
+        "4 line 1: F5 closing bracket without its opening",
         (0, 1),
     ),
     Lexed(b"(\n[\n", "2 line 2: F6 bracket not closed", (0, 1)),
@@ -131,7 +318,7 @@ const FAULTS: &[Lexed] = &[
 ];
 
 /// Strings with fields.
-const FIELDS: &[Lexed] = &[
+const FIELDS: &[Lexed<'static>] = &[
     Lexed(
         b"f\"{d[\"import\"]}\"",
         "(Code, 0, 1, 0, 0) (Str, \"f\\\"{d[\\\"import\\\"]}\\\"\", 1); end",
@@ -224,7 +411,7 @@ const FIELDS: &[Lexed] = &[
     Lexed(b"f\"{a # }\"", "2 line 1: F10 field not closed", (0, 1)),
 ];
 
-impl Case for Lexed {
+impl Case for Lexed<'_> {
     fn holds(&self, alloc: Global) -> bool {
         self.is_read(alloc) && self.is_scanned(alloc)
     }
@@ -232,7 +419,9 @@ impl Case for Lexed {
 
 #[test]
 fn reads_texts_whole_and_gives_the_same_in_every_cut(rt: HostRuntime) -> Result<(), Fail> {
-    each_holds(rt.alloc(), "ROWS", ROWS)
+    each_holds(rt.alloc(), "ROWS", ROWS)?;
+    each_holds(rt.alloc(), "WORKED", WORKED)?;
+    each_holds(rt.alloc(), "STATEMENTS", STATEMENTS)
 }
 
 #[test]
@@ -243,6 +432,57 @@ fn gives_the_same_fault_in_every_cut(rt: HostRuntime) -> Result<(), Fail> {
 #[test]
 fn reads_strings_with_fields_in_every_cut(rt: HostRuntime) -> Result<(), Fail> {
     each_holds(rt.alloc(), "FIELDS", FIELDS)
+}
+
+/// What follows 200 brackets that open, and the fault.
+struct Deep(&'static [u8], &'static str);
+
+impl Case for Deep {
+    fn holds(&self, alloc: Global) -> bool {
+        let mut text = [b'('; 210];
+        let end = 200 + self.0.len().min(10);
+        text[200..end].copy_from_slice(&self.0[..end - 200]);
+        Lexed(&text[..end], self.1, (0, 1)).holds(alloc)
+    }
+}
+
+/// A brace in a string with fields, where 200 brackets are open: what follows it says whether it opens a field.
+const DEEP: &[Deep] = &[
+    Deep(b"", "199 line 1: F6 bracket not closed"),
+    Deep(b"f\"{{\"", "199 line 1: F6 bracket not closed"),
+    Deep(b"f\"{{x", "200 line 1: F3 string not closed"),
+    Deep(b"f\"{x", "202 line 1: F8 more than 200 brackets open"),
+    Deep(b"f\"{}\"", "202 line 1: F8 more than 200 brackets open"),
+    Deep(b"f\"{\"", "202 line 1: F8 more than 200 brackets open"),
+    Deep(b"f\"{\n", "202 line 1: F8 more than 200 brackets open"),
+    Deep(b"f\"{", "202 line 1: F8 more than 200 brackets open"),
+    Deep(b"f\"{\xff", "203 line 1: F1 not UTF-8"),
+    Deep(b"f\"{\xc3", "203 line 1: F1 not UTF-8"),
+];
+
+/// What is told of 200 brackets that open, and as many that close.
+fn tell_brackets(told: &mut String) {
+    tell("(Code, 0, 1, 0, 0)", told);
+    for _ in 0..200 {
+        tell(" (Op(40), \"(\", 1)", told);
+    }
+    for _ in 0..200 {
+        tell(" (Op(41), \")\", 1)", told);
+    }
+    tell("; end", told);
+}
+
+/// Whether that is told.
+fn closes_brackets(alloc: Global) -> bool {
+    let mut want = page(alloc);
+    tell_brackets(&mut want);
+    Lexed(&brackets()[1..], want.as_str(), (400, 1)).holds(alloc)
+}
+
+#[test]
+fn counts_brackets_and_fields(rt: HostRuntime) -> Result<(), Fail> {
+    all_are_so(&[closes_brackets(rt.alloc())])?;
+    each_holds(rt.alloc(), "DEEP", DEEP)
 }
 
 /// A logical line: what it holds, its byte, line, indentation and line end, and then its tokens.

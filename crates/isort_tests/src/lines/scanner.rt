@@ -1,7 +1,7 @@
 //! The logical lines of a text in pieces.
 ghost use Rattle.std.specs.Prelude.{◌≡◌, ◌≤◌, true, false, None, IfOk, length};
 
-use crate::harness::cases::{Case, each_holds_again, page};
+use crate::harness::cases::{Case, each_holds_again, page, was_refused};
 use crate::harness::told::tell;
 use crate::lines::rows::{Lexed, tell_fault, tell_unit};
 use py_lines::*;
@@ -12,8 +12,8 @@ use std::test::Fail;
 /// More bytes than a text of these tests has.
 const MOST: u64 = 1000;
 
-/// Feeds a short piece; where memory ran out, it is fed again.
-fn feed(scanner: &mut Scanner, piece: &[u8]) -> Result<usize, LexError>
+/// Feeds a short piece. It is fed again where a growth was refused.
+fn feed(alloc: Global, scanner: &mut Scanner, piece: &[u8]) -> Result<usize, LexError>
     requires { scanner.old.ended ≡ false }
     ensures taken { IfOk result (λ n. n ≤ length piece.now) }
     ensures ended { scanner.new.ended ≡ scanner.old.ended }
@@ -22,17 +22,17 @@ fn feed(scanner: &mut Scanner, piece: &[u8]) -> Result<usize, LexError>
         return Err(LexError::Memory);
     }
     match scanner.feed(piece) {
-        Err(LexError::Memory) => scanner.feed(piece),
+        Err(LexError::Memory) if was_refused(alloc) => scanner.feed(piece),
         answer => answer,
     }
 }
 
-/// A scanner at the start of a text; where memory ran out, it is begun again.
+/// A scanner at the start of a text. It is begun again where a growth was refused.
 fn begun(alloc: Global) -> Result<Scanner, LexError>
     ensures { IfOk result (λ s. s.ended ≡ false) }
 {
     match Scanner::new(alloc) {
-        Err(_) => Scanner::new(alloc),
+        Err(_) if was_refused(alloc) => Scanner::new(alloc),
         scanner => scanner,
     }
 }
@@ -49,13 +49,13 @@ fn tell_ready(told: &mut String, scanner: &mut Scanner)
 }
 
 /// Whether a piece is fed up to its end, with no fault; and the lines that get ready with it.
-fn tell_piece(told: &mut String, scanner: &mut Scanner, piece: &[u8]) -> bool
+fn tell_piece(alloc: Global, told: &mut String, scanner: &mut Scanner, piece: &[u8]) -> bool
     requires { scanner.old.ended ≡ false }
     ensures { scanner.new.ended ≡ false }
 {
     let mut rest = piece;
     for _ in 0..=piece.len() {
-        match feed(scanner, rest) {
+        match feed(alloc, scanner, rest) {
             Ok(taken) => rest = &rest[taken..],
             Err(error) => {
                 tell_fault(told, error);
@@ -67,25 +67,25 @@ fn tell_piece(told: &mut String, scanner: &mut Scanner, piece: &[u8]) -> bool
     true
 }
 
-/// Ends the text; where memory ran out, it is ended again.
-fn finish(scanner: &mut Scanner) -> Result<(), LexError>
+/// Ends the text. It is ended again where a growth was refused.
+fn finish(alloc: Global, scanner: &mut Scanner) -> Result<(), LexError>
     requires { scanner.old.ended ≡ false }
 {
     if scanner.ready().is_some() {
         return Err(LexError::Memory);
     }
     match scanner.finish() {
-        Err(LexError::Memory) => scanner.finish(),
+        Err(LexError::Memory) if was_refused(alloc) => scanner.finish(),
         answer => answer,
     }
 }
 
 /// The text's last line and its end, or its fault.
-fn tell_end(told: &mut String, scanner: &mut Scanner)
+fn tell_end(alloc: Global, told: &mut String, scanner: &mut Scanner)
     requires { scanner.old.ended ≡ false }
 {
     tell_ready(told, scanner);
-    match finish(scanner) {
+    match finish(alloc, scanner) {
         Ok(()) => {
             tell_ready(told, scanner);
             tell("end", told);
@@ -95,22 +95,29 @@ fn tell_end(told: &mut String, scanner: &mut Scanner)
 }
 
 /// What a scanner gives of a piece, and then of pieces of so many bytes each.
-fn tell_pieces(told: &mut String, scanner: &mut Scanner, first: &[u8], rest: &[u8], size: usize)
+fn tell_pieces(
+    alloc: Global,
+    told: &mut String,
+    scanner: &mut Scanner,
+    first: &[u8],
+    rest: &[u8],
+    size: usize,
+)
     requires positive { 1 ≤ size }
     requires open_yet { scanner.old.ended ≡ false }
 {
-    if !tell_piece(told, scanner, first) {
+    if !tell_piece(alloc, told, scanner, first) {
         return;
     }
     for piece in rest.chunks(size) {
-        if !tell_piece(told, scanner, piece) {
+        if !tell_piece(alloc, told, scanner, piece) {
             return;
         }
     }
-    tell_end(told, scanner);
+    tell_end(alloc, told, scanner);
 }
 
-impl Lexed {
+impl Lexed<'_> {
     /// Whether the text is told so in a piece that ends here, and then in pieces of so many bytes.
     fn is_told_in_pieces(&self, alloc: Global, cut: usize, size: usize) -> bool
         requires cut { cut ≤ length (self.now.0).now }
@@ -119,6 +126,7 @@ impl Lexed {
         let mut told = page(alloc);
         if let Ok(mut scanner) = begun(alloc) {
             tell_pieces(
+                alloc,
                 &mut told,
                 &mut scanner,
                 &self.0[..cut],
@@ -207,14 +215,14 @@ fn tell_release(told: &mut String, scanner: &mut Scanner)
 }
 
 /// Makes a call, and tells what it answers.
-fn tell_act(told: &mut String, scanner: &mut Scanner, act: Act)
+fn tell_act(alloc: Global, told: &mut String, scanner: &mut Scanner, act: Act)
     requires { scanner.old.ended ≡ false }
     ensures { scanner.new.ended ≡ false }
 {
     match act {
-        Act::Feed(piece) => tell_taken(told, feed(scanner, piece)),
+        Act::Feed(piece) => tell_taken(told, feed(alloc, scanner, piece)),
         Act::Piece(piece) => {
-            tell_piece(told, scanner, piece);
+            tell_piece(alloc, told, scanner, piece);
         }
         Act::Fed => {
             let _ = write!(told, "{}", scanner.fed());
@@ -234,14 +242,14 @@ fn tell_act(told: &mut String, scanner: &mut Scanner, act: Act)
 }
 
 /// Makes these calls, and then ends the text, if it ends: tells the fault, or the text of the last line.
-fn tell_acts(told: &mut String, scanner: &mut Scanner, acts: &[Act], ends: bool)
+fn tell_acts(alloc: Global, told: &mut String, scanner: &mut Scanner, acts: &[Act], ends: bool)
     requires { scanner.old.ended ≡ false }
 {
     for act in acts {
-        tell_act(told, scanner, *act);
+        tell_act(alloc, told, scanner, *act);
     }
     if ends {
-        match finish(scanner) {
+        match finish(alloc, scanner) {
             Ok(()) => tell_text(told, scanner),
             Err(error) => tell_fault(told, error),
         }
@@ -268,7 +276,7 @@ fn begun_at(alloc: Global, offset: u64) -> Result<Scanner, LexError>
 fn is_told(alloc: Global, offset: u64, acts: &[Act], ends: bool, want: &str) -> bool {
     let mut told = page(alloc);
     if let Ok(mut scanner) = begun_at(alloc, offset) {
-        tell_acts(&mut told, &mut scanner, acts, ends);
+        tell_acts(alloc, &mut told, &mut scanner, acts, ends);
     }
     told.as_str() == want
 }
