@@ -48,17 +48,22 @@ fn are_placed(settings: &Settings) -> bool {
         && settings.section_of("o.x") == Section::FirstParty
 }
 
-/// Whether a list that was read has its modules, and gives its `Vec` back.
-fn known_list(alloc: Global) -> Result<bool, SettingsError> {
-    let (settings, _) = Settings::from_pyproject(alloc, TABLE, None)?;
-    match settings.known_first_party {
+/// Whether a list with an index has its modules, and gives its `Vec` back.
+fn gives_back(list: Modules) -> bool {
+    match list {
         Modules::Indexed(list) => {
             let is_read = are_texts(list.modules(), &["m.n", "o"]);
             let given = list.into_modules();
-            Ok(is_read && are_texts(given.as_slice(), &["m.n", "o"]))
+            is_read && are_texts(given.as_slice(), &["m.n", "o"])
         }
-        _other => Ok(false),
+        _other => false,
     }
+}
+
+/// Whether a list that was read gives its `Vec` back.
+fn known_list(alloc: Global) -> Result<bool, SettingsError> {
+    let (settings, _) = Settings::from_pyproject(alloc, TABLE, None)?;
+    Ok(gives_back(settings.known_first_party))
 }
 
 /// Whether modules have the same sections by lists with an index and by lists without.
