@@ -51,7 +51,7 @@ either None true b place = refl
 either None false b place = refl
 
 -- a text that is longer than a name isn't that name
-other-longer : (name text : List ℕ) → length name < length text → bytes_eq name text ≡ false
+pub other-longer : (name text : List ℕ) → length name < length text → bytes_eq name text ≡ false
 other-longer [] [] longer = absurd (omega (arith, longer))
 other-longer [] (c ∷ text) longer = refl
 other-longer (n ∷ name) [] longer = absurd (omega (arith, longer))

@@ -1,5 +1,5 @@
 -- Lists of modules: when two are the same, and what a search of a sorted one finds.
-use Rattle.std.proofs.Common.{◌≡◌, ℕ, ◌+◌, ◌<◌, ◌≤◌, zero, suc, Bool, true, false, not, ◌&&◌, ◌||◌, List, [], ◌∷◌, map, length, drop, Option, Some, None, Result, Ok, Err, inl, inr, refl, sym, ◌∙◌, ap, arith, Bor, bytes_eq, Equal}
+use Rattle.std.proofs.Common.{◌≡◌, ℕ, ◌+◌, ◌<◌, ◌≤◌, zero, suc, Bool, true, false, not, ◌&&◌, ◌||◌, List, [], ◌∷◌, map, length, drop, Option, Some, None, Result, Ok, Err, inl, inr, refl, sym, ◌∙◌, ap, arith, Bor, bytes_eq, Equal, max}
 use Rattle.std.proofs.lemmas.Bool.{and_parts, cases_lt, not-true}
 use Rattle.std.proofs.lemmas.Cmp.{nat_list_cmp_total}
 use Rattle.std.proofs.lemmas.List.{drop_all}
@@ -12,6 +12,8 @@ use Rattle.std.specs.Option.{option_copied, option_eq}
 use Rattle.std.specs.Ordering.{is_eq, is_lt, nat_cmp}
 use Rattle.std.specs.Result.{is_ok}
 use Rattle.isort_settings.specs.Sections.{holds}
+use Rattle.isort_settings.proofs.Indexes.{other-longer}
+use Rattle.std.proofs.Math.Nat.{le-max_left, le-max_right}
 use native.Mathlib.Numerals.{unary_clauses}
 
 -- two lists are the same from one place on where the modules at it are the same, and those behind it
@@ -88,3 +90,16 @@ search_finds names text (Err i) up within place =
       | inl below ↦ rw (around.0 k d (omega arith) (omega (arith, below))) refl
       | inr above ↦ rw (around.1 k d (omega (arith, above)) h) refl
     ]))
+
+-- the length of the longest text
+abbrev pub longest : List (List ℕ) → ℕ
+longest [] = 0
+longest (text ∷ texts) = max (length text) (longest texts)
+
+-- a longer text is none of them
+pub longer_not_held : (names : List (List ℕ)) (text : List ℕ) → longest names < length text → holds names text ≡ false
+longer_not_held [] text longer = refl
+longer_not_held (n ∷ names) text longer =
+    let here : length n < length text = omega (arith, longer, le-max_left (length n) (longest names)) in
+    let there : longest names < length text = omega (arith, longer, le-max_right (length n) (longest names)) in
+    rw (other-longer n text here, longer_not_held names text there) refl

@@ -169,6 +169,9 @@ const STANDARD_LIBRARY: [&str; 160] = [
     "zoneinfo",
 ];
 
+/// The length of the longest of these names: a longer text is none of them.
+const LONGEST: usize = 15;
+
 /// The modules that count as the standard library.
 pub fn modules() -> &'static [&'static str]
     ensures { map (λ m. m.now) result.now ≡ standard_library }
@@ -180,6 +183,9 @@ pub fn modules() -> &'static [&'static str]
 pub fn holds(module: &[u8]) -> bool
     ensures { result ≡ holds standard_library «module».now }
 {
+    if module.len() > LONGEST {
+        return false;
+    }
     modules()
         .binary_search_by(|name| name.as_bytes().cmp(module))
         .is_ok()
