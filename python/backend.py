@@ -21,7 +21,9 @@ HERE = Path(__file__).resolve().parent
 HEADER_FOLDER = proved.TOP / "c"
 
 NAME = "fihroste"
-VERSION = "0.1.0"
+VERSION_FILE = proved.TOP / "VERSION"
+# Outside the repository there is none, and nothing is built: expect_tools says so.
+VERSION = VERSION_FILE.read_text().strip() if VERSION_FILE.is_file() else "0"
 TAG = "cp38-abi3-linux_x86_64"
 METADATA = f"""Metadata-Version: 2.1
 Name: {NAME}
@@ -159,7 +161,7 @@ def package_files(extension: str, program: str) -> Iterator[Entry]:
     """The files of the wheel of fihroste."""
     for path in sorted((HERE / NAME).rglob("*")):
         if path.suffix in (".py", ".pyi", ".typed"):
-            yield path.relative_to(HERE).as_posix(), path.read_bytes(), 0o644
+            yield path.relative_to(HERE).as_posix(), path.read_bytes().replace(b"@VERSION@", VERSION.encode()), 0o644
     yield f"{NAME}/{os.path.basename(extension)}", Path(extension).read_bytes(), 0o755
     yield f"{NAME}/isort", Path(program).read_bytes(), 0o755
 

@@ -42,4 +42,5 @@ __all__ = [
     "stream",
     "wrap_modes",
 ]
-__version__ = "0.1.0"
+# The wheel has the version of the file VERSION here.
+__version__ = "@VERSION@"
