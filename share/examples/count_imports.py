@@ -4,8 +4,8 @@
 
 PATH is a folder, of which every *.py and *.pyi file below is read, or an archive (.zip, .whl, .tar, .tar.gz, .tgz, .tar.xz,
 .tar.bz2). Folders and archives have to be where each worker sees them under the same name. FILE (imports.csv) becomes a table: a
-package, on how many lines an import statement of it begins, and in how many files. Files that can't be read to their end are
-counted up to their fault, and told at the end. Relative imports are not counted.
+package, on how many lines an import statement of it begins, and in how many files. A file with a fault is counted up to it, one
+that is not UTF-8 is left out, and both are told at the end. Relative imports are not counted.
 
 Without a cluster's address, N (4) processes of this machine are the workers. It needs the package fihroste on each worker, and
 Dask's distributed (Debian: python3-distributed)."""
@@ -52,7 +52,8 @@ def texts(paths: Iterable[str]) -> Iterator[Tuple[str, bytes]]:
     for path in paths:
         if path.endswith(ZIPS + TARS):
             yield from texts_of_archive(path)
-        else:
+        elif os.path.isfile(path):
+            # (a link may lead nowhere)
             yield path, Path(path).read_bytes()
 
 
@@ -92,6 +93,8 @@ def tasks(paths: Iterable[str]) -> Iterator[List[str]]:
         if os.path.isfile(path):
             yield [path]
             continue
+        if not os.path.isdir(path):
+            raise SystemExit(f"{path}: no such file or folder")
         for folder, _, names in os.walk(path):
             for name in names:
                 if name.endswith(ENDS):
