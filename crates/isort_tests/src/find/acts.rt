@@ -2,7 +2,7 @@
 ghost use Rattle.std.specs.Prelude.{◌≡◌, false, true};
 ghost use Rattle.isort_find.specs.Pieces.{IsOpenYet};
 
-use crate::harness::cases::page;
+use crate::harness::cases::{page, was_refused};
 use crate::harness::told::{tell, tell_binding, tell_error};
 use isort_find::{Cursor, FindError, FindOptions, Finder, PieceFinder};
 use py_imports::Binding;
@@ -16,6 +16,7 @@ const MOST: u64 = 1_000_000;
 /// look for themselves whether the finder allows them, so that no test has to prove it.
 #[derive(Drop)]
 struct Fed {
+    alloc: Global,
     finder: PieceFinder,
     /// Whether the text was ended.
     ended: bool,
@@ -33,10 +34,11 @@ impl Model for Fed {
 
 impl Fed {
     /// One whose text is not ended.
-    fn of(finder: PieceFinder) -> Fed
+    fn of(alloc: Global, finder: PieceFinder) -> Fed
         requires { finder.scanning.ended ≡ false }
     {
         Fed {
+            alloc,
             finder,
             ended: false,
             faulty: false,
@@ -47,7 +49,8 @@ impl Fed {
     fn resume(alloc: Global, cursor: Cursor) -> Option<Fed> {
         match Fed::try_resume(alloc, cursor) {
             Ok(finder) => Some(finder),
-            Err(cursor) => Fed::try_resume(alloc, cursor).ok(),
+            Err(cursor) if was_refused(alloc) => Fed::try_resume(alloc, cursor).ok(),
+            Err(_) => None,
         }
     }
 
@@ -57,7 +60,7 @@ impl Fed {
             return Err(cursor);
         }
         match PieceFinder::resume(alloc, cursor) {
-            Ok(finder) => Ok(Fed::of(finder)),
+            Ok(finder) => Ok(Fed::of(alloc, finder)),
             Err((cursor, _)) => Err(cursor),
         }
     }
@@ -65,7 +68,7 @@ impl Fed {
     /// Feeds a short piece once; where memory ran out, it is fed again.
     fn feed(&mut self, piece: &[u8]) -> Result<usize, FindError> {
         match self.try_feed(piece) {
-            Err(FindError::Memory) => self.try_feed(piece),
+            Err(FindError::Memory) if was_refused(self.alloc) => self.try_feed(piece),
             answer => answer,
         }
     }
@@ -89,7 +92,7 @@ impl Fed {
     /// The next import that is ready; where memory ran out, it is asked for again.
     fn next_ready(&mut self) -> Result<Option<Binding>, FindError> {
         match self.try_next_ready() {
-            Err(FindError::Memory) => self.try_next_ready(),
+            Err(FindError::Memory) if was_refused(self.alloc) => self.try_next_ready(),
             answer => answer,
         }
     }
@@ -108,7 +111,7 @@ impl Fed {
     /// Ends the text; where memory ran out, it is ended again.
     fn finish(&mut self) -> Result<(), FindError> {
         match self.try_finish() {
-            Err(FindError::Memory) => self.try_finish(),
+            Err(FindError::Memory) if was_refused(self.alloc) => self.try_finish(),
             answer => answer,
         }
     }
@@ -378,7 +381,9 @@ pub(crate) fn tell_import(
     out: &mut String,
 ) -> Told {
     match finder.next_import() {
-        Err(FindError::Memory) => tell_answer(alloc, finder.next_import(), none, out),
+        Err(FindError::Memory) if was_refused(alloc) => {
+            tell_answer(alloc, finder.next_import(), none, out)
+        }
         answer => tell_answer(alloc, answer, none, out),
     }
 }
@@ -396,7 +401,8 @@ fn tell_imports(alloc: Global, finder: &mut Finder<'_>, most: usize, none: &str,
 pub(crate) fn begun(alloc: Global, text: &[u8], options: FindOptions) -> Option<Finder<'_>> {
     match Finder::new(alloc, text, options) {
         Ok(finder) => Some(finder),
-        Err(_) => Finder::new(alloc, text, options).ok(),
+        Err(_) if was_refused(alloc) => Finder::new(alloc, text, options).ok(),
+        Err(_) => None,
     }
 }
 
@@ -404,15 +410,20 @@ pub(crate) fn begun(alloc: Global, text: &[u8], options: FindOptions) -> Option<
 pub(crate) fn resumed(alloc: Global, text: &[u8], cursor: Cursor) -> Option<Finder<'_>> {
     match Finder::resume(alloc, text, cursor) {
         Ok(finder) => Some(finder),
-        Err((cursor, _)) => Finder::resume(alloc, text, cursor).ok(),
+        Err((cursor, _)) if was_refused(alloc) => Finder::resume(alloc, text, cursor).ok(),
+        Err(_) => None,
     }
 }
 
 /// A finder of pieces; where memory ran out, it is begun again.
 fn begun_in_pieces(alloc: Global, options: FindOptions) -> Option<Fed> {
     match PieceFinder::new(alloc, options) {
-        Ok(finder) => Some(Fed::of(finder)),
-        Err(_) => Some(Fed::of(PieceFinder::new(alloc, options).ok()?)),
+        Ok(finder) => Some(Fed::of(alloc, finder)),
+        Err(_) if was_refused(alloc) => {
+            let finder = PieceFinder::new(alloc, options).ok()?;
+            Some(Fed::of(alloc, finder))
+        }
+        Err(_) => None,
     }
 }
 
