@@ -3,8 +3,8 @@ ghost use Rattle.std.specs.Prelude.{◌≡◌, ◌+◌, ◌-◌, ◌^◌, IfOk, 
 ghost use Rattle.py_imports.specs.Bound.{bound_of};
 
 use crate::error::FindError;
-use crate::key::{KeyText, key_of};
-use crate::options::FindOptions;
+use crate::key::{KeyText, is_key_of, key_of};
+use crate::options::{FindOptions, ImportKey};
 use crate::pending::LineStart;
 use indexmap::IndexSet;
 use py_imports::Binding;
@@ -37,6 +37,8 @@ impl Model for Cursor {
 }
 
 impl Cursor {
+    ghost use Rattle.std.specs.List.{list_any};
+    ghost use Rattle.isort_find.specs.Key.{key_of, key_eq};
     ghost use Rattle.isort_find.specs.Cursor.{first_cursor, knows_key};
     ghost use Rattle.isort_find.specs.Private.CursorMoves.{Admits, cursor_after, cursor_before};
 
@@ -69,18 +71,28 @@ impl Cursor {
         }
     }
 
-    /// Whether a binding with the key of this one was given.
-    pub(crate) fn knows(&self, alloc: Global, binding: &Binding) -> Result<bool, FindError>
-        ensures ok { IfOk result (λ known. known ≡ knows_key self.now.options.unique self.now.keys (bound_of binding.now)) }
-        ensures err { IfErr result (λ e. e ≡ FindError.Memory) }
+    /// Whether a binding with the key of this one was given. Without memory for that key, each key is compared in turn.
+    pub(crate) fn knows(&self, alloc: Global, binding: &Binding) -> bool
+        ensures { result ≡ knows_key self.now.options.unique self.now.keys (bound_of binding.now) }
     {
         match self.options.unique {
-            None => Ok(false),
-            Some(key) => {
-                let key = key_of(alloc, binding, key)?;
-                Ok(self.keys.contains(&key))
-            }
+            None => false,
+            Some(key) => match key_of(alloc, binding, key) {
+                Ok(text) => self.keys.contains(&text),
+                Err(_) => self.knows_in_turn(binding, key),
+            },
         }
+    }
+
+    /// Whether one of the keys is that of the binding, by comparing each. It takes no memory.
+    #[cold]
+    fn knows_in_turn(&self, binding: &Binding, key: ImportKey) -> bool
+        ensures { result ≡ list_any (key_eq (key_of key (bound_of binding.now))) self.now.keys }
+    {
+        self.keys
+            .as_slice()
+            .iter()
+            .any(|known| is_key_of(known, binding, key))
     }
 
     /// A binding of the logical line that begins at `start` was given, and so many of its bindings were looked at.

@@ -2,7 +2,7 @@
 ghost use Rattle.std.specs.Prelude.{◌≡◌, ◌↔◌, IsTrue, IfOk, IfErr, string_bytes};
 ghost use Rattle.std.specs.Option.{option_map};
 ghost use Rattle.py_imports.specs.Bound.{bound_of};
-ghost use Rattle.isort_find.specs.Key.{key_with, key_of, package_of};
+ghost use Rattle.isort_find.specs.Key.{key_with, key_of, key_eq, package_of};
 ghost use Rattle.isort_find.specs.KeyText.{key_in};
 
 use crate::error::FindError;
@@ -63,6 +63,32 @@ fn key_with(
         attribute: text_copy(attribute)?,
         alias: text_copy(alias)?,
     })
+}
+
+/// Whether a key has these texts.
+fn has_texts(
+    known: &KeyText,
+    text: &str,
+    attribute: &Option<String>,
+    alias: &Option<String>,
+) -> bool
+    ensures { result ≡ key_eq (key_with text.now (option_map string_bytes attribute.now) (option_map string_bytes alias.now)) (key_in known.now) }
+{
+    text == known.text.as_str() && *attribute == known.attribute && *alias == known.alias
+}
+
+/// Whether a binding has this key. It takes no memory.
+pub(crate) fn is_key_of(known: &KeyText, binding: &Binding, key: ImportKey) -> bool
+    ensures { result ≡ key_eq (key_of key (bound_of binding.now)) (key_in known.now) }
+{
+    let name = binding.module_name.as_str();
+    let attribute = &binding.attribute_name;
+    match key {
+        ImportKey::Package => has_texts(known, package_of(name), &None, &None),
+        ImportKey::Module => has_texts(known, name, &None, &None),
+        ImportKey::Attribute => has_texts(known, name, attribute, &None),
+        ImportKey::Alias => has_texts(known, name, attribute, &binding.alias_name),
+    }
 }
 
 /// The key of a binding, by copies of its texts. It answers `Memory` alone.

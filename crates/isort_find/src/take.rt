@@ -26,15 +26,14 @@ pub fn take_new(
     Ok(None)
 }
 
-/// Passes over the next bindings whose keys the cursor has, up to the first other one.
-pub fn pass_known(alloc: Global, pending: &mut Pending, cursor: &Cursor) -> Result<(), FindError>
-    ensures { PassesKnown cursor.now pending.old result pending.new }
+/// Passes over the next bindings whose keys the cursor has, up to the first other one. It needs no memory.
+pub fn pass_known(alloc: Global, pending: &mut Pending, cursor: &Cursor)
+    ensures { PassesKnown cursor.now pending.old pending.new }
 {
     'bindings: while let Some(binding) = pending.front() {
-        if !cursor.knows(alloc, binding)? {
-            return Ok(());
+        if !cursor.knows(alloc, binding) {
+            return;
         }
         let _ = pending.take();
     }
-    Ok(())
 }

@@ -231,13 +231,13 @@ impl Walker {
         }
     }
 
-    /// Passes over bindings whose keys were given. Without memory the next one is left as if it were new.
+    /// Passes over bindings whose keys were given. It needs no memory.
     pub fn look_ahead(&mut self)
         ensures { LooksAhead self.old self.new }
     {
         match &mut self.stand {
             Stand::Within(pending) => {
-                let _ = pass_known(self.alloc, pending, &self.cursor);
+                pass_known(self.alloc, pending, &self.cursor);
             }
             Stand::Between { .. } | Stand::Unread { .. } | Stand::End { .. } | Stand::Fault(_) => {}
         }

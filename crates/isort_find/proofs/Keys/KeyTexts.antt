@@ -21,6 +21,11 @@ in_set : (eq : KeyText → KeyText → Bool) → ((a b : KeyText) → eq a b ≡
 in_set eq same k [] = refl
 in_set eq same k (x ∷ xs) = ap (λ t. t || list_any (eq k) xs) (same k x) ∙ ap (λ t. key_eq (key_in k) (key_in x) || t) (in_set eq same k xs)
 
+-- a key is one of them where it is compared with each text's
+pub any_key : (key : Key) (keys : List KeyText) → list_any (λ k. key_eq key (key_in k)) keys ≡ list_any (key_eq key) (map key_in keys)
+any_key key [] = refl
+any_key key (x ∷ xs) = ap (λ t. key_eq key (key_in x) || t) (any_key key xs)
+
 keys_behind : (there : Bool) (keys : List KeyText) (k : KeyText) (key : Key) → key_in k ≡ key → map key_in (if there then keys else keys ++ k ∷ []) ≡ (if not there then map key_in keys ++ key ∷ [] else map key_in keys)
 keys_behind true keys k key is = refl
 keys_behind false keys k key is = map-append key_in keys (k ∷ []) ∙ ap (λ t. map key_in keys ++ t ∷ []) is

@@ -38,7 +38,6 @@ TakesNextBinding s old (Ok (Some b)) t new = TakesNew s old (bound_of b) t new
 TakesNextBinding s old (Ok None) t new = PassesBindings s old new × (new.left ≡ []) × (t ≡ s)
 TakesNextBinding s old (Err e) t new = PassesBindings s old new × (t ≡ s) × (e ≡ error.Memory) × (new.left ≡ [] → ⊥)
 
--- what is passed over of the bindings that are left; without memory not all that are known
-abbrev pub PassesKnown : CursorState → PendingState → Result (Unit {0}) FindError → PendingState → Type 0
-PassesKnown s old (Ok done) new = PassesBindings s old new × BeginsNew s new.left
-PassesKnown s old (Err e) new = PassesBindings s old new × (e ≡ error.Memory)
+-- what is passed over of the bindings that are left, up to one with a new key
+abbrev pub PassesKnown : CursorState → PendingState → PendingState → Type 0
+PassesKnown s old new = PassesBindings s old new × BeginsNew s new.left

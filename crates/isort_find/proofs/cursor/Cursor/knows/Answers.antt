@@ -5,5 +5,5 @@ use Rattle.isort_find.proofs.Keys.KeyTexts.{text_eq, knows}
 use Rattle.isort_find.specs.contracts.key.KeyTextPartialEq.TheImpl as same
 use Rattle.isort_find.proofs.cursor.Cursor.knows.Goals as goal
 
-pub returns-in_ok-key-in-Some-clause-ok : goal.returns-in_ok-key-in-Some-clause-ok
-returns-in_ok-key-in-Some-clause-ok c = rw (← c.self.view_is) (c.contains.ensures ∙ knows same.eq-value.it text_eq c.self.inside.options.unique c.in-Some.key c.self.inside.keys.keys c.in_ok-key-in-Some.key (bound_of c.args.binding.now) c.in-Some.is c.in_ok-key-in-Some.ensures.ok)
+pub returns-in-Ok : goal.returns-in-Ok
+returns-in-Ok c = rw (← c.self.view_is) (c.contains.ensures ∙ knows same.eq-value.it text_eq c.self.inside.options.unique c.in-Some.key c.self.inside.keys.keys c.in-Ok.text (bound_of c.args.binding.now) c.in-Some.is c.in-Ok.ensures.ok)
