@@ -83,9 +83,13 @@ due_in other = length (left_in other)
 abbrev pub due_by : PieceFinderState → ℕ
 due_by f = due_in f.stand
 
--- a refused growth left the last line unread, or the next of its bindings not looked at, whose key was given
+-- the next binding that is left, if one is, has a key that wasn't given
+abbrev pub IsNextNew : PieceFinderState → Type 0
+IsNextNew f = BeginsNew f.cursor (left_in f.stand)
+
+-- a refused growth left the last line unread, or the key of the next binding was given
 abbrev pub IsUnsure : PieceFinderState → Type 0
-IsUnsure f = (is_unread f.stand ≡ true) ⊎ ¬ (BeginsNew f.cursor (left_in f.stand))
+IsUnsure f = (is_unread f.stand ≡ true) ⊎ ¬ (IsNextNew f)
 
 -- the scanner has released just these logical lines of the text, of which more may come or not
 abbrev pub HasReleased : ScannerState → List ℕ → List LogicalLine → Type 0
@@ -209,6 +213,7 @@ pub record TakesFromPiece (old : PieceFinderState) (piece : List ℕ) (n : ℕ) 
       (λ text bounds. has_ready new ≡ true → HoldsLine new text ⊎ ((is_unread new.stand ≡ true) × HoldsRest new text))
   pub some : n ≡ 0 → (piece ≡ []) ⊎ (has_ready old ≡ true)
   pub waits : has_ready old ≡ true → (n ≡ 0) × (new ≡ old)
+  pub next_new : has_ready old ≡ false → IsNextNew new
   pub whole : has_ready new ≡ false → n ≡ length piece
   pub top : phase_in new.stand ≡ phase.End → n ≡ length piece
   pub fed : fed_by new ≡ fed_by old + n
@@ -264,6 +269,7 @@ pub record GivesBinding (old : PieceFinderState) (b : Bound) (new : PieceFinderS
   pub offset : OfEachText old (λ text bounds. BindsFrom text new.cursor.offset b)
   pub line : OfEachText old (λ text bounds. HoldsLine new text)
   pub was_ready : has_ready old ≡ true
+  pub next_new : IsNextNew new
   pub falls : due_by new < due_by old
   pub options : options_for new ≡ options_for old
   pub given : new.cursor.given ≡ next_count old.cursor.given
@@ -319,6 +325,7 @@ GivesReady old (Err error.Memory) new = PieceFinderRunsOut old new × (has_ready
 pub record FinishesText (old new : PieceFinderState) : Type 0 where
   pub found : InEachWhole old (HasFoundIn new)
   pub line : InEachWhole old (λ text bounds. has_ready new ≡ true → HoldsLine new text)
+  pub next_new : IsNextNew new
   pub cursor : new.cursor ≡ old.cursor
   pub fed : fed_by new ≡ fed_by old
   pub ended : IsOver new

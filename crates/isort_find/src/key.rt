@@ -72,7 +72,8 @@ fn has_texts(
     attribute: &Option<String>,
     alias: &Option<String>,
 ) -> bool
-    ensures { result ≡ key_eq (key_with text.now (option_map string_bytes attribute.now) (option_map string_bytes alias.now)) (key_in known.now) }
+    ensures { result ≡ key_eq (key_with text.now (option_map string_bytes attribute.now) (option_map string_bytes alias.now))
+        (key_in known.now) }
 {
     text == known.text.as_str() && *attribute == known.attribute && *alias == known.alias
 }

@@ -41,6 +41,7 @@ takes_more old mid new piece t n first next =
       found = λ text bounds h whole. let g = goes text whole in next.found text bounds (first.found text bounds h g.0) g.1;
       all = λ text bounds h whole none. let g = goes text whole in next.all text bounds (first.found text bounds h g.0) g.1 none;
       undecided = λ text bounds h whole none drained. let g = goes text whole in next.undecided text bounds (first.found text bounds h g.0) g.1 none drained;
+      next_new = next.next_new;
       some = λ zero. first.some (omega (arith, zero));
       held = let k = first.held in let m = next.held in omega (arith, k, m);
       gone = λ line ready. let k = first.gone line ready in let m = next.held in omega (arith, k, m);
@@ -95,6 +96,7 @@ lost_after old mid last piece t start first nothing =
       found = λ text bounds h goes. lost_found last.scanning last.stand last.cursor start text bounds keeps.is_open nothing.none_ready (keeps.found text bounds (first.found text bounds h goes));
       all = λ text bounds h goes none. absurd (true_or_false _ none refl);
       undecided = λ text bounds h goes none drained. absurd (true_or_false _ none refl);
+      next_new = tt;
       some = first.some;
       held = let k = first.held in omega (arith, k, shorter);
       gone = λ line was. let k = first.gone line was in omega (arith, k, shorter);

@@ -27,7 +27,7 @@ use Rattle.isort_find.proofs.Fed.Known.{next_start, given_of, true_or_false, non
 use Rattle.isort_find.proofs.Fed.LetGo.{BeginsLine, line_begun, begun_between, begun_fed, begun_held, begun_gone, begun_scanning, ended_gone}
 use Rattle.isort_find.proofs.Fed.Settled.{all_settled, all_undecided}
 use Rattle.isort_find.proofs.Fed.Held.{between_rest, line_any, open_ready}
-use Rattle.isort_find.proofs.Fed.TriedLines.{IsBadReady, tried_found, tried_so, tried_ready, tried_bad, bad_decided}
+use Rattle.isort_find.proofs.Fed.TriedLines.{IsBadReady, tried_found, tried_so, tried_new, tried_ready, tried_bad, bad_decided}
 
 -- the scanner has gone on, and the lines released are the same
 moved_on : (s t : ScannerState) (cursor : CursorState) (text : List ℕ) (skip : ℕ) (bounds : List Bound) (b : IsBetweenLines s cursor text skip bounds) → HasReleased t text b.after.lines → t.place ≡ s.place → IsBetweenLines t cursor text skip bounds
@@ -65,6 +65,7 @@ takes_line laws one ascent old t b s piece n takes new result ok tries =
       found = found;
       all = λ text bounds h goes none. all_settled laws one ascent new.scanning new.stand new.cursor text bounds (ended ∙ b.yet) so.fine none (found text bounds h goes);
       undecided = λ text bounds h goes none drained. all_undecided laws one ascent new.scanning new.stand new.cursor text bounds (ended ∙ b.yet) so.fine drained (λ ready. lexical new so.scanning text bounds h goes ready) (found text bounds h goes);
+      next_new = tried_new s skip old.cursor new result tries;
       some = λ zero. by_some (takes.some zero);
       held = let k = begun_held old t b in omega (arith, size, k);
       gone = λ line ready. let k = begun_gone old t b line ready in omega (arith, size, k);
@@ -231,6 +232,7 @@ ends_line laws old t b s ends new result ok tries =
       line = λ text bounds h all ready.
           let line = tried_ready (line_begun old s) new result refl tries ready in
           line_any new.scanning new.stand new.cursor text bounds line.0 (open_ready new.stand ready) (ap (λ (x : ScannerState). x.ready) so.scanning ∙ line.1) (found text bounds h all);
+      next_new = tried_new s (skip_in old.stand) old.cursor new result tries;
       cursor = so.cursor;
       fed = so.fed ∙ ended_fed old t b s ends;
       ended = inl (ap (λ (x : ScannerState). x.ended) so.scanning ∙ ends.ended);

@@ -1,5 +1,5 @@
 -- After a call that asks for what is ready, bytes may be fed as before it.
-use Rattle.std.proofs.Common.{◌≡◌, Option, None, Some, Result, Ok, Err, ap, ◌∙◌}
+use Rattle.std.proofs.Common.{Option, None, Some, Result, Ok, Err, ap, ◌∙◌}
 use Rattle.py_imports.specs.declared.binding.Binding.{Binding}
 use Rattle.isort_find.specs.Pieces.{PieceFinderState, GivesReady, IsOpenYet}
 use Rattle.isort_find.specs.declared.error.FindError.{FindError}

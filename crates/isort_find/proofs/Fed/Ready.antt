@@ -6,15 +6,15 @@ use Rattle.py_lines.specs.ScannerState.{ScannerState, fed_of}
 use Rattle.py_lines.specs.declared.fault.Fault.{Fault}
 use Rattle.py_imports.specs.Bound.{Bound, bound_of}
 use Rattle.py_imports.specs.declared.binding.Binding.{Binding}
-use Rattle.isort_find.specs.Cursor.{CursorState, next_count}
+use Rattle.isort_find.specs.Cursor.{CursorState, next_count, BeginsNew}
 use Rattle.isort_find.specs.Pending.{PendingState}
 use Rattle.isort_find.specs.Stand.{phase_in, is_unread, are_left, ready_in, BindsFrom}
-use Rattle.isort_find.specs.Pieces.{PieceFinderState, piece_finder_state, options_for, fed_by, has_ready, due_in, due_by, IsWithinLine, HasFoundIn, AreSettled, HoldsLine, PieceFinderRunsOut, GivesBinding, GivesFault, GivesReady}
+use Rattle.isort_find.specs.Pieces.{PieceFinderState, piece_finder_state, options_for, fed_by, has_ready, due_in, due_by, IsWithinLine, HasFoundIn, AreSettled, HoldsLine, PieceFinderRunsOut, GivesBinding, GivesFault, GivesReady, IsNextNew}
 use Rattle.isort_find.specs.Private.KnownLaws.{SettledLaws, OneSettled}
 use Rattle.isort_find.specs.Private.LineSteps.{Judges}
 use Rattle.isort_find.specs.Private.LooksAtBindings.{PassesBindings, TakesNew}
 use Rattle.isort_find.specs.Private.PieceSteps.{HasReady, HandsLine, ReadsReady, ReadsUnread, TakesRead, TakesAfter, TakesReady, walker_of, with_walker}
-use Rattle.isort_find.specs.Private.Walks.{WalkerState, FollowsStep, LooksAhead, walker_state, ReadsOrLosesLine, TriesLine}
+use Rattle.isort_find.specs.Private.Walks.{WalkerState, FollowsStep, LooksAhead, walker_state, LearnsLine, ReadsOrLosesLine}
 use Rattle.isort_find.specs.declared.error.FindError.{FindError}
 use Rattle.isort_find.specs.declared.error.FindError.TheVariants as error
 use Rattle.isort_find.specs.declared.pending.LineStart.{LineStart}
@@ -34,7 +34,7 @@ use Rattle.isort_find.proofs.Fed.TriedLines.{TriedSo, IsBadReady, held_found, tr
 not_ok : (e : FindError) (r : Result (Unit {0}) FindError) → r ≡ Err e → r ≡ Ok tt → ⊥
 not_ok e r h k = cc
 
-tries_held : (f new : PieceFinderState) (result : Result (Unit {0}) FindError) → HandsLine ReadsOrLosesLine f result new → HandsLine TriesLine f (tried_result result) new
+tries_held : (f new : PieceFinderState) (result : Result (Unit {0}) FindError) → HandsLine ReadsOrLosesLine f result new → HandsLine LearnsLine f (tried_result result) new
 tries_held f new result h = record { line = h.line; start = h.start; walker = h.walker; at = h.at; does = reads_tries (walker_of f) h.walker h.line h.start result h.does; same = h.same }
 
 -- the line that was left unread was read
@@ -111,6 +111,7 @@ record Took (mid : PieceFinderState) (b : Bound) (new : PieceFinderState) : Type
   pub last : PendingState
   pub takes : TakesNew mid.cursor pending b cursor rest
   pub passes : PassesBindings cursor rest last
+  pub ahead : BeginsNew cursor last.left
   pub same : new ≡ piece_finder_state mid.scanning (stand.Within last) cursor
 
 some_is_none : (x : Binding) → ◌≡◌ {A = Result (Option Binding) FindError} (Ok (Some x)) (Ok None) → ⊥
@@ -119,7 +120,7 @@ some_is_none x h = cc
 took : (s : ScannerState) (at : Stand) (cursor : CursorState) (x : Binding) (new : PieceFinderState) → TakesRead (piece_finder_state s at cursor) (Ok (Some x)) new → Took (piece_finder_state s at cursor) (bound_of x) new
 took s (stand.Within p) cursor x new k =
     let looks = subst (λ (w : WalkerState). LooksAhead w k.walker) k.takes.same k.looks in
-    record { pending = p; at = refl; cursor = k.mid.cursor; rest = k.takes.rest; last = looks.rest; takes = k.takes.takes; passes = looks.passes; same = k.same ∙ ap (λ (w : WalkerState). piece_finder_state s w.stand w.cursor) looks.same }
+    record { pending = p; at = refl; cursor = k.mid.cursor; rest = k.takes.rest; last = looks.rest; takes = k.takes.takes; passes = looks.passes; ahead = looks.next_new; same = k.same ∙ ap (λ (w : WalkerState). piece_finder_state s w.stand w.cursor) looks.same }
 took s (stand.Between skip) cursor x new k = absurd (some_is_none x k.takes.0)
 took s (stand.Unread start skip) cursor x new k = absurd (some_is_none x k.takes.0)
 took s (stand.End passed) cursor x new k = absurd (some_is_none x k.takes.0)
@@ -162,6 +163,7 @@ given_after laws one old mid new b opened reads k =
       offset = λ text bounds h. subst (λ (f : PieceFinderState). BindsFrom text f.cursor.offset b) (sym k.same) (here text bounds h).from;
       line = λ text bounds h. subst (λ (f : PieceFinderState). HoldsLine f text) (sym k.same) (line_any mid.scanning (stand.Within k.last) k.cursor text (bounds ++ b ∷ []) (here text bounds h).within.line refl (here text bounds h).within.ready (here text bounds h).found);
       was_ready = ready_before old mid [] (Ok tt) reads ready;
+      next_new = subst IsNextNew (sym k.same) k.ahead;
       falls =
           (let before = unread_due old mid reads in
           let due : due_by mid ≡ length k.pending.left = ap due_by at in

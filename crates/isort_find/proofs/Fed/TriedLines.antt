@@ -11,10 +11,10 @@ use Rattle.isort_find.specs.Settled.{DecidesFound}
 use Rattle.isort_find.specs.Cursor.{CursorState, HasStopped}
 use Rattle.isort_find.specs.Pending.{pending_after}
 use Rattle.isort_find.specs.Stand.{skip_in}
-use Rattle.isort_find.specs.Pieces.{PieceFinderState, piece_finder_state, options_for, fed_by, has_ready, HasNoFault, AreKnown, IsBetweenLines, HasFoundIn}
+use Rattle.isort_find.specs.Pieces.{PieceFinderState, piece_finder_state, options_for, fed_by, has_ready, HasNoFault, IsNextNew, AreKnown, IsBetweenLines, HasFoundIn}
 use Rattle.isort_find.specs.Private.LineSteps.{Judges, Trial, TurnsOut, binding, ending, failing, lost}
 use Rattle.isort_find.specs.Private.PieceSteps.{HasReady, HandsLine, TriesReady, walker_of, with_walker}
-use Rattle.isort_find.specs.Private.Walks.{WalkerState, FollowsStep, FollowsTrial, ReadsOrLosesLine, TriesLine, walker_state, with_fault}
+use Rattle.isort_find.specs.Private.Walks.{WalkerState, FollowsStep, FollowsTrial, LearnsLine, ReadsOrLosesLine, TriesLine, walker_state, with_fault}
 use Rattle.isort_find.specs.declared.error.FindError.{FindError}
 use Rattle.isort_find.specs.declared.error.FindError.TheVariants as error
 use Rattle.isort_find.specs.declared.pending.LineStart.{LineStart}
@@ -66,15 +66,18 @@ by_trial laws s at cursor text line bounds (failing fault) result w a turns foll
 by_trial laws s at cursor text line bounds lost result w a turns follows = subst (λ (x : WalkerState). HasFoundIn (piece_finder_state s x.stand x.cursor) text bounds) (sym follows.1) (record { stopped = a.stopped; reached = a.between })
 
 -- the line that is ready was tried
-pub held_found : SettledLaws → (s : ScannerState) (at : Stand) (cursor : CursorState) (new : PieceFinderState) (text : List ℕ) (bounds : List Bound) (result : Result (Unit {0}) FindError) → IsBetweenLines s cursor text (skip_in at) bounds → HasStopped text cursor bounds → HandsLine TriesLine (piece_finder_state s at cursor) result new → HasFoundIn new text bounds
+pub held_found : SettledLaws → (s : ScannerState) (at : Stand) (cursor : CursorState) (new : PieceFinderState) (text : List ℕ) (bounds : List Bound) (result : Result (Unit {0}) FindError) → IsBetweenLines s cursor text (skip_in at) bounds → HasStopped text cursor bounds → HandsLine LearnsLine (piece_finder_state s at cursor) result new → HasFoundIn new text bounds
 held_found laws s at cursor new text bounds result b stopped h =
     let a : IsAtHeld s cursor text (skip_in at) h.line bounds = record { between = b; stopped = stopped; ready = h.at.ready; known = ready_known s text b.after.lines h.line b.released h.at.ready h.at.some_text } in
     subst (λ (f : PieceFinderState). HasFoundIn f text bounds) (sym h.same) (by_trial laws s at cursor text h.line bounds h.does.trial result h.walker a h.does.turns (subst (λ (x : LineStart). FollowsTrial (walker_state at cursor) x h.does.trial result h.walker) (start_is s h.line h.start h.at) h.does.follows))
 
+learned : (f new : PieceFinderState) (result : Result (Unit {0}) FindError) → HandsLine TriesLine f result new → HandsLine LearnsLine f result new
+learned f new result h = record { line = h.line; start = h.start; walker = h.walker; at = h.at; does = h.does.learns; same = h.same }
+
 -- the same, if one is
 pub tried_found : SettledLaws → (s : ScannerState) (skip : ℕ) (cursor : CursorState) (new : PieceFinderState) (text : List ℕ) (bounds : List Bound) (result : Result (Unit {0}) FindError) → IsBetweenLines s cursor text skip bounds → HasStopped text cursor bounds → TriesReady (piece_finder_state s (stand.Between skip) cursor) result new → HasFoundIn new text bounds
 tried_found laws s skip cursor new text bounds result b stopped (inl none) = subst (λ (f : PieceFinderState). HasFoundIn f text bounds) (sym none.2) (record { stopped = stopped; reached = (b, none.0) })
-tried_found laws s skip cursor new text bounds result b stopped (inr h) = held_found laws s (stand.Between skip) cursor new text bounds result b stopped h
+tried_found laws s skip cursor new text bounds result b stopped (inr h) = held_found laws s (stand.Between skip) cursor new text bounds result b stopped (learned _ new result h)
 
 -- what stays where a line is tried without a fault
 pub record TriedSo (f new : PieceFinderState) : Type 0 where
@@ -94,7 +97,12 @@ trial_so s at cursor start lost result w ok follows = subst (λ (x : WalkerState
 
 pub tried_so : (s : ScannerState) (skip : ℕ) (cursor : CursorState) (new : PieceFinderState) (result : Result (Unit {0}) FindError) → result ≡ Ok tt → TriesReady (piece_finder_state s (stand.Between skip) cursor) result new → TriedSo (piece_finder_state s (stand.Between skip) cursor) new
 tried_so s skip cursor new result ok (inl none) = subst (TriedSo (piece_finder_state s (stand.Between skip) cursor)) (sym none.2) (record { scanning = refl; cursor = refl; fine = λ fault e. cc; fed = refl })
-tried_so s skip cursor new result ok (inr h) = subst (TriedSo (piece_finder_state s (stand.Between skip) cursor)) (sym h.same) (trial_so s (stand.Between skip) cursor h.start h.does.trial result h.walker ok h.does.follows)
+tried_so s skip cursor new result ok (inr h) = subst (TriedSo (piece_finder_state s (stand.Between skip) cursor)) (sym h.same) (trial_so s (stand.Between skip) cursor h.start h.does.learns.trial result h.walker ok h.does.learns.follows)
+
+-- what is left begins with a new key
+pub tried_new : (s : ScannerState) (skip : ℕ) (cursor : CursorState) (new : PieceFinderState) (result : Result (Unit {0}) FindError) → TriesReady (piece_finder_state s (stand.Between skip) cursor) result new → IsNextNew new
+tried_new s skip cursor new result (inl none) = subst IsNextNew (sym none.2) tt
+tried_new s skip cursor new result (inr h) = subst IsNextNew (sym h.same) h.does.next_new
 
 ready_or_not : (b : Bool) → b ≡ true → b ≡ false → ⊥
 ready_or_not b h k = cc
@@ -130,7 +138,7 @@ trial_bad f new line start w lost result e err at turns follows same = absurd (n
 
 pub tried_bad : (f new : PieceFinderState) (result : Result (Unit {0}) FindError) (e : FindError) → result ≡ Err e → TriesReady f result new → IsTriedBad f e new
 tried_bad f new result e err (inl none) = absurd (not_err e result none.1 err)
-tried_bad f new result e err (inr h) = trial_bad f new h.line h.start h.walker h.does.trial result e err h.at h.does.turns h.does.follows h.same
+tried_bad f new result e err (inr h) = trial_bad f new h.line h.start h.walker h.does.learns.trial result e err h.at h.does.learns.turns h.does.learns.follows h.same
 
 -- a bad line that is settled decides its fault
 pub bad_decided : SettledLaws → (f new : PieceFinderState) (text : List ℕ) (skip : ℕ) (bounds : List Bound) (fault : Fault) → f.scanning.ended ≡ false → IsBadReady f fault new → IsBetweenLines f.scanning f.cursor text skip bounds → DecidesFound (take (fed_of f.scanning) text) (options_for f) fault
@@ -154,7 +162,7 @@ tried_result (Ok done) = Ok done
 tried_result (Err (error.Fault fault)) = Err (error.Fault fault)
 tried_result (Err error.Memory) = Ok tt
 
-step_tries : (old w : WalkerState) (line : LogicalLine) (start : LineStart) (s : Step) (result : Result (Unit {0}) FindError) → Judges old.cursor.options line s → FollowsStep old start s result w → TriesLine old line start (tried_result result) w
+step_tries : (old w : WalkerState) (line : LogicalLine) (start : LineStart) (s : Step) (result : Result (Unit {0}) FindError) → Judges old.cursor.options line s → FollowsStep old start s result w → LearnsLine old line start (tried_result result) w
 step_tries old w line start (step.Bindings bindings) result judged follows = record {
   trial = binding (map bound_of bindings.items);
   turns = judged;
@@ -166,5 +174,5 @@ step_tries old w line start (step.Fault fault) result judged follows = record { 
 step_tries old w line start step.LineLost result judged follows = record { trial = lost; turns = tt; follows = (ap tried_result follows.0, follows.1) }
 step_tries old w line start step.NoMemory result judged follows = absurd judged
 
-pub reads_tries : (old w : WalkerState) (line : LogicalLine) (start : LineStart) (result : Result (Unit {0}) FindError) → ReadsOrLosesLine old line start result w → TriesLine old line start (tried_result result) w
+pub reads_tries : (old w : WalkerState) (line : LogicalLine) (start : LineStart) (result : Result (Unit {0}) FindError) → ReadsOrLosesLine old line start result w → LearnsLine old line start (tried_result result) w
 reads_tries old w line start result r = step_tries old w line start r.step result r.judges r.follows

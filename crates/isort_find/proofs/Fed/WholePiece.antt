@@ -4,7 +4,7 @@ use Rattle.std.proofs.lemmas.List.{nil_from_length, length-drop}
 use Rattle.py_lines.specs.ScannerState.{ScannerState, GoesOnWith}
 use Rattle.py_lines.specs.declared.fault.Fault.{Fault}
 use Rattle.isort_find.specs.Cursor.{CursorState}
-use Rattle.isort_find.specs.Stand.{phase_in}
+use Rattle.isort_find.specs.Stand.{phase_in, ready_in}
 use Rattle.isort_find.specs.Pieces.{PieceFinderState, piece_finder_state, fed_by, has_ready, IsOpenYet, TakesFromPiece}
 use Rattle.isort_find.specs.Private.PieceSteps.{TakesLines, HasTakenAll, IsDrained, with_passed}
 use Rattle.isort_find.specs.declared.walker.Stand.{Stand}
@@ -41,6 +41,7 @@ passes_at laws one ascent s (stand.End passed) cursor piece top yet =
       line = λ text bounds h goes ready. absurd (true_or_false _ refl ready);
       some = λ zero. inl (nil_from_length piece zero);
       waits = λ ready. absurd (true_or_false _ refl ready);
+      next_new = λ none. tt;
       whole = λ none. refl;
       top = λ is. refl;
       fed = omega arith;
@@ -77,6 +78,7 @@ feeds_lines old new piece n opened yet none no_end t done = record {
   line = λ text bounds h goes ready. ready_any new.scanning new.stand new.cursor text bounds (t.open_yet ∙ yet) ready (t.found text bounds h goes);
   some = λ zero. inl (t.some zero);
   waits = λ ready. absurd (true_or_false _ none ready);
+  next_new = λ nothing. t.next_new;
   whole = λ nothing. (whole_piece piece n new no_end (done nothing)).0;
   top = λ top. absurd (no_end top);
   fed = t.fed;
@@ -86,6 +88,10 @@ feeds_lines old new piece n opened yet none no_end t done = record {
   no_fault = t.no_fault;
   open_yet = t.open_yet;
 }
+
+end_not_ready : (s : Stand) → phase_in s ≡ phase.End → ready_in s ≡ false
+end_not_ready (stand.End passed) at = refl
+end_not_ready other at = absurd cc
 
 -- bytes were taken up to the end of the top, and then the rest
 pub feeds_top : SettledLaws → OneSettled → AscentLaws → (old mid new : PieceFinderState) (piece : List ℕ) (t : ℕ) → phase_in old.stand ≡ phase.Open → old.scanning.ended ≡ false → has_ready old ≡ false → phase_in mid.stand ≡ phase.End → TakesLines old piece t mid → new ≡ with_passed mid (length (drop t piece)) → TakesFromPiece old piece (t + length (drop t piece)) new
@@ -104,6 +110,7 @@ feeds_top laws one ascent old mid new piece t opened yet none at first is =
       line = λ text bounds h all ready. let g = goes text all in next.line text bounds (first.found text bounds h g.0) g.1 ready;
       some = λ zero. inl (nil_from_length piece (sym whole ∙ zero));
       waits = λ ready. absurd (true_or_false _ none ready);
+      next_new = λ nothing. next.next_new (end_not_ready mid.stand at);
       whole = λ nothing. whole;
       top = λ top. whole;
       fed = (let k = next.fed in let m = first.fed in omega (arith, k, m));
@@ -125,6 +132,7 @@ feeds_none f piece opened yet ready = record {
   line = λ text bounds h goes some. ready_any f.scanning f.stand f.cursor text bounds yet some h;
   some = λ zero. inr ready;
   waits = λ was. (refl, refl);
+  next_new = λ none. absurd (true_or_false _ none ready);
   whole = λ none. absurd (true_or_false _ none ready);
   top = λ top. absurd (open_or_end _ opened top);
   fed = omega arith;

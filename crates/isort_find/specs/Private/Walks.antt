@@ -4,9 +4,9 @@ use Rattle.py_lines.specs.LogicalLine.{LogicalLine}
 use Rattle.py_lines.specs.declared.fault.Fault.{Fault}
 use Rattle.py_imports.specs.Bound.{Bound, bound_of}
 use Rattle.py_imports.specs.declared.binding.Binding.{Binding}
-use Rattle.isort_find.specs.Cursor.{CursorState}
+use Rattle.isort_find.specs.Cursor.{CursorState, BeginsNew}
 use Rattle.isort_find.specs.Pending.{PendingState, pending_after}
-use Rattle.isort_find.specs.Stand.{skip_in}
+use Rattle.isort_find.specs.Stand.{skip_in, left_in}
 use Rattle.isort_find.specs.Private.CursorMoves.{cursor_before}
 use Rattle.isort_find.specs.Private.LooksAtBindings.{PassesBindings, TakesNextBinding}
 use Rattle.isort_find.specs.Private.LineSteps.{Judges, Trial, TurnsOut, binding, ending, failing, lost}
@@ -54,6 +54,10 @@ abbrev pub read_again : Stand → Stand
 read_again (stand.Unread start skip) = stand.Between skip
 read_again other = other
 
+-- a binding with a new key comes next, or none is left
+abbrev pub StandsAtNew : WalkerState → Type 0
+StandsAtNew w = BeginsNew w.cursor (left_in w.stand)
+
 -- once text after the end was passed over up to this byte
 abbrev pub passed_up_to : Stand → ℕ → Stand
 passed_up_to (stand.End passed) place = stand.End place
@@ -78,9 +82,16 @@ pub record ReadsOrLosesLine (old : WalkerState) (line : LogicalLine) (start : Li
   pub follows : FollowsStep old start step result new
 
 -- inside a logical line bindings were looked at whose keys were given
+pub record PassesFrom (pending : PendingState) (cursor : CursorState) (new : WalkerState) : Type 0 where
+  pub rest : PendingState
+  pub passes : PassesBindings cursor pending rest
+  pub same : new ≡ walker_state (stand.Within rest) cursor
+
+-- so up to one with a new key, or to the line's end
 pub record LooksAheadFrom (pending : PendingState) (cursor : CursorState) (new : WalkerState) : Type 0 where
   pub rest : PendingState
   pub passes : PassesBindings cursor pending rest
+  pub next_new : BeginsNew cursor rest.left
   pub same : new ≡ walker_state (stand.Within rest) cursor
 
 -- the same, wherever the walker stands
@@ -92,21 +103,27 @@ LooksAheadAt other cursor new = new ≡ walker_state other cursor
 abbrev pub LooksAhead : WalkerState → WalkerState → Type 0
 LooksAhead old new = LooksAheadAt old.stand old.cursor new
 
--- what becomes of a walker that tries the line that begins here: one that is left unread is no error
+-- what becomes of a walker that reads the line that begins here, or leaves it unread, which is no error
 abbrev pub FollowsTrial : WalkerState → LineStart → Trial → Result (Unit {0}) FindError → WalkerState → Type 0
 FollowsTrial old start (binding bounds) result new =
-    (result ≡ Ok tt) × LooksAheadFrom (pending_after start (skip_in old.stand) bounds) old.cursor new
+    (result ≡ Ok tt) × PassesFrom (pending_after start (skip_in old.stand) bounds) old.cursor new
 FollowsTrial old start ending result new = (result ≡ Ok tt) × (new ≡ with_stand old (stand.End 0))
 FollowsTrial old start (failing fault) result new = (result ≡ Err (error.Fault fault)) × (new ≡ with_fault old start fault)
 FollowsTrial old start lost result new =
     (result ≡ Ok tt) × (new ≡ with_stand old (stand.Unread start (skip_in old.stand)))
 
 -- the logical line that begins here was read, or was left unread, since memory ran out
-pub record TriesLine (old : WalkerState) (line : LogicalLine) (start : LineStart) (result : Result (Unit {0}) FindError)
+pub record LearnsLine (old : WalkerState) (line : LogicalLine) (start : LineStart) (result : Result (Unit {0}) FindError)
     (new : WalkerState) : Type 0 where
   pub trial : Trial
   pub turns : TurnsOut old.cursor.options line trial
   pub follows : FollowsTrial old start trial result new
+
+-- so, and bindings with known keys were passed over
+pub record TriesLine (old : WalkerState) (line : LogicalLine) (start : LineStart) (result : Result (Unit {0}) FindError)
+    (new : WalkerState) : Type 0 where
+  pub learns : LearnsLine old line start result new
+  pub next_new : StandsAtNew new
 
 -- the next binding with a new key was taken of those that are left of a logical line
 pub record TakesFromLine (pending : PendingState) (cursor : CursorState) (result : Result (Option Binding) FindError)

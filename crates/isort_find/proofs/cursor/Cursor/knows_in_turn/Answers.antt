@@ -1,5 +1,5 @@
 -- The test passes a key of the set just where it is that of the binding.
-use Rattle.std.proofs.Common.{rules, tests, ◌∙◌, ap, map}
+use Rattle.std.proofs.Common.{rules, tests, ◌∙◌, ap}
 use Rattle.std.specs.List.{list_any}
 use Rattle.std.proofs.lemmas.Iterator.{YieldsList-from_slice}
 use Rattle.std.proofs.lemmas.Iterator.Search.{any_from_yields_List}
