@@ -19,4 +19,6 @@ pub use error::{FindError, ResumeError};
 pub use finder::Finder;
 pub use key::{KeyText, key_of};
 pub use options::{FindOptions, ImportKey};
+pub use pending::{LineStart, Pending};
 pub use pieces::PieceFinder;
+pub use walker::{Phase, Stand};

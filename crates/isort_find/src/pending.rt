@@ -53,7 +53,7 @@ impl Pending {
     ghost use Rattle.isort_find.specs.Private.LooksAtBindings.{Looks};
 
     /// Nothing to look at yet.
-    pub fn none(alloc: Global, start: LineStart) -> Pending
+    pub(crate) fn none(alloc: Global, start: LineStart) -> Pending
         ensures start { result.start ≡ start }
         ensures taken { result.taken ≡ 0 }
         ensures left { result.left ≡ [] }
@@ -66,7 +66,7 @@ impl Pending {
     }
 
     /// The bindings of the logical line that begins at `start`, except the first `taken`, which were looked at before.
-    pub fn new(bindings: Vec<Binding>, start: LineStart, taken: usize) -> Pending
+    pub(crate) fn new(bindings: Vec<Binding>, start: LineStart, taken: usize) -> Pending
         ensures start { result.start ≡ start }
         ensures taken { result.taken ≡ min taken (vec_len bindings) }
         ensures left { result.left ≡ drop taken (map bound_of bindings.items) }
@@ -82,14 +82,14 @@ impl Pending {
     }
 
     /// The next binding to look at.
-    pub fn front(&self) -> Option<&Binding>
+    pub(crate) fn front(&self) -> Option<&Binding>
         ensures { MatchOption result (self.now.left ≡ []) (λ b. self.now.left ≡ bound_of b.now ∷ drop 1 self.now.left) }
     {
         self.bindings.front()
     }
 
     /// Takes the next binding, which was looked at.
-    pub fn take(&mut self) -> Option<Binding>
+    pub(crate) fn take(&mut self) -> Option<Binding>
         ensures { MatchOption result ((self.old.left ≡ []) × (self.new ≡ self.old)) (λ b. Looks self.old (bound_of b) self.new) }
     {
         let binding = self.bindings.pop_front()?;
@@ -98,14 +98,14 @@ impl Pending {
     }
 
     /// Where the logical line begins.
-    pub fn start(&self) -> LineStart
+    pub(crate) fn start(&self) -> LineStart
         ensures { result ≡ self.now.start }
     {
         self.start
     }
 
     /// How many of its bindings were looked at.
-    pub fn taken(&self) -> usize
+    pub(crate) fn taken(&self) -> usize
         ensures { result ≡ self.now.taken }
     {
         self.taken
