@@ -314,12 +314,16 @@ pub record GivesFault (old : PieceFinderState) (fault : Fault) (new : PieceFinde
   pub open_yet : new.scanning.ended ≡ old.scanning.ended
   pub kept : new.stand ≡ stand.Fault fault
 
+-- if no line was left unread, and the next binding had a new key, so has the next one now
+abbrev pub StaysNew : PieceFinderState → PieceFinderState → Type 0
+StaysNew old new = is_unread old.stand ≡ false → IsNextNew old → IsNextNew new
+
 -- what a call that asks for what is ready answers
 abbrev pub GivesReady : PieceFinderState → Result (Option Binding) FindError → PieceFinderState → Type 0
 GivesReady old (Ok (Some b)) new = GivesBinding old (bound_of b) new
 GivesReady old (Ok None) new = GivesNone old new
 GivesReady old (Err (error.Fault fault)) new = GivesFault old fault new
-GivesReady old (Err error.Memory) new = PieceFinderRunsOut old new × (has_ready old ≡ true)
+GivesReady old (Err error.Memory) new = PieceFinderRunsOut old new × (has_ready old ≡ true) × StaysNew old new
 
 -- the text ends here: its last logical line was made, if one is left, and is held where it is ready
 pub record FinishesText (old new : PieceFinderState) : Type 0 where

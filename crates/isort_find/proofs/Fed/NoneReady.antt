@@ -1,5 +1,5 @@
 -- What a finder over pieces answers where nothing is ready.
-use Rattle.std.proofs.Common.{◌≡◌, ℕ, Bool, true, false, ◌&&◌, Option, None, Result, Ok, Err, List, [], ◌∷◌, ◌++◌, inl, inr, ◌⊎◌, refl, sym, ap, ◌∙◌, subst, append-nil, arith}
+use Rattle.std.proofs.Common.{◌≡◌, ℕ, true, false, Option, None, Result, Ok, Err, List, [], ◌∷◌, ◌++◌, inl, inr, ◌⊎◌, refl, sym, ap, ◌∙◌, subst, append-nil, arith}
 use Rattle.std.proofs.lemmas.List.{nil_from_length}
 use Rattle.std.specs.List.{list_all}
 use Rattle.py_lines.specs.LogicalLine.{LogicalLine}
@@ -24,6 +24,7 @@ use Rattle.isort_find.specs.declared.pending.LineStart.{LineStart}
 use Rattle.isort_find.specs.declared.walker.Stand.{Stand}
 use Rattle.isort_find.specs.declared.walker.Stand.TheVariants as stand
 use Rattle.isort_find.specs.declared.walker.Phase.TheVariants as phase
+use Rattle.isort_find.proofs.Keys.TakenBindings.{first_known}
 use Rattle.isort_find.proofs.Finds.LinePlaces.{bytes_given, bytes_lexed}
 use Rattle.isort_find.proofs.Finds.SettledFound.{append-nil-lines}
 use Rattle.isort_find.proofs.Walks.Inside.{nothing_dropped, inside_passed}
@@ -203,13 +204,6 @@ end_none other at = absurd cc
 
 pub gives_none_at_top : SettledLaws → OneSettled → AscentLaws → (old new : PieceFinderState) → phase_in old.stand ≡ phase.End → Rests old new → GivesNone old new
 gives_none_at_top laws one ascent old new at rests = none_at laws one ascent old old.scanning old.stand old.cursor new (end_none old.stand at) (λ fault is. end_or_fault old.stand fault at is) (left_same old at (end_none old.stand at)) rests
-
-first_known : (s : CursorState) (b : Bound) (bs : List Bound) → list_all (knows_key s.options.unique s.keys) (b ∷ bs) ≡ true → knows_key s.options.unique s.keys b ≡ true
-first_known s b bs h = both _ _ h
-  where
-    both : (x y : Bool) → x && y ≡ true → x ≡ true
-    both true y k = refl
-    both false y k = absurd cc
 
 -- bindings whose keys are all known are none, or don't begin with a new one
 not_new : (s : CursorState) (left : List Bound) → list_all (knows_key s.options.unique s.keys) left ≡ true → are_left left ≡ true → ¬ (BeginsNew s left)

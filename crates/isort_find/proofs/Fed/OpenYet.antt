@@ -11,4 +11,4 @@ pub stays_open : (old : PieceFinderState) (r : Result (Option Binding) FindError
 stays_open old (Ok (Some b)) new g yet fine = g.open_yet ∙ yet (λ fault is. open_or_fault old.stand fault (open_ready old.stand g.was_ready) is)
 stays_open old (Ok None) new g yet fine = g.open_yet ∙ yet (λ fault is. fine fault (ap (λ (f : PieceFinderState). f.stand) (g.after_fault fault is) ∙ is))
 stays_open old (Err (error.Fault fault)) new g yet fine = absurd (fine fault g.kept)
-stays_open old (Err error.Memory) new (g, ready) yet fine = g.open_yet ∙ yet (λ fault is. open_or_fault old.stand fault g.was_open is)
+stays_open old (Err error.Memory) new (g, ready, next) yet fine = g.open_yet ∙ yet (λ fault is. open_or_fault old.stand fault g.was_open is)

@@ -1,15 +1,16 @@
 -- What a finder over pieces answers where it is asked for what is ready.
 use Rattle.std.proofs.Common.{◌≡◌, ℕ, ◌^◌, ◌≤◌, true, false, Option, None, Some, Result, Ok, Err, List, [], ◌∷◌, ◌++◌, length, map, drop, inl, inr, refl, sym, ap, ◌∙◌, subst, length-append, length-drop, arith}
+use Rattle.std.specs.List.{list_all}
 use Rattle.std.proofs.lemmas.List.{length-map}
 use Rattle.py_lines.specs.LogicalLine.{LogicalLine}
 use Rattle.py_lines.specs.ScannerState.{ScannerState, fed_of}
 use Rattle.py_lines.specs.declared.fault.Fault.{Fault}
 use Rattle.py_imports.specs.Bound.{Bound, bound_of}
 use Rattle.py_imports.specs.declared.binding.Binding.{Binding}
-use Rattle.isort_find.specs.Cursor.{CursorState, next_count, BeginsNew}
+use Rattle.isort_find.specs.Cursor.{CursorState, next_count, knows_key, BeginsNew}
 use Rattle.isort_find.specs.Pending.{PendingState}
 use Rattle.isort_find.specs.Stand.{phase_in, is_unread, are_left, ready_in, BindsFrom}
-use Rattle.isort_find.specs.Pieces.{PieceFinderState, piece_finder_state, options_for, fed_by, has_ready, due_in, due_by, IsWithinLine, HasFoundIn, AreSettled, HoldsLine, PieceFinderRunsOut, GivesBinding, GivesFault, GivesReady, IsNextNew}
+use Rattle.isort_find.specs.Pieces.{PieceFinderState, piece_finder_state, options_for, fed_by, has_ready, due_in, due_by, IsWithinLine, HasFoundIn, AreSettled, HoldsLine, PieceFinderRunsOut, GivesBinding, GivesFault, GivesReady, IsNextNew, StaysNew}
 use Rattle.isort_find.specs.Private.KnownLaws.{SettledLaws, OneSettled}
 use Rattle.isort_find.specs.Private.LineSteps.{Judges}
 use Rattle.isort_find.specs.Private.LooksAtBindings.{PassesBindings, TakesNew}
@@ -23,6 +24,7 @@ use Rattle.isort_find.specs.declared.step.Step.TheVariants as step
 use Rattle.isort_find.specs.declared.walker.Stand.{Stand}
 use Rattle.isort_find.specs.declared.walker.Stand.TheVariants as stand
 use Rattle.isort_find.specs.declared.walker.Phase.TheVariants as phase
+use Rattle.isort_find.proofs.Keys.TakenBindings.{first_known}
 use Rattle.isort_find.proofs.Walks.Inside.{inside_passed, gives_at, one_given}
 use Rattle.isort_find.proofs.Fed.Known.{true_or_false}
 use Rattle.isort_find.proofs.Fed.LetGo.{fed_open}
@@ -205,7 +207,7 @@ bad_line laws s start skip cursor new fault bad found = record {
 }
 
 -- memory ran out for it
-lost_again : (s : ScannerState) (start here : LineStart) (skip : ℕ) (cursor : CursorState) (new : PieceFinderState) → new ≡ piece_finder_state s (stand.Unread here skip) cursor → PieceFinderRunsOut (piece_finder_state s (stand.Unread start skip) cursor) new × (true ≡ true)
+lost_again : (s : ScannerState) (start here : LineStart) (skip : ℕ) (cursor : CursorState) (new : PieceFinderState) → new ≡ piece_finder_state s (stand.Unread here skip) cursor → PieceFinderRunsOut (piece_finder_state s (stand.Unread start skip) cursor) new × (true ≡ true) × StaysNew (piece_finder_state s (stand.Unread start skip) cursor) new
 lost_again s start here skip cursor new is = (
   subst (PieceFinderRunsOut (piece_finder_state s (stand.Unread start skip) cursor)) (sym is) (record {
     found = λ text bounds h. record { stopped = h.stopped; reached = h.reached };
@@ -219,6 +221,7 @@ lost_again s start here skip cursor new is = (
     open_yet = refl;
   }),
   refl,
+  λ read next. absurd (true_or_false _ read refl),
 )
 
 error_is : (e other : FindError) (a : Result (Unit {0}) FindError) → a ≡ Err e → a ≡ Err other → e ≡ other
@@ -252,8 +255,18 @@ split_nonempty : (dropped left : List Bound) → (left ≡ [] → ⊥) → are_l
 split_nonempty [] left h = nonempty left h
 split_nonempty (d ∷ ds) left h = refl
 
+-- the line that was read begins with a new key
+read_new : (old mid : PieceFinderState) → ReadsUnread old (Ok tt) mid → is_unread old.stand ≡ false → IsNextNew old → IsNextNew mid
+read_new old mid (inl read) none next = absurd (true_or_false _ none read.0)
+read_new old mid (inr here) none next = subst IsNextNew (sym here.2) next
+
+-- and so what is left, where bindings with known keys were passed over
+left_new : (s : CursorState) (dropped left : List Bound) → list_all (knows_key s.options.unique s.keys) dropped ≡ true → BeginsNew s (dropped ++ left) → BeginsNew s left
+left_new s [] left known next = next
+left_new s (d ∷ ds) left known next = absurd (true_or_false _ next (first_known s d ds known))
+
 -- bindings were passed over, and memory ran out for the next
-passed_over : SettledLaws → (old : PieceFinderState) (s : ScannerState) (p q : PendingState) (cursor : CursorState) (new : PieceFinderState) → phase_in old.stand ≡ phase.Open → ReadsUnread old (Ok tt) (piece_finder_state s (stand.Within p) cursor) → PassesBindings cursor p q → (q.left ≡ [] → ⊥) → new ≡ piece_finder_state s (stand.Within q) cursor → PieceFinderRunsOut old new × (has_ready old ≡ true)
+passed_over : SettledLaws → (old : PieceFinderState) (s : ScannerState) (p q : PendingState) (cursor : CursorState) (new : PieceFinderState) → phase_in old.stand ≡ phase.Open → ReadsUnread old (Ok tt) (piece_finder_state s (stand.Within p) cursor) → PassesBindings cursor p q → (q.left ≡ [] → ⊥) → new ≡ piece_finder_state s (stand.Within q) cursor → PieceFinderRunsOut old new × (has_ready old ≡ true) × StaysNew old new
 passed_over laws old s p q cursor new opened reads passes some is =
     let mid = piece_finder_state s (stand.Within p) cursor in
     let so = unread_so old mid opened reads in
@@ -273,6 +286,7 @@ passed_over laws old s p q cursor new opened reads passes some is =
         open_yet = ap (λ (x : ScannerState). x.ended) so.scanning;
       }),
       before,
+      λ read next. subst IsNextNew (sym is) (left_new cursor passes.dropped q.left passes.known (subst (BeginsNew cursor) passes.split (read_new old mid reads read next))),
     )
 
 take_error : SettledLaws → (old : PieceFinderState) (s : ScannerState) (at : Stand) (cursor : CursorState) (new : PieceFinderState) (e : FindError) → phase_in old.stand ≡ phase.Open → ReadsUnread old (Ok tt) (piece_finder_state s at cursor) → TakesRead (piece_finder_state s at cursor) (Err e) new → GivesReady old (Err e) new

@@ -17,6 +17,14 @@ list_all-snoc p (y ∷ ys) x all here = both (p y) (list_all p ys) (list_all p (
     both true b d h k = k h
     both false b d h k = h
 
+-- where all keys are known, so is the first
+pub first_known : (s : CursorState) (b : Bound) (bs : List Bound) → list_all (knows_key s.options.unique s.keys) (b ∷ bs) ≡ true → knows_key s.options.unique s.keys b ≡ true
+first_known s b bs h = both _ _ h
+  where
+    both : (x y : Bool) → x && y ≡ true → x ≡ true
+    both true y k = refl
+    both false y k = absurd cc
+
 -- one more was looked at whose key is known
 pub passes_more : (s : CursorState) (old mid new : PendingState) (b : Bound) → PassesBindings s old mid → knows_key s.options.unique s.keys b ≡ true → Looks mid b new → PassesBindings s old new
 passes_more s old mid new b passes known looks = record {
