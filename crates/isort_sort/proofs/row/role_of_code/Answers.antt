@@ -1,7 +1,7 @@
 use Rattle.std.proofs.Common.{◌∙◌, sym, inl, inr, refl}
 use denote.Enum.Bare.{sameb}
 use Rattle.py_lines.specs.Lines.{line_in}
-use Rattle.py_imports.specs.contracts.shape.Shape as shape_type
+use Rattle.py_imports.specs.contracts.line_shape.Shape as shape_type
 use Rattle.py_imports.specs.declared.line_shape.Shape.TheVariants as shape
 use Rattle.isort_sort.proofs.Rows.Roles.{unsortable}
 use Rattle.isort_sort.proofs.row.role_of_code.Goals as goal
