@@ -25,7 +25,7 @@ pub(crate) fn each_holds<C: Case>(alloc: Global, table: &str, cases: &[C]) -> Re
 const ASKED: usize = 65_521;
 
 /// Whether a growth was refused since this was asked last: only then may a call answer that memory ran out, and is it made
-/// again. `rt ci` refuses none, and grants these bytes. checks/memory refuses each growth in turn, and these bytes once
+/// again. `rt ci` refuses none, and grants these bytes. checks/gate/memory refuses each growth in turn, and these bytes once
 /// after it.
 pub(crate) fn was_refused(alloc: Global) -> bool {
     String::with_capacity(alloc, ASKED).is_err()

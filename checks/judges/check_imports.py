@@ -1,7 +1,7 @@
 #!/usr/bin/env python3
 """Compares what isort lists with what Python's own parser finds.
 
-    checks/check_imports.py PROGRAM FOLDER..
+    checks/judges/check_imports.py PROGRAM FOLDER..
 
 PROGRAM is the built isort. The files are all `*.py` below the folders. Each import of each file is compared: its line,
 module, attribute and alias, in the order written. Files that are not UTF-8, or that `ast.parse` refuses, are left out,

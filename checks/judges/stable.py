@@ -1,7 +1,7 @@
 #!/usr/bin/env python3
 """Sorts texts twice, and sees that the second time changes nothing.
 
-    checks/stable.py PROGRAM [FOLDER..] [--every N] [--texts N] [--seed N]
+    checks/judges/stable.py PROGRAM [FOLDER..] [--every N] [--texts N] [--seed N]
 
 PROGRAM is the built isort. The texts are all `*.py` files below the folders, or every N-th, and N small ones (20,000)
 made at random of statements, comments, blank lines and code. Each is sorted under 40 settings: those of a row of

@@ -1,7 +1,7 @@
 #!/usr/bin/env python3
 """Compares what isort makes of strings with fields with what is known of the texts.
 
-    checks/fields.py PROGRAM [--files N] [--texts N] [--seed N]
+    checks/judges/fields.py PROGRAM [--files N] [--texts N] [--seed N]
 
 PROGRAM is the built isort. No Python is asked, so this needs none that reads fields.
 

@@ -1,7 +1,7 @@
 #!/usr/bin/env python3
 """Lists the Python files that Python's own tokenizer accepts and isort's lexical layer refuses.
 
-    checks/check_lexer.py PROGRAM FOLDER..
+    checks/judges/check_lexer.py PROGRAM FOLDER..
 
 PROGRAM is the built isort. The files are all `*.py` below the folders. Each word `import` and `from` of a file is
 spelled otherwise first, with as many letters, so that no import statement is found and the whole file is read. Files

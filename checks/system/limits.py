@@ -1,7 +1,7 @@
 #!/usr/bin/env python3
 """Gives isort too little memory, and sees that it says so and changes nothing.
 
-    checks/limits.py PROGRAM [MEGABYTES]
+    checks/system/limits.py PROGRAM [MEGABYTES]
 
 PROGRAM is the built isort. It lists, checks, prints and rewrites a file of so many megabytes (10) under limits of its
 address space: from the least under which it prints its help, in steps of 64 kB, up to the least under which it does what it

@@ -1,7 +1,7 @@
 #!/usr/bin/env python3
 """Compares what isort makes of Python files with what isort 5 makes of them.
 
-    checks/compare_isort.py PROGRAM FOLDER.. [--every N]
+    checks/judges/compare_isort.py PROGRAM FOLDER.. [--every N]
 
 PROGRAM is the built isort. The script is run by a Python that has isort 5, as Debian's `/usr/bin/python3` after
 `apt-get install isort`. The files are all `*.py` below the folders, or every N-th. Each is sorted by both, under the
@@ -36,7 +36,7 @@ from pathlib import Path
 
 import isort
 
-TOP = Path(__file__).resolve().parent.parent
+TOP = Path(__file__).resolve().parents[2]
 SKIP = re.compile(r"isort: ?skip(?![A-Za-z0-9_])")
 
 
@@ -483,7 +483,7 @@ def read(path: Path) -> str | None:
 
 
 def main() -> int:
-    parser = argparse.ArgumentParser(usage="checks/compare_isort.py PROGRAM FOLDER.. [--every N]")
+    parser = argparse.ArgumentParser(usage="checks/judges/compare_isort.py PROGRAM FOLDER.. [--every N]")
     parser.add_argument("program")
     parser.add_argument("folders", nargs="+")
     parser.add_argument("--every", type=int, default=1)

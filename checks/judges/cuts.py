@@ -1,7 +1,7 @@
 #!/usr/bin/env python3
 """Cuts real files into pieces, truncates them and changes bytes, and sees that isort answers as it should.
 
-    checks/cuts.py PROGRAM FOLDER.. [--every N] [--seed N]
+    checks/judges/cuts.py PROGRAM FOLDER.. [--every N] [--seed N]
 
 PROGRAM is the built isort. The files are all `*.py` below the folders, or every N-th. For each file:
 
@@ -34,7 +34,7 @@ Answer = tuple[int, bytes, bytes]
 
 def known_faults() -> set[bytes]:
     """The words of each fault, as the page of messages has them."""
-    page = (Path(__file__).parent.parent / "docs/MESSAGES.md").read_text()
+    page = (Path(__file__).resolve().parents[2] / "docs/MESSAGES.md").read_text()
     return {words.encode() for words in re.findall(r"`FILE:LINE: (F\d+ [^`]+)`", page)}
 
 
