@@ -32,7 +32,7 @@ Summary: Sorts, checks and lists the import statements of Python texts, by prove
 License: MIT
 License-File: LICENSE
 Keywords: imports,sort,isort,lint,formatter
-Classifier: Development Status :: 4 - Beta
+Classifier: Development Status :: 5 - Production/Stable
 Classifier: Environment :: Console
 Classifier: Framework :: Flake8
 Classifier: Intended Audience :: Developers

@@ -66,7 +66,7 @@ class Build:
         below = [crate for crate in crates_below(targets) if crate not in targets]
         self.takes_kept = all(is_current(kept(crate) / "format", crate) for crate in below)
         self.crates = targets if self.takes_kept else [*below, *targets]
-        # Two crates or three are proved at once, but for the last, or where there is only one.
+        # Two crates or three are proved at once, except for the last, or where there is only one.
         self.jobs = max(1, len(os.sched_getaffinity(0)) // min(2, len(self.crates)))
         self.running: Dict[str, "Future[None]"] = {}
 

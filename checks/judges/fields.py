@@ -51,7 +51,7 @@ class Fault(Exception):
 
 
 class SmallLexer:
-    """Goes once over a text: `pieces`, `string`, `body` and `field` each end behind what they have read."""
+    """Goes once over a text: `pieces`, `string`, `body` and `field` each end after what they have read."""
 
     def __init__(self, text: str, is_whole: bool):
         """A text, and whether it ends there, or bytes follow that begin no character."""
@@ -280,7 +280,7 @@ class Writer:
         return prefix + quotes + inside + quotes
 
     def literal(self, prefix: str, quotes: str, _depth: int) -> str:
-        """Literal text: it may end neither in a backslash nor in a brace or quote that goes on behind it."""
+        """Literal text: it may end neither in a backslash nor in a brace or quote that goes on after it."""
         other = "'" if quotes[0] == '"' else '"'
         texts = ["a", "{{", "}}", "{{a}}", "a}", f"\\{quotes[0]}", "\\\\", "\\\n", "é", f"{other}a{other}", "# a", self.no_import()]
         if "r" not in prefix.lower():
