@@ -17,12 +17,12 @@ abbrev pub run_error_of : FindError → RunError
 run_error_of find.Memory = run.Memory
 run_error_of (find.Fault f) = run.Fault f
 
--- the same of one import
+-- the fault of a logical line, or that memory ran out
 abbrev pub run_error_of_import : ImportError → RunError
 run_error_of_import import.Memory = run.Memory
 run_error_of_import (import.Fault f) = run.Fault f
 
--- the same of sorting
+-- why a text wasn't sorted: its fault, that memory ran out, or that a write failed
 abbrev pub run_error_of_sort : SortError → RunError
 run_error_of_sort sort.Memory = run.Memory
 run_error_of_sort (sort.Fault f) = run.Fault f
@@ -58,7 +58,7 @@ abbrev pub EndsReading : {T : Type 0} → Result T RunError → Last → Type 0
 EndsReading (Ok x) l = l ≡ last.Fine
 EndsReading (Err e) l = LeavesReader e l
 
--- and of its writer
+-- how an answer leaves the last call of a run's writer: on success it is fine
 abbrev pub EndsWriting : {T : Type 0} → Result T RunError → Last → Type 0
 EndsWriting (Ok x) l = l ≡ last.Fine
 EndsWriting (Err e) l = LeavesWriter e l

@@ -57,11 +57,11 @@ pub record IsFoundIn (dialect : Dialect) (text : List ℕ) (options : FindOption
   pub lexed : IsLexedIn dialect text lines lexical
   pub found : AreFound options.unique (counted_lines options lines) (counted_end options lines lexical) bounds end
 
--- so where strings hold fields
+-- the imports of a text that are found with these options, and then its end, or its fault, where strings hold fields
 abbrev pub IsFound : List ℕ → FindOptions → List Bound → Option Fault → Type 0
 IsFound = IsFoundIn fielded_dialect
 
--- and where no string holds a field
+-- the imports of a text that are found with these options, and then its end, or its fault, where no string holds a field
 abbrev pub IsPlainFound : List ℕ → FindOptions → List Bound → Option Fault → Type 0
 IsPlainFound = IsFoundIn plain_dialect
 

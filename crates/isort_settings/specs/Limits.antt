@@ -6,6 +6,6 @@ use Rattle.isort_settings.specs.declared.limits.Limits.{Limits}
 abbrev pub IsWithin : Limits ℕ → ℕ → Type 0
 IsWithin limits n = (limits.least ≤ n) × (n ≤ limits.most)
 
--- the same of a number of either sign
+-- the number, of either sign, is within the limits
 abbrev pub IsWithinSigned : Limits ℤ → ℤ → Type 0
 IsWithinSigned limits z = (limits.least ≤ℤ z) × (z ≤ℤ limits.most)

@@ -66,7 +66,7 @@ pub record IsReadRun (run : Run) : Type 0 where
   pub spaces : list_all is_space run.first.indentation ≡ true
   pub members : AreReadMembers (members_of run)
 
--- each block of a cut is such a run
+-- each block of a cut is a run as it comes from lines that are read
 abbrev pub AreReadBlocks : Cut → Type 0
 AreReadBlocks (rest rows) = Unit {0}
 AreReadBlocks (block before run blanks cut) = IsReadRun run × AreReadBlocks cut

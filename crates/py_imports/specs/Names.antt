@@ -27,7 +27,7 @@ abbrev pub HasName : Terminal → Type 0
 HasName (name bytes) = IsName bytes
 HasName _ = Unit {0}
 
--- each name is one
+-- where terminals are names, their bytes are names
 abbrev pub HaveNames : List Terminal → Type 0
 HaveNames [] = Unit {0}
 HaveNames (t ∷ ts) = HasName t × HaveNames ts

@@ -283,9 +283,11 @@ IsEndFault = IsEndFaultIn fielded_dialect
 abbrev pub IsUndecodable : FaultKind → List ℕ → List ℕ → ℕ → Type 0
 IsUndecodable = IsUndecodableIn fielded_dialect
 
+-- where each fault stands, where strings hold fields
 abbrev pub IsFaultAt : FaultKind → List ℕ → List ℕ → ℕ → Type 0
 IsFaultAt = IsFaultAtIn fielded_dialect
 
+-- the text has no reading, and this is its lexical fault, where strings hold fields
 abbrev pub IsLexicalFault : List ℕ → List ℕ → Fault → Type 0
 IsLexicalFault = IsLexicalFaultIn fielded_dialect
 

@@ -40,7 +40,7 @@ pub data IsField (grammar : Grammar) (Passes : List Piece → Type 0) (Parts : H
   specified : (inside : List Piece) (parts : List (List ℕ)) → text ≡ byte "{" ∷ spelled inside ++ (byte ":" ∷ joined parts ++ byte "}" ∷ [])
       → AreInside grammar inside (byte ":" ∷ []) → Passes inside → IsSpecification Parts host parts → IsField grammar Passes Parts host text
 
--- no more condition
+-- any pieces: no more condition
 abbrev pub AnyPieces : List Piece → Type 0
 AnyPieces pieces = Unit {0}
 
@@ -53,7 +53,7 @@ FieldsWithin (suc n) host text = IsField (with_fields (FieldsWithin n)) AnyPiece
 abbrev pub Fields : Host → List ℕ → Type 0
 Fields host text = (n : ℕ) × FieldsWithin n host text
 
--- strings after Python 3.14
+-- the grammar whose strings hold fields, as those of Python 3.14 do
 abbrev pub fielded : Grammar
 fielded = with_fields Fields
 
@@ -94,7 +94,7 @@ ShallowWithin zero depth host text = ⊥
 ShallowWithin (suc n) depth host text =
     (depth < 200) × IsField fielded (IsShallowWith (ShallowWithin n) (depth + 1)) (ShallowWithin n (depth + 1)) host text
 
--- fields, however many stand one in another
+-- fields of a string at this depth, in which no bracket and no field opens at depth 200
 abbrev pub ShallowFields : ℕ → Host → List ℕ → Type 0
 ShallowFields depth host text = (n : ℕ) × ShallowWithin n depth host text
 

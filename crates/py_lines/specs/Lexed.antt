@@ -33,7 +33,7 @@ abbrev pub IsLexedIn : Dialect → List ℕ → List LogicalLine → Option Faul
 IsLexedIn dialect text lines None = IsLexedWholeIn dialect text lines
 IsLexedIn dialect text lines (Some fault) = IsLexedToFaultIn dialect text lines fault
 
--- so with fields
+-- the logical lines of a text, and then its end or its lexical fault, where strings hold fields
 abbrev pub IsLexed : List ℕ → List LogicalLine → Option Fault → Type 0
 IsLexed = IsLexedIn fielded_dialect
 

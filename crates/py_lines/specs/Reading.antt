@@ -19,7 +19,7 @@ pub record IsReadingIn (dialect : Dialect) (pieces : List Piece) (characters : L
   pub balanced : IsBalanced pieces
   pub shallow : dialect.IsShallow 0 pieces
 
--- so with fields
+-- the pieces read these characters whole, with brackets in pairs and at most 200 brackets and fields open: strings hold fields
 abbrev pub IsBalancedReading : List Piece → List ℕ → Type 0
 IsBalancedReading = IsReadingIn fielded_dialect
 
