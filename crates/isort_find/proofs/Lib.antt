@@ -7,7 +7,8 @@
 -- begins the lexing of the text, which has one list of lines; and a line binds one list, or is bad.
 --
 -- The first under each key (proofs/Keys): the bindings given have exactly the keys that all
--- bindings looked at have. So to ask the set is to ask all bindings before, and dropping one changes nothing.
+-- bindings looked at have. So to ask for a key given is to ask all bindings before, and dropping one changes nothing. The code
+-- has the keys in the order of their texts, each with its place in the order in which they came (Keys/Places).
 --
 -- A walker goes through the lines (proofs/Walks), for a finder over a whole text and for one over pieces. Inside a line some
 -- of its bindings were looked at, the rest is in the queue, and the cursor counts up to the one that was given last. The

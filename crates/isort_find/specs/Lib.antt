@@ -1,6 +1,7 @@
 -- What the finders' contracts cite, and in Private what those of private functions alone cite.
 pub mod Key
 pub mod KeyText
+pub mod GivenKeys
 pub mod Found
 pub mod Settled
 pub mod Lexing

@@ -3,10 +3,10 @@ ghost use Rattle.std.specs.Prelude.{◌≡◌, ◌+◌, ◌-◌, ◌^◌, IfOk, 
 ghost use Rattle.py_imports.specs.Bound.{bound_of};
 
 use crate::error::FindError;
-use crate::key::{KeyText, is_key_of, key_of};
-use crate::options::{FindOptions, ImportKey};
+use crate::given_keys::GivenKeys;
+use crate::key::key_of;
+use crate::options::FindOptions;
 use crate::pending::LineStart;
-use indexmap::IndexSet;
 use py_imports::Binding;
 use std::alloc::Global;
 use std::marker::Model;
@@ -23,22 +23,18 @@ pub struct Cursor {
     /// How many imports were given.
     given: u64,
     /// The keys of the imports given, where only the first under each is found.
-    keys: IndexSet<KeyText>,
+    keys: GivenKeys,
 }
 
 impl Model for Cursor {
     ghost use Rattle.isort_find.specs.Cursor.{CursorState, cursor_state};
-    ghost use Rattle.isort_find.specs.KeyText.{key_in};
-    ghost use Rattle.std.specs.Prelude.{map};
 
     ghost Value = { CursorState };
 
-    ghost view = { λ c. cursor_state c.options c.start c.taken c.given (map key_in c.keys.keys) };
+    ghost view = { λ c. cursor_state c.options c.start c.taken c.given c.keys };
 }
 
 impl Cursor {
-    ghost use Rattle.std.specs.List.{list_any};
-    ghost use Rattle.isort_find.specs.Key.{key_of, key_eq};
     ghost use Rattle.isort_find.specs.Cursor.{first_cursor, knows_key};
     ghost use Rattle.isort_find.specs.Private.CursorMoves.{Admits, cursor_after, cursor_before};
 
@@ -51,7 +47,7 @@ impl Cursor {
             start: LineStart { offset: 0, line: 1 },
             taken: 0,
             given: 0,
-            keys: IndexSet::new(alloc),
+            keys: GivenKeys::new(alloc),
         }
     }
 
@@ -65,7 +61,7 @@ impl Cursor {
             None => Ok(true),
             Some(key) => {
                 let key = key_of(alloc, binding, key)?;
-                let (_, is_new) = self.keys.insert_full(key)?;
+                let is_new = self.keys.insert(key)?;
                 Ok(is_new)
             }
         }
@@ -79,20 +75,9 @@ impl Cursor {
             None => false,
             Some(key) => match key_of(alloc, binding, key) {
                 Ok(text) => self.keys.contains(&text),
-                Err(_) => self.knows_in_turn(binding, key),
+                Err(_) => self.keys.has_key_of(binding, key),
             },
         }
-    }
-
-    /// Whether one of the keys is that of the binding, by comparing each. It takes no memory.
-    #[cold]
-    fn knows_in_turn(&self, binding: &Binding, key: ImportKey) -> bool
-        ensures { result ≡ list_any (key_eq (key_of key (bound_of binding.now))) self.now.keys }
-    {
-        self.keys
-            .as_slice()
-            .iter()
-            .any(|known| is_key_of(known, binding, key))
     }
 
     /// A binding of the logical line that begins at `start` was given, and so many of its bindings were looked at.

@@ -4,6 +4,7 @@
 mod cursor;
 mod error;
 mod finder;
+mod given_keys;
 mod key;
 mod known;
 pub mod laws;

@@ -1,9 +1,8 @@
--- The set of keys answers.
+-- The keys answer.
 use Rattle.py_imports.specs.Bound.{bound_of}
 use Rattle.std.proofs.Common.{◌∙◌}
-use Rattle.isort_find.proofs.Keys.KeyTexts.{text_eq, knows}
-use Rattle.isort_find.specs.contracts.key.KeyTextPartialEq.TheImpl as same
+use Rattle.isort_find.proofs.Keys.KeyTexts.{knows}
 use Rattle.isort_find.proofs.cursor.Cursor.knows.Goals as goal
 
 pub returns-in-Ok : goal.returns-in-Ok
-returns-in-Ok c = rw (← c.self.view_is) (c.contains.ensures ∙ knows same.eq-value.it text_eq c.self.inside.options.unique c.in-Some.key c.self.inside.keys.keys c.in-Ok.text (bound_of c.args.binding.now) c.in-Some.is c.in-Ok.ensures.ok)
+returns-in-Ok c = rw (← c.self.view_is) (c.contains.ensures ∙ knows c.self.inside.options.unique c.in-Some.key c.self.inside.keys c.in-Ok.text (bound_of c.args.binding.now) c.in-Some.is c.in-Ok.ensures.ok)
