@@ -2,7 +2,7 @@
 ghost use Rattle.std.specs.Prelude.{◌≡◌, ◌++◌, IfOk, OnOk, [], ◌∷◌, map, option_to_list, string_bytes};
 ghost use Rattle.std.specs.Option.{option_map};
 ghost use Rattle.isort_settings.specs.Values.{values};
-ghost use Rattle.indexmap.specs.IndexMap.{keys};
+ghost use Rattle.std.specs.BTreeMap.{keys};
 ghost use Rattle.isort_sort.specs.Private.Gathered.{brought, brought_by, brought_value, seen_value, AreDistinct, AreMade, Gathers};
 ghost use Rattle.isort_sort.specs.Private.GroupOrder.{group_cmp};
 ghost use Rattle.isort_sort.specs.Private.Group.{group_value, AreGrouped};
@@ -13,11 +13,11 @@ ghost use Rattle.isort_sort.specs.Private.Values.{item_value, member_value};
 
 use crate::member::Member;
 use crate::statement::{FromItem, Statement, item_cmp};
-use indexmap::{IndexMap, IndexSet};
 use isort_settings::laws::{modules_are_totally_ordered, names_are_totally_ordered};
 use isort_settings::{Section, Settings};
 use std::alloc::{AllocError, Global};
 use std::cmp::Ordering;
+use std::collections::{BTreeMap, BTreeSet};
 use std::mem;
 
 /// A statement of a block, with what the members bring to it.
@@ -118,8 +118,15 @@ fn each_once(alloc: Global, texts: Vec<String>) -> Result<Vec<String>, AllocErro
     if texts.len() < 2 {
         return Ok(texts);
     }
-    let kept: IndexSet<String> = texts.into_iter().collect(alloc)?;
-    kept.into_iter().collect(alloc)
+    let mut seen: BTreeSet<String> = BTreeSet::new(alloc);
+    let mut kept = Vec::new(alloc);
+    for text in texts {
+        if !seen.contains(text.as_str()) {
+            seen.insert(text.clone()?)?;
+            kept.push(text)?;
+        }
+    }
+    Ok(kept)
 }
 
 /// Puts items in order, each once.
@@ -141,8 +148,8 @@ fn group_cmp(settings: &Settings, a: &Group, b: &Group) -> Ordering
         .then_with(|| a.statement.cmp_in_section(settings, &b.statement))
 }
 
-/// What was seen of each statement, in the order in which the statements were seen.
-type Statements = IndexMap<Statement, Gathered>;
+/// What was seen of each statement, by the order of statements: chosen names could make a hash with a fixed seed slow.
+type Statements = BTreeMap<Statement, Gathered>;
 
 /// An import, with what it brings to its statement.
 #[derive(Drop)]
@@ -209,7 +216,7 @@ fn gather_members(
     ensures { IfOk result (λ statements. Gathers [] (brought (values settings.now) (map member_value members.items))
         statements.entries) }
 {
-    let mut statements = IndexMap::new(alloc);
+    let mut statements = BTreeMap::new(alloc);
     for member in members {
         gather_member(alloc, settings, &mut statements, member)?;
     }

@@ -16,7 +16,7 @@ use py_imports::Binding;
 use std::cmp::Ordering;
 
 /// An item of `from MODULE import ..`: a name, and its alias.
-#[derive(Drop, PartialEq, Eq, Hash)]
+#[derive(Drop, PartialEq, Eq, PartialOrd, Ord)]
 pub(crate) struct FromItem {
     /// The name that is imported.
     pub(crate) name: String,
@@ -25,7 +25,7 @@ pub(crate) struct FromItem {
 }
 
 /// A statement that sorting writes: what tells it from the other statements of its block.
-#[derive(Drop, PartialEq, Eq, Hash)]
+#[derive(Drop, PartialEq, Eq, PartialOrd, Ord)]
 pub(crate) enum Statement {
     /// `import MODULE`, perhaps with an alias.
     Straight {

@@ -1,15 +1,13 @@
--- Texts put into a set one after another are each there once, where they stand first.
-use Rattle.std.proofs.Common.{◌≡◌, ℕ, Bool, true, false, cond, ◌&&◌, ◌||◌, List, [], ◌∷◌, ◌++◌, map, fold, refl, sym, ap, ◌∙◌, subst, append_assoc, append-nil, String, Global, string_bytes, if◌then◌else◌}
+-- Texts taken one after another, each unless it was taken before, are each there once, where they stand first.
+use Rattle.std.proofs.Common.{◌≡◌, ℕ, Bool, true, false, cond, ◌&&◌, ◌||◌, List, [], ◌∷◌, ◌++◌, fold, refl, sym, ap, ◌∙◌, subst, append_assoc, append-nil, if◌then◌else◌}
 use Rattle.std.specs.Prelude.{bytes_eq, filter, not}
 use Rattle.std.specs.List.{list_any}
-use Rattle.std.proofs.lemmas.List.{map-append}
 use Rattle.std.proofs.lemmas.List.Folds.{list_any-append}
 use Rattle.std.proofs.lemmas.Slice.Eq.{bytes_eq-Decides}
-use Rattle.indexmap.specs.IndexSet.{insert_key, insert_all}
 use Rattle.isort_sort.specs.Member.{first_texts}
 
 -- one text more, unless it is there
-abbrev with_text : List (List ℕ) → List ℕ → List (List ℕ)
+abbrev pub with_text : List (List ℕ) → List ℕ → List (List ℕ)
 with_text known t = if list_any (bytes_eq t) known then known else known ++ t ∷ []
 
 abbrev is_new : List (List ℕ) → List ℕ → Bool
@@ -61,19 +59,13 @@ filter-all : {X : Type 0} (xs : List X) → filter (λ x. true) xs ≡ xs
 filter-all [] = refl
 filter-all (x ∷ xs) = ap (λ l. x ∷ l) (filter-all xs)
 
-module _ (eq : String Global → String Global → Bool) (agree : (a b : String Global) → eq a b ≡ bytes_eq (string_bytes a) (string_bytes b)) where
-  known_bytes : (k : String Global) (ks : List (String Global)) → list_any (eq k) ks ≡ list_any (bytes_eq (string_bytes k)) (map string_bytes ks)
-  known_bytes k [] = refl
-  known_bytes k (x ∷ xs) = λ i. agree k x i || known_bytes k xs i
+-- one text after another, those that are new are the first texts
+pub all_first : (ts : List (List ℕ)) → fold with_text [] ts ≡ first_texts ts
+all_first ts = all_texts [] ts ∙ filter-all (first_texts ts)
 
-  with_bytes : (b : Bool) (ks : List (String Global)) (k : String Global) → map string_bytes (if b then ks else ks ++ k ∷ []) ≡ (if b then map string_bytes ks else map string_bytes ks ++ string_bytes k ∷ [])
-  with_bytes true ks k = refl
-  with_bytes false ks k = map-append string_bytes ks (k ∷ [])
+-- a text that was seen adds nothing, and another comes after those that were kept
+pub kept_more : (known : List (List ℕ)) (t : List ℕ) (b : Bool) → list_any (bytes_eq t) known ≡ b → with_text known t ≡ (if b then known else known ++ t ∷ [])
+kept_more known t b is = ap (λ (x : Bool). if x then known else known ++ t ∷ []) is
 
-  inserted : (ks ts : List (String Global)) → map string_bytes (insert_all eq ks ts) ≡ fold with_text (map string_bytes ks) (map string_bytes ts)
-  inserted ks [] = refl
-  inserted ks (t ∷ ts) = inserted (insert_key eq ks t) ts ∙ ap (λ known. fold with_text known (map string_bytes ts)) (with_bytes (list_any (eq t) ks) ks t ∙ ap (λ (b : Bool). if b then map string_bytes ks else map string_bytes ks ++ string_bytes t ∷ []) (known_bytes t ks))
-
-  -- the texts of a set into which these were put
-  pub firsts-insert_all : (ts : List (String Global)) → map string_bytes (insert_all eq [] ts) ≡ first_texts (map string_bytes ts)
-  firsts-insert_all ts = inserted [] ts ∙ all_texts [] (map string_bytes ts) ∙ filter-all (first_texts (map string_bytes ts))
+pub bytes_back : (t u : List ℕ) → bytes_eq t u ≡ bytes_eq u t
+bytes_back t u = sym (both_ways t u (bytes_eq t u) refl)

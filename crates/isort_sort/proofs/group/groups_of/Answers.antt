@@ -1,13 +1,14 @@
 -- One more group, and the end.
 use Rattle.std.proofs.Common.{Bool, List, [], ◌∷◌, ◌++◌, refl, sym, ap, ◌∙◌, subst, append_assoc, append-nil}
 use Rattle.std.specs.List.{IsDistinct}
-use Rattle.indexmap.specs.IndexMap.{keys}
+use Rattle.std.proofs.lemmas.Map.Keys.{IsDistinct-from_sorted}
+use Rattle.std.specs.BTreeMap.{keys}
 use Rattle.isort_settings.specs.Values.{values}
 use Rattle.isort_sort.specs.Private.Gathered.{AreMade}
 use Rattle.isort_sort.specs.declared.group.Gathered as code_gathered
 use Rattle.isort_sort.specs.declared.group.Group as code
 use Rattle.isort_sort.specs.declared.statement.Statement as code_statement
-use Rattle.isort_sort.proofs.Groups.Gathered.{statement_eq}
+use Rattle.isort_sort.proofs.Groups.Gathered.{statement_cmp}
 use Rattle.isort_sort.proofs.group.groups_of.Goals as goal
 
 abbrev Entries : Type 0
@@ -28,4 +29,4 @@ returns-clause-made c =
     subst (λ (gs : List code.Group). AreMade v all gs) (append-nil c.loop-statement.groups.items) (c.loop-statement.invariant [] (subst (λ (es : Entries). AreMade v es []) (sym c.in-None.ensures.steps.0) refl))
 
 pub returns-clause-distinct : goal.returns-clause-distinct
-returns-clause-distinct c = subst (λ (e : code_statement.Statement → code_statement.Statement → Bool). IsDistinct e (keys c.args.statements)) (λ i a b. statement_eq a b i) c.len.ensures.unique
+returns-clause-distinct c = subst (λ (e : code_statement.Statement → code_statement.Statement → Bool). IsDistinct e (keys c.args.statements)) (λ i a b. statement_cmp a b i) (IsDistinct-from_sorted _ _ c.len.ensures.ordered)
