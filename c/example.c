@@ -79,17 +79,16 @@ static const uint8_t *print_option(const char *before, const uint8_t *at) {
 }
 
 /* Prints the name of a module's section. That of an own section stands in the settings, so there is room for it. */
-static void print_section(const uint8_t *module, text settings) {
+static void print_section(const uint8_t *module, text settings, fihroste_kept *kept) {
     size_t room = settings.size + 16;
     uint8_t *name = block(room);
-    fihroste_answer answer = fihroste_place(module + 8, (size_t)number_at(module), settings.bytes, settings.size,
-                                            FIHROSTE_NO_PROFILE, name, room);
+    fihroste_answer answer = fihroste_place_kept(module + 8, (size_t)number_at(module), kept, name, room);
     if (answer.status == FIHROSTE_SAME) printf(" (%.*s)", (int)answer.size, (const char *)name);
     free(name);
 }
 
 /* Lists the imports, one a line: the line, the module with its section, the attribute, the alias. */
-static int list(text code, text settings) {
+static int list(text code, text settings, fihroste_kept *kept) {
     size_t room = 64;
     uint8_t *out = block(room);
     fihroste_answer answer = fihroste_find(code.bytes, code.size, FIHROSTE_ALL, false, out, room);
@@ -102,7 +101,7 @@ static int list(text code, text settings) {
         const uint8_t *module = at + 9;
         printf("%" PRIu64 "%s", number_at(at), at[8] == 1 ? " indented" : "");
         at = print_text(" ", module);
-        print_section(module, settings);
+        print_section(module, settings, kept);
         at = print_option(" ", at);
         at = print_option(" as ", at);
         printf("\n");
@@ -112,15 +111,14 @@ static int list(text code, text settings) {
 }
 
 /* Prints the text sorted. */
-static int sort(text code, text settings) {
+static int sort(text code, text settings, fihroste_kept *kept) {
     size_t room = code.size + code.size / 8 + 64;
     uint8_t *out = block(room);
-    fihroste_answer answer = fihroste_sort(code.bytes, code.size, settings.bytes, settings.size, FIHROSTE_NO_PROFILE,
-                                           out, room);
+    fihroste_answer answer = fihroste_sort_kept(code.bytes, code.size, kept, out, room);
     if (answer.size > room) {
         free(out);
         out = block(room = answer.size);
-        answer = fihroste_sort(code.bytes, code.size, settings.bytes, settings.size, FIHROSTE_NO_PROFILE, out, room);
+        answer = fihroste_sort_kept(code.bytes, code.size, kept, out, room);
     }
     int status = 0;
     if (answer.status == FIHROSTE_CHANGED) {
@@ -135,9 +133,9 @@ static int sort(text code, text settings) {
 }
 
 /* Tells the unknown keys of the settings. */
-static void warn(text settings) {
+static void warn(text settings, fihroste_kept *kept) {
     uint8_t *out = block(settings.size * 9);
-    fihroste_answer answer = fihroste_settings(settings.bytes, settings.size, FIHROSTE_NO_PROFILE, out, settings.size * 9);
+    fihroste_answer answer = fihroste_settings_unknown(kept, out, settings.size * 9);
     for (const uint8_t *at = out; answer.status == FIHROSTE_SAME && at < out + answer.size;) {
         at = print_text("unknown key: ", at);
         printf("\n");
@@ -149,12 +147,16 @@ int main(int argc, char **argv) {
     if (argc != 2 && argc != 3) give_up("give a Python file, and perhaps a pyproject.toml");
     text code = read_file(argv[1]);
     text settings = argc == 3 ? read_file(argv[2]) : (text){block(0), 0};
-    warn(settings);
-    fihroste_answer answer = fihroste_check(code.bytes, code.size, settings.bytes, settings.size, FIHROSTE_NO_PROFILE);
+    fihroste_kept kept = {0};
+    fihroste_answer read = fihroste_settings_read(settings.bytes, settings.size, FIHROSTE_NO_PROFILE, &kept);
+    warn(settings, &kept);
+    fihroste_answer answer = fihroste_check_kept(code.bytes, code.size, &kept);
     if (answer.status == FIHROSTE_SAME) printf("sorted\n");
     if (answer.status == FIHROSTE_CHANGED) printf("not sorted\n");
     if (answer.status == FIHROSTE_SKIPPED) printf("left as it is\n");
-    int status = list(code, settings) | sort(code, settings);
+    int status = list(code, settings, &kept);
+    status |= read.status == FIHROSTE_SAME ? sort(code, settings, &kept) : refused(read, settings);
+    fihroste_settings_free(&kept);
     free(code.bytes);
     free(settings.bytes);
     return status;

@@ -1,13 +1,13 @@
 /* Fihroste for C: sorting, checking and listing of the imports of a Python text, the section of a module, and what
    settings say. docs/C.md has examples.
 
-   All memory is the caller's. A call that makes something fills the buffer `out`, which has room for `room` bytes, and
-   answers in `size` how many bytes the result has. If `size` is above `room`, then `out` is as it was, and the call can
-   be made again with a larger buffer. After FIHROSTE_MEMORY and FIHROSTE_ARGUMENT `out` is as it was, and so it is after
+   A call that makes something fills the buffer `out`, which is the caller's and has room for `room` bytes, and answers in
+   `size` how many bytes the result has. If `size` is above `room`, then `out` is as it was, and the call can be made again
+   with a larger buffer. After FIHROSTE_MEMORY and FIHROSTE_ARGUMENT `out` is as it was, and so it is after
    FIHROSTE_SETTINGS, except by fihroste_settings.
 
-   A call takes memory from malloc for its own use, and gives all of it back before it returns. Nothing stays between
-   calls, and calls may run in threads side by side.
+   A call takes memory from malloc for its own use, and gives all of it back before it returns, except what a handle keeps
+   (fihroste_kept, below). Nothing else stays between calls, and calls may run in threads side by side.
 
    What a caller owes, and no call looks for:
    - Each pointer leads to as many bytes as the length after it says, and is not null, also where the length is 0. No
@@ -15,6 +15,9 @@
    - `out` does not overlap what else is handed in. While a call runs, no other thread writes to what it reads, or reads
      or writes `out`.
    - `top_only` is `true` or `false`.
+   - A handle is one whose bytes are all 0, or is as a call left it. It may be moved in memory, but not used in two places.
+     It is handed to one call at a time. If the next call is in another thread, a lock, or the start or the end of a
+     thread, stands between the two. The handles of fihroste_settings_share are two.
    - malloc, realloc and free belong together, and blocks are aligned as the C standard wants.
    - No call is made from a signal handler, or from the forked child of a process with threads. */
 #ifndef FIHROSTE_H
@@ -36,7 +39,8 @@ enum fihroste_status {
     FIHROSTE_FAULT = 3,    /* the text can't be read to its end: F1 to F10, at `line` and `offset` */
     FIHROSTE_SETTINGS = 4, /* the settings are refused: S1 to S4 */
     FIHROSTE_MEMORY = 5,   /* memory ran out */
-    FIHROSTE_ARGUMENT = 6  /* the name of a module is not UTF-8, or `unique` or `profile` is none of the numbers below */
+    FIHROSTE_ARGUMENT = 6  /* the name of a module is not UTF-8, `unique` or `profile` is none of the numbers below, or a
+                              handle keeps nothing */
 };
 
 /* `label` at FIHROSTE_FAULT. */
@@ -137,6 +141,35 @@ fihroste_answer fihroste_place(const uint8_t *name, size_t name_size, const uint
    else. */
 fihroste_answer fihroste_settings(const uint8_t *settings, size_t settings_size, uint32_t profile, uint8_t *out,
                                   size_t room);
+
+/* A handle to settings that were read once, for calls that read no text of settings. It lies where the caller puts it. What
+   it leads to is the library's memory: fihroste_settings_free gives that back, and whoever forgets to call it leaks it. A
+   handle whose bytes are all 0, as `fihroste_kept kept = {0}`, keeps nothing. */
+typedef struct fihroste_kept {
+    bool full;      /* whether it keeps settings */
+    void *settings; /* no caller follows this */
+} fihroste_kept;
+
+/* Reads settings, and keeps them and the names of their unknown keys. At FIHROSTE_SAME the handle keeps them, and what it kept
+   before is given back. After every other answer it keeps what it kept. */
+fihroste_answer fihroste_settings_read(const uint8_t *settings, size_t settings_size, uint32_t profile, fihroste_kept *kept);
+
+/* Makes `other` keep what `kept` keeps, without reading it again. Each is freed by itself, and may be handed to a call while
+   the other is, as in another thread. At FIHROSTE_SAME `other` keeps it, and what it kept before is given back. After every
+   other answer it keeps what it kept. */
+fihroste_answer fihroste_settings_share(fihroste_kept *kept, fihroste_kept *other);
+
+/* Gives back what the handle keeps. It keeps nothing then, and can be used again. */
+void fihroste_settings_free(fihroste_kept *kept);
+
+/* The names of the unknown keys that were read, written as by fihroste_settings. */
+fihroste_answer fihroste_settings_unknown(fihroste_kept *kept, uint8_t *out, size_t room);
+
+/* What fihroste_sort, fihroste_check and fihroste_place do with the text that was read; FIHROSTE_ARGUMENT where the handle
+   keeps nothing. A handle keeps what it kept. fihroste_place_kept takes no memory. */
+fihroste_answer fihroste_sort_kept(const uint8_t *text, size_t text_size, fihroste_kept *kept, uint8_t *out, size_t room);
+fihroste_answer fihroste_check_kept(const uint8_t *text, size_t text_size, fihroste_kept *kept);
+fihroste_answer fihroste_place_kept(const uint8_t *name, size_t name_size, fihroste_kept *kept, uint8_t *out, size_t room);
 
 /* The name of a key of the settings by its number, as in `key` of an answer: `tool` and `tool.isort` for the tables. It
    is written to `out`, with no zero at its end, and its length is answered: 0 if no key has the number, or if it is

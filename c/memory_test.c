@@ -5,8 +5,11 @@
    Each call is made over the text of each file: sorting, checking and listing, with several settings, profiles and keys;
    and the calls that read no text, over the settings and modules below. A call is made once as it is. Then it is made again
    with its first growth refused, with its second, and so on: each has to answer FIHROSTE_MEMORY and to leave the buffer
-   as it was, or to do what the first one did. No block may be left. The first call's result has to fit a buffer of its
-   size, and to leave one that is a byte too small as it was.
+   as it was, or to do what the first one did. No block may be left, or be gone of those that a handle keeps. The first
+   call's result has to fit a buffer of its size, and to leave one that is a byte too small as it was.
+
+   A call with settings that are kept has to do what the call with their text does. A handle has to keep what it kept, and
+   fihroste_place_kept has to take no memory.
 
    Prints how many growths were refused, call by call, then the trials that failed, and then 'N passed, M failed'. It is
    linked with -Wl,--wrap=malloc,--wrap=realloc,--wrap=free.  */
@@ -55,6 +58,7 @@ typedef struct task {
     text code, settings, module;
     uint32_t profile, unique;
     bool top_only;
+    fihroste_kept *kept;
 } task;
 
 typedef fihroste_answer call(const task *given, uint8_t *out, size_t room);
@@ -83,9 +87,51 @@ static fihroste_answer settings(const task *given, uint8_t *out, size_t room) {
     return fihroste_settings(given->settings.bytes, given->settings.size, given->profile, out, room);
 }
 
-enum { SORT, CHECK, FIND, PLACE, SETTINGS, CALLS };
-static const char *const names[CALLS] = {"sort", "check", "find", "place", "settings"};
-static call *const calls[CALLS] = {sort, check, find, place, settings};
+/* Reads into a handle that keeps nothing, and one that keeps other settings, and frees both. */
+static fihroste_answer read_twice(const task *given, uint8_t *out, size_t room) {
+    static const uint8_t other[] = "[tool.isort]\nx = 1\n";
+    (void)out, (void)room;
+    fihroste_kept kept = {0};
+    fihroste_answer answer = fihroste_settings_read(other, sizeof other - 1, FIHROSTE_NO_PROFILE, &kept);
+    if (answer.status == FIHROSTE_SAME) {
+        answer = fihroste_settings_read(given->settings.bytes, given->settings.size, given->profile, &kept);
+    }
+    fihroste_settings_free(&kept);
+    fihroste_settings_free(&kept);
+    return answer;
+}
+
+/* Shares what is kept, and asks the other handle. */
+static fihroste_answer share(const task *given, uint8_t *out, size_t room) {
+    fihroste_kept other = {0};
+    fihroste_answer answer = fihroste_settings_share(given->kept, &other);
+    if (answer.status == FIHROSTE_SAME) answer = fihroste_settings_unknown(&other, out, room);
+    fihroste_settings_free(&other);
+    return answer;
+}
+
+static fihroste_answer unknown(const task *given, uint8_t *out, size_t room) {
+    return fihroste_settings_unknown(given->kept, out, room);
+}
+
+static fihroste_answer sort_kept(const task *given, uint8_t *out, size_t room) {
+    return fihroste_sort_kept(given->code.bytes, given->code.size, given->kept, out, room);
+}
+
+static fihroste_answer check_kept(const task *given, uint8_t *out, size_t room) {
+    (void)out, (void)room;
+    return fihroste_check_kept(given->code.bytes, given->code.size, given->kept);
+}
+
+static fihroste_answer place_kept(const task *given, uint8_t *out, size_t room) {
+    return fihroste_place_kept(given->module.bytes, given->module.size, given->kept, out, room);
+}
+
+enum { SORT, CHECK, FIND, PLACE, SETTINGS, READ, SHARE, UNKNOWN, SORT_KEPT, CHECK_KEPT, PLACE_KEPT, CALLS };
+static const char *const names[CALLS] = {"sort", "check", "find", "place", "settings", "settings_read", "settings_share",
+                                         "settings_unknown", "sort_kept", "check_kept", "place_kept"};
+static call *const calls[CALLS] = {sort,  check,   find,      place,      settings,  read_twice,
+                                   share, unknown, sort_kept, check_kept, place_kept};
 
 static long refusals[CALLS], out_of_memory[CALLS], passed, failed;
 
@@ -146,8 +192,8 @@ static bool fits(int which, const task *given, fihroste_answer first) {
     return filled && are_same(fitting, first) && is_blank(first.size - 1) && are_same(short_of, first);
 }
 
-/* Makes a call as it is, and with each growth refused. */
-static void try_call(int which, const task *given, size_t size, const char *what) {
+/* Makes a call as it is, and with each growth refused. It answers what the call came to, whose result `whole` has. */
+static fihroste_answer try_call(int which, const task *given, size_t size, const char *what) {
     make_room(size + 1);
     fihroste_answer first = run(which, given, size, 0);
     if (first.size > size) {
@@ -170,6 +216,21 @@ static void try_call(int which, const task *given, size_t size, const char *what
     fine = fine && fitting;
     passed += fine;
     failed += !fine;
+    return first;
+}
+
+/* Compares a call that has settings kept with the one that has their text. */
+static void try_kept(int which, int by_text, const task *given, size_t size, const char *what) {
+    fihroste_answer wanted = try_call(by_text, given, size, what);
+    uint8_t *result = malloc(wanted.size + 1);
+    if (result == NULL) exit(2);
+    memcpy(result, whole, wanted.size);
+    fihroste_answer answer = try_call(which, given, size, what);
+    bool same = are_same(answer, wanted) && memcmp(whole, result, wanted.size) == 0;
+    if (!same) printf("%s: %s differs from %s\n", what, names[which], names[by_text]);
+    passed += same;
+    failed += !same;
+    free(result);
 }
 
 static const char *const all_settings[] = {
@@ -199,8 +260,12 @@ static void try_file(const char *path, text code) {
     for (size_t i = 0; i < 5; i++) {
         given.settings = text_of(all_settings[i]);
         given.profile = i == 3 ? FIHROSTE_BLACK : FIHROSTE_NO_PROFILE;
-        try_call(SORT, &given, 2 * code.size + 4096, path);
-        try_call(CHECK, &given, 1, path);
+        fihroste_kept kept = {0};
+        fihroste_settings_read(given.settings.bytes, given.settings.size, given.profile, &kept);
+        given.kept = &kept;
+        try_kept(SORT_KEPT, SORT, &given, 2 * code.size + 4096, path);
+        try_kept(CHECK_KEPT, CHECK, &given, 1, path);
+        fihroste_settings_free(&kept);
     }
     for (uint32_t unique = FIHROSTE_ALL; unique <= FIHROSTE_ALIAS; unique++) {
         given.unique = unique;
@@ -209,20 +274,53 @@ static void try_file(const char *path, text code) {
     }
 }
 
+/* Keeps settings, if they aren't refused, and makes the calls by their text and by what is kept. */
+static void try_settings_of(task *given, const char *what) {
+    fihroste_kept kept = {0};
+    given->kept = &kept;
+    bool is_kept = fihroste_settings_read(given->settings.bytes, given->settings.size, given->profile, &kept).status
+        == FIHROSTE_SAME;
+    fihroste_answer read = try_call(READ, given, 1, what), told = try_call(SETTINGS, given, 256, what);
+    bool same = read.status == told.status && read.label == told.label && read.key == told.key && kept.full == is_kept;
+    passed += same;
+    failed += !same;
+    if (!is_kept) {
+        try_call(SORT, given, 256, what);
+        try_call(CHECK, given, 1, what);
+    } else {
+        try_kept(UNKNOWN, SETTINGS, given, 256, what);
+        try_kept(SHARE, SETTINGS, given, 256, what);
+        try_kept(SORT_KEPT, SORT, given, 256, what);
+        try_kept(CHECK_KEPT, CHECK, given, 1, what);
+    }
+    for (size_t i = 0; i < COUNT(modules); i++) {
+        given->module = text_of(modules[i]);
+        if (is_kept) try_kept(PLACE_KEPT, PLACE, given, 16, what);
+        else try_call(PLACE, given, 16, what);
+    }
+    fihroste_settings_free(&kept);
+}
+
+/* A handle that keeps nothing has no settings for a call. */
+static void try_nothing_kept(text code) {
+    fihroste_kept kept = {0};
+    task given = {.code = code, .module = text_of("os"), .kept = &kept};
+    for (int which = SHARE; which <= PLACE_KEPT; which++) {
+        bool right = try_call(which, &given, 16, "a handle that keeps nothing").status == FIHROSTE_ARGUMENT && !kept.full;
+        passed += right;
+        failed += !right;
+    }
+}
+
 /* The calls that read settings alone, and those that refuse them or an argument. */
 static void try_settings(text code) {
     for (size_t i = 0; i < COUNT(all_settings); i++) {
         for (uint32_t profile = FIHROSTE_NO_PROFILE; profile <= FIHROSTE_BLACK + 1; profile++) {
             task given = {.code = code, .settings = text_of(all_settings[i]), .profile = profile};
-            try_call(SETTINGS, &given, 256, all_settings[i]);
-            try_call(SORT, &given, 256, all_settings[i]);
-            try_call(CHECK, &given, 1, all_settings[i]);
-            for (size_t j = 0; j < COUNT(modules); j++) {
-                given.module = text_of(modules[j]);
-                try_call(PLACE, &given, 16, all_settings[i]);
-            }
+            try_settings_of(&given, all_settings[i]);
         }
     }
+    try_nothing_kept(code);
     task given = {.code = code, .unique = FIHROSTE_ALIAS + 1};
     try_call(FIND, &given, 256, "a key of no number");
 }
@@ -246,6 +344,9 @@ int main(int argc, char **argv) {
     for (int i = 1; i < argc; i++) try_path(argv[i]);
     try_settings(text_of("import b\nimport a as c\nx = (\n"));
     try_settings(text_of("import b\nfrom a import d, e as c\n"));
+    bool takes_none = refusals[PLACE_KEPT] == 0;
+    passed += takes_none;
+    failed += !takes_none;
     for (int which = 0; which < CALLS; which++) {
         printf("%s: %ld growths refused, ", names[which], refusals[which]);
         printf("%ld answered out of memory\n", out_of_memory[which]);

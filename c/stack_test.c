@@ -42,9 +42,22 @@ static void tell_settings(void) {
     fihroste_settings(settings, settings_size, FIHROSTE_BLACK, out, room);
 }
 
-enum { CALLS = 5 };
-static void (*const calls[CALLS])(void) = {sort, check, find, place, tell_settings};
-static const char *const names[CALLS] = {"sort", "check", "find", "place", "settings"};
+/* The calls with settings that are kept, from reading them to giving them back. */
+static void use_kept(void) {
+    fihroste_kept kept = {0}, other = {0};
+    fihroste_settings_read(settings, settings_size, FIHROSTE_BLACK, &kept);
+    fihroste_settings_share(&kept, &other);
+    fihroste_settings_unknown(&other, out, room);
+    fihroste_sort_kept(text, text_size, &kept, out, room);
+    fihroste_check_kept(text, text_size, &kept);
+    fihroste_place_kept((const uint8_t *)"a.b", 3, &other, out, room);
+    fihroste_settings_free(&kept);
+    fihroste_settings_free(&other);
+}
+
+enum { CALLS = 6 };
+static void (*const calls[CALLS])(void) = {sort, check, find, place, tell_settings, use_kept};
+static const char *const names[CALLS] = {"sort", "check", "find", "place", "settings", "kept settings"};
 static size_t most[CALLS];
 static long passed, failed;
 

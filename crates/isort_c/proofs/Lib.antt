@@ -6,6 +6,7 @@
 -- given so far (`HasListed` of proofs/FindLemmas); at the end and at the fault that is all that is found.
 mod AnswerLemmas
 mod FindLemmas
+mod HeldRows
 mod KeyLemmas
 mod ReadingLemmas
 mod RecordLemmas

@@ -5,3 +5,5 @@ pub mod Records
 pub mod Sorting
 pub mod Listing
 pub mod Places
+pub mod Kept
+pub mod Ownership

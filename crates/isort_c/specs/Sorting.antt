@@ -32,10 +32,14 @@ left_by (Ok sorted.Same) out = out
 left_by (Ok sorted.Skipped) out = out
 left_by (Err e) out = out
 
+-- a sort under settings with these values
+abbrev pub SortsUnder : List ℕ → Values → Answer → List ℕ → List ℕ → Type 0
+SortsUnder text v answer old new =
+    (r : Result Sorted SortError) × Sorts text v r × (answer ≡ sort_answer r) × (new ≡ left_by r old)
+
 -- a sort under what the settings stand for
 abbrev pub AnswersSort : List ℕ → Result (Values × List (List ℕ)) Answer → Answer → List ℕ → List ℕ → Type 0
-AnswersSort text (Ok (v, unknown)) answer old new =
-    (r : Result Sorted SortError) × Sorts text v r × (answer ≡ sort_answer r) × (new ≡ left_by r old)
+AnswersSort text (Ok (v, unknown)) answer old new = SortsUnder text v answer old new
 AnswersSort text (Err refused) answer old new = IsUnlessMemory refused answer × (new ≡ old)
 
 -- the answer of a check: that of a sort, with no size
@@ -45,7 +49,11 @@ check_answer (Ok outcome.Changed) = plain_answer CHANGED
 check_answer (Ok outcome.Skipped) = plain_answer SKIPPED
 check_answer (Err e) = sort_error_answer e
 
+-- a check under settings with these values
+abbrev pub ChecksUnder : List ℕ → Values → Answer → Type 0
+ChecksUnder text v answer = (r : Result Outcome SortError) × TellsOutcome text v r × (answer ≡ check_answer r)
+
 -- a check under what the settings stand for
 abbrev pub AnswersCheck : List ℕ → Result (Values × List (List ℕ)) Answer → Answer → Type 0
-AnswersCheck text (Ok (v, unknown)) answer = (r : Result Outcome SortError) × TellsOutcome text v r × (answer ≡ check_answer r)
+AnswersCheck text (Ok (v, unknown)) answer = ChecksUnder text v answer
 AnswersCheck text (Err refused) answer = IsUnlessMemory refused answer

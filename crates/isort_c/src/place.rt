@@ -44,7 +44,7 @@ fn section_name(settings: &Settings, section: Section) -> &str
 }
 
 /// Tells the section, with its name in the buffer.
-fn tell(settings: &Settings, section: Section, out: &mut [u8]) -> Answer
+pub fn tell(settings: &Settings, section: Section, out: &mut [u8]) -> Answer
     ensures { TellsSection (values settings.now) section result out.old out.new }
 {
     let name = section_name(settings, section).as_bytes();

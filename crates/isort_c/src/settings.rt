@@ -56,7 +56,7 @@ pub fn read(alloc: Global, text: &[u8], profile: u32) -> Result<(Settings, Vec<S
 }
 
 /// The records of the names.
-fn records_of(alloc: Global, names: &[String]) -> Result<Vec<u8>, AllocError>
+pub fn records_of(alloc: Global, names: &[String]) -> Result<Vec<u8>, AllocError>
     ensures { IfOk result (λ v. v.items ≡ name_records (map string_bytes names.now)) }
 {
     let mut records = Vec::new(alloc);

@@ -1,11 +1,13 @@
 //! Sorting and checking.
 ghost use Rattle.std.specs.Prelude.{◌≡◌};
+ghost use Rattle.isort_settings.specs.Values.{values};
 ghost use Rattle.isort_c.specs.Readings.{reading};
-ghost use Rattle.isort_c.specs.Sorting.{sort_error_answer, sort_answer, left_by, AnswersSort, AnswersCheck};
+ghost use Rattle.isort_c.specs.Sorting.{sort_error_answer, sort_answer, left_by, SortsUnder, AnswersSort, ChecksUnder, AnswersCheck};
 
 use crate::answer::{Answer, CHANGED, MEMORY, SAME, SKIPPED};
 use crate::buffer::fill;
 use crate::settings::read;
+use isort_settings::Settings;
 use isort_sort::{Outcome, SortError, Sorted, sort_code, sort_outcome};
 use std::alloc::Global;
 
@@ -38,6 +40,25 @@ fn put(sorted: &Result<Sorted, SortError>, out: &mut [u8]) -> Answer
     }
 }
 
+/// Sorts the text under these settings, into the buffer where it fits.
+pub fn sort_under(alloc: Global, text: &[u8], settings: &Settings, out: &mut [u8]) -> Answer
+    ensures { SortsUnder text.now (values settings.now) result out.old out.new }
+{
+    put(&sort_code(alloc, text, settings), out)
+}
+
+/// Tells whether the text is its own sorted text under these settings.
+pub fn check_under(alloc: Global, text: &[u8], settings: &Settings) -> Answer
+    ensures { ChecksUnder text.now (values settings.now) result }
+{
+    match sort_outcome(alloc, text, settings) {
+        Ok(Outcome::Same) => Answer::plain(SAME),
+        Ok(Outcome::Changed) => Answer::plain(CHANGED),
+        Ok(Outcome::Skipped) => Answer::plain(SKIPPED),
+        Err(error) => at_error(error),
+    }
+}
+
 /// Sorts the text under the settings that the text of a `pyproject.toml` stands for, with the profile of this number.
 ///
 /// `CHANGED`: the sorted text has `size` bytes. It stands at the beginning of `out` where `out` has so many, and else
@@ -53,7 +74,7 @@ pub extern "C" fn fihroste_sort(
     ensures { AnswersSort text.now (reading settings.now profile) result out.old out.new }
 {
     match read(alloc, settings, profile) {
-        Ok((settings, _unknown)) => put(&sort_code(alloc, text, &settings), out),
+        Ok((settings, _unknown)) => sort_under(alloc, text, &settings, out),
         Err(answer) => answer,
     }
 }
@@ -70,12 +91,7 @@ pub extern "C" fn fihroste_check(
     ensures { AnswersCheck text.now (reading settings.now profile) result }
 {
     match read(alloc, settings, profile) {
-        Ok((settings, _unknown)) => match sort_outcome(alloc, text, &settings) {
-            Ok(Outcome::Same) => Answer::plain(SAME),
-            Ok(Outcome::Changed) => Answer::plain(CHANGED),
-            Ok(Outcome::Skipped) => Answer::plain(SKIPPED),
-            Err(error) => at_error(error),
-        },
+        Ok((settings, _unknown)) => check_under(alloc, text, &settings),
         Err(answer) => answer,
     }
 }
